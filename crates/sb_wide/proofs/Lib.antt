@@ -1,0 +1,4 @@
+pub mod Folding
+pub mod Paths
+pub mod Printable
+pub mod Quotes

@@ -1,0 +1,66 @@
+// Laws of folding, names and quoting. None of these functions changes anything: each contract is a law.
+ghost use Rattle.std.specs.Prelude.{◌≡◌, true};
+ghost use Rattle.std.specs.List.{list_all};
+ghost use Rattle.sb_wide.specs.Wide.{is_unit, FoldsOnce, TestsSame, SameIsEquivalence, SameAtEachPlace, SameAsFolded};
+ghost use Rattle.sb_wide.specs.Names.{PathsAreNames, PathsHaveTheirComponents, NamesArePaths, DotsAreNoComponents};
+ghost use Rattle.sb_wide.specs.Quoting.{QuotesArePrintable, QuotesDiffer};
+
+/// Folding twice is folding once.
+pub fn folds_once()
+    ensures { FoldsOnce }
+{}
+
+/// `same` holds exactly where the folded lists are equal.
+pub fn tests_same()
+    ensures { TestsSame }
+{}
+
+/// `same` is reflexive, symmetric and transitive.
+pub fn same_is_equivalence()
+    ensures { SameIsEquivalence }
+{}
+
+/// Lists that are the same are equally long, with equal foldings at each place.
+pub fn same_at_each_place()
+    ensures { SameAtEachPlace }
+{}
+
+/// A list is the same as its folding.
+pub fn same_as_folded()
+    ensures { SameAsFolded }
+{}
+
+/// One or more components, each after a `\`, are a name, and are the components of that name.
+pub fn paths_are_names()
+    ensures names { PathsAreNames }
+    ensures components { PathsHaveTheirComponents }
+{}
+
+/// Each name is one or more components, each after a `\`.
+pub fn names_are_paths()
+    ensures { NamesArePaths }
+{}
+
+/// No component is `.` or `..`.
+pub fn dots_are_no_components()
+    ensures { DotsAreNoComponents }
+{}
+
+/// Quoted units are printable ASCII.
+pub fn quotes_are_printable()
+    ensures { QuotesArePrintable }
+{}
+
+/// Different units are quoted differently.
+pub fn quotes_differ()
+    ensures { QuotesDiffer }
+{}
+
+/// Each unit of a slice is below 65,536. It walks through the slice, and has no other effect.
+pub fn are_units(units: &[u16])
+    ensures { list_all is_unit units.now ≡ true }
+{
+    for unit in units {
+        let _unit = *unit;
+    }
+}
