@@ -1,0 +1,19 @@
+// What lies outside the broker: files, an output and a gate, each as a trait with its meaning. Files and an output in
+// memory implement these traits exactly, for tests and for callers who have the texts at hand.
+#![tactic(auto)]
+
+mod files;
+mod gate;
+mod lists;
+mod mem_files;
+mod mem_sink;
+mod sink;
+#[cfg(test)]
+mod tests;
+
+pub use files::{FileFault, Files};
+pub use gate::{Gate, OpenGate};
+pub use lists::{Bytes, Numbers, Text};
+pub use mem_files::{FileList, MemFiles, StoredFile};
+pub use mem_sink::MemSink;
+pub use sink::{Sink, SinkFault, put_lines};

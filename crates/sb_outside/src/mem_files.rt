@@ -1,0 +1,111 @@
+// Files in memory.
+ghost use Rattle.std.specs.Prelude.{◌≡◌, ◌≤◌, Some, option_copied};
+ghost use Rattle.sb_outside.specs.MemFiles.{IsAnswer, found};
+
+use crate::files::{FileFault, Files};
+use crate::lists::{Bytes, Numbers, Text};
+use std::alloc::Global;
+use std::marker::Model;
+
+/// A file in memory.
+#[derive(Debug, Drop, PartialEq)]
+pub struct StoredFile {
+    /// Its name.
+    pub name: Text,
+    /// Its whole content.
+    pub content: Bytes,
+}
+
+/// A list of files in memory.
+#[derive(Debug, Drop)]
+pub struct FileList {
+    items: Vec<StoredFile>,
+}
+
+impl Model for FileList {
+    ghost use Rattle.std.specs.Prelude.{List};
+    ghost use Rattle.sb_outside.specs.declared.mem_files.StoredFile.{StoredFile};
+
+    ghost Value = { List StoredFile };
+
+    ghost view = { λ f. f.items.items };
+}
+
+impl FileList {
+    ghost use Rattle.sb_outside.specs.MemFiles.{content_of};
+
+    /// The list of these files. It takes no memory.
+    pub fn new(items: Vec<StoredFile>) -> FileList
+        ensures { result ≡ items.items }
+    {
+        FileList { items }
+    }
+
+    /// The files, given back. It takes no memory.
+    pub fn into_items(self) -> Vec<StoredFile>
+        ensures { result.items ≡ self }
+    {
+        self.items
+    }
+
+    /// The content of the first file of this name, and `None` where there is none.
+    pub fn find(&self, name: &str) -> Option<&Bytes>
+        ensures { option_copied result ≡ content_of self.now name.now }
+    {
+        for file in &self.items {
+            if file.name.as_str() == name {
+                return Some(&file.content);
+            }
+        }
+        None
+    }
+}
+
+/// Files in memory. They tell what they hold.
+#[derive(Debug, Drop)]
+pub struct MemFiles {
+    /// The files. Of several with equal names the first counts.
+    pub files: FileList,
+    /// The numbers, from 1, of the calls of `read` that answer `Failed`.
+    pub fails: Numbers,
+    /// How many calls of `read` there were. It stays at its last value.
+    pub calls: u64,
+    /// How many of them answered `Failed`. It stays at its last value.
+    pub faults: u64,
+}
+
+impl Files for MemFiles {
+    ghost use Rattle.sb_outside.specs.MemFiles.{content_of, read_of, after_read};
+
+    ghost held = { λ m. Some (content_of m.files) };
+
+    ghost faults = { λ m. m.faults };
+
+    fn read(&mut self, alloc: Global, name: &str, most: u64) -> Result<Vec<u8>, FileFault>
+        // What this one answers, and what it is afterwards, whatever the answer.
+        ensures answer { IsAnswer (read_of self.old name.now most) result }
+        ensures after { self.new ≡ after_read self.old }
+        ensures counted { self.old.faults ≤ self.new.faults }
+    {
+        self.calls = self.calls.saturating_add(1);
+        if self.fails.contains(self.calls) {
+            self.faults = self.faults.saturating_add(1);
+            return Err(FileFault::Failed);
+        }
+        content_within(alloc, self.files.find(name), most)
+    }
+}
+
+// A copy of a content that has no more than `most` bytes.
+fn content_within(alloc: Global, content: Option<&Bytes>, most: u64) -> Result<Vec<u8>, FileFault>
+    ensures { IsAnswer (found (option_copied content.entry) most) result }
+{
+    let Some(content) = content else {
+        return Err(FileFault::Missing);
+    };
+    let bytes = content.as_slice();
+    if bytes.len() as u64 > most {
+        return Err(FileFault::TooLong);
+    }
+    Vec::from_slice(alloc, bytes).map_err(|_| FileFault::NoMemory)
+}
