@@ -1,0 +1,9 @@
+pub mod LineLaws
+pub mod LineLemmas
+pub mod NumberLaws
+pub mod Scans
+pub mod Conjunctions
+pub mod TokenLaws
+pub mod Utf8Laws
+pub mod Values
+pub mod WordLemmas

@@ -1,0 +1,9 @@
+pub mod Lines
+pub mod Numbers
+pub mod Tokens
+pub mod Utf8
+pub mod Words
+pub mod LineLaws
+pub mod TokenLaws
+pub mod NumberLaws
+pub mod Utf8Laws

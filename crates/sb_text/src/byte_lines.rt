@@ -1,0 +1,77 @@
+// The lines of bytes that say something, one after another.
+ghost use Rattle.std.specs.Prelude.{◌≡◌, ◌∷◌, ◌<◌, ◌^◌, [], length, MatchOption};
+ghost use Rattle.sb_text.specs.Lines.{NumberedLine, lines_of};
+ghost use Rattle.sb_text.specs.Words.{words_of};
+
+use crate::blanks::is_skipped;
+use crate::cuts::{bytes_without_cr, cut_bytes};
+use crate::words::Words;
+use std::marker::Model;
+
+/// A line of bytes that says something.
+#[derive(Clone, Copy, Debug, PartialEq, Eq)]
+pub struct ByteLine<'a> {
+    /// The number of the line among all lines, from 1.
+    pub number: u32,
+    /// The line without its LF and without one CR at its end.
+    pub text: &'a [u8],
+}
+
+impl<'a> ByteLine<'a> {
+    /// The words of the line.
+    pub fn words(&self) -> Words<'a>
+        ensures { result ≡ words_of self.now.text.now }
+    {
+        Words::new(self.text)
+    }
+}
+
+/// What is left of bytes: the lines that say something, with their numbers.
+#[derive(Debug, Drop)]
+pub struct ByteLines<'a> {
+    rest: &'a [u8],
+    passed: u32,
+}
+
+impl<'a> Model for ByteLines<'a> {
+    ghost use Rattle.std.specs.Prelude.{List, ◌+◌, ◌<◌, ◌^◌, length};
+    ghost use Rattle.sb_text.specs.Lines.{NumberedLine, lines_from, raw_lines};
+
+    ghost Value = { List NumberedLine };
+
+    ghost view = { λ l. lines_from (l.passed + 1) (raw_lines l.rest.now) };
+
+    ghost invariant = { λ l. l.passed + length l.rest.now < 2 ^ 32 };
+}
+
+impl<'a> ByteLines<'a> {
+    /// The lines of fewer than 2^32 bytes.
+    pub fn new(bytes: &'a [u8]) -> ByteLines<'a>
+        requires { length bytes.now < 2 ^ 32 }
+        ensures { result ≡ lines_of bytes.now }
+    {
+        ByteLines {
+            rest: bytes,
+            passed: 0,
+        }
+    }
+
+    /// The next line that says something.
+    pub fn next_line(&mut self) -> Option<ByteLine<'a>>
+        ensures { MatchOption result ((self.old ≡ []) × (self.new ≡ []))
+            (λ line. self.old ≡ record { number = line.number; text = line.text.now } ∷ self.new) }
+    {
+        while let Some((line, later)) = cut_bytes(self.rest) {
+            self.rest = later;
+            self.passed += 1;
+            let text = bytes_without_cr(line);
+            if !is_skipped(text) {
+                return Some(ByteLine {
+                    number: self.passed,
+                    text,
+                });
+            }
+        }
+        None
+    }
+}

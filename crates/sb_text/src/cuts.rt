@@ -1,0 +1,114 @@
+// How a text is cut into lines.
+ghost use Rattle.std.specs.Prelude.{◌≡◌, ◌∷◌, ◌==◌, ◌<◌, ◌≤◌, ◌+◌, ◌^◌, [], length, take, drop, slice_index, ℕ, nat_lt, IfSome, MatchOption};
+ghost use Rattle.std.specs.List.{position_or_len};
+ghost use Rattle.sb_text.specs.Lines.{raw_lines, raw_lines_from, without_cr};
+
+// How many bytes stand before the first LF, all where there is none.
+fn line_len(bytes: &[u8]) -> usize
+    ensures value { result ≡ position_or_len (λ b. b == 10) bytes.now }
+    ensures within { result ≤ length bytes.now }
+{
+    bytes
+        .iter()
+        .position(|byte| *byte == b'\n')
+        .unwrap_or(bytes.len())
+}
+
+// How many bytes of a line stand before the one CR at its end, all where there is none.
+fn text_len(line: &[u8]) -> usize
+    ensures value { take result line.now ≡ without_cr line.now }
+    ensures within { result ≤ length line.now }
+{
+    match line {
+        [.., b'\r'] => line.len() - 1,
+        _ => line.len(),
+    }
+}
+
+/// What follows an ASCII character of a text.
+pub fn after_ascii(text: &str, at: usize) -> &str
+    requires within { at < length text.now }
+    requires ascii { slice_index text.now at < 128 }
+    ensures { result.now ≡ drop (at + 1) text.now }
+{
+    &text[at + 1..]
+}
+
+// What follows the LF at a place of a text, nothing where the text ends there.
+fn after_lf(text: &str, end: usize) -> &str
+    requires { end < length text.now → slice_index text.now end ≡ 10 }
+    ensures { result.now ≡ drop (end + 1) text.now }
+{
+    if end < text.len() {
+        after_ascii(text, end)
+    } else {
+        ""
+    }
+}
+
+// The same of bytes.
+fn after(bytes: &[u8], end: usize) -> &[u8]
+    ensures { result.now ≡ drop (end + 1) bytes.now }
+{
+    if end < bytes.len() {
+        &bytes[end + 1..]
+    } else {
+        &[]
+    }
+}
+
+/// The first line of a text, without its LF, and what follows it.
+#[tactic(auto, using(crate::proofs::LineLemmas::lines_at_first, crate::proofs::LineLemmas::lf_at_first))]
+pub fn cut_text(text: &str) -> Option<(&str, &str)>
+    ensures line { MatchOption result (text.now ≡ []) (λ cut. raw_lines text.now ≡ cut.0.now ∷ raw_lines cut.1.now) }
+    ensures shorter { IfSome result (λ cut. length cut.1.now < length text.now) }
+{
+    if text.is_empty() {
+        return None;
+    }
+    let end = line_len(text.as_bytes());
+    Some((&text[..end], after_lf(text, end)))
+}
+
+/// The first line of bytes, without its LF, and what follows it.
+#[tactic(auto, using(crate::proofs::LineLemmas::lines_at_first, crate::proofs::LineLemmas::raw_lines_at_first))]
+pub fn cut_bytes(bytes: &[u8]) -> Option<(&[u8], &[u8])>
+    ensures line { MatchOption result (bytes.now ≡ []) (λ cut. raw_lines bytes.now ≡ cut.0.now ∷ raw_lines cut.1.now) }
+    ensures raw { IfSome result (λ cut. (n : ℕ) → raw_lines_from n bytes.now
+        ≡ record { number = n; bytes = cut.0.now; is_ended = nat_lt (length cut.0.now) (length bytes.now) } ∷ raw_lines_from (n + 1) cut.1.now) }
+    ensures shorter { IfSome result (λ cut. length cut.1.now < length bytes.now) }
+{
+    if bytes.is_empty() {
+        return None;
+    }
+    let end = line_len(bytes);
+    Some((&bytes[..end], after(bytes, end)))
+}
+
+/// A line of a text without one CR at its end.
+pub fn text_without_cr(line: &str) -> &str
+    ensures { result.now ≡ without_cr line.now }
+{
+    &line[..text_len(line.as_bytes())]
+}
+
+/// A line of bytes without one CR at its end.
+pub fn bytes_without_cr(line: &[u8]) -> &[u8]
+    ensures { result.now ≡ without_cr line.now }
+{
+    &line[..text_len(line)]
+}
+
+/// The number of lines of fewer than 2^32 bytes: the number of LF, and one more where bytes follow the last LF.
+pub fn line_count(bytes: &[u8]) -> u32
+    requires { length bytes.now < 2 ^ 32 }
+    ensures { result ≡ length (raw_lines bytes.now) }
+{
+    let mut rest = bytes;
+    let mut count = 0;
+    while let Some((_, later)) = cut_bytes(rest) {
+        rest = later;
+        count += 1;
+    }
+    count
+}

@@ -1,0 +1,118 @@
+// Laws of the definitions.
+ghost use Rattle.sb_text.specs.LineLaws.{WrittenRawLinesAreRead, RawLinesAreLines, WrittenLinesAreRead, LinesHoldNoLf, RawLinesJoin, LinesAreCounted, LinesAppend, SayingLinesAppend, NumbersAreWithin, OneCrIsDropped, OtherEndsAreKept};
+ghost use Rattle.sb_text.specs.Utf8Laws.{NotUtf8LineTells};
+ghost use Rattle.sb_text.specs.TokenLaws.{TokenIsReadBeforeBlank, BrokenTokensAreBad, WrittenTokensAreRead, TokensAreFound, BlanksAreNothing, PlainLinesHaveWords, SayingLinesHaveTokens, FirstTokenSkips};
+ghost use Rattle.sb_text.specs.NumberLaws.{DecimalsAreRead, HexadecimalsAreRead};
+
+/// Lines written one after another, each with an LF, are read back.
+pub fn written_lines_are_read()
+    ensures { WrittenLinesAreRead }
+{}
+
+/// The same of lines as they stand between LFs.
+pub fn written_raw_lines_are_read()
+    ensures { WrittenRawLinesAreRead }
+{}
+
+/// The lines as they stand between LFs, without their numbers and ends, are the lines.
+pub fn raw_lines_are_lines()
+    ensures { RawLinesAreLines }
+{}
+
+/// No line holds an LF.
+pub fn lines_hold_no_lf()
+    ensures { LinesHoldNoLf }
+{}
+
+/// The lines as they stood between LFs give the text back.
+pub fn raw_lines_join()
+    ensures { RawLinesJoin }
+{}
+
+/// There is a line for each LF, and one more where bytes follow the last LF.
+pub fn lines_are_counted()
+    ensures { LinesAreCounted }
+{}
+
+/// A text cut behind an LF: its lines are those of its front, and then those of the rest.
+pub fn lines_append()
+    ensures { LinesAppend }
+{}
+
+/// The same of the lines that say something, whose numbers go on in the rest.
+pub fn saying_lines_append()
+    ensures { SayingLinesAppend }
+{}
+
+/// The number of a line is from 1 to the number of lines.
+pub fn numbers_are_within()
+    ensures { NumbersAreWithin }
+{}
+
+/// A blank at either end of a line changes nothing.
+pub fn blanks_are_nothing()
+    ensures { BlanksAreNothing }
+{}
+
+/// A token and a blank: the token is found, and the rest of the line is read for itself.
+pub fn token_is_read_before_blank()
+    ensures { TokenIsReadBeforeBlank }
+{}
+
+/// These break the rules: a word that holds `"`, and a quoted token that is not closed, that holds
+/// a character below 32, or that no blank follows.
+pub fn broken_tokens_are_bad()
+    ensures { BrokenTokensAreBad }
+{}
+
+/// Tokens that are written on a line, with one space between each two, are read back.
+pub fn written_tokens_are_read()
+    ensures { WrittenTokensAreRead }
+{}
+
+/// Each token of a line can be written, but that the last may be bytes that break the rules.
+pub fn tokens_are_found()
+    ensures { TokensAreFound }
+{}
+
+/// A line that is not skipped has a token.
+pub fn saying_lines_have_tokens()
+    ensures { SayingLinesHaveTokens }
+{}
+
+/// A line without tokens is skipped, one whose first token is quoted is not, and one whose first
+/// token is a word exactly where that begins with `#`.
+pub fn first_token_skips()
+    ensures { FirstTokenSkips }
+{}
+
+/// A line without `"` has its words as tokens.
+pub fn plain_lines_have_words()
+    ensures { PlainLinesHaveWords }
+{}
+
+/// The decimal digits of a number are read as that number.
+pub fn decimals_are_read()
+    ensures { DecimalsAreRead }
+{}
+
+/// `0x` and the lower-case hexadecimal digits of a number are read as that number.
+pub fn hexadecimals_are_read()
+    ensures { HexadecimalsAreRead }
+{}
+
+/// A CR at the end of a line is dropped, and only it.
+pub fn one_cr_is_dropped()
+    ensures { OneCrIsDropped }
+{}
+
+/// A line that ends with another byte than CR is kept.
+pub fn other_ends_are_kept()
+    ensures { OtherEndsAreKept }
+{}
+
+/// There is no line where bytes are not UTF-8 where all of them are; else it is one more than the
+/// number of LF in their longest front that is.
+pub fn not_utf8_line_tells()
+    ensures { NotUtf8LineTells }
+{}

@@ -1,0 +1,82 @@
+// The words of a line of bytes, cut at blanks alone.
+ghost use Rattle.std.specs.Prelude.{◌≡◌, ◌∷◌, ◌<◌, ◌≤◌, [], length, slice_index, MatchOption, false};
+ghost use Rattle.std.specs.List.{position_or_len};
+ghost use Rattle.sb_text.specs.Lines.{is_blank};
+ghost use Rattle.sb_text.specs.Words.{words_of};
+
+use crate::blanks::is_blank;
+use std::marker::Model;
+
+/// What is left of a line: its words. A `"` is a byte like any other.
+#[derive(Debug, Drop)]
+pub struct Words<'a> {
+    rest: &'a [u8],
+}
+
+impl<'a> Model for Words<'a> {
+    ghost use Rattle.std.specs.Prelude.{List, ℕ};
+    ghost use Rattle.sb_text.specs.Words.{words_of};
+
+    ghost Value = { List (List ℕ) };
+
+    ghost view = { λ w. words_of w.rest.now };
+}
+
+// The bytes without the blanks that they begin with.
+fn without_blanks(bytes: &[u8]) -> &[u8]
+    ensures words { words_of result.now ≡ words_of bytes.now }
+    ensures starts { 0 < length result.now → is_blank (slice_index result.now 0) ≡ false }
+{
+    let mut rest = bytes;
+    while let Some((first, later)) = rest.split_first() {
+        if !is_blank(*first) {
+            return rest;
+        }
+        rest = later;
+    }
+    rest
+}
+
+// How many bytes stand before the first blank, all where there is none.
+fn word_len(bytes: &[u8]) -> usize
+    ensures value { result ≡ position_or_len is_blank bytes.now }
+    ensures within { result ≤ length bytes.now }
+{
+    bytes
+        .iter()
+        .position(|byte| is_blank(*byte))
+        .unwrap_or(bytes.len())
+}
+
+// The word that the bytes begin with, and what follows it.
+#[tactic(auto, using(crate::proofs::WordLemmas::words_at_first))]
+fn cut_word(bytes: &[u8]) -> (&[u8], &[u8])
+    requires some { 0 < length bytes.now }
+    requires starts { is_blank (slice_index bytes.now 0) ≡ false }
+    ensures { words_of bytes.now ≡ result.0.now ∷ words_of result.1.now }
+{
+    bytes.split_at(word_len(bytes))
+}
+
+impl<'a> Words<'a> {
+    /// The words of a line.
+    pub fn new(line: &'a [u8]) -> Words<'a>
+        ensures { result ≡ words_of line.now }
+    {
+        Words { rest: line }
+    }
+
+    /// The next word.
+    pub fn next_word(&mut self) -> Option<&'a [u8]>
+        ensures { MatchOption result ((self.old ≡ []) × (self.new ≡ [])) (λ word. self.old ≡ word.now ∷ self.new) }
+    {
+        let rest = without_blanks(self.rest);
+        if rest.is_empty() {
+            self.rest = rest;
+            return None;
+        }
+        let (word, later) = cut_word(rest);
+        self.rest = later;
+        Some(word)
+    }
+}
