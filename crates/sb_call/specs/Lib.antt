@@ -1,0 +1,6 @@
+pub mod Arguments
+pub mod Equality
+pub mod EqualityLaws
+pub mod Scripts
+pub mod ShortNames
+pub mod Tags

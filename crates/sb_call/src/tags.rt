@@ -1,0 +1,106 @@
+// The calls that a target may forward: their tags, numbers and parameters.
+ghost use Rattle.std.specs.Prelude.{◌≡◌};
+ghost use Rattle.sb_call.specs.Tags.{tag_of, number_of, shape_of};
+
+/// A call that a target may forward. Each tag has the number that stands for it in a block.
+#[derive(Clone, Copy, Debug, PartialEq, Eq)]
+pub enum CallTag {
+    /// `ping`: answers its cookie and the length of its text.
+    Ping = 1,
+    /// `file.create`: creates or opens a file or a directory.
+    FileCreate = 2,
+    /// `file.open`: opens a file or a directory that is there.
+    FileOpen = 3,
+    /// `file.query`: asks for the attributes of a name.
+    FileQuery = 4,
+    /// `file.rename`: gives a file or a directory another name.
+    FileRename = 5,
+    /// `pipe.create`: makes an instance of a named pipe.
+    PipeCreate = 6,
+    /// `key.create`: creates or opens a registry key.
+    KeyCreate = 7,
+    /// `key.open`: opens a registry key that is there.
+    KeyOpen = 8,
+    /// `event.create`: creates or opens a named event.
+    EventCreate = 9,
+    /// `event.open`: opens a named event that is there.
+    EventOpen = 10,
+    /// `handle.close`: closes a handle.
+    HandleClose = 11,
+}
+
+/// What a parameter of a call is.
+#[derive(Clone, Copy, Debug, PartialEq, Eq)]
+pub enum ParamKind {
+    /// A wide string without a further rule.
+    Text,
+    /// A wide string that is a name.
+    Name,
+    /// A number of 32 bits.
+    Num,
+    /// The number of a handle, of 64 bits.
+    Handle,
+}
+
+/// The number of a tag, from 1 to 11.
+pub fn number_of(tag: CallTag) -> u64
+    ensures { result ≡ number_of tag }
+{
+    tag as u64
+}
+
+/// The tag of a number. None exactly where no tag has that number.
+pub fn tag_of(number: u64) -> Option<CallTag>
+    ensures { result ≡ tag_of number }
+{
+    match number {
+        1 => Some(CallTag::Ping),
+        2 => Some(CallTag::FileCreate),
+        3 => Some(CallTag::FileOpen),
+        4 => Some(CallTag::FileQuery),
+        5 => Some(CallTag::FileRename),
+        6 => Some(CallTag::PipeCreate),
+        7 => Some(CallTag::KeyCreate),
+        8 => Some(CallTag::KeyOpen),
+        9 => Some(CallTag::EventCreate),
+        10 => Some(CallTag::EventOpen),
+        11 => Some(CallTag::HandleClose),
+        _ => None,
+    }
+}
+
+/// The kinds of a call's parameters, in order.
+pub fn shape(tag: CallTag) -> &'static [ParamKind]
+    ensures { result.now ≡ shape_of tag }
+{
+    match tag {
+        CallTag::Ping => &[ParamKind::Num, ParamKind::Text],
+        CallTag::FileCreate => &[
+            ParamKind::Name,
+            ParamKind::Num,
+            ParamKind::Num,
+            ParamKind::Num,
+            ParamKind::Num,
+            ParamKind::Num,
+        ],
+        CallTag::FileOpen => &[
+            ParamKind::Name,
+            ParamKind::Num,
+            ParamKind::Num,
+            ParamKind::Num,
+        ],
+        CallTag::FileQuery => &[ParamKind::Name],
+        CallTag::FileRename => &[ParamKind::Name, ParamKind::Name],
+        CallTag::PipeCreate => &[
+            ParamKind::Name,
+            ParamKind::Num,
+            ParamKind::Num,
+            ParamKind::Num,
+        ],
+        CallTag::KeyCreate => &[ParamKind::Name, ParamKind::Num],
+        CallTag::KeyOpen => &[ParamKind::Name, ParamKind::Num],
+        CallTag::EventCreate => &[ParamKind::Name, ParamKind::Num, ParamKind::Num],
+        CallTag::EventOpen => &[ParamKind::Name, ParamKind::Num],
+        CallTag::HandleClose => &[ParamKind::Handle],
+    }
+}
