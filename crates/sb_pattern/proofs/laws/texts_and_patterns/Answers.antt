@@ -1,0 +1,11 @@
+use Rattle.sb_pattern.proofs.Texts.{texts_come_back, reading_gives_patterns, patterns_come_back}
+use Rattle.sb_pattern.proofs.laws.texts_and_patterns.Goals as goal
+
+pub returns-clause-texts : goal.returns-clause-texts
+returns-clause-texts c = texts_come_back
+
+pub returns-clause-read : goal.returns-clause-read
+returns-clause-read c = reading_gives_patterns
+
+pub returns-clause-patterns : goal.returns-clause-patterns
+returns-clause-patterns c = patterns_come_back

@@ -1,0 +1,4 @@
+pub mod Cells
+pub mod Chunks
+pub mod Matching
+pub mod Reading

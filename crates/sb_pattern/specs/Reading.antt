@@ -1,0 +1,84 @@
+-- The text of a pattern.
+use Rattle.std.specs.Prelude.{◌≡◌, ◌+◌, ◌&&◌, ◌==◌, ℕ, Bool, true, false, nat_lt, List, [], ◌∷◌, length, Option, None, Some, Result, Ok, Err, if◌then◌else◌, ⊤}
+use Rattle.std.specs.Cmp.Lexicographic.{pointwise}
+use Rattle.std.specs.List.{flat_map}
+use Rattle.sb_pattern.specs.Cells.{same_cell}
+use Rattle.sb_pattern.specs.declared.cells.Cell.{Cell}
+use Rattle.sb_pattern.specs.declared.cells.Cell.TheVariants.{Lit, One, Any}
+use Rattle.sb_pattern.specs.declared.faults.PatternFault.{PatternFault}
+use Rattle.sb_pattern.specs.declared.faults.PatternFault.TheVariants.{DoubleStar, StarQuestion, TooLong}
+use Rattle.sb_pattern.specs.declared.faults.PatternRefused.{PatternRefused}
+use Rattle.sb_pattern.specs.declared.faults.PatternRefused.TheVariants as refused
+
+-- `*`, `?`, or a unit that stands for itself
+abbrev pub cell_of : ℕ → Cell
+cell_of u = if u == 42 then Any else (if u == 63 then One else Lit u)
+
+-- the cells of a text, in which `/?` is a question mark
+abbrev pub cells_of : List ℕ → List Cell
+cells_of [] = []
+cells_of (u ∷ []) = cell_of u ∷ []
+cells_of (u ∷ v ∷ us) = if u == 47 && v == 63 then Lit 63 ∷ cells_of us else cell_of u ∷ cells_of (v ∷ us)
+
+-- the units begin with this one
+abbrev pub begins : ℕ → List ℕ → Bool
+begins v [] = false
+begins v (u ∷ us) = u == v
+
+-- the leftmost `*` before `*` or `?`, with its index, counted from n
+abbrev pub star_fault : ℕ → List ℕ → Option PatternFault
+star_fault n [] = None
+star_fault n (u ∷ us) =
+    if u == 42 && begins 42 us then Some (DoubleStar n)
+    else (if u == 42 && begins 63 us then Some (StarQuestion n)
+    else star_fault (n + 1) us)
+
+-- what makes a text no pattern
+abbrev pub fault_of : List ℕ → Option PatternFault
+fault_of text = if nat_lt 256 (length text) then Some TooLong else star_fault 0 text
+
+-- the fault, where there is one
+abbrev pub unless : Option PatternFault → List Cell → Result (List Cell) PatternFault
+unless None cells = Ok cells
+unless (Some fault) cells = Err fault
+
+-- the cells of a text, or its fault
+abbrev pub reading : List ℕ → Result (List Cell) PatternFault
+reading text = unless (fault_of text) (cells_of text)
+
+-- the program read the text, or had no memory
+abbrev pub IsReading : Result (List Cell) PatternFault → Result (List Cell) PatternRefused → Type 0
+IsReading wanted (Ok cells) = wanted ≡ Ok cells
+IsReading wanted (Err (refused.Fault fault)) = wanted ≡ Err fault
+IsReading wanted (Err refused.NoMemory) = ⊤
+
+-- how a cell is written
+abbrev pub cell_text : Cell → List ℕ
+cell_text (Lit u) = if u == 63 then 47 ∷ 63 ∷ [] else u ∷ []
+cell_text One = 63 ∷ []
+cell_text Any = 42 ∷ []
+
+-- how cells are written
+abbrev pub text_of : List Cell → List ℕ
+text_of cells = flat_map cell_text cells
+
+-- the cells are those that a text was read as
+abbrev pub reads_as : List Cell → Result (List Cell) PatternFault → Bool
+reads_as cells (Ok others) = pointwise same_cell others cells
+reads_as cells (Err fault) = false
+
+-- cells are a pattern where their text is read as they are
+abbrev pub is_pattern : List Cell → Bool
+is_pattern cells = reads_as cells (reading (text_of cells))
+
+-- the text of a pattern is read as that pattern
+abbrev pub PatternsComeBack : Type 0
+PatternsComeBack = (cells : List Cell) → is_pattern cells ≡ true → reading (text_of cells) ≡ Ok cells
+
+-- the text of what was read is the text that was read
+abbrev pub TextsComeBack : Type 0
+TextsComeBack = (text : List ℕ) (cells : List Cell) → reading text ≡ Ok cells → text_of cells ≡ text
+
+-- what was read is a pattern
+abbrev pub ReadingGivesPatterns : Type 0
+ReadingGivesPatterns = (text : List ℕ) (cells : List Cell) → reading text ≡ Ok cells → is_pattern cells ≡ true

@@ -1,0 +1,39 @@
+// Laws of patterns. None of these functions does anything: each contract is a law.
+ghost use Rattle.sb_pattern.specs.Cells.{CellsTell};
+ghost use Rattle.sb_pattern.specs.Chunks.{ChunksAreTheRuns};
+ghost use Rattle.sb_pattern.specs.Matching.{LiteralsMatchTheSame, StarMatchesAll, MatchingFoldsTheString, MatchingFoldsTheLiterals};
+ghost use Rattle.sb_pattern.specs.Reading.{TextsComeBack, PatternsComeBack, ReadingGivesPatterns};
+
+/// The text of what was read is the text that was read, what was read is a pattern, and the text of a pattern is read as
+/// that pattern.
+pub fn texts_and_patterns()
+    ensures texts { TextsComeBack }
+    ensures read { ReadingGivesPatterns }
+    ensures patterns { PatternsComeBack }
+{}
+
+/// A pattern without `*` and `?` matches exactly the strings that are the same as its literals.
+pub fn literals_match_the_same()
+    ensures { LiteralsMatchTheSame }
+{}
+
+/// `*` alone matches every string.
+pub fn star_matches_all()
+    ensures { StarMatchesAll }
+{}
+
+/// Folding the string or the literals changes nothing.
+pub fn matching_folds()
+    ensures string { MatchingFoldsTheString }
+    ensures literals { MatchingFoldsTheLiterals }
+{}
+
+/// The chunks of cells cut out the parts between the stars.
+pub fn chunks_are_the_runs()
+    ensures { ChunksAreTheRuns }
+{}
+
+/// `==` of patterns holds exactly where their cells are equal.
+pub fn equality_tells()
+    ensures { CellsTell }
+{}

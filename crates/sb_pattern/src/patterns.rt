@@ -1,0 +1,123 @@
+// Patterns: read from a text, written as one, and matched.
+ghost use Rattle.std.specs.Prelude.{◌≡◌, ◌≤◌, length, true, IfOk};
+ghost use Rattle.sb_pattern.specs.Chunks.{chunks_of};
+ghost use Rattle.sb_pattern.specs.Matching.{matches};
+ghost use Rattle.sb_pattern.specs.Reading.{reading, text_of, is_pattern, IsReading};
+
+use crate::cells::Cell;
+use crate::chunks::{Chunks, chunks_of};
+use crate::faults::PatternRefused;
+use crate::matching::matches;
+use crate::reading::{cells_of, fault_of};
+use sb_wide::{NoMemory, Wide};
+use std::alloc::Global;
+use std::marker::Model;
+
+/// A pattern over wide strings, seen as its list of cells.
+#[derive(Debug, Drop)]
+pub struct Pattern {
+    cells: Vec<Cell>,
+}
+
+impl Model for Pattern {
+    ghost use Rattle.std.specs.Prelude.{◌≡◌, List, true};
+    ghost use Rattle.sb_pattern.specs.declared.cells.Cell.{Cell};
+    ghost use Rattle.sb_pattern.specs.Reading.{is_pattern};
+
+    ghost Value = { List Cell };
+
+    ghost view = { λ p. p.cells.items };
+
+    ghost invariant = { λ p. is_pattern p.cells.items ≡ true };
+}
+
+impl Pattern {
+    /// The pattern of a text: `*` is any run of units, `?` is one unit, `/?` is a question mark, and any other unit,
+    /// also a `/` before anything else, is itself. This is the notation of the policy rules of Chromium's Windows
+    /// sandbox, but that two stars in a row and a star before a question mark are refused.
+    ///
+    /// # Errors
+    /// `TooLong` exactly where the text has more than 256 units. Otherwise `DoubleStar` or `StarQuestion` exactly where
+    /// a `*` is followed by `*` or by `?`, with the index of the leftmost such star. `NoMemory` where there was none for
+    /// the cells.
+    pub fn read(alloc: Global, text: &[u16]) -> Result<Pattern, PatternRefused>
+        ensures { IsReading (reading text.now) result }
+    {
+        if let Some(fault) = fault_of(text) {
+            return Err(PatternRefused::Fault(fault));
+        }
+        let cells = cells_of(alloc, text)?;
+        Ok(Pattern { cells })
+    }
+
+    /// The text of the pattern, which is read as this pattern. For a pattern that was read it is the text that was read.
+    ///
+    /// # Errors
+    /// `NoMemory` where there was none for the text.
+    pub fn text(&self, alloc: Global) -> Result<Wide, NoMemory>
+        ensures { IfOk result (λ text. text ≡ text_of self.now) }
+    {
+        let mut units = Vec::new(alloc);
+        for cell in &self.cells {
+            match cell {
+                Cell::Lit(63) => units.extend_from_slice(&[47, 63])?,
+                Cell::Lit(unit) => units.push(*unit)?,
+                Cell::One => units.push(63)?,
+                Cell::Any => units.push(42)?,
+            }
+        }
+        Ok(Wide::new(units))
+    }
+
+    /// An equal pattern, in memory of its own.
+    ///
+    /// # Errors
+    /// `NoMemory` where there was none for the copy.
+    pub fn copy(&self, alloc: Global) -> Result<Pattern, NoMemory>
+        ensures { IfOk result (λ copy. copy ≡ self.now) }
+    {
+        let cells = Vec::from_slice(alloc, &self.cells)?;
+        Ok(Pattern { cells })
+    }
+
+    #[tactic(auto, using(crate::proofs::Texts::few_cells))]
+    /// The cells, in order. Their text can be read and is read as these cells, and there are at most 256.
+    pub fn cells(&self) -> &[Cell]
+        ensures cells { result.now ≡ self.now }
+        ensures pattern { is_pattern self.now ≡ true }
+        ensures most { length self.now ≤ 256 }
+    {
+        &self.cells
+    }
+
+    /// The runs of cells between the stars, the first and the last run included, also where they are empty.
+    ///
+    /// # Errors
+    /// `NoMemory` where there was none for the list.
+    pub fn chunks(&self, alloc: Global) -> Result<Chunks, NoMemory>
+        ensures { IfOk result (λ chunks. chunks ≡ chunks_of self.now) }
+    {
+        chunks_of(alloc, self.cells())
+    }
+
+    /// Whether the pattern matches the units, by the definition itself: a literal matches a unit that is equal after
+    /// folding, `?` one unit, and `*` any run of units.
+    pub fn matches_plain(&self, units: &[u16]) -> bool
+        ensures { result ≡ matches self.now units.now }
+    {
+        matches(&self.cells, units)
+    }
+}
+
+impl PartialEq for Pattern {
+    ghost use Rattle.std.specs.Cmp.Lexicographic.{pointwise};
+    ghost use Rattle.sb_pattern.specs.Cells.{same_cell, same_cells_laws};
+
+    ghost eq = { pointwise same_cell };
+
+    ghost laws = { same_cells_laws };
+
+    fn eq(&self, other: &Pattern) -> bool {
+        self.cells == other.cells
+    }
+}

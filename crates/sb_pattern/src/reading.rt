@@ -1,0 +1,73 @@
+// The cells of a text, and what makes a text no pattern.
+ghost use Rattle.std.specs.Prelude.{◌≡◌, ◌<◌, ◌≤◌, ◌∷◌, [], length, IfOk, MatchOption};
+ghost use Rattle.sb_pattern.specs.Reading.{cells_of, fault_of, star_fault};
+
+use crate::cells::Cell;
+use crate::faults::PatternFault;
+use sb_wide::NoMemory;
+use std::alloc::Global;
+
+const MOST_UNITS: usize = 256;
+
+const STAR: u16 = 42;
+
+const SLASH: u16 = 47;
+
+const QUESTION: u16 = 63;
+
+fn star_fault(text: &[u16]) -> Option<PatternFault>
+    requires { length text.now ≤ 256 }
+    ensures { result ≡ star_fault 0 text.now }
+{
+    let mut at = 0;
+    let mut rest = text;
+    while let Some((unit, after)) = rest.split_first() {
+        if *unit == STAR {
+            match after.first() {
+                Some(&STAR) => return Some(PatternFault::DoubleStar(at)),
+                Some(&QUESTION) => return Some(PatternFault::StarQuestion(at)),
+                _ => {}
+            }
+        }
+        at += 1;
+        rest = after;
+    }
+    None
+}
+
+// What makes the text no pattern.
+pub(crate) fn fault_of(text: &[u16]) -> Option<PatternFault>
+    ensures { result ≡ fault_of text.now }
+{
+    if text.len() > MOST_UNITS {
+        return Some(PatternFault::TooLong);
+    }
+    star_fault(text)
+}
+
+// The first cell, and the text after it.
+fn next_cell(text: &[u16]) -> Option<(Cell, &[u16])>
+    ensures first { MatchOption result (cells_of text.now ≡ []) (λ p. cells_of text.now ≡ p.0 ∷ cells_of p.1.now) }
+    ensures shorter { MatchOption result (text.now ≡ []) (λ p. length p.1.now < length text.now) }
+{
+    match text {
+        [SLASH, QUESTION, after @ ..] => Some((Cell::Lit(QUESTION), after)),
+        [STAR, after @ ..] => Some((Cell::Any, after)),
+        [QUESTION, after @ ..] => Some((Cell::One, after)),
+        [unit, after @ ..] => Some((Cell::Lit(*unit), after)),
+        [] => None,
+    }
+}
+
+// The cells of the text.
+pub(crate) fn cells_of(alloc: Global, text: &[u16]) -> Result<Vec<Cell>, NoMemory>
+    ensures { IfOk result (λ cells. cells.items ≡ cells_of text.now) }
+{
+    let mut cells = Vec::new(alloc);
+    let mut rest = text;
+    while let Some((cell, after)) = next_cell(rest) {
+        cells.push(cell)?;
+        rest = after;
+    }
+    Ok(cells)
+}
