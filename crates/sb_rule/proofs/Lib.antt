@@ -1,0 +1,2 @@
+pub mod FirstRules
+pub mod Pairs

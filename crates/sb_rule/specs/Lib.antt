@@ -1,0 +1,5 @@
+pub mod Actions
+pub mod Equality
+pub mod EqualityLaws
+pub mod Verdicts
+pub mod WellMade

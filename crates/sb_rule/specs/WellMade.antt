@@ -1,0 +1,118 @@
+-- Which policies are well made.
+use Rattle.std.specs.Prelude.{◌≡◌, ◌||◌, ℕ, Bool, true, false, not, ◌&&◌, ◌==◌, nat_eq, nat_le, nat_lt, List, [], ◌∷◌, length}
+use Rattle.std.specs.Bool.{beq}
+use Rattle.std.specs.List.{list_all, list_any}
+use Rattle.std.specs.Cmp.Lexicographic.{pointwise}
+use Rattle.sb_wide.specs.Wide.{utf16_of}
+use Rattle.sb_call.specs.Arguments.{kind_at}
+use Rattle.sb_call.specs.Tags.{shape_of}
+use Rattle.sb_call.specs.declared.tags.CallTag.{CallTag}
+use Rattle.sb_call.specs.declared.tags.CallTag.TheVariants.{FileOpen, KeyOpen, EventOpen}
+use Rattle.sb_call.specs.declared.tags.ParamKind.{ParamKind}
+use Rattle.sb_call.specs.declared.tags.ParamKind.TheVariants as kind
+use Rattle.sb_pattern.specs.Reading.{text_of, is_pattern}
+use Rattle.sb_pattern.specs.declared.cells.Cell.{Cell}
+use Rattle.sb_pattern.specs.declared.cells.Cell.TheVariants.{Lit, One, Any}
+use Rattle.sb_rule.specs.declared.actions.Action.{Action}
+use Rattle.sb_rule.specs.declared.actions.Action.TheVariants.{ReadOnly}
+use Rattle.sb_rule.specs.declared.conditions.Cond.{Cond}
+use Rattle.sb_rule.specs.declared.conditions.Test.{Test}
+use Rattle.sb_rule.specs.declared.conditions.Test.TheVariants.{OneOf, Range, Mask, Equal, Like}
+use Rattle.sb_rule.specs.declared.policies.Policy.{Policy}
+use Rattle.sb_rule.specs.declared.policies.Rule.{Rule}
+
+-- the first half of a surrogate pair
+abbrev pub is_high : ℕ → Bool
+is_high u = nat_le 0xD800 u && nat_le u 0xDBFF
+
+-- the second half of a surrogate pair
+abbrev pub is_low : ℕ → Bool
+is_low u = nat_le 0xDC00 u && nat_le u 0xDFFF
+
+-- second halves stand exactly where a first half stands before them; the test tells whether one stands before the list
+abbrev pub is_paired : Bool → List ℕ → Bool
+is_paired after_high [] = not after_high
+is_paired after_high (u ∷ us) = beq (is_low u) after_high && is_paired (is_high u) us
+
+-- neither a control unit nor `"`
+abbrev pub is_text_unit : ℕ → Bool
+is_text_unit u = nat_le 32 u && not (u == 34)
+
+-- a string that can stand between quotes: at most 256 units, all of them text, and no surrogate alone
+abbrev pub is_policy_text : List ℕ → Bool
+is_policy_text us = nat_le (length us) 256 && list_all is_text_unit us && is_paired false us
+
+-- cells that can stand between quotes: a pattern whose text can
+abbrev pub is_like_text : List Cell → Bool
+is_like_text cells = is_pattern cells && is_policy_text (text_of cells)
+
+-- a list has 1 to 16 numbers, a range is not empty, and strings and patterns can stand between quotes
+abbrev pub is_sensible : Test → Bool
+is_sensible (OneOf numbers) = nat_lt 0 (length numbers) && nat_le (length numbers) 16
+is_sensible (Range lo hi) = nat_le lo hi
+is_sensible (Mask mask) = true
+is_sensible (Equal text) = is_policy_text text
+is_sensible (Like pattern) = is_like_text pattern
+
+-- a test of numbers
+abbrev pub is_number_test : Test → Bool
+is_number_test (OneOf numbers) = true
+is_number_test (Range lo hi) = true
+is_number_test (Mask mask) = true
+is_number_test (Equal text) = false
+is_number_test (Like pattern) = false
+
+-- a parameter that is a number
+abbrev pub is_number_kind : ParamKind → Bool
+is_number_kind kind.Text = false
+is_number_kind kind.Name = false
+is_number_kind kind.Num = true
+is_number_kind kind.Handle = true
+
+-- the parameter is one of the call's, the test is of its kind, and it is sensible
+abbrev pub is_well_formed : CallTag → Cond → Bool
+is_well_formed tag cond =
+    nat_lt cond.param (length (shape_of tag)) && (beq (is_number_test cond.test) (is_number_kind (kind_at tag cond.param)) && is_sensible cond.test)
+
+-- read-only rules are for the three calls that open
+abbrev pub is_for_readers : Action → CallTag → Bool
+is_for_readers ReadOnly FileOpen = true
+is_for_readers ReadOnly KeyOpen = true
+is_for_readers ReadOnly EventOpen = true
+is_for_readers ReadOnly _ = false
+is_for_readers _ _ = true
+
+-- at most 8 conditions, each well formed, and read-only for calls that open alone
+abbrev pub is_well_made_rule : Rule → Bool
+is_well_made_rule rule = nat_le (length rule.conds) 8 && is_for_readers rule.action rule.tag && list_all (is_well_formed rule.tag) rule.conds
+
+-- at most 256 rules, each well made
+abbrev pub is_well_made : Policy → Bool
+is_well_made policy = nat_le (length policy.rules) 256 && list_all is_well_made_rule policy.rules
+
+-- a policy has this name
+abbrev pub is_named : List ℕ → Policy → Bool
+is_named name policy = pointwise nat_eq policy.name name
+
+-- no two policies have one name
+abbrev pub are_named_apart : List Policy → Bool
+are_named_apart [] = true
+are_named_apart (policy ∷ policies) = not (list_any (is_named policy.name) policies) && are_named_apart policies
+
+-- at most 8 policies, no two of one name, each well made
+abbrev pub are_well_made : List Policy → Bool
+are_well_made policies = nat_le (length policies) 8 && are_named_apart policies && list_all is_well_made policies
+
+-- the last unit of a cell's text
+abbrev pub last_unit : Cell → ℕ
+last_unit (Lit u) = u
+last_unit One = 63
+last_unit Any = 42
+
+-- a character of Unicode, which no surrogate is
+abbrev pub is_character : ℕ → Bool
+is_character c = nat_lt c 0xD800 || (nat_le 0xE000 c && nat_lt c 0x11_0000)
+
+-- the units of characters have no surrogate alone
+abbrev pub CharactersArePaired : Type 0
+CharactersArePaired = (cs : List ℕ) → list_all is_character cs ≡ true → is_paired false (utf16_of cs) ≡ true

@@ -1,0 +1,27 @@
+// What a rule does with a call.
+ghost use Rattle.std.specs.Prelude.{◌≡◌};
+ghost use Rattle.sb_rule.specs.Actions.{action_number};
+
+/// What a rule does with a call. Each action has a number by which compiled rules name it.
+#[derive(Clone, Copy, Debug, PartialEq, Eq)]
+pub enum Action {
+    /// The call is performed.
+    Allow = 0,
+    /// The call is denied.
+    Deny = 1,
+    /// The call is denied, and the rule is one that its author wants to hear of.
+    Alarm = 2,
+    /// The call is not performed, and the target is told that it was.
+    Fake = 3,
+    /// The call is performed with its access cut to the bits that read.
+    ReadOnly = 4,
+}
+
+impl Action {
+    /// The number of the action, from 0 to 4.
+    pub fn number(self) -> u64
+        ensures { result ≡ action_number self }
+    {
+        self as u64
+    }
+}

@@ -1,0 +1,24 @@
+// Policies: lists of rules over the calls of a target, the verdict of a policy by its definition, which policies are
+// well made, and what it means to judge by policies.
+#![tactic(auto)]
+
+mod actions;
+mod checks;
+mod conditions;
+mod judges;
+mod laws;
+mod policies;
+#[cfg(test)]
+mod tests;
+mod verdicts;
+
+pub use actions::Action;
+pub use checks::{all_well_made, well_made};
+pub use conditions::{Cond, Conds, Numbers, Test};
+pub use judges::{Judge, PlainJudge};
+pub use laws::{
+    appending_keeps_verdicts, characters_are_paired, equality_tells, first_rule_decides,
+    no_rule_where_none_holds, rules_without_conditions_decide,
+};
+pub use policies::{Policies, Policy, PolicyList, Rule, Rules};
+pub use verdicts::{Verdict, verdict_plain};

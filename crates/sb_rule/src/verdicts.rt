@@ -1,0 +1,102 @@
+// The verdict of a policy, by its definition.
+ghost use Rattle.std.specs.Prelude.{◌≡◌, ◌==◌};
+ghost use Rattle.std.specs.List.{list_any, list_all};
+ghost use Rattle.sb_call.specs.Arguments.{arg_at};
+ghost use Rattle.sb_rule.specs.Verdicts.{number_passes, text_passes, test_holds, cond_holds, rule_holds, verdict_by, verdict_of};
+
+use crate::actions::Action;
+use crate::conditions::{Cond, Test};
+use crate::policies::{Policy, Rule};
+use sb_call::{Arg, CallTag, number_of};
+use sb_wide::same;
+
+/// What a policy says of a call.
+#[derive(Clone, Copy, Debug, PartialEq, Eq)]
+pub enum Verdict {
+    /// The rule on this line decided, with its action.
+    Rule { line: u32, action: Action },
+    /// No rule was for this call.
+    NoRule,
+}
+
+fn is_one_of(numbers: &[u64], value: u64) -> bool
+    ensures { result ≡ list_any (λ n. n == value) numbers.now }
+{
+    numbers.iter().any(|number| *number == value)
+}
+
+fn number_passes(test: &Test, value: u64) -> bool
+    ensures { result ≡ number_passes test.now value }
+{
+    match test {
+        Test::OneOf(numbers) => is_one_of(numbers.as_slice(), value),
+        Test::Range { lo, hi } => *lo <= value && value <= *hi,
+        Test::Mask(mask) => value & *mask != 0,
+        Test::Equal(_) | Test::Like(_) => false,
+    }
+}
+
+fn text_passes(test: &Test, units: &[u16]) -> bool
+    ensures { result ≡ text_passes test.now units.now }
+{
+    match test {
+        Test::Equal(text) => same(units, text.as_units()),
+        Test::Like(pattern) => pattern.matches_plain(units),
+        Test::OneOf(_) | Test::Range { .. } | Test::Mask(_) => false,
+    }
+}
+
+fn test_holds(test: &Test, arg: &Arg) -> bool
+    ensures { result ≡ test_holds test.now arg.now }
+{
+    match arg {
+        Arg::Num(value) => number_passes(test, *value),
+        Arg::Str(text) => text_passes(test, text.as_units()),
+    }
+}
+
+// A condition whose parameter is not there looks at the number 0.
+fn param_passes(cond: &Cond, args: &[Arg]) -> bool
+    ensures { result ≡ test_holds cond.now.test (arg_at args.now cond.now.param) }
+{
+    match args.get(cond.param as usize) {
+        Some(arg) => test_holds(&cond.test, arg),
+        None => number_passes(&cond.test, 0),
+    }
+}
+
+fn cond_holds(cond: &Cond, args: &[Arg]) -> bool
+    ensures { result ≡ cond_holds cond.now args.now }
+{
+    param_passes(cond, args) != cond.negated
+}
+
+fn conds_hold(conds: &[Cond], args: &[Arg]) -> bool
+    ensures { result ≡ list_all (λ cond. cond_holds cond args.now) conds.now }
+{
+    conds.iter().all(|cond| cond_holds(cond, args))
+}
+
+fn rule_holds(rule: &Rule, tag: CallTag, args: &[Arg]) -> bool
+    ensures { result ≡ rule_holds rule.now tag args.now }
+{
+    number_of(rule.tag) == number_of(tag) && conds_hold(rule.conds.as_slice(), args)
+}
+
+/// The verdict of a policy on a call: the line and the action of the first rule for the call's tag whose conditions all
+/// hold, and `NoRule` exactly where there is none. Rules are tried in the order of the list. Where the policy is well
+/// made and the arguments fit the tag, each condition finds its argument; elsewhere a condition whose parameter is not
+/// there looks at the number 0.
+pub fn verdict_plain(policy: &Policy, tag: CallTag, args: &[Arg]) -> Verdict
+    ensures { result ≡ verdict_of policy.now tag args.now }
+{
+    for rule in policy.rules.as_slice() {
+        if rule_holds(rule, tag, args) {
+            return Verdict::Rule {
+                line: rule.line,
+                action: rule.action,
+            };
+        }
+    }
+    Verdict::NoRule
+}
