@@ -1,0 +1,90 @@
+-- What is known of blocks.
+use Rattle.std.proofs.Common.{◌≡◌, ℕ, ◌+◌, ◌/◌, ◌*◌, ◌≤◌, ◌<◌, ◌^◌, ◌%◌, List, [], ◌∷◌, ◌++◌, Bool, true, false, length, length-append, take, arith, refl, sym, ap, ◌∙◌, append_assoc}
+use Rattle.std.proofs.Math.Seq.{take-append_seam, get_or-append_seam}
+use Rattle.std.proofs.lemmas.Bool.{and_parts, false≢true}
+use Rattle.std.proofs.lemmas.Bool.Decides.{nat_tests}
+use Rattle.std.specs.Prelude.{nat_le, slice_index}
+use Rattle.sb_call.specs.Arguments.{fit, fits, fits_kind}
+use Rattle.sb_call.specs.Tags.{shape_of}
+use Rattle.sb_call.specs.declared.tags.CallTag.{CallTag}
+use Rattle.sb_call.specs.declared.tags.ParamKind.{ParamKind}
+use Rattle.sb_call.specs.declared.tags.ParamKind.TheVariants as kind
+use Rattle.sb_call.specs.declared.arguments.Arg.{Arg}
+use Rattle.sb_call.specs.declared.arguments.Arg.TheVariants as arg
+use Rattle.sb_block.specs.Packing.{type_of, offset_of, size_of, information, words_for, unit_word, word_units}
+use Rattle.sb_block.specs.Blocks.{block, bytes_of, content_of, contents_of, informations_of, first_offset, end_offset}
+use Rattle.sb_block.proofs.PackingLemmas.{packed_len}
+
+-- there are as many information words as arguments that fit
+pub informations_len : (at : ℕ) (kinds : List ParamKind) (args : List Arg) → fit kinds args ≡ true
+    → length (informations_of at kinds args) ≡ length args
+informations_len at [] [] h = refl
+informations_len at [] (a ∷ args) h = absurd (false≢true h)
+informations_len at (k ∷ kinds) [] h = absurd (false≢true h)
+informations_len at (k ∷ kinds) (a ∷ args) h =
+    omega (arith, informations_len (at + length (content_of a)) kinds args (and_parts (fits_kind k a) (fit kinds args) h).1)
+
+-- a block has as many words as its end says
+pub block_len : (tag : CallTag) (args : List Arg) (mark : ℕ) → fits tag args ≡ true
+    → length (block tag args mark) ≡ end_offset args
+block_len tag args mark h =
+    omega (
+      arith,
+      length-append (informations_of (first_offset args) (shape_of tag) args) (end_offset args * 2 ^ 16 ∷ contents_of args),
+      informations_len (first_offset args) (shape_of tag) args h,
+    )
+
+-- what the three parts of an information word are
+pub type_back : (t o s : ℕ) → o < 2 ^ 16 → s < 2 ^ 16 → type_of (information t o s) ≡ t
+type_back t o s ho hs = omega arith
+
+pub offset_back : (t o s : ℕ) → o < 2 ^ 16 → s < 2 ^ 16 → offset_of (information t o s) ≡ o
+offset_back t o s ho hs = omega arith
+
+pub size_back : (t o s : ℕ) → o < 2 ^ 16 → s < 2 ^ 16 → size_of (information t o s) ≡ s
+size_back t o s ho hs = omega arith
+
+-- an argument's content needs as many words as its bytes do
+pub content_words : (k : ParamKind) (a : Arg) → words_for (bytes_of k a) ≡ length (content_of a)
+content_words k (arg.Str us) = omega (arith, packed_len us)
+content_words kind.Handle (arg.Num n) = refl
+content_words kind.Num (arg.Num n) = refl
+content_words kind.Text (arg.Num n) = refl
+content_words kind.Name (arg.Num n) = refl
+
+-- an argument whose content is short has few bytes
+pub bytes_small : (k : ParamKind) (a : Arg) → length (content_of a) ≤ 64 → bytes_of k a < 2 ^ 16
+bytes_small k (arg.Str us) h = omega (arith, packed_len us)
+bytes_small kind.Handle (arg.Num n) h = omega arith
+bytes_small kind.Num (arg.Num n) h = omega arith
+bytes_small kind.Text (arg.Num n) h = omega arith
+bytes_small kind.Name (arg.Num n) h = omega arith
+
+-- the four units of a word that was made of four units
+pub four_back : (a b c d : ℕ) → a < 2 ^ 16 → b < 2 ^ 16 → c < 2 ^ 16 → d < 2 ^ 16
+    → word_units (unit_word a b c d) ≡ a ∷ b ∷ c ∷ d ∷ []
+four_back a b c d ha hb hc hd =
+    let first : unit_word a b c d % 2 ^ 16 ≡ a = omega arith in
+    let second : unit_word a b c d / 2 ^ 16 % 2 ^ 16 ≡ b = omega arith in
+    let third : unit_word a b c d / 2 ^ 32 % 2 ^ 16 ≡ c = omega arith in
+    let fourth : unit_word a b c d / 2 ^ 48 % 2 ^ 16 ≡ d = omega arith in
+    rw (first, second, third, fourth)
+
+-- what has no room in 48 words makes a block of more than 64
+pub too_long : (n m b : ℕ) (r : Bool) → b ≡ 16 + n + m → r ≡ false → r ≡ nat_le (n + m) 48 → 64 < b
+too_long n m b r e h t = grind (arith, nat_tests)
+
+-- and what has room makes one of at most 64
+pub enough_room : (n m b : ℕ) (r : Bool) → b ≡ 16 + n + m → r ≡ true → r ≡ nat_le (n + m) 48 → b ≤ 64
+enough_room n m b r e h t = grind (arith, nat_tests)
+
+-- the parts of a block, put one after the other
+pub assembled : (o i c w v u t : List ℕ) (e : ℕ) → t ≡ o → u ≡ t ++ i → w ≡ u ++ (e ∷ []) → v ≡ w ++ c → v ≡ o ++ (i ++ (e ∷ c))
+assembled o i c w v u t e a b h k = k ∙ (ap (λ x. x ++ c) (h ∙ ap (λ x. x ++ (e ∷ [])) (b ∙ ap (λ x. x ++ i) a)) ∙ simp append_assoc)
+
+-- what stands at the front is taken, and what stands after it is found
+pub taken_front : (xs ys : List ℕ) (n : ℕ) → length xs ≡ n → take n (xs ++ ys) ≡ xs
+taken_front xs ys n h = rw (sym h) (take-append_seam xs ys)
+
+pub found_after : (xs ys : List ℕ) (x n : ℕ) → length xs ≡ n → slice_index (xs ++ (x ∷ ys)) n ≡ x
+found_after xs ys x n h = rw (sym h) (get_or-append_seam xs x ys 0)

@@ -1,0 +1,13 @@
+use Rattle.std.proofs.Common.{◌≡◌, ◌+◌, ◌≤◌, length}
+use Rattle.std.specs.Option.{option_map}
+use Rattle.sb_block.specs.Faults.{first_unnamed}
+use Rattle.sb_block.proofs.faults.first_unnamed.Given as goal
+
+abbrev pub invariant-loop-kind : goal.invariant-loop-kind
+invariant-loop-kind l =
+    (option_map (λ n. n + l.at) (first_unnamed l.kinds l.informations l.words)
+    ≡ first_unnamed l.initial.kinds l.initial.informations l.words)
+    × (l.at + length l.informations ≤ 9)
+
+abbrev pub decreases-loop-kind : goal.decreases-loop-kind
+decreases-loop-kind l = length l.kinds

@@ -1,0 +1,5 @@
+use Rattle.std.proofs.Common.{◌≡◌, ◌≤◌, length, take}
+use Rattle.sb_block.proofs.replies.read_reply.Given as goal
+
+abbrev pub invariant-loop-word : goal.invariant-loop-word
+invariant-loop-word l = (l.ext.items ≡ take l.word-index l.word-items) × (length l.word-items ≤ 7)

@@ -1,0 +1,31 @@
+-- Copies of a block.
+use Rattle.std.specs.Prelude.{ℕ, Bool, ◌+◌, ◌&&◌, ◌==◌, nat_lt, nat_le, List, length, slice_index, if◌then◌else◌}
+
+-- a copy is the count and the end that were seen, and the words that were loaded
+pub record Copied : Type 0 where
+  pub count_seen : ℕ
+  pub end_seen : ℕ
+  pub words : List ℕ
+
+-- the copy of a count, an end and words
+abbrev pub copied : ℕ → ℕ → List ℕ → Copied
+copied count end words = record { count_seen = count; end_seen = end; words = words }
+
+-- a block with so many parameters may end there
+abbrev pub is_end : ℕ → ℕ → Bool
+is_end count end = nat_le (16 + count) end && nat_le end 64
+
+-- after too high a count nothing more is loaded, after a bad end no words are, and otherwise all words up to the end
+abbrev pub is_copy : Copied → Bool
+is_copy c =
+    if nat_lt 9 c.count_seen then c.end_seen == 0 && length c.words == 0
+    else (if is_end c.count_seen c.end_seen then length c.words == c.end_seen
+    else length c.words == 0)
+
+-- the mark of a copy is its word 1, and 0 where there are no words
+abbrev pub mark_of : Copied → ℕ
+mark_of c = slice_index c.words 1
+
+-- the copy of a whole block has all its words, its own count and its own end
+abbrev pub whole : List ℕ → Copied
+whole block = copied (slice_index block 2) (length block) block

@@ -1,0 +1,8 @@
+pub mod Blocks
+pub mod Calls
+pub mod Copies
+pub mod Faults
+pub mod Laws
+pub mod Packing
+pub mod Replies
+pub mod Soundness

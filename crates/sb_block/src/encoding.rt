@@ -1,0 +1,187 @@
+// How a call is laid out in words.
+ghost use Rattle.std.specs.Prelude.{◌≡◌, ◌<◌, ◌≤◌, ◌+◌, ◌++◌, ◌*◌, ◌∷◌, ◌^◌, [], length, nat_le, true, false, replicate, MatchResult, IfOk, Ok};
+ghost use Rattle.sb_call.specs.Tags.{number_of, shape_of};
+ghost use Rattle.sb_call.specs.Arguments.{fits};
+ghost use Rattle.std.specs.List.{list_all};
+ghost use Rattle.sb_block.specs.Calls.{called, decoded};
+ghost use Rattle.sb_block.specs.Copies.{is_copy, whole};
+ghost use Rattle.sb_block.specs.Packing.{packed};
+ghost use Rattle.sb_block.specs.Blocks.{block, encodes, has_units, is_unit, bytes_of, content_of, contents_of, informations_of, first_offset, end_offset};
+
+use crate::faults::type_number;
+use crate::packing::{end_item, information, unit_word};
+use crate::words::Words;
+use sb_call::{Arg, CallTag, ParamKind, fits, number_of, shape};
+use thiserror::Error;
+
+/// The block of a call would need more than 64 words.
+#[derive(Clone, Copy, Debug, PartialEq, Eq, Error)]
+#[error("the call needs more than 64 words")]
+pub struct TooBig;
+
+#[tactic(auto, using(crate::proofs::PackingLemmas::packed_len))]
+fn packed_len(units: &[u16]) -> usize
+    ensures value { result ≡ length (packed units.now) }
+    ensures units { list_all is_unit units.now ≡ true }
+{
+    units.len().div_ceil(4)
+}
+
+fn content_len(arg: &Arg) -> usize
+    ensures value { result ≡ length (content_of arg.now) }
+    ensures units { has_units arg.now ≡ true }
+{
+    match arg {
+        Arg::Num(_) => 1,
+        Arg::Str(text) => packed_len(text.as_units()),
+    }
+}
+
+/// The words that the contents of arguments need. There must be at most 64.
+fn contents_len(args: &[Arg]) -> u64
+    requires { length (contents_of args.now) ≤ 64 }
+    ensures value { result ≡ length (contents_of args.now) }
+    ensures units { list_all has_units args.now ≡ true }
+{
+    let mut len = 0;
+    let mut args = args;
+    while let Some((arg, more)) = args.split_first() {
+        len += content_len(arg) as u64;
+        args = more;
+    }
+    len
+}
+
+fn has_room(args: &[Arg], room: usize) -> bool
+    ensures { result ≡ nat_le (length args.now + length (contents_of args.now)) room }
+{
+    let mut room = room;
+    let mut args = args;
+    while let Some((arg, more)) = args.split_first() {
+        let needed = content_len(arg);
+        if needed >= room {
+            return false;
+        }
+        room = room - needed - 1;
+        args = more;
+    }
+    true
+}
+
+#[tactic(auto, using(crate::proofs::PackingLemmas::packed_len))]
+fn bytes_of(kind: ParamKind, arg: &Arg) -> u64
+    requires { length (content_of arg.now) ≤ 64 }
+    ensures value { result ≡ bytes_of kind arg.now }
+    ensures small { result < 2 ^ 16 }
+{
+    match (arg, kind) {
+        (Arg::Str(text), _) => 2 * text.as_units().len() as u64,
+        (Arg::Num(_), ParamKind::Handle) => 8,
+        (Arg::Num(_), _) => 4,
+    }
+}
+
+fn put_informations(words: &mut Words, first: u64, kinds: &[ParamKind], args: &[Arg])
+    requires room { length words.old + length args.now ≤ 64 }
+    requires offsets { first + length (contents_of args.now) ≤ 64 }
+    ensures { words.new ≡ words.old ++ informations_of first kinds.now args.now }
+{
+    let mut offset = first;
+    let mut kinds = kinds;
+    let mut args = args;
+    while let Some((kind, more_kinds)) = kinds.split_first() {
+        let Some((arg, more)) = args.split_first() else {
+            return;
+        };
+        words.push(information(type_number(*kind), offset, bytes_of(*kind, arg)));
+        offset += content_len(arg) as u64;
+        kinds = more_kinds;
+        args = more;
+    }
+}
+
+fn put_units(words: &mut Words, units: &[u16])
+    requires { length words.old + length (packed units.now) ≤ 64 }
+    ensures { words.new ≡ words.old ++ packed units.now }
+{
+    let mut units = units;
+    while let [first, second, third, fourth, more @ ..] = units {
+        words.push(unit_word(*first, *second, *third, *fourth));
+        units = more;
+    }
+    match units {
+        [first] => words.push(unit_word(*first, 0, 0, 0)),
+        [first, second] => words.push(unit_word(*first, *second, 0, 0)),
+        [first, second, third] => words.push(unit_word(*first, *second, *third, 0)),
+        _ => {}
+    }
+}
+
+fn put_content(words: &mut Words, arg: &Arg)
+    requires { length words.old + length (content_of arg.now) ≤ 64 }
+    ensures { words.new ≡ words.old ++ content_of arg.now }
+{
+    match arg {
+        Arg::Num(number) => words.push(*number),
+        Arg::Str(text) => put_units(words, text.as_units()),
+    }
+}
+
+fn put_contents(words: &mut Words, args: &[Arg])
+    requires { length words.old + length (contents_of args.now) ≤ 64 }
+    ensures { words.new ≡ words.old ++ contents_of args.now }
+{
+    let mut args = args;
+    while let Some((arg, more)) = args.split_first() {
+        put_content(words, arg);
+        args = more;
+    }
+}
+
+fn opening(tag: CallTag, mark: u64, count: u64) -> Words
+    ensures { result ≡ number_of tag ∷ mark ∷ count ∷ replicate 12 0 }
+{
+    let mut words = Words::empty();
+    words.extend(&[number_of(tag), mark, count]);
+    words.extend(&[0; 12]);
+    words
+}
+
+/// The block of a call with the caller's mark: tag, mark, count, zeros for the reply, an information
+/// word for each argument, the end item, and the contents of the arguments one after the other.
+///
+/// # Errors
+/// `TooBig` exactly where the block needs more than 64 words.
+pub fn encode(tag: CallTag, args: &[Arg], mark: u64) -> Result<Words, TooBig>
+    requires { fits tag args.now ≡ true }
+    ensures value { MatchResult result (λ words. (words ≡ block tag args.now mark) × (length words ≤ 64))
+        (λ _. 64 < length (block tag args.now mark)) }
+    ensures encodes { MatchResult result (λ _. encodes tag args.now ≡ true) (λ _. encodes tag args.now ≡ false) }
+    ensures back { IfOk result (λ words. (is_copy (whole words) ≡ true)
+        × (decoded (whole words) ≡ Ok (called tag mark args.now))) }
+{
+    if !has_room(args, 48) {
+        return Err(TooBig);
+    }
+    let first = 16 + args.len() as u64;
+    let mut words = opening(tag, mark, args.len() as u64);
+    put_informations(&mut words, first, shape(tag), args);
+    let end = first + contents_len(args);
+    words.push(end_item(end));
+    put_contents(&mut words, args);
+    Ok(words)
+}
+
+/// Whether a call encodes: its arguments fit it, and its block has at most 64 words, whatever its
+/// mark is. It takes no memory.
+pub fn encodes(tag: CallTag, args: &[Arg]) -> bool
+    ensures { result ≡ encodes tag args.now }
+{
+    if !fits(tag, args) {
+        return false;
+    }
+    match encode(tag, args, 0) {
+        Ok(_) => true,
+        Err(TooBig) => false,
+    }
+}

@@ -1,0 +1,126 @@
+// Information words, and what stands in the words of a parameter.
+ghost use Rattle.std.specs.Prelude.{◌≡◌, ◌<◌, ◌≤◌, ◌+◌, ◌*◌, ◌^◌, length, slice_index, drop};
+ghost use Rattle.sb_block.specs.Packing.{type_of, offset_of, size_of, information, words_for, unit_word, part_of, unpacked, string_in, number_in};
+
+use arrayvec::ArrayVec;
+
+/// The type of a parameter: the upper half of its information word.
+pub fn type_of(word: u64) -> u64
+    ensures value { result ≡ type_of word }
+    ensures small { result < 2 ^ 32 }
+{
+    word >> 32
+}
+
+/// The offset of a parameter, in words of the block.
+pub fn offset_of(word: u64) -> u64
+    ensures value { result ≡ offset_of word }
+    ensures small { result < 2 ^ 16 }
+{
+    (word >> 16) & 0xffff
+}
+
+/// The size of a parameter, in bytes.
+pub fn size_of(word: u64) -> u64
+    ensures value { result ≡ size_of word }
+    ensures small { result < 2 ^ 16 }
+{
+    word & 0xffff
+}
+
+/// The information word of a type, an offset in words and a size in bytes.
+pub fn information(kind: u64, offset: u64, size: u64) -> u64
+    requires kind { kind < 2 ^ 32 }
+    requires offset { offset < 2 ^ 16 }
+    requires size { size < 2 ^ 16 }
+    ensures { result ≡ information kind offset size }
+{
+    size | offset << 16 | kind << 32
+}
+
+/// The end item of an end in words. There are at most 64.
+pub fn end_item(end: u64) -> u64
+    requires { end ≤ 64 }
+    ensures { result ≡ end * 2 ^ 16 }
+{
+    end << 16
+}
+
+/// The number of words that so many bytes need.
+pub fn words_for(bytes: u64) -> u64
+    requires { bytes < 2 ^ 32 }
+    ensures { result ≡ words_for bytes }
+{
+    (bytes + 7) / 8
+}
+
+/// Four units in a word, the first in the lowest bits.
+pub fn unit_word(first: u16, second: u16, third: u16, fourth: u16) -> u64
+    ensures { result ≡ unit_word first second third fourth }
+{
+    u64::from(first) | u64::from(second) << 16 | u64::from(third) << 32 | u64::from(fourth) << 48
+}
+
+/// The word at a place, or 0 past the end.
+pub fn word_at(words: &[u64], at: u64) -> u64
+    ensures { result ≡ slice_index words.now at }
+{
+    match words.get(at as usize) {
+        Some(word) => *word,
+        None => 0,
+    }
+}
+
+/// The words from an offset on, as many as asked for, or as there are.
+pub fn part_of(words: &[u64], offset: u64, len: u64) -> &[u64]
+    ensures value { result.now ≡ part_of offset len words.now }
+    ensures most { length result.now ≤ length words.now }
+{
+    let rest = from(words, offset);
+    match rest.get(..len as usize) {
+        Some(part) => part,
+        None => rest,
+    }
+}
+
+fn from(words: &[u64], offset: u64) -> &[u64]
+    ensures { result.now ≡ drop offset words.now }
+{
+    match words.get(offset as usize..) {
+        Some(rest) => rest,
+        None => &[],
+    }
+}
+
+/// The units that stand in words, four in each, so many of them or as many as there are.
+fn unpacked(words: &[u64], count: usize) -> ArrayVec<u16, 256>
+    requires { length words.now ≤ 64 }
+    ensures { result.items ≡ unpacked count words.now }
+{
+    let mut units = ArrayVec::new();
+    for word in words {
+        units.push((*word & 0xffff) as u16);
+        units.push((*word >> 16 & 0xffff) as u16);
+        units.push((*word >> 32 & 0xffff) as u16);
+        units.push((*word >> 48) as u16);
+    }
+    units.truncate(count);
+    units
+}
+
+/// The units of the string that an information word tells of.
+pub fn string_in(words: &[u64], information: u64) -> ArrayVec<u16, 256>
+    requires { length words.now ≤ 64 }
+    ensures { result.items ≡ string_in information words.now }
+{
+    let size = size_of(information);
+    let part = part_of(words, offset_of(information), words_for(size));
+    unpacked(part, (size / 2) as usize)
+}
+
+/// The word at the offset that an information word tells of, or 0 past the end.
+pub fn number_in(words: &[u64], information: u64) -> u64
+    ensures { result ≡ number_in information words.now }
+{
+    word_at(words, offset_of(information))
+}
