@@ -1,0 +1,92 @@
+-- The history of what was decided, and when it is a legal one.
+use Rattle.std.specs.Prelude.{◌≡◌, ℕ, ◌<◌, List, [], ◌∷◌, ◌++◌, length, slice_index, ⊤}
+use Rattle.sb_call.specs.declared.replies.Answer.{Answer}
+use Rattle.sb_call.specs.declared.replies.Reply.{Reply}
+use Rattle.sb_block.specs.Copies.{Copied, mark_of}
+use Rattle.sb_block.specs.declared.faults.BlockFault.{BlockFault}
+use Rattle.sb_block.specs.declared.faults.BlockFault.TheVariants.{TooManyParams, BadEnd, CountChanged, EndChanged, BadParamType, BadPlace, UnknownTag, WrongShape, BadSize, BadName}
+use Rattle.sb_rule.specs.Verdicts.{policy_at}
+use Rattle.sb_rule.specs.declared.policies.Policy.{Policy}
+use Rattle.sb_book.specs.Decisions.{decision_of}
+use Rattle.sb_book.specs.Namespaces.{Space, empty_space, perform, invalid_parameter, success}
+use Rattle.sb_book.specs.declared.decisions.Decision.{Decision}
+use Rattle.sb_book.specs.declared.decisions.Decision.TheVariants.{Refused, Denied, Faked, Performed}
+use Rattle.sb_book.specs.declared.entries.Entry.{Entry}
+
+-- a namespace, and the entries that led to it
+pub record History : Type 0 where
+  pub space : Space
+  pub entries : List Entry
+
+abbrev pub empty_history : History
+empty_history = record { space = empty_space; entries = [] }
+
+abbrev pub access_denied : ℕ
+access_denied = 0xC0000022
+
+-- a fault's number, and then its values
+abbrev pub fault_words : BlockFault → List ℕ
+fault_words (TooManyParams n) = 1 ∷ n ∷ []
+fault_words (BadEnd e) = 2 ∷ e ∷ []
+fault_words (CountChanged a b) = 3 ∷ a ∷ b ∷ []
+fault_words (EndChanged a b) = 4 ∷ a ∷ b ∷ []
+fault_words (BadParamType i) = 5 ∷ i ∷ []
+fault_words (BadPlace i) = 6 ∷ i ∷ []
+fault_words (UnknownTag t) = 7 ∷ t ∷ []
+fault_words WrongShape = 8 ∷ []
+fault_words (BadSize i) = 9 ∷ i ∷ []
+fault_words (BadName i) = 10 ∷ i ∷ []
+
+-- the reply that shows a service's answer
+abbrev pub performed_reply : ℕ → Answer → Reply
+performed_reply mark a = record { mark = mark; outcome = 0; status = a.status; handle = a.handle; ext = a.ext }
+
+-- the reply to a mark that a decision leads to
+abbrev pub reply_of : Space → ℕ → ℕ → Decision → Reply
+reply_of ns target mark (Refused f) = record { mark = mark; outcome = 1; status = invalid_parameter; handle = 0; ext = fault_words f }
+reply_of ns target mark (Denied tag verdict) = record { mark = mark; outcome = 2; status = access_denied; handle = 0; ext = [] }
+reply_of ns target mark (Faked tag line) = record { mark = mark; outcome = 3; status = success; handle = 0; ext = [] }
+reply_of ns target mark (Performed tag line action args) = performed_reply mark (perform ns target tag args).answer
+
+-- the namespace that a decision leads to
+abbrev pub space_after : Space → ℕ → Decision → Space
+space_after ns target (Refused f) = ns
+space_after ns target (Denied tag verdict) = ns
+space_after ns target (Faked tag line) = ns
+space_after ns target (Performed tag line action args) = (perform ns target tag args).space
+
+-- the entry of a copy and its decision
+abbrev pub entry_of : Space → ℕ → ℕ → Copied → Decision → Entry
+entry_of ns target channel taken decision =
+    record { target = target; channel = channel; taken = taken; decision = decision; reply = reply_of ns target (mark_of taken) decision }
+
+-- the history with one entry more
+abbrev pub answered : History → ℕ → ℕ → Copied → Decision → History
+answered h target channel taken decision =
+    record { space = space_after h.space target decision; entries = h.entries ++ entry_of h.space target channel taken decision ∷ [] }
+
+-- the policy and the number of channels of each target
+pub record Setting : Type 0 where
+  pub policies : List Policy
+  pub channels : List ℕ
+
+-- the entry follows from its own copy, the policy of its target and the namespace before it
+pub record IsEntry (s : Setting) (ns : Space) (e : Entry) : Type 0 where
+  pub target_there : e.target < length s.policies
+  pub channel_there : e.channel < slice_index s.channels e.target
+  pub decided : e.decision ≡ decision_of (policy_at s.policies e.target) e.taken
+  pub replied : e.reply ≡ reply_of ns e.target (mark_of e.taken) e.decision
+
+-- each entry in turn follows, from this namespace on
+abbrev pub IsLegalFrom : Setting → Space → List Entry → Type 0
+IsLegalFrom s ns [] = ⊤
+IsLegalFrom s ns (e ∷ es) = IsEntry s ns e × IsLegalFrom s (space_after ns e.target e.decision) es
+
+-- the entries are a legal history
+abbrev pub IsLegalHistory : Setting → List Entry → Type 0
+IsLegalHistory s es = IsLegalFrom s empty_space es
+
+-- the namespace after these entries
+abbrev pub space_from : Space → List Entry → Space
+space_from ns [] = ns
+space_from ns (e ∷ es) = space_from (space_after ns e.target e.decision) es

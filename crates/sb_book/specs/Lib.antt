@@ -1,0 +1,4 @@
+pub mod Decisions
+pub mod Namespaces
+pub mod Histories
+pub mod Reports

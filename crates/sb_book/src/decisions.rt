@@ -1,0 +1,88 @@
+// What the broker decides of a copy.
+ghost use Rattle.std.specs.Prelude.{◌≡◌, true, IfOk};
+ghost use Rattle.sb_call.specs.Arguments.{fits};
+ghost use Rattle.sb_book.specs.Decisions.{decision_of, by_verdict, read_only_args};
+
+use sb_block::{BlockFault, BlockRefused, Call, Taken, decode};
+use sb_call::{Arg, Args, CallTag};
+use sb_rule::{Action, Policy, Verdict, verdict_plain};
+use sb_wide::NoMemory;
+use std::alloc::Global;
+
+/// What the broker decides of the copy of a parameter block.
+#[derive(Debug, Drop)]
+pub enum Decision {
+    /// The block has a fault, the first that stands in the copy.
+    Refused(BlockFault),
+    /// No rule matched, or the first that matched says deny or alarm.
+    Denied {
+        tag: CallTag,
+        verdict: Verdict,
+    },
+    /// The first rule that matched, on this line, says fake.
+    Faked {
+        tag: CallTag,
+        line: u32,
+    },
+    /// The first rule that matched, on this line, says allow or readonly, and grants these arguments.
+    Performed {
+        tag: CallTag,
+        line: u32,
+        action: Action,
+        args: Args,
+    },
+}
+
+// Read data, execute, read EA, read attributes, read control, synchronize, and generic read and execute.
+const READ_ONLY_BITS: u64 = 0xA012_00A9;
+
+/// Decides by the rules of a policy, on the copy alone. Nothing is performed.
+pub fn decide(alloc: Global, policy: &Policy, taken: &Taken) -> Result<Decision, NoMemory>
+    ensures { IfOk result (λ d. d ≡ decision_of policy.now taken.now) }
+{
+    let call = match decode(alloc, taken) {
+        Ok(call) => call,
+        Err(BlockRefused::Fault(fault)) => return Ok(Decision::Refused(fault)),
+        Err(BlockRefused::NoMemory) => return Err(NoMemory),
+    };
+    let verdict = verdict_plain(policy, call.tag, call.args.as_slice());
+    Ok(decided(call, verdict))
+}
+
+// The decision that a verdict on a call makes.
+fn decided(call: Call, verdict: Verdict) -> Decision
+    ensures { result ≡ by_verdict call.tag call.args verdict }
+{
+    let Call { tag, args, .. } = call;
+    match verdict {
+        Verdict::Rule { line, action } => match action {
+            Action::Allow => Decision::Performed {
+                tag,
+                line,
+                action,
+                args,
+            },
+            Action::ReadOnly => Decision::Performed {
+                tag,
+                line,
+                action,
+                args: read_only_args(args),
+            },
+            Action::Fake => Decision::Faked { tag, line },
+            Action::Deny | Action::Alarm => Decision::Denied { tag, verdict },
+        },
+        Verdict::NoRule => Decision::Denied { tag, verdict },
+    }
+}
+
+// The arguments with the access, the second of them, cut to the bits that only read.
+fn read_only_args(args: Args) -> Args
+    ensures { result ≡ read_only_args args }
+{
+    let mut items = args.into_items();
+    if let [_, Arg::Num(access), ..] = items.as_slice() {
+        let access = *access & READ_ONLY_BITS;
+        items[1] = Arg::Num(access);
+    }
+    Args::new(items)
+}
