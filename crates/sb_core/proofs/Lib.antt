@@ -1,0 +1,4 @@
+pub mod Places
+pub mod Rounds
+pub mod Legal
+pub mod Settling

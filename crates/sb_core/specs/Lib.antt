@@ -1,0 +1,6 @@
+pub mod Channels
+pub mod Workers
+pub mod Threads
+pub mod Worlds
+pub mod Runs
+pub mod Laws

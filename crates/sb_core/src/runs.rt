@@ -1,0 +1,110 @@
+// A whole run of a script's one thread.
+ghost use Rattle.std.specs.Prelude.{◌≡◌, ◌≤◌, length, true, IfOk, option_map};
+ghost use Rattle.std.specs.List.{list_all};
+ghost use Rattle.sb_core.specs.Threads.{is_sendable};
+ghost use Rattle.sb_core.specs.Runs.{only_thread_of, is_one_thread, ran_from, ran};
+ghost use Rattle.sb_book.specs.Reports.{result_count};
+ghost use Rattle.sb_core.specs.Worlds.{rounds, start_world, is_sound, IsCounted};
+
+use crate::threads::is_sendable;
+use crate::worlds::World;
+use sb_book::Report;
+use sb_call::{Script, Statement};
+use sb_rule::Policy;
+use sb_wide::NoMemory;
+use std::alloc::Global;
+
+/// What a run gives.
+#[derive(Debug, Drop)]
+pub struct Ran {
+    /// The history and the results.
+    pub report: Report,
+    /// The target and the thread that used up the rounds without being finished, both numbered from 0.
+    pub unfinished: Option<(u32, u32)>,
+}
+
+// The statements of the only thread of the only target, where there is one and the target has one channel.
+fn only_thread(script: &Script) -> Option<&[Statement]>
+    ensures { option_map (λ s. s.now) result ≡ only_thread_of script.now.targets }
+{
+    match script.targets.as_slice() {
+        [target] if target.channels == 1 => match target.threads.as_slice() {
+            [statements] => Some(statements.as_slice()),
+            _ => None,
+        },
+        _ => None,
+    }
+}
+
+fn are_sendable(statements: &[Statement]) -> bool
+    ensures { result ≡ list_all is_sendable statements.now }
+{
+    statements.iter().all(|statement| is_sendable(statement))
+}
+
+/// Whether a script has one target with one channel and one thread, which makes at most 4,096 calls that can be sent.
+pub fn is_one_thread(script: &Script) -> bool
+    ensures { result ≡ is_one_thread script.now }
+{
+    match only_thread(script) {
+        Some(statements) => statements.len() <= 4096 && are_sendable(statements),
+        None => false,
+    }
+}
+
+// Drains a finished world, and reports.
+fn finish(
+    alloc: Global,
+    policy: &Policy,
+    statements: &[Statement],
+    world: World,
+) -> Result<Ran, NoMemory>
+    requires few { length statements.now ≤ 4096 }
+    requires sound { is_sound statements.now world ≡ true }
+    requires counted { IsCounted world }
+    ensures value { IfOk result (λ r. r ≡ ran_from policy.now statements.now world) }
+    ensures few { IfOk result (λ r. result_count r.report.results ≤ 4096) }
+{
+    let mut world = world;
+    if !world.is_finished(statements) {
+        return Ok(Ran {
+            report: world.into_report(alloc)?,
+            unfinished: Some((0, 0)),
+        });
+    }
+    world.drain(alloc, policy)?;
+    Ok(Ran {
+        report: world.into_report(alloc)?,
+        unfinished: None,
+    })
+}
+
+// Runs these statements.
+fn run_statements(
+    alloc: Global,
+    policy: &Policy,
+    statements: &[Statement],
+    count: u32,
+) -> Result<Ran, NoMemory>
+    requires few { length statements.now ≤ 4096 }
+    requires sendable { list_all is_sendable statements.now ≡ true }
+    ensures value { IfOk result (λ r. r ≡ ran_from policy.now statements.now (rounds count policy.now statements.now start_world)) }
+    ensures few { IfOk result (λ r. result_count r.report.results ≤ 4096) }
+{
+    let mut world = World::start(alloc);
+    world.make_rounds(alloc, policy, statements, count)?;
+    finish(alloc, policy, statements, world)
+}
+
+/// Runs the one thread of a script against one worker, in rounds of one step of the worker and one of the thread:
+/// at most so many, while the thread is unfinished. Where it is finished, the worker then serves what is still ready.
+pub fn run(alloc: Global, policy: &Policy, script: &Script, count: u32) -> Result<Ran, NoMemory>
+    requires script { is_one_thread script.now ≡ true }
+    ensures value { IfOk result (λ r. r ≡ ran policy.now script.now count) }
+    ensures few { IfOk result (λ r. result_count r.report.results ≤ 4096) }
+{
+    let Some(statements) = only_thread(script) else {
+        unreachable!();
+    };
+    run_statements(alloc, policy, statements, count)
+}
