@@ -1,0 +1,102 @@
+-- The line of an entry.
+use Rattle.std.specs.Prelude.{ℕ, List, [], ◌++◌, codes, Option, None, Some, slice_get}
+use Rattle.std.specs.List.{flat_map}
+use Rattle.std.specs.Fmt.{decimal}
+use Rattle.sb_wide.specs.Quoting.{quoted}
+use Rattle.sb_call.specs.declared.tags.CallTag.{CallTag}
+use Rattle.sb_call.specs.declared.tags.CallTag.TheVariants.{Ping, FileCreate, FileOpen, FileQuery, FileRename, PipeCreate, KeyCreate, KeyOpen, EventCreate, EventOpen, HandleClose}
+use Rattle.sb_call.specs.declared.arguments.Arg.{Arg}
+use Rattle.sb_call.specs.declared.arguments.Arg.TheVariants.{Num, Str}
+use Rattle.sb_call.specs.declared.replies.Reply.{Reply}
+use Rattle.sb_call.specs.declared.scripts.Script.{Script}
+use Rattle.sb_call.specs.declared.scripts.TargetScript.{TargetScript}
+use Rattle.sb_block.specs.Copies.{mark_of}
+use Rattle.sb_block.specs.declared.faults.BlockFault.{BlockFault}
+use Rattle.sb_block.specs.declared.faults.BlockFault.TheVariants.{TooManyParams, BadEnd, CountChanged, EndChanged, BadParamType, BadPlace, UnknownTag, WrongShape, BadSize, BadName}
+use Rattle.sb_rule.specs.declared.actions.Action.{Action}
+use Rattle.sb_rule.specs.declared.actions.Action.TheVariants.{Allow, Deny, Alarm, Fake, ReadOnly}
+use Rattle.sb_rule.specs.declared.verdicts.Verdict.{Verdict}
+use Rattle.sb_rule.specs.declared.verdicts.Verdict.TheVariants as verdict
+use Rattle.sb_book.specs.declared.decisions.Decision.{Decision}
+use Rattle.sb_book.specs.declared.decisions.Decision.TheVariants.{Refused, Denied, Faked, Performed}
+use Rattle.sb_book.specs.declared.entries.Entry.{Entry}
+use Rattle.sb_transcript.specs.Numbers.{hexadecimal, eight_digits, comma_words}
+
+-- a call by its name
+abbrev pub call_text : CallTag → List ℕ
+call_text Ping = codes "ping"
+call_text FileCreate = codes "file.create"
+call_text FileOpen = codes "file.open"
+call_text FileQuery = codes "file.query"
+call_text FileRename = codes "file.rename"
+call_text PipeCreate = codes "pipe.create"
+call_text KeyCreate = codes "key.create"
+call_text KeyOpen = codes "key.open"
+call_text EventCreate = codes "event.create"
+call_text EventOpen = codes "event.open"
+call_text HandleClose = codes "handle.close"
+
+-- a fault by its name, and its values
+abbrev pub fault_text : BlockFault → List ℕ
+fault_text (TooManyParams n) = codes "too-many-params " ++ decimal n
+fault_text (BadEnd e) = codes "bad-end " ++ decimal e
+fault_text (CountChanged a b) = codes "count-changed " ++ decimal a ++ codes " " ++ decimal b
+fault_text (EndChanged a b) = codes "end-changed " ++ decimal a ++ codes " " ++ decimal b
+fault_text (BadParamType i) = codes "bad-param-type " ++ decimal i
+fault_text (BadPlace i) = codes "bad-place " ++ decimal i
+fault_text (UnknownTag t) = codes "unknown-tag " ++ decimal t
+fault_text WrongShape = codes "wrong-shape"
+fault_text (BadSize i) = codes "bad-size " ++ decimal i
+fault_text (BadName i) = codes "bad-name " ++ decimal i
+
+-- a blank, and a number in hexadecimal or a string between quotes
+abbrev pub argument_text : Arg → List ℕ
+argument_text (Num n) = codes " 0x" ++ hexadecimal n
+argument_text (Str units) = codes " " ++ quoted units
+
+-- what stands before the line of a rule that denies
+abbrev pub denial_word : Action → List ℕ
+denial_word Alarm = codes " alarm "
+denial_word Allow = codes " rule "
+denial_word Deny = codes " rule "
+denial_word Fake = codes " rule "
+denial_word ReadOnly = codes " rule "
+
+-- what stands before the line of a rule that grants
+abbrev pub grant_word : Action → List ℕ
+grant_word ReadOnly = codes " readonly "
+grant_word Allow = codes " rule "
+grant_word Deny = codes " rule "
+grant_word Alarm = codes " rule "
+grant_word Fake = codes " rule "
+
+abbrev pub verdict_text : Verdict → List ℕ
+verdict_text verdict.NoRule = codes " norule"
+verdict_text (verdict.Rule line action) = denial_word action ++ decimal line
+
+-- a decision: its fault, or its call with the rule that decided
+abbrev pub decision_text : Decision → List ℕ
+decision_text (Refused fault) = codes "refused " ++ fault_text fault
+decision_text (Denied tag verdict) = codes "denied " ++ call_text tag ++ verdict_text verdict
+decision_text (Faked tag line) = codes "faked " ++ call_text tag ++ codes " rule " ++ decimal line
+decision_text (Performed tag line action args) =
+    codes "performed " ++ call_text tag ++ flat_map argument_text args ++ grant_word action ++ decimal line
+
+-- outcome, status, handle and the extended words of a reply
+abbrev pub reply_text : Reply → List ℕ
+reply_text r =
+    decimal r.outcome ++ codes " " ++ eight_digits r.status ++ codes " " ++ decimal r.handle ++ codes " [" ++ comma_words r.ext ++ codes "]"
+
+abbrev pub name_by : Option TargetScript → List ℕ
+name_by None = []
+name_by (Some target) = target.name
+
+-- the name of a target
+abbrev pub target_name : Script → ℕ → List ℕ
+target_name script target = name_by (slice_get script.targets target)
+
+-- the line of entry n
+abbrev pub entry_line : Script → ℕ → Entry → List ℕ
+entry_line script n e =
+    codes "entry " ++ decimal n ++ codes " " ++ target_name script e.target ++ codes " " ++ decimal e.channel
+    ++ codes " mark " ++ decimal (mark_of e.taken) ++ codes " " ++ decision_text e.decision ++ codes " reply " ++ reply_text e.reply ++ codes "\n"

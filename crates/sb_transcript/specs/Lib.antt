@@ -1,0 +1,5 @@
+pub mod Numbers
+pub mod EntryLines
+pub mod ResultLines
+pub mod Totals
+pub mod Transcripts

@@ -1,0 +1,200 @@
+// The line of an entry.
+ghost use Rattle.std.specs.Prelude.{◌≡◌, ◌++◌, codes, IfOk, OnOk};
+ghost use Rattle.std.specs.Fmt.{decimal};
+ghost use Rattle.std.specs.List.{flat_map};
+ghost use Rattle.sb_transcript.specs.EntryLines.{call_text, fault_text, argument_text, denial_word, grant_word, verdict_text, decision_text, reply_text, target_name, entry_line};
+
+use crate::numbers::{put_comma_words, put_decimal, put_eight_digits, put_hexadecimal};
+use sb_block::BlockFault;
+use sb_book::{Decision, Entry};
+use sb_call::{Arg, CallTag, Reply, Script};
+use sb_rule::{Action, Verdict};
+use sb_wide::{NoMemory, quote_into};
+use std::alloc::Global;
+
+/// The name of a call.
+pub fn call_text(tag: CallTag) -> &'static [u8]
+    ensures { result.now ≡ call_text tag }
+{
+    match tag {
+        CallTag::Ping => b"ping",
+        CallTag::FileCreate => b"file.create",
+        CallTag::FileOpen => b"file.open",
+        CallTag::FileQuery => b"file.query",
+        CallTag::FileRename => b"file.rename",
+        CallTag::PipeCreate => b"pipe.create",
+        CallTag::KeyCreate => b"key.create",
+        CallTag::KeyOpen => b"key.open",
+        CallTag::EventCreate => b"event.create",
+        CallTag::EventOpen => b"event.open",
+        CallTag::HandleClose => b"handle.close",
+    }
+}
+
+/// Appends a name and a number in decimal.
+pub fn put_named(line: &mut Vec<u8>, name: &[u8], value: u64) -> Result<(), NoMemory>
+    ensures { OnOk result (line.new.items ≡ line.old.items ++ (name.now ++ decimal value)) }
+{
+    line.extend_from_slice(name)?;
+    put_decimal(line, value)
+}
+
+// The two values of a fault that is a change.
+fn put_change(line: &mut Vec<u8>, name: &[u8], seen: u64, copied: u64) -> Result<(), NoMemory>
+    ensures { OnOk result (line.new.items ≡ line.old.items ++ (name.now ++ decimal seen ++ codes " " ++ decimal copied)) }
+{
+    put_named(line, name, seen)?;
+    line.push(b' ')?;
+    put_decimal(line, copied)
+}
+
+fn put_fault(line: &mut Vec<u8>, fault: BlockFault) -> Result<(), NoMemory>
+    ensures { OnOk result (line.new.items ≡ line.old.items ++ fault_text fault) }
+{
+    match fault {
+        BlockFault::TooManyParams(count) => put_named(line, b"too-many-params ", count),
+        BlockFault::BadEnd(end) => put_named(line, b"bad-end ", end),
+        BlockFault::CountChanged(seen, copied) => put_change(line, b"count-changed ", seen, copied),
+        BlockFault::EndChanged(seen, copied) => put_change(line, b"end-changed ", seen, copied),
+        BlockFault::BadParamType(param) => put_named(line, b"bad-param-type ", u64::from(param)),
+        BlockFault::BadPlace(param) => put_named(line, b"bad-place ", u64::from(param)),
+        BlockFault::UnknownTag(tag) => put_named(line, b"unknown-tag ", tag),
+        BlockFault::WrongShape => Ok(line.extend_from_slice(b"wrong-shape")?),
+        BlockFault::BadSize(param) => put_named(line, b"bad-size ", u64::from(param)),
+        BlockFault::BadName(param) => put_named(line, b"bad-name ", u64::from(param)),
+    }
+}
+
+fn put_argument(line: &mut Vec<u8>, arg: &Arg) -> Result<(), NoMemory>
+    ensures { OnOk result (line.new.items ≡ line.old.items ++ argument_text arg.now) }
+{
+    match arg {
+        Arg::Num(number) => {
+            line.extend_from_slice(b" 0x")?;
+            put_hexadecimal(line, *number)
+        }
+        Arg::Str(text) => {
+            line.push(b' ')?;
+            quote_into(line, text.as_units())
+        }
+    }
+}
+
+fn put_arguments(line: &mut Vec<u8>, args: &[Arg]) -> Result<(), NoMemory>
+    ensures { OnOk result (line.new.items ≡ line.old.items ++ flat_map argument_text args.now) }
+{
+    for arg in args {
+        put_argument(line, arg)?;
+    }
+    Ok(())
+}
+
+fn denial_word(action: Action) -> &'static [u8]
+    ensures { result.now ≡ denial_word action }
+{
+    match action {
+        Action::Alarm => b" alarm ",
+        Action::Allow | Action::Deny | Action::Fake | Action::ReadOnly => b" rule ",
+    }
+}
+
+fn grant_word(action: Action) -> &'static [u8]
+    ensures { result.now ≡ grant_word action }
+{
+    match action {
+        Action::ReadOnly => b" readonly ",
+        Action::Allow | Action::Deny | Action::Alarm | Action::Fake => b" rule ",
+    }
+}
+
+fn put_verdict(line: &mut Vec<u8>, verdict: Verdict) -> Result<(), NoMemory>
+    ensures { OnOk result (line.new.items ≡ line.old.items ++ verdict_text verdict) }
+{
+    match verdict {
+        Verdict::NoRule => Ok(line.extend_from_slice(b" norule")?),
+        Verdict::Rule {
+            line: number,
+            action,
+        } => put_named(line, denial_word(action), u64::from(number)),
+    }
+}
+
+fn put_decision(line: &mut Vec<u8>, decision: &Decision) -> Result<(), NoMemory>
+    ensures { OnOk result (line.new.items ≡ line.old.items ++ decision_text decision.now) }
+{
+    match decision {
+        Decision::Refused(fault) => {
+            line.extend_from_slice(b"refused ")?;
+            put_fault(line, *fault)
+        }
+        Decision::Denied { tag, verdict } => {
+            line.extend_from_slice(b"denied ")?;
+            line.extend_from_slice(call_text(*tag))?;
+            put_verdict(line, *verdict)
+        }
+        Decision::Faked { tag, line: number } => {
+            line.extend_from_slice(b"faked ")?;
+            line.extend_from_slice(call_text(*tag))?;
+            put_named(line, b" rule ", u64::from(*number))
+        }
+        Decision::Performed {
+            tag,
+            line: number,
+            action,
+            args,
+        } => {
+            line.extend_from_slice(b"performed ")?;
+            line.extend_from_slice(call_text(*tag))?;
+            put_arguments(line, args.as_slice())?;
+            put_named(line, grant_word(*action), u64::from(*number))
+        }
+    }
+}
+
+/// Appends a reply: its outcome, status, handle and extended words.
+pub fn put_reply(line: &mut Vec<u8>, reply: &Reply) -> Result<(), NoMemory>
+    ensures { OnOk result (line.new.items ≡ line.old.items ++ reply_text reply.now) }
+{
+    put_decimal(line, reply.outcome)?;
+    line.push(b' ')?;
+    put_eight_digits(line, reply.status)?;
+    line.push(b' ')?;
+    put_decimal(line, reply.handle)?;
+    line.extend_from_slice(b" [")?;
+    put_comma_words(line, reply.ext.as_slice())?;
+    line.push(b']')?;
+    Ok(())
+}
+
+/// Appends the name of a target, and nothing where there is no such target.
+pub fn put_target(line: &mut Vec<u8>, script: &Script, target: usize) -> Result<(), NoMemory>
+    ensures { OnOk result (line.new.items ≡ line.old.items ++ target_name script.now target) }
+{
+    if let Some(target) = script.targets.as_slice().get(target) {
+        line.extend_from_slice(target.name.bytes())?;
+    }
+    Ok(())
+}
+
+/// The line of entry `n` of a history, counted from 0, with its LF.
+pub fn entry_line(
+    alloc: Global,
+    script: &Script,
+    n: u64,
+    entry: &Entry,
+) -> Result<Vec<u8>, NoMemory>
+    ensures { IfOk result (λ line. line.items ≡ entry_line script.now n entry.now) }
+{
+    let mut line = Vec::new(alloc);
+    put_named(&mut line, b"entry ", n)?;
+    line.push(b' ')?;
+    put_target(&mut line, script, entry.target as usize)?;
+    put_named(&mut line, b" ", u64::from(entry.channel))?;
+    put_named(&mut line, b" mark ", entry.taken.mark())?;
+    line.push(b' ')?;
+    put_decision(&mut line, &entry.decision)?;
+    line.extend_from_slice(b" reply ")?;
+    put_reply(&mut line, &entry.reply)?;
+    line.push(b'\n')?;
+    Ok(line)
+}
