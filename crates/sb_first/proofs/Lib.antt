@@ -1,0 +1,4 @@
+pub mod Afters
+pub mod Fitting
+pub mod Strings
+pub mod WellMade

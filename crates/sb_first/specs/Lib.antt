@@ -1,0 +1,3 @@
+pub mod Words
+pub mod Policies
+pub mod Scripts
