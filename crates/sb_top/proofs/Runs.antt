@@ -1,0 +1,30 @@
+-- Runs are legal, and known words are no usage fault.
+use Rattle.std.proofs.Common.{◌≡◌, ◌≢◌, ℕ, sym, subst}
+use Rattle.std.specs.Prelude.{IfOk, Result, Ok, Err}
+use Rattle.sb_wide.specs.declared.memory.NoMemory.{NoMemory}
+use Rattle.sb_call.specs.declared.scripts.Script.{Script}
+use Rattle.sb_rule.specs.declared.policies.Policy.{Policy}
+use Rattle.sb_book.specs.Histories.{IsLegalHistory}
+use Rattle.sb_core.specs.Laws.{setting, RunsAreLegal}
+use Rattle.sb_core.specs.Runs.{ran}
+use Rattle.sb_core.specs.declared.runs.Ran.{Ran}
+use Rattle.sb_top.specs.Refusals.{IsRefusal}
+use Rattle.sb_top.specs.declared.outcomes.Status.{Status}
+use Rattle.sb_top.specs.declared.outcomes.Status.TheVariants as status
+
+pub legal_run : (law : RunsAreLegal) (p : Policy) (s : Script) (n : ℕ) (r : Result Ran NoMemory) → IfOk r (λ x. x ≡ ran p s n)
+    → IfOk r (λ x. IsLegalHistory (setting p) x.report.entries)
+legal_run law p s n (Ok x) e = let P : Ran → Type 0 = λ y. IsLegalHistory (setting p) y.report.entries in subst P (sym e) (law p s n)
+legal_run law p s n (Err m) e = tt
+
+-- a refusal is no usage fault
+pub known : (s : Status) → IsRefusal s → s ≢ status.Usage
+known status.Done h = absurd h
+known (status.Unfinished t k) h = absurd h
+known status.Usage h = absurd h
+known (status.NotYet n) h = λ e. cc
+known (status.Missing n) h = λ e. cc
+known (status.TooLong n) h = λ e. cc
+known (status.ReadFault n) h = λ e. cc
+known status.WriteFault h = absurd h
+known status.NoMemory h = λ e. cc

@@ -1,0 +1,4 @@
+pub mod Commands
+pub mod Wanted
+pub mod Outcomes
+pub mod Refusals

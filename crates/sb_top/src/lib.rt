@@ -1,0 +1,12 @@
+// The top call: all that the program does, over any files and any output.
+#![tactic(auto)]
+
+mod commands;
+mod outcomes;
+mod prepared;
+mod reading;
+mod shows;
+mod top;
+
+pub use outcomes::{Outcome, Status};
+pub use top::plain_top;

@@ -1,0 +1,35 @@
+// What the top call answers.
+
+use sb_book::Report;
+
+/// How a command ended. Files are numbered by their place in the command, from 1.
+#[derive(Clone, Copy, Debug, PartialEq, Eq)]
+pub enum Status {
+    /// All lines were put.
+    Done,
+    /// This thread of this target, both numbered from 0, used up the rounds.
+    Unfinished { target: u32, thread: u32 },
+    /// The words are no command.
+    Usage,
+    /// The file has a form that is not read yet.
+    NotYet { which: u8 },
+    /// There is no such file.
+    Missing { which: u8 },
+    /// The file has more than 4,194,304 bytes.
+    TooLong { which: u8 },
+    /// The file was not read.
+    ReadFault { which: u8 },
+    /// A line was not written.
+    WriteFault,
+    /// There was no memory.
+    NoMemory,
+}
+
+/// The status, and with Done, Unfinished and WriteFault the report.
+#[derive(Debug, Drop)]
+pub struct Outcome {
+    /// How the command ended.
+    pub status: Status,
+    /// What its run gave.
+    pub report: Option<Report>,
+}

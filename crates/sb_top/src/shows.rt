@@ -1,0 +1,95 @@
+// The run of a policy and a script, and its transcript put line by line.
+ghost use Rattle.std.specs.Prelude.{◌≡◌, ◌≤◌, ◌<◌, ◌^◌, true, Some, IfOk};
+ghost use Rattle.sb_book.specs.Histories.{IsLegalHistory};
+ghost use Rattle.sb_book.specs.Reports.{result_count};
+ghost use Rattle.sb_core.specs.Laws.{setting};
+ghost use Rattle.sb_core.specs.Runs.{is_one_thread};
+ghost use Rattle.sb_outside.specs.Outside.{Rose};
+ghost use Rattle.sb_transcript.specs.Transcripts.{transcript};
+ghost use Rattle.sb_top.specs.Wanted.{Runs, whole_run};
+ghost use Rattle.sb_top.specs.Outcomes.{IsCause, IsReported, IsWritten, IsSilent};
+ghost use Rattle.sb_top.specs.Refusals.{IsPut};
+
+use crate::outcomes::{Outcome, Status};
+use crate::prepared::Prepared;
+use sb_book::Report;
+use sb_call::Script;
+use sb_core::{Ran, run, runs_are_legal};
+use sb_outside::{Sink, put_lines};
+use sb_rule::Policy;
+use sb_transcript::transcript_lines;
+use sb_wide::NoMemory;
+use std::alloc::Global;
+
+/// A run has so many rounds where no schedule says otherwise.
+const ROUNDS: u32 = 20_000_000;
+
+// The run of a policy and a script.
+#[tactic(auto, unfolding(crate::specs::Wanted::whole_run))]
+fn run_whole(alloc: Global, policy: &Policy, script: &Script) -> Result<Ran, NoMemory>
+    requires { is_one_thread script.now ≡ true }
+    ensures value { IfOk result (λ r. r ≡ whole_run policy.now script.now) }
+    ensures few { IfOk result (λ r. result_count r.report.results < 2 ^ 62) }
+    ensures legal { IfOk result (λ r. IsLegalHistory (setting policy.now) r.report.entries) }
+{
+    runs_are_legal();
+    run(alloc, policy, script, ROUNDS)
+}
+
+// Puts the transcript, one put a line. All lines are made before the first put, and no put follows one that failed.
+fn put_transcript<K: Sink>(alloc: Global, script: &Script, report: &Report, out: &mut K) -> Status
+    requires { result_count report.now.results < 2 ^ 62 }
+    ensures counted { K.faults out.old ≤ K.faults out.new }
+    ensures put { IsPut (transcript script.now report.now) (K.written out.old) (K.written out.new) result }
+    ensures silent { IsSilent result → out.new ≡ out.old }
+    ensures rose { result ≡ Status.WriteFault → Rose (K.faults out.old) (K.faults out.new) }
+    ensures done_count { result ≡ Status.Done → K.faults out.new ≡ K.faults out.old }
+{
+    let Ok(lines) = transcript_lines(alloc, script, report) else {
+        return Status::NoMemory;
+    };
+    match put_lines(out, &lines) {
+        Ok(()) => Status::Done,
+        Err(_) => Status::WriteFault,
+    }
+}
+
+/// Runs a policy and a script, and puts the transcript, one put a line. All lines are made before the first put, and no put
+/// follows one that failed.
+pub fn show<K: Sink>(alloc: Global, prepared: &Prepared, out: &mut K) -> Outcome
+    ensures counted { K.faults out.old ≤ K.faults out.new }
+    ensures silent { IsSilent result.status → out.new ≡ out.old }
+    ensures cause { IsCause (Some (Runs prepared.now.policy prepared.now.script)) ⊥ (Rose (K.faults out.old) (K.faults out.new)) result.status }
+    ensures report { IsReported (Some (Runs prepared.now.policy prepared.now.script)) result.report result.status }
+    ensures written { IsWritten (Some (Runs prepared.now.policy prepared.now.script)) (K.written out.old) (K.written out.new) result.status }
+    ensures done_count { result.status ≡ Status.Done → K.faults out.new ≡ K.faults out.old }
+{
+    let script = &prepared.script;
+    let Ok(ran) = run_whole(alloc, &prepared.policy, script) else {
+        return Outcome {
+            status: Status::NoMemory,
+            report: None,
+        };
+    };
+    let Ran { report, unfinished } = ran;
+    if let Some((target, thread)) = unfinished {
+        return Outcome {
+            status: Status::Unfinished { target, thread },
+            report: Some(report),
+        };
+    }
+    match put_transcript(alloc, script, &report, out) {
+        Status::Done => Outcome {
+            status: Status::Done,
+            report: Some(report),
+        },
+        Status::WriteFault => Outcome {
+            status: Status::WriteFault,
+            report: Some(report),
+        },
+        _ => Outcome {
+            status: Status::NoMemory,
+            report: None,
+        },
+    }
+}

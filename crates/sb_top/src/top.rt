@@ -1,0 +1,81 @@
+// The top call.
+ghost use Rattle.std.specs.Prelude.{◌≡◌, ◌≢◌, ◌≤◌, ◌↔◌, None, IsSome, IfSome, option_map};
+ghost use Rattle.sb_outside.specs.Outside.{Rose};
+ghost use Rattle.sb_top.specs.Commands.{command_of, texts};
+ghost use Rattle.sb_top.specs.Wanted.{wanted_of, wanted_replay};
+ghost use Rattle.sb_top.specs.Outcomes.{IsCause, IsReported, IsWritten, IsSilent};
+
+use crate::commands::replay_words;
+use crate::outcomes::{Outcome, Status};
+use crate::reading::prepare;
+use crate::shows::show;
+use sb_outside::{Files, Sink};
+use std::alloc::Global;
+
+// A replay of these files.
+#[tactic(auto, using(crate::proofs::Runs::known))]
+fn replay<F: Files, K: Sink>(
+    alloc: Global,
+    policy: &str,
+    script: &str,
+    files: &mut F,
+    out: &mut K,
+) -> Outcome
+    ensures cause { IsCause (option_map (wanted_replay policy.now script.now) (F.held files.old)) (Rose (F.faults files.old) (F.faults files.new)) (Rose (K.faults out.old) (K.faults out.new)) result.status }
+    ensures report { IsReported (option_map (wanted_replay policy.now script.now) (F.held files.old)) result.report result.status }
+    ensures written { IsWritten (option_map (wanted_replay policy.now script.now) (F.held files.old)) (K.written out.old) (K.written out.new) result.status }
+    ensures done_sink { result.status ≡ Status.Done → K.faults out.new ≡ K.faults out.old }
+    ensures known { result.status ≢ Status.Usage }
+    ensures kept { F.held files.new ≡ F.held files.old }
+    ensures counted_files { F.faults files.old ≤ F.faults files.new }
+    ensures counted_sink { K.faults out.old ≤ K.faults out.new }
+    ensures silent { IsSilent result.status → out.new ≡ out.old }
+    ensures run_files { IsSome result.report → F.faults files.new ≡ F.faults files.old }
+{
+    match prepare(alloc, files, policy, script) {
+        Ok(prepared) => show(alloc, &prepared, out),
+        Err(status) => Outcome {
+            status,
+            report: None,
+        },
+    }
+}
+
+/// All that the program does, over any files and any output: reads the words, and carries out the command that they are.
+///
+/// It always answers, since no command that waits for another thread exists yet. It waits for nobody.
+pub fn plain_top<F: Files, K: Sink>(
+    alloc: Global,
+    words: &[String],
+    files: &mut F,
+    out: &mut K,
+) -> Option<Outcome>
+    ensures answered { IsSome result }
+
+    // What the files hold stays, no count falls, with no command nothing is read, and nothing is put but with Done and WriteFault.
+    ensures kept { F.held files.new ≡ F.held files.old }
+    ensures counted_files { F.faults files.old ≤ F.faults files.new }
+    ensures counted_sink { K.faults out.old ≤ K.faults out.new }
+    ensures unread { IfSome result (λ o. o.status ≡ Status.Usage → files.new ≡ files.old) }
+    ensures silent { IfSome result (λ o. IsSilent o.status → out.new ≡ out.old) }
+
+    // Each status has its cause: what the words come to over what the files tell, and the counts of faults.
+    ensures usage { IfSome result (λ o. (o.status ≡ Status.Usage) ↔ (command_of (texts words.now) ≡ None)) }
+    ensures cause { IfSome result (λ o. IsCause (option_map (wanted_of (texts words.now)) (F.held files.old)) (Rose (F.faults files.old) (F.faults files.new)) (Rose (K.faults out.old) (K.faults out.new)) o.status) }
+    ensures run_files { IfSome result (λ o. IsSome o.report → F.faults files.new ≡ F.faults files.old) }
+    ensures done_sink { IfSome result (λ o. o.status ≡ Status.Done → K.faults out.new ≡ K.faults out.old) }
+
+    // The report is that of the run of the policy and the script that the texts mean, and its entries are a legal history.
+    ensures report { IfSome result (λ o. IsReported (option_map (wanted_of (texts words.now)) (F.held files.old)) o.report o.status) }
+
+    // The output grew by exactly the transcript of script and report, after a write fault by a prefix of it, else by nothing.
+    ensures written { IfSome result (λ o. IsWritten (option_map (wanted_of (texts words.now)) (F.held files.old)) (K.written out.old) (K.written out.new) o.status) }
+{
+    match replay_words(words) {
+        Some(replayed) => Some(replay(alloc, replayed.policy, replayed.script, files, out)),
+        None => Some(Outcome {
+            status: Status::Usage,
+            report: None,
+        }),
+    }
+}
