@@ -1,0 +1,20 @@
+// Tests that cross crates: whole runs of the top call over files and an output in memory. What they expect comes from the
+// worked cases and from the rules of the texts, and never from a run. This crate has no code but its tests.
+#![tactic(auto)]
+
+#[cfg(test)]
+mod files;
+#[cfg(test)]
+mod first_path;
+#[cfg(test)]
+mod meanings;
+#[cfg(test)]
+mod outputs;
+#[cfg(test)]
+mod refusals;
+#[cfg(test)]
+mod runs;
+#[cfg(test)]
+mod sizes;
+#[cfg(test)]
+mod words;
