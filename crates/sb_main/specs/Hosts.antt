@@ -1,0 +1,25 @@
+-- Why a real file was not read, and which faults are counted.
+use Rattle.std.specs.Prelude.{ℕ}
+use Rattle.std.specs.declared.io.ErrorKind.{ErrorKind}
+use Rattle.std.specs.declared.io.ErrorKind.TheVariants as kind
+use Rattle.sb_outside.specs.Outside.{next_count}
+use Rattle.sb_outside.specs.declared.files.FileFault.{FileFault}
+use Rattle.sb_outside.specs.declared.files.FileFault.TheVariants.{Missing, TooLong, Failed, NoMemory}
+
+-- what a refused opening comes to: only 'not found' is a missing file
+abbrev pub open_fault : ErrorKind → FileFault
+open_fault kind.NotFound = Missing
+open_fault kind.OutOfMemory = NoMemory
+open_fault _ = Failed
+
+-- what a failed reading comes to
+abbrev pub read_fault : ErrorKind → FileFault
+read_fault kind.OutOfMemory = NoMemory
+read_fault _ = Failed
+
+-- the count of faults after an answer: each fault counts but want of memory
+abbrev pub count_after : FileFault → ℕ → ℕ
+count_after Missing count = next_count count
+count_after TooLong count = next_count count
+count_after Failed count = next_count count
+count_after NoMemory count = count

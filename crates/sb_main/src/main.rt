@@ -1,0 +1,92 @@
+// The program: the words of its command line, real files and standard output, and how it ends.
+#![tactic(auto)]
+
+ghost use Rattle.std.specs.Prelude.{◌≡◌, ◌⊎◌};
+ghost use Rattle.sb_outside.specs.Outside.{Rose};
+ghost use Rattle.sb_top.specs.Commands.{texts};
+ghost use Rattle.std.specs.Process.{exit_status};
+ghost use Rattle.sb_main.specs.Exits.{code_of, gathering_status};
+ghost use Rattle.sb_main.specs.OwnWords.{IsFaulty};
+
+mod exits;
+mod hosts;
+mod own_words;
+#[cfg(test)]
+mod tests;
+
+use exits::{Complaint, exit_code};
+use hosts::{HostFiles, HostSink};
+use own_words::{OwnWord, own_text, own_word};
+use sb_outside::Sink;
+use sb_top::{Status, plain_top};
+use std::io::ErrorKind;
+use std::process::ExitCode;
+use std::rt::{Env, Files};
+use std::{env, io};
+
+fn main(rt: HostRuntime) -> ExitCode {
+    end(&rt, run(&rt))
+}
+
+// Says on standard error what went wrong, and gives the exit code of the status. A line that is not written changes nothing.
+fn end<R: Eprint>(rt: &R, status: Status) -> ExitCode
+    ensures { exit_status result ≡ code_of status }
+{
+    if status != Status::Done {
+        let _ = rt.eprintln(Complaint { status });
+    }
+    ExitCode::from(exit_code(status))
+}
+
+// Gathers the words after the program's name and does what they ask.
+fn run<R: Env + Files + Print + AllocGlobal>(rt: &R) -> Status {
+    let arguments = match env::args(rt) {
+        Ok(arguments) => arguments,
+        Err(error) => return no_words(error.kind()),
+    };
+    let all: Result<Vec<String>, _> = arguments.collect(rt.alloc());
+    let Ok(all) = all else {
+        return Status::NoMemory;
+    };
+    match all.as_slice() {
+        [_, words @ ..] => answer(rt, words),
+        [] => Status::Usage,
+    }
+}
+
+// Arguments that were not gathered are not UTF-8, or there was no memory for them.
+fn no_words(kind: ErrorKind) -> Status
+    ensures { result ≡ gathering_status kind }
+{
+    match kind {
+        ErrorKind::OutOfMemory => Status::NoMemory,
+        _ => Status::Usage,
+    }
+}
+
+// Answers the program's own words, and leaves all other words to the top call.
+fn answer<R: Files + Print + AllocGlobal>(rt: &R, words: &[String]) -> Status
+    ensures usage { result ≡ Status.Usage → IsFaulty (texts words.now) }
+    ensures faulty { IsFaulty (texts words.now) → result ≡ Status.Usage }
+{
+    let mut sink = HostSink::new(io::writer(rt));
+    if let Some(word) = own_word(words) {
+        return tell(word, &mut sink);
+    }
+    let mut files = HostFiles::new(rt);
+    plain_top(rt.alloc(), words, &mut files, &mut sink)
+        .unwrap()
+        .status
+}
+
+// Puts the text of one of the program's own words.
+fn tell<S: Sink>(word: OwnWord, sink: &mut S) -> Status
+    ensures done { result ≡ Status.Done → S.faults sink.new ≡ S.faults sink.old }
+    ensures fault { result ≡ Status.WriteFault → Rose (S.faults sink.old) (S.faults sink.new) }
+    ensures either { (result ≡ Status.Done) ⊎ (result ≡ Status.WriteFault) }
+{
+    match sink.put(own_text(word).as_bytes()) {
+        Ok(()) => Status::Done,
+        Err(_) => Status::WriteFault,
+    }
+}

@@ -1,0 +1,81 @@
+// The words that the program answers itself.
+ghost use Rattle.std.specs.Prelude.{◌≡◌};
+ghost use Rattle.sb_top.specs.Commands.{texts};
+ghost use Rattle.sb_main.specs.OwnWords.{own_word_by, own_word_of};
+
+/// What the program tells of itself.
+#[derive(Clone, Copy, Debug, PartialEq, Eq)]
+pub enum OwnWord {
+    /// How it is used.
+    Help,
+    /// Its name, its version, and the toolchain that it was proved with.
+    Version,
+}
+
+/// `--help` or `--version`, where it is the one and only word.
+pub fn own_word(words: &[String]) -> Option<OwnWord>
+    ensures { result ≡ own_word_of (texts words.now) }
+{
+    match words {
+        [word] => own_word_by(word.as_str().as_bytes()),
+        _ => None,
+    }
+}
+
+fn own_word_by(word: &[u8]) -> Option<OwnWord>
+    ensures { result ≡ own_word_by word.now }
+{
+    if word == b"--help".as_slice() {
+        return Some(OwnWord::Help);
+    }
+    if word == b"--version".as_slice() {
+        return Some(OwnWord::Version);
+    }
+    None
+}
+
+/// What is answered to such a word.
+pub fn own_text(word: OwnWord) -> &'static str {
+    match word {
+        OwnWord::Help => HELP,
+        OwnWord::Version => VERSION,
+    }
+}
+
+const VERSION: &str = "sandbox 0.1.0
+rattle-kit-13f logic dac8208d650f15bf
+";
+
+const HELP: &str = "sandbox: the broker side of a two-party sandbox
+
+usage:
+  sandbox replay POLICY SCRIPT   makes the calls of SCRIPT under POLICY and
+                                 prints the transcript
+  sandbox --help                 prints this text
+  sandbox --version              prints the version and the kit that proved it
+
+A file whose name begins with `-` is written `./-x`.
+
+exit status:
+   0  done
+   2  usage
+   6  missing file
+   7  file too long (it has more than 4194304 bytes)
+   8  read fault
+   9  write fault
+  10  unfinished
+  11  no memory
+  20  not yet: the file has a form that is not read yet
+
+faults of a block, as the first extended word of its reply:
+   1  too-many-params
+   2  bad-end
+   3  count-changed
+   4  end-changed
+   5  bad-param-type
+   6  bad-place
+   7  unknown-tag
+   8  wrong-shape
+   9  bad-size
+  10  bad-name
+";
