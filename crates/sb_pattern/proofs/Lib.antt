@@ -1,3 +1,5 @@
 pub mod Matches
+pub mod Rows
 pub mod Runs
+pub mod Spellings
 pub mod Texts

@@ -1,15 +1,15 @@
 -- Reading and writing texts.
 use Rattle.std.specs.Prelude.{Option, None, Some, Result, Ok, Err}
-use Rattle.std.proofs.Common.{◌≡◌, ◌∙◌, ◌≤◌, ℕ, Bool, true, false, cond, List, [], ◌∷◌, ◌++◌, ◌&&◌, eqb, ltb, length, refl, ap, sym, arith}
+use Rattle.std.proofs.Common.{◌≡◌, ◌∙◌, ◌≤◌, ℕ, Bool, true, false, cond, List, [], ◌∷◌, ◌++◌, ◌&&◌, eqb, leb, ltb, length, refl, ap, sym, arith}
 use Rattle.std.proofs.lemmas.Bool.{and_parts, eqb-true, false≢true}
 use Rattle.std.proofs.lemmas.Bool.Decides.{nat_tests}
 use Rattle.std.proofs.lemmas.List.{length-append}
-use Rattle.sb_pattern.specs.Cells.{cells_decide}
-use Rattle.sb_pattern.specs.Reading.{cell_of, cells_of, cell_text, text_of, fault_of, star_fault, unless, reading, reads_as, is_pattern, PatternsComeBack, TextsComeBack, ReadingGivesPatterns}
+use Rattle.sb_pattern.specs.Reading.{cell_of, cells_of, cell_text, text_of, fault_of, star_fault, unless, reading, is_spellable, is_pattern, PatternsAreRead, TextsComeBack, ReadingGivesPatterns}
 use Rattle.sb_pattern.specs.declared.cells.Cell.{Cell}
 use Rattle.sb_pattern.specs.declared.cells.Cell.TheVariants.{Lit, One, Any}
 use Rattle.sb_pattern.specs.declared.faults.PatternFault.{PatternFault}
 use Rattle.sb_pattern.specs.declared.faults.PatternFault.TheVariants.{TooLong}
+use Rattle.sb_pattern.proofs.Spellings.{text_spellable, spelling_faultless, spelling_read}
 
 cell_kept : (u : ℕ) → cell_text (cell_of u) ≡ u ∷ []
 cell_kept u = by (eqb u 42) (eqb u 63) refl refl
@@ -47,21 +47,36 @@ read_cells read cells (Some fault) e = absurd (false≢true (ap is_ok e))
 pub texts_come_back : TextsComeBack
 texts_come_back text cells e = ap text_of (sym (read_cells (cells_of text) cells (fault_of text) e)) ∙ text_kept text
 
-reads_so : (cells : List Cell) (read : Result (List Cell) PatternFault) → reads_as cells read ≡ true → read ≡ Ok cells
-reads_so cells (Ok others) h = ap Ok ((cells_decide others cells).0 h)
-reads_so cells (Err fault) h = absurd (false≢true h)
+abbrev is_none : Option PatternFault → Bool
+is_none None = true
+is_none (Some fault) = false
 
-pub patterns_come_back : PatternsComeBack
-patterns_come_back cells h = reads_so cells (reading (text_of cells)) h
-
-pub reading_gives_patterns : ReadingGivesPatterns
-reading_gives_patterns text cells e =
-    ap (reads_as cells) (ap reading (texts_come_back text cells e) ∙ e) ∙ (cells_decide cells cells).1 refl
+no_fault : (read cells : List Cell) (fault : Option PatternFault) → unless fault read ≡ Ok cells → fault ≡ None
+no_fault read cells None e = refl
+no_fault read cells (Some fault) e = absurd (false≢true (ap is_ok e))
 
 -- the cells of a text without a fault
 pub read_is_pattern : (text : List ℕ) (cells : List Cell) → fault_of text ≡ None → cells ≡ cells_of text → is_pattern cells ≡ true
-read_is_pattern text cells none e =
-    ap is_pattern e ∙ reading_gives_patterns text (cells_of text) (ap (λ fault. unless fault (cells_of text)) none)
+read_is_pattern text cells none e = ap is_pattern e ∙ by (ltb 256 (length text)) refl none
+  where
+    by : (b : Bool) → ltb 256 (length text) ≡ b → cond b (Some TooLong) (star_fault 0 text) ≡ None → is_pattern (cells_of text) ≡ true
+    by true h f = absurd (false≢true (ap is_none f))
+    by false h f =
+        let short : leb (length text) 256 ≡ true = grind (arith, nat_tests) in
+        λ i. (ap (λ t. leb (length t) 256) (text_kept text) ∙ short) i && text_spellable 0 text f i
+
+pub reading_gives_patterns : ReadingGivesPatterns
+reading_gives_patterns text cells e =
+    read_is_pattern text cells (no_fault (cells_of text) cells (fault_of text) e) (sym (read_cells (cells_of text) cells (fault_of text) e))
+
+pattern_read : (cells : List Cell) → is_pattern cells ≡ true → reading (text_of cells) ≡ Ok cells
+pattern_read cells h =
+    let p = and_parts (leb (length (text_of cells)) 256) (is_spellable cells) h in
+    let short : ltb 256 (length (text_of cells)) ≡ false = grind (arith, nat_tests, p.0) in
+    λ i. unless (cond (short i) (Some TooLong) (spelling_faultless cells 0 p.1 i)) (spelling_read cells p.1 i)
+
+pub patterns_are_read : PatternsAreRead
+patterns_are_read cells = (pattern_read cells, reading_gives_patterns (text_of cells) cells)
 
 -- each cell is written with a unit at least
 one_unit : (c : Cell) → 1 ≤ length (cell_text c)
@@ -77,12 +92,8 @@ text_longer : (cells : List Cell) → length cells ≤ length (text_of cells)
 text_longer [] = omega arith
 text_longer (c ∷ cells) = omega (arith, one_unit c, text_longer cells, length-append (cell_text c) (text_of cells))
 
-short_text : (n : ℕ) (b : Bool) (fault : Option PatternFault) (read cells : List Cell) → ltb 256 n ≡ b → unless (cond b (Some TooLong) fault) read ≡ Ok cells → n ≤ 256
-short_text n true fault read cells h e = absurd (false≢true (ap is_ok e))
-short_text n false fault read cells h e = grind (arith, nat_tests)
-
 pub few_cells : (cells : List Cell) → is_pattern cells ≡ true → length cells ≤ 256
 few_cells cells h =
-    let text = text_of cells in
-    let short = short_text (length text) (ltb 256 (length text)) (star_fault 0 text) (cells_of text) cells refl (patterns_come_back cells h) in
+    let p = and_parts (leb (length (text_of cells)) 256) (is_spellable cells) h in
+    let short : length (text_of cells) ≤ 256 = grind (arith, nat_tests, p.0) in
     omega (arith, text_longer cells, short)

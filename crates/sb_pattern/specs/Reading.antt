@@ -1,8 +1,6 @@
 -- The text of a pattern.
-use Rattle.std.specs.Prelude.{◌≡◌, ◌+◌, ◌&&◌, ◌==◌, ℕ, Bool, true, false, nat_lt, List, [], ◌∷◌, length, Option, None, Some, Result, Ok, Err, if◌then◌else◌, ⊤}
-use Rattle.std.specs.Cmp.Lexicographic.{pointwise}
+use Rattle.std.specs.Prelude.{◌≡◌, ◌↔◌, ◌+◌, ◌&&◌, ◌==◌, ℕ, Bool, true, false, not, nat_le, nat_lt, List, [], ◌∷◌, length, Option, None, Some, Result, Ok, Err, if◌then◌else◌, ⊤}
 use Rattle.std.specs.List.{flat_map}
-use Rattle.sb_pattern.specs.Cells.{same_cell}
 use Rattle.sb_pattern.specs.declared.cells.Cell.{Cell}
 use Rattle.sb_pattern.specs.declared.cells.Cell.TheVariants.{Lit, One, Any}
 use Rattle.sb_pattern.specs.declared.faults.PatternFault.{PatternFault}
@@ -62,18 +60,38 @@ cell_text Any = 42 ∷ []
 abbrev pub text_of : List Cell → List ℕ
 text_of cells = flat_map cell_text cells
 
--- the cells are those that a text was read as
-abbrev pub reads_as : List Cell → Result (List Cell) PatternFault → Bool
-reads_as cells (Ok others) = pointwise same_cell others cells
-reads_as cells (Err fault) = false
+-- `?` comes first
+abbrev pub begins_with_one : List Cell → Bool
+begins_with_one [] = false
+begins_with_one (One ∷ cells) = true
+begins_with_one (Any ∷ cells) = false
+begins_with_one (Lit u ∷ cells) = false
 
--- cells are a pattern where their text is read as they are
+-- `*` or `?` comes first
+abbrev pub begins_wild : List Cell → Bool
+begins_wild [] = false
+begins_wild (One ∷ cells) = true
+begins_wild (Any ∷ cells) = true
+begins_wild (Lit u ∷ cells) = false
+
+-- no literal is `*`, no literal `/` stands before `?`, and no `*` before `*` or `?`
+abbrev pub may_precede : Cell → List Cell → Bool
+may_precede (Lit u) later = not (u == 42) && not (u == 47 && begins_with_one later)
+may_precede One later = true
+may_precede Any later = not (begins_wild later)
+
+-- each cell may stand before those after it
+abbrev pub is_spellable : List Cell → Bool
+is_spellable [] = true
+is_spellable (cell ∷ later) = may_precede cell later && is_spellable later
+
+-- cells are a pattern where each may stand before those after it and their text has at most 256 units
 abbrev pub is_pattern : List Cell → Bool
-is_pattern cells = reads_as cells (reading (text_of cells))
+is_pattern cells = nat_le (length (text_of cells)) 256 && is_spellable cells
 
--- the text of a pattern is read as that pattern
-abbrev pub PatternsComeBack : Type 0
-PatternsComeBack = (cells : List Cell) → is_pattern cells ≡ true → reading (text_of cells) ≡ Ok cells
+-- cells are a pattern exactly where their text is read as they are
+abbrev pub PatternsAreRead : Type 0
+PatternsAreRead = (cells : List Cell) → (is_pattern cells ≡ true) ↔ (reading (text_of cells) ≡ Ok cells)
 
 -- the text of what was read is the text that was read
 abbrev pub TextsComeBack : Type 0

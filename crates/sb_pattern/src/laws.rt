@@ -2,14 +2,14 @@
 ghost use Rattle.sb_pattern.specs.Cells.{CellsTell};
 ghost use Rattle.sb_pattern.specs.Chunks.{ChunksAreTheRuns};
 ghost use Rattle.sb_pattern.specs.Matching.{LiteralsMatchTheSame, StarMatchesAll, MatchingFoldsTheString, MatchingFoldsTheLiterals};
-ghost use Rattle.sb_pattern.specs.Reading.{TextsComeBack, PatternsComeBack, ReadingGivesPatterns};
+ghost use Rattle.sb_pattern.specs.Reading.{TextsComeBack, PatternsAreRead, ReadingGivesPatterns};
 
-/// The text of what was read is the text that was read, what was read is a pattern, and the text of a pattern is read as
-/// that pattern.
+/// The text of what was read is the text that was read, what was read is a pattern, and cells are a pattern exactly where
+/// their text is read as they are.
 pub fn texts_and_patterns()
     ensures texts { TextsComeBack }
     ensures read { ReadingGivesPatterns }
-    ensures patterns { PatternsComeBack }
+    ensures patterns { PatternsAreRead }
 {}
 
 /// A pattern without `*` and `?` matches exactly the strings that are the same as its literals.

@@ -81,7 +81,7 @@ impl Pattern {
     }
 
     #[tactic(auto, using(crate::proofs::Texts::few_cells))]
-    /// The cells, in order. Their text can be read and is read as these cells, and there are at most 256.
+    /// The cells, in order: at most 256, with no `*` before `*` or `?`, no literal `*`, and no literal `/` before `?`.
     pub fn cells(&self) -> &[Cell]
         ensures cells { result.now ≡ self.now }
         ensures pattern { is_pattern self.now ≡ true }
@@ -100,12 +100,12 @@ impl Pattern {
         chunks_of(alloc, self.cells())
     }
 
-    /// Whether the pattern matches the units, by the definition itself: a literal matches a unit that is equal after
-    /// folding, `?` one unit, and `*` any run of units.
+    /// Whether the pattern matches the units, all of them: a literal matches a unit that is equal after folding, `?` any one
+    /// unit, and `*` any run of units, the empty one included. It takes no memory, and one step for each cell and unit.
     pub fn matches_plain(&self, units: &[u16]) -> bool
         ensures { result ≡ matches self.now units.now }
     {
-        matches(&self.cells, units)
+        matches(self.cells(), units)
     }
 }
 

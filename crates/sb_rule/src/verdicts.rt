@@ -15,7 +15,7 @@ use sb_wide::same;
 pub enum Verdict {
     /// The rule on this line decided, with its action.
     Rule { line: u32, action: Action },
-    /// No rule was for this call.
+    /// No rule for the call holds.
     NoRule,
 }
 

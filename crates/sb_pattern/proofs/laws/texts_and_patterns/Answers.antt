@@ -1,4 +1,4 @@
-use Rattle.sb_pattern.proofs.Texts.{texts_come_back, reading_gives_patterns, patterns_come_back}
+use Rattle.sb_pattern.proofs.Texts.{texts_come_back, reading_gives_patterns, patterns_are_read}
 use Rattle.sb_pattern.proofs.laws.texts_and_patterns.Goals as goal
 
 pub returns-clause-texts : goal.returns-clause-texts
@@ -8,4 +8,4 @@ pub returns-clause-read : goal.returns-clause-read
 returns-clause-read c = reading_gives_patterns
 
 pub returns-clause-patterns : goal.returns-clause-patterns
-returns-clause-patterns c = patterns_come_back
+returns-clause-patterns c = patterns_are_read
