@@ -3,4 +3,5 @@ pub mod Equality
 pub mod EqualityLaws
 pub mod Scripts
 pub mod ShortNames
+pub mod Statuses
 pub mod Tags

@@ -11,6 +11,7 @@ mod schedules;
 mod scripts;
 mod short_names;
 mod statements;
+mod statuses;
 mod tags;
 #[cfg(test)]
 mod tests;
@@ -23,4 +24,9 @@ pub use schedules::{Actor, Schedule, Steps};
 pub use scripts::{Script, StartLine, StartLines, TargetScript, Targets, clean};
 pub use short_names::ShortName;
 pub use statements::{Statement, Statements, Threads, Word};
+pub use statuses::{
+    ACCESS_DENIED, FILE_IS_A_DIRECTORY, INSTANCE_NOT_AVAILABLE, INVALID_HANDLE, INVALID_PARAMETER,
+    NAME_COLLISION, NAME_EXISTS, NAME_NOT_FOUND, NOT_A_DIRECTORY, PATH_NOT_FOUND,
+    SHARING_VIOLATION, SUCCESS, TYPE_MISMATCH,
+};
 pub use tags::{CallTag, ParamKind, number_of, shape, tag_of};
