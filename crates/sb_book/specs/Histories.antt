@@ -37,15 +37,31 @@ fault_words WrongShape = 8 ∷ []
 fault_words (BadSize i) = 9 ∷ i ∷ []
 fault_words (BadName i) = 10 ∷ i ∷ []
 
+-- the outcome of a reply to a call that was performed
+abbrev pub performed_outcome : ℕ
+performed_outcome = 0
+
+-- to a block that was refused
+abbrev pub refused_outcome : ℕ
+refused_outcome = 1
+
+-- to a call that was denied
+abbrev pub denied_outcome : ℕ
+denied_outcome = 2
+
+-- to a call that was faked
+abbrev pub faked_outcome : ℕ
+faked_outcome = 3
+
 -- the reply that shows a service's answer
 abbrev pub performed_reply : ℕ → Answer → Reply
-performed_reply mark a = record { mark = mark; outcome = 0; status = a.status; handle = a.handle; ext = a.ext }
+performed_reply mark a = record { mark = mark; outcome = performed_outcome; status = a.status; handle = a.handle; ext = a.ext }
 
 -- the reply to a mark that a decision leads to
 abbrev pub reply_of : Space → ℕ → ℕ → Decision → Reply
-reply_of ns target mark (Refused f) = record { mark = mark; outcome = 1; status = invalid_parameter; handle = 0; ext = fault_words f }
-reply_of ns target mark (Denied tag verdict) = record { mark = mark; outcome = 2; status = access_denied; handle = 0; ext = [] }
-reply_of ns target mark (Faked tag line) = record { mark = mark; outcome = 3; status = success; handle = 0; ext = [] }
+reply_of ns target mark (Refused f) = record { mark = mark; outcome = refused_outcome; status = invalid_parameter; handle = 0; ext = fault_words f }
+reply_of ns target mark (Denied tag verdict) = record { mark = mark; outcome = denied_outcome; status = access_denied; handle = 0; ext = [] }
+reply_of ns target mark (Faked tag line) = record { mark = mark; outcome = faked_outcome; status = success; handle = 0; ext = [] }
 reply_of ns target mark (Performed tag line action args) = performed_reply mark (perform ns target tag args).answer
 
 -- the namespace that a decision leads to

@@ -53,10 +53,14 @@ granting status handle kind initial = record { status = status; handle = handle;
 abbrev pub refused_with : Space → ℕ → Effect
 refused_with ns status = record { space = ns; answer = refusal status }
 
+-- a handle of this number that a target holds on an object, with no access and no sharing
+abbrev pub held_handle : ℕ → ℕ → ℕ → Held
+held_handle number target object = record { target = target; number = number; object = object; access = 0; sharing = 0 }
+
 -- the namespace with one handle more, on this object
 abbrev pub with_handle : Space → ℕ → ℕ → Space
 with_handle ns target object =
-    record ns { handles = ns.handles ++ (record { target = target; number = ns.granted + 1; object = object; access = 0; sharing = 0 }) ∷ []; granted = ns.granted + 1 }
+    record ns { handles = ns.handles ++ held_handle (ns.granted + 1) target object ∷ []; granted = ns.granted + 1 }
 
 -- the namespace with one event more
 abbrev pub with_event : Space → List ℕ → ℕ → ℕ → Space

@@ -1,11 +1,12 @@
 // What the broker decides of a copy.
-ghost use Rattle.std.specs.Prelude.{◌≡◌, true, IfOk};
+ghost use Rattle.std.specs.Prelude.{◌≡◌, ◌<◌, length, true, IfOk};
 ghost use Rattle.sb_call.specs.Arguments.{fits};
+ghost use Rattle.sb_rule.specs.Verdicts.{policy_at};
 ghost use Rattle.sb_book.specs.Decisions.{decision_of, by_verdict, read_only_args};
 
 use sb_block::{BlockFault, BlockRefused, Call, Taken, decode};
 use sb_call::{Arg, Args, CallTag};
-use sb_rule::{Action, Policy, Verdict, verdict_plain};
+use sb_rule::{Action, Judge, Verdict};
 use sb_wide::NoMemory;
 use std::alloc::Global;
 
@@ -36,16 +37,25 @@ pub enum Decision {
 // Read data, execute, read EA, read attributes, read control, synchronize, and generic read and execute.
 const READ_ONLY_BITS: u64 = 0xA012_00A9;
 
-/// Decides by the rules of a policy, on the copy alone. Nothing is performed.
-pub fn decide(alloc: Global, policy: &Policy, taken: &Taken) -> Result<Decision, NoMemory>
-    ensures { IfOk result (λ d. d ≡ decision_of policy.now taken.now) }
+/// Decides by the rules of a target's policy, on the copy alone. Nothing is performed. The judge must know the target.
+///
+/// # Errors
+/// `NoMemory` where there was none for the call's strings.
+pub fn decide<J: Judge>(
+    alloc: Global,
+    judge: &J,
+    target: u32,
+    taken: &Taken,
+) -> Result<Decision, NoMemory>
+    requires { target < length (J.policies judge.now) }
+    ensures { IfOk result (λ d. d ≡ decision_of (policy_at (J.policies judge.now) target) taken.now) }
 {
     let call = match decode(alloc, taken) {
         Ok(call) => call,
         Err(BlockRefused::Fault(fault)) => return Ok(Decision::Refused(fault)),
         Err(BlockRefused::NoMemory) => return Err(NoMemory),
     };
-    let verdict = verdict_plain(policy, call.tag, call.args.as_slice());
+    let verdict = judge.judge(target, call.tag, call.args.as_slice());
     Ok(decided(call, verdict))
 }
 

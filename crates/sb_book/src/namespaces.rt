@@ -1,6 +1,6 @@
 // The namespace: the objects that the calls performed so far have made, and the handles granted.
-ghost use Rattle.std.specs.Prelude.{◌≡◌, ◌+◌, option_copied, OnOk, OnErr, IfOk};
-ghost use Rattle.sb_book.specs.Namespaces.{Space, empty_space, event_of, create_event, perform, refusal, granting, with_handle, with_event};
+ghost use Rattle.std.specs.Prelude.{◌≡◌, ◌+◌, ◌++◌, ◌∷◌, [], length, option_copied, OnOk, OnErr, IfOk};
+ghost use Rattle.sb_book.specs.Namespaces.{Space, empty_space, event_of, create_event, perform, refusal, granting, held_handle, with_handle, with_event};
 
 use sb_call::{Answer, Arg, CallTag, Extended};
 use sb_wide::{NoMemory, Wide, same, wide_of};
@@ -84,6 +84,23 @@ fn granting(status: u32, handle: u64, kind: u64, initial: u64) -> Answer
     }
 }
 
+// Grants a handle on an object, in the order of granting. After an error nothing is changed.
+fn grant(handles: &mut Vec<Held>, target: u32, object: u64) -> Result<u64, NoMemory>
+    ensures handle { IfOk result (λ h. h ≡ length handles.old.items + 1) }
+    ensures ok { OnOk result (handles.new.items ≡ handles.old.items ++ held_handle (length handles.old.items + 1) target object ∷ []) }
+    ensures err { OnErr result (handles.new.items ≡ handles.old.items) }
+{
+    let number = handles.len() as u64 + 1;
+    handles.push(Held {
+        target,
+        number,
+        object,
+        access: 0,
+        sharing: 0,
+    })?;
+    Ok(number)
+}
+
 impl Namespace {
     /// Nothing was made and nothing granted.
     pub fn new(alloc: Global) -> Namespace
@@ -107,23 +124,6 @@ impl Namespace {
         None
     }
 
-    // Grants a handle on an object. After an error nothing is changed.
-    fn grant(&mut self, target: u32, object: u64) -> Result<u64, NoMemory>
-        ensures handle { IfOk result (λ h. h ≡ self.old.granted + 1) }
-        ensures ok { OnOk result (self.new ≡ with_handle self.old target object) }
-        ensures err { OnErr result (self.new ≡ self.old) }
-    {
-        let number = self.handles.len() as u64 + 1;
-        self.handles.push(Held {
-            target,
-            number,
-            object,
-            access: 0,
-            sharing: 0,
-        })?;
-        Ok(number)
-    }
-
     // Makes an event that is not there yet, and grants a handle on it. After an error nothing is changed.
     fn make_event(
         &mut self,
@@ -138,18 +138,16 @@ impl Namespace {
         ensures err { OnErr result (self.new ≡ self.old) }
     {
         let name = wide_of(alloc, name)?;
+        self.events.reserve(1)?;
         let number = self.events.len() as u64 + 1;
-        let handle = self.grant(target, number)?;
+        let handle = grant(&mut self.handles, target, number)?;
         let row = EventRow {
             name,
             number,
             kind,
             initial,
         };
-        if self.events.push(row).is_err() {
-            let _ = self.handles.pop();
-            return Err(NoMemory);
-        }
+        self.events.push(row).unwrap();
         Ok(handle)
     }
 
@@ -176,7 +174,7 @@ impl Namespace {
                 }
                 let number = row.number;
                 let initial = row.initial;
-                let handle = self.grant(target, number)?;
+                let handle = grant(&mut self.handles, target, number)?;
                 Ok(granting(NAME_EXISTS, handle, kind, initial))
             }
             None => {

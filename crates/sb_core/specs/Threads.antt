@@ -10,7 +10,7 @@ use Rattle.sb_call.specs.declared.results.StmtResult.{StmtResult}
 use Rattle.sb_call.specs.declared.results.StmtResult.TheVariants.{Call}
 use Rattle.sb_call.specs.declared.statements.Statement.{Statement}
 use Rattle.sb_call.specs.declared.statements.Statement.TheVariants as statement
-use Rattle.sb_core.specs.Channels.{state_of, block_word, with_block_word, exchanged}
+use Rattle.sb_core.specs.Channels.{free_state, busy_state, ready_state, acknowledged_state, abandoned_state, state_of, block_word, with_block_word, exchanged}
 use Rattle.sb_core.specs.declared.threads.ThreadPhase.{ThreadPhase}
 use Rattle.sb_core.specs.declared.threads.ThreadPhase.TheVariants.{Try, Fill, Send, Wait, Fetch, Free}
 
@@ -55,19 +55,19 @@ ends words result = record { words = words; thread = Try; ended = Some (Call res
 abbrev pub reply_by : ℕ → Reply → CallResult
 reply_by mark reply = if reply.mark == mark then result.Reply 0 reply else result.Foreign 0 reply.mark
 
--- by what the exchange from 1 to 2 found: the channel was free, or abandoned, or in use
+-- by what the exchange from free to busy found: the channel was free, or abandoned, or in use
 abbrev pub try_by : ℕ → List ℕ → List ℕ → ThreadStep
 try_by found block words =
-    if found == 1 then goes_on words (Fill 0 block)
-    else (if found == 5 then ends words result.NoChannel else goes_on words Try)
+    if found == free_state then goes_on words (Fill 0 block)
+    else (if found == abandoned_state then ends words result.NoChannel else goes_on words Try)
 
--- by what the exchange from 2 to 3 found
+-- by what the exchange from busy to ready found
 abbrev pub send_by : ℕ → List ℕ → ThreadStep
-send_by found words = if found == 2 then goes_on words Wait else ends words (result.SendLost 0 found)
+send_by found words = if found == busy_state then goes_on words Wait else ends words (result.SendLost 0 found)
 
 -- by the state: the reply stands, or the thread waits on
 abbrev pub after_wait : ℕ → ThreadPhase
-after_wait state = if state == 4 then Fetch 0 (replicate 12 0) else Wait
+after_wait state = if state == acknowledged_state then Fetch 0 (replicate 12 0) else Wait
 
 -- the reply is fetched with its twelfth word
 abbrev pub after_fetch : ℕ → List ℕ → ThreadPhase
@@ -79,12 +79,12 @@ after_fill at block = if at + 1 == length block then Send else Fill (at + 1) blo
 
 -- one step of a call with this mark and this block
 abbrev pub thread_row : ℕ → List ℕ → ThreadPhase → List ℕ → ThreadStep
-thread_row mark block Try words = try_by (state_of words) block (exchanged words 1 2)
+thread_row mark block Try words = try_by (state_of words) block (exchanged words free_state busy_state)
 thread_row mark block (Fill at filled) words = goes_on (with_block_word words at (slice_index filled at)) (after_fill at filled)
-thread_row mark block Send words = send_by (state_of words) (exchanged words 2 3)
+thread_row mark block Send words = send_by (state_of words) (exchanged words busy_state ready_state)
 thread_row mark block Wait words = goes_on words (after_wait (state_of words))
 thread_row mark block (Fetch at fetched) words = goes_on words (after_fetch at (slice_set fetched at (block_word words (3 + at))))
-thread_row mark block (Free fetched) words = ends (slice_set words 0 1) (reply_by mark (read_reply fetched))
+thread_row mark block (Free fetched) words = ends (slice_set words 0 free_state) (reply_by mark (read_reply fetched))
 
 -- the numbers of a phase are in their ranges
 abbrev pub is_thread_sound : ThreadPhase → Bool

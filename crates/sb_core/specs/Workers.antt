@@ -6,7 +6,7 @@ use Rattle.sb_block.specs.Replies.{reply_words}
 use Rattle.sb_rule.specs.declared.policies.Policy.{Policy}
 use Rattle.sb_book.specs.Decisions.{decision_of}
 use Rattle.sb_book.specs.Histories.{History, answered, reply_of}
-use Rattle.sb_core.specs.Channels.{state_of, block_word, with_block_word, exchanged}
+use Rattle.sb_core.specs.Channels.{ready_state, acknowledged_state, state_of, block_word, with_block_word, exchanged}
 use Rattle.sb_core.specs.declared.workers.WorkerPhase.{WorkerPhase}
 use Rattle.sb_core.specs.declared.workers.WorkerPhase.TheVariants.{Look, Count, End, Copy, Take, Mark, Give, Reply, Ack}
 
@@ -32,7 +32,7 @@ reply_to policy h taken = reply_words (reply_of h.space 0 (mark_of taken) (decis
 
 -- the phase after a step that met these words and this book. The turn is free at each Take, since there is one worker
 abbrev pub worker_after : Policy → WorkerPhase → List ℕ → History → WorkerPhase
-worker_after policy Look words h = if state_of words == 3 then Count else Look
+worker_after policy Look words h = if state_of words == ready_state then Count else Look
 worker_after policy Count words h = after_count (block_word words 2)
 worker_after policy (End count) words h = after_end count (offset_of (block_word words (15 + count)))
 worker_after policy (Copy count end so_far) words h = after_copy count end (so_far ++ block_word words (length so_far) ∷ [])
@@ -64,7 +64,7 @@ worker_words (Take taken) words = words
 worker_words (Mark taken) words = words
 worker_words (Give reply) words = words
 worker_words (Reply at reply) words = with_block_word words (3 + at) (slice_index reply at)
-worker_words Ack words = exchanged words 3 4
+worker_words Ack words = exchanged words ready_state acknowledged_state
 
 -- the numbers of a phase are in their ranges
 abbrev pub is_worker_sound : WorkerPhase → Bool

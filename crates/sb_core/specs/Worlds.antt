@@ -5,7 +5,7 @@ use Rattle.sb_call.specs.declared.results.StmtResult.{StmtResult}
 use Rattle.sb_call.specs.declared.statements.Statement.{Statement}
 use Rattle.sb_rule.specs.declared.policies.Policy.{Policy}
 use Rattle.sb_book.specs.Histories.{empty_history}
-use Rattle.sb_core.specs.Channels.{free_channel, state_of}
+use Rattle.sb_core.specs.Channels.{ready_state, free_channel, state_of}
 use Rattle.sb_core.specs.Workers.{worker_after, worker_words, worker_book, is_worker_sound, is_looking}
 use Rattle.sb_core.specs.Threads.{ThreadStep, thread_row, mark_at, block_at, is_thread_sound}
 use Rattle.sb_core.specs.declared.workers.WorkerPhase.TheVariants.{Look}
@@ -46,7 +46,7 @@ is_finished statements w = nat_le (length statements) w.place
 
 -- the worker looks, and nothing is ready
 abbrev pub is_settled : World → Bool
-is_settled w = is_looking w.worker && not (state_of w.words == 3)
+is_settled w = is_looking w.worker && not (state_of w.words == ready_state)
 
 -- the numbers of the world are in their ranges
 abbrev pub is_sound : List Statement → World → Bool

@@ -1,6 +1,7 @@
 // A whole run of a script's one thread.
-ghost use Rattle.std.specs.Prelude.{◌≡◌, ◌≤◌, length, true, IfOk, option_map};
+ghost use Rattle.std.specs.Prelude.{◌≡◌, ◌<◌, ◌≤◌, length, true, IfOk, option_map};
 ghost use Rattle.std.specs.List.{list_all};
+ghost use Rattle.sb_rule.specs.Verdicts.{policy_at};
 ghost use Rattle.sb_core.specs.Threads.{is_sendable};
 ghost use Rattle.sb_core.specs.Runs.{only_thread_of, is_one_thread, ran_from, ran};
 ghost use Rattle.sb_book.specs.Reports.{result_count};
@@ -10,7 +11,7 @@ use crate::threads::is_sendable;
 use crate::worlds::World;
 use sb_book::Report;
 use sb_call::{Script, Statement};
-use sb_rule::Policy;
+use sb_rule::Judge;
 use sb_wide::NoMemory;
 use std::alloc::Global;
 
@@ -53,16 +54,17 @@ pub fn is_one_thread(script: &Script) -> bool
 }
 
 // Drains a finished world, and reports.
-fn finish(
+fn finish<J: Judge>(
     alloc: Global,
-    policy: &Policy,
+    judge: &J,
     statements: &[Statement],
     world: World,
 ) -> Result<Ran, NoMemory>
+    requires target { 0 < length (J.policies judge.now) }
     requires few { length statements.now ≤ 4096 }
     requires sound { is_sound statements.now world ≡ true }
     requires counted { IsCounted world }
-    ensures value { IfOk result (λ r. r ≡ ran_from policy.now statements.now world) }
+    ensures value { IfOk result (λ r. r ≡ ran_from (policy_at (J.policies judge.now) 0) statements.now world) }
     ensures few { IfOk result (λ r. result_count r.report.results ≤ 4096) }
 {
     let mut world = world;
@@ -72,7 +74,7 @@ fn finish(
             unfinished: Some((0, 0)),
         });
     }
-    world.drain(alloc, policy)?;
+    world.drain(alloc, judge)?;
     Ok(Ran {
         report: world.into_report(alloc)?,
         unfinished: None,
@@ -80,31 +82,33 @@ fn finish(
 }
 
 // Runs these statements.
-fn run_statements(
+fn run_statements<J: Judge>(
     alloc: Global,
-    policy: &Policy,
+    judge: &J,
     statements: &[Statement],
     count: u32,
 ) -> Result<Ran, NoMemory>
+    requires target { 0 < length (J.policies judge.now) }
     requires few { length statements.now ≤ 4096 }
     requires sendable { list_all is_sendable statements.now ≡ true }
-    ensures value { IfOk result (λ r. r ≡ ran_from policy.now statements.now (rounds count policy.now statements.now start_world)) }
+    ensures value { IfOk result (λ r. r ≡ ran_from (policy_at (J.policies judge.now) 0) statements.now (rounds count (policy_at (J.policies judge.now) 0) statements.now start_world)) }
     ensures few { IfOk result (λ r. result_count r.report.results ≤ 4096) }
 {
     let mut world = World::start(alloc);
-    world.make_rounds(alloc, policy, statements, count)?;
-    finish(alloc, policy, statements, world)
+    world.make_rounds(alloc, judge, statements, count)?;
+    finish(alloc, judge, statements, world)
 }
 
 /// Runs the one thread of a script against one worker, in rounds of one step of the worker and one of the thread:
 /// at most so many, while the thread is unfinished. Where it is finished, the worker then serves what is still ready.
-pub fn run(alloc: Global, policy: &Policy, script: &Script, count: u32) -> Result<Ran, NoMemory>
+pub fn run<J: Judge>(alloc: Global, judge: &J, script: &Script, count: u32) -> Result<Ran, NoMemory>
+    requires target { 0 < length (J.policies judge.now) }
     requires script { is_one_thread script.now ≡ true }
-    ensures value { IfOk result (λ r. r ≡ ran policy.now script.now count) }
+    ensures value { IfOk result (λ r. r ≡ ran (policy_at (J.policies judge.now) 0) script.now count) }
     ensures few { IfOk result (λ r. result_count r.report.results ≤ 4096) }
 {
     let Some(statements) = only_thread(script) else {
         unreachable!();
     };
-    run_statements(alloc, policy, statements, count)
+    run_statements(alloc, judge, statements, count)
 }

@@ -1,5 +1,6 @@
 // The worker of a target, step by step.
 ghost use Rattle.std.specs.Prelude.{◌≡◌, ◌<◌, ◌≤◌, ◌+◌, length, true, IfOk, OnOk};
+ghost use Rattle.sb_rule.specs.Verdicts.{policy_at};
 ghost use Rattle.sb_book.specs.Decisions.{decision_of};
 ghost use Rattle.sb_book.specs.Histories.{answered};
 ghost use Rattle.sb_core.specs.declared.workers.WorkerPhase.TheVariants.{Give};
@@ -8,7 +9,7 @@ ghost use Rattle.sb_core.specs.Workers.{after_count, after_end, after_copy, afte
 use crate::channels::{ACKNOWLEDGED, ChannelWords, READY};
 use sb_block::{Taken, Words, reply_words};
 use sb_book::{Book, decide};
-use sb_rule::Policy;
+use sb_rule::Judge;
 use sb_wide::NoMemory;
 use std::alloc::Global;
 
@@ -90,17 +91,18 @@ fn after_reply(at: u32, words: [u64; 12]) -> WorkerPhase
 }
 
 // The book's answer to a copy.
-fn answered(
+fn answered<J: Judge>(
     alloc: Global,
-    policy: &Policy,
+    judge: &J,
     taken: &Taken,
     book: &mut Book,
 ) -> Result<WorkerPhase, NoMemory>
-    ensures value { IfOk result (λ p. p ≡ Give (reply_to policy.now book.old taken.now)) }
-    ensures book { OnOk result (book.new ≡ answered book.old 0 0 taken.now (decision_of policy.now taken.now)) }
+    requires target { 0 < length (J.policies judge.now) }
+    ensures value { IfOk result (λ p. p ≡ Give (reply_to (policy_at (J.policies judge.now) 0) book.old taken.now)) }
+    ensures book { OnOk result (book.new ≡ answered book.old 0 0 taken.now (decision_of (policy_at (J.policies judge.now) 0) taken.now)) }
     ensures sound { IfOk result (λ p. is_worker_sound p ≡ true) }
 {
-    let decision = decide(alloc, policy, taken)?;
+    let decision = decide(alloc, judge, 0, taken)?;
     let reply = book.answer(alloc, 0, 0, taken, decision)?;
     Ok(WorkerPhase::Give {
         words: reply_words(&reply),
@@ -109,17 +111,18 @@ fn answered(
 
 /// Makes one step: what is loaded or stored is a word of the channel, and Mark is answered by the book.
 /// Gives the phase after it.
-pub fn worker_row(
+pub fn worker_row<J: Judge>(
     alloc: Global,
-    policy: &Policy,
+    judge: &J,
     phase: WorkerPhase,
     channel: &mut ChannelWords,
     book: &mut Book,
 ) -> Result<WorkerPhase, NoMemory>
+    requires target { 0 < length (J.policies judge.now) }
     requires sound { is_worker_sound phase ≡ true }
-    ensures value { IfOk result (λ p. p ≡ worker_after policy.now phase channel.old book.old) }
+    ensures value { IfOk result (λ p. p ≡ worker_after (policy_at (J.policies judge.now) 0) phase channel.old book.old) }
     ensures words { OnOk result (channel.new ≡ worker_words phase channel.old) }
-    ensures book { OnOk result (book.new ≡ worker_book policy.now phase book.old) }
+    ensures book { OnOk result (book.new ≡ worker_book (policy_at (J.policies judge.now) 0) phase book.old) }
     ensures sound { IfOk result (λ p. is_worker_sound p ≡ true) }
 {
     let after = match phase {
@@ -140,7 +143,7 @@ pub fn worker_row(
             after_copy(count, end, words)
         }
         WorkerPhase::Take { taken } => WorkerPhase::Mark { taken },
-        WorkerPhase::Mark { taken } => answered(alloc, policy, &taken, book)?,
+        WorkerPhase::Mark { taken } => answered(alloc, judge, &taken, book)?,
         WorkerPhase::Give { words } => WorkerPhase::Reply { at: 0, words },
         WorkerPhase::Reply { at, words } => {
             channel.store(3 + at as usize, words[at as usize]);

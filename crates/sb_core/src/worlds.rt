@@ -1,6 +1,7 @@
 // The world of one thread and one worker over one channel.
 ghost use Rattle.std.specs.Prelude.{◌≡◌, ◌<◌, ◌≤◌, ◌+◌, ◌-◌, ◌++◌, ◌^◌, length, true, IfOk, OnOk};
 ghost use Rattle.std.specs.List.{list_all};
+ghost use Rattle.sb_rule.specs.Verdicts.{policy_at};
 ghost use Rattle.sb_core.specs.Threads.{is_sendable};
 ghost use Rattle.sb_core.specs.Workers.{is_worker_sound};
 ghost use Rattle.sb_core.specs.Worlds.{start_world, worker_step, thread_step, round, is_finished, is_settled, is_sound, IsCounted, ended_count, rounds, drained};
@@ -12,7 +13,7 @@ use crate::threads::{ThreadPhase, thread_row};
 use crate::workers::{WorkerPhase, worker_row};
 use sb_book::{Book, Report, Results, TargetResults, ThreadResults};
 use sb_call::{Statement, StmtResult};
-use sb_rule::Policy;
+use sb_rule::Judge;
 use sb_wide::NoMemory;
 use std::alloc::Global;
 use std::mem;
@@ -64,13 +65,14 @@ impl World {
     }
 
     /// One step of the worker.
-    pub fn worker_step(&mut self, alloc: Global, policy: &Policy) -> Result<(), NoMemory>
+    pub fn worker_step<J: Judge>(&mut self, alloc: Global, judge: &J) -> Result<(), NoMemory>
+        requires target { 0 < length (J.policies judge.now) }
         requires sound { is_worker_sound self.old.worker ≡ true }
-        ensures ok { OnOk result (self.new ≡ worker_step policy.now self.old) }
+        ensures ok { OnOk result (self.new ≡ worker_step (policy_at (J.policies judge.now) 0) self.old) }
         ensures sound { OnOk result (is_worker_sound self.new.worker ≡ true) }
     {
         let phase = mem::replace(&mut self.worker, WorkerPhase::Look);
-        self.worker = worker_row(alloc, policy, phase, &mut self.words, &mut self.book)?;
+        self.worker = worker_row(alloc, judge, phase, &mut self.words, &mut self.book)?;
         Ok(())
     }
 
@@ -107,44 +109,46 @@ impl World {
     }
 
     /// One step of each: the worker, and then the thread.
-    pub fn round(
+    pub fn round<J: Judge>(
         &mut self,
         alloc: Global,
-        policy: &Policy,
+        judge: &J,
         statements: &[Statement],
     ) -> Result<(), NoMemory>
+        requires target { 0 < length (J.policies judge.now) }
         requires few { length statements.now < 2 ^ 32 }
         requires sendable { list_all is_sendable statements.now ≡ true }
         requires sound { is_sound statements.now self.old ≡ true }
         requires counted { IsCounted self.old }
-        ensures ok { OnOk result (self.new ≡ round policy.now statements.now self.old) }
+        ensures ok { OnOk result (self.new ≡ round (policy_at (J.policies judge.now) 0) statements.now self.old) }
         ensures sound { OnOk result (is_sound statements.now self.new ≡ true) }
         ensures counted { OnOk result (IsCounted self.new) }
     {
-        self.worker_step(alloc, policy)?;
+        self.worker_step(alloc, judge)?;
         self.thread_step(statements)
     }
 
     /// At most so many rounds, while the thread is unfinished.
     #[tactic(auto, using(crate::proofs::Rounds::rounds_done, crate::proofs::Rounds::rounds_more))]
-    pub fn make_rounds(
+    pub fn make_rounds<J: Judge>(
         &mut self,
         alloc: Global,
-        policy: &Policy,
+        judge: &J,
         statements: &[Statement],
         count: u32,
     ) -> Result<(), NoMemory>
+        requires target { 0 < length (J.policies judge.now) }
         requires few { length statements.now < 2 ^ 32 }
         requires sendable { list_all is_sendable statements.now ≡ true }
         requires sound { is_sound statements.now self.old ≡ true }
         requires counted { IsCounted self.old }
-        ensures ok { OnOk result (self.new ≡ rounds count policy.now statements.now self.old) }
+        ensures ok { OnOk result (self.new ≡ rounds count (policy_at (J.policies judge.now) 0) statements.now self.old) }
         ensures sound { OnOk result (is_sound statements.now self.new ≡ true) }
         ensures counted { OnOk result (IsCounted self.new) }
     {
         let mut left = count;
         while left > 0 && !self.is_finished(statements) {
-            self.round(alloc, policy, statements)?;
+            self.round(alloc, judge, statements)?;
             left -= 1;
         }
         Ok(())
@@ -152,14 +156,15 @@ impl World {
 
     /// At most 100 steps of the worker, until it is settled.
     #[tactic(auto, using(crate::proofs::Rounds::drained_done, crate::proofs::Rounds::drained_more))]
-    pub fn drain(&mut self, alloc: Global, policy: &Policy) -> Result<(), NoMemory>
+    pub fn drain<J: Judge>(&mut self, alloc: Global, judge: &J) -> Result<(), NoMemory>
+        requires target { 0 < length (J.policies judge.now) }
         requires sound { is_worker_sound self.old.worker ≡ true }
-        ensures ok { OnOk result (self.new ≡ drained 100 policy.now self.old) }
+        ensures ok { OnOk result (self.new ≡ drained 100 (policy_at (J.policies judge.now) 0) self.old) }
         ensures results { OnOk result (self.new.results ≡ self.old.results) }
     {
         let mut left = 100u32;
         while left > 0 && !self.is_settled() {
-            self.worker_step(alloc, policy)?;
+            self.worker_step(alloc, judge)?;
             left -= 1;
         }
         Ok(())
