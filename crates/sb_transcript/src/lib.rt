@@ -4,6 +4,8 @@
 mod entries;
 mod numbers;
 mod results;
+#[cfg(test)]
+mod tests;
 mod totals;
 mod transcripts;
 
