@@ -1,0 +1,186 @@
+-- The conditions that are printed are read as they were.
+use Rattle.std.proofs.Common.{◌≡◌, ◌∙◌, ℕ, zero, suc, ◌+◌, ◌^◌, ◌<◌, ◌≤◌, nat_lt, nat_le, Bool, true, false, not, cond, if◌then◌else◌, ◌&&◌, List, [], ◌∷◌, ◌++◌, None, Some, Option, Ok, Err, Result, length, ap, refl, sym, arith}
+use Rattle.std.specs.Bool.{beq}
+use Rattle.std.specs.List.{flat_map, list_all}
+use Rattle.std.specs.Prelude.{codes}
+use Rattle.std.proofs.lemmas.Bool.{false≢true}
+use Rattle.std.proofs.lemmas.Bool.Decides.{nat_tests}
+use Rattle.std.proofs.lemmas.List.{append_assoc}
+use Rattle.sb_call.specs.Arguments.{kind_at}
+use Rattle.sb_call.specs.Tags.{shape_of}
+use Rattle.sb_call.specs.declared.tags.CallTag.{CallTag}
+use Rattle.sb_call.specs.declared.tags.CallTag.TheVariants.{Ping, FileCreate, FileOpen, FileQuery, FileRename, PipeCreate, KeyCreate, KeyOpen, EventCreate, EventOpen, HandleClose}
+use Rattle.sb_pattern.specs.Reading.{text_of, reading, is_pattern}
+use Rattle.sb_pattern.specs.declared.cells.Cell.{Cell}
+use Rattle.sb_pattern.specs.declared.faults.PatternFault.TheVariants.{TooLong}
+use Rattle.sb_rule.specs.WellMade.{is_number_test, is_number_kind, is_sensible, is_well_formed, is_policy_text, is_like_text}
+use Rattle.sb_rule.specs.declared.conditions.Cond.{Cond}
+use Rattle.sb_rule.specs.declared.conditions.Test.{Test}
+use Rattle.sb_rule.specs.declared.conditions.Test.TheVariants.{OneOf, Range, Mask, Equal, Like}
+use Rattle.sb_text.specs.NumberLaws.{HexadecimalsAreRead}
+use Rattle.sb_text.specs.Numbers.{number_of}
+use Rattle.sb_text.specs.Tokens.{Lexeme, Word, Quoted, Bad, string_of}
+use Rattle.sb_wide.specs.Wide.{is_unit}
+use Rattle.sb_ruletext.specs.Conditions.{number_at, numbers_at, most_numbers, most_units, range_of, range_at, string, cells, pattern, string_at, pattern_at, test_at, parameter_at, is_number_at, plain_condition_at, condition_at, conditions_of}
+use Rattle.sb_ruletext.specs.Printing.{number_word, range_word, utf8_of, or_tokens, numbers_tokens, test_tokens, not_tokens, parameter_word, cond_tokens, joined_tokens, conds_tokens}
+use Rattle.sb_ruletext.specs.PrintingLaws.{is_number, is_test_of_values}
+use Rattle.sb_ruletext.specs.Steps.{◌>>=◌, or_fault, Read, begins_with, later, after_word, is_end}
+use Rattle.sb_ruletext.specs.Words.{is_word, parameter_words, parameter_of}
+use Rattle.sb_ruletext.specs.declared.faults.TextKind.{TextKind}
+use Rattle.sb_ruletext.specs.declared.faults.TextKind.TheVariants.{UnknownParam, BadNumber, BadPattern}
+use Rattle.sb_ruletext.proofs.PrintedStrings.{both, and_true, ComesBack, string_back}
+use Rattle.sb_ruletext.proofs.PrintedWords.{is_itself, not_true, parameter_back, apart_at, within, number_back, range_back}
+
+pub number_small : (n : ℕ) → is_number n ≡ true → n < 2 ^ 64
+number_small n h = grind (arith, nat_tests)
+
+-- numbers
+
+number_read : HexadecimalsAreRead → (n : ℕ) (rest : List Lexeme) → is_number n ≡ true → number_at (Word (number_word n) ∷ rest) ≡ Ok (n, rest)
+number_read law n rest h = ap (λ o. or_fault BadNumber o >>= λ n. Ok (n, rest)) (number_back law n (number_small n h))
+
+-- what `numbers_at` does behind the first of at most m + 1 numbers
+abbrev and_others : ℕ → ℕ × List Lexeme → Read (List ℕ)
+and_others m first =
+    cond (begins_with (codes "or") first.1) (numbers_at m (later first.1) >>= λ others. Ok (first.0 ∷ others.0, others.1)) (Ok (first.0 ∷ [], first.1))
+
+numbers_step : (m : ℕ) (tokens : List Lexeme) → numbers_at (suc m) tokens ≡ number_at tokens >>= and_others m
+unfolding numbers_at
+numbers_step m tokens = refl
+
+numbers_read : HexadecimalsAreRead → (m n : ℕ) (more : List ℕ) (rest : List Lexeme) → length more ≤ m → list_all is_number (n ∷ more) ≡ true
+    → begins_with (codes "or") rest ≡ false → numbers_at (suc m) (numbers_tokens (n ∷ more) ++ rest) ≡ Ok (n ∷ more, rest)
+numbers_read law m n [] rest k h e =
+    numbers_step m (Word (number_word n) ∷ rest)
+    ∙ ap (λ r. r >>= and_others m) (number_read law n rest (both _ _ h).0)
+    ∙ ap (λ t. cond t (numbers_at m (later rest) >>= λ others. Ok (n ∷ others.0, others.1)) (Ok (n ∷ [], rest))) e
+numbers_read law zero n (next ∷ more) rest k h e = absurd (omega arith)
+numbers_read law (suc m) n (next ∷ more) rest k h e =
+    numbers_step (suc m) (Word (number_word n) ∷ Word (codes "or") ∷ (numbers_tokens (next ∷ more) ++ rest))
+    ∙ ap (λ r. r >>= and_others (suc m)) (number_read law n (Word (codes "or") ∷ (numbers_tokens (next ∷ more) ++ rest)) (both _ _ h).0)
+    ∙ ap (λ r. r >>= λ others. Ok (n ∷ others.0, others.1)) (numbers_read law m next more rest (omega arith) (both _ _ h).1 e)
+
+-- strings and patterns
+
+string_read : (us : List ℕ) → is_policy_text us ≡ true → list_all is_unit us ≡ true → string (utf8_of us) ≡ Ok us
+string_read us h b =
+    let back = (string_back us h b).string in
+    let few : nat_le (length us) most_units ≡ true = (both _ _ (both _ _ h).0).0 in
+    ap (λ us. cond (nat_le (length us) most_units) (Ok us) (Err (BadPattern TooLong))) back ∙ ap (λ t. cond t (Ok us) (Err (BadPattern TooLong))) few
+
+-- the text of a pattern is read as that pattern
+abbrev pub PatternsComeBack : Type 0
+PatternsComeBack = (cells : List Cell) → is_pattern cells ≡ true → reading (text_of cells) ≡ Ok cells
+
+pattern_read : PatternsComeBack → (cs : List Cell) → is_like_text cs ≡ true → list_all is_unit (text_of cs) ≡ true → pattern (utf8_of (text_of cs)) ≡ Ok cs
+pattern_read law cs h b =
+    ap (λ us. cells (reading us)) (string_back (text_of cs) (both _ _ h).1 b).string ∙ ap cells (law cs (both _ _ h).0)
+
+-- tests
+
+test_read : HexadecimalsAreRead → PatternsComeBack → (test : Test) (rest : List Lexeme) → is_sensible test ≡ true → is_test_of_values test ≡ true
+    → begins_with (codes "or") rest ≡ false → test_at (is_number_test test) (test_tokens test ++ rest) ≡ Ok (test, rest)
+unfolding test_at
+test_read law back (OneOf []) rest s v e = absurd (false≢true s)
+test_read law back (OneOf (n ∷ more)) rest s v e =
+    ap (λ r. r >>= λ numbers. Ok (OneOf numbers.0, numbers.1)) (numbers_read law 15 n more rest (few more s) v e)
+  where
+    few : (more : List ℕ) → is_sensible (OneOf (n ∷ more)) ≡ true → length more ≤ 15
+    few more s = grind (arith, nat_tests)
+test_read law back (Range lo hi) rest s v e =
+    ap (λ r. r >>= λ test. Ok (test, rest)) (range_back law lo hi (number_small lo (both _ _ v).0) (number_small hi (both _ _ v).1) s)
+test_read law back (Mask mask) rest s v e = ap (λ r. r >>= λ mask. Ok (Mask mask.0, mask.1)) (number_read law mask rest v)
+test_read law back (Equal text) rest s v e = ap (λ r. r >>= λ text. Ok (Equal text, rest)) (string_read text s v)
+test_read law back (Like pattern) rest s v e = ap (λ r. r >>= λ cells. Ok (Like cells, rest)) (pattern_read back pattern s v)
+
+-- conditions
+
+none_is_not : (tag : CallTag) → list_all (λ word. not (is_word (codes "not") word)) (parameter_words tag) ≡ true
+none_is_not Ping = refl
+none_is_not FileCreate = refl
+none_is_not FileOpen = refl
+none_is_not FileQuery = refl
+none_is_not FileRename = refl
+none_is_not PipeCreate = refl
+none_is_not KeyCreate = refl
+none_is_not KeyOpen = refl
+none_is_not EventCreate = refl
+none_is_not EventOpen = refl
+none_is_not HandleClose = refl
+
+-- the kind of the parameter is that of the test
+of_its_kind : (a b : Bool) → beq a b ≡ true → b ≡ a
+of_its_kind true true h = refl
+of_its_kind true false h = h
+of_its_kind false true h = sym h
+of_its_kind false false h = refl
+
+-- a parameter, and the tokens after it
+abbrev then_tokens : List Lexeme → ℕ → Read ℕ
+then_tokens tokens param = Ok (param, tokens)
+
+-- the condition with this test
+abbrev with_test : ℕ → Bool → Test × List Lexeme → Read Cond
+with_test param negated test = Ok (record { param = param; negated = negated; test = test.0 }, test.1)
+
+plain_read : HexadecimalsAreRead → PatternsComeBack → (negated : Bool) (tag : CallTag) (cond : Cond) (rest : List Lexeme)
+    → is_well_formed tag cond ≡ true → is_test_of_values cond.test ≡ true → begins_with (codes "or") rest ≡ false
+    → plain_condition_at negated tag (Word (parameter_word tag cond.param) ∷ (test_tokens cond.test ++ rest))
+    ≡ Ok (record { param = cond.param; negated = negated; test = cond.test }, rest)
+plain_read law back negated tag cond rest h v e =
+    let tokens = test_tokens cond.test ++ rest in
+    let kind = of_its_kind (is_number_test cond.test) (is_number_at tag cond.param) (both _ _ (both _ _ h).1).0 in
+    ap (λ o. (or_fault UnknownParam o >>= then_tokens tokens) >>= λ param. test_at (is_number_at tag param.0) param.1 >>= with_test param.0 negated)
+    (parameter_back tag cond.param (both _ _ h).0)
+    ∙ ap (λ t. test_at t tokens >>= with_test cond.param negated) kind
+    ∙ ap (λ r. r >>= with_test cond.param negated) (test_read law back cond.test rest (both _ _ (both _ _ h).1).1 v e)
+
+condition_read : HexadecimalsAreRead → PatternsComeBack → (tag : CallTag) (cond : Cond) (rest : List Lexeme)
+    → is_well_formed tag cond ≡ true → is_test_of_values cond.test ≡ true → begins_with (codes "or") rest ≡ false
+    → condition_at tag (cond_tokens tag cond ++ rest) ≡ Ok (cond, rest)
+unfolding condition_at
+condition_read law back tag cond rest h v e = by_not cond.negated (λ negated. plain_read law back negated tag cond rest h v e)
+  where
+    by_not : (negated : Bool)
+        → ((negated : Bool) → plain_condition_at negated tag (Word (parameter_word tag cond.param) ∷ (test_tokens cond.test ++ rest))
+        ≡ Ok (record { param = cond.param; negated = negated; test = cond.test }, rest))
+        → condition_at tag ((not_tokens negated ++ Word (parameter_word tag cond.param) ∷ test_tokens cond.test) ++ rest)
+        ≡ Ok (record { param = cond.param; negated = negated; test = cond.test }, rest)
+    by_not true f = f true
+    by_not false f =
+        let other = apart_at (codes "not") (parameter_words tag) cond.param (none_is_not tag) (within tag cond.param (both _ _ h).0) in
+        let tokens = Word (parameter_word tag cond.param) ∷ (test_tokens cond.test ++ rest) in
+        ap (λ t. if t then plain_condition_at true tag (later tokens) else plain_condition_at false tag tokens) other ∙ f false
+
+-- what `conditions_of` does behind the first of at most m + 1 conditions
+abbrev and_more : ℕ → CallTag → Cond × List Lexeme → Result (List Cond) TextKind
+and_more m tag first =
+    if is_end first.1 then Ok (first.0 ∷ [])
+    else (after_word (codes "and") first.1 >>= λ rest. conditions_of m tag rest >>= λ others. Ok (first.0 ∷ others))
+
+conditions_step : (m : ℕ) (tag : CallTag) (tokens : List Lexeme) → conditions_of (suc m) tag tokens ≡ condition_at tag tokens >>= and_more m tag
+unfolding conditions_of
+conditions_step m tag tokens = refl
+
+-- conditions of a call whose numbers and units are those of values
+pub record AreSound (tag : CallTag) (conds : List Cond) : Type 0 where
+  pub formed : list_all (is_well_formed tag) conds ≡ true
+  pub values : list_all (λ cond. is_test_of_values cond.test) conds ≡ true
+
+abbrev and_tokens : CallTag → List Cond → List Lexeme
+and_tokens tag conds = flat_map (joined_tokens (codes "and") tag) conds
+
+pub later_sound : (tag : CallTag) (cond : Cond) (conds : List Cond) → AreSound tag (cond ∷ conds) → AreSound tag conds
+later_sound tag cond conds s = record { formed = (both _ _ s.formed).1; values = (both _ _ s.values).1 }
+
+pub conditions_read : HexadecimalsAreRead → PatternsComeBack → (m : ℕ) (tag : CallTag) (cond : Cond) (more : List Cond)
+    → length more ≤ m → AreSound tag (cond ∷ more) → conditions_of (suc m) tag (cond_tokens tag cond ++ and_tokens tag more) ≡ Ok (cond ∷ more)
+conditions_read law back m tag cond [] k s =
+    conditions_step m tag (cond_tokens tag cond ++ [])
+    ∙ ap (λ r. r >>= and_more m tag) (condition_read law back tag cond [] (both _ _ s.formed).0 (both _ _ s.values).0 refl)
+conditions_read law back zero tag cond (next ∷ more) k s = absurd (omega arith)
+conditions_read law back (suc m) tag cond (next ∷ more) k s =
+    let rest = Word (codes "and") ∷ (cond_tokens tag next ++ and_tokens tag more) in
+    conditions_step (suc m) tag (cond_tokens tag cond ++ rest)
+    ∙ ap (λ r. r >>= and_more (suc m) tag) (condition_read law back tag cond rest (both _ _ s.formed).0 (both _ _ s.values).0 refl)
+    ∙ ap (λ r. r >>= λ others. Ok (cond ∷ others)) (conditions_read law back m tag next more (omega arith) (later_sound tag cond (next ∷ more) s))

@@ -1,0 +1,111 @@
+-- The lines of rules that are printed are read as these rules.
+use Rattle.std.proofs.Common.{◌≡◌, ◌∙◌, ℕ, zero, suc, ◌+◌, ◌<◌, ◌≤◌, nat_le, nat_lt, Bool, true, false, List, [], ◌∷◌, ◌++◌, Some, Option, Ok, Err, Result, length, map, ap, refl, sym, arith}
+use Rattle.std.specs.List.{flat_map, list_all}
+use Rattle.std.specs.Prelude.{codes, if◌then◌else◌}
+use Rattle.std.proofs.lemmas.Bool.{false≢true}
+use Rattle.std.proofs.lemmas.Bool.Decides.{nat_tests}
+use Rattle.sb_call.specs.declared.tags.CallTag.{CallTag}
+use Rattle.sb_rule.specs.WellMade.{is_for_readers}
+use Rattle.sb_rule.specs.declared.actions.Action.{Action}
+use Rattle.sb_rule.specs.declared.actions.Action.TheVariants.{Allow, Deny, Alarm, Fake, ReadOnly}
+use Rattle.sb_rule.specs.declared.conditions.Cond.{Cond}
+use Rattle.sb_rule.specs.declared.policies.Policy.{Policy}
+use Rattle.sb_rule.specs.declared.policies.Rule.{Rule}
+use Rattle.sb_text.specs.NumberLaws.{HexadecimalsAreRead}
+use Rattle.sb_text.specs.Tokens.{Lexeme, Word}
+use Rattle.sb_ruletext.specs.Conditions.{most_conditions, conditions_of}
+use Rattle.sb_ruletext.specs.Lines.{most_rules, check_action, when_of, rule, with_rules, with_last_rules, added, line_of}
+use Rattle.sb_ruletext.specs.Printing.{conds_tokens, rule_tokens}
+use Rattle.sb_ruletext.specs.Steps.{◌>>=◌, or_fault, Read}
+use Rattle.sb_ruletext.specs.Words.{is_word, action_word, action_of, call_word, call_of}
+use Rattle.sb_ruletext.specs.declared.faults.TextKind.{TextKind}
+use Rattle.sb_ruletext.specs.declared.faults.TextKind.TheVariants.{UnknownWord, UnknownCall, TooMany, NotReadOnly}
+use Rattle.sb_ruletext.proofs.PrintedConditions.{AreSound, PatternsComeBack, conditions_read}
+use Rattle.sb_ruletext.proofs.PrintedWords.{call_back}
+
+-- the conditions of a line
+
+when_read : HexadecimalsAreRead → PatternsComeBack → (tag : CallTag) (conds : List Cond) → nat_le (length conds) 8 ≡ true → AreSound tag conds
+    → when_of tag (conds_tokens tag conds) ≡ Ok conds
+when_read law back tag [] k s = refl
+when_read law back tag (cond ∷ conds) k s = conditions_read law back 7 tag cond conds (few conds k) s
+  where
+    few : (conds : List Cond) → nat_le (suc (length conds)) 8 ≡ true → length conds ≤ 7
+    few conds k = grind (arith, nat_tests)
+
+-- a rule with these conditions on a line
+abbrev ruled : ℕ → Action → CallTag → List Cond → Result (List Rule) TextKind
+ruled line action tag conds = Ok (record { tag = tag; conds = conds; action = action; line = line } ∷ [])
+
+-- a call, and the tokens after it
+abbrev then_tokens : List Lexeme → CallTag → Read CallTag
+then_tokens tokens tag = Ok (tag, tokens)
+
+rule_read : HexadecimalsAreRead → PatternsComeBack → (line : ℕ) (action : Action) (tag : CallTag) (conds : List Cond)
+    → is_for_readers action tag ≡ true → nat_le (length conds) 8 ≡ true → AreSound tag conds
+    → rule line action (Word (call_word tag) ∷ conds_tokens tag conds) ≡ Ok (record { tag = tag; conds = conds; action = action; line = line } ∷ [])
+unfolding rule
+rule_read law back line action tag conds r k s =
+    let tokens = conds_tokens tag conds in
+    ap (λ o. (or_fault UnknownCall o >>= then_tokens tokens) >>= λ call. check_action action call.0 >>= λ tag. when_of tag call.1 >>= ruled line action tag) (call_back tag)
+    ∙ ap (λ t. (if t then Ok tag else Err NotReadOnly) >>= λ tag. when_of tag tokens >>= ruled line action tag) r
+    ∙ ap (λ conds. conds >>= ruled line action tag) (when_read law back tag conds k s)
+
+-- one rule more in the last policy
+
+-- a policy with these rules
+abbrev pub policy_of : List ℕ → List Rule → Policy
+policy_of name rules = record { name = name; rules = rules }
+
+-- the policies up to the last
+abbrev behind : List Policy → Policy → Result (List Policy) TextKind
+behind done last = Ok (done ++ last ∷ [])
+
+last_rules : (done : List Policy) (policy : Policy) (rules : List Rule) → with_last_rules (done ++ policy ∷ []) rules ≡ with_rules policy rules >>= behind done
+unfolding with_last_rules
+last_rules [] policy rules = refl
+last_rules (first ∷ []) policy rules = more (with_rules policy rules)
+  where
+    more : (r : Result Policy TextKind) → ((r >>= λ last. Ok (last ∷ [])) >>= λ others. Ok (first ∷ others)) ≡ r >>= behind (first ∷ [])
+    more (Ok last) = refl
+    more (Err kind) = refl
+last_rules (first ∷ second ∷ done) policy rules =
+    ap (λ r. r >>= λ others. Ok (first ∷ others)) (last_rules (second ∷ done) policy rules) ∙ more (with_rules policy rules)
+  where
+    more : (r : Result Policy TextKind) → ((r >>= behind (second ∷ done)) >>= λ others. Ok (first ∷ others)) ≡ r >>= behind (first ∷ second ∷ done)
+    more (Ok last) = refl
+    more (Err kind) = refl
+
+added_last : (done : List Policy) (policy : Policy) (rules : List Rule) → added (done ++ policy ∷ []) (Ok rules) ≡ with_last_rules (done ++ policy ∷ []) rules
+added_last [] policy rules = refl
+added_last (first ∷ done) policy rules = refl
+
+room : (n m : ℕ) → n + m ≤ 256 → nat_le (n + m) most_rules ≡ true
+room n m h = grind (arith, nat_tests)
+
+-- a line whose first word is an action
+action_line : (version : ℕ) (policies : List Policy) (line : ℕ) (action : Action) (tokens : List Lexeme)
+    → line_of version policies line (Word (action_word action) ∷ tokens)
+    ≡ or_fault UnknownWord (action_of version (action_word action)) >>= λ action. added policies (rule line action tokens)
+unfolding line_of
+action_line version policies line Allow tokens = refl
+action_line version policies line Deny tokens = refl
+action_line version policies line Alarm tokens = refl
+action_line version policies line Fake tokens = refl
+action_line version policies line ReadOnly tokens = refl
+
+-- the line of a rule adds this rule to the last policy
+pub rule_line_read : HexadecimalsAreRead → PatternsComeBack → (version : ℕ) (done : List Policy) (name : List ℕ) (before : List Rule) (line : ℕ) (r : Rule)
+    → action_of version (action_word r.action) ≡ Some r.action → is_for_readers r.action r.tag ≡ true → nat_le (length r.conds) 8 ≡ true → AreSound r.tag r.conds
+    → length before + 1 ≤ 256
+    → line_of version (done ++ policy_of name before ∷ []) line (rule_tokens r) ≡ Ok (done ++ policy_of name (before ++ record r { line = line } ∷ []) ∷ [])
+rule_line_read law back version done name before line r a f k s few =
+    let policies = done ++ policy_of name before ∷ [] in
+    let tokens = Word (call_word r.tag) ∷ conds_tokens r.tag r.conds in
+    let made = record r { line = line } in
+    action_line version policies line r.action tokens
+    ∙ ap (λ o. or_fault UnknownWord o >>= λ action. added policies (rule line action tokens)) a
+    ∙ ap (added policies) (rule_read law back line r.action r.tag r.conds f k s)
+    ∙ added_last done (policy_of name before) (made ∷ [])
+    ∙ last_rules done (policy_of name before) (made ∷ [])
+    ∙ ap (λ t. (if t then Ok (policy_of name (before ++ made ∷ [])) else Err TooMany) >>= behind done) (room (length before) 1 few)

@@ -1,0 +1,153 @@
+-- The string of the text that is printed between quotes is the string that was printed.
+use Rattle.std.proofs.Common.{◌≡◌, ◌∙◌, ℕ, ◌+◌, ◌-◌, ◌*◌, ◌<◌, ◌≤◌, Bool, true, false, ◌&&◌, List, [], ◌∷◌, ◌++◌, map, Some, Option, ap, refl, sym, subst, ⊎_elim, arith}
+use Rattle.std.proofs.Math.Utf8.{scalar, scalars, encode, encodes}
+use Rattle.std.proofs.lemmas.Bool.{false≢true, cases_lt}
+use Rattle.std.proofs.lemmas.Bool.Decides.{nat_tests}
+use Rattle.std.proofs.lemmas.List.Folds.{list_all-append}
+use Rattle.std.proofs.lemmas.Str.{chars-encodes, encode_ascii, utf16_chars-nil, utf16_chars_lone, utf16_chars_pair}
+use Rattle.std.proofs.str.Utf16.{IsPair, one_unit, pair_units}
+use Rattle.std.specs.Bool.{beq}
+use Rattle.std.specs.Char.Escape.{encode_utf16}
+use Rattle.std.specs.Char.Utf16.{lone_unit_char, surrogate_pair_char, utf16_lossy_chars}
+use Rattle.std.specs.List.{list_all}
+use Rattle.std.specs.Option.{unwrap_or}
+use Rattle.std.specs.Str.{IsUtf8, chars}
+use Rattle.sb_rule.specs.WellMade.{is_high, is_low, is_paired, is_text_unit, is_policy_text}
+use Rattle.sb_text.specs.TokenLaws.{is_quoted_byte}
+use Rattle.sb_text.specs.Tokens.{string_of}
+use Rattle.sb_wide.specs.Wide.{is_unit, utf16_of}
+use Rattle.sb_ruletext.specs.Printing.{utf8_of}
+
+pub both : (a b : Bool) → (a && b) ≡ true → (a ≡ true) × (b ≡ true)
+both true true e = (refl, refl)
+both true false e = absurd (false≢true e)
+both false b e = absurd (false≢true e)
+
+pub and_true : (a b : Bool) → a ≡ true → b ≡ true → (a && b) ≡ true
+and_true true true h k = refl
+and_true true false h k = k
+and_true false b h k = h
+
+-- a unit alone
+
+lone_char : (u : ℕ) → is_high u ≡ false → is_low u ≡ false → lone_unit_char u ≡ Some u
+lone_char u h l = grind (arith, nat_tests)
+
+no_pair : (u v : ℕ) → is_high u ≡ false → IsPair u v → false ≡ true
+no_pair u v h p = grind (arith, nat_tests)
+
+lone_scalar : (u : ℕ) → is_high u ≡ false → is_low u ≡ false → u < 65536 → scalar u ≡ true
+lone_scalar u h l b = grind (arith, nat_tests)
+
+-- a pair
+
+pair_scalar : (u v : ℕ) → is_high u ≡ true → is_low v ≡ true → scalar (surrogate_pair_char u v) ≡ true
+pair_scalar u v h l = grind (arith, nat_tests)
+
+is_pair : (u v : ℕ) → is_high u ≡ true → is_low v ≡ true → IsPair u v
+is_pair u v h l = (grind (arith, nat_tests), grind (arith, nat_tests), grind (arith, nat_tests), grind (arith, nat_tests))
+
+pair_high : (u v : ℕ) → IsPair u v → 65536 ≤ surrogate_pair_char u v
+pair_high u v p = omega arith
+
+pair_encodes : (u v : ℕ) → IsPair u v → encode_utf16 (surrogate_pair_char u v) ≡ u ∷ v ∷ []
+pair_encodes u v p = ap encode_utf16 {x = surrogate_pair_char u v} (omega arith) ∙ pair_units u v p.0 p.2 p.3
+
+low_not_high : (v : ℕ) → is_low v ≡ true → is_high v ≡ false
+low_not_high v h = grind (arith, nat_tests)
+
+-- the bytes of a character
+
+high_bytes : (c : ℕ) → 128 ≤ c → list_all is_quoted_byte (encode c) ≡ true
+unfolding encode
+high_bytes c h = grind (arith, nat_tests)
+
+low_bytes : (c : ℕ) → c < 128 → is_text_unit c ≡ true → list_all is_quoted_byte (encode c) ≡ true
+low_bytes c h k = rw (encode_ascii c h) (grind (arith, nat_tests))
+
+text_bytes : (c : ℕ) → is_text_unit c ≡ true → list_all is_quoted_byte (encode c) ≡ true
+text_bytes c k = ⊎_elim (λ h. low_bytes c h k) (λ h. high_bytes c h) (cases_lt c 128)
+
+-- units and the characters that they spell
+
+record Spells (us : List ℕ) : Type 0 where
+  units : utf16_of (utf16_lossy_chars us) ≡ us
+  scalar : scalars (utf16_lossy_chars us) ≡ true
+  quoted : list_all is_quoted_byte (utf8_of us) ≡ true
+
+spells_more : (c : ℕ) (us later : List ℕ) → utf16_lossy_chars us ≡ c ∷ utf16_lossy_chars later → encode_utf16 c ++ later ≡ us
+    → scalar c ≡ true → list_all is_quoted_byte (encode c) ≡ true → Spells later → Spells us
+spells_more c us later e f s q rest = record {
+  units = ap utf16_of e ∙ ap (λ us. encode_utf16 c ++ us) rest.units ∙ f;
+  scalar = ap scalars e ∙ and_true _ _ s rest.scalar;
+  quoted = ap (λ cs. list_all is_quoted_byte (encodes cs)) e ∙ list_all-append is_quoted_byte (encode c) (utf8_of later) ∙ and_true _ _ q rest.quoted;
+}
+
+lone_lossy : (u : ℕ) (us : List ℕ) → is_high u ≡ false → is_low u ≡ false → utf16_lossy_chars (u ∷ us) ≡ u ∷ utf16_lossy_chars us
+lone_lossy u us h l =
+    ap (map (λ o. unwrap_or o 0xFFFD)) (utf16_chars_lone u us (λ p. absurd (false≢true (no_pair u _ h p))))
+    ∙ ap (λ o. unwrap_or o 0xFFFD ∷ utf16_lossy_chars us) (lone_char u h l)
+
+pair_lossy : (u v : ℕ) (us : List ℕ) → IsPair u v → utf16_lossy_chars (u ∷ v ∷ us) ≡ surrogate_pair_char u v ∷ utf16_lossy_chars us
+pair_lossy u v us p = ap (map (λ o. unwrap_or o 0xFFFD)) (utf16_chars_pair u v us p)
+
+not_low : (t : Bool) → beq t false ≡ true → t ≡ false
+not_low false h = refl
+not_low true h = sym h
+
+low : (t : Bool) → beq t true ≡ true → t ≡ true
+low false h = h
+low true h = refl
+
+unit_small : (u : ℕ) → is_unit u ≡ true → u < 65536
+unit_small u h = grind (arith, nat_tests)
+
+spells_lone : (u : ℕ) (us : List ℕ) → is_high u ≡ false → is_low u ≡ false → is_text_unit u ≡ true → is_unit u ≡ true → Spells us → Spells (u ∷ us)
+spells_lone u us h l t b rest =
+    let small = unit_small u b in
+    spells_more u (u ∷ us) us (lone_lossy u us h l) (ap (λ e. e ++ us) (one_unit u small)) (lone_scalar u h l small) (text_bytes u t) rest
+
+spells_pair : (u v : ℕ) (us : List ℕ) → is_high u ≡ true → is_low v ≡ true → Spells us → Spells (u ∷ v ∷ us)
+spells_pair u v us h l rest =
+    let p = is_pair u v h l in
+    let c = pair_high u v p in
+    spells_more (surrogate_pair_char u v) (u ∷ v ∷ us) us (pair_lossy u v us p) (ap (λ e. e ++ us) (pair_encodes u v p)) (pair_scalar u v h l)
+    (high_bytes (surrogate_pair_char u v) (omega arith)) rest
+
+spells_none : Spells []
+spells_none =
+    let none = ap (map (λ o. unwrap_or o 0xFFFD)) utf16_chars-nil in
+    record { units = ap utf16_of none; scalar = ap scalars none; quoted = ap (λ cs. list_all is_quoted_byte (encodes cs)) none }
+
+spells : (us : List ℕ) → is_paired false us ≡ true → list_all is_text_unit us ≡ true → list_all is_unit us ≡ true → Spells us
+spells [] h t b = spells_none
+spells (u ∷ []) h t b = by_high (is_high u) refl (both _ _ h).1
+  where
+    by_high : (s : Bool) → is_high u ≡ s → is_paired (is_high u) [] ≡ true → Spells (u ∷ [])
+    by_high true e k = absurd (false≢true (ap (λ s. is_paired s []) (sym e) ∙ k))
+    by_high false e k = spells_lone u [] e (not_low _ (both _ _ h).0) (both _ _ t).0 (both _ _ b).0 spells_none
+spells (u ∷ v ∷ us) h t b =
+    by_high (is_high u) refl (both _ _ h).1 (λ k. spells (v ∷ us) k (both _ _ t).1 (both _ _ b).1) (λ k. spells us k (both _ _ (both _ _ t).1).1 (both _ _ (both _ _ b).1).1)
+  where
+    by_high : (s : Bool) → is_high u ≡ s → is_paired (is_high u) (v ∷ us) ≡ true → (is_paired false (v ∷ us) ≡ true → Spells (v ∷ us)) → (is_paired false us ≡ true → Spells us) → Spells (u ∷ v ∷ us)
+    by_high false e k f g =
+        spells_lone u (v ∷ us) e (not_low _ (both _ _ h).0) (both _ _ t).0 (both _ _ b).0 (f (ap (λ s. is_paired s (v ∷ us)) (sym e) ∙ k))
+    by_high true e k f g =
+        let second : is_paired true (v ∷ us) ≡ true = ap (λ s. is_paired s (v ∷ us)) (sym e) ∙ k in
+        let last : is_low v ≡ true = low _ (both _ _ second).0 in
+        spells_pair u v us e last (g (ap (λ s. is_paired s us) (sym (low_not_high v last)) ∙ (both _ _ second).1))
+
+-- a string comes back, and what is printed of it is UTF-8 and can stand between quotes
+pub record ComesBack (us : List ℕ) : Type 0 where
+  pub string : string_of (utf8_of us) ≡ us
+  pub utf8 : IsUtf8 (utf8_of us)
+  pub quoted : list_all is_quoted_byte (utf8_of us) ≡ true
+
+pub string_back : (us : List ℕ) → is_policy_text us ≡ true → list_all is_unit us ≡ true → ComesBack us
+string_back us h b =
+    let s = spells us (both _ _ h).1 (both _ _ (both _ _ h).0).1 b in
+    record {
+      string = ap utf16_of (chars-encodes (utf16_lossy_chars us) s.scalar) ∙ s.units;
+      utf8 = (utf16_lossy_chars us, (s.scalar, refl));
+      quoted = s.quoted;
+    }

@@ -1,0 +1,212 @@
+-- The text of policies is read as these policies.
+use Rattle.std.proofs.Common.{◌≡◌, ◌∙◌, ℕ, zero, suc, ◌+◌, ◌<◌, ◌≤◌, nat_le, nat_lt, Bool, true, false, not, ◌&&◌, ◌||◌, List, [], ◌∷◌, ◌++◌, None, Some, Option, Ok, Err, Result, length, map, ap, refl, sym, arith}
+use Rattle.std.specs.Cmp.Lexicographic.{pointwise, bytes_decides}
+use Rattle.std.specs.List.{flat_map, list_all, list_any}
+use Rattle.std.specs.Prelude.{codes, nat_eq, if◌then◌else◌}
+use Rattle.std.proofs.lemmas.Bool.{false≢true}
+use Rattle.std.proofs.lemmas.Bool.Decides.{nat_tests}
+use Rattle.std.proofs.lemmas.List.{append_assoc, append-nil, length-append}
+use Rattle.std.proofs.lemmas.List.Folds.{list_any-append}
+use Rattle.sb_call.specs.ShortNames.{is_short_name}
+use Rattle.sb_ruletext.proofs.PrintedConditions.{PatternsComeBack}
+use Rattle.sb_rule.specs.WellMade.{is_well_made_rule, is_well_made, is_named, are_named_apart, are_well_made}
+use Rattle.sb_rule.specs.declared.policies.Policy.{Policy}
+use Rattle.sb_rule.specs.declared.policies.Rule.{Rule}
+use Rattle.sb_text.specs.LineLaws.{WrittenLinesAreRead}
+use Rattle.sb_text.specs.Lines.{NumberedLine, lines_of}
+use Rattle.sb_text.specs.NumberLaws.{HexadecimalsAreRead}
+use Rattle.sb_text.specs.TokenLaws.{written_line, WrittenTokensAreRead}
+use Rattle.sb_text.specs.Tokens.{Lexeme, Word, tokens_of}
+use Rattle.sb_text.specs.Utf8.{not_utf8_line}
+use Rattle.sb_text.specs.Utf8Laws.{NotUtf8LineTells}
+use Rattle.sb_ruletext.specs.Lines.{most_policies, new_name, name_at, with_policy, heading, line_of}
+use Rattle.sb_ruletext.specs.PolicyTexts.{version_of, on_line, policies_from, policies_below, policies_of, reading}
+use Rattle.sb_ruletext.specs.Printing.{rule_tokens, heading_tokens, policy_lines, is_read_only, has_read_only, version_tokens, printed_lines, line_text, printed, relined_rules, relined_from, relined}
+use Rattle.sb_ruletext.specs.PrintingLaws.{is_rule_of_values, is_policy_of_values, PrintedPoliciesAreRead}
+use Rattle.sb_ruletext.specs.Steps.{◌>>=◌, Read, end_after}
+use Rattle.sb_ruletext.specs.Words.{action_word, action_of}
+use Rattle.sb_ruletext.specs.declared.faults.TextFault.{TextFault}
+use Rattle.sb_ruletext.specs.declared.faults.TextKind.{TextKind}
+use Rattle.sb_ruletext.specs.declared.faults.TextKind.TheVariants.{NotUtf8, UnknownWord, TooMany, SameName}
+use Rattle.sb_ruletext.proofs.PrintedLines.{is_plain_line, numbered, lines_utf8, lines_back, tokens_back}
+use Rattle.sb_ruletext.proofs.PrintedRules.{policy_of, rule_line_read}
+use Rattle.sb_ruletext.proofs.PrintedStrings.{both, and_true}
+use Rattle.sb_ruletext.proofs.PrintedTokens.{sound_conds, rule_plain, heading_plain, printed_plain}
+use Rattle.sb_ruletext.proofs.PrintedWords.{not_true, action_back, first_action_back}
+
+-- the laws of lower crates that the proof stands on
+pub record Laws : Type 0 where
+  pub utf8 : NotUtf8LineTells
+  pub lines : WrittenLinesAreRead
+  pub tokens : WrittenTokensAreRead
+  pub numbers : HexadecimalsAreRead
+  pub patterns : PatternsComeBack
+
+-- each action is one of the version
+abbrev AreActions : ℕ → List Rule → Type 0
+AreActions version [] = Unit {0}
+AreActions version (rule ∷ rules) = (action_of version (action_word rule.action) ≡ Some rule.action) × AreActions version rules
+
+abbrev AreActionsOfAll : ℕ → List Policy → Type 0
+AreActionsOfAll version [] = Unit {0}
+AreActionsOfAll version (policy ∷ policies) = AreActions version policy.rules × AreActionsOfAll version policies
+
+-- a line
+
+line_read : Laws → (version : ℕ) (done more : List Policy) (n : ℕ) (tokens : List Lexeme) (lines : List (List Lexeme)) → is_plain_line tokens ≡ true
+    → line_of version done n tokens ≡ Ok more → policies_from version done (numbered n (tokens ∷ lines)) ≡ policies_from version more (numbered (n + 1) lines)
+unfolding policies_from
+line_read laws version done more n tokens lines p e =
+    ap (λ tokens. on_line n (line_of version done n tokens) >>= λ more. policies_from version more (numbered (n + 1) lines)) (tokens_back laws.tokens tokens p)
+    ∙ ap (λ r. on_line n r >>= λ more. policies_from version more (numbered (n + 1) lines)) e
+
+-- the rules of a policy
+
+rules_read : Laws → (version : ℕ) (done : List Policy) (name : List ℕ) (before : List Rule) (n : ℕ) (rules : List Rule) (lines : List (List Lexeme))
+    → list_all is_well_made_rule rules ≡ true → list_all is_rule_of_values rules ≡ true → AreActions version rules → length before + length rules ≤ 256
+    → policies_from version (done ++ policy_of name before ∷ []) (numbered n (map rule_tokens rules ++ lines))
+    ≡ policies_from version (done ++ policy_of name (before ++ relined_rules n rules) ∷ []) (numbered (n + length rules) lines)
+rules_read laws version done name before n [] lines h v a few =
+    ap (λ rules. policies_from version (done ++ policy_of name rules ∷ []) (numbered n lines)) (sym (append-nil before))
+    ∙ ap (λ n. policies_from version (done ++ policy_of name (before ++ []) ∷ []) (numbered n lines)) {x = n} {y = n + 0} (omega arith)
+rules_read laws version done name before n (rule ∷ rules) lines h v a few =
+    let made = record rule { line = n } in
+    let formed = (both _ _ h).0 in
+    line_read laws version (done ++ policy_of name before ∷ []) (done ++ policy_of name (before ++ made ∷ []) ∷ []) n (rule_tokens rule) (map rule_tokens rules ++ lines)
+    (rule_plain laws.numbers rule formed (both _ _ v).0)
+    (rule_line_read laws.numbers laws.patterns version done name before n rule a.0 (both _ _ (both _ _ formed).0).1 (both _ _ (both _ _ formed).0).0
+    (sound_conds rule formed (both _ _ v).0) (omega arith))
+    ∙ rules_read laws version done name (before ++ made ∷ []) (n + 1) rules lines (both _ _ h).1 (both _ _ v).1 a.1 (omega (arith, length-append before (made ∷ [])))
+    ∙ ap (λ all. policies_from version (done ++ policy_of name all ∷ []) (numbered (n + 1 + length rules) lines)) (append_assoc before (made ∷ []) (relined_rules (n + 1) rules))
+    ∙ ap (λ m. policies_from version (done ++ policy_of name (before ++ made ∷ relined_rules (n + 1) rules) ∷ []) (numbered m lines))
+    {x = n + 1 + length rules} {y = n + suc (length rules)} (omega arith)
+
+-- a heading
+
+-- a name, with which the line ends
+abbrev then_end : List ℕ → Read (List ℕ)
+then_end name = Ok (name, [])
+
+-- what `heading` does with a name, where there is room for one more policy or not
+abbrev headed : List Policy → Bool → Result (List ℕ) TextKind → Result (List Policy) TextKind
+headed done few name = (name >>= then_end) >>= λ name. end_after name.0 name.1 >>= λ whole. if few then Ok (done ++ policy_of whole [] ∷ []) else Err TooMany
+
+heading_read : (version : ℕ) (done : List Policy) (n : ℕ) (policy : Policy) → is_short_name policy.name ≡ true → list_any (is_named policy.name) done ≡ false
+    → nat_lt (length done) most_policies ≡ true → line_of version done n (heading_tokens policy) ≡ Ok (done ++ policy_of policy.name [] ∷ [])
+unfolding line_of heading
+heading_read version done n policy short new few = by_tests (is_short_name policy.name) (list_any (is_named policy.name) done) (nat_lt (length done) most_policies) short new few
+  where
+    by_tests : (s t u : Bool) → s ≡ true → t ≡ false → u ≡ true
+        → headed done u (if s then (if t then Err SameName else Ok policy.name) else Err UnknownWord) ≡ Ok (done ++ policy_of policy.name [] ∷ [])
+    by_tests s t u e f g = rw (e, f, g) refl
+
+-- a policy
+
+policy_read : Laws → (version : ℕ) (done : List Policy) (n : ℕ) (policy : Policy) (lines : List (List Lexeme))
+    → is_well_made policy ≡ true → is_policy_of_values policy ≡ true → AreActions version policy.rules
+    → list_any (is_named policy.name) done ≡ false → nat_lt (length done) most_policies ≡ true
+    → policies_from version done (numbered n (policy_lines policy ++ lines))
+    ≡ policies_from version (done ++ record policy { rules = relined_rules (n + 1) policy.rules } ∷ []) (numbered (n + 1 + length policy.rules) lines)
+policy_read laws version done n policy lines h v a new few =
+    line_read laws version done (done ++ policy_of policy.name [] ∷ []) n (heading_tokens policy) (map rule_tokens policy.rules ++ lines)
+    (heading_plain policy (both _ _ v).0) (heading_read version done n policy (both _ _ v).0 new few)
+    ∙ rules_read laws version done policy.name [] (n + 1) policy.rules lines (both _ _ h).1 (both _ _ v).1 a (most policy.rules (both _ _ h).0)
+  where
+    most : (rules : List Rule) → nat_le (length rules) 256 ≡ true → 0 + length rules ≤ 256
+    most rules k = grind (arith, nat_tests)
+
+-- names that no policy so far has
+
+abbrev are_new : List Policy → List Policy → Bool
+are_new done [] = true
+are_new done (policy ∷ policies) = not (list_any (is_named policy.name) done) && are_new done policies
+
+truths : (a b : Bool) → (a ≡ true → b ≡ true) → (b ≡ true → a ≡ true) → a ≡ b
+truths true b f g = sym (f refl)
+truths false true f g = g refl
+truths false false f g = refl
+
+turned : (a b : List ℕ) → pointwise nat_eq a b ≡ pointwise nat_eq b a
+turned a b = truths _ _ (λ e. (bytes_decides b a).1 (sym ((bytes_decides a b).0 e))) (λ e. (bytes_decides a b).1 (sym ((bytes_decides b a).0 e)))
+
+or_false : (a b : Bool) → (a || b) ≡ false → (a ≡ false) × (b ≡ false)
+or_false false b h = (refl, h)
+or_false true b h = absurd (false≢true (sym h))
+
+neither : (a b : Bool) → a ≡ false → b ≡ false → not (a || (b || false)) ≡ true
+neither a b h k = rw (h, k) refl
+
+new_more : (done : List Policy) (name : List ℕ) (rules : List Rule) (policies : List Policy) → are_new done policies ≡ true
+    → list_any (is_named name) policies ≡ false → are_new (done ++ policy_of name rules ∷ []) policies ≡ true
+new_more done name rules [] h k = refl
+new_more done name rules (policy ∷ policies) h k =
+    let parts = or_false (is_named name policy) (list_any (is_named name) policies) k in
+    and_true _ _
+    (ap not (list_any-append (is_named policy.name) done (policy_of name rules ∷ []))
+    ∙ neither (list_any (is_named policy.name) done) (pointwise nat_eq name policy.name) (not_true _ (both _ _ h).0) (turned name policy.name ∙ parts.0))
+    (new_more done name rules policies (both _ _ h).1 parts.1)
+
+new_to_none : (policies : List Policy) → are_new [] policies ≡ true
+new_to_none [] = refl
+new_to_none (policy ∷ policies) = new_to_none policies
+
+-- the policies
+
+policies_read : Laws → (version : ℕ) (done : List Policy) (n : ℕ) (policies : List Policy)
+    → list_all is_well_made policies ≡ true → list_all is_policy_of_values policies ≡ true → AreActionsOfAll version policies
+    → are_new done policies ≡ true → are_named_apart policies ≡ true → length done + length policies ≤ 8
+    → policies_from version done (numbered n (flat_map policy_lines policies)) ≡ Ok (done ++ relined_from n policies)
+unfolding policies_from
+policies_read laws version done n [] h v a new apart few = ap Ok (sym (append-nil done))
+policies_read laws version done n (policy ∷ policies) h v a new apart few =
+    let made = record policy { rules = relined_rules (n + 1) policy.rules } in
+    policy_read laws version done n policy (flat_map policy_lines policies) (both _ _ h).0 (both _ _ v).0 a.0 (not_true _ (both _ _ new).0) (room (length done) (omega arith))
+    ∙ policies_read laws version (done ++ made ∷ []) (n + 1 + length policy.rules) policies (both _ _ h).1 (both _ _ v).1 a.1
+    (new_more done policy.name (relined_rules (n + 1) policy.rules) policies (both _ _ new).1 (not_true _ (both _ _ apart).0))
+    (both _ _ apart).1 (omega (arith, length-append done (made ∷ [])))
+    ∙ ap Ok (append_assoc done (made ∷ []) (relined_from (n + 1 + length policy.rules) policies))
+  where
+    room : (k : ℕ) → k < 8 → nat_lt k most_policies ≡ true
+    room k h = grind (arith, nat_tests)
+
+-- the version
+
+all_actions : (rules : List Rule) → AreActions 2 rules
+all_actions [] = tt
+all_actions (rule ∷ rules) = (action_back rule.action, all_actions rules)
+
+all_actions_of_all : (policies : List Policy) → AreActionsOfAll 2 policies
+all_actions_of_all [] = tt
+all_actions_of_all (policy ∷ policies) = (all_actions policy.rules, all_actions_of_all policies)
+
+first_actions : (rules : List Rule) → list_any (λ rule. is_read_only rule.action) rules ≡ false → AreActions 1 rules
+first_actions [] h = tt
+first_actions (rule ∷ rules) h = let parts = or_false _ _ h in (first_action_back rule.action parts.0, first_actions rules parts.1)
+
+first_actions_of_all : (policies : List Policy) → list_any has_read_only policies ≡ false → AreActionsOfAll 1 policies
+first_actions_of_all [] h = tt
+first_actions_of_all (policy ∷ policies) h = let parts = or_false _ _ h in (first_actions policy.rules parts.0, first_actions_of_all policies parts.1)
+
+-- the whole text
+
+abbrev by_utf8 : Option ℕ → List NumberedLine → Result (List Policy) TextFault
+by_utf8 line lines = elim (line) [ None ↦ policies_of lines | Some line ↦ Err (record { line = line; kind = NotUtf8 }) ]
+
+-- the policies below the version line, where some rule only lets read or none does
+below_read : Laws → (policies : List Policy) → list_all is_well_made policies ≡ true → list_all is_policy_of_values policies ≡ true
+    → are_named_apart policies ≡ true → length policies ≤ 8 → (t : Bool) → list_any has_read_only policies ≡ t
+    → policies_below 1 (version_of (Word (codes "sandbox-policy") ∷ Word (if t then codes "2" else codes "1") ∷ [])) (numbered 2 (flat_map policy_lines policies)) ≡ Ok (relined policies)
+below_read laws policies h v apart few true e = policies_read laws 2 [] 2 policies h v (all_actions_of_all policies) (new_to_none policies) apart (omega arith)
+below_read laws policies h v apart few false e = policies_read laws 1 [] 2 policies h v (first_actions_of_all policies e) (new_to_none policies) apart (omega arith)
+
+pub printed_read : Laws → PrintedPoliciesAreRead
+printed_read laws policies h v =
+    let made = (both _ _ h).1 in
+    let plain = printed_plain laws.numbers policies made v in
+    ap (λ line. by_utf8 line (lines_of (printed policies))) (laws.utf8.0 (printed policies) (lines_utf8 (printed_lines policies) plain))
+    ∙ ap policies_of (lines_back laws.lines (printed_lines policies) plain)
+    ∙ ap (λ tokens. policies_below 1 (version_of tokens) (numbered 2 (flat_map policy_lines policies))) (tokens_back laws.tokens (version_tokens policies) (both _ _ plain).0)
+    ∙ below_read laws policies made v (both _ _ (both _ _ h).0).1 (most policies (both _ _ (both _ _ h).0).0) (list_any has_read_only policies) refl
+  where
+    most : (policies : List Policy) → nat_le (length policies) 8 ≡ true → length policies ≤ 8
+    most policies k = grind (arith, nat_tests)

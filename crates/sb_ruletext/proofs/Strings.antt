@@ -1,0 +1,85 @@
+-- What stands between quotes is text.
+use Rattle.std.proofs.Common.{◌≡◌, refl, sym, ap, subst, ◌∙◌, arith, ℕ, ◌+◌, ◌-◌, ◌/◌, ◌%◌, ◌<◌, ◌≤◌, ◌⊎◌, ⊎_elim, List, [], ◌∷◌, ◌++◌, Bool, true, false, ◌&&◌, nat_lt}
+use Rattle.std.proofs.Math.Utf8.{scalar, scalars, scalar_cases, encode, encodes}
+use Rattle.std.proofs.lemmas.Bool.{cases_lt}
+use Rattle.std.proofs.lemmas.Bool.Decides.{nat_tests}
+use Rattle.std.proofs.lemmas.List.Folds.{list_all-append}
+use Rattle.std.proofs.lemmas.Str.{encode_ascii, chars-encodes}
+use Rattle.std.specs.Bool.{beq}
+use Rattle.std.specs.Char.Escape.{encode_utf16}
+use Rattle.std.specs.List.{list_all}
+use Rattle.std.specs.Str.{IsUtf8, chars}
+use Rattle.sb_ruletext.proofs.Sound.{left, right, both}
+use Rattle.sb_rule.specs.WellMade.{is_high, is_low, is_paired, is_text_unit}
+use Rattle.sb_text.specs.TokenLaws.{is_quoted_byte}
+use Rattle.sb_text.specs.Tokens.{string_of}
+use Rattle.sb_wide.specs.Wide.{utf16_of}
+
+one_unit : (c : ℕ) → c < 65536 → encode_utf16 c ≡ c ∷ []
+one_unit c h = let t : nat_lt c 65536 ≡ true = grind (arith, nat_tests) in rw (t) refl
+
+two_units : (c : ℕ) → 65536 ≤ c → encode_utf16 c ≡ (0xD800 + (c - 65536) / 0x400) ∷ (0xDC00 + (c - 65536) % 0x400) ∷ []
+two_units c h = let t : nat_lt c 65536 ≡ false = grind (arith, nat_tests) in rw (t) refl
+
+ascii_text : (c : ℕ) → list_all is_quoted_byte (c ∷ []) ≡ true → list_all is_text_unit (c ∷ []) ≡ true
+ascii_text c h = grind (arith, nat_tests)
+
+high_text : (c : ℕ) → 128 ≤ c → is_text_unit c ≡ true
+high_text c h = grind (arith, nat_tests)
+
+one_text : (c : ℕ) → 128 ≤ c → list_all is_text_unit (c ∷ []) ≡ true
+one_text c h = both (is_text_unit c) true (high_text c h) refl
+
+two_text : (c d : ℕ) → 128 ≤ c → 128 ≤ d → list_all is_text_unit (c ∷ d ∷ []) ≡ true
+two_text c d h k = both (is_text_unit c) (list_all is_text_unit (d ∷ [])) (high_text c h) (one_text d k)
+
+char_text : (c : ℕ) → list_all is_quoted_byte (encode c) ≡ true → list_all is_text_unit (encode_utf16 c) ≡ true
+char_text c h = ⊎_elim
+    (λ a. subst (λ l. list_all is_text_unit l ≡ true) (sym (one_unit c (omega (arith, a)))) (ascii_text c (subst (λ l. list_all is_quoted_byte l ≡ true) (encode_ascii c a) h)))
+    (λ a. ⊎_elim (λ b. subst (λ l. list_all is_text_unit l ≡ true) (sym (one_unit c b)) (one_text c a))
+    (λ b. subst (λ l. list_all is_text_unit l ≡ true) (sym (two_units c b)) (two_text (0xD800 + (c - 65536) / 0x400) (0xDC00 + (c - 65536) % 0x400) (omega arith) (omega arith)))
+    (cases_lt c 65536))
+    (cases_lt c 128)
+
+step : (p : Bool → Bool) (low high : Bool) → low ≡ false → high ≡ false → p false ≡ true → (beq low false && p high) ≡ true
+step p low high l h k = rw (l) rw (h) k
+
+steps : (p : Bool → Bool) (low high low_next high_next : Bool) → low ≡ false → high ≡ true → low_next ≡ true → high_next ≡ false → p false ≡ true
+    → (beq low false && (beq low_next high && p high_next)) ≡ true
+steps p low high low_next high_next l h m n k = rw (l) rw (h) rw (m) rw (n) k
+
+paired_one : (c : ℕ) (us : List ℕ) → (c < 55296) ⊎ ((57344 ≤ c) × (c < 1114112)) → is_paired false us ≡ true → is_paired false (c ∷ us) ≡ true
+paired_one c us s k = step (λ b. is_paired b us) (is_low c) (is_high c)
+    (⊎_elim (λ a. grind (arith, nat_tests)) (λ a. grind (arith, nat_tests)) s) (⊎_elim (λ a. grind (arith, nat_tests)) (λ a. grind (arith, nat_tests)) s) k
+
+paired_two : (h l : ℕ) (us : List ℕ) → 0xD800 ≤ h → h ≤ 0xDBFF → 0xDC00 ≤ l → l ≤ 0xDFFF → is_paired false us ≡ true → is_paired false (h ∷ l ∷ us) ≡ true
+paired_two h l us a b c d k = steps (λ t. is_paired t us) (is_low h) (is_high h) (is_low l) (is_high l)
+    (grind (arith, nat_tests)) (grind (arith, nat_tests)) (grind (arith, nat_tests)) (grind (arith, nat_tests)) k
+
+paired : (c : ℕ) (us : List ℕ) → scalar c ≡ true → is_paired false us ≡ true → is_paired false (encode_utf16 c ++ us) ≡ true
+paired c us s k = ⊎_elim
+    (λ b. subst (λ l. is_paired false (l ++ us) ≡ true) (sym (one_unit c b)) (paired_one c us (scalar_cases c s) k))
+    (λ b. subst (λ l. is_paired false (l ++ us) ≡ true) (sym (two_units c b))
+    (paired_two (0xD800 + (c - 65536) / 0x400) (0xDC00 + (c - 65536) % 0x400) us (omega arith) (within c (scalar_cases c s)) (omega arith) (omega arith) k))
+    (cases_lt c 65536)
+  where
+    within : (c : ℕ) → (c < 55296) ⊎ ((57344 ≤ c) × (c < 1114112)) → 0xD800 + (c - 65536) / 0x400 ≤ 0xDBFF
+    within c s = ⊎_elim (λ a. omega (arith, a)) (λ a. omega (arith, a.1)) s
+
+text : (cs : List ℕ) → scalars cs ≡ true → list_all is_quoted_byte (encodes cs) ≡ true
+    → (list_all is_text_unit (utf16_of cs) ≡ true) × (is_paired false (utf16_of cs) ≡ true)
+text [] s h = (refl, refl)
+text (c ∷ cs) s h =
+    let split : (list_all is_quoted_byte (encode c) && list_all is_quoted_byte (encodes cs)) ≡ true = sym (list_all-append is_quoted_byte (encode c) (encodes cs)) ∙ h in
+    let later = text cs (right (scalar c) (scalars cs) s) (right _ _ split) in (
+      list_all-append is_text_unit (encode_utf16 c) (utf16_of cs) ∙ both _ _ (char_text c (left _ _ split)) later.0,
+      paired c (utf16_of cs) (left (scalar c) (scalars cs) s) later.1,
+    )
+
+-- the string that stands between two quotes is text, with no surrogate alone
+pub quoted_is_text : (q : List ℕ) → IsUtf8 q → list_all is_quoted_byte q ≡ true
+    → (list_all is_text_unit (string_of q) ≡ true) × (is_paired false (string_of q) ≡ true)
+quoted_is_text q u h =
+    let cs_is : u.0 ≡ chars q = sym (chars-encodes u.0 u.1.0) ∙ ap chars u.1.1 in
+    subst (λ cs. (list_all is_text_unit (utf16_of cs) ≡ true) × (is_paired false (utf16_of cs) ≡ true)) cs_is
+    (text u.0 u.1.0 (subst (λ b. list_all is_quoted_byte b ≡ true) (sym u.1.1) h))

@@ -1,0 +1,12 @@
+use Rattle.sb_ruletext.proofs.PrintedTexts.{printed_read}
+use Rattle.sb_ruletext.proofs.printing_laws.printed_policies_are_read.Goals as goal
+
+pub returns : goal.returns
+returns c =
+    printed_read (record {
+      utf8 = c.not_utf8_line_tells.ensures;
+      lines = c.written_lines_are_read.ensures;
+      tokens = c.written_tokens_are_read.ensures;
+      numbers = c.hexadecimals_are_read.ensures;
+      patterns = λ cells h. (c.texts_and_patterns.ensures.patterns cells).0 h;
+    })

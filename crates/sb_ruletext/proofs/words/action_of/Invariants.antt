@@ -1,0 +1,7 @@
+use Rattle.std.proofs.Common.{◌≡◌, drop}
+use Rattle.sb_ruletext.specs.Words.{action_word, actions_of, action_of, named}
+use Rattle.sb_ruletext.proofs.words.action_of.Given as goal
+
+-- the action is one of those that are left
+abbrev pub invariant-loop-action : goal.invariant-loop-action
+invariant-loop-action l = named action_word (drop l.action-index (actions_of l.version)) l.word ≡ action_of l.version l.word

@@ -1,0 +1,20 @@
+-- The faults of policy texts.
+use Rattle.std.specs.Prelude.{ℕ}
+use Rattle.sb_ruletext.specs.declared.faults.TextKind.{TextKind}
+use Rattle.sb_ruletext.specs.declared.faults.TextKind.TheVariants.{NotUtf8, BadVersion, UnknownWord, UnknownCall, UnknownParam, WrongKind, BadNumber, EmptyRange, BadPattern, TooMany, SameName, NoHeading, NotReadOnly}
+
+-- the number of a kind of fault
+abbrev pub kind_number : TextKind → ℕ
+kind_number NotUtf8 = 1
+kind_number BadVersion = 2
+kind_number UnknownWord = 3
+kind_number UnknownCall = 4
+kind_number UnknownParam = 5
+kind_number WrongKind = 6
+kind_number BadNumber = 7
+kind_number EmptyRange = 8
+kind_number (BadPattern fault) = 9
+kind_number TooMany = 10
+kind_number SameName = 11
+kind_number NoHeading = 12
+kind_number NotReadOnly = 13

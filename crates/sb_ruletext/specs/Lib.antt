@@ -1,0 +1,12 @@
+pub mod Words
+pub mod Kinds
+pub mod Steps
+pub mod LineTokens
+pub mod Conditions
+pub mod Grants
+pub mod Lines
+pub mod Drafts
+pub mod PolicyTexts
+pub mod Printing
+pub mod PrintingLaws
+pub mod Laws

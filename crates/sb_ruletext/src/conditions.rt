@@ -1,0 +1,315 @@
+// Reading conditions: COND and COND .., each a parameter, a test word and a value.
+ghost use Rattle.std.specs.Prelude.{◌≡◌, ◌≤◌, ◌<◌, length, true, false, None, Some, IfOk, MatchOption};
+ghost use Rattle.std.specs.List.{list_all};
+ghost use Rattle.sb_call.specs.Tags.{shape_of};
+ghost use Rattle.sb_rule.specs.WellMade.{is_policy_text, is_like_text, is_sensible, is_number_test, is_well_formed};
+ghost use Rattle.sb_ruletext.specs.Conditions.{number_at, numbers_at, after_dots, around_dots, range_of, range_at, pattern, string, string_at, pattern_at, is_at, in_at, has_at, like_at, test_at, parameter_at, is_number_at, plain_condition_at, condition_at, conditions_of};
+ghost use Rattle.sb_ruletext.specs.Steps.{Gives, Reads};
+ghost use Rattle.sb_text.specs.TokenLaws.{is_quoted_byte};
+
+use crate::faults::{LineRefused, TextKind};
+use crate::line_tokens::LineTokens;
+use crate::words::parameter_of;
+use sb_call::{CallTag, ParamKind, shape};
+use sb_pattern::{Pattern, PatternFault, PatternRefused, texts_and_patterns};
+use sb_rule::{Cond, Conds, Numbers, Test};
+use sb_text::{Token, number_of, string_of};
+use sb_wide::Wide;
+use std::alloc::Global;
+
+const MOST_CONDITIONS: usize = 8;
+
+const MOST_NUMBERS: usize = 16;
+
+const MOST_UNITS: usize = 256;
+
+// N: a number.
+fn number_at(tokens: &mut LineTokens) -> Result<u64, LineRefused>
+    ensures { Reads (number_at tokens.old) result tokens.new }
+{
+    match tokens.next_token() {
+        Some(Token::Word(word)) => number_of(word).ok_or(LineRefused::Fault(TextKind::BadNumber)),
+        Some(Token::Quoted(_)) => Err(LineRefused::Fault(TextKind::WrongKind)),
+        Some(Token::Bad) | None => Err(LineRefused::Fault(TextKind::UnknownWord)),
+    }
+}
+
+// N or N ..
+#[tactic(auto, using(crate::proofs::Joined::numbers_bad, crate::proofs::Joined::numbers_last, crate::proofs::Joined::numbers_more, crate::proofs::Joined::numbers_full))]
+fn numbers_at(alloc: Global, tokens: &mut LineTokens) -> Result<Numbers, LineRefused>
+    ensures read { Reads (numbers_at 16 tokens.old) result tokens.new }
+    ensures some { IfOk result (λ numbers. 0 < length numbers) }
+    ensures few { IfOk result (λ numbers. length numbers ≤ 16) }
+{
+    let mut numbers = Numbers::new(Vec::new(alloc));
+    while numbers.len() < MOST_NUMBERS {
+        numbers.push(number_at(tokens)?)?;
+        if !tokens.pass_word(b"or") {
+            return Ok(numbers);
+        }
+    }
+    Err(LineRefused::Fault(tokens.excess()))
+}
+
+// What follows `..`, where the bytes begin with it.
+fn after_dots(bytes: &[u8]) -> Option<&[u8]>
+    ensures { MatchOption result (after_dots bytes.now ≡ None) (λ after. after_dots bytes.now ≡ Some after.now) }
+{
+    match bytes {
+        [b'.', b'.', after @ ..] => Some(after),
+        _ => None,
+    }
+}
+
+// What stands before the first `..` of a word, and what stands after it.
+#[tactic(auto, using(crate::proofs::Dots::passed_one, crate::proofs::Dots::found_here, crate::proofs::Dots::found_nowhere))]
+fn around_dots(word: &[u8]) -> Option<(&[u8], &[u8])>
+    ensures { MatchOption result (around_dots word.now ≡ None) (λ ends. around_dots word.now ≡ Some (ends.0.now, ends.1.now)) }
+{
+    let mut passed = 0;
+    while passed < word.len() {
+        let (before, rest) = word.split_at(passed);
+        if let Some(after) = after_dots(rest) {
+            return Some((before, after));
+        }
+        passed += 1;
+    }
+    None
+}
+
+// LO..HI: two numbers joined by `..`.
+fn range_of(word: &[u8]) -> Result<Test, LineRefused>
+    ensures range { Gives (range_of word.now) result }
+    ensures sensible { IfOk result (λ test. is_sensible test ≡ true) }
+    ensures number { IfOk result (λ test. is_number_test test ≡ true) }
+{
+    let (low, high) = around_dots(word).ok_or(LineRefused::Fault(TextKind::BadNumber))?;
+    let lo = number_of(low).ok_or(LineRefused::Fault(TextKind::BadNumber))?;
+    let hi = number_of(high).ok_or(LineRefused::Fault(TextKind::BadNumber))?;
+    if lo <= hi {
+        Ok(Test::Range { lo, hi })
+    } else {
+        Err(LineRefused::Fault(TextKind::EmptyRange))
+    }
+}
+
+// LO..HI as one word.
+fn range_at(tokens: &mut LineTokens) -> Result<Test, LineRefused>
+    ensures read { Reads (range_at tokens.old) result tokens.new }
+    ensures sensible { IfOk result (λ test. is_sensible test ≡ true) }
+    ensures number { IfOk result (λ test. is_number_test test ≡ true) }
+{
+    match tokens.next_token() {
+        Some(Token::Word(word)) => range_of(word),
+        Some(Token::Quoted(_)) => Err(LineRefused::Fault(TextKind::WrongKind)),
+        Some(Token::Bad) | None => Err(LineRefused::Fault(TextKind::UnknownWord)),
+    }
+}
+
+// What stands between quotes, as a string of a policy.
+#[tactic(auto, using(crate::proofs::Strings::quoted_is_text, crate::proofs::Patterns::short_text))]
+fn string(alloc: Global, quoted: &str) -> Result<Wide, LineRefused>
+    requires { list_all is_quoted_byte quoted.now ≡ true }
+    ensures string { Gives (string quoted.now) result }
+    ensures text { IfOk result (λ text. is_policy_text text ≡ true) }
+{
+    let text = string_of(alloc, quoted)?;
+    if text.len() > MOST_UNITS {
+        return Err(LineRefused::Fault(TextKind::BadPattern(PatternFault::TooLong)));
+    }
+    Ok(text)
+}
+
+/// What stands between quotes, as a pattern.
+#[tactic(auto, using(crate::proofs::Strings::quoted_is_text, crate::proofs::Patterns::read_like))]
+pub(crate) fn pattern(alloc: Global, quoted: &str) -> Result<Pattern, LineRefused>
+    requires { list_all is_quoted_byte quoted.now ≡ true }
+    ensures pattern { Gives (pattern quoted.now) result }
+    ensures text { IfOk result (λ cells. is_like_text cells ≡ true) }
+{
+    texts_and_patterns();
+    let text = string_of(alloc, quoted)?;
+    match Pattern::read(alloc, text.as_units()) {
+        Ok(pattern) => Ok(pattern),
+        Err(PatternRefused::Fault(fault)) => Err(LineRefused::Fault(TextKind::BadPattern(fault))),
+        Err(PatternRefused::NoMemory) => Err(LineRefused::NoMemory),
+    }
+}
+
+// "S": a string.
+fn string_at(alloc: Global, tokens: &mut LineTokens) -> Result<Test, LineRefused>
+    ensures read { Reads (string_at tokens.old) result tokens.new }
+    ensures sensible { IfOk result (λ test. is_sensible test ≡ true) }
+    ensures string { IfOk result (λ test. is_number_test test ≡ false) }
+{
+    match tokens.next_token() {
+        Some(Token::Quoted(quoted)) => Ok(Test::Equal(string(alloc, quoted)?)),
+        Some(Token::Word(_)) => Err(LineRefused::Fault(TextKind::WrongKind)),
+        Some(Token::Bad) | None => Err(LineRefused::Fault(TextKind::UnknownWord)),
+    }
+}
+
+// "P": a pattern.
+fn pattern_at(alloc: Global, tokens: &mut LineTokens) -> Result<Test, LineRefused>
+    ensures read { Reads (pattern_at tokens.old) result tokens.new }
+    ensures sensible { IfOk result (λ test. is_sensible test ≡ true) }
+    ensures string { IfOk result (λ test. is_number_test test ≡ false) }
+{
+    match tokens.next_token() {
+        Some(Token::Quoted(quoted)) => Ok(Test::Like(pattern(alloc, quoted)?)),
+        Some(Token::Word(_)) => Err(LineRefused::Fault(TextKind::WrongKind)),
+        Some(Token::Bad) | None => Err(LineRefused::Fault(TextKind::UnknownWord)),
+    }
+}
+
+// The value of `is`.
+fn is_at(alloc: Global, is_number: bool, tokens: &mut LineTokens) -> Result<Test, LineRefused>
+    ensures read { Reads (is_at is_number tokens.old) result tokens.new }
+    ensures sensible { IfOk result (λ test. is_sensible test ≡ true) }
+    ensures kind { IfOk result (λ test. is_number_test test ≡ is_number) }
+{
+    if is_number {
+        Ok(Test::OneOf(numbers_at(alloc, tokens)?))
+    } else {
+        string_at(alloc, tokens)
+    }
+}
+
+// The value of `in`.
+fn in_at(is_number: bool, tokens: &mut LineTokens) -> Result<Test, LineRefused>
+    ensures read { Reads (in_at is_number tokens.old) result tokens.new }
+    ensures sensible { IfOk result (λ test. is_sensible test ≡ true) }
+    ensures kind { IfOk result (λ test. is_number_test test ≡ is_number) }
+{
+    if is_number {
+        range_at(tokens)
+    } else {
+        Err(LineRefused::Fault(TextKind::WrongKind))
+    }
+}
+
+// The value of `has`.
+fn has_at(is_number: bool, tokens: &mut LineTokens) -> Result<Test, LineRefused>
+    ensures read { Reads (has_at is_number tokens.old) result tokens.new }
+    ensures sensible { IfOk result (λ test. is_sensible test ≡ true) }
+    ensures kind { IfOk result (λ test. is_number_test test ≡ is_number) }
+{
+    if is_number {
+        Ok(Test::Mask(number_at(tokens)?))
+    } else {
+        Err(LineRefused::Fault(TextKind::WrongKind))
+    }
+}
+
+// The value of `like`.
+fn like_at(alloc: Global, is_number: bool, tokens: &mut LineTokens) -> Result<Test, LineRefused>
+    ensures read { Reads (like_at is_number tokens.old) result tokens.new }
+    ensures sensible { IfOk result (λ test. is_sensible test ≡ true) }
+    ensures kind { IfOk result (λ test. is_number_test test ≡ is_number) }
+{
+    if is_number {
+        Err(LineRefused::Fault(TextKind::WrongKind))
+    } else {
+        pattern_at(alloc, tokens)
+    }
+}
+
+// A test word, and a value that fits it.
+#[tactic(auto, unfolding(crate::specs::Conditions::test_at))]
+fn test_at(alloc: Global, is_number: bool, tokens: &mut LineTokens) -> Result<Test, LineRefused>
+    ensures read { Reads (test_at is_number tokens.old) result tokens.new }
+    ensures sensible { IfOk result (λ test. is_sensible test ≡ true) }
+    ensures kind { IfOk result (λ test. is_number_test test ≡ is_number) }
+{
+    let Some(Token::Word(word)) = tokens.next_token() else {
+        return Err(LineRefused::Fault(TextKind::UnknownWord));
+    };
+    if word == b"is".as_slice() {
+        is_at(alloc, is_number, tokens)
+    } else if word == b"in".as_slice() {
+        in_at(is_number, tokens)
+    } else if word == b"has".as_slice() {
+        has_at(is_number, tokens)
+    } else if word == b"like".as_slice() {
+        like_at(alloc, is_number, tokens)
+    } else {
+        Err(LineRefused::Fault(TextKind::UnknownWord))
+    }
+}
+
+// The name of a parameter of the call.
+fn parameter_at(tag: CallTag, tokens: &mut LineTokens) -> Result<u32, LineRefused>
+    ensures read { Reads (parameter_at tag tokens.old) result tokens.new }
+    ensures within { IfOk result (λ param. param < length (shape_of tag)) }
+{
+    match tokens.next_token() {
+        Some(Token::Word(word)) => parameter_of(tag, word).ok_or(LineRefused::Fault(
+            TextKind::UnknownParam,
+        )),
+        Some(Token::Quoted(_)) => Err(LineRefused::Fault(TextKind::UnknownParam)),
+        Some(Token::Bad) | None => Err(LineRefused::Fault(TextKind::UnknownWord)),
+    }
+}
+
+// Whether the parameter of a call is a number.
+fn is_number_at(tag: CallTag, param: u32) -> bool
+    ensures { result ≡ is_number_at tag param }
+{
+    match shape(tag).get(param as usize) {
+        Some(ParamKind::Text) | Some(ParamKind::Name) => false,
+        Some(ParamKind::Num) | Some(ParamKind::Handle) | None => true,
+    }
+}
+
+// A parameter, a test word and a value.
+fn plain_condition_at(
+    alloc: Global,
+    negated: bool,
+    tag: CallTag,
+    tokens: &mut LineTokens,
+) -> Result<Cond, LineRefused>
+    ensures read { Reads (plain_condition_at negated tag tokens.old) result tokens.new }
+    ensures well_formed { IfOk result (λ cond. is_well_formed tag cond ≡ true) }
+{
+    let param = parameter_at(tag, tokens)?;
+    let test = test_at(alloc, is_number_at(tag, param), tokens)?;
+    Ok(Cond {
+        param,
+        negated,
+        test,
+    })
+}
+
+// COND: an optional `not` before them.
+#[tactic(auto, unfolding(crate::specs::Conditions::condition_at))]
+fn condition_at(alloc: Global, tag: CallTag, tokens: &mut LineTokens) -> Result<Cond, LineRefused>
+    ensures read { Reads (condition_at tag tokens.old) result tokens.new }
+    ensures well_formed { IfOk result (λ cond. is_well_formed tag cond ≡ true) }
+{
+    let negated = tokens.pass_word(b"not");
+    plain_condition_at(alloc, negated, tag, tokens)
+}
+
+/// COND and COND .., up to the line's end.
+#[tactic(auto, using(crate::proofs::Joined::conditions_bad, crate::proofs::Joined::conditions_last, crate::proofs::Joined::conditions_other, crate::proofs::Joined::conditions_more, crate::proofs::Joined::conditions_full))]
+pub(crate) fn conditions_of(
+    alloc: Global,
+    tag: CallTag,
+    tokens: &mut LineTokens,
+) -> Result<Conds, LineRefused>
+    ensures read { Gives (conditions_of 8 tag tokens.old) result }
+    ensures few { IfOk result (λ conds. length conds ≤ 8) }
+    ensures well_formed { IfOk result (λ conds. list_all (is_well_formed tag) conds ≡ true) }
+{
+    let mut conds = Conds::new(Vec::new(alloc));
+    while conds.len() < MOST_CONDITIONS {
+        conds.push(condition_at(alloc, tag, tokens)?)?;
+        if tokens.is_end() {
+            return Ok(conds);
+        }
+        if !tokens.pass_word(b"and") {
+            return Err(LineRefused::Fault(TextKind::UnknownWord));
+        }
+    }
+    Err(LineRefused::Fault(tokens.excess()))
+}

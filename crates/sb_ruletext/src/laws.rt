@@ -1,0 +1,35 @@
+// Laws of policy texts. None of these functions does anything: each contract is a law.
+ghost use Rattle.sb_ruletext.specs.Laws.{FirstFaultsStay, LinesBeforeAreRead, SilentTextsLackAVersion, SkippedLinesCountAlone};
+
+use sb_text::{lines_append, numbers_are_within, saying_lines_append, written_lines_are_read};
+
+/// A fault on one of the first lines of a text, some of which say something, is that of each text that begins with these
+/// lines: a fault depends on its line and on those before it alone.
+pub fn first_faults_stay()
+    ensures { FirstFaultsStay }
+{
+    saying_lines_append();
+}
+
+/// The lines before the one with the fault, where some of them say something, are read as policies.
+pub fn lines_before_are_read()
+    ensures { LinesBeforeAreRead }
+{
+    saying_lines_append();
+    numbers_are_within();
+}
+
+/// A text whose lines all say nothing lacks a version, on line 1.
+pub fn silent_texts_lack_a_version()
+    ensures { SilentTextsLackAVersion }
+{}
+
+/// A line that says nothing may be put in anywhere below the version line, and changes nothing but numbers of lines.
+pub fn skipped_lines_count_alone()
+    ensures { SkippedLinesCountAlone }
+{
+    saying_lines_append();
+    lines_append();
+    written_lines_are_read();
+    numbers_are_within();
+}

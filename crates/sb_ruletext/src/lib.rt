@@ -1,0 +1,29 @@
+// Policies as the texts that people write: reading them, with the first fault and its line. A text means one list of
+// policies or it has one first fault; what is read is well made.
+#![tactic(auto)]
+
+mod conditions;
+mod drafts;
+mod faults;
+mod grants;
+mod laws;
+mod line_tokens;
+mod lines;
+mod policy_texts;
+mod printing;
+mod printing_laws;
+#[cfg(test)]
+mod printing_tests;
+#[cfg(test)]
+mod tests;
+mod values;
+mod words;
+
+pub use faults::{TextFault, TextKind, TextRefused};
+pub use laws::{
+    first_faults_stay, lines_before_are_read, silent_texts_lack_a_version,
+    skipped_lines_count_alone,
+};
+pub use policy_texts::read_policies;
+pub use printing::print_policies;
+pub use printing_laws::printed_policies_are_read;
