@@ -1,7 +1,7 @@
 // Files that are not there, are too long, or are not read.
 
 use crate::first_path::{POLICY, SCRIPT, TRANSCRIPT};
-use crate::runs::{Outside, REPLAY, SOUND, filled, is_refusal, replay, run_words};
+use crate::runs::{CHECK, Outside, REPLAY, SOUND, check, filled, is_refusal, replay, run_words};
 use sb_top::Status;
 use sb_wide::NoMemory;
 
@@ -14,6 +14,8 @@ fn each_file_must_be_there(rt: HostRuntime) -> Result<(), NoMemory> {
     assert!(rt; is_refusal(&run, Status::Missing { which: 1 }, 1));
     let run = run_words(rt.alloc(), &REPLAY, Some(POLICY), None, SOUND)?;
     assert!(rt; is_refusal(&run, Status::Missing { which: 2 }, 2));
+    let run = run_words(rt.alloc(), &CHECK, None, Some(SCRIPT), SOUND)?;
+    assert!(rt; is_refusal(&run, Status::Missing { which: 1 }, 1));
     Ok(())
 }
 
@@ -27,6 +29,12 @@ fn a_failed_read_names_its_file(rt: HostRuntime) -> Result<(), NoMemory> {
         let run = run_words(rt.alloc(), &REPLAY, Some(POLICY), Some(SCRIPT), outside)?;
         assert!(rt; is_refusal(&run, Status::ReadFault { which }, failing_read));
     }
+    let outside = Outside {
+        failing_read: 1,
+        ..SOUND
+    };
+    let run = run_words(rt.alloc(), &CHECK, Some(POLICY), None, outside)?;
+    assert!(rt; is_refusal(&run, Status::ReadFault { which: 1 }, 1));
     Ok(())
 }
 
@@ -46,6 +54,8 @@ fn a_file_may_have_4_194_304_bytes(rt: HostRuntime) -> Result<(), NoMemory> {
 fn a_file_of_one_byte_more_is_too_long(rt: HostRuntime) -> Result<(), NoMemory> {
     let policy = filled(rt.alloc(), POLICY, MOST_BYTES + 1)?;
     let run = replay(rt.alloc(), &policy, SCRIPT)?;
+    assert!(rt; is_refusal(&run, Status::TooLong { which: 1 }, 1));
+    let run = check(rt.alloc(), &policy)?;
     assert!(rt; is_refusal(&run, Status::TooLong { which: 1 }, 1));
     let script = filled(rt.alloc(), SCRIPT, MOST_BYTES + 1)?;
     let run = replay(rt.alloc(), POLICY, &script)?;

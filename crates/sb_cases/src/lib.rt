@@ -3,6 +3,10 @@
 #![tactic(auto)]
 
 #[cfg(test)]
+mod checks;
+#[cfg(test)]
+mod decisions;
+#[cfg(test)]
 mod files;
 #[cfg(test)]
 mod first_path;
@@ -10,6 +14,10 @@ mod first_path;
 mod meanings;
 #[cfg(test)]
 mod outputs;
+#[cfg(test)]
+mod policy_faults;
+#[cfg(test)]
+mod policy_limits;
 #[cfg(test)]
 mod refusals;
 #[cfg(test)]

@@ -1,4 +1,4 @@
-// Texts of forms that are not read.
+// Scripts of forms that are not read.
 
 use crate::first_path::{POLICY, SCRIPT};
 use crate::runs::{is_refusal, repeated, replay};
@@ -6,44 +6,10 @@ use sb_top::Status;
 use sb_wide::NoMemory;
 use std::alloc::Global;
 
-// Whether this policy is refused, before the script is read.
-fn is_refused_policy(alloc: Global, policy: &[u8]) -> Result<bool, NoMemory> {
-    let run = replay(alloc, policy, SCRIPT)?;
-    Ok(is_refusal(&run, Status::NotYet { which: 1 }, 1))
-}
-
 // Whether this script is refused, after a policy that is read.
 fn is_refused_script(alloc: Global, script: &[u8]) -> Result<bool, NoMemory> {
     let run = replay(alloc, POLICY, script)?;
     Ok(is_refusal(&run, Status::NotYet { which: 2 }, 2))
-}
-
-#[test]
-fn other_policies_are_refused(rt: HostRuntime) -> Result<(), NoMemory> {
-    let cases: [&[u8]; 9] = [
-        b"",
-        b"sandbox-policy 3\npolicy web\nallow event.create when name is \"\\good\"\n",
-        b"sandbox-policy 1\nallow event.create when name is \"\\good\"\n",
-        b"sandbox-policy 1\npolicy web\npermit event.create when name is \"\\good\"\n",
-        b"sandbox-policy 1\npolicy web\nallow event.create when name is \"\\good\" now\n",
-        b"sandbox-policy 1\npolicy web\nallow event.create when name is \\good\n",
-        b"sandbox-policy 1\npolicy web\nallow event.create when name is \"\\good\n",
-        b"sandbox-policy 1\npolicy web\nallow event.create when name is \"\\good\"x\n",
-        b"sandbox-policy 1\npolicy web\nallow event.create when name is \"\\go\xffd\"\n",
-    ];
-    for policy in cases {
-        assert!(rt; is_refused_policy(rt.alloc(), policy)?);
-    }
-    let rule = b"allow event.create when name is \"\\good\"\n";
-    let policy = repeated(
-        rt.alloc(),
-        b"sandbox-policy 1\npolicy web\n",
-        rule,
-        257,
-        b"",
-    )?;
-    assert!(rt; is_refused_policy(rt.alloc(), &policy)?);
-    Ok(())
 }
 
 #[test]

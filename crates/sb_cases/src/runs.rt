@@ -8,6 +8,9 @@ use std::alloc::Global;
 /// The words of a replay of the files `policy` and `script`.
 pub const REPLAY: [&str; 3] = ["replay", "policy", "script"];
 
+/// The words of a check of the file `policy`.
+pub const CHECK: [&str; 2] = ["check", "policy"];
+
 /// What goes wrong outside: a read and a put of these numbers, from 1, and the bytes that the output takes.
 #[derive(Clone, Copy, Debug)]
 pub struct Outside {
@@ -97,6 +100,11 @@ pub fn run_words(
 /// A replay of these two texts, where nothing goes wrong outside.
 pub fn replay(alloc: Global, policy: &[u8], script: &[u8]) -> Result<Run, NoMemory> {
     run_words(alloc, &REPLAY, Some(policy), Some(script), SOUND)
+}
+
+/// A check of this text, where nothing goes wrong outside.
+pub fn check(alloc: Global, policy: &[u8]) -> Result<Run, NoMemory> {
+    run_words(alloc, &CHECK, Some(policy), None, SOUND)
 }
 
 /// Whether a run ended with this status after so many reads, with no report and nothing put.

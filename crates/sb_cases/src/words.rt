@@ -7,7 +7,7 @@ use sb_wide::NoMemory;
 
 #[test]
 fn other_words_are_no_command(rt: HostRuntime) -> Result<(), NoMemory> {
-    let cases: [&[&str]; 12] = [
+    let cases: [&[&str]; 16] = [
         &[],
         &["replay"],
         &["replay", "policy"],
@@ -20,6 +20,10 @@ fn other_words_are_no_command(rt: HostRuntime) -> Result<(), NoMemory> {
         &["replay", "policy", ""],
         &["replay", "-policy", "script"],
         &["replay", "policy", "-"],
+        &["check"],
+        &["check", ""],
+        &["check", "-policy"],
+        &["check", "policy", "script"],
     ];
     for words in cases {
         let run = run_words(rt.alloc(), words, Some(POLICY), Some(SCRIPT), SOUND)?;

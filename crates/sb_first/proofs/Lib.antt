@@ -1,4 +1,2 @@
 pub mod Afters
 pub mod Fitting
-pub mod Strings
-pub mod WellMade

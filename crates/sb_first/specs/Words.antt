@@ -1,4 +1,4 @@
--- What the lines of both texts have in common.
+-- The words of a line.
 use Rattle.std.specs.Prelude.{ℕ, Bool, false, ◌&&◌, nat_eq, List, [], ◌∷◌, Option, None, Some, if◌then◌else◌, codes}
 use Rattle.std.specs.Cmp.Lexicographic.{pointwise}
 use Rattle.sb_call.specs.ShortNames.{is_short_name}
@@ -8,10 +8,10 @@ use Rattle.sb_text.specs.Tokens.{Lexeme, Word}
 abbrev pub is_word : List ℕ → List ℕ → Bool
 is_word expected word = pointwise nat_eq word expected
 
--- a line of the word for a kind of text, and `1`
-abbrev pub is_version : List ℕ → List Lexeme → Bool
-is_version kind (Word word ∷ Word number ∷ []) = is_word kind word && is_word (codes "1") number
-is_version kind _ = false
+-- the line `sandbox-script 1`
+abbrev pub is_version : List Lexeme → Bool
+is_version (Word word ∷ Word number ∷ []) = is_word (codes "sandbox-script") word && is_word (codes "1") number
+is_version _ = false
 
 -- the short name that a word is
 abbrev pub name_of : List ℕ → Option (List ℕ)

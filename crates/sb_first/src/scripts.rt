@@ -1,9 +1,10 @@
 // Reading script texts.
 ghost use Rattle.std.specs.Prelude.{◌≡◌, ◌<◌, ◌≤◌, ◌^◌, [], length, true, IfOk, IfSome};
 ghost use Rattle.std.specs.List.{list_all};
+ghost use Rattle.sb_rule.specs.WellMade.{is_named};
 ghost use Rattle.sb_text.specs.Numbers.{number_of};
 ghost use Rattle.sb_text.specs.Tokens.{tokens_of, string_of};
-ghost use Rattle.sb_first.specs.Scripts.{number_32, is_event_name, creating, call_by, calls_of, is_one, target_of, is_thread, one_target, script_by, script_of, is_fitting, is_one_target};
+ghost use Rattle.sb_first.specs.Scripts.{number_32, is_event_name, creating, call_by, calls_of, is_one, policy_number, both, target_of, is_thread, one_target, script_by, script_of, is_fitting, is_one_target, are_judged};
 
 use crate::words::{is_version, name_of};
 use sb_call::{
@@ -21,29 +22,38 @@ const MOST_UNITS: usize = 172;
 
 const PATIENCE: u32 = 10_000;
 
-/// The script of a text, where it has one. The text has fewer than 2^32 bytes. Of the policy only its name counts.
+/// The script of a text, where it has one. The text has fewer than 2^32 bytes. Of the policies only the names count.
 ///
 /// It has a script where it is UTF-8 and its lines that say something are `sandbox-script 1`, then `target NAME POLICY 1`
-/// with a short name and the name of the policy, then `thread`, then at most 4,096 lines `call event.create "N" K I`, where
+/// with a short name and the name of a policy, then `thread`, then at most 4,096 lines `call event.create "N" K I`, where
 /// N is a name of at most 172 UTF-16 units and K and I are numbers below 2^32. The script has a patience of 10,000, nothing
-/// at the start, and one target with policy 0, one channel and one thread of these calls.
+/// at the start, and one target with the number of the first policy of that name, from 0, one channel and one thread of
+/// these calls.
 ///
 /// # Errors
 /// `NoMemory` where there was none for the script.
-pub fn read_script(alloc: Global, text: &[u8], policy: &Policy) -> Result<Option<Script>, NoMemory>
-    requires { length text.now < 2 ^ 32 }
-    ensures value { IfOk result (λ script. script ≡ script_of text.now policy.now) }
+pub fn read_script(
+    alloc: Global,
+    text: &[u8],
+    policies: &[Policy],
+) -> Result<Option<Script>, NoMemory>
+    requires short { length text.now < 2 ^ 32 }
+    requires few { length policies.now < 2 ^ 32 }
+    ensures value { IfOk result (λ script. script ≡ script_of text.now policies.now) }
     ensures fitting { IfOk result (λ read. IfSome read (λ script. is_one_target script.targets ≡ true)) }
+    ensures judged { IfOk result (λ read. IfSome read (λ script. are_judged (length policies.now) script.targets ≡ true)) }
 {
     match text_of(text) {
-        Ok(text) => script_by(alloc, policy.name.bytes(), Lines::new(text)),
+        Ok(text) => script_by(alloc, policies, Lines::new(text)),
         Err(_) => Ok(None),
     }
 }
 
-fn script_by(alloc: Global, policy: &[u8], lines: Lines) -> Result<Option<Script>, NoMemory>
-    ensures value { IfOk result (λ script. script ≡ script_by policy.now lines.entry) }
+fn script_by(alloc: Global, policies: &[Policy], lines: Lines) -> Result<Option<Script>, NoMemory>
+    requires { length policies.now < 2 ^ 32 }
+    ensures value { IfOk result (λ script. script ≡ script_by policies.now lines.entry) }
     ensures fitting { IfOk result (λ read. IfSome read (λ script. is_one_target script.targets ≡ true)) }
+    ensures judged { IfOk result (λ read. IfSome read (λ script. are_judged (length policies.now) script.targets ≡ true)) }
 {
     let mut lines = lines;
     let version = lines.next_line();
@@ -52,14 +62,14 @@ fn script_by(alloc: Global, policy: &[u8], lines: Lines) -> Result<Option<Script
     let (Some(version), Some(target), Some(thread)) = (version, target, thread) else {
         return Ok(None);
     };
-    if !is_version(b"sandbox-script", &version) || !is_thread(&thread) {
+    if !is_version(&version) || !is_thread(&thread) {
         return Ok(None);
     }
-    let Some(name) = target_of(policy, &target) else {
+    let Some(target) = target_of(policies, &target) else {
         return Ok(None);
     };
     match calls_of(alloc, lines)? {
-        Some(calls) => Ok(Some(one_target(alloc, name, calls)?)),
+        Some(calls) => Ok(Some(one_target(alloc, target, calls)?)),
         None => Ok(None),
     }
 }
@@ -73,8 +83,36 @@ fn is_one(number: Option<u64>) -> bool
     }
 }
 
-fn target_of(policy: &[u8], line: &Line) -> Option<ShortName>
-    ensures { result ≡ target_of policy.now (tokens_of line.now.text.now) }
+fn is_named(name: &[u8], policy: &Policy) -> bool
+    ensures { result ≡ is_named name.now policy.now }
+{
+    policy.name.bytes() == name
+}
+
+// The number of the first policy of this name, from 0.
+fn policy_number(name: &[u8], policies: &[Policy]) -> Option<usize>
+    ensures value { result ≡ policy_number name.now policies.now }
+    ensures below { IfSome result (λ n. n < length policies.now) }
+{
+    policies.iter().position(|policy| is_named(name, policy))
+}
+
+// A name and a number, where both are there.
+fn both(name: Option<ShortName>, number: Option<usize>) -> Option<(ShortName, u32)>
+    requires { IfSome number (λ n. n < 2 ^ 32) }
+    ensures { result ≡ both name number }
+{
+    match (name, number) {
+        (Some(name), Some(number)) => Some((name, number as u32)),
+        _ => None,
+    }
+}
+
+// The name of a target, and the number of its policy.
+fn target_of(policies: &[Policy], line: &Line) -> Option<(ShortName, u32)>
+    requires { length policies.now < 2 ^ 32 }
+    ensures value { result ≡ target_of policies.now (tokens_of line.now.text.now) }
+    ensures judged { IfSome result (λ target. target.1 < length policies.now) }
 {
     let mut tokens = line.tokens();
     let target = tokens.next_token();
@@ -89,8 +127,8 @@ fn target_of(policy: &[u8], line: &Line) -> Option<ShortName>
             Some(Token::Word(of)),
             Some(Token::Word(channels)),
             None,
-        ) if target == b"target".as_slice() && of == policy && is_one(number_of(channels)) => {
-            name_of(name)
+        ) if target == b"target".as_slice() && is_one(number_of(channels)) => {
+            both(name_of(name), policy_number(of, policies))
         }
         _ => None,
     }
@@ -109,15 +147,20 @@ fn is_thread(line: &Line) -> bool
 }
 
 // The script of one target with one channel, whose one thread makes these calls.
-fn one_target(alloc: Global, name: ShortName, calls: Statements) -> Result<Script, NoMemory>
-    ensures { IfOk result (λ script. script ≡ one_target name calls) }
+fn one_target(
+    alloc: Global,
+    target: (ShortName, u32),
+    calls: Statements,
+) -> Result<Script, NoMemory>
+    ensures { IfOk result (λ script. script ≡ one_target target calls) }
 {
+    let (name, policy) = target;
     let mut threads = Vec::new(alloc);
     threads.push(calls)?;
     let mut targets = Vec::new(alloc);
     targets.push(TargetScript {
         name,
-        policy: 0,
+        policy,
         channels: 1,
         threads: Threads::new(threads),
     })?;

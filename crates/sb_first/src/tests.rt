@@ -1,13 +1,11 @@
-use crate::{read_policy, read_script};
+use crate::read_script;
 use sb_call::{
     Arg, Args, CallTag, Script, ShortName, StartLines, Statement, Statements, TargetScript,
     Targets, Threads,
 };
-use sb_rule::{Action, Cond, Conds, Policy, Rule, Rules, Test};
+use sb_rule::{Policy, PolicyList, Rules};
 use sb_wide::{NoMemory, units};
 use std::alloc::Global;
-
-const POLICY: &[u8] = b"sandbox-policy 1\npolicy web\nallow event.create when name is \"\\good\"\n";
 
 const SCRIPT: &[u8] =
     b"sandbox-script 1\ntarget tab web 1\nthread\ncall event.create \"\\good\" 0 0\ncall event.create \"\\bad\" 0 0\n";
@@ -30,38 +28,6 @@ fn text_with(
     Ok(text)
 }
 
-fn rule(alloc: Global, string: &str, line: u32) -> Result<Rule, NoMemory> {
-    let mut conds = Conds::new(Vec::new(alloc));
-    conds.push(Cond {
-        param: 0,
-        negated: false,
-        test: Test::Equal(units(alloc, string)?),
-    })?;
-    Ok(Rule {
-        tag: CallTag::EventCreate,
-        conds,
-        action: Action::Allow,
-        line,
-    })
-}
-
-// Whether a policy was read that has this name and allows events of these names by rules on these lines.
-fn allows(
-    alloc: Global,
-    read: Option<Policy>,
-    name: &[u8],
-    rules: &[(&str, u32)],
-) -> Result<bool, NoMemory> {
-    let mut expected = Rules::new(Vec::new(alloc));
-    for (string, line) in rules {
-        expected.push(rule(alloc, string, *line)?)?;
-    }
-    Ok(match read {
-        Some(policy) => policy.name.bytes() == name && policy.rules == expected,
-        None => false,
-    })
-}
-
 fn call(alloc: Global, name: &str, kind: u64, initial: u64) -> Result<Statement, NoMemory> {
     let mut args = Args::new(Vec::new(alloc));
     args.push(Arg::Str(units(alloc, name)?))?;
@@ -73,7 +39,12 @@ fn call(alloc: Global, name: &str, kind: u64, initial: u64) -> Result<Statement,
     })
 }
 
-fn script(alloc: Global, name: ShortName, calls: &[(&str, u64, u64)]) -> Result<Script, NoMemory> {
+fn script(
+    alloc: Global,
+    name: ShortName,
+    policy: u32,
+    calls: &[(&str, u64, u64)],
+) -> Result<Script, NoMemory> {
     let mut statements = Statements::new(Vec::new(alloc));
     for (event, kind, initial) in calls {
         statements.push(call(alloc, event, *kind, *initial)?)?;
@@ -83,7 +54,7 @@ fn script(alloc: Global, name: ShortName, calls: &[(&str, u64, u64)]) -> Result<
     let mut targets = Targets::new(Vec::new(alloc));
     targets.push(TargetScript {
         name,
-        policy: 0,
+        policy,
         channels: 1,
         threads,
     })?;
@@ -94,54 +65,42 @@ fn script(alloc: Global, name: ShortName, calls: &[(&str, u64, u64)]) -> Result<
     })
 }
 
-// Whether a script was read whose target has this name and whose thread creates these events.
+// Whether a script was read whose target has this name and this policy, and whose thread creates these events.
 fn creates(
     alloc: Global,
     read: Option<Script>,
     name: &[u8],
+    policy: u32,
     calls: &[(&str, u64, u64)],
 ) -> Result<bool, NoMemory> {
     match (read, ShortName::new(name)) {
-        (Some(read), Some(name)) => Ok(read == script(alloc, name, calls)?),
+        (Some(read), Some(name)) => Ok(read == script(alloc, name, policy, calls)?),
         _ => Ok(false),
     }
 }
 
-fn web(alloc: Global) -> Result<Policy, NoMemory> {
-    let name = ShortName::new(b"web").ok_or(NoMemory)?;
-    Ok(Policy {
-        name,
-        rules: Rules::new(Vec::new(alloc)),
-    })
+// Policies without rules, of these names.
+fn named(alloc: Global, names: &[&[u8]]) -> Result<PolicyList, NoMemory> {
+    let mut policies = PolicyList::new(Vec::new(alloc));
+    for name in names {
+        let name = ShortName::new(name).ok_or(NoMemory)?;
+        let rules = Rules::new(Vec::new(alloc));
+        policies.push(Policy { name, rules })?;
+    }
+    Ok(policies)
 }
 
-#[test]
-fn policies_are_read(rt: HostRuntime) -> Result<(), NoMemory> {
-    let cases: [(&[u8], &[u8], &[(&str, u32)]); 5] = [
-        (POLICY, b"web", &[("\\good", 3)]),
-        (b"sandbox-policy 1\npolicy 9_z", b"9_z", &[]),
-        (
-            b"sandbox-policy 1\npolicy abcdefghijklmnopqrstuvwxyz_01289\n",
-            NAME_OF_32,
-            &[],
-        ),
-        (
-            b"# x\r\n\r\n sandbox-policy\t1\r\n#\n\tpolicy web \r\n  allow event.create  when name is \"\"\r\n \nallow event.create when name is \"\xc3\xa9 #\" \r",
-            b"web",
-            &[("", 6), ("\u{E9} #", 8)],
-        ),
-        (
-            b"sandbox-policy 1\npolicy web\nallow event.create when name is \"a\"\nallow event.create when name is \"a\"\n",
-            b"web",
-            &[("a", 3), ("a", 4)],
-        ),
-    ];
-    for (text, name, rules) in cases {
-        assert!(rt; text.len() < 1000);
-        let read = read_policy(rt.alloc(), text)?;
-        assert!(rt; allows(rt.alloc(), read, name, rules)?);
+fn web(alloc: Global) -> Result<PolicyList, NoMemory> {
+    named(alloc, &[b"web"])
+}
+
+// The script of a text under policies. A text of a megabyte, and nine policies, are more than a test has.
+fn read(alloc: Global, text: &[u8], policies: &PolicyList) -> Result<Option<Script>, NoMemory> {
+    let policies = policies.as_slice();
+    if text.len() >= 1_000_000 || policies.len() > 8 {
+        return Err(NoMemory);
     }
-    Ok(())
+    read_script(alloc, text, policies)
 }
 
 #[test]
@@ -161,74 +120,28 @@ fn scripts_are_read(rt: HostRuntime) -> Result<(), NoMemory> {
             &[("\\a\\\u{1F600}", 10, 7)],
         ),
     ];
-    let policy = web(rt.alloc())?;
+    let policies = web(rt.alloc())?;
     for (text, name, calls) in cases {
-        assert!(rt; text.len() < 1000);
-        let read = read_script(rt.alloc(), text, &policy)?;
-        assert!(rt; creates(rt.alloc(), read, name, calls)?);
+        let read = read(rt.alloc(), text, &policies)?;
+        assert!(rt; creates(rt.alloc(), read, name, 0, calls)?);
     }
     Ok(())
 }
 
 #[test]
-fn other_texts_are_no_policies(rt: HostRuntime) -> Result<(), NoMemory> {
-    let cases: [&[u8]; 16] = [
-        b"",
-        b"# sandbox-policy 1\n",
-        b"sandbox-policy 1\n",
-        b"policy web\n",
-        b"policy web\nsandbox-policy 1\n",
-        b"sandbox-policy 2\npolicy web\n",
-        b"sandbox-policy 01\npolicy web\n",
-        b"sandbox-policy 0x1\npolicy web\n",
-        b"sandbox-policy \"1\"\npolicy web\n",
-        b"sandbox-policy 1 1\npolicy web\n",
-        b"sandbox-policy\npolicy web\n",
-        b"sandbox-script 1\npolicy web\n",
-        b"sandbox-policy 1\npolicy\n",
-        b"sandbox-policy 1\npolicies web\n",
-        b"sandbox-policy 1\npolicy web\n# \xff\n",
-        b"sandbox-policy 1\r\r\npolicy web\n",
+fn a_target_names_its_policy(rt: HostRuntime) -> Result<(), NoMemory> {
+    let policies = named(rt.alloc(), &[b"web", b"gpu", b"web", b"w"])?;
+    let cases: [(&[u8], u32); 3] = [
+        (b"sandbox-script 1\ntarget t web 1\nthread\n", 0),
+        (b"sandbox-script 1\ntarget t gpu 1\nthread\n", 1),
+        (b"sandbox-script 1\ntarget t w 1\nthread\n", 3),
     ];
-    let names: [&[u8]; 5] = [
-        b"Web",
-        b"web web",
-        b"\"web\"",
-        b"we\"b",
-        b"abcdefghijklmnopqrstuvwxyz_012893",
-    ];
-    let lines: [&[u8]; 16] = [
-        b"allow",
-        b"allow event.create",
-        b"deny event.create when name is \"\\a\"",
-        b"allow event.open when name is \"\\a\"",
-        b"allow event.create if name is \"\\a\"",
-        b"allow event.create when kind is \"\\a\"",
-        b"allow event.create when name like \"\\a\"",
-        b"allow event.create when not name is \"\\a\"",
-        b"allow event.create when name is",
-        b"allow event.create when name is \\a",
-        b"allow event.create when name is \"\\a\" x",
-        b"allow event.create when name is \"\\a\" and name is \"\\a\"",
-        b"allow event.create when name is \"\\a\"x",
-        b"allow event.create when name is \"\\a",
-        b"allow \"event.create\" when name is \"\\a\"",
-        b"policy other",
-    ];
-    for text in cases {
-        assert!(rt; text.len() < 1000);
-        assert!(rt; read_policy(rt.alloc(), text)?.is_none());
+    for (text, policy) in cases {
+        let read = read(rt.alloc(), text, &policies)?;
+        assert!(rt; creates(rt.alloc(), read, b"t", policy, &[])?);
     }
-    for name in names {
-        let text = text_with(rt.alloc(), b"sandbox-policy 1\npolicy ", name, 1, b"\n")?;
-        assert!(rt; text.len() < 1000);
-        assert!(rt; read_policy(rt.alloc(), &text)?.is_none());
-    }
-    for line in lines {
-        let text = text_with(rt.alloc(), POLICY, line, 1, b"\n")?;
-        assert!(rt; text.len() < 1000);
-        assert!(rt; read_policy(rt.alloc(), &text)?.is_none());
-    }
+    let none = named(rt.alloc(), &[])?;
+    assert!(rt; read(rt.alloc(), SCRIPT, &none)?.is_none());
     Ok(())
 }
 
@@ -275,62 +188,32 @@ fn other_texts_are_no_scripts(rt: HostRuntime) -> Result<(), NoMemory> {
         b"call event.create \"\\a\" 0 18446744073709551616",
         b"call event.create \"\\a\"0 0",
     ];
-    let policy = web(rt.alloc())?;
+    let policies = web(rt.alloc())?;
     for text in cases {
-        assert!(rt; text.len() < 1000);
-        assert!(rt; read_script(rt.alloc(), text, &policy)?.is_none());
+        assert!(rt; read(rt.alloc(), text, &policies)?.is_none());
     }
     for line in lines {
         let text = text_with(rt.alloc(), SCRIPT, line, 1, b"\n")?;
-        assert!(rt; text.len() < 1000);
-        assert!(rt; read_script(rt.alloc(), &text, &policy)?.is_none());
+        assert!(rt; read(rt.alloc(), &text, &policies)?.is_none());
     }
     Ok(())
 }
 
 #[test]
-fn strings_and_names_have_limits(rt: HostRuntime) -> Result<(), NoMemory> {
-    let head = b"sandbox-policy 1\npolicy web\nallow event.create when name is \"";
-    let parts: [(&[u8], usize, bool); 4] = [
-        (b"a", 256, true),
-        (b"a", 257, false),
-        (b"\xf0\x9f\x98\x80", 128, true),
-        (b"\xf0\x9f\x98\x80", 129, false),
-    ];
-    for (part, count, expected) in parts {
-        let text = text_with(rt.alloc(), head, part, count, b"\"\n")?;
-        assert!(rt; text.len() < 10_000);
-        assert_eq!(rt; read_policy(rt.alloc(), &text)?.is_some(), expected);
-    }
+fn names_have_a_limit(rt: HostRuntime) -> Result<(), NoMemory> {
     let head = b"sandbox-script 1\ntarget tab web 1\nthread\ncall event.create \"\\";
-    let policy = web(rt.alloc())?;
+    let policies = web(rt.alloc())?;
     for (count, expected) in [(171, true), (172, false)] {
         let text = text_with(rt.alloc(), head, b"a", count, b"\" 0 0\n")?;
-        assert!(rt; text.len() < 10_000);
-        assert_eq!(rt;
-            read_script(rt.alloc(), &text, &policy)?.is_some(),
-            expected
-        );
+        assert_eq!(rt; read(rt.alloc(), &text, &policies)?.is_some(), expected);
     }
     Ok(())
 }
 
 #[test]
-fn lines_have_limits(rt: HostRuntime) -> Result<(), NoMemory> {
-    let line = b"allow event.create when name is \"\\a\"\n";
-    for (count, expected) in [(256, true), (257, false)] {
-        let text = text_with(
-            rt.alloc(),
-            b"sandbox-policy 1\npolicy web\n",
-            line,
-            count,
-            b"",
-        )?;
-        assert!(rt; text.len() < 1_000_000);
-        assert_eq!(rt; read_policy(rt.alloc(), &text)?.is_some(), expected);
-    }
+fn calls_have_a_limit(rt: HostRuntime) -> Result<(), NoMemory> {
     let head = b"sandbox-script 1\ntarget tab web 1\nthread\n";
-    let policy = web(rt.alloc())?;
+    let policies = web(rt.alloc())?;
     for (count, expected) in [(4096, true), (4097, false)] {
         let text = text_with(
             rt.alloc(),
@@ -339,11 +222,7 @@ fn lines_have_limits(rt: HostRuntime) -> Result<(), NoMemory> {
             count,
             b"",
         )?;
-        assert!(rt; text.len() < 1_000_000);
-        assert_eq!(rt;
-            read_script(rt.alloc(), &text, &policy)?.is_some(),
-            expected
-        );
+        assert_eq!(rt; read(rt.alloc(), &text, &policies)?.is_some(), expected);
     }
     Ok(())
 }

@@ -1,4 +1,4 @@
-// What the lines of both texts have in common.
+// The words of a line.
 ghost use Rattle.std.specs.Prelude.{◌≡◌};
 ghost use Rattle.sb_text.specs.Tokens.{tokens_of};
 ghost use Rattle.sb_first.specs.Words.{is_version, name_of};
@@ -6,9 +6,9 @@ ghost use Rattle.sb_first.specs.Words.{is_version, name_of};
 use sb_call::ShortName;
 use sb_text::{Line, Token};
 
-/// Whether a line is the word for a kind of text, and `1`.
-pub fn is_version(kind: &[u8], line: &Line) -> bool
-    ensures { result ≡ is_version kind.now (tokens_of line.now.text.now) }
+/// Whether a line is `sandbox-script 1`.
+pub fn is_version(line: &Line) -> bool
+    ensures { result ≡ is_version (tokens_of line.now.text.now) }
 {
     let mut tokens = line.tokens();
     let first = tokens.next_token();
@@ -16,7 +16,7 @@ pub fn is_version(kind: &[u8], line: &Line) -> bool
     let more = tokens.next_token();
     match (first, second, more) {
         (Some(Token::Word(word)), Some(Token::Word(number)), None) => {
-            word == kind && number == b"1".as_slice()
+            word == b"sandbox-script".as_slice() && number == b"1".as_slice()
         }
         _ => false,
     }

@@ -12,6 +12,7 @@ pub fn exit_code(status: Status) -> u8
     match status {
         Status::Done => 0,
         Status::Usage => 2,
+        Status::PolicyRefused(_) => 3,
         Status::Missing { .. } => 6,
         Status::TooLong { .. } => 7,
         Status::ReadFault { .. } => 8,
@@ -35,7 +36,12 @@ impl fmt::Display for Complaint {
     fn fmt<W: fmt::Write>(&self, f: &mut fmt::Formatter<W>) -> fmt::Result {
         match self.status {
             Status::Done => f.write_str("sandbox: done"),
-            Status::Usage => f.write_str("sandbox: usage: replay POLICY SCRIPT"),
+            Status::Usage => f.write_str("sandbox: usage: check POLICY, replay POLICY SCRIPT"),
+            Status::PolicyRefused(fault) => {
+                let line = fault.line;
+                let number = fault.kind.number();
+                write!(f, "sandbox: policy line {line} fault {number}")
+            }
             Status::Missing { which } => write!(f, "sandbox: missing file {which}"),
             Status::TooLong { which } => write!(f, "sandbox: file {which} too long"),
             Status::ReadFault { which } => write!(f, "sandbox: read fault in file {which}"),

@@ -49,6 +49,8 @@ rattle-kit-13f logic dac8208d650f15bf
 const HELP: &str = "sandbox: the broker side of a two-party sandbox
 
 usage:
+  sandbox check POLICY           prints the policies of POLICY, with each grant
+                                 as the rules that it stands for
   sandbox replay POLICY SCRIPT   makes the calls of SCRIPT under POLICY and
                                  prints the transcript
   sandbox --help                 prints this text
@@ -59,6 +61,7 @@ A file whose name begins with `-` is written `./-x`.
 exit status:
    0  done
    2  usage
+   3  policy refused
    6  missing file
    7  file too long (it has more than 4194304 bytes)
    8  read fault
@@ -66,6 +69,21 @@ exit status:
   10  unfinished
   11  no memory
   20  not yet: the file has a form that is not read yet
+
+faults of a policy:
+   1  the text is not UTF-8
+   2  no version line
+   3  unknown, missing or further word
+   4  unknown call
+   5  unknown parameter
+   6  wrong kind of test or value
+   7  bad number
+   8  empty range
+   9  bad pattern
+  10  too many
+  11  same name
+  12  no heading
+  13  not a call that can be read-only
 
 faults of a block, as the first extended word of its reply:
    1  too-many-params

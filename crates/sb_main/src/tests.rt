@@ -2,6 +2,7 @@ use crate::exits::{Complaint, exit_code};
 use crate::hosts::{HostFiles, HostSink};
 use crate::own_words::{OwnWord, own_text, own_word};
 use sb_outside::{FileFault, Files, Sink, SinkFault};
+use sb_ruletext::{TextFault, TextKind};
 use sb_top::Status;
 use std::alloc::Global;
 use std::io::Cursor;
@@ -48,13 +49,31 @@ fn a_full_output_is_found(rt: HostRuntime) -> Result<(), Fail> {
     Ok(())
 }
 
+fn refused(line: u32, kind: TextKind) -> Status {
+    Status::PolicyRefused(TextFault { line, kind })
+}
+
 #[test]
 fn statuses_have_codes_and_lines(rt: HostRuntime) -> Result<(), Fail> {
     let target = 7;
     let thread = 3;
     let cases = [
         (Status::Done, 0, "sandbox: done"),
-        (Status::Usage, 2, "sandbox: usage: replay POLICY SCRIPT"),
+        (
+            Status::Usage,
+            2,
+            "sandbox: usage: check POLICY, replay POLICY SCRIPT",
+        ),
+        (
+            refused(4_294_967_295, TextKind::TooMany),
+            3,
+            "sandbox: policy line 4294967295 fault 10",
+        ),
+        (
+            refused(1, TextKind::NotReadOnly),
+            3,
+            "sandbox: policy line 1 fault 13",
+        ),
         (Status::Missing { which: 1 }, 6, "sandbox: missing file 1"),
         (Status::TooLong { which: 2 }, 7, "sandbox: file 2 too long"),
         (
@@ -96,6 +115,7 @@ fn own_words_stand_alone(rt: HostRuntime) -> Result<(), Fail> {
     words.push(String::from_str(rt.alloc(), "--help")?)?;
     assert_eq!(rt; own_word(&words), None);
     assert!(rt; own_text(OwnWord::Help).contains("replay POLICY SCRIPT"));
+    assert!(rt; own_text(OwnWord::Help).contains("check POLICY"));
     assert!(rt; own_text(OwnWord::Version).starts_with("sandbox 0.1.0\n"));
     Ok(())
 }

@@ -1,3 +1,4 @@
-pub mod Causes
+pub mod Judged
 pub mod Runs
 pub mod Sendable
+pub mod Steps

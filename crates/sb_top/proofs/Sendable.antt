@@ -124,32 +124,32 @@ calls_made lines = made_if (nat_le (length lines) 4096) (each_call lines) (λ fe
 abbrev CanRun : Option Script → Type 0
 CanRun o = IfSome o (λ s. is_one_thread s ≡ true)
 
-with_runs : (name : Option (List ℕ)) (calls : Option (List Statement)) → CanBeMade calls → CanRun (script_with name calls)
+with_runs : (target : Option (List ℕ × ℕ)) (calls : Option (List Statement)) → CanBeMade calls → CanRun (script_with target calls)
 with_runs None None h = tt
 with_runs None (Some ss) h = tt
-with_runs (Some name) None h = tt
-with_runs (Some name) (Some ss) h = h
+with_runs (Some target) None h = tt
+with_runs (Some target) (Some ss) h = h
 
 runs_if : (b : Bool) (o : Option Script) → CanRun o → CanRun (if b then o else None)
 runs_if true o h = h
 runs_if false o h = tt
 
-by_runs : (policy : List ℕ) (lines : List NumberedLine) → CanRun (script_by policy lines)
-by_runs policy [] = tt
-by_runs policy (a ∷ []) = tt
-by_runs policy (a ∷ b ∷ []) = tt
-by_runs policy (version ∷ target ∷ thread ∷ calls) =
-    runs_if (is_version (codes "sandbox-script") (tokens_of version.text) && is_thread (tokens_of thread.text)) _
-    (with_runs (target_of policy (tokens_of target.text)) (calls_of calls) (calls_made calls))
+by_runs : (policies : List Policy) (lines : List NumberedLine) → CanRun (script_by policies lines)
+by_runs policies [] = tt
+by_runs policies (a ∷ []) = tt
+by_runs policies (a ∷ b ∷ []) = tt
+by_runs policies (version ∷ target ∷ thread ∷ calls) =
+    runs_if (is_version (tokens_of version.text) && is_thread (tokens_of thread.text)) _
+    (with_runs (target_of policies (tokens_of target.text)) (calls_of calls) (calls_made calls))
 
 utf8_runs : (line : Option ℕ) (o : Option Script) → CanRun o → CanRun (elim line [ None ↦ o | Some n ↦ None ])
 utf8_runs None o h = h
 utf8_runs (Some n) o h = tt
 
 -- each script that is read can be run
-pub scripts_run : (text : List ℕ) (policy : Policy) → CanRun (script_of text policy)
-scripts_run text policy = utf8_runs (not_utf8_line text) (script_by policy.name (lines_of text)) (by_runs policy.name (lines_of text))
+pub scripts_run : (text : List ℕ) (policies : List Policy) → CanRun (script_of text policies)
+scripts_run text policies = utf8_runs (not_utf8_line text) (script_by policies (lines_of text)) (by_runs policies (lines_of text))
 
 -- and so each that some call has read
-pub read_runs : (text : List ℕ) (policy : Policy) (script : Script) → Some script ≡ script_of text policy → is_one_thread script ≡ true
-read_runs text policy script e = subst CanRun (sym e) (scripts_run text policy)
+pub read_runs : (text : List ℕ) (policies : List Policy) (script : Script) → Some script ≡ script_of text policies → is_one_thread script ≡ true
+read_runs text policies script e = subst CanRun (sym e) (scripts_run text policies)

@@ -1,24 +1,51 @@
 -- Which command the words are.
-use Rattle.std.specs.Prelude.{ℕ, Bool, false, not, ◌&&◌, ◌==◌, nat_eq, List, [], ◌∷◌, Option, None, Some, if◌then◌else◌, codes, map, string_bytes, String}
+use Rattle.std.specs.Prelude.{ℕ, Bool, true, false, not, ◌&&◌, ◌==◌, nat_eq, List, [], ◌∷◌, Option, None, Some, if◌then◌else◌, codes, map, string_bytes, String}
 use Rattle.std.specs.Cmp.Lexicographic.{pointwise}
 use Rattle.std.specs.declared.alloc.Global.{Global}
+use Rattle.sb_top.specs.declared.commands.CommandWords.{CommandWords}
+use Rattle.sb_top.specs.declared.commands.CommandWords.TheVariants as words
 
--- the files of a replay
-pub record Replay : Type 0 where
-  pub policy : List ℕ
-  pub script : List ℕ
+-- a command with the names of its files: policies are checked, or a script is replayed under policies
+pub data Command : Type 0 where
+  Check : List ℕ → Command
+  Replay : List ℕ → List ℕ → Command
 
 -- a word names a file where it is not empty and does not begin with `-`
 abbrev pub is_file_word : List ℕ → Bool
 is_file_word [] = false
 is_file_word (b ∷ bs) = not (b == 45)
 
--- `replay POLICY SCRIPT`, and no other words are a command
-abbrev pub command_of : List (List ℕ) → Option Replay
-command_of (command ∷ policy ∷ script ∷ []) =
-    if pointwise nat_eq command (codes "replay") && is_file_word policy && is_file_word script then Some (record { policy = policy; script = script })
-    else None
+-- `check POLICY`
+abbrev pub check_of : List ℕ → List ℕ → Option Command
+check_of command policy = if pointwise nat_eq command (codes "check") && is_file_word policy then Some (Check policy) else None
+
+-- `replay POLICY SCRIPT`
+abbrev pub replay_of : List ℕ → List ℕ → List ℕ → Option Command
+replay_of command policy script =
+    if pointwise nat_eq command (codes "replay") && is_file_word policy && is_file_word script then Some (Replay policy script) else None
+
+-- one of both; no other words are a command
+abbrev pub command_of : List (List ℕ) → Option Command
+command_of (command ∷ policy ∷ []) = check_of command policy
+command_of (command ∷ policy ∷ script ∷ []) = replay_of command policy script
 command_of _ = None
+
+-- a command that the program found
+abbrev pub meant : CommandWords → Command
+meant (words.Check policy) = Check policy.now
+meant (words.Replay policy script) = Replay policy.now script.now
+
+-- how many files a command has
+abbrev pub file_count : Option Command → ℕ
+file_count None = 0
+file_count (Some (Check policy)) = 1
+file_count (Some (Replay policy script)) = 2
+
+-- whether a command runs a script
+abbrev pub is_run : Option Command → Bool
+is_run None = false
+is_run (Some (Check policy)) = false
+is_run (Some (Replay policy script)) = true
 
 -- the words as lists of bytes
 abbrev pub texts : List (String Global) → List (List ℕ)

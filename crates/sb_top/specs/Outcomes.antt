@@ -1,75 +1,89 @@
 -- What the top call answers, and when.
-use Rattle.std.specs.Prelude.{◌≡◌, ◌≢◌, ℕ, List, ◌++◌, Option, None, Some, option_map, IfSome, MatchOption, ⊤}
+use Rattle.std.specs.Prelude.{◌≡◌, ◌≢◌, ℕ, ◌≤◌, Bool, true, false, List, ◌++◌, Option, None, Some, option_map, IfSome, MatchOption, Err, IsOkAnd, ⊤}
 use Rattle.sb_call.specs.declared.scripts.Script.{Script}
 use Rattle.sb_rule.specs.declared.policies.Policy.{Policy}
+use Rattle.sb_ruletext.specs.Printing.{printed}
 use Rattle.sb_book.specs.declared.reports.Report.{Report}
 use Rattle.sb_book.specs.Histories.{IsLegalHistory}
 use Rattle.sb_core.specs.Laws.{setting}
 use Rattle.sb_outside.specs.Outside.{GrowsByPrefix}
 use Rattle.sb_transcript.specs.Transcripts.{transcript}
-use Rattle.sb_top.specs.Wanted.{Wanted, BadWords, NoFile, LongFile, UnreadFile, IsRun, IsFile, IsReached, whole_run}
+use Rattle.sb_top.specs.Wanted.{Wanted, BadWords, NoFile, LongFile, BadPolicy, UnreadScript, Work, Prints, Runs, IsReached, target_policy, whole_run}
 use Rattle.sb_top.specs.declared.outcomes.Status.{Status}
-use Rattle.sb_top.specs.declared.outcomes.Status.TheVariants.{Done, Unfinished, Usage, NotYet, Missing, TooLong, ReadFault, WriteFault, NoMemory}
+use Rattle.sb_top.specs.declared.outcomes.Status.TheVariants.{Done, Unfinished, Usage, PolicyRefused, NotYet, Missing, TooLong, ReadFault, WriteFault, NoMemory}
 
--- the run leaves no thread unfinished
-abbrev pub IsFinished : Policy → Script → Type 0
-IsFinished policy script = (whole_run policy script).unfinished ≡ None
+-- n is the number of a file of a command with so many files
+abbrev pub IsFile : ℕ → ℕ → Type 0
+IsFile files n = (1 ≤ n) × (n ≤ files)
 
--- the run leaves this thread unfinished
-abbrev pub IsUnfinished : ℕ → ℕ → Policy → Script → Type 0
-IsUnfinished target thread policy script = (whole_run policy script).unfinished ≡ Some (target, thread)
+-- the work comes to its end: a print always, and a run where it leaves no thread unfinished
+abbrev pub Ends : Work → Type 0
+Ends (Prints policies) = ⊤
+Ends (Runs policies script) = (whole_run policies script).unfinished ≡ None
 
--- the cause of a status: by what is wanted, where it is told, and by whether the count of the files' faults rose, and that of the output's
-abbrev pub IsCause : Option Wanted → Type 0 → Type 0 → Status → Type 0
-IsCause wanted files_rose sink_rose Done = IfSome wanted (λ w. IsRun w IsFinished)
-IsCause wanted files_rose sink_rose (Unfinished target thread) = IfSome wanted (λ w. IsRun w (IsUnfinished target thread))
-IsCause wanted files_rose sink_rose Usage = IfSome wanted (λ w. w ≡ BadWords)
-IsCause wanted files_rose sink_rose (NotYet n) = IsFile n × IfSome wanted (λ w. w ≡ UnreadFile n)
-IsCause wanted files_rose sink_rose (Missing n) = IsFile n × MatchOption wanted files_rose (λ w. w ≡ NoFile n)
-IsCause wanted files_rose sink_rose (TooLong n) = IsFile n × MatchOption wanted files_rose (λ w. w ≡ LongFile n)
-IsCause wanted files_rose sink_rose (ReadFault n) = IsFile n × files_rose × IfSome wanted (IsReached n)
-IsCause wanted files_rose sink_rose WriteFault = sink_rose × IfSome wanted (λ w. IsRun w IsFinished)
-IsCause wanted files_rose sink_rose NoMemory = IfSome wanted (λ w. w ≢ BadWords)
+-- the work is a run that leaves this thread unfinished
+abbrev pub Leaves : ℕ → ℕ → Work → Type 0
+Leaves target thread (Prints policies) = ⊥
+Leaves target thread (Runs policies script) = (whole_run policies script).unfinished ≡ Some (target, thread)
 
--- the report of the run that is wanted
-abbrev pub IsReportOf : Report → Policy → Script → Type 0
-IsReportOf report policy script = (report ≡ (whole_run policy script).report) × IsLegalHistory (setting policy) report.entries
+-- the cause of a status of a command with so many files: by what is wanted, where it is told, and by whether the count of the files'
+-- faults rose, and that of the output's
+abbrev pub IsCause : ℕ → Option Wanted → Type 0 → Type 0 → Status → Type 0
+IsCause files wanted files_rose sink_rose Done = IfSome wanted (λ w. IsOkAnd w Ends)
+IsCause files wanted files_rose sink_rose (Unfinished target thread) = IfSome wanted (λ w. IsOkAnd w (Leaves target thread))
+IsCause files wanted files_rose sink_rose Usage = IfSome wanted (λ w. w ≡ Err BadWords)
+IsCause files wanted files_rose sink_rose (PolicyRefused fault) = IfSome wanted (λ w. w ≡ Err (BadPolicy fault))
+IsCause files wanted files_rose sink_rose (NotYet n) = IsFile files n × (n ≡ 2) × IfSome wanted (λ w. w ≡ Err UnreadScript)
+IsCause files wanted files_rose sink_rose (Missing n) = IsFile files n × MatchOption wanted files_rose (λ w. w ≡ Err (NoFile n))
+IsCause files wanted files_rose sink_rose (TooLong n) = IsFile files n × MatchOption wanted files_rose (λ w. w ≡ Err (LongFile n))
+IsCause files wanted files_rose sink_rose (ReadFault n) = IsFile files n × files_rose × IfSome wanted (IsReached n)
+IsCause files wanted files_rose sink_rose WriteFault = sink_rose × IfSome wanted (λ w. IsOkAnd w Ends)
+IsCause files wanted files_rose sink_rose NoMemory = IfSome wanted (λ w. w ≢ Err BadWords)
 
--- there is a report, and it is that of the run that is wanted, with a legal history
+-- the report of a run, with a legal history; a print has none
+abbrev pub IsReportOf : Report → Work → Type 0
+IsReportOf report (Prints policies) = ⊥
+IsReportOf report (Runs policies script) = (report ≡ (whole_run policies script).report) × IsLegalHistory (setting (target_policy policies script)) report.entries
+
+-- there is a report, and it is that of the run that is wanted
 abbrev pub HasReport : Option Wanted → Option Report → Type 0
 HasReport wanted None = ⊥
-HasReport wanted (Some report) = IfSome wanted (λ w. IsRun w (IsReportOf report))
+HasReport wanted (Some report) = IfSome wanted (λ w. IsOkAnd w (IsReportOf report))
 
--- a report is there exactly with Done, Unfinished and WriteFault
-abbrev pub IsReported : Option Wanted → Option Report → Status → Type 0
-IsReported wanted report Done = HasReport wanted report
-IsReported wanted report (Unfinished target thread) = HasReport wanted report
-IsReported wanted report WriteFault = HasReport wanted report
-IsReported wanted report Usage = report ≡ None
-IsReported wanted report (NotYet n) = report ≡ None
-IsReported wanted report (Missing n) = report ≡ None
-IsReported wanted report (TooLong n) = report ≡ None
-IsReported wanted report (ReadFault n) = report ≡ None
-IsReported wanted report NoMemory = report ≡ None
+-- there is a report exactly where the command runs a script
+abbrev pub HasReportOfRun : Bool → Option Wanted → Option Report → Type 0
+HasReportOfRun false wanted report = report ≡ None
+HasReportOfRun true wanted report = HasReport wanted report
 
--- the transcript of a policy's and script's run
-abbrev pub transcript_of : Policy → Script → List ℕ
-transcript_of policy script = transcript script (whole_run policy script).report
+-- a report is there exactly with Done and WriteFault of a command that runs a script, and with Unfinished, which is of such commands alone
+abbrev pub IsReported : Bool → Option Wanted → Option Report → Status → Type 0
+IsReported runs wanted report Done = HasReportOfRun runs wanted report
+IsReported runs wanted report (Unfinished target thread) = (runs ≡ true) × HasReport wanted report
+IsReported runs wanted report WriteFault = HasReportOfRun runs wanted report
+IsReported runs wanted report Usage = report ≡ None
+IsReported runs wanted report (PolicyRefused fault) = report ≡ None
+IsReported runs wanted report (NotYet n) = report ≡ None
+IsReported runs wanted report (Missing n) = report ≡ None
+IsReported runs wanted report (TooLong n) = report ≡ None
+IsReported runs wanted report (ReadFault n) = report ≡ None
+IsReported runs wanted report NoMemory = report ≡ None
 
--- the output grew by exactly the transcript
-abbrev pub GrowsByAll : Option (List ℕ) → Option (List ℕ) → Policy → Script → Type 0
-GrowsByAll before after policy script = after ≡ option_map (λ written. written ++ transcript_of policy script) before
+-- all that is written: the policies as a text, or the transcript of the run
+abbrev pub text_of : Work → List ℕ
+text_of (Prints policies) = printed policies
+text_of (Runs policies script) = transcript script (whole_run policies script).report
 
--- the output grew by a prefix of the transcript
-abbrev pub GrowsByPart : Option (List ℕ) → Option (List ℕ) → Policy → Script → Type 0
-GrowsByPart before after policy script = GrowsByPrefix before (transcript_of policy script) after
+-- the output grew by exactly this text
+abbrev pub GrowsBy : Option (List ℕ) → List ℕ → Option (List ℕ) → Type 0
+GrowsBy before text after = after ≡ option_map (λ written. written ++ text) before
 
 -- with Done all was written, with WriteFault a prefix, and with any other status nothing
 abbrev pub IsWritten : Option Wanted → Option (List ℕ) → Option (List ℕ) → Status → Type 0
-IsWritten wanted before after Done = IfSome wanted (λ w. IsRun w (GrowsByAll before after))
-IsWritten wanted before after WriteFault = IfSome wanted (λ w. IsRun w (GrowsByPart before after))
+IsWritten wanted before after Done = IfSome wanted (λ w. IsOkAnd w (λ work. GrowsBy before (text_of work) after))
+IsWritten wanted before after WriteFault = IfSome wanted (λ w. IsOkAnd w (λ work. GrowsByPrefix before (text_of work) after))
 IsWritten wanted before after (Unfinished target thread) = after ≡ before
 IsWritten wanted before after Usage = after ≡ before
+IsWritten wanted before after (PolicyRefused fault) = after ≡ before
 IsWritten wanted before after (NotYet n) = after ≡ before
 IsWritten wanted before after (Missing n) = after ≡ before
 IsWritten wanted before after (TooLong n) = after ≡ before
@@ -82,6 +96,7 @@ IsSilent Done = ⊥
 IsSilent WriteFault = ⊥
 IsSilent (Unfinished target thread) = ⊤
 IsSilent Usage = ⊤
+IsSilent (PolicyRefused fault) = ⊤
 IsSilent (NotYet n) = ⊤
 IsSilent (Missing n) = ⊤
 IsSilent (TooLong n) = ⊤

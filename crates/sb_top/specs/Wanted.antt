@@ -1,77 +1,96 @@
--- What a command comes to, where the files tell what they hold.
-use Rattle.std.specs.Prelude.{ℕ, ◌≤◌, nat_le, List, length, Option, None, Some, if◌then◌else◌}
+-- What the words come to, where the files tell what they hold.
+use Rattle.std.specs.Prelude.{ℕ, ◌≤◌, nat_le, ⊤, List, length, map, Option, None, Some, Result, Ok, Err, if◌then◌else◌}
 use Rattle.sb_call.specs.declared.scripts.Script.{Script}
+use Rattle.sb_rule.specs.Verdicts.{policy_at}
 use Rattle.sb_rule.specs.declared.policies.Policy.{Policy}
-use Rattle.sb_core.specs.Runs.{ran, is_one_thread}
+use Rattle.sb_ruletext.specs.PolicyTexts.{reading}
+use Rattle.sb_ruletext.specs.Steps.{◌>>=◌}
+use Rattle.sb_ruletext.specs.declared.faults.TextFault.{TextFault}
+use Rattle.sb_core.specs.Runs.{ran}
 use Rattle.sb_core.specs.declared.runs.Ran.{Ran}
-use Rattle.sb_first.specs.Policies.{policy_of}
 use Rattle.sb_first.specs.Scripts.{script_of}
 use Rattle.sb_outside.specs.Outside.{Held}
-use Rattle.sb_top.specs.Commands.{Replay, command_of}
+use Rattle.sb_top.specs.Commands.{Command, Check, Replay, command_of}
 
--- the words are no command; file n is missing, or too long, or of no form that is read yet; or a policy and a script are to be run
-pub data Wanted : Type 0 where
-  BadWords : Wanted
-  NoFile : ℕ → Wanted
-  LongFile : ℕ → Wanted
-  UnreadFile : ℕ → Wanted
-  Runs : Policy → Script → Wanted
+-- why nothing is done: the words are no command; file n is missing, or too long; the policies' text has this fault; the script's text
+-- has no form that is read yet
+pub data Refusal : Type 0 where
+  BadWords : Refusal
+  NoFile : ℕ → Refusal
+  LongFile : ℕ → Refusal
+  BadPolicy : TextFault → Refusal
+  UnreadScript : Refusal
+
+-- what is done: policies are printed, or a script is run under policies
+pub data Work : Type 0 where
+  Prints : List Policy → Work
+  Runs : List Policy → Script → Work
+
+-- what is to be done, or why nothing is
+abbrev pub Wanted : Type 0
+Wanted = Result Work Refusal
 
 -- a file may have so many bytes
 abbrev pub most_bytes : ℕ
 most_bytes = 4194304
 
--- by what stands under the name of file n: its text decides, where it is there and not too long
-abbrev pub by_file : ℕ → (List ℕ → Wanted) → Option (List ℕ) → Wanted
-by_file n then_ None = NoFile n
-by_file n then_ (Some text) = if nat_le (length text) most_bytes then then_ text else LongFile n
+-- the text of file n, by what stands under its name
+abbrev pub text_in : ℕ → Option (List ℕ) → Result (List ℕ) Refusal
+text_in n None = Err (NoFile n)
+text_in n (Some text) = if nat_le (length text) most_bytes then Ok text else Err (LongFile n)
 
--- by the script
-abbrev pub by_script : Policy → Option Script → Wanted
-by_script policy None = UnreadFile 2
-by_script policy (Some script) = Runs policy script
+-- the policies of a text, or its fault
+abbrev pub policies_by : Result (List Policy) TextFault → Result (List Policy) Refusal
+policies_by (Ok policies) = Ok policies
+policies_by (Err fault) = Err (BadPolicy fault)
 
--- the script is read after the policy
-abbrev pub wanted_script : Policy → List ℕ → Held → Wanted
-wanted_script policy name held = by_file 2 (λ text. by_script policy (script_of text policy)) (held name)
+-- the policies of the first file
+abbrev pub policies_in : List ℕ → Held → Result (List Policy) Refusal
+policies_in name held = text_in 1 (held name) >>= λ text. policies_by (reading text)
 
--- by the policy
-abbrev pub by_policy : List ℕ → Held → Option Policy → Wanted
-by_policy script held None = UnreadFile 1
-by_policy script held (Some policy) = wanted_script policy script held
+-- the script of a text, where it has one
+abbrev pub script_by : Option Script → Result Script Refusal
+script_by None = Err UnreadScript
+script_by (Some script) = Ok script
 
--- the policy is read first
+-- the script of the second file, for targets of these policies
+abbrev pub script_in : List Policy → List ℕ → Held → Result Script Refusal
+script_in policies name held = text_in 2 (held name) >>= λ text. script_by (script_of text policies)
+
+-- a check reads policies, and prints them
+abbrev pub wanted_check : List ℕ → Held → Wanted
+wanted_check policy held = policies_in policy held >>= λ policies. Ok (Prints policies)
+
+-- a replay reads policies, then a script, and runs it
 abbrev pub wanted_replay : List ℕ → List ℕ → Held → Wanted
-wanted_replay policy script held = by_file 1 (λ text. by_policy script held (policy_of text)) (held policy)
+wanted_replay policy script held = policies_in policy held >>= λ policies. script_in policies script held >>= λ script. Ok (Runs policies script)
 
-abbrev pub by_command : Option Replay → Held → Wanted
-by_command None held = BadWords
-by_command (Some replay) held = wanted_replay replay.policy replay.script held
+abbrev pub by_command : Option Command → Held → Wanted
+by_command None held = Err BadWords
+by_command (Some (Check policy)) held = wanted_check policy held
+by_command (Some (Replay policy script)) held = wanted_replay policy script held
 
 -- what the words come to over files that hold this
 abbrev pub wanted_of : List (List ℕ) → Held → Wanted
 wanted_of words held = by_command (command_of words) held
 
--- the run of a policy and a script, of at most 20,000,000 rounds
-unfoldable pub whole_run : Policy → Script → Ran
-whole_run policy script = ran policy script 20000000
+-- the policies of a script's targets, one for each
+abbrev pub target_policies : List Policy → Script → List Policy
+target_policies policies script = map (λ target. policy_at policies target.policy) script.targets
 
--- a run is wanted, of which this holds
-abbrev pub IsRun : Wanted → (Policy → Script → Type 0) → Type 0
-IsRun (Runs policy script) P = P policy script
-IsRun BadWords P = ⊥
-IsRun (NoFile n) P = ⊥
-IsRun (LongFile n) P = ⊥
-IsRun (UnreadFile n) P = ⊥
+-- the policy of its first target, of whose thread is the run
+abbrev pub target_policy : List Policy → Script → Policy
+target_policy policies script = policy_at (target_policies policies script) 0
 
--- n is the number of a file of the command
-abbrev pub IsFile : ℕ → Type 0
-IsFile n = (1 ≤ n) × (n ≤ 2)
+-- the run of a script under policies, of at most 20,000,000 rounds
+unfoldable pub whole_run : List Policy → Script → Ran
+whole_run policies script = ran (target_policy policies script) script 20000000
 
 -- each file before file n was read without a fault
-abbrev pub IsReached : ℕ → Wanted → Type 0
-IsReached n BadWords = ⊥
-IsReached n (NoFile m) = (1 ≤ n) × (n ≤ m)
-IsReached n (LongFile m) = (1 ≤ n) × (n ≤ m)
-IsReached n (UnreadFile m) = (1 ≤ n) × (n ≤ m)
-IsReached n (Runs policy script) = (1 ≤ n) × (n ≤ 2)
+abbrev pub IsReached : {A : Type 0} → ℕ → Result A Refusal → Type 0
+IsReached n (Ok x) = ⊤
+IsReached n (Err BadWords) = ⊥
+IsReached n (Err (NoFile m)) = n ≤ m
+IsReached n (Err (LongFile m)) = n ≤ m
+IsReached n (Err (BadPolicy fault)) = n ≤ 1
+IsReached n (Err UnreadScript) = n ≤ 2

@@ -1,12 +1,14 @@
 // Which command the words are.
-ghost use Rattle.std.specs.Prelude.{◌≡◌, Some, None, MatchOption};
-ghost use Rattle.sb_top.specs.Commands.{command_of, is_file_word, texts};
+ghost use Rattle.std.specs.Prelude.{◌≡◌, option_map};
+ghost use Rattle.sb_top.specs.Commands.{command_of, check_of, replay_of, is_file_word, meant, texts};
 
-/// The files of a replay.
+/// A command with the names of its files.
 #[derive(Clone, Copy, Debug)]
-pub struct ReplayWords<'a> {
-    pub policy: &'a str,
-    pub script: &'a str,
+pub enum CommandWords<'a> {
+    /// Policies are read, and printed.
+    Check { policy: &'a str },
+    /// A script is run under policies, and its transcript is printed.
+    Replay { policy: &'a str, script: &'a str },
 }
 
 // Whether a word names a file: it is not empty and does not begin with `-`.
@@ -19,22 +21,33 @@ fn is_file_word(word: &str) -> bool
     }
 }
 
-/// The files of the words `replay POLICY SCRIPT`. Any other words are no command.
-pub fn replay_words(words: &[String]) -> Option<ReplayWords<'_>>
-    ensures { MatchOption result (command_of (texts words.now) ≡ None)
-        (λ r. command_of (texts words.now) ≡ Some (record { policy = r.policy.now; script = r.script.now })) }
+fn check_of<'a>(command: &str, policy: &'a str) -> Option<CommandWords<'a>>
+    ensures { option_map meant result ≡ check_of command.now policy.now }
 {
-    let [command, policy, script] = words else {
-        return None;
-    };
-    if command.as_str().as_bytes() == b"replay".as_slice()
-        && is_file_word(policy.as_str())
-        && is_file_word(script.as_str())
-    {
-        return Some(ReplayWords {
-            policy: policy.as_str(),
-            script: script.as_str(),
-        });
+    if command.as_bytes() == b"check".as_slice() && is_file_word(policy) {
+        return Some(CommandWords::Check { policy });
     }
     None
+}
+
+fn replay_of<'a>(command: &str, policy: &'a str, script: &'a str) -> Option<CommandWords<'a>>
+    ensures { option_map meant result ≡ replay_of command.now policy.now script.now }
+{
+    if command.as_bytes() == b"replay".as_slice() && is_file_word(policy) && is_file_word(script) {
+        return Some(CommandWords::Replay { policy, script });
+    }
+    None
+}
+
+/// The command that the words are: `check POLICY` or `replay POLICY SCRIPT`. Any other words are no command.
+pub fn command_of(words: &[String]) -> Option<CommandWords<'_>>
+    ensures { option_map meant result ≡ command_of (texts words.now) }
+{
+    match words {
+        [command, policy] => check_of(command.as_str(), policy.as_str()),
+        [command, policy, script] => {
+            replay_of(command.as_str(), policy.as_str(), script.as_str())
+        }
+        _ => None,
+    }
 }

@@ -2,8 +2,10 @@
 #![tactic(auto)]
 
 mod commands;
+mod judges;
 mod outcomes;
 mod prepared;
+mod prints;
 mod reading;
 mod shows;
 mod top;

@@ -1,16 +1,19 @@
 // What the top call answers.
 
 use sb_book::Report;
+use sb_ruletext::TextFault;
 
 /// How a command ended. Files are numbered by their place in the command, from 1.
 #[derive(Clone, Copy, Debug, PartialEq, Eq)]
 pub enum Status {
-    /// All lines were put.
+    /// All was put.
     Done,
     /// This thread of this target, both numbered from 0, used up the rounds.
     Unfinished { target: u32, thread: u32 },
     /// The words are no command.
     Usage,
+    /// The text of the policies has this fault, and none before it.
+    PolicyRefused(TextFault),
     /// The file has a form that is not read yet.
     NotYet { which: u8 },
     /// There is no such file.
@@ -19,13 +22,13 @@ pub enum Status {
     TooLong { which: u8 },
     /// The file was not read.
     ReadFault { which: u8 },
-    /// A line was not written.
+    /// Something was not written.
     WriteFault,
     /// There was no memory.
     NoMemory,
 }
 
-/// The status, and with Done, Unfinished and WriteFault the report.
+/// The status, and the report of a run with Done, Unfinished and WriteFault.
 #[derive(Debug, Drop)]
 pub struct Outcome {
     /// How the command ended.

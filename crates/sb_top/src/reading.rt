@@ -1,18 +1,21 @@
-// The files of a replay, read and found to be a policy and a script that can be run.
-ghost use Rattle.std.specs.Prelude.{◌≡◌, ◌≤◌, ◌<◌, ◌^◌, List, ℕ, length, true, option_map, vec_len, IfOk, IfErr, IfSome, OnOk, Some};
+// The files of a command, read and found to be policies, and a script that can be run under them.
+ghost use Rattle.std.specs.Prelude.{◌≡◌, ◌≤◌, ◌<◌, ◌^◌, length, true, option_map, IfOk, IfErr, IfSome, OnOk, Ok};
 ghost use Rattle.sb_core.specs.Runs.{is_one_thread};
-ghost use Rattle.sb_outside.specs.Outside.{IsContent, Rose};
-ghost use Rattle.sb_first.specs.Policies.{policy_of};
-ghost use Rattle.sb_first.specs.Scripts.{script_of};
-ghost use Rattle.sb_top.specs.Wanted.{Runs, by_script, wanted_script, wanted_replay, most_bytes};
+ghost use Rattle.sb_outside.specs.Outside.{Rose};
+ghost use Rattle.sb_rule.specs.WellMade.{are_well_made};
+ghost use Rattle.sb_ruletext.specs.PolicyTexts.{reading};
+ghost use Rattle.sb_first.specs.Scripts.{script_of, are_judged};
+ghost use Rattle.sb_top.specs.Wanted.{Runs, text_in, policies_by, policies_in, script_by, script_in, wanted_replay, most_bytes};
 ghost use Rattle.sb_top.specs.Outcomes.{IsCause};
-ghost use Rattle.sb_top.specs.Refusals.{IsRefusal, IsReadRefusal, IsScriptRefusal, IsPolicyRefusal, status_of};
+ghost use Rattle.sb_top.specs.Refusals.{IsRefusal, IsRefused, IsTextRefused, status_of};
 
 use crate::outcomes::Status;
 use crate::prepared::Prepared;
-use sb_first::{read_policy, read_script};
+use sb_call::Script;
+use sb_first::read_script;
 use sb_outside::{FileFault, Files};
-use sb_rule::Policy;
+use sb_rule::{Policies, Policy};
+use sb_ruletext::{TextRefused, read_policies};
 use std::alloc::Global;
 
 /// A file may have so many bytes.
@@ -31,87 +34,88 @@ fn status_of(fault: FileFault, which: u8) -> Status
 }
 
 // The bytes of file `which`.
-fn read_file<F: Files>(
-    alloc: Global,
-    files: &mut F,
-    name: &str,
-    which: u8,
-) -> Result<Vec<u8>, Status>
+fn text_in<F: Files>(alloc: Global, files: &mut F, name: &str, which: u8) -> Result<Vec<u8>, Status>
     ensures kept { F.held files.new ≡ F.held files.old }
     ensures counted { F.faults files.old ≤ F.faults files.new }
-    ensures content { IfOk result (λ bytes. IsContent (F.held files.old) name.now bytes.items) }
-    ensures short { IfOk result (λ bytes. length bytes.items ≤ most_bytes) }
+    ensures ok { IfOk result (λ text. IfSome (F.held files.old) (λ held. text_in which (held name.now) ≡ Ok text.items)) }
+    ensures short { IfOk result (λ text. length text.items ≤ most_bytes) }
     ensures ok_count { OnOk result (F.faults files.new ≡ F.faults files.old) }
-    ensures err { IfErr result (λ s. IsReadRefusal which (F.held files.old) name.now (Rose (F.faults files.old) (F.faults files.new)) s) }
+    ensures err { IfErr result (λ s. IsRefused which (option_map (λ held. text_in which (held name.now)) (F.held files.old)) (Rose (F.faults files.old) (F.faults files.new)) s) }
 {
     match files.read(alloc, name, MOST_BYTES) {
-        Ok(bytes) => Ok(bytes),
+        Ok(text) => Ok(text),
         Err(fault) => Err(status_of(fault, which)),
     }
 }
 
-// The script of a text under a policy. Each that is read can be run.
-fn script_in(alloc: Global, policy: Policy, text: &[u8]) -> Result<Prepared, Status>
+// The policies of a text.
+fn policies_by(alloc: Global, text: &[u8]) -> Result<Policies, Status>
     requires { length text.now < 2 ^ 32 }
-    ensures ok { IfOk result (λ p. by_script policy (script_of text.now policy) ≡ Runs p.policy p.script) }
-    ensures err { IfErr result (λ s. IsScriptRefusal (by_script policy (script_of text.now policy)) s) }
+    ensures ok { IfOk result (λ p. policies_by (reading text.now) ≡ Ok p.list) }
+    ensures well_made { IfOk result (λ p. are_well_made p.list ≡ true) }
+    ensures err { IfErr result (λ s. IsTextRefused 1 (policies_by (reading text.now)) s) }
 {
-    match read_script(alloc, text, &policy) {
-        Ok(Some(script)) => Ok(Prepared { policy, script }),
+    match read_policies(alloc, text) {
+        Ok(policies) => Ok(policies),
+        Err(TextRefused::Fault(fault)) => Err(Status::PolicyRefused(fault)),
+        Err(TextRefused::NoMemory) => Err(Status::NoMemory),
+    }
+}
+
+/// The policies of the first file.
+pub fn policies_in<F: Files>(alloc: Global, files: &mut F, name: &str) -> Result<Policies, Status>
+    ensures kept { F.held files.new ≡ F.held files.old }
+    ensures counted { F.faults files.old ≤ F.faults files.new }
+    ensures ok { IfOk result (λ p. IfSome (F.held files.old) (λ held. policies_in name.now held ≡ Ok p.list)) }
+    ensures well_made { IfOk result (λ p. are_well_made p.list ≡ true) }
+    ensures ok_count { OnOk result (F.faults files.new ≡ F.faults files.old) }
+    ensures err { IfErr result (λ s. IsRefused 1 (option_map (policies_in name.now) (F.held files.old)) (Rose (F.faults files.old) (F.faults files.new)) s) }
+{
+    match text_in(alloc, files, name, 1) {
+        Ok(text) => policies_by(alloc, &text),
+        Err(status) => Err(status),
+    }
+}
+
+// The script of a text, for targets of these policies. Each that is read can be run.
+fn script_by(alloc: Global, policies: &[Policy], text: &[u8]) -> Result<Script, Status>
+    requires short { length text.now < 2 ^ 32 }
+    requires few { length policies.now < 2 ^ 32 }
+    ensures ok { IfOk result (λ s. script_by (script_of text.now policies.now) ≡ Ok s) }
+    ensures judged { IfOk result (λ s. are_judged (length policies.now) s.targets ≡ true) }
+    ensures runs { IfOk result (λ s. is_one_thread s ≡ true) }
+    ensures err { IfErr result (λ s. IsTextRefused 2 (script_by (script_of text.now policies.now)) s) }
+{
+    match read_script(alloc, text, policies) {
+        Ok(Some(script)) => Ok(script),
         Ok(None) => Err(Status::NotYet { which: 2 }),
         Err(_) => Err(Status::NoMemory),
     }
 }
 
-// The script's file, under a policy.
-fn prepare_script<F: Files>(
+// The script of the second file, for targets of these policies.
+fn script_in<F: Files>(
     alloc: Global,
     files: &mut F,
-    policy: Policy,
+    policies: &[Policy],
     name: &str,
-) -> Result<Prepared, Status>
+) -> Result<Script, Status>
+    requires few { length policies.now < 2 ^ 32 }
     ensures kept { F.held files.new ≡ F.held files.old }
     ensures counted { F.faults files.old ≤ F.faults files.new }
-    ensures ok { IfOk result (λ p. IfSome (option_map (wanted_script policy name.now) (F.held files.old)) (λ w. w ≡ Runs p.policy p.script)) }
+    ensures ok { IfOk result (λ s. IfSome (F.held files.old) (λ held. script_in policies.now name.now held ≡ Ok s)) }
+    ensures judged { IfOk result (λ s. are_judged (length policies.now) s.targets ≡ true) }
+    ensures runs { IfOk result (λ s. is_one_thread s ≡ true) }
     ensures ok_count { OnOk result (F.faults files.new ≡ F.faults files.old) }
-    ensures cause { IfErr result (λ s. IsCause (option_map (wanted_script policy name.now) (F.held files.old)) (Rose (F.faults files.old) (F.faults files.new)) ⊥ s) }
-    ensures refusal { IfErr result (λ s. IsRefusal s) }
+    ensures err { IfErr result (λ s. IsRefused 2 (option_map (script_in policies.now name.now) (F.held files.old)) (Rose (F.faults files.old) (F.faults files.new)) s) }
 {
-    match read_file(alloc, files, name, 2) {
-        Ok(text) => script_in(alloc, policy, &text),
+    match text_in(alloc, files, name, 2) {
+        Ok(text) => script_by(alloc, policies, &text),
         Err(status) => Err(status),
     }
 }
 
-// The policy of a text.
-fn policy_in(alloc: Global, text: &[u8]) -> Result<Policy, Status>
-    requires { length text.now < 2 ^ 32 }
-    ensures ok { IfOk result (λ p. Some p ≡ policy_of text.now) }
-    ensures err { IfErr result (λ s. IsPolicyRefusal (policy_of text.now) s) }
-{
-    match read_policy(alloc, text) {
-        Ok(Some(policy)) => Ok(policy),
-        Ok(None) => Err(Status::NotYet { which: 1 }),
-        Err(_) => Err(Status::NoMemory),
-    }
-}
-
-// The policy's file.
-fn prepare_policy<F: Files>(alloc: Global, files: &mut F, name: &str) -> Result<Policy, Status>
-    ensures kept { F.held files.new ≡ F.held files.old }
-    ensures counted { F.faults files.old ≤ F.faults files.new }
-    ensures ok { IfOk result (λ p. (script : List ℕ) → option_map (wanted_replay name.now script) (F.held files.old) ≡ option_map (wanted_script p script) (F.held files.old)) }
-    ensures ok_count { OnOk result (F.faults files.new ≡ F.faults files.old) }
-    ensures cause { IfErr result (λ s. (script : List ℕ) → IsCause (option_map (wanted_replay name.now script) (F.held files.old)) (Rose (F.faults files.old) (F.faults files.new)) ⊥ s) }
-    ensures refusal { IfErr result (λ s. IsRefusal s) }
-{
-    match read_file(alloc, files, name, 1) {
-        Ok(text) => policy_in(alloc, &text),
-        Err(status) => Err(status),
-    }
-}
-
-/// Reads both files of a replay, the policy first.
+/// Reads both files of a replay, the policies first.
 pub fn prepare<F: Files>(
     alloc: Global,
     files: &mut F,
@@ -120,13 +124,17 @@ pub fn prepare<F: Files>(
 ) -> Result<Prepared, Status>
     ensures kept { F.held files.new ≡ F.held files.old }
     ensures counted { F.faults files.old ≤ F.faults files.new }
-    ensures ok { IfOk result (λ p. IfSome (option_map (wanted_replay policy.now script.now) (F.held files.old)) (λ w. w ≡ Runs p.policy p.script)) }
+    ensures ok { IfOk result (λ p. IfSome (F.held files.old) (λ held. wanted_replay policy.now script.now held ≡ Ok (Runs p.policies.list p.script))) }
     ensures ok_count { OnOk result (F.faults files.new ≡ F.faults files.old) }
-    ensures cause { IfErr result (λ s. IsCause (option_map (wanted_replay policy.now script.now) (F.held files.old)) (Rose (F.faults files.old) (F.faults files.new)) ⊥ s) }
+    ensures cause { IfErr result (λ s. IsCause 2 (option_map (wanted_replay policy.now script.now) (F.held files.old)) (Rose (F.faults files.old) (F.faults files.new)) ⊥ s) }
     ensures refusal { IfErr result (λ s. IsRefusal s) }
 {
-    match prepare_policy(alloc, files, policy) {
-        Ok(policy) => prepare_script(alloc, files, policy, script),
+    let policies = match policies_in(alloc, files, policy) {
+        Ok(policies) => policies,
+        Err(status) => return Err(status),
+    };
+    match script_in(alloc, files, policies.list.as_slice(), script) {
+        Ok(script) => Ok(Prepared { policies, script }),
         Err(status) => Err(status),
     }
 }

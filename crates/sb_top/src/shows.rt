@@ -1,15 +1,19 @@
-// The run of a policy and a script, and its transcript put line by line.
-ghost use Rattle.std.specs.Prelude.{◌≡◌, ◌≤◌, ◌<◌, ◌^◌, true, Some, IfOk};
+// The run of a script under policies, and its transcript put line by line.
+ghost use Rattle.std.specs.Prelude.{◌≡◌, ◌≤◌, ◌<◌, ◌^◌, length, true, Ok, Some, IfOk};
+ghost use Rattle.std.specs.List.{list_all};
 ghost use Rattle.sb_book.specs.Histories.{IsLegalHistory};
 ghost use Rattle.sb_book.specs.Reports.{result_count};
 ghost use Rattle.sb_core.specs.Laws.{setting};
 ghost use Rattle.sb_core.specs.Runs.{is_one_thread};
+ghost use Rattle.sb_first.specs.Scripts.{are_judged};
 ghost use Rattle.sb_outside.specs.Outside.{Rose};
+ghost use Rattle.sb_rule.specs.WellMade.{is_well_made};
 ghost use Rattle.sb_transcript.specs.Transcripts.{transcript};
-ghost use Rattle.sb_top.specs.Wanted.{Runs, whole_run};
+ghost use Rattle.sb_top.specs.Wanted.{Runs, target_policy, whole_run};
 ghost use Rattle.sb_top.specs.Outcomes.{IsCause, IsReported, IsWritten, IsSilent};
 ghost use Rattle.sb_top.specs.Refusals.{IsPut};
 
+use crate::judges::judge_of;
 use crate::outcomes::{Outcome, Status};
 use crate::prepared::Prepared;
 use sb_book::Report;
@@ -24,16 +28,19 @@ use std::alloc::Global;
 /// A run has so many rounds where no schedule says otherwise.
 const ROUNDS: u32 = 20_000_000;
 
-// The run of a policy and a script.
+// The run of a script under policies.
 #[tactic(auto, unfolding(crate::specs::Wanted::whole_run))]
-fn run_whole(alloc: Global, policy: &Policy, script: &Script) -> Result<Ran, NoMemory>
-    requires { is_one_thread script.now ≡ true }
-    ensures value { IfOk result (λ r. r ≡ whole_run policy.now script.now) }
+fn run_whole(alloc: Global, policies: &[Policy], script: &Script) -> Result<Ran, NoMemory>
+    requires well_made { list_all is_well_made policies.now ≡ true }
+    requires judged { are_judged (length policies.now) script.now.targets ≡ true }
+    requires runs { is_one_thread script.now ≡ true }
+    ensures value { IfOk result (λ r. r ≡ whole_run policies.now script.now) }
     ensures few { IfOk result (λ r. result_count r.report.results < 2 ^ 62) }
-    ensures legal { IfOk result (λ r. IsLegalHistory (setting policy.now) r.report.entries) }
+    ensures legal { IfOk result (λ r. IsLegalHistory (setting (target_policy policies.now script.now)) r.report.entries) }
 {
     runs_are_legal();
-    run(alloc, policy, script, ROUNDS)
+    let judge = judge_of(alloc, policies, script)?;
+    run(alloc, &judge, script, ROUNDS)
 }
 
 // Puts the transcript, one put a line. All lines are made before the first put, and no put follows one that failed.
@@ -54,18 +61,18 @@ fn put_transcript<K: Sink>(alloc: Global, script: &Script, report: &Report, out:
     }
 }
 
-/// Runs a policy and a script, and puts the transcript, one put a line. All lines are made before the first put, and no put
-/// follows one that failed.
+/// Runs a script under policies, and puts the transcript, one put a line. All lines are made before the first put, and no
+/// put follows one that failed.
 pub fn show<K: Sink>(alloc: Global, prepared: &Prepared, out: &mut K) -> Outcome
     ensures counted { K.faults out.old ≤ K.faults out.new }
     ensures silent { IsSilent result.status → out.new ≡ out.old }
-    ensures cause { IsCause (Some (Runs prepared.now.policy prepared.now.script)) ⊥ (Rose (K.faults out.old) (K.faults out.new)) result.status }
-    ensures report { IsReported (Some (Runs prepared.now.policy prepared.now.script)) result.report result.status }
-    ensures written { IsWritten (Some (Runs prepared.now.policy prepared.now.script)) (K.written out.old) (K.written out.new) result.status }
+    ensures cause { IsCause 2 (Some (Ok (Runs prepared.now.policies.list prepared.now.script))) ⊥ (Rose (K.faults out.old) (K.faults out.new)) result.status }
+    ensures report { IsReported true (Some (Ok (Runs prepared.now.policies.list prepared.now.script))) result.report result.status }
+    ensures written { IsWritten (Some (Ok (Runs prepared.now.policies.list prepared.now.script))) (K.written out.old) (K.written out.new) result.status }
     ensures done_count { result.status ≡ Status.Done → K.faults out.new ≡ K.faults out.old }
 {
     let script = &prepared.script;
-    let Ok(ran) = run_whole(alloc, &prepared.policy, script) else {
+    let Ok(ran) = run_whole(alloc, prepared.policies.list.as_slice(), script) else {
         return Outcome {
             status: Status::NoMemory,
             report: None,

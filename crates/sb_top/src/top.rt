@@ -1,16 +1,40 @@
 // The top call.
-ghost use Rattle.std.specs.Prelude.{◌≡◌, ◌≢◌, ◌≤◌, ◌↔◌, None, IsSome, IfSome, option_map};
+ghost use Rattle.std.specs.Prelude.{◌≡◌, ◌≢◌, ◌≤◌, ◌↔◌, None, IsSome, IfSome, option_map, true, false};
 ghost use Rattle.sb_outside.specs.Outside.{Rose};
-ghost use Rattle.sb_top.specs.Commands.{command_of, texts};
-ghost use Rattle.sb_top.specs.Wanted.{wanted_of, wanted_replay};
+ghost use Rattle.sb_top.specs.Commands.{command_of, file_count, is_run, texts};
+ghost use Rattle.sb_top.specs.Wanted.{wanted_of, wanted_check, wanted_replay};
 ghost use Rattle.sb_top.specs.Outcomes.{IsCause, IsReported, IsWritten, IsSilent};
 
-use crate::commands::replay_words;
+use crate::commands::{CommandWords, command_of};
 use crate::outcomes::{Outcome, Status};
-use crate::reading::prepare;
+use crate::prints::print;
+use crate::reading::{policies_in, prepare};
 use crate::shows::show;
 use sb_outside::{Files, Sink};
 use std::alloc::Global;
+
+// A check of this file.
+fn check<F: Files, K: Sink>(alloc: Global, policy: &str, files: &mut F, out: &mut K) -> Outcome
+    ensures cause { IsCause 1 (option_map (wanted_check policy.now) (F.held files.old)) (Rose (F.faults files.old) (F.faults files.new)) (Rose (K.faults out.old) (K.faults out.new)) result.status }
+    ensures report { IsReported false (option_map (wanted_check policy.now) (F.held files.old)) result.report result.status }
+    ensures written { IsWritten (option_map (wanted_check policy.now) (F.held files.old)) (K.written out.old) (K.written out.new) result.status }
+    ensures done_sink { result.status ≡ Status.Done → K.faults out.new ≡ K.faults out.old }
+    ensures done_files { result.status ≡ Status.Done → F.faults files.new ≡ F.faults files.old }
+    ensures known { result.status ≢ Status.Usage }
+    ensures kept { F.held files.new ≡ F.held files.old }
+    ensures counted_files { F.faults files.old ≤ F.faults files.new }
+    ensures counted_sink { K.faults out.old ≤ K.faults out.new }
+    ensures silent { IsSilent result.status → out.new ≡ out.old }
+    ensures run_files { IsSome result.report → F.faults files.new ≡ F.faults files.old }
+{
+    match policies_in(alloc, files, policy) {
+        Ok(policies) => print(alloc, &policies, out),
+        Err(status) => Outcome {
+            status,
+            report: None,
+        },
+    }
+}
 
 // A replay of these files.
 #[tactic(auto, using(crate::proofs::Runs::known))]
@@ -21,10 +45,11 @@ fn replay<F: Files, K: Sink>(
     files: &mut F,
     out: &mut K,
 ) -> Outcome
-    ensures cause { IsCause (option_map (wanted_replay policy.now script.now) (F.held files.old)) (Rose (F.faults files.old) (F.faults files.new)) (Rose (K.faults out.old) (K.faults out.new)) result.status }
-    ensures report { IsReported (option_map (wanted_replay policy.now script.now) (F.held files.old)) result.report result.status }
+    ensures cause { IsCause 2 (option_map (wanted_replay policy.now script.now) (F.held files.old)) (Rose (F.faults files.old) (F.faults files.new)) (Rose (K.faults out.old) (K.faults out.new)) result.status }
+    ensures report { IsReported true (option_map (wanted_replay policy.now script.now) (F.held files.old)) result.report result.status }
     ensures written { IsWritten (option_map (wanted_replay policy.now script.now) (F.held files.old)) (K.written out.old) (K.written out.new) result.status }
     ensures done_sink { result.status ≡ Status.Done → K.faults out.new ≡ K.faults out.old }
+    ensures done_files { result.status ≡ Status.Done → F.faults files.new ≡ F.faults files.old }
     ensures known { result.status ≢ Status.Usage }
     ensures kept { F.held files.new ≡ F.held files.old }
     ensures counted_files { F.faults files.old ≤ F.faults files.new }
@@ -59,20 +84,27 @@ pub fn plain_top<F: Files, K: Sink>(
     ensures unread { IfSome result (λ o. o.status ≡ Status.Usage → files.new ≡ files.old) }
     ensures silent { IfSome result (λ o. IsSilent o.status → out.new ≡ out.old) }
 
-    // Each status has its cause: what the words come to over what the files tell, and the counts of faults.
+    // Each status has its cause: what the words come to over what the files tell, and the counts of faults. Only a number of a file that
+    // the command has is named.
     ensures usage { IfSome result (λ o. (o.status ≡ Status.Usage) ↔ (command_of (texts words.now) ≡ None)) }
-    ensures cause { IfSome result (λ o. IsCause (option_map (wanted_of (texts words.now)) (F.held files.old)) (Rose (F.faults files.old) (F.faults files.new)) (Rose (K.faults out.old) (K.faults out.new)) o.status) }
+    ensures cause { IfSome result (λ o. IsCause (file_count (command_of (texts words.now))) (option_map (wanted_of (texts words.now)) (F.held files.old)) (Rose (F.faults files.old) (F.faults files.new)) (Rose (K.faults out.old) (K.faults out.new)) o.status) }
     ensures run_files { IfSome result (λ o. IsSome o.report → F.faults files.new ≡ F.faults files.old) }
+    ensures done_files { IfSome result (λ o. o.status ≡ Status.Done → F.faults files.new ≡ F.faults files.old) }
     ensures done_sink { IfSome result (λ o. o.status ≡ Status.Done → K.faults out.new ≡ K.faults out.old) }
 
-    // The report is that of the run of the policy and the script that the texts mean, and its entries are a legal history.
-    ensures report { IfSome result (λ o. IsReported (option_map (wanted_of (texts words.now)) (F.held files.old)) o.report o.status) }
+    // The report is that of the run of the script under the policies that the texts mean, and its entries are a legal history. A check
+    // has none.
+    ensures report { IfSome result (λ o. IsReported (is_run (command_of (texts words.now))) (option_map (wanted_of (texts words.now)) (F.held files.old)) o.report o.status) }
 
-    // The output grew by exactly the transcript of script and report, after a write fault by a prefix of it, else by nothing.
+    // The output grew by exactly the transcript of script and report, or of a check the policies as a text, after a write fault by a
+    // prefix of it, else by nothing.
     ensures written { IfSome result (λ o. IsWritten (option_map (wanted_of (texts words.now)) (F.held files.old)) (K.written out.old) (K.written out.new) o.status) }
 {
-    match replay_words(words) {
-        Some(replayed) => Some(replay(alloc, replayed.policy, replayed.script, files, out)),
+    match command_of(words) {
+        Some(CommandWords::Check { policy }) => Some(check(alloc, policy, files, out)),
+        Some(CommandWords::Replay { policy, script }) => {
+            Some(replay(alloc, policy, script, files, out))
+        }
         None => Some(Outcome {
             status: Status::Usage,
             report: None,

@@ -1,11 +1,11 @@
-use Rattle.std.proofs.Common.{◌≡◌, Some}
-use Rattle.sb_first.specs.Scripts.{script_of}
-use Rattle.sb_top.proofs.Sendable.{read_runs}
+use Rattle.std.proofs.Common.{◌≡◌}
+use Rattle.std.specs.Prelude.{IfSome, Ok}
+use Rattle.sb_top.specs.Wanted.{text_in}
+use Rattle.sb_top.proofs.Steps.{script_found}
 use Rattle.sb_top.proofs.reading.script_in.Goals as goal
 
-pub invariant_of-result : goal.invariant_of-result
-invariant_of-result c =
-    let text = c.args.text.now in
-    let found : c.in-Ok-Some.field-0 ≡ script_of text c.args.policy = c.in-Ok-Some.ensures.value in
-    let read : Some c.in-Ok-Some.script ≡ script_of text c.args.policy = rw c.in-Ok-Some.field-0-is at found in
-    record { runs = read_runs text c.args.policy c.in-Ok-Some.script read }
+pub returns-in-Ok-clause-ok : goal.returns-in-Ok-clause-ok
+returns-in-Ok-clause-ok g c =
+    let held = g.F.Files.held c.args.files.now in
+    let read : IfSome held (λ h. text_in 2 (h c.args.name.now) ≡ Ok c.deref.result.now) = rw c.deref.ensures.value c.in-Ok.ensures.ok in
+    script_found c.args.policies.now c.args.name.now c.deref.result.now held c.script_by.result read c.script_by.ensures.ok
