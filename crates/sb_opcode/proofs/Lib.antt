@@ -1,0 +1,4 @@
+pub mod CheckLemmas
+pub mod GroupLemmas
+pub mod PackingLemmas
+pub mod RecordLemmas

@@ -1,0 +1,6 @@
+pub mod Options
+pub mod Packing
+pub mod Records
+pub mod Groups
+pub mod Faults
+pub mod WholeGroups

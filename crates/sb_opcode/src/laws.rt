@@ -1,0 +1,20 @@
+// Laws of codes. None of these functions does anything: each contract is a law.
+ghost use Rattle.sb_opcode.specs.Packing.{PackingComesBack, PackingIsOneToOne, RecordsComeBack};
+ghost use Rattle.sb_opcode.specs.WholeGroups.{PartsAreTheList, FaultlessRulesAreWhole, FaultlessOpcodesSuit};
+
+/// Words unpack to opcodes exactly where they are the packing of these, different opcodes are packed differently, and a
+/// record is known from its own words.
+pub fn packing_comes_back()
+    ensures packed { PackingComesBack }
+    ensures one_to_one { PackingIsOneToOne }
+    ensures records { RecordsComeBack }
+{}
+
+/// The rules of a code, and the groups of a rule, are cut out of it without loss. A code without a fault has whole rules:
+/// each ends with its action, and each of its groups has CLEAR on its last opcode alone, looks at one parameter, and has
+/// OR on all its opcodes or on none. Each opcode suits its parameter.
+pub fn faultless_codes_are_whole()
+    ensures parts { PartsAreTheList }
+    ensures rules { FaultlessRulesAreWhole }
+    ensures opcodes { FaultlessOpcodesSuit }
+{}

@@ -1,0 +1,107 @@
+// What an opcode is.
+ghost use Rattle.std.specs.Prelude.{◌≡◌, length};
+
+use crate::options::Options;
+use sb_pattern::Cell;
+use sb_rule::Action;
+use std::marker::Model;
+
+/// Where in a string the fragment of a text opcode is to stand. The position is 0 at the beginning of a group, and after
+/// an opcode it is where that opcode's fragment ended.
+#[derive(Clone, Copy, Debug, PartialEq, Eq)]
+pub enum Seek {
+    /// So many units after the position.
+    Skip(u16),
+    /// At the first place from the position on where it fits.
+    Forward,
+    /// At the end of the string, and not before the position.
+    ToEnd,
+}
+
+/// The cells of a fragment.
+#[derive(Debug, Drop)]
+pub struct Cells {
+    items: Vec<Cell>,
+}
+
+impl Model for Cells {
+    ghost use Rattle.std.specs.Prelude.{List};
+    ghost use Rattle.sb_pattern.specs.declared.cells.Cell.{Cell};
+
+    ghost Value = { List Cell };
+
+    ghost view = { λ c. c.items.items };
+}
+
+impl Cells {
+    /// The list of these items.
+    pub fn new(items: Vec<Cell>) -> Cells
+        ensures { result ≡ items.items }
+    {
+        Cells { items }
+    }
+
+    /// The items.
+    pub fn into_items(self) -> Vec<Cell>
+        ensures { result.items ≡ self }
+    {
+        self.items
+    }
+
+    /// The items, in order.
+    pub fn as_slice(&self) -> &[Cell]
+        ensures { result.now ≡ self.now }
+    {
+        &self.items
+    }
+
+    /// How many items there are.
+    pub fn len(&self) -> usize
+        ensures { result ≡ length self.now }
+    {
+        self.items.len()
+    }
+}
+
+impl PartialEq for Cells {
+    ghost use Rattle.std.specs.Cmp.Lexicographic.{pointwise};
+    ghost use Rattle.sb_pattern.specs.Cells.{same_cell, same_cells_laws};
+
+    ghost eq = { pointwise same_cell };
+
+    ghost laws = { same_cells_laws };
+
+    fn eq(&self, other: &Cells) -> bool {
+        self.items == other.items
+    }
+}
+
+/// What an opcode does.
+#[derive(Debug, Drop, PartialEq)]
+pub enum OpKind {
+    /// Never holds.
+    False,
+    /// Always holds.
+    True,
+    /// Holds of this number.
+    Num(u64),
+    /// Holds of the numbers from `lo` to `hi`, both included.
+    Range { lo: u64, hi: u64 },
+    /// Holds of the numbers that have a bit of this mask.
+    Mask(u64),
+    /// Holds of a string in which the fragment stands where it is sought.
+    Text { cells: Cells, seek: Seek },
+    /// Ends a rule: what the rule does, and the line on which it was written.
+    Act { action: Action, line: u32 },
+}
+
+/// An opcode: what it does, the parameter of the call that it looks at, and its options.
+#[derive(Debug, Drop, PartialEq)]
+pub struct Opcode {
+    /// What it does.
+    pub kind: OpKind,
+    /// The parameter, from 0. An action, `True` and `False` look at none.
+    pub param: u32,
+    /// The options.
+    pub options: Options,
+}

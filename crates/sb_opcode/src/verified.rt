@@ -1,0 +1,93 @@
+// Codes that are sound for a call.
+ghost use Rattle.std.specs.Prelude.{◌≡◌, ◌<◌, ◌^◌, Option, None, Some, length, MatchResult};
+ghost use Rattle.sb_opcode.specs.Faults.{fault_of, words_fault_of};
+ghost use Rattle.sb_opcode.specs.Packing.{unpacked};
+
+use crate::checks::fault_of;
+use crate::codes::{Code, code_of, is_packed};
+use crate::faults::{CodeFault, WordsFault};
+use crate::words::WordList;
+use sb_call::CallTag;
+
+/// A code without a fault for the calls of one tag.
+#[derive(Debug, Drop)]
+pub struct Verified {
+    tag: CallTag,
+    code: Code,
+    ghost sound: { fault_of tag code ≡ None },
+}
+
+impl Verified {
+    /// The calls that it is for.
+    pub fn tag(&self) -> CallTag
+        ensures { result ≡ self.now.tag }
+    {
+        self.tag
+    }
+
+    /// The code.
+    pub fn code(&self) -> &Code
+        ensures code { result.now ≡ self.now.code }
+        ensures sound { fault_of self.now.tag self.now.code ≡ None }
+    {
+        &self.code
+    }
+}
+
+/// A code that was refused, and why.
+#[derive(Debug, Drop)]
+pub struct VerifyRefused {
+    /// The code, given back.
+    pub code: Code,
+    /// Its fault.
+    pub fault: CodeFault,
+}
+
+/// Verifies a code for the calls of a tag. It takes no memory.
+///
+/// # Errors
+/// `NoAction`, `OpenGroup` and `BadParam` exactly where the code has this as its first fault, by their order and then by
+/// the place. The code is given back.
+pub fn verify(tag: CallTag, code: Code) -> Result<Verified, VerifyRefused>
+    ensures { MatchResult result (λ verified. (fault_of tag code ≡ None) × (verified.tag ≡ tag) × (verified.code ≡ code))
+        (λ refused. (fault_of tag code ≡ Some refused.fault) × (refused.code ≡ code)) }
+{
+    match fault_of(tag, &code) {
+        Some(fault) => Err(VerifyRefused { code, fault }),
+        None => Ok(Verified { tag, code }),
+    }
+}
+
+/// Words that were refused, and why.
+#[derive(Debug, Drop)]
+pub struct WordsRefused {
+    /// The words, given back.
+    pub words: WordList,
+    /// What is wrong with them.
+    pub fault: WordsFault,
+}
+
+/// Verifies packed words for the calls of a tag. There are fewer than 2^32 words. It takes no memory.
+///
+/// # Errors
+/// `NotPacked` exactly where the words are the packing of no opcodes, and `Code` exactly where they are the packing of
+/// opcodes that `verify` refuses, with the same fault. The words are given back.
+pub fn verify_words(tag: CallTag, words: Vec<u64>) -> Result<Verified, WordsRefused>
+    requires { length words.items < 2 ^ 32 }
+    ensures { MatchResult result (λ verified. (words_fault_of tag words.items ≡ None) × (unpacked words.items ≡ Some verified.code) × (verified.tag ≡ tag))
+        (λ refused. (words_fault_of tag words.items ≡ Some refused.fault) × (refused.words ≡ words.items)) }
+{
+    if !is_packed(&words) {
+        return Err(WordsRefused {
+            words: WordList::new(words),
+            fault: WordsFault::NotPacked,
+        });
+    }
+    match verify(tag, code_of(words)) {
+        Ok(verified) => Ok(verified),
+        Err(refused) => Err(WordsRefused {
+            words: WordList::new(refused.code.into_words()),
+            fault: WordsFault::Code(refused.fault),
+        }),
+    }
+}
