@@ -1,6 +1,7 @@
 // The call that stands in a copy of a block.
-ghost use Rattle.std.specs.Prelude.{◌≡◌, ◌≤◌, length, true, IfOk, Ok, MatchResult};
+ghost use Rattle.std.specs.Prelude.{◌≡◌, ◌≤◌, length, true, None, IfOk, IfErr, Ok, MatchResult};
 ghost use Rattle.sb_call.specs.Arguments.{fits};
+ghost use Rattle.sb_block.specs.Faults.{fault};
 ghost use Rattle.sb_block.specs.Calls.{argument_in, arguments_in, tag_in, decoded, IsRefusal};
 
 use crate::faults::{BlockFault, fault_of};
@@ -81,9 +82,10 @@ fn tag_in(words: &[u64]) -> CallTag
 ///
 /// # Errors
 /// `Fault` exactly where `fault_of` gives that fault, and `NoMemory` where there was none for the
-/// arguments.
+/// arguments of a copy without a fault.
 pub fn decode(alloc: Global, taken: &Taken) -> Result<Call, BlockRefused>
     ensures value { MatchResult result (λ call. decoded taken.now ≡ Ok call) (IsRefusal (decoded taken.now)) }
+    ensures faultless { IfErr result (λ refused. refused ≡ BlockRefused.NoMemory → fault taken.now ≡ None) }
     ensures fits { IfOk result (λ call. fits call.tag call.args ≡ true) }
 {
     if let Some(fault) = fault_of(taken) {

@@ -1,4 +1,5 @@
 pub mod Arguments
+pub mod CallWords
 pub mod Equality
 pub mod EqualityLaws
 pub mod Scripts

@@ -4,6 +4,7 @@
 #![tactic(auto)]
 
 mod arguments;
+mod call_words;
 mod laws;
 mod replies;
 mod results;
@@ -17,6 +18,7 @@ mod tags;
 mod tests;
 
 pub use arguments::{Arg, Args, fits};
+pub use call_words::{call_word, every_tag, tag_of_word};
 pub use laws::{equality_tells, fitting_args, tags_and_numbers};
 pub use replies::{Answer, Extended, Reply};
 pub use results::{CallResult, StmtResult};

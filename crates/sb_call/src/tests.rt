@@ -1,7 +1,8 @@
 use crate::{
     Actor, Answer, Arg, Args, CallResult, CallTag, Extended, ParamKind, Reply, Schedule, Script,
     ShortName, StartLine, StartLines, Statement, Statements, Steps, StmtResult, TargetScript,
-    Targets, Threads, Word, clean, fits, number_of, shape, tag_of,
+    Targets, Threads, Word, call_word, clean, every_tag, fits, number_of, shape, tag_of,
+    tag_of_word,
 };
 use sb_wide::{NoMemory, units};
 use std::alloc::Global;
@@ -33,6 +34,31 @@ fn tags_have_the_numbers_and_parameters_of_the_table(rt: HostRuntime) {
     }
     for number in [0, 12, 99, u64::MAX] {
         assert_eq!(rt; tag_of(number), None);
+    }
+}
+
+#[test]
+fn words_name_the_calls_by_number(rt: HostRuntime) {
+    let words: [&[u8]; 11] = [
+        b"ping",
+        b"file.create",
+        b"file.open",
+        b"file.query",
+        b"file.rename",
+        b"pipe.create",
+        b"key.create",
+        b"key.open",
+        b"event.create",
+        b"event.open",
+        b"handle.close",
+    ];
+    for (tag, word) in every_tag().iter().zip(words.iter()) {
+        assert_eq!(rt; call_word(*tag), *word);
+        assert_eq!(rt; tag_of_word(word), Some(*tag));
+    }
+    let others: [&[u8]; 4] = [b"", b"file", b"file.create ", b"PING"];
+    for word in others {
+        assert_eq!(rt; tag_of_word(word), None);
     }
 }
 

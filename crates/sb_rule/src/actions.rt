@@ -1,6 +1,6 @@
 // What a rule does with a call.
 ghost use Rattle.std.specs.Prelude.{◌≡◌};
-ghost use Rattle.sb_rule.specs.Actions.{action_number};
+ghost use Rattle.sb_rule.specs.Actions.{action_number, action_word};
 
 /// What a rule does with a call. Each action has a number by which compiled rules name it.
 #[derive(Clone, Copy, Debug, PartialEq, Eq)]
@@ -23,5 +23,17 @@ impl Action {
         ensures { result ≡ action_number self }
     {
         self as u64
+    }
+    /// The word by which texts name the action, as `allow`.
+    pub fn word(self) -> &'static [u8]
+        ensures { result.now ≡ action_word self }
+    {
+        match self {
+            Action::Allow => b"allow",
+            Action::Deny => b"deny",
+            Action::Alarm => b"alarm",
+            Action::Fake => b"fake",
+            Action::ReadOnly => b"readonly",
+        }
     }
 }

@@ -1,2 +1,0 @@
-pub mod Afters
-pub mod Fitting
