@@ -1,0 +1,13 @@
+pub mod Seeking
+pub mod Runs
+pub mod Ends
+pub mod Members
+pub mod Conditions
+pub mod Cuts
+pub mod Verdicts
+pub mod Faultless
+pub mod Steps
+pub mod Stars
+pub mod Calls
+pub mod LetterCase
+pub mod Standing

@@ -1,0 +1,28 @@
+// Laws of compiling. None of these functions does anything: each contract is a law.
+ghost use Rattle.sb_compile.specs.Laws.{CompilingKeepsVerdicts, CompiledCodeIsFaultless, LetterCaseDoesNotMatter};
+
+use sb_call::{fitting_args, tags_and_numbers};
+use sb_pattern::matching_folds;
+
+/// The program of a well-made policy says of each call whose arguments fit what the policy says.
+pub fn compiling_keeps_verdicts()
+    ensures { CompilingKeepsVerdicts }
+{
+    fitting_args();
+    tags_and_numbers();
+}
+
+/// The code of a call that has rules, under a well-made policy, has no fault.
+pub fn compiled_code_is_faultless()
+    ensures { CompiledCodeIsFaultless }
+{
+    tags_and_numbers();
+}
+
+/// Where two well-made policies differ in the letter case of strings and patterns alone, their programs say the same.
+pub fn letter_case_does_not_matter()
+    ensures { LetterCaseDoesNotMatter }
+{
+    compiling_keeps_verdicts();
+    matching_folds();
+}

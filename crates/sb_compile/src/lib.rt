@@ -1,0 +1,17 @@
+// Policies as code: each call's rules are compiled to opcodes, which are verified, judged by and listed.
+#![tactic(auto)]
+
+mod groups;
+mod laws;
+mod listing;
+mod numbers;
+mod patterns;
+mod programs;
+mod rules;
+mod targets;
+#[cfg(test)]
+mod tests;
+
+pub use laws::{compiled_code_is_faultless, compiling_keeps_verdicts, letter_case_does_not_matter};
+pub use programs::{Program, compile};
+pub use targets::{PolicyNumbers, ProgramList, Programs};

@@ -1,0 +1,233 @@
+// The listing of a program: a heading for each call that has code, and a line for each opcode.
+ghost use Rattle.std.specs.Prelude.{◌≡◌, ◌+◌, ◌<◌, ◌^◌, ◌++◌, ◌∷◌, [], codes, length, map, IfOk, OnOk};
+ghost use Rattle.std.specs.Fmt.{decimal};
+ghost use Rattle.sb_wide.specs.Quoting.{quoted};
+ghost use Rattle.sb_pattern.specs.Reading.{cell_text, text_of};
+ghost use Rattle.sb_call.specs.CallWords.{call_word};
+ghost use Rattle.sb_rule.specs.Actions.{action_word};
+ghost use Rattle.sb_opcode.specs.Packing.{cell_of};
+ghost use Rattle.sb_opcode.specs.Records.{kind_of, opcode_of};
+ghost use Rattle.sb_compile.specs.Listing.{seek_text, number_text, kind_text, word_if, options_text, opcode_line, opcode_lines, code_lines, listing_from};
+ghost use Rattle.sb_compile.specs.Programs.{code_in_call};
+
+use bitflags::Flags;
+use sb_call::{CallTag, call_word};
+use sb_opcode::{Code, Options, Record, RecordKind, Records, Seek, Verified};
+use sb_rule::Action;
+use sb_wide::{NoMemory, quote_into};
+
+fn put_decimal(out: &mut Vec<u8>, number: u64) -> Result<(), NoMemory>
+    ensures { OnOk result (out.new.items ≡ out.old.items ++ decimal number) }
+{
+    let text = number.to_string(*out.allocator())?;
+    out.extend_from_slice(text.as_bytes())?;
+    Ok(())
+}
+
+// A blank, and a number in hexadecimal.
+fn put_number(out: &mut Vec<u8>, number: u64) -> Result<(), NoMemory>
+    ensures { OnOk result (out.new.items ≡ out.old.items ++ number_text number) }
+{
+    let digits = format!(in *out.allocator(); "{number:x}")?;
+    out.extend_from_slice(b" 0x")?;
+    out.extend_from_slice(digits.as_bytes())?;
+    Ok(())
+}
+
+// A word and the number of a parameter.
+fn put_param(out: &mut Vec<u8>, word: &[u8], param: u32) -> Result<(), NoMemory>
+    ensures { OnOk result (out.new.items ≡ out.old.items ++ (word.now ++ decimal param)) }
+{
+    out.extend_from_slice(word)?;
+    put_decimal(out, u64::from(param))
+}
+
+fn put_seek(out: &mut Vec<u8>, seek: Seek) -> Result<(), NoMemory>
+    ensures { OnOk result (out.new.items ≡ out.old.items ++ seek_text seek) }
+{
+    match seek {
+        Seek::Skip(skip) => {
+            out.extend_from_slice(b"skip ")?;
+            put_decimal(out, u64::from(skip))
+        }
+        Seek::Forward => Ok(out.extend_from_slice(b"forward")?),
+        Seek::ToEnd => Ok(out.extend_from_slice(b"end")?),
+    }
+}
+
+// The text of a cell that stands as a word.
+fn push_cell(units: &mut Vec<u16>, word: u64) -> Result<(), NoMemory>
+    ensures { OnOk result (units.new.items ≡ units.old.items ++ cell_text (cell_of word)) }
+{
+    if word == 63 {
+        units.push(47)?;
+    }
+    if word < 65536 {
+        units.push(word as u16)?;
+    } else if word == 65536 {
+        units.push(63)?;
+    } else {
+        units.push(42)?;
+    }
+    Ok(())
+}
+
+// The text of cells, between quotes.
+fn put_cells(out: &mut Vec<u8>, cells: &[u64]) -> Result<(), NoMemory>
+    ensures { OnOk result (out.new.items ≡ out.old.items ++ quoted (text_of (map cell_of cells.now))) }
+{
+    let mut units = Vec::new(*out.allocator());
+    for word in cells {
+        push_cell(&mut units, *word)?;
+    }
+    quote_into(out, &units)
+}
+
+fn put_text(out: &mut Vec<u8>, param: u32, cells: &[u64], seek: Seek) -> Result<(), NoMemory>
+    ensures { OnOk result (out.new.items ≡ out.old.items
+        ++ (codes "text p" ++ decimal param ++ codes " " ++ seek_text seek ++ codes " " ++ quoted (text_of (map cell_of cells.now)))) }
+{
+    put_param(out, b"text p", param)?;
+    out.push(b' ')?;
+    put_seek(out, seek)?;
+    out.push(b' ')?;
+    put_cells(out, cells)
+}
+
+fn put_act(out: &mut Vec<u8>, action: Action, line: u32) -> Result<(), NoMemory>
+    ensures { OnOk result (out.new.items ≡ out.old.items ++ (codes "action " ++ action_word action ++ codes " line " ++ decimal line)) }
+{
+    out.extend_from_slice(b"action ")?;
+    out.extend_from_slice(action.word())?;
+    out.extend_from_slice(b" line ")?;
+    put_decimal(out, u64::from(line))
+}
+
+fn put_kind(out: &mut Vec<u8>, opcode: &Record<'_>) -> Result<(), NoMemory>
+    ensures { OnOk result (out.new.items ≡ out.old.items ++ kind_text (kind_of opcode.now.kind) opcode.now.param) }
+{
+    let param = opcode.param;
+    match opcode.kind {
+        RecordKind::False => Ok(out.extend_from_slice(b"false")?),
+        RecordKind::True => Ok(out.extend_from_slice(b"true")?),
+        RecordKind::Num(number) => {
+            put_param(out, b"num p", param)?;
+            put_number(out, number)
+        }
+        RecordKind::Range { lo, hi } => {
+            put_param(out, b"range p", param)?;
+            put_number(out, lo)?;
+            put_number(out, hi)
+        }
+        RecordKind::Mask(mask) => {
+            put_param(out, b"mask p", param)?;
+            put_number(out, mask)
+        }
+        RecordKind::Text { cells, seek } => put_text(out, param, cells, seek),
+        RecordKind::Act { action, line } => put_act(out, action, line),
+    }
+}
+
+fn put_word_if(out: &mut Vec<u8>, has: bool, word: &[u8]) -> Result<(), NoMemory>
+    ensures { OnOk result (out.new.items ≡ out.old.items ++ word_if has word.now) }
+{
+    if has {
+        out.extend_from_slice(word)?;
+    }
+    Ok(())
+}
+
+fn put_options(out: &mut Vec<u8>, options: Options) -> Result<(), NoMemory>
+    ensures { OnOk result (out.new.items ≡ out.old.items ++ options_text options) }
+{
+    put_word_if(out, options.contains(Options::FOLD), b" fold")?;
+    put_word_if(out, options.contains(Options::EXACT), b" exact")?;
+    put_word_if(out, options.contains(Options::NEGATE), b" negate")?;
+    put_word_if(out, options.contains(Options::CLEAR), b" clear")?;
+    put_word_if(out, options.contains(Options::OR), b" or")
+}
+
+// The line of an opcode.
+fn put_opcode(out: &mut Vec<u8>, at: u64, opcode: &Record<'_>) -> Result<(), NoMemory>
+    ensures { OnOk result (out.new.items ≡ out.old.items ++ opcode_line at (opcode_of opcode.now)) }
+{
+    put_decimal(out, at)?;
+    out.push(b' ')?;
+    put_kind(out, opcode)?;
+    put_options(out, opcode.options)?;
+    out.push(b'\n')?;
+    Ok(())
+}
+
+// The lines of opcodes, of which the first has the place 1.
+fn put_later(out: &mut Vec<u8>, records: &mut Records<'_>) -> Result<(), NoMemory>
+    requires { length records.old < 2 ^ 32 }
+    ensures { OnOk result (out.new.items ≡ out.old.items ++ opcode_lines 1 records.old) }
+{
+    let mut at = 1;
+    while let Some(record) = records.next_record() {
+        put_opcode(out, at, &record)?;
+        at += 1;
+    }
+    Ok(())
+}
+
+fn put_heading(out: &mut Vec<u8>, name: &[u8], tag: CallTag) -> Result<(), NoMemory>
+    ensures { OnOk result (out.new.items ≡ out.old.items ++ (codes "code " ++ name.now ++ codes " " ++ call_word tag ++ 10 ∷ [])) }
+{
+    out.extend_from_slice(b"code ")?;
+    out.extend_from_slice(name)?;
+    out.push(b' ')?;
+    out.extend_from_slice(call_word(tag))?;
+    out.push(b'\n')?;
+    Ok(())
+}
+
+// The heading of a code and its lines, and nothing where there are no opcodes.
+fn put_code(out: &mut Vec<u8>, name: &[u8], tag: CallTag, code: &Code) -> Result<(), NoMemory>
+    ensures { OnOk result (out.new.items ≡ out.old.items ++ code_lines name.now tag code.now) }
+{
+    let mut records = code.records();
+    let Some(first) = records.next_record() else {
+        return Ok(());
+    };
+    put_heading(out, name, tag)?;
+    put_opcode(out, 0, &first)?;
+    put_later(out, &mut records)
+}
+
+fn put_call(
+    out: &mut Vec<u8>,
+    name: &[u8],
+    tag: CallTag,
+    call: &Option<Verified>,
+) -> Result<(), NoMemory>
+    ensures { OnOk result (out.new.items ≡ out.old.items ++ code_lines name.now tag (code_in_call call.now)) }
+{
+    match call {
+        Some(verified) => put_code(out, name, tag, verified.code()),
+        None => Ok(()),
+    }
+}
+
+// Appends the listings of calls, which have these tags.
+pub(crate) fn put_calls(
+    out: &mut Vec<u8>,
+    name: &[u8],
+    tags: &[CallTag],
+    calls: &[Option<Verified>],
+) -> Result<(), NoMemory>
+    ensures { OnOk result (out.new.items ≡ out.old.items ++ listing_from name.now tags.now (map code_in_call calls.now)) }
+{
+    let mut tags = tags;
+    let mut calls = calls;
+    while let Some((tag, later_tags)) = tags.split_first() {
+        let Some((call, later_calls)) = calls.split_first() else {
+            return Ok(());
+        };
+        put_call(out, name, *tag, call)?;
+        tags = later_tags;
+        calls = later_calls;
+    }
+    Ok(())
+}

@@ -1,0 +1,46 @@
+// The opcodes of tests of numbers.
+ghost use Rattle.std.specs.Prelude.{◌≡◌, ◌+◌, ◌<◌, ◌≤◌, ◌^◌, ◌++◌, map, length, OnOk};
+ghost use Rattle.sb_opcode.specs.declared.opcodes.OpKind.TheVariants as op;
+ghost use Rattle.sb_compile.specs.Compiling.{opcode, choice, closed, numbers_code};
+ghost use Rattle.sb_compile.specs.Steps.{is_none};
+
+use crate::groups::{CHOICE, Group, PLAIN};
+use sb_opcode::{Code, OpKind};
+use sb_wide::NoMemory;
+
+fn is_none(numbers: &[u64]) -> bool
+    ensures { result ≡ is_none numbers.now }
+{
+    match numbers.split_first() {
+        Some(_) => false,
+        None => true,
+    }
+}
+
+// Appends an opcode for each number, of which one is enough.
+#[tactic(auto, using(crate::proofs::Steps::choices_step))]
+fn push_choices(code: &mut Code, group: Group, numbers: &[u64]) -> Result<(), NoMemory>
+    requires { length code.old + length numbers.now + 1 < 2 ^ 32 }
+    ensures ok { OnOk result (code.new ≡ code.old ++ closed group.negated (map (λ k. opcode group.param choice (op.Num k)) numbers.now)) }
+    ensures few { OnOk result (length code.new ≤ length code.old + length numbers.now) }
+{
+    let mut rest = numbers;
+    while let Some((number, later)) = rest.split_first() {
+        group.push(code, CHOICE, OpKind::Num(*number), is_none(later))?;
+        rest = later;
+    }
+    Ok(())
+}
+
+// Appends the opcodes of a list of numbers.
+pub(crate) fn push_numbers(code: &mut Code, group: Group, numbers: &[u64]) -> Result<(), NoMemory>
+    requires { length code.old + length numbers.now + 1 < 2 ^ 32 }
+    ensures ok { OnOk result (code.new ≡ code.old ++ closed group.negated (numbers_code group.param numbers.now)) }
+    ensures few { OnOk result (length code.new ≤ length code.old + length numbers.now) }
+{
+    match numbers {
+        [] => Ok(()),
+        [number] => group.push(code, PLAIN, OpKind::Num(*number), true),
+        _ => push_choices(code, group, numbers),
+    }
+}

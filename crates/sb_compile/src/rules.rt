@@ -1,0 +1,117 @@
+// The code of rules.
+ghost use Rattle.std.specs.Prelude.{◌≡◌, ◌+◌, ◌*◌, ◌<◌, ◌≤◌, ◌^◌, ◌++◌, ◌∷◌, [], true, length, map, OnOk, IfOk};
+ghost use Rattle.std.specs.List.{flat_map, list_all};
+ghost use Rattle.sb_pattern.specs.declared.cells.Cell.TheVariants.{Lit};
+ghost use Rattle.sb_rule.specs.WellMade.{is_sensible, is_well_made_rule};
+ghost use Rattle.sb_opcode.specs.declared.opcodes.OpKind.TheVariants as op;
+ghost use Rattle.sb_opcode.specs.declared.opcodes.Seek.TheVariants.{Skip};
+ghost use Rattle.sb_compile.specs.Compiling.{opcode, closed, test_code, cond_code, rule_code, code_of};
+
+use crate::groups::{FOLD_AND_EXACT, Group, PLAIN, push};
+use crate::numbers::push_numbers;
+use crate::patterns::push_pattern;
+use sb_call::{CallTag, number_of};
+use sb_opcode::{Cells, Code, OpKind, Seek};
+use sb_pattern::Cell;
+use sb_rule::{Cond, Rule, Test};
+use sb_wide::NoMemory;
+use std::alloc::Global;
+
+// The cells of a string: each unit stands for itself.
+fn literals(alloc: Global, units: &[u16]) -> Result<Cells, NoMemory>
+    ensures { IfOk result (λ cells. cells ≡ map Lit units.now) }
+{
+    let mut cells = Vec::new(alloc);
+    for unit in units {
+        cells.push(Cell::Lit(*unit))?;
+    }
+    Ok(Cells::new(cells))
+}
+
+// Appends the opcode of a string that is to be the same.
+fn push_equal(alloc: Global, code: &mut Code, group: Group, units: &[u16]) -> Result<(), NoMemory>
+    requires { length code.old + 1 < 2 ^ 32 }
+    ensures { OnOk result (code.new ≡ code.old ++ closed group.negated (opcode group.param 24 (op.Text (map Lit units.now) (Skip 0)) ∷ [])) }
+{
+    let cells = literals(alloc, units)?;
+    let seek = Seek::Skip(0);
+    group.push(code, FOLD_AND_EXACT, OpKind::Text { cells, seek }, true)
+}
+
+// Appends the opcodes of a test.
+fn push_test(alloc: Global, code: &mut Code, group: Group, test: &Test) -> Result<(), NoMemory>
+    requires room { length code.old + 258 < 2 ^ 32 }
+    requires sensible { is_sensible test.now ≡ true }
+    ensures ok { OnOk result (code.new ≡ code.old ++ closed group.negated (test_code group.param test.now)) }
+    ensures few { OnOk result (length code.new ≤ length code.old + 257) }
+{
+    match test {
+        Test::OneOf(numbers) => push_numbers(code, group, numbers.as_slice()),
+        Test::Range { lo, hi } => {
+            let (lo, hi) = (*lo, *hi);
+            group.push(code, PLAIN, OpKind::Range { lo, hi }, true)
+        }
+        Test::Mask(mask) => group.push(code, PLAIN, OpKind::Mask(*mask), true),
+        Test::Equal(text) => push_equal(alloc, code, group, text.as_units()),
+        Test::Like(pattern) => push_pattern(alloc, code, group, pattern.cells()),
+    }
+}
+
+// Appends the group of a condition.
+fn push_cond(alloc: Global, code: &mut Code, cond: &Cond) -> Result<(), NoMemory>
+    requires room { length code.old + 258 < 2 ^ 32 }
+    requires sensible { is_sensible cond.now.test ≡ true }
+    ensures ok { OnOk result (code.new ≡ code.old ++ cond_code cond.now) }
+    ensures few { OnOk result (length code.new ≤ length code.old + 257) }
+{
+    let group = Group {
+        param: cond.param,
+        negated: cond.negated,
+    };
+    push_test(alloc, code, group, &cond.test)
+}
+
+// Appends the groups of conditions.
+fn push_conds(alloc: Global, code: &mut Code, conds: &[Cond]) -> Result<(), NoMemory>
+    requires room { length code.old + 257 * length conds.now + 1 < 2 ^ 32 }
+    requires sensible { list_all (λ c. is_sensible c.test) conds.now ≡ true }
+    ensures ok { OnOk result (code.new ≡ code.old ++ flat_map cond_code conds.now) }
+    ensures few { OnOk result (length code.new ≤ length code.old + 257 * length conds.now) }
+{
+    let mut rest = conds;
+    while let Some((cond, later)) = rest.split_first() {
+        push_cond(alloc, code, cond)?;
+        rest = later;
+    }
+    Ok(())
+}
+
+#[tactic(auto, using(crate::proofs::Steps::formed_sensible))]
+// Appends the code of a rule: at most 8 conditions of 257 opcodes, and the action.
+fn push_rule(alloc: Global, code: &mut Code, rule: &Rule) -> Result<(), NoMemory>
+    requires room { length code.old + 2057 < 2 ^ 32 }
+    requires made { is_well_made_rule rule.now ≡ true }
+    ensures ok { OnOk result (code.new ≡ code.old ++ rule_code rule.now) }
+    ensures few { OnOk result (length code.new ≤ length code.old + 2057) }
+{
+    push_conds(alloc, code, rule.conds.as_slice())?;
+    let (action, line) = (rule.action, rule.line);
+    push(code, 0, PLAIN, OpKind::Act { action, line })
+}
+
+// The code of the rules that are for a call.
+pub(crate) fn code_of(alloc: Global, rules: &[Rule], tag: CallTag) -> Result<Code, NoMemory>
+    requires few { length rules.now ≤ 256 }
+    requires made { list_all is_well_made_rule rules.now ≡ true }
+    ensures { IfOk result (λ code. code ≡ code_of rules.now tag) }
+{
+    let mut code = Code::new(alloc);
+    let mut rest = rules;
+    while let Some((rule, later)) = rest.split_first() {
+        if number_of(rule.tag) == number_of(tag) {
+            push_rule(alloc, &mut code, rule)?;
+        }
+        rest = later;
+    }
+    Ok(code)
+}

@@ -1,0 +1,325 @@
+-- The walk over the opcodes of a code gives what the code means.
+use Rattle.std.specs.Prelude.{ℕ, ◌+◌, Bool, true, false, not, ◌&&◌, ◌||◌, List, [], ◌∷◌, length, Option, None, Some, option_and_then, is_some, if◌then◌else◌}
+use Rattle.std.specs.List.{list_all, list_any, onto_first}
+use Rattle.std.proofs.Common.{◌≡◌, ◌∙◌, cond, suc, refl, ap, sym, arith}
+use Rattle.std.proofs.lemmas.Bool.{and_parts, false≢true}
+use Rattle.sb_call.specs.Arguments.{arg_at}
+use Rattle.sb_call.specs.declared.arguments.Arg.{Arg}
+use Rattle.sb_call.specs.declared.tags.CallTag.{CallTag}
+use Rattle.sb_opcode.specs.Faults.{fault_of}
+use Rattle.sb_opcode.specs.WholeGroups.{FaultlessRulesAreWhole}
+use Rattle.sb_opcode.specs.Groups.{rules_of, groups_of, is_act, is_last, is_act_kind}
+use Rattle.sb_opcode.specs.Options.{negates, is_choice}
+use Rattle.sb_opcode.specs.declared.opcodes.Opcode.{Opcode}
+use Rattle.sb_opcode.specs.declared.opcodes.OpKind.{OpKind}
+use Rattle.sb_opcode.specs.declared.opcodes.OpKind.TheVariants.{False, True, Num, Range, Mask, Text, Act}
+use Rattle.sb_eval.proofs.Closed.{closed_from, has_group, goes_into_group, groups_from, rules_closed, closed_by_rules}
+use Rattle.sb_eval.specs.Meaning.{number_in, units_in, after_kind, after_all, all_hold, one_holds, is_negated, turned, group_holds, action_from, judged_from, meaning}
+use Rattle.sb_eval.specs.Walking.{Standing, Between, All, One, Decided, Failed, begun, entered, all_so_far, one_so_far, looked_at, passed, closed, step, walk}
+use Rattle.sb_eval.specs.declared.judged.Judged.{Judged}
+use Rattle.sb_eval.specs.declared.judged.Judged.TheVariants.{Action, NoMatch}
+
+-- what is left after opcodes one after the other, where they look at this number or at what is left of the string
+abbrev pub left_after : ℕ → List Opcode → List ℕ → Option (List ℕ)
+left_after number [] us = Some us
+left_after number (op ∷ ops) us = option_and_then (left_after number ops) (after_kind op.kind op.options number us)
+
+-- one of the opcodes holds
+abbrev pub one_of : ℕ → List ℕ → List Opcode → Bool
+one_of number us ops = list_any (λ op. is_some (after_kind op.kind op.options number us)) ops
+
+-- what is left of the present rule holds: the groups begin with what is left of the present group
+abbrev pub rest_holds : List Arg → Standing → List (List Opcode) → Bool
+rest_holds args Between groups = list_all (group_holds args) groups
+rest_holds args (All number left) [] = false
+rest_holds args (All number left) (group ∷ groups) =
+    turned (is_negated group) (is_some (left_after number group left)) && list_all (group_holds args) groups
+rest_holds args (One number units) [] = false
+rest_holds args (One number units) (group ∷ groups) =
+    turned (is_negated group) (one_of number units group) && list_all (group_holds args) groups
+rest_holds args (Decided holds) [] = false
+rest_holds args (Decided holds) (group ∷ groups) = turned (is_negated group) holds && list_all (group_holds args) groups
+rest_holds args Failed groups = false
+
+-- what the rest of a code gives: the rules begin with what is left of the present rule
+abbrev pub rest_means : List Arg → ℕ → Standing → List (List Opcode) → Judged
+rest_means args at s [] = NoMatch
+rest_means args at s (rule ∷ rules) =
+    if rest_holds args s (groups_of rule) then action_from at rule else judged_from (at + length rule) args rules
+
+-- a group has begun, and has not ended
+abbrev pub is_within : Standing → Bool
+is_within Between = false
+is_within (All number left) = true
+is_within (One number units) = true
+is_within (Decided holds) = true
+is_within Failed = false
+
+-- of an argument only its number counts, once its string is at hand
+number_alone : (ops : List Opcode) (arg : Arg) (us : List ℕ) → after_all ops arg us ≡ left_after (number_in arg) ops us
+number_alone [] arg us = refl
+number_alone (op ∷ ops) arg us = by (after_kind op.kind op.options (number_in arg) us) (number_alone ops arg)
+  where
+    by : (o : Option (List ℕ)) → ((left : List ℕ) → after_all ops arg left ≡ left_after (number_in arg) ops left)
+        → option_and_then (after_all ops arg) o ≡ option_and_then (left_after (number_in arg) ops) o
+    by None h = refl
+    by (Some left) h = h left
+
+-- a group that begins is the rest of that group
+begins : (args : List Arg) (arg : Arg) (op : Opcode) (ops : List Opcode) (groups : List (List Opcode)) (b : Bool)
+    → rest_holds args (cond b (One (number_in arg) (units_in arg)) (All (number_in arg) (units_in arg))) ((op ∷ ops) ∷ groups)
+    ≡ (turned (is_negated (op ∷ ops)) (cond b (one_holds (op ∷ ops) arg) (all_hold (op ∷ ops) arg)) && list_all (group_holds args) groups)
+begins args arg op ops groups true = refl
+begins args arg op ops groups false =
+    ap (λ o. turned (is_negated (op ∷ ops)) (is_some o) && list_all (group_holds args) groups)
+    (sym (number_alone (op ∷ ops) arg (units_in arg)))
+
+enters : (args : List Arg) (op : Opcode) (ops : List Opcode) (groups : List (List Opcode))
+    → rest_holds args (begun args op) ((op ∷ ops) ∷ groups) ≡ rest_holds args Between ((op ∷ ops) ∷ groups)
+enters args op ops groups = begins args (arg_at args op.param) op ops groups (is_choice op.options)
+
+entered_holds : (args : List Arg) (s : Standing) (op : Opcode) (ops : List Opcode) (groups : List (List Opcode))
+    → rest_holds args (entered args s op) ((op ∷ ops) ∷ groups) ≡ rest_holds args s ((op ∷ ops) ∷ groups)
+entered_holds args Between op ops groups = enters args op ops groups
+entered_holds args (All number left) op ops groups = refl
+entered_holds args (One number units) op ops groups = refl
+entered_holds args (Decided holds) op ops groups = refl
+entered_holds args Failed op ops groups = refl
+
+-- an opcode is entered within a group, or in a rule that does not hold
+abbrev is_inside : Standing → Bool
+is_inside Between = false
+is_inside (All number left) = true
+is_inside (One number units) = true
+is_inside (Decided holds) = true
+is_inside Failed = true
+
+begun_inside : (number : ℕ) (units : List ℕ) (b : Bool) → is_inside (cond b (One number units) (All number units)) ≡ true
+begun_inside number units true = refl
+begun_inside number units false = refl
+
+entered_inside : (args : List Arg) (s : Standing) (op : Opcode) → is_inside (entered args s op) ≡ true
+entered_inside args Between op = begun_inside (number_in (arg_at args op.param)) (units_in (arg_at args op.param)) (is_choice op.options)
+entered_inside args (All number left) op = refl
+entered_inside args (One number units) op = refl
+entered_inside args (Decided holds) op = refl
+entered_inside args Failed op = refl
+
+-- within a group, what is left of it after an opcode that is not its last
+all_goes_on : (args : List Arg) (number : ℕ) (next : Opcode) (ops : List Opcode) (groups : List (List Opcode)) (o : Option (List ℕ))
+    → rest_holds args (all_so_far number o) ((next ∷ ops) ∷ groups)
+    ≡ (turned (is_negated (next ∷ ops)) (is_some (option_and_then (left_after number (next ∷ ops)) o)) && list_all (group_holds args) groups)
+all_goes_on args number next ops groups None = refl
+all_goes_on args number next ops groups (Some us) = refl
+
+one_goes_on : (args : List Arg) (number : ℕ) (units : List ℕ) (next : Opcode) (ops : List Opcode) (groups : List (List Opcode)) (o : Option (List ℕ))
+    → rest_holds args (one_so_far number units o) ((next ∷ ops) ∷ groups)
+    ≡ (turned (is_negated (next ∷ ops)) (is_some o || one_of number units (next ∷ ops)) && list_all (group_holds args) groups)
+one_goes_on args number units next ops groups None = refl
+one_goes_on args number units next ops groups (Some us) = refl
+
+looked_at_holds : (args : List Arg) (s : Standing) (op next : Opcode) (ops : List Opcode) (groups : List (List Opcode)) → is_inside s ≡ true
+    → rest_holds args (looked_at s op) ((next ∷ ops) ∷ groups) ≡ rest_holds args s ((op ∷ next ∷ ops) ∷ groups)
+looked_at_holds args Between op next ops groups h = absurd (false≢true h)
+looked_at_holds args (All number left) op next ops groups h = all_goes_on args number next ops groups (after_kind op.kind op.options number left)
+looked_at_holds args (One number units) op next ops groups h =
+    one_goes_on args number units next ops groups (after_kind op.kind op.options number units)
+looked_at_holds args (Decided holds) op next ops groups h = refl
+looked_at_holds args Failed op next ops groups h = refl
+
+passed_holds : (args : List Arg) (b : Bool) (groups : List (List Opcode)) → rest_holds args (passed b) groups ≡ (b && list_all (group_holds args) groups)
+passed_holds args true groups = refl
+passed_holds args false groups = refl
+
+-- within a group, what is left of the rule after the last opcode of that group
+all_ends : (args : List Arg) (number : ℕ) (negated : Bool) (groups : List (List Opcode)) (o : Option (List ℕ))
+    → rest_holds args (closed negated (all_so_far number o)) groups
+    ≡ (turned negated (is_some (option_and_then (left_after number []) o)) && list_all (group_holds args) groups)
+all_ends args number negated groups None = passed_holds args (turned negated false) groups
+all_ends args number negated groups (Some us) = passed_holds args (turned negated true) groups
+
+one_ends : (args : List Arg) (number : ℕ) (units : List ℕ) (negated : Bool) (groups : List (List Opcode)) (o : Option (List ℕ))
+    → rest_holds args (closed negated (one_so_far number units o)) groups
+    ≡ (turned negated (is_some o || one_of number units []) && list_all (group_holds args) groups)
+one_ends args number units negated groups None = passed_holds args (turned negated false) groups
+one_ends args number units negated groups (Some us) = passed_holds args (turned negated true) groups
+
+closed_holds : (args : List Arg) (s : Standing) (op : Opcode) (groups : List (List Opcode)) → is_inside s ≡ true
+    → rest_holds args (closed (negates op.options) (looked_at s op)) groups ≡ rest_holds args s ((op ∷ []) ∷ groups)
+closed_holds args Between op groups h = absurd (false≢true h)
+closed_holds args (All number left) op groups h = all_ends args number (negates op.options) groups (after_kind op.kind op.options number left)
+closed_holds args (One number units) op groups h =
+    one_ends args number units (negates op.options) groups (after_kind op.kind op.options number units)
+closed_holds args (Decided holds) op groups h = passed_holds args (turned (negates op.options) holds) groups
+closed_holds args Failed op groups h = refl
+
+-- one step: what is left of the rule holds before an opcode exactly where what is left after it does
+step_holds : (args : List Arg) (s : Standing) (op : Opcode) (groups : List (List Opcode)) → (is_last op ≡ false → has_group groups ≡ true)
+    → rest_holds args (step args s op) groups
+    ≡ rest_holds args s (if is_last op then (op ∷ []) ∷ groups else onto_first op groups)
+step_holds args s op groups h = by (is_last op) h
+  where
+    within : (groups : List (List Opcode)) → has_group groups ≡ true
+        → rest_holds args (looked_at (entered args s op) op) groups ≡ rest_holds args s (onto_first op groups)
+    within [] k = absurd (false≢true k)
+    within ([] ∷ later) k = absurd (false≢true k)
+    within ((next ∷ ops) ∷ later) k =
+        looked_at_holds args (entered args s op) op next ops later (entered_inside args s op) ∙ entered_holds args s op (next ∷ ops) later
+
+    by : (b : Bool) → (b ≡ false → has_group groups ≡ true)
+        → rest_holds args (cond b (closed (negates op.options) (looked_at (entered args s op) op)) (looked_at (entered args s op) op)) groups
+        ≡ rest_holds args s (cond b ((op ∷ []) ∷ groups) (onto_first op groups))
+    by true k = closed_holds args (entered args s op) op groups (entered_inside args s op) ∙ entered_holds args s op [] groups
+    by false k = within groups (k refl)
+
+-- an opcode that is no action goes before the action of its rule
+before_action : (at : ℕ) (op : Opcode) (ops : List Opcode) → is_act op ≡ false → action_from at (op ∷ ops) ≡ action_from (at + 1) ops
+before_action at op ops h = by op.kind h
+  where
+    by : (k : OpKind) → is_act_kind k ≡ false
+        → (elim k [
+          | Act action line ↦ Action at line action
+          | _ ↦ action_from (at + 1) ops
+        ]) ≡ action_from (at + 1) ops
+    by False h = refl
+    by True h = refl
+    by (Num n) h = refl
+    by (Range lo hi) h = refl
+    by (Mask m) h = refl
+    by (Text cells seek) h = refl
+    by (Act action line) h = absurd (false≢true (sym h))
+
+-- between groups the rest of the code is its rules
+between_means : (args : List Arg) (at : ℕ) (rules : List (List Opcode)) → rest_means args at Between rules ≡ judged_from at args rules
+between_means args at [] = refl
+between_means args at (rule ∷ rules) = refl
+
+-- an opcode of a group begins what is left of it
+begins_group : (op : Opcode) (groups : List (List Opcode)) → has_group (if is_last op then (op ∷ []) ∷ groups else onto_first op groups) ≡ true
+begins_group op groups = by (is_last op) groups
+  where
+    by : (b : Bool) (groups : List (List Opcode)) → has_group (cond b ((op ∷ []) ∷ groups) (onto_first op groups)) ≡ true
+    by true groups = refl
+    by false [] = refl
+    by false (group ∷ groups) = refl
+
+stays_in_group : (ops : List Opcode) → closed_from true ops ≡ true → goes_into_group (rules_of ops) ≡ true
+stays_in_group [] h = refl
+stays_in_group (op ∷ ops) h = by (is_act op) refl h (rules_of ops)
+  where
+    begins : is_act op ≡ false → (rule : List Opcode) → has_group (groups_of (op ∷ rule)) ≡ true
+    begins a rule = ap has_group (groups_from op rule a) ∙ begins_group op (groups_of rule)
+
+    by : (b : Bool) → is_act op ≡ b → cond b (not true && closed_from false ops) (closed_from (not (is_last op)) ops) ≡ true
+        → (rules : List (List Opcode)) → goes_into_group (cond b ((op ∷ []) ∷ rules) (onto_first op rules)) ≡ true
+    by true a h rules = absurd (false≢true h)
+    by false a h [] = begins a []
+    by false a h (rule ∷ rules) = begins a rule
+
+cond_alike : (b : Bool) (j : Judged) → j ≡ cond b j j
+cond_alike true j = refl
+cond_alike false j = refl
+
+-- one step: what is left of the code before an opcode that is no action, and after it
+step_means : (args : List Arg) (at : ℕ) (s : Standing) (op : Opcode) (rules : List (List Opcode)) → is_act op ≡ false
+    → (is_last op ≡ false → goes_into_group rules ≡ true)
+    → rest_means args (at + 1) (step args s op) rules ≡ rest_means args at s (onto_first op rules)
+step_means args at s op [] a h =
+    let none : action_from at (op ∷ []) ≡ NoMatch = before_action at op [] a in
+    let holds : Bool = rest_holds args s (groups_of (op ∷ [])) in
+    cond_alike holds NoMatch ∙ ap (λ j. cond holds j NoMatch) (sym none)
+step_means args at s op (rule ∷ rules) a h =
+    let holds : rest_holds args (step args s op) (groups_of rule) ≡ rest_holds args s (groups_of (op ∷ rule)) =
+    step_holds args s op (groups_of rule) h ∙ ap (rest_holds args s) (sym (groups_from op rule a))
+    in
+    let action : action_from (at + 1) rule ≡ action_from at (op ∷ rule) = sym (before_action at op rule a) in
+    let place : at + 1 + length rule ≡ at + suc (length rule) = omega arith in
+    (λ i. cond (holds i) (action i) (judged_from (place i) args rules))
+
+-- an action ends its rule
+action_means : (args : List Arg) (at : ℕ) (s : Standing) (op : Opcode) (ops : List Opcode) → is_act op ≡ true → is_within s ≡ false
+    → walk args (at + 1) Between ops ≡ judged_from (at + 1) args (rules_of ops)
+    → walk args at s (op ∷ ops) ≡ rest_means args at s (rules_of (op ∷ ops))
+action_means args at Between op ops a w later =
+    let walked : walk args at Between (op ∷ ops) ≡ action_from at (op ∷ []) = rw a refl in
+    let cut : rules_of (op ∷ ops) ≡ (op ∷ []) ∷ rules_of ops = rw a refl in
+    let none : groups_of (op ∷ []) ≡ [] = rw a refl in
+    let held : action_from at (op ∷ []) ≡ rest_means args at Between ((op ∷ []) ∷ rules_of ops) =
+    ap (λ groups. cond (list_all (group_holds args) groups) (action_from at (op ∷ [])) (judged_from (at + length (op ∷ [])) args (rules_of ops))) (sym none)
+    in
+    walked ∙ held ∙ ap (rest_means args at Between) (sym cut)
+action_means args at (All number left) op ops a w later = absurd (false≢true (sym w))
+action_means args at (One number units) op ops a w later = absurd (false≢true (sym w))
+action_means args at (Decided holds) op ops a w later = absurd (false≢true (sym w))
+action_means args at Failed op ops a w later = rw a later
+
+-- the next opcode is within a group only where this one is not the last of its own
+passed_outside : (b : Bool) → is_within (passed b) ≡ false
+passed_outside true = refl
+passed_outside false = refl
+
+closed_outside : (negated : Bool) (s : Standing) → is_within (closed negated s) ≡ false
+closed_outside negated Between = passed_outside (turned negated true)
+closed_outside negated (All number left) = passed_outside (turned negated true)
+closed_outside negated (One number units) = passed_outside (turned negated false)
+closed_outside negated (Decided holds) = passed_outside (turned negated holds)
+closed_outside negated Failed = refl
+
+step_within : (args : List Arg) (s : Standing) (op : Opcode) → is_within (step args s op) ≡ true → not (is_last op) ≡ true
+step_within args s op h = by (is_last op) h
+  where
+    by : (b : Bool) → is_within (cond b (closed (negates op.options) (looked_at (entered args s op) op)) (looked_at (entered args s op) op)) ≡ true
+        → not b ≡ true
+    by true h = sym (closed_outside (negates op.options) (looked_at (entered args s op) op)) ∙ h
+    by false h = refl
+
+outside : (s : Standing) (inside : Bool) → (is_within s ≡ true → inside ≡ true) → not inside ≡ true → is_within s ≡ false
+outside s inside h k = by (is_within s) h
+  where
+    by : (b : Bool) → (b ≡ true → inside ≡ true) → b ≡ false
+    by false h = refl
+    by true h = absurd (false≢true (ap not (sym (h refl)) ∙ k))
+
+-- that the walk from here gives what the rest of the code means
+abbrev WalkMeans : List Arg → ℕ → Standing → Bool → List Opcode → Type 0
+WalkMeans args at s inside ops =
+    closed_from inside ops ≡ true → (is_within s ≡ true → inside ≡ true) → walk args at s ops ≡ rest_means args at s (rules_of ops)
+
+act_means : (args : List Arg) (at : ℕ) (s : Standing) (inside : Bool) (op : Opcode) (ops : List Opcode) → is_act op ≡ true
+    → (not inside && closed_from false ops) ≡ true → (is_within s ≡ true → inside ≡ true) → WalkMeans args (at + 1) Between false ops
+    → walk args at s (op ∷ ops) ≡ rest_means args at s (rules_of (op ∷ ops))
+act_means args at s inside op ops a c w later =
+    let p = and_parts (not inside) (closed_from false ops) c in
+    action_means args at s op ops a (outside s inside w p.0) (later p.1 (λ h. h) ∙ between_means args (at + 1) (rules_of ops))
+
+plain_means : (args : List Arg) (at : ℕ) (s : Standing) (op : Opcode) (ops : List Opcode) → is_act op ≡ false
+    → closed_from (not (is_last op)) ops ≡ true → WalkMeans args (at + 1) (step args s op) (not (is_last op)) ops
+    → walk args at s (op ∷ ops) ≡ rest_means args at s (rules_of (op ∷ ops))
+plain_means args at s op ops a c later =
+    let walked : walk args at s (op ∷ ops) ≡ walk args (at + 1) (step args s op) ops = rw a refl in
+    let cut : rules_of (op ∷ ops) ≡ onto_first op (rules_of ops) = rw a refl in
+    let into : is_last op ≡ false → goes_into_group (rules_of ops) ≡ true =
+    λ l. stays_in_group ops (ap (λ b. closed_from (not b) ops) (sym l) ∙ c)
+    in
+    walked ∙ later c (step_within args s op) ∙ step_means args at s op (rules_of ops) a into ∙ ap (rest_means args at s) (sym cut)
+
+-- the walk gives what the rest of the code means
+walk_means : (args : List Arg) (at : ℕ) (s : Standing) (inside : Bool) (ops : List Opcode) → WalkMeans args at s inside ops
+walk_means args at s inside [] c w = refl
+walk_means args at s inside (op ∷ ops) c w =
+    by (is_act op) refl c (walk_means args (at + 1) Between false ops) (walk_means args (at + 1) (step args s op) (not (is_last op)) ops)
+  where
+    by : (b : Bool) → is_act op ≡ b → cond b (not inside && closed_from false ops) (closed_from (not (is_last op)) ops) ≡ true
+        → WalkMeans args (at + 1) Between false ops → WalkMeans args (at + 1) (step args s op) (not (is_last op)) ops
+        → walk args at s (op ∷ ops) ≡ rest_means args at s (rules_of (op ∷ ops))
+    by true a c after_act after_step = act_means args at s inside op ops a c w after_act
+    by false a c after_act after_step = plain_means args at s op ops a c after_step
+
+-- the walk over a code without a fault gives what the code means
+pub walk_of_faultless : FaultlessRulesAreWhole → (tag : CallTag) (ops : List Opcode) (args : List Arg) → fault_of tag ops ≡ None
+    → walk args 0 Between ops ≡ meaning ops args
+walk_of_faultless whole tag ops args e =
+    let closed : closed_from false ops ≡ true =
+    closed_by_rules false ops (rules_closed (rules_of ops) (whole tag ops e)) (λ h. absurd (false≢true h))
+    in
+    walk_means args 0 Between false ops closed (λ h. h) ∙ between_means args 0 (rules_of ops)

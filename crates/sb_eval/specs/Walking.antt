@@ -1,0 +1,94 @@
+-- Where a walk over opcodes stands, and what each opcode makes of it. Nothing of the meaning of codes stands on this:
+-- that the walk gives that meaning is proved.
+use Rattle.std.specs.Prelude.{ℕ, ◌+◌, Bool, true, false, not, ◌&&◌, List, [], ◌∷◌, Option, None, Some, if◌then◌else◌}
+use Rattle.sb_call.specs.Arguments.{arg_at}
+use Rattle.sb_call.specs.declared.arguments.Arg.{Arg}
+use Rattle.sb_opcode.specs.Groups.{is_act, is_last}
+use Rattle.sb_opcode.specs.Options.{negates, is_choice}
+use Rattle.sb_opcode.specs.declared.opcodes.Opcode.{Opcode}
+use Rattle.sb_eval.specs.Meaning.{number_in, units_in, after_kind, turned, action_from}
+use Rattle.sb_eval.specs.declared.judged.Judged.{Judged}
+use Rattle.sb_eval.specs.declared.judged.Judged.TheVariants.{NoMatch}
+use Rattle.sb_eval.specs.declared.states.State.{State}
+use Rattle.sb_eval.specs.declared.states.State.TheVariants as state
+
+-- between groups that all hold; within a group all of whose opcodes are to hold, with what is left of the string; within
+-- one of which none holds so far; within one that is decided; within a rule that does not hold
+pub data Standing : Type 0 where
+  Between : Standing
+  All : ℕ → List ℕ → Standing
+  One : ℕ → List ℕ → Standing
+  Decided : Bool → Standing
+  Failed : Standing
+
+abbrev pub standing_of : State → Standing
+standing_of state.Between = Between
+standing_of (state.All number left) = All number left.now
+standing_of (state.One number units) = One number units.now
+standing_of (state.Decided holds) = Decided holds
+standing_of state.Failed = Failed
+
+-- before the first opcode of a group
+abbrev pub begun : List Arg → Opcode → Standing
+begun args op =
+    if is_choice op.options then One (number_in (arg_at args op.param)) (units_in (arg_at args op.param))
+    else All (number_in (arg_at args op.param)) (units_in (arg_at args op.param))
+
+-- before an opcode, within its group
+abbrev pub entered : List Arg → Standing → Opcode → Standing
+entered args Between op = begun args op
+entered args (All number left) op = All number left
+entered args (One number units) op = One number units
+entered args (Decided holds) op = Decided holds
+entered args Failed op = Failed
+
+-- within a group of which all are to hold, by what is left after an opcode
+abbrev pub all_so_far : ℕ → Option (List ℕ) → Standing
+all_so_far number None = Decided false
+all_so_far number (Some left) = All number left
+
+-- within a group of which one is to hold, by what is left after an opcode
+abbrev pub one_so_far : ℕ → List ℕ → Option (List ℕ) → Standing
+one_so_far number units None = One number units
+one_so_far number units (Some left) = Decided true
+
+-- after an opcode, within its group
+abbrev pub looked_at : Standing → Opcode → Standing
+looked_at Between op = Between
+looked_at (All number left) op = all_so_far number (after_kind op.kind op.options number left)
+looked_at (One number units) op = one_so_far number units (after_kind op.kind op.options number units)
+looked_at (Decided holds) op = Decided holds
+looked_at Failed op = Failed
+
+-- after a group that holds, or does not
+abbrev pub passed : Bool → Standing
+passed holds = if holds then Between else Failed
+
+-- after the last opcode of a group
+abbrev pub closed : Bool → Standing → Standing
+closed negated Between = passed (turned negated true)
+closed negated (All number left) = passed (turned negated true)
+closed negated (One number units) = passed (turned negated false)
+closed negated (Decided holds) = passed (turned negated holds)
+closed negated Failed = Failed
+
+-- after an opcode that is no action
+abbrev pub step : List Arg → Standing → Opcode → Standing
+step args s op =
+    if is_last op then closed (negates op.options) (looked_at (entered args s op) op) else looked_at (entered args s op) op
+
+-- after an opcode; an action ends its rule
+abbrev pub moved : List Arg → Standing → Opcode → Standing
+moved args s op = if is_act op then Between else step args s op
+
+abbrev pub is_failed : Standing → Bool
+is_failed Between = false
+is_failed (All number left) = false
+is_failed (One number units) = false
+is_failed (Decided holds) = false
+is_failed Failed = true
+
+-- the first action whose rule does not fail, where the first opcode has this place
+abbrev pub walk : List Arg → ℕ → Standing → List Opcode → Judged
+walk args at s [] = NoMatch
+walk args at s (op ∷ ops) = if is_act op && not (is_failed s) then action_from at (op ∷ []) else walk args (at + 1) (moved args s op) ops

@@ -1,0 +1,14 @@
+// What opcodes mean: a code judges a call by its rules, each a list of groups of opcodes. It is judged over the records of
+// its words, with no memory.
+#![tactic(auto)]
+
+mod fragments;
+mod judged;
+mod opcodes;
+mod states;
+#[cfg(test)]
+mod tests;
+mod walks;
+
+pub use judged::Judged;
+pub use walks::eval;
