@@ -1,0 +1,35 @@
+-- The laws of events.
+use Rattle.std.proofs.Common.{◌≡◌, ◌+◌, ℕ, Bool, true, false, refl, List, [], ◌∷◌, if◌then◌else◌, ◌==◌}
+use Rattle.std.specs.Prelude.{Option, None, Some, not, ◌&&◌}
+use Rattle.sb_call.specs.Statuses.{success, name_exists, invalid_parameter, type_mismatch}
+use Rattle.sb_handles.specs.Effects.{Effect, refused, grants}
+use Rattle.sb_handles.specs.Tables.{Table}
+use Rattle.sb_names.specs.Keys.{key_of}
+use Rattle.sb_names.specs.Laws.{PutsAreFound}
+use Rattle.sb_names.specs.Maps.{is_key, found}
+use Rattle.sb_event.specs.Events.{Events, is_invalid, create_by, on_event}
+use Rattle.sb_event.specs.Laws.{CreatesAreFound}
+use Rattle.sb_event.specs.declared.rows.EventRow.{EventRow}
+
+-- what an effect of event.create makes of another name
+abbrev IsFoundAfter : Events → List ℕ → List ℕ → ℕ → ℕ → Effect Events → Type 0
+IsFoundAfter events name other kind initial effect =
+    found effect.service.rows other
+    ≡ (if effect.answer.status == success && is_key (key_of other) (key_of name)
+    then Some (record { number = events.made + 1; kind = kind; initial = initial })
+    else found events.rows other)
+
+pub creates_are_found : PutsAreFound EventRow → CreatesAreFound
+creates_are_found puts events handles target name other kind initial = by (is_invalid kind initial) (found events.rows name)
+  where
+    there : (row : EventRow) (same : Bool) → IsFoundAfter events name other kind initial
+        (if not same then refused events handles type_mismatch
+        else grants events handles target (on_event row.number 0) name_exists (row.kind ∷ row.initial ∷ []))
+    there row true = refl
+    there row false = refl
+
+    by : (invalid : Bool) (row : Option EventRow) → IsFoundAfter events name other kind initial
+        (if invalid then refused events handles invalid_parameter else create_by row events handles target name kind initial)
+    by true row = refl
+    by false None = puts events.rows name other (record { number = events.made + 1; kind = kind; initial = initial })
+    by false (Some row) = there row (row.kind == kind)

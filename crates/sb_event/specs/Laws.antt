@@ -1,0 +1,38 @@
+-- Laws of events.
+use Rattle.std.specs.Prelude.{◌≡◌, ◌+◌, ℕ, Bool, false, ◌&&◌, ◌||◌, ◌==◌, List, Some, if◌then◌else◌}
+use Rattle.sb_call.specs.Statuses.{success, name_exists}
+use Rattle.sb_handles.specs.Effects.{Effect}
+use Rattle.sb_handles.specs.Tables.{Table}
+use Rattle.sb_names.specs.Keys.{key_of}
+use Rattle.sb_names.specs.Maps.{is_key, found}
+use Rattle.sb_event.specs.Events.{Events, create, open_event}
+
+-- something was made or opened
+abbrev pub is_granted : ℕ → Bool
+is_granted status = status == success || status == name_exists
+
+-- a call leaves all as it was
+abbrev pub ChangesNothing : Events → Table → Effect Events → Type 0
+ChangesNothing events handles effect = (effect.service ≡ events) × (effect.handles ≡ handles)
+
+abbrev pub RefusedCreatesChangeNothing : Type 0
+RefusedCreatesChangeNothing = (events : Events) (handles : Table) (target : ℕ) (name : List ℕ) (kind initial : ℕ)
+    → is_granted (create events handles target name kind initial).answer.status ≡ false
+    → ChangesNothing events handles (create events handles target name kind initial)
+
+abbrev pub RefusedOpensChangeNothing : Type 0
+RefusedOpensChangeNothing = (events : Events) (handles : Table) (target : ℕ) (name : List ℕ) (access : ℕ)
+    → is_granted (open_event events handles target name access).answer.status ≡ false
+    → ChangesNothing events handles (open_event events handles target name access)
+
+-- an event that was made is found under its name with its kind and initial state, and under every other name what was before
+abbrev pub CreatesAreFound : Type 0
+CreatesAreFound = (events : Events) (handles : Table) (target : ℕ) (name other : List ℕ) (kind initial : ℕ)
+    → found (create events handles target name kind initial).service.rows other
+    ≡ (if (create events handles target name kind initial).answer.status == success && is_key (key_of other) (key_of name)
+    then Some (record { number = events.made + 1; kind = kind; initial = initial })
+    else found events.rows other)
+
+abbrev pub OpensLeaveEvents : Type 0
+OpensLeaveEvents = (events : Events) (handles : Table) (target : ℕ) (name : List ℕ) (access : ℕ)
+    → (open_event events handles target name access).service ≡ events

@@ -1,0 +1,20 @@
+// Laws of events. None of these functions changes anything: each contract is a law.
+ghost use Rattle.sb_event.specs.Laws.{RefusedCreatesChangeNothing, RefusedOpensChangeNothing, CreatesAreFound, OpensLeaveEvents};
+
+use crate::rows::EventRow;
+use sb_names::puts_are_found;
+
+/// A call that neither made nor opened an event leaves events and handles as they were.
+pub fn refused_calls_change_nothing()
+    ensures creates { RefusedCreatesChangeNothing }
+    ensures opens { RefusedOpensChangeNothing }
+{}
+
+/// The event found under a name is the one that was made there, whatever call came after.
+#[tactic(auto, using(crate::proofs::EventLaws::creates_are_found))]
+pub fn events_are_found_where_made()
+    ensures creates { CreatesAreFound }
+    ensures opens { OpensLeaveEvents }
+{
+    puts_are_found::<EventRow>();
+}

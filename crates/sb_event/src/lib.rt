@@ -1,0 +1,12 @@
+// Events: made, opened, and kept for good. Their names have no parents.
+#![tactic(auto)]
+
+mod events;
+mod laws;
+mod rows;
+#[cfg(test)]
+mod tests;
+
+pub use events::EventService;
+pub use laws::{events_are_found_where_made, refused_calls_change_nothing};
+pub use rows::EventRow;

@@ -1,0 +1,183 @@
+-- Files and handles agree after handles were granted and closed.
+use Rattle.std.proofs.Common.{◌≡◌, ◌⊎◌, inl, inr, ◌≤◌, ◌+◌, ◌-◌, ℕ, Bool, true, false, cond, refl, sym, subst, ◌∙◌, ap, arith, List, [], ◌∷◌, ◌==◌, length, length-set, map, if◌then◌else◌}
+use Rattle.std.proofs.lemmas.Bool.Decides.{nat_tests}
+use Rattle.std.proofs.lemmas.List.{length-append}
+use Rattle.std.proofs.lemmas.Map.Keys.{sorted_head, sorted_tail}
+use Rattle.std.specs.Prelude.{Option, None, Some, not, option_map, ◌&&◌, ◌||◌}
+use Rattle.std.specs.List.{AllByRecursion, find}
+use Rattle.std.specs.List.Sorted.{IsStrictlySortedBy}
+use Rattle.std.specs.Ordering.{nat_cmp}
+use Rattle.std.specs.declared.cmp.Ordering.TheVariants.{Less}
+use Rattle.sb_call.specs.Statuses.{success, meets, invalid_parameter, path_not_found, name_not_found, name_collision, not_a_directory, file_is_a_directory, sharing_violation}
+use Rattle.sb_handles.specs.Agreements.{is_file, file_share, file_share_by}
+use Rattle.sb_handles.specs.Effects.{Effect, refused}
+use Rattle.sb_handles.specs.Laws.{ClosesKeepFiles as ClosesKeepShares, GrantsLeaveFiles as GrantsLeaveShares}
+use Rattle.sb_handles.specs.Shares.{Shares, left, share_on}
+use Rattle.sb_handles.specs.Tables.{Table, is_of, with_handle, without_handle}
+use Rattle.sb_handles.specs.declared.objects.Held.{Held}
+use Rattle.sb_handles.specs.declared.objects.OpenHandle.{OpenHandle}
+use Rattle.sb_handles.specs.declared.objects.Share.{Share}
+use Rattle.sb_names.specs.Maps.{found}
+use Rattle.sb_file.specs.Creation.{create, create_by, create_new, directory_option, is_invalid, non_directory_option, on_file, open_by, open_existing, open_or_create, opens, overwrite, replaces, supersede, was_created, was_opened, was_overwritten, was_superseded}
+use Rattle.sb_file.specs.Files.{Files, has_parent, is_directory, is_shared_out, kind_of, object_of, with_attributes, with_object}
+use Rattle.sb_file.specs.declared.objects.FileKind.{FileKind}
+use Rattle.sb_file.specs.Laws.{CreatesGrantFiles, CreatesMakeOne, RefusalsChangeNothing, ClosesKeepFiles, ClosesLeaveFiles, GrantsLeaveFiles}
+use Rattle.sb_file.proofs.RenameLaws.{chosen}
+
+-- what holds of a file.create that is refused, of one that makes an object, and of one that opens what is there, holds of each
+by_create : (P : Effect Files → Type 0) (files : Files) (handles : Table) (target : ℕ) (name : List ℕ) (attributes access sharing disposition options : ℕ)
+    → ((status : ℕ) → (status ≡ success → ⊥) → P (refused files handles status))
+    → ((kind : FileKind)
+    → P (opens (with_object files name (record { kind = kind; attributes = attributes })) handles target (length files.objects + 1) access sharing was_created))
+    → ((number word : ℕ) → P (opens files handles target number access sharing word))
+    → ((number word : ℕ) → P (opens (with_attributes files number attributes) handles target number access sharing word))
+    → P (create files handles target name attributes access sharing disposition options)
+by_create P files handles target name attributes access sharing disposition options refuses makes takes replaces_it =
+    chosen P (is_invalid sharing disposition options) (refused files handles invalid_parameter) _ (refuses invalid_parameter (λ h. absurd (omega (arith, h))))
+    (chosen P (not (has_parent files name)) (refused files handles path_not_found)
+    (create_by (found files.names name) files handles target name attributes access sharing disposition options)
+    (refuses path_not_found (λ h. absurd (omega (arith, h)))) (by (found files.names name)))
+  where
+    opened : (number : ℕ) → P (open_by files handles target number attributes access sharing disposition)
+    opened number =
+        chosen P (disposition == open_existing || disposition == open_or_create) _ _ (takes number was_opened)
+        (chosen P (disposition == supersede) _ _ (replaces_it number was_superseded) (replaces_it number was_overwritten))
+
+    by : (o : Option ℕ) → P (create_by o files handles target name attributes access sharing disposition options)
+    by None =
+        chosen P (disposition == open_existing || disposition == overwrite) (refused files handles name_not_found) _
+        (refuses name_not_found (λ h. absurd (omega (arith, h)))) (makes (kind_of (meets options directory_option)))
+    by (Some number) =
+        chosen P (disposition == create_new) (refused files handles name_collision) _ (refuses name_collision (λ h. absurd (omega (arith, h))))
+        (chosen P (not (is_directory (object_of files number).kind) && meets options directory_option) (refused files handles not_a_directory) _
+        (refuses not_a_directory (λ h. absurd (omega (arith, h))))
+        (chosen P (is_directory (object_of files number).kind && (meets options non_directory_option || replaces disposition))
+        (refused files handles file_is_a_directory) _ (refuses file_is_a_directory (λ h. absurd (omega (arith, h))))
+        (chosen P (is_shared_out files number access sharing) (refused files handles sharing_violation) _
+        (refuses sharing_violation (λ h. absurd (omega (arith, h)))) (opened number))))
+
+abbrev IsPlain : Files → Table → Effect Files → Type 0
+IsPlain files handles effect = (effect.answer.status ≡ success → ⊥) → (effect.service ≡ files) × (effect.handles ≡ handles)
+
+pub refusals_change_nothing : RefusalsChangeNothing
+refusals_change_nothing files handles target name attributes access sharing disposition options =
+    by_create (IsPlain files handles) files handles target name attributes access sharing disposition options (λ status n h. (refl, refl))
+    (λ kind h. absurd (h refl)) (λ number word h. absurd (h refl)) (λ number word h. absurd (h refl))
+
+abbrev GrantsOne : Table → ℕ → Effect Files → Type 0
+GrantsOne handles target effect =
+    (effect.handles ≡ handles) ⊎ ((held : Held) × (is_file held.object.service ≡ true) × (effect.handles ≡ with_handle handles target held))
+
+pub creates_grant_files : CreatesGrantFiles
+creates_grant_files files handles target name attributes access sharing disposition options =
+    by_create (GrantsOne handles target) files handles target name attributes access sharing disposition options (λ status n. inl refl)
+    (λ kind. inr (on_file (length files.objects + 1) access sharing, refl, refl)) (λ number word. inr (on_file number access sharing, refl, refl))
+    (λ number word. inr (on_file number access sharing, refl, refl))
+
+pub creates_make_one : CreatesMakeOne
+creates_make_one files handles target name attributes access sharing disposition options =
+    by_create (λ effect. length effect.service.objects ≤ length files.objects + 1) files handles target name attributes access sharing disposition options
+    (λ status n. omega arith) (λ kind. omega (arith, length-append files.objects (record { kind = kind; attributes = attributes } ∷ [])))
+    (λ number word. omega arith)
+    (λ number word. omega (arith, length-set files.objects (number - 1) (record (object_of files number) { attributes = attributes })))
+
+-- how a handle is open once another was left
+share_left : (object number handle : ℕ) (shares : Shares)
+    → share_on (left shares handle) object number ≡ (if number == handle then None else share_on shares object number)
+share_left object number handle [] = by (number == handle)
+  where
+    none : Option Share
+    none = None
+
+    by : (s : Bool) → none ≡ (if s then none else none)
+    by true = refl
+    by false = refl
+share_left object number handle (row ∷ shares) =
+    by (row.0.1 == handle) refl (row.0.0 == object) refl (row.0.1 == number) refl (share_left object number handle shares)
+  where
+    by : (s : Bool) → (row.0.1 == handle) ≡ s → (t : Bool) → (row.0.0 == object) ≡ t → (u : Bool) → (row.0.1 == number) ≡ u
+        → share_on (left shares handle) object number ≡ (if number == handle then None else share_on shares object number)
+        → share_on (if not s then row ∷ left shares handle else left shares handle) object number
+        ≡ (if number == handle then None else cond (t && u) (Some row.1) (share_on shares object number))
+    by true e true h true f i =
+        let same : (number == handle) ≡ true = grind (arith, nat_tests, e, f) in
+        i ∙ rw same refl
+    by true e true h false f i = i
+    by true e false h u f i = i
+    by false e true h true f i =
+        let apart : (number == handle) ≡ false = grind (arith, nat_tests, e, f) in
+        rw (h, f, apart) refl
+    by false e true h false f i = rw (h, f) i
+    by false e false h u f i = rw h i
+
+-- the handle of a number, which a target holds, is the only one of that number
+find_number : (target number : ℕ) (held : Held) (handles : List OpenHandle) → IsStrictlySortedBy nat_cmp (map (λ handle. handle.number) handles)
+    → option_map (λ handle. handle.held) (find (is_of target number) handles) ≡ Some held
+    → option_map (λ handle. handle.held) (find (λ handle. handle.number == number) handles) ≡ Some held
+find_number target number held [] sorted f = absurd (cc)
+find_number target number held (handle ∷ handles) sorted f =
+    by (handle.number == number) refl (handle.target == target) f
+    (find_number target number held handles (sorted_tail nat_cmp handle.number (map (λ handle. handle.number) handles) sorted))
+  where
+    later : (handles : List OpenHandle) → AllByRecursion (λ n. nat_cmp number n ≡ Less) (map (λ handle. handle.number) handles) → find (is_of target number) handles ≡ None
+    later [] h = refl
+    later (other ∷ handles) h =
+        let no : (other.number == number) ≡ false = differ number other.number h.0 in
+        rw no (later handles h.1)
+      where
+        differ : (a b : ℕ) → nat_cmp a b ≡ Less → (b == a) ≡ false
+        differ a b e = grind (arith, nat_tests, e)
+
+    none_held : (o : Option OpenHandle) → o ≡ None → option_map (λ handle. handle.held) o ≡ Some held → ⊥
+    none_held None e h = absurd (cc)
+    none_held (Some x) e h = absurd (cc)
+
+    by : (s : Bool) → (handle.number == number) ≡ s → (t : Bool)
+        → option_map (λ handle. handle.held) (if s && t then Some handle else find (is_of target number) handles) ≡ Some held
+        → (option_map (λ handle. handle.held) (find (is_of target number) handles) ≡ Some held
+        → option_map (λ handle. handle.held) (find (λ handle. handle.number == number) handles) ≡ Some held)
+        → option_map (λ handle. handle.held) (if s then Some handle else find (λ handle. handle.number == number) handles) ≡ Some held
+    by true e true f i = f
+    by true e false f i =
+        let same : handle.number ≡ number = grind (arith, nat_tests, e) in
+        let rest = subst (λ n. AllByRecursion (λ m. nat_cmp n m ≡ Less) (map (λ handle. handle.number) handles)) same
+        (sorted_head nat_cmp handle.number (map (λ handle. handle.number) handles) sorted) in
+        absurd (none_held (find (is_of target number) handles) (later handles rest) f)
+    by false e t f i = i f
+
+-- a handle on no file has no share
+no_share : (object : ℕ) (held : Held) (o : Option OpenHandle) → option_map (λ handle. handle.held) o ≡ Some held → is_file held.object.service ≡ false
+    → file_share_by object o ≡ None
+no_share object held None e n = refl
+no_share object held (Some handle) e n =
+    let same : is_file handle.held.object.service ≡ false = ap (value_or handle.held) e ∙ n in
+    rw same refl
+  where
+    value_or : Held → Option Held → Bool
+    value_or d None = is_file d.object.service
+    value_or d (Some h) = is_file h.object.service
+
+module _ (keeps : ClosesKeepShares) where
+  pub closes_keep_files : ClosesKeepFiles
+  closes_keep_files files table target number held is_table agree f = keeps files.shares table target number held is_table agree f
+
+  pub closes_leave_files : ClosesLeaveFiles
+  closes_leave_files files table target number held is_table agree f other object of = by (of == number) refl
+    where
+      -- the same is had from the law of handles that are left
+      kept : share_on (left files.shares number) object of ≡ file_share (without_handle table target number) object of
+      kept = keeps files.shares table target number held is_table agree f object of
+
+      none : share_on files.shares object number ≡ None
+      none = agree object number
+          ∙ no_share object held (find (λ handle. handle.number == number) table.handles) (find_number target number held table.handles is_table.0 f) other
+
+      by : (s : Bool) → (of == number) ≡ s → share_on files.shares object of ≡ file_share (without_handle table target number) object of
+      by true e =
+          let same : number ≡ of = grind (arith, nat_tests, e) in
+          ap (share_on files.shares object) (sym same) ∙ none
+          ∙ sym (share_left object of number files.shares ∙ ap (λ b. if b then None else share_on files.shares object of) e) ∙ kept
+      by false e = sym (share_left object of number files.shares ∙ ap (λ b. if b then None else share_on files.shares object of) e) ∙ kept
+
+pub grants_leave_files : GrantsLeaveShares → GrantsLeaveFiles
+grants_leave_files leaves files table target held is_table agree other = leaves files.shares table target held is_table agree other

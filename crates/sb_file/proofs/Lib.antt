@@ -1,0 +1,5 @@
+pub mod AgreementLaws
+pub mod FileLemmas
+pub mod MoveLemmas
+pub mod RenameLaws
+mod WorkedCases

@@ -1,0 +1,94 @@
+-- Laws of files and directories.
+use Rattle.std.specs.Prelude.{◌≡◌, ◌≤◌, ◌+◌, ◌⊎◌, ℕ, Bool, true, false, ◌||◌, ◌==◌, List, [], ◌∷◌, ◌++◌, drop, length, Option, None, Some, if◌then◌else◌}
+use Rattle.sb_call.specs.Statuses.{success}
+use Rattle.sb_handles.specs.Agreements.{is_file}
+use Rattle.sb_handles.specs.Tables.{Table, IsTable, held_by, with_handle, without_handle}
+use Rattle.sb_handles.specs.declared.objects.Held.{Held}
+use Rattle.sb_names.specs.Keys.{key_of, is_below}
+use Rattle.sb_names.specs.Maps.{Rows, Rises, found, is_key, is_there}
+use Rattle.sb_file.specs.Creation.{create}
+use Rattle.sb_file.specs.Files.{Files, AreFiles, Agrees, rename, closed}
+
+-- a file.create that answers a status other than success leaves files and handles as they are; so does file.open, which is
+-- one
+abbrev pub RefusalsChangeNothing : Type 0
+RefusalsChangeNothing = (files : Files) (handles : Table) (target : ℕ) (name : List ℕ) (attributes access sharing disposition options : ℕ)
+    → ((create files handles target name attributes access sharing disposition options).answer.status ≡ success → ⊥)
+    → ((create files handles target name attributes access sharing disposition options).service ≡ files)
+    × ((create files handles target name attributes access sharing disposition options).handles ≡ handles)
+
+-- so does a file.rename
+abbrev pub RefusedRenamesChangeNothing : Type 0
+RefusedRenamesChangeNothing = (files : Files) (name to : List ℕ) → ((rename files name to).1.status ≡ success → ⊥) → (rename files name to).0 ≡ files
+
+-- a file.create leaves the handles as they are, or grants one on a file or directory
+abbrev pub CreatesGrantFiles : Type 0
+CreatesGrantFiles = (files : Files) (handles : Table) (target : ℕ) (name : List ℕ) (attributes access sharing disposition options : ℕ)
+    → ((create files handles target name attributes access sharing disposition options).handles ≡ handles)
+    ⊎ ((held : Held) × (is_file held.object.service ≡ true)
+    × ((create files handles target name attributes access sharing disposition options).handles ≡ with_handle handles target held))
+
+-- it makes one object at most
+abbrev pub CreatesMakeOne : Type 0
+CreatesMakeOne = (files : Files) (handles : Table) (target : ℕ) (name : List ℕ) (attributes access sharing disposition options : ℕ)
+    → length (create files handles target name attributes access sharing disposition options).service.objects ≤ length files.objects + 1
+
+-- a rename leaves all objects and open handles
+abbrev pub RenamesKeepObjects : Type 0
+RenamesKeepObjects = (files : Files) (name to : List ℕ)
+    → ((rename files name to).0.objects ≡ files.objects) × ((rename files name to).0.shares ≡ files.shares)
+
+-- a name is another, or lies below it
+abbrev pub is_at : List ℕ → List ℕ → Bool
+is_at name other = is_key (key_of name) (key_of other) || is_below (key_of name) (key_of other)
+
+-- nothing, or a `\` and what follows
+abbrev pub is_rest : List ℕ → Bool
+is_rest [] = true
+is_rest (u ∷ us) = u == 92
+
+-- the first, or else the second
+abbrev pub or_else : Option ℕ → Option ℕ → Option ℕ
+or_else None other = other
+or_else (Some object) other = Some object
+
+-- what is found under a name after FROM and all below it were moved to TO: what stood at its place below FROM, and else what
+-- was found there before and was not moved
+abbrev pub found_after : Rows ℕ → List ℕ → List ℕ → List ℕ → Option ℕ
+found_after rows from to other =
+    or_else (if is_at to other then found rows (from ++ drop (length to) other) else None) (if is_at from other then None else found rows other)
+
+abbrev pub RenamesAreExact : Type 0
+RenamesAreExact = (files : Files) (name to other : List ℕ) → AreFiles files → Rises files.names → (rename files name to).1.status ≡ success
+    → found (rename files name to).0.names other ≡ found_after files.names name to other
+
+-- each name below FROM, and FROM itself, is found at its new place, with its object
+abbrev pub RenamesMove : Type 0
+RenamesMove = (files : Files) (name to rest : List ℕ) → AreFiles files → Rises files.names → (rename files name to).1.status ≡ success
+    → is_rest rest ≡ true → is_there files.names (name ++ rest) ≡ true
+    → found (rename files name to).0.names (to ++ rest) ≡ found files.names (name ++ rest)
+
+-- and nowhere else: under FROM nothing is found any more
+abbrev pub RenamesLeaveNothing : Type 0
+RenamesLeaveNothing = (files : Files) (name to other : List ℕ) → AreFiles files → Rises files.names → (rename files name to).1.status ≡ success
+    → is_at name other ≡ true → is_at to other ≡ false → found (rename files name to).0.names other ≡ None
+
+-- every other name is found as before
+abbrev pub RenamesLeaveOthers : Type 0
+RenamesLeaveOthers = (files : Files) (name to other : List ℕ) → AreFiles files → Rises files.names → (rename files name to).1.status ≡ success
+    → is_at name other ≡ false → is_at to other ≡ false → found (rename files name to).0.names other ≡ found files.names other
+
+-- after a handle was closed, `closed` makes files and handles agree again
+abbrev pub ClosesKeepFiles : Type 0
+ClosesKeepFiles = (files : Files) (table : Table) (target number : ℕ) (held : Held) → IsTable table → Agrees files table
+    → held_by table target number ≡ Some held → Agrees (closed files number) (without_handle table target number)
+
+-- a handle that was closed on any other object leaves the agreement
+abbrev pub ClosesLeaveFiles : Type 0
+ClosesLeaveFiles = (files : Files) (table : Table) (target number : ℕ) (held : Held) → IsTable table → Agrees files table
+    → held_by table target number ≡ Some held → is_file held.object.service ≡ false → Agrees files (without_handle table target number)
+
+-- and so does one that was granted on any other object
+abbrev pub GrantsLeaveFiles : Type 0
+GrantsLeaveFiles = (files : Files) (table : Table) (target : ℕ) (held : Held) → IsTable table → Agrees files table
+    → is_file held.object.service ≡ false → Agrees files (with_handle table target held)

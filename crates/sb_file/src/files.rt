@@ -1,0 +1,257 @@
+// The files and directories, and what each call but file.create does.
+ghost use Rattle.std.specs.Prelude.{◌≡◌, ◌<◌, ◌≤◌, ◌+◌, ◌-◌, ◌^◌, ◌++◌, ◌∷◌, [], true, None, IfOk, IfSome, OnOk, OnErr, length, slice_set};
+ghost use Rattle.sb_wide.specs.Names.{is_name_of};
+ghost use Rattle.sb_names.specs.Maps.{Rises, found, put};
+ghost use Rattle.sb_names.specs.Trees.{has_parent as has_tree_parent};
+ghost use Rattle.sb_file.specs.Files.{AreFiles, no_files, object_at, object_of, is_directory_there, has_parent, query, rename, can_start, started, closed};
+
+use crate::objects::{FileKind, FileObject};
+use sb_call::{
+    Answer, INVALID_PARAMETER, NAME_COLLISION, NAME_NOT_FOUND, PATH_NOT_FOUND, SHARING_VIOLATION,
+    SUCCESS,
+};
+use sb_handles::ShareTable;
+use sb_names::{NameTree, is_below, parent};
+use sb_wide::NoMemory;
+use std::alloc::Global;
+use std::marker::Model;
+
+// The access that a rename needs of the object itself: delete.
+const RENAME_ACCESS: u64 = 0x1_0000;
+
+// The sharing that a rename leaves: read, write and delete.
+const RENAME_SHARING: u64 = 7;
+
+/// The files and directories: a tree of names, each object that was ever made, and the open handles on them.
+///
+/// Names are compared folded. A name stands in the directory that its parent names; the root is there always.
+#[derive(Debug, Drop)]
+pub struct FileService {
+    // The number of the object under each name.
+    pub(crate) names: NameTree,
+    // The object of number n stands at place n - 1.
+    pub(crate) objects: Vec<FileObject>,
+    // The open handles.
+    pub(crate) shares: ShareTable,
+}
+
+impl Model for FileService {
+    ghost use Rattle.sb_file.specs.Files.{Files, AreFiles};
+
+    ghost Value = { Files };
+
+    ghost view = { λ s. record { names = s.names; objects = s.objects.items; shares = s.shares } };
+
+    ghost invariant = { λ s. AreFiles (record { names = s.names; objects = s.objects.items; shares = s.shares }) };
+}
+
+// The object of a number.
+fn object_at(objects: &[FileObject], number: u64) -> FileObject
+    requires low { 1 ≤ number }
+    requires high { number ≤ length objects.now }
+    ensures { result ≡ object_at objects.now number }
+{
+    objects[(number - 1) as usize]
+}
+
+// Gives the object of a number other attributes.
+pub(crate) fn set_attributes(objects: &mut Vec<FileObject>, number: u64, attributes: u64)
+    requires low { 1 ≤ number }
+    requires high { number ≤ length objects.old.items }
+    ensures { objects.new.items ≡ slice_set objects.old.items (number - 1) (record (object_at objects.old.items number) { attributes = attributes }) }
+{
+    let kind = object_at(objects, number).kind;
+    objects[(number - 1) as usize] = FileObject { kind, attributes };
+}
+
+// Places an object under a name that is not there, in a directory that is; it has the next number.
+pub(crate) fn add_object(
+    names: &mut NameTree,
+    objects: &mut Vec<FileObject>,
+    name: &[u16],
+    object: FileObject,
+) -> Result<u64, NoMemory>
+    requires parent { has_tree_parent names.old name.now ≡ true }
+    requires absent { found names.old name.now ≡ None }
+    requires made { length objects.old.items < 2 ^ 63 }
+    ensures number { IfOk result (λ number. number ≡ length objects.old.items + 1) }
+    ensures names { OnOk result (names.new ≡ put names.old name.now (length objects.old.items + 1)) }
+    ensures objects { OnOk result (objects.new.items ≡ objects.old.items ++ object ∷ []) }
+    ensures err { OnErr result ((names.new ≡ names.old) × (objects.new.items ≡ objects.old.items)) }
+{
+    objects.reserve(1)?;
+    let number = objects.len() as u64 + 1;
+    match names.add(name, number) {
+        Ok(()) => {}
+        Err(_) => return Err(NoMemory),
+    }
+    let _ = objects.push(object);
+    Ok(number)
+}
+
+impl FileService {
+    /// Nothing is there but the root, and nothing was made.
+    pub fn new(alloc: Global) -> FileService
+        ensures { result ≡ no_files }
+    {
+        FileService {
+            names: NameTree::new(alloc),
+            objects: Vec::new(alloc),
+            shares: ShareTable::new(alloc),
+        }
+    }
+
+    /// How many files and directories were ever made.
+    pub fn made(&self) -> u64
+        ensures { result ≡ length self.now.objects }
+    {
+        self.objects.len() as u64
+    }
+
+    /// Each name leads to an object that was made, each open handle is on one, and the names are kept folded and in rising
+    /// order. It changes nothing.
+    pub fn files_are_made(&self)
+        ensures made { AreFiles self.now }
+        ensures names { Rises self.now.names }
+    {
+        self.names.rows_rise();
+    }
+
+    #[tactic(auto, using(crate::proofs::FileLemmas::found_made))]
+    // The number of the object under a name.
+    pub(crate) fn number_of(&self, name: &[u16]) -> Option<u64>
+        ensures found { result ≡ found self.now.names name.now }
+        ensures made { IfSome result (λ number. (1 ≤ number) × (number ≤ length self.now.objects)) }
+    {
+        self.names.find(name)
+    }
+
+    // The object of a number.
+    pub(crate) fn object_of(&self, number: u64) -> FileObject
+        requires low { 1 ≤ number }
+        requires high { number ≤ length self.now.objects }
+        ensures { result ≡ object_of self.now number }
+    {
+        object_at(&self.objects, number)
+    }
+
+    // Whether a directory of this name is there; the root always is.
+    fn is_directory_there(&self, name: &[u16]) -> bool
+        ensures { result ≡ is_directory_there self.now name.now }
+    {
+        let Some(_) = name.split_first() else {
+            return true;
+        };
+        match self.number_of(name) {
+            Some(number) => self.object_of(number).kind.is_directory(),
+            None => false,
+        }
+    }
+
+    // Whether the parent of a name is there, and is a directory.
+    pub(crate) fn has_parent(&self, name: &[u16]) -> bool
+        ensures { result ≡ has_parent self.now name.now }
+    {
+        self.is_directory_there(parent(name))
+    }
+
+    /// Shows the attributes and the kind of what stands under a name. Statuses, the first that applies: path not found
+    /// where the parent of the name is not there or is a file; name not found; success, with the attributes and 0 for a
+    /// file or 1 for a directory as the extended words.
+    pub fn query(&self, name: &[u16]) -> Answer
+        requires name { is_name_of name.now ≡ true }
+        ensures { result ≡ query self.now name.now }
+    {
+        if !self.has_parent(name) {
+            return Answer::refusal(PATH_NOT_FOUND);
+        }
+        match self.number_of(name) {
+            Some(number) => {
+                let object = self.object_of(number);
+                Answer::with_words(SUCCESS, 0, object.attributes, object.kind.number())
+            }
+            None => Answer::refusal(NAME_NOT_FOUND),
+        }
+    }
+
+    #[tactic(auto, using(crate::proofs::FileLemmas::renamed_to, crate::proofs::FileLemmas::moved_made))]
+    /// Gives a file or directory, and all below it, a new name: each name begins with `to` in the place of `name`. The
+    /// handles stay with their objects. Statuses, the first that applies: path not found where the parent of `name` is not
+    /// there or is a file; name not found; invalid parameter where `to` lies below `name`; path not found where the parent
+    /// of `to` is not there or is a file; name collision where `to` is there, also as `name` itself; sharing violation
+    /// where deleting the object conflicts with an open handle on it; success.
+    ///
+    /// # Errors
+    /// `NoMemory` where there was none for the new names; then all is as before.
+    pub fn rename(&mut self, name: &[u16], to: &[u16]) -> Result<Answer, NoMemory>
+        requires name { is_name_of name.now ≡ true }
+        requires to { is_name_of to.now ≡ true }
+        ensures answer { IfOk result (λ a. a ≡ (rename self.old name.now to.now).1) }
+        ensures service { OnOk result (self.new ≡ (rename self.old name.now to.now).0) }
+        ensures shares { self.new.shares ≡ self.old.shares }
+        ensures err { OnErr result (self.new ≡ self.old) }
+    {
+        if !self.has_parent(name) {
+            return Ok(Answer::refusal(PATH_NOT_FOUND));
+        }
+        let Some(number) = self.number_of(name) else {
+            return Ok(Answer::refusal(NAME_NOT_FOUND));
+        };
+        if is_below(name, to) {
+            return Ok(Answer::refusal(INVALID_PARAMETER));
+        }
+        if !self.has_parent(to) {
+            return Ok(Answer::refusal(PATH_NOT_FOUND));
+        }
+        if self.number_of(to).is_some() {
+            return Ok(Answer::refusal(NAME_COLLISION));
+        }
+        if self
+            .shares
+            .check(number, RENAME_ACCESS, RENAME_SHARING)
+            .is_some()
+        {
+            return Ok(Answer::refusal(SHARING_VIOLATION));
+        }
+        match self.names.rename(name, to) {
+            Ok(()) => Ok(Answer::refusal(SUCCESS)),
+            Err(_) => Err(NoMemory),
+        }
+    }
+
+    #[tactic(auto, using(crate::proofs::FileLemmas::parent_there))]
+    /// Places a directory or a file of the opening namespace. It answers false, and changes nothing, exactly where the
+    /// parent of the name is not there or is a file, or the name is there.
+    ///
+    /// # Errors
+    /// `NoMemory` where there was none for it; then nothing is changed.
+    pub fn start(&mut self, name: &[u16], dir: bool, attributes: u64) -> Result<bool, NoMemory>
+        requires name { is_name_of name.now ≡ true }
+        requires made { length self.old.objects < 2 ^ 63 }
+        ensures answer { IfOk result (λ b. b ≡ can_start self.old name.now) }
+        ensures service { OnOk result (self.new ≡ started self.old name.now dir attributes) }
+        ensures shares { self.new.shares ≡ self.old.shares }
+        ensures err { OnErr result (self.new ≡ self.old) }
+    {
+        if !self.has_parent(name) {
+            return Ok(false);
+        }
+        if self.number_of(name).is_some() {
+            return Ok(false);
+        }
+        let object = FileObject {
+            kind: FileKind::of(dir),
+            attributes,
+        };
+        add_object(&mut self.names, &mut self.objects, name, object)?;
+        Ok(true)
+    }
+
+    /// Takes a handle that was held on the file or directory of a number out, once the handle table has closed it. It takes
+    /// part in sharing no more.
+    pub fn closed(&mut self, _number: u64, handle: u64)
+        ensures { self.new ≡ closed self.old handle }
+    {
+        self.shares.leave(handle);
+    }
+}

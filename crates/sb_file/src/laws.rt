@@ -1,0 +1,43 @@
+// Laws of files and directories. None of these functions changes anything: each contract is a law.
+ghost use Rattle.sb_file.specs.Laws.{CreatesGrantFiles, CreatesMakeOne, RefusalsChangeNothing, RefusedRenamesChangeNothing, RenamesAreExact, RenamesKeepObjects, RenamesMove, RenamesLeaveNothing, RenamesLeaveOthers, ClosesKeepFiles, ClosesLeaveFiles, GrantsLeaveFiles};
+
+use sb_handles::agreement_is_kept as shares_are_kept;
+use sb_names::puts_are_found;
+
+/// A call that answers a status other than success leaves files and handles as they are.
+#[tactic(auto, using(crate::proofs::AgreementLaws::refusals_change_nothing, crate::proofs::RenameLaws::refused_renames_change_nothing))]
+pub fn refusals_change_nothing()
+    ensures create { RefusalsChangeNothing }
+    ensures rename { RefusedRenamesChangeNothing }
+{}
+
+/// A file.create grants one handle at most, on a file or directory, and makes one object at most.
+#[tactic(auto, using(crate::proofs::AgreementLaws::creates_grant_files, crate::proofs::AgreementLaws::creates_make_one))]
+pub fn creates_grant_files()
+    ensures granted { CreatesGrantFiles }
+    ensures made { CreatesMakeOne }
+{}
+
+/// After a rename each name below the old one is found at its new place, with the same object, and nowhere else. All other
+/// names are found as before.
+#[tactic(auto, using(crate::proofs::RenameLaws::renames_keep_objects, crate::proofs::RenameLaws::renames_are_exact, crate::proofs::RenameLaws::renames_move, crate::proofs::RenameLaws::renames_leave_nothing, crate::proofs::RenameLaws::renames_leave_others))]
+pub fn renames_move_names()
+    ensures objects { RenamesKeepObjects }
+    ensures found { RenamesAreExact }
+    ensures moved { RenamesMove }
+    ensures gone { RenamesLeaveNothing }
+    ensures others { RenamesLeaveOthers }
+{
+    puts_are_found::<u64>();
+}
+
+/// Files that agree with a handle table agree after a handle was closed in both, and after one on any other object was
+/// granted or closed.
+#[tactic(auto, using(crate::proofs::AgreementLaws::closes_keep_files, crate::proofs::AgreementLaws::closes_leave_files, crate::proofs::AgreementLaws::grants_leave_files))]
+pub fn agreement_is_kept()
+    ensures closes { ClosesKeepFiles }
+    ensures other_closes { ClosesLeaveFiles }
+    ensures other_grants { GrantsLeaveFiles }
+{
+    shares_are_kept();
+}

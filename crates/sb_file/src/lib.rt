@@ -1,0 +1,15 @@
+// Files and directories: a tree of names, the objects that they lead to, and who has them open with what sharing.
+#![tactic(auto)]
+
+mod creation;
+mod files;
+mod laws;
+mod objects;
+#[cfg(test)]
+mod tests;
+
+pub use files::FileService;
+pub use laws::{
+    agreement_is_kept, creates_grant_files, refusals_change_nothing, renames_move_names,
+};
+pub use objects::{FileKind, FileObject};

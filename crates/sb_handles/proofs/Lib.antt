@@ -1,0 +1,4 @@
+pub mod IndexLemmas
+pub mod ShareLemmas
+pub mod SlotLemmas
+pub mod TableLaws

@@ -1,0 +1,57 @@
+-- Laws of handles and shares.
+use Rattle.std.specs.Prelude.{◌≡◌, ◌+◌, ◌-◌, ℕ, true, false, List, [], ◌∷◌, Option, None, Some, ◌==◌, ◌&&◌, if◌then◌else◌}
+use Rattle.sb_handles.specs.Agreements.{is_file, is_pipe, AgreesOnFiles, pipe_handles}
+use Rattle.sb_handles.specs.Shares.{Shares, opened, left}
+use Rattle.sb_handles.specs.Tables.{Table, IsTable, held_by, with_handle, without_handle}
+use Rattle.sb_handles.specs.declared.objects.Held.{Held}
+use Rattle.sb_handles.specs.declared.objects.Share.{Share}
+
+-- the number of a new handle is none that an open handle has
+abbrev pub NumbersAreNew : Type 0
+NumbersAreNew = (table : Table) (target : ℕ) → IsTable table → held_by table target (table.granted + 1) ≡ None
+
+-- a handle that was granted is held by its target, and every other number by whom it was
+abbrev pub GrantsAreHeld : Type 0
+GrantsAreHeld = (table : Table) (target other number : ℕ) (held : Held) → IsTable table
+    → held_by (with_handle table target held) other number
+    ≡ (if table.granted + 1 == number && target == other then Some held else held_by table other number)
+
+-- a handle that was closed is held no more, and every other as before
+abbrev pub ClosedAreGone : Type 0
+ClosedAreGone = (table : Table) (target other number of : ℕ) → IsTable table
+    → held_by (without_handle table target number) other of
+    ≡ (if number == of && target == other then None else held_by table other of)
+
+-- a handle granted on a file, and opened under its number, keeps the agreement
+abbrev pub GrantsKeepFiles : Type 0
+GrantsKeepFiles = (shares : Shares) (table : Table) (target : ℕ) (held : Held) → IsTable table → AgreesOnFiles shares table
+    → is_file held.object.service ≡ true
+    → AgreesOnFiles (opened shares held.object.number (table.granted + 1) (record { access = held.access; sharing = held.sharing }))
+    (with_handle table target held)
+
+-- a handle granted on any other object leaves the agreement
+abbrev pub GrantsLeaveFiles : Type 0
+GrantsLeaveFiles = (shares : Shares) (table : Table) (target : ℕ) (held : Held) → IsTable table → AgreesOnFiles shares table
+    → is_file held.object.service ≡ false → AgreesOnFiles shares (with_handle table target held)
+
+-- a closed handle that is left keeps the agreement
+abbrev pub ClosesKeepFiles : Type 0
+ClosesKeepFiles = (shares : Shares) (table : Table) (target number : ℕ) (held : Held) → IsTable table → AgreesOnFiles shares table
+    → held_by table target number ≡ Some held → AgreesOnFiles (left shares number) (without_handle table target number)
+
+-- what is opened under the number of the next handle, and left again, leaves the shares as they were
+abbrev pub OpensComeBack : Type 0
+OpensComeBack = (shares : Shares) (table : Table) (object : ℕ) (share : Share) → IsTable table → AgreesOnFiles shares table
+    → left (opened shares object (table.granted + 1) share) (table.granted + 1) ≡ shares
+
+-- a granted handle is one more on its pipe
+abbrev pub GrantsCount : Type 0
+GrantsCount = (table : Table) (target pipe : ℕ) (held : Held)
+    → pipe_handles (with_handle table target held) pipe
+    ≡ pipe_handles table pipe + (if is_pipe held.object.service && held.object.number == pipe then 1 else 0)
+
+-- a closed one is one fewer
+abbrev pub ClosesCount : Type 0
+ClosesCount = (table : Table) (target number pipe : ℕ) (held : Held) → IsTable table → held_by table target number ≡ Some held
+    → pipe_handles (without_handle table target number) pipe + (if is_pipe held.object.service && held.object.number == pipe then 1 else 0)
+    ≡ pipe_handles table pipe

@@ -1,0 +1,7 @@
+pub mod Agreements
+pub mod Effects
+pub mod Indexes
+pub mod Laws
+pub mod Shares
+pub mod Slots
+pub mod Tables

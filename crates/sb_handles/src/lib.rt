@@ -1,0 +1,17 @@
+// Handles: who holds which on what object, and which accesses to one object may stand beside one another.
+#![tactic(auto)]
+
+mod laws;
+mod objects;
+mod shares;
+mod tables;
+#[cfg(test)]
+mod tests;
+
+pub use laws::{
+    agreement_is_kept, closed_are_gone, grants_are_held, numbers_are_new, opens_come_back,
+    pipe_handles_are_counted,
+};
+pub use objects::{Held, NotHeld, Object, OpenHandle, Service, Share, ShareRefused};
+pub use shares::ShareTable;
+pub use tables::HandleTable;

@@ -1,0 +1,75 @@
+// What a handle is held on, and how.
+
+use thiserror::Error;
+
+/// The service to which an object belongs.
+#[derive(Clone, Copy, Debug, PartialEq, Eq)]
+pub enum Service {
+    /// Files and directories.
+    File,
+    /// Pipes.
+    Pipe,
+    /// Keys of the registry.
+    Key,
+    /// Events.
+    Event,
+}
+
+/// An object of a service.
+#[derive(Clone, Copy, Debug, PartialEq, Eq)]
+pub struct Object {
+    /// The service that made it.
+    pub service: Service,
+    /// Its number among all objects that the service ever made, from 1.
+    pub number: u64,
+}
+
+/// What stands behind a handle.
+#[derive(Clone, Copy, Debug, PartialEq, Eq)]
+pub struct Held {
+    /// The object.
+    pub object: Object,
+    /// The access that was asked for, as a mask; 0 where the call has none.
+    pub access: u64,
+    /// What may be done beside it: 1 read, 2 write, 4 delete; 0 where the call has none.
+    pub sharing: u64,
+}
+
+/// A handle that a target holds.
+#[derive(Clone, Copy, Debug, PartialEq, Eq)]
+pub struct OpenHandle {
+    /// The number of the target, from 0.
+    pub target: u32,
+    /// The number of the handle among all ever granted, from 1.
+    pub number: u64,
+    /// What stands behind it.
+    pub held: Held,
+}
+
+/// How an open handle stands to others of its object.
+#[derive(Clone, Copy, Debug, PartialEq, Eq)]
+pub struct Share {
+    /// The access of the handle, as a mask.
+    pub access: u64,
+    /// What may be done beside it: 1 read, 2 write, 4 delete.
+    pub sharing: u64,
+}
+
+/// The target holds no handle of that number.
+#[derive(Clone, Copy, Debug, PartialEq, Eq, Error)]
+#[error("handle not held")]
+pub struct NotHeld;
+
+/// Why an object was not opened.
+#[derive(Clone, Copy, Debug, PartialEq, Eq, Error)]
+pub enum ShareRefused {
+    /// An open handle conflicts.
+    #[error("conflict with handle {handle}")]
+    Conflict {
+        /// The lowest such handle.
+        handle: u64,
+    },
+    /// There was no memory.
+    #[error("out of memory")]
+    NoMemory,
+}

@@ -1,0 +1,27 @@
+// Laws of keys. None of these functions changes anything: each contract is a law.
+ghost use Rattle.sb_key.specs.Laws.{RefusedCreatesChangeNothing, RefusedOpensChangeNothing, CreatesAreFound, OpensLeaveKeys, CreatesKeepTrees};
+
+use sb_names::{puts_are_found, puts_keep_trees};
+
+/// A call that neither made nor opened a key leaves keys and handles as they were.
+pub fn refused_calls_change_nothing()
+    ensures creates { RefusedCreatesChangeNothing }
+    ensures opens { RefusedOpensChangeNothing }
+{}
+
+/// The key found under a name is the one that was made there, whatever call came after.
+#[tactic(auto, using(crate::proofs::KeyLaws::creates_are_found))]
+pub fn keys_are_found_where_made()
+    ensures creates { CreatesAreFound }
+    ensures opens { OpensLeaveKeys }
+{
+    puts_are_found::<u64>();
+}
+
+/// Where each key stands below one that is there, or below the root, each does so after a call that makes a key.
+#[tactic(auto, using(crate::proofs::KeyLaws::creates_keep_trees))]
+pub fn keys_stand_below_keys()
+    ensures { CreatesKeepTrees }
+{
+    puts_keep_trees();
+}

@@ -1,0 +1,10 @@
+// Keys of the registry: a tree in which each key stands below one that is there, or below the root. Keys stay.
+#![tactic(auto)]
+
+mod laws;
+mod registry;
+#[cfg(test)]
+mod tests;
+
+pub use laws::{keys_are_found_where_made, keys_stand_below_keys, refused_calls_change_nothing};
+pub use registry::KeyService;

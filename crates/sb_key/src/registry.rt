@@ -1,0 +1,206 @@
+// The keys by their names, and the calls on them.
+ghost use Rattle.std.specs.Prelude.{◌≡◌, ◌+◌, ◌<◌, ◌^◌, true, None, IfOk, OnOk, OnErr};
+ghost use Rattle.sb_wide.specs.Names.{is_name_of};
+ghost use Rattle.sb_names.specs.Maps.{found};
+ghost use Rattle.sb_names.specs.Trees.{has_parent};
+ghost use Rattle.sb_key.specs.Registry.{no_keys, with_key, on_key, create, create_by, open_key, can_start, started};
+
+use sb_call::{Answer, Extended, NAME_NOT_FOUND, PATH_NOT_FOUND, SUCCESS};
+use sb_handles::{HandleTable, Held, Object, Service};
+use sb_names::{NameTree, puts_come_back};
+use sb_wide::NoMemory;
+use std::alloc::Global;
+use std::marker::Model;
+
+// The extended word of a key that was made.
+const CREATED_NEW_KEY: u64 = 1;
+
+// The extended word of a key that was there.
+const OPENED_EXISTING_KEY: u64 = 2;
+
+/// The keys that were ever made, each under its name. Names are compared folded; a key of one component stands below the
+/// root, which is always there and is no key.
+#[derive(Debug, Drop)]
+pub struct KeyService {
+    names: NameTree,
+    made: u64,
+}
+
+impl Model for KeyService {
+    ghost use Rattle.sb_key.specs.Registry.{Keys};
+
+    ghost Value = { Keys };
+
+    ghost view = { λ s. record { names = s.names; made = s.made } };
+}
+
+// A handle on the key of this number, with this access.
+fn on_key(number: u64, access: u64) -> Held
+    ensures { result ≡ on_key number access }
+{
+    Held {
+        object: Object {
+            service: Service::Key,
+            number,
+        },
+        access,
+        sharing: 0,
+    }
+}
+
+impl KeyService {
+    /// No key was made.
+    pub fn new(alloc: Global) -> KeyService
+        ensures { result ≡ no_keys }
+    {
+        KeyService {
+            names: NameTree::new(alloc),
+            made: 0,
+        }
+    }
+
+    /// How many keys were ever made.
+    pub fn made(&self) -> u64
+        ensures { result ≡ self.now.made }
+    {
+        self.made
+    }
+
+    // Puts a key under a name that is free and has its parent, with the next number. It does not count as made yet.
+    fn add_next(&mut self, name: &[u16]) -> Result<u64, NoMemory>
+        requires parent { has_parent self.old.names name.now ≡ true }
+        requires absent { found self.old.names name.now ≡ None }
+        requires made { self.old.made < 2 ^ 63 }
+        ensures number { IfOk result (λ number. number ≡ self.old.made + 1) }
+        ensures names { OnOk result (self.new.names ≡ (with_key self.old name.now).names) }
+        ensures made { self.new.made ≡ self.old.made }
+        ensures err { OnErr result (self.new ≡ self.old) }
+    {
+        let number = self.made + 1;
+        match self.names.add(name, number) {
+            Ok(()) => Ok(number),
+            Err(_) => Err(NoMemory),
+        }
+    }
+
+    // Makes a key under a name that is free and has its parent, and grants a handle on it.
+    fn create_new(
+        &mut self,
+        handles: &mut HandleTable,
+        target: u32,
+        name: &[u16],
+        access: u64,
+    ) -> Result<Answer, NoMemory>
+        requires parent { has_parent self.old.names name.now ≡ true }
+        requires absent { found self.old.names name.now ≡ None }
+        requires granted { handles.old.granted < 2 ^ 63 }
+        requires made { self.old.made < 2 ^ 63 }
+        ensures answer { IfOk result (λ a. a ≡ (create_by None self.old handles.old target name.now access).answer) }
+        ensures service { OnOk result (self.new ≡ (create_by None self.old handles.old target name.now access).service) }
+        ensures handles { OnOk result (handles.new ≡ (create_by None self.old handles.old target name.now access).handles) }
+        ensures err { OnErr result ((self.new ≡ self.old) × (handles.new ≡ handles.old)) }
+    {
+        puts_come_back::<u64>();
+        let number = self.add_next(name)?;
+        match handles.grant(target, on_key(number, access)) {
+            Ok(handle) => {
+                self.made = number;
+                Ok(Answer::with_word(SUCCESS, handle, CREATED_NEW_KEY))
+            }
+            Err(error) => {
+                self.names.take_back(name);
+                Err(error)
+            }
+        }
+    }
+
+    /// Makes a key, or opens the one that is there, and grants the target a handle on it with this access. The first of
+    /// these that applies is the answer:
+    /// - `PATH_NOT_FOUND` where the parent is not there;
+    /// - `SUCCESS` with a handle on the key that is there, and the extended word 2;
+    /// - `SUCCESS` with a handle on a new key, and the extended word 1.
+    ///
+    /// # Errors
+    /// `NoMemory` where there was none for a name or a handle; then nothing is changed.
+    pub fn create(
+        &mut self,
+        handles: &mut HandleTable,
+        target: u32,
+        name: &[u16],
+        access: u64,
+    ) -> Result<Answer, NoMemory>
+        requires name { is_name_of name.now ≡ true }
+        requires granted { handles.old.granted < 2 ^ 63 }
+        requires made { self.old.made < 2 ^ 63 }
+        ensures answer { IfOk result (λ a. a ≡ (create self.old handles.old target name.now access).answer) }
+        ensures service { OnOk result (self.new ≡ (create self.old handles.old target name.now access).service) }
+        ensures handles { OnOk result (handles.new ≡ (create self.old handles.old target name.now access).handles) }
+        ensures err { OnErr result ((self.new ≡ self.old) × (handles.new ≡ handles.old)) }
+    {
+        match (self.names.has_parent(name), self.names.find(name)) {
+            (false, _) => Ok(Answer::refusal(PATH_NOT_FOUND)),
+            (true, Some(number)) => {
+                let handle = handles.grant(target, on_key(number, access))?;
+                Ok(Answer::with_word(SUCCESS, handle, OPENED_EXISTING_KEY))
+            }
+            (true, None) => self.create_new(handles, target, name, access),
+        }
+    }
+
+    /// Opens the key of a name, and grants the target a handle on it with this access. The first of these that applies is
+    /// the answer:
+    /// - `PATH_NOT_FOUND` where the parent is not there;
+    /// - `NAME_NOT_FOUND` where the key is not there;
+    /// - `SUCCESS` with the handle.
+    ///
+    /// # Errors
+    /// `NoMemory` where there was none for the handle; then nothing is changed.
+    pub fn open_key(
+        &mut self,
+        handles: &mut HandleTable,
+        target: u32,
+        name: &[u16],
+        access: u64,
+    ) -> Result<Answer, NoMemory>
+        requires name { is_name_of name.now ≡ true }
+        requires granted { handles.old.granted < 2 ^ 63 }
+        ensures answer { IfOk result (λ a. a ≡ (open_key self.old handles.old target name.now access).answer) }
+        ensures service { self.new ≡ self.old }
+        ensures handles { OnOk result (handles.new ≡ (open_key self.old handles.old target name.now access).handles) }
+        ensures err { OnErr result (handles.new ≡ handles.old) }
+    {
+        if !self.names.has_parent(name) {
+            return Ok(Answer::refusal(PATH_NOT_FOUND));
+        }
+        match self.names.find(name) {
+            None => Ok(Answer::refusal(NAME_NOT_FOUND)),
+            Some(number) => {
+                let handle = handles.grant(target, on_key(number, access))?;
+                Ok(Answer {
+                    status: SUCCESS,
+                    handle,
+                    ext: Extended::none(),
+                })
+            }
+        }
+    }
+
+    /// Places a key of the opening namespace. It answers false, and changes nothing, exactly where the parent is not
+    /// there or the key is.
+    ///
+    /// # Errors
+    /// `NoMemory` where there was none for the name; then nothing is changed.
+    pub fn start(&mut self, name: &[u16]) -> Result<bool, NoMemory>
+        requires name { is_name_of name.now ≡ true }
+        requires made { self.old.made < 2 ^ 63 }
+        ensures answer { IfOk result (λ b. b ≡ can_start self.old name.now) }
+        ensures service { OnOk result (self.new ≡ started self.old name.now) }
+        ensures err { OnErr result (self.new ≡ self.old) }
+    {
+        if !self.names.has_parent(name) || self.names.find(name).is_some() {
+            return Ok(false);
+        }
+        self.made = self.add_next(name)?;
+        Ok(true)
+    }
+}

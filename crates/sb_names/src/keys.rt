@@ -1,0 +1,140 @@
+// Names as keys: compared and cut without regard to small and capital letters.
+ghost use Rattle.std.specs.Prelude.{◌≡◌, ◌||◌, length};
+ghost use Rattle.std.specs.Cmp.Lexicographic.{slice_cmp};
+ghost use Rattle.std.specs.Ordering.{nat_cmp};
+ghost use Rattle.std.specs.List.{list_any};
+ghost use Rattle.sb_names.specs.Maps.{is_key};
+ghost use Rattle.sb_names.specs.Keys.{key_of, parent_of, is_below, is_backslash};
+
+use sb_wide::fold;
+use std::cmp::Ordering;
+
+const BACKSLASH: u16 = 92;
+
+// How a key stands to a name, unit by unit.
+pub(crate) fn compare(key: &[u16], name: &[u16]) -> Ordering
+    ensures { result ≡ slice_cmp nat_cmp key.now (key_of name.now) }
+{
+    let mut key = key;
+    let mut name = name;
+    while let Some((unit, more)) = key.split_first() {
+        let Some((other, others)) = name.split_first() else {
+            return Ordering::Greater;
+        };
+        match unit.cmp(&fold(*other)) {
+            Ordering::Equal => {}
+            order => return order,
+        }
+        key = more;
+        name = others;
+    }
+    match name.split_first() {
+        Some(_) => Ordering::Less,
+        None => Ordering::Equal,
+    }
+}
+
+fn has_backslash(units: &[u16]) -> bool
+    ensures { result ≡ list_any is_backslash units.now }
+{
+    units.iter().any(|unit| *unit == BACKSLASH)
+}
+
+// How many units stand before the last `\`.
+fn parent_len(name: &[u16]) -> usize
+    ensures { result ≡ length (parent_of name.now) }
+{
+    let mut len = 0;
+    let mut rest = name;
+    while let Some((_, more)) = rest.split_first() {
+        if !has_backslash(more) {
+            return len;
+        }
+        len += 1;
+        rest = more;
+    }
+    len
+}
+
+#[tactic(auto, using(crate::proofs::KeyLemmas::parent_start, crate::proofs::KeyLemmas::parent_short))]
+/// The name of the directory in which a name stands: what stands before its last `\`. It is empty for a name of one
+/// component, which stands in the root.
+pub fn parent(name: &[u16]) -> &[u16]
+    ensures { result.now ≡ parent_of name.now }
+{
+    let (before, _) = name.split_at(parent_len(name));
+    before
+}
+
+// Whether a key is that of a name.
+pub(crate) fn is_key(key: &[u16], name: &[u16]) -> bool
+    ensures { result ≡ is_key (key_of name.now) key.now }
+{
+    let mut key = key;
+    let mut name = name;
+    while let Some((unit, more)) = key.split_first() {
+        let Some((other, others)) = name.split_first() else {
+            return false;
+        };
+        if *unit != fold(*other) {
+            return false;
+        }
+        key = more;
+        name = others;
+    }
+    match name.split_first() {
+        Some(_) => false,
+        None => true,
+    }
+}
+
+// Whether a key lies below a name.
+fn is_under(key: &[u16], name: &[u16]) -> bool
+    ensures { result ≡ is_below (key_of name.now) key.now }
+{
+    let mut key = key;
+    let mut name = name;
+    while let Some((other, others)) = name.split_first() {
+        let Some((unit, more)) = key.split_first() else {
+            return false;
+        };
+        if fold(*other) != *unit {
+            return false;
+        }
+        key = more;
+        name = others;
+    }
+    match key.split_first() {
+        Some((unit, _)) => *unit == BACKSLASH,
+        None => false,
+    }
+}
+
+// Whether a key is that of a name, or lies below it.
+pub(crate) fn is_within(key: &[u16], name: &[u16]) -> bool
+    ensures { result ≡ (is_key (key_of name.now) key.now || is_below (key_of name.now) key.now) }
+{
+    is_key(key, name) || is_under(key, name)
+}
+
+/// Whether a name lies below another: it is the other, a `\`, and more.
+pub fn is_below(name: &[u16], lower: &[u16]) -> bool
+    ensures { result ≡ is_below (key_of name.now) (key_of lower.now) }
+{
+    let mut name = name;
+    let mut lower = lower;
+    while let Some((unit, more)) = name.split_first() {
+        let Some((other, others)) = lower.split_first() else {
+            return false;
+        };
+        if fold(*unit) != fold(*other) {
+            return false;
+        }
+        name = more;
+        lower = others;
+    }
+    match lower.split_first() {
+        Some((unit, _)) => fold(*unit) == BACKSLASH,
+        None => false,
+    }
+}

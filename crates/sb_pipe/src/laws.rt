@@ -1,0 +1,35 @@
+// Laws of pipes. None of these functions changes anything: each contract is a law.
+ghost use Rattle.sb_pipe.specs.Laws.{RefusalsChangeNothing, CallsGrantPipes, CallsMakeOne, PipesHaveHandles, CallsKeepPipes, ClosesKeepPipes, ClosesLeavePipes, GrantsLeavePipes};
+
+use sb_handles::pipe_handles_are_counted;
+
+/// A call that answers a status other than success leaves pipes and handles as they are.
+#[tactic(auto, using(crate::proofs::PipeLaws::refusals_change_nothing))]
+pub fn refusals_change_nothing()
+    ensures { RefusalsChangeNothing }
+{}
+
+/// A call grants one handle at most, on a pipe, and makes one pipe at most.
+#[tactic(auto, using(crate::proofs::PipeLaws::calls_grant_pipes, crate::proofs::PipeLaws::calls_make_one))]
+pub fn calls_grant_pipes()
+    ensures granted { CallsGrantPipes }
+    ensures made { CallsMakeOne }
+{}
+
+/// Where pipes and handles agree, a pipe is there exactly while it has handles.
+#[tactic(auto, using(crate::proofs::PipeLaws::pipes_have_handles))]
+pub fn pipes_have_handles()
+    ensures { PipesHaveHandles }
+{}
+
+/// Pipes that agree with a handle table agree after each call, after a handle on a pipe was closed in both, and after one on
+/// any other object was granted or closed.
+#[tactic(auto, using(crate::proofs::PipeLaws::calls_keep_pipes, crate::proofs::PipeLaws::closes_keep_pipes, crate::proofs::PipeLaws::closes_leave_pipes, crate::proofs::PipeLaws::grants_leave_pipes))]
+pub fn agreement_is_kept()
+    ensures calls { CallsKeepPipes }
+    ensures closes { ClosesKeepPipes }
+    ensures other_closes { ClosesLeavePipes }
+    ensures other_grants { GrantsLeavePipes }
+{
+    pipe_handles_are_counted();
+}

@@ -1,0 +1,12 @@
+// Pipes: made with a number of instances, and gone with their last handle. Their names have no parents.
+#![tactic(auto)]
+
+mod laws;
+mod pipes;
+mod rows;
+#[cfg(test)]
+mod tests;
+
+pub use laws::{agreement_is_kept, calls_grant_pipes, pipes_have_handles, refusals_change_nothing};
+pub use pipes::PipeService;
+pub use rows::PipeRow;

@@ -1,0 +1,281 @@
+// The pipes of the namespace.
+ghost use Rattle.std.specs.Prelude.{◌≡◌, ◌<◌, ◌≤◌, ◌+◌, ◌^◌, true, None, Some, IfOk, OnOk, OnErr, MatchOption, is_some, length, if◌then◌else◌};
+ghost use Rattle.sb_wide.specs.Names.{is_name_of};
+ghost use Rattle.sb_handles.specs.Tables.{with_handle};
+ghost use Rattle.sb_names.specs.Maps.{found, put};
+ghost use Rattle.sb_pipe.specs.Keeping.{name_at, StandsUnder};
+ghost use Rattle.sb_pipe.specs.Pipes.{Agrees, ArePipes, no_pipes, on_pipe, is_invalid, is_alike, create, fewer, closed, with_pipe, with_instance};
+
+use crate::rows::PipeRow;
+use sb_call::{ACCESS_DENIED, Answer, INSTANCE_NOT_AVAILABLE, INVALID_PARAMETER, SUCCESS};
+use sb_handles::{HandleTable, Held, Object, Service, pipe_handles_are_counted};
+use sb_names::{NameMap, puts_come_back};
+use sb_wide::{NoMemory, Wide, wide_of};
+use std::alloc::Global;
+use std::marker::Model;
+
+/// The pipes, each with its number of instances, and how many were ever made.
+///
+/// Pipe names have no parents and are compared folded. A pipe is gone with its last handle.
+#[derive(Debug, Drop)]
+pub struct PipeService {
+    // The pipes that are there.
+    rows: NameMap<PipeRow>,
+    // The name under which each pipe was made: that of pipe n at place n - 1.
+    names: Vec<Wide>,
+}
+
+impl Model for PipeService {
+    ghost use Rattle.std.specs.Prelude.{length};
+    ghost use Rattle.sb_pipe.specs.Keeping.{AreNamed};
+    ghost use Rattle.sb_pipe.specs.Pipes.{Pipes, ArePipes};
+
+    ghost Value = { Pipes };
+
+    ghost view = { λ s. record { rows = s.rows; made = length s.names.items } };
+
+    ghost invariant = { λ s. ArePipes (record { rows = s.rows; made = length s.names.items }) × AreNamed s.names.items s.rows };
+}
+
+// A handle on the pipe of this number; pipes have neither access nor sharing.
+fn on_pipe(number: u64) -> Held
+    ensures { result ≡ on_pipe number }
+{
+    Held {
+        object: Object {
+            service: Service::Pipe,
+            number,
+        },
+        access: 0,
+        sharing: 0,
+    }
+}
+
+// Whether the mode, the form or the instances are out of range.
+fn is_invalid(mode: u64, form: u64, instances: u64) -> bool
+    ensures { result ≡ is_invalid mode form instances }
+{
+    !(1 <= mode && mode <= 3) || form > 1 || !(1 <= instances && instances <= 255)
+}
+
+// Whether a pipe was made with these properties.
+fn is_alike(row: PipeRow, mode: u64, form: u64, instances: u64) -> bool
+    ensures { result ≡ is_alike row mode form instances }
+{
+    row.mode == mode && row.form == form && row.instances == instances
+}
+
+// The name under which the pipe of a number was made.
+fn name_of(names: &[Wide], number: u64) -> Option<&[u16]>
+    ensures { MatchOption result (name_at names.now number ≡ None) (λ name. name_at names.now number ≡ Some name.now) }
+{
+    let place = number.checked_sub(1)?;
+    match names.get(place as usize) {
+        Some(name) => Some(name.as_units()),
+        None => None,
+    }
+}
+
+// Puts a new pipe under its name, and grants a handle on it.
+fn put_pipe(
+    rows: &mut NameMap<PipeRow>,
+    handles: &mut HandleTable,
+    target: u32,
+    name: &[u16],
+    row: PipeRow,
+) -> Result<u64, NoMemory>
+    requires absent { found rows.old name.now ≡ None }
+    requires granted { handles.old.granted < 2 ^ 63 }
+    ensures handle { IfOk result (λ handle. handle ≡ handles.old.granted + 1) }
+    ensures rows { OnOk result (rows.new ≡ put rows.old name.now row) }
+    ensures handles { OnOk result (handles.new ≡ with_handle handles.old target (on_pipe row.number)) }
+    ensures err { OnErr result ((rows.new ≡ rows.old) × (handles.new ≡ handles.old)) }
+{
+    puts_come_back::<PipeRow>();
+    rows.insert(name, row)?;
+    match handles.grant(target, on_pipe(row.number)) {
+        Ok(handle) => Ok(handle),
+        Err(fault) => {
+            rows.remove(name);
+            Err(fault)
+        }
+    }
+}
+
+#[tactic(auto, using(crate::proofs::DropLemmas::dropped_nowhere, crate::proofs::DropLemmas::dropped_for_another, crate::proofs::DropLemmas::dropped_one, crate::proofs::DropLemmas::dropped_last))]
+// Takes one handle from the pipe of this number, which stands under this name if it is there.
+fn drop_handle(rows: &mut NameMap<PipeRow>, name: &[u16], number: u64)
+    requires { StandsUnder name.now number rows.old }
+    ensures { rows.new ≡ fewer rows.old number }
+{
+    rows.rows_rise();
+    let Some(row) = rows.find(name) else {
+        return;
+    };
+    if row.number != number {
+        return;
+    }
+    if row.handles > 1 {
+        let left = row.handles - 1;
+        rows.replace(
+            name,
+            PipeRow {
+                handles: left,
+                ..row
+            },
+        );
+    } else {
+        rows.remove(name);
+    }
+}
+
+impl PipeService {
+    /// No pipe is there, and none was made.
+    pub fn new(alloc: Global) -> PipeService
+        ensures { result ≡ no_pipes }
+    {
+        PipeService {
+            rows: NameMap::new(alloc),
+            names: Vec::new(alloc),
+        }
+    }
+
+    /// How many pipes were ever made.
+    pub fn made(&self) -> u64
+        ensures { result ≡ self.now.made }
+    {
+        self.names.len() as u64
+    }
+
+    // One handle more on a pipe that is there.
+    fn add_instance(
+        &mut self,
+        handles: &mut HandleTable,
+        target: u32,
+        name: &[u16],
+        row: PipeRow,
+    ) -> Result<u64, NoMemory>
+        requires there { found self.old.rows name.now ≡ Some row }
+        requires granted { handles.old.granted < 2 ^ 63 }
+        requires room { row.handles < row.instances }
+        ensures handle { IfOk result (λ handle. handle ≡ handles.old.granted + 1) }
+        ensures service { OnOk result (self.new ≡ with_instance self.old name.now row) }
+        ensures handles { OnOk result (handles.new ≡ with_handle handles.old target (on_pipe row.number)) }
+        ensures err { OnErr result ((self.new ≡ self.old) × (handles.new ≡ handles.old)) }
+    {
+        let handle = handles.grant(target, on_pipe(row.number))?;
+        let more = row.handles + 1;
+        self.rows.replace(
+            name,
+            PipeRow {
+                handles: more,
+                ..row
+            },
+        );
+        Ok(handle)
+    }
+
+    // A pipe more, with one handle.
+    fn add_pipe(
+        &mut self,
+        handles: &mut HandleTable,
+        target: u32,
+        name: &[u16],
+        mode: u64,
+        form: u64,
+        instances: u64,
+    ) -> Result<u64, NoMemory>
+        requires absent { found self.old.rows name.now ≡ None }
+        requires granted { handles.old.granted < 2 ^ 63 }
+        requires made { self.old.made < 2 ^ 63 }
+        requires few { (1 ≤ instances) × (instances ≤ 255) }
+        ensures handle { IfOk result (λ handle. handle ≡ handles.old.granted + 1) }
+        ensures service { OnOk result (self.new ≡ with_pipe self.old name.now mode form instances) }
+        ensures handles { OnOk result (handles.new ≡ with_handle handles.old target (on_pipe (self.old.made + 1))) }
+        ensures err { OnErr result ((self.new ≡ self.old) × (handles.new ≡ handles.old)) }
+    {
+        let alloc = *self.names.allocator();
+        let kept = wide_of(alloc, name)?;
+        self.names.reserve(1)?;
+        let row = PipeRow {
+            number: self.names.len() as u64 + 1,
+            mode,
+            form,
+            instances,
+            handles: 1,
+        };
+        let handle = put_pipe(&mut self.rows, handles, target, name, row)?;
+        let _ = self.names.push(kept);
+        Ok(handle)
+    }
+
+    /// Makes a pipe of this name and grants a handle on it, or grants one handle more on the pipe that is there. The statuses
+    /// are those of Windows' `NtCreateNamedPipeFile`.
+    ///
+    /// The mode is 1 to 3, the form 0 or 1, and the instances are 1 to 255: so many handles the pipe may have. Statuses, the
+    /// first that applies: invalid parameter where one of them is out of range; access denied where the pipe was made with
+    /// others; instance not available where it has as many handles as it may have; success, with the number of its handles
+    /// now as the extended word.
+    ///
+    /// # Errors
+    /// `NoMemory` where there was none for the pipe or the handle; then pipes and handles are as before.
+    pub fn create(
+        &mut self,
+        handles: &mut HandleTable,
+        target: u32,
+        name: &[u16],
+        mode: u64,
+        form: u64,
+        instances: u64,
+    ) -> Result<Answer, NoMemory>
+        requires name { is_name_of name.now ≡ true }
+        requires granted { handles.old.granted < 2 ^ 63 }
+        requires made { self.old.made < 2 ^ 63 }
+        requires agree { Agrees self.old handles.old }
+        ensures answer { IfOk result (λ a. a ≡ (create self.old handles.old target name.now mode form instances).answer) }
+        ensures service { OnOk result (self.new ≡ (create self.old handles.old target name.now mode form instances).service) }
+        ensures handles { OnOk result (handles.new ≡ (create self.old handles.old target name.now mode form instances).handles) }
+        ensures agree { Agrees self.new handles.new }
+        ensures err { OnErr result ((self.new ≡ self.old) × (handles.new ≡ handles.old)) }
+    {
+        if is_invalid(mode, form, instances) {
+            return Ok(Answer::refusal(INVALID_PARAMETER));
+        }
+        self.pipes_are_made();
+        pipe_handles_are_counted();
+        match self.rows.find(name) {
+            Some(row) => {
+                if !is_alike(row, mode, form, instances) {
+                    return Ok(Answer::refusal(ACCESS_DENIED));
+                }
+                if row.handles == row.instances {
+                    return Ok(Answer::refusal(INSTANCE_NOT_AVAILABLE));
+                }
+                let handle = self.add_instance(handles, target, name, row)?;
+                Ok(Answer::with_word(SUCCESS, handle, row.handles + 1))
+            }
+            None => {
+                let handle = self.add_pipe(handles, target, name, mode, form, instances)?;
+                Ok(Answer::with_word(SUCCESS, handle, 1))
+            }
+        }
+    }
+
+    /// Takes one handle from the pipe of a number, once the handle table has closed it. A pipe whose last handle is closed
+    /// is gone; where no pipe has that number nothing is changed.
+    pub fn closed(&mut self, number: u64)
+        ensures { self.new ≡ closed self.old number }
+    {
+        if let Some(name) = name_of(&self.names, number) {
+            drop_handle(&mut self.rows, name, number);
+        }
+    }
+
+    /// No two pipes have one number, each number is one of those ever made, and each pipe has 1 handle to as many as it may
+    /// have. It changes nothing.
+    pub fn pipes_are_made(&self)
+        ensures { ArePipes self.now }
+    {
+        let _count = self.names.len();
+    }
+}
