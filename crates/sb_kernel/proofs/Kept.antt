@@ -1,0 +1,128 @@
+-- What each call leaves of the kernel's agreements.
+use Rattle.std.proofs.Common.{◌≡◌, ◌∙◌, ℕ, ◌+◌, ◌≤◌, Bool, true, false, List, length, refl, sym, ap, subst, arith, ◌⊎◌, inl, inr}
+use Rattle.sb_handles.specs.Agreements.{is_file, is_pipe}
+use Rattle.sb_handles.specs.Tables.{Table, IsTable}
+use Rattle.sb_handles.specs.declared.objects.Service.{Service}
+use Rattle.sb_handles.specs.declared.objects.Service.TheVariants as service
+use Rattle.sb_file.specs.Files as files
+use Rattle.sb_file.specs.Laws.{GrantsLeaveFiles}
+use Rattle.sb_pipe.specs.Laws.{GrantsLeavePipes}
+use Rattle.sb_pipe.specs.Pipes as pipes
+use Rattle.sb_key.specs.Registry as registry
+use Rattle.sb_event.specs.Events as events
+use Rattle.sb_kernel.specs.Kept.{IsKept, MadeAtMost, most_at_start}
+use Rattle.sb_kernel.specs.Namespaces.{Space}
+use Rattle.sb_file.specs.Creation as creation
+use Rattle.sb_handles.specs.Tables.{held_by, without_handle}
+use Rattle.sb_handles.specs.declared.objects.Held.{Held}
+use Rattle.sb_kernel.proofs.Steps.{IsStep, IsGrant, file_step, pipe_step, key_open_step}
+
+-- a step on objects of another service leaves the agreement on files
+pub files_kept : (law : GrantsLeaveFiles) (f : files.Files) (kind : Service) (made more : ℕ) (handles after : Table) → is_file kind ≡ false → IsTable handles
+    → IsStep kind made handles more after → files.Agrees f handles → files.Agrees f after
+files_kept law f kind made more handles after other table (inl (m, h)) agree = subst (files.Agrees f) (sym h) agree
+files_kept law f kind made more handles after other table (inr g) agree =
+    subst (files.Agrees f) (sym g.handles_are) (law f handles g.target g.held table agree (ap is_file g.kind_is ∙ other))
+
+-- and that on pipes
+pub pipes_kept : (law : GrantsLeavePipes) (p : pipes.Pipes) (kind : Service) (made more : ℕ) (handles after : Table) → is_pipe kind ≡ false
+    → IsStep kind made handles more after → pipes.Agrees p handles → pipes.Agrees p after
+pipes_kept law p kind made more handles after other (inl (m, h)) agree = subst (pipes.Agrees p) (sym h) agree
+pipes_kept law p kind made more handles after other (inr g) agree =
+    subst (pipes.Agrees p) (sym g.handles_are) (law p handles g.target g.held agree (ap is_pipe g.kind_is ∙ other))
+
+-- a service has not made more than the handles that were granted and what was there at the start
+pub count_kept : (kind : Service) (made more start : ℕ) (handles after : Table) → IsStep kind made handles more after → made ≤ handles.granted + start
+    → more ≤ after.granted + start
+count_kept kind made more start handles after (inl (m, h)) few = rw (m, h) few
+count_kept kind made more start handles after (inr g) few =
+    let grown : after.granted ≡ handles.granted + 1 = ap (λ t. t.granted) g.handles_are in
+    grind (arith, g.one, few, grown)
+
+-- nor has any other
+pub other_count_kept : (kind : Service) (made more other start : ℕ) (handles after : Table) → IsStep kind made handles more after
+    → other ≤ handles.granted + start → other ≤ after.granted + start
+other_count_kept kind made more other start handles after (inl (m, h)) few = rw h few
+other_count_kept kind made more other start handles after (inr g) few =
+    let grown : after.granted ≡ handles.granted + 1 = ap (λ t. t.granted) g.handles_are in
+    grind (arith, few, grown)
+
+-- what a kernel keeps, after a step of each service
+module _ (other_files : GrantsLeaveFiles) (other_pipes : GrantsLeavePipes) (ns : Space) (kept : IsKept ns) (table : IsTable ns.handles) where
+  pub files_step_kept : (f : files.Files) (after : Table) → IsStep service.File (length ns.files.objects) ns.handles (length f.objects) after → files.Agrees f after
+      → IsKept (record ns { files = f; handles = after })
+  files_step_kept f after step agree = record {
+    files_agree = agree;
+    pipes_agree = pipes_kept other_pipes ns.pipes service.File _ _ ns.handles after refl step kept.pipes_agree;
+    made = record {
+      files = count_kept service.File _ _ most_at_start ns.handles after step kept.made.files;
+      pipes = other_count_kept service.File _ _ ns.pipes.made most_at_start ns.handles after step kept.made.pipes;
+      keys = other_count_kept service.File _ _ ns.keys.made most_at_start ns.handles after step kept.made.keys;
+      events = other_count_kept service.File _ _ ns.events.made most_at_start ns.handles after step kept.made.events;
+    };
+  }
+
+  pub pipes_step_kept : (p : pipes.Pipes) (after : Table) → IsStep service.Pipe ns.pipes.made ns.handles p.made after → pipes.Agrees p after
+      → IsKept (record ns { pipes = p; handles = after })
+  pipes_step_kept p after step agree = record {
+    files_agree = files_kept other_files ns.files service.Pipe _ _ ns.handles after refl table step kept.files_agree;
+    pipes_agree = agree;
+    made = record {
+      files = other_count_kept service.Pipe _ _ (length ns.files.objects) most_at_start ns.handles after step kept.made.files;
+      pipes = count_kept service.Pipe _ _ most_at_start ns.handles after step kept.made.pipes;
+      keys = other_count_kept service.Pipe _ _ ns.keys.made most_at_start ns.handles after step kept.made.keys;
+      events = other_count_kept service.Pipe _ _ ns.events.made most_at_start ns.handles after step kept.made.events;
+    };
+  }
+
+  pub keys_step_kept : (k : registry.Keys) (after : Table) → IsStep service.Key ns.keys.made ns.handles k.made after
+      → IsKept (record ns { keys = k; handles = after })
+  keys_step_kept k after step = record {
+    files_agree = files_kept other_files ns.files service.Key _ _ ns.handles after refl table step kept.files_agree;
+    pipes_agree = pipes_kept other_pipes ns.pipes service.Key _ _ ns.handles after refl step kept.pipes_agree;
+    made = record {
+      files = other_count_kept service.Key _ _ (length ns.files.objects) most_at_start ns.handles after step kept.made.files;
+      pipes = other_count_kept service.Key _ _ ns.pipes.made most_at_start ns.handles after step kept.made.pipes;
+      keys = count_kept service.Key _ _ most_at_start ns.handles after step kept.made.keys;
+      events = other_count_kept service.Key _ _ ns.events.made most_at_start ns.handles after step kept.made.events;
+    };
+  }
+
+  pub events_step_kept : (v : events.Events) (after : Table) → IsStep service.Event ns.events.made ns.handles v.made after
+      → IsKept (record ns { events = v; handles = after })
+  events_step_kept v after step = record {
+    files_agree = files_kept other_files ns.files service.Event _ _ ns.handles after refl table step kept.files_agree;
+    pipes_agree = pipes_kept other_pipes ns.pipes service.Event _ _ ns.handles after refl step kept.pipes_agree;
+    made = record {
+      files = other_count_kept service.Event _ _ (length ns.files.objects) most_at_start ns.handles after step kept.made.files;
+      pipes = other_count_kept service.Event _ _ ns.pipes.made most_at_start ns.handles after step kept.made.pipes;
+      keys = other_count_kept service.Event _ _ ns.keys.made most_at_start ns.handles after step kept.made.keys;
+      events = count_kept service.Event _ _ most_at_start ns.handles after step kept.made.events;
+    };
+  }
+
+  -- the same after each call, by what it left
+  pub file_created : (target : ℕ) (name : List ℕ) (attributes access sharing disposition options : ℕ) (f : files.Files) (after : Table)
+      → f ≡ (creation.create ns.files ns.handles target name attributes access sharing disposition options).service
+      → after ≡ (creation.create ns.files ns.handles target name attributes access sharing disposition options).handles
+      → files.Agrees f after → IsKept (record ns { files = f; handles = after })
+  file_created target name attributes access sharing disposition options f after e h agree =
+      files_step_kept f after (rw (e, h) (file_step ns.files ns.handles target name attributes access sharing disposition options)) agree
+
+  pub pipe_created : (target : ℕ) (name : List ℕ) (mode form instances : ℕ) (p : pipes.Pipes) (after : Table)
+      → p ≡ (pipes.create ns.pipes ns.handles target name mode form instances).service
+      → after ≡ (pipes.create ns.pipes ns.handles target name mode form instances).handles
+      → pipes.Agrees p after → IsKept (record ns { pipes = p; handles = after })
+  pipe_created target name mode form instances p after e h agree =
+      pipes_step_kept p after (rw (e, h) (pipe_step ns.pipes ns.handles target name mode form instances)) agree
+
+  pub key_opened : (target : ℕ) (name : List ℕ) (access : ℕ) (k : registry.Keys) (after : Table)
+      → k ≡ ns.keys → after ≡ (registry.open_key ns.keys ns.handles target name access).handles
+      → IsKept (record ns { keys = k; handles = after })
+  key_opened target name access k after e h = keys_step_kept k after (rw (e, h) (opened (key_open_step ns.keys ns.handles target name access)))
+    where
+      opened : IsStep service.Key ns.keys.made ns.handles (registry.open_key ns.keys ns.handles target name access).service.made
+          (registry.open_key ns.keys ns.handles target name access).handles
+          → IsStep service.Key ns.keys.made ns.handles ns.keys.made (registry.open_key ns.keys ns.handles target name access).handles
+      opened (inl (m, a)) = inl (refl, a)
+      opened (inr g) = inr (record { target = g.target; held = g.held; kind_is = g.kind_is; one = omega arith; handles_are = g.handles_are })

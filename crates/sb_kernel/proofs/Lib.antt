@@ -1,0 +1,6 @@
+pub mod Closing
+pub mod Kept
+pub mod Misfits
+pub mod Placing
+pub mod Refusals
+pub mod Steps

@@ -1,0 +1,22 @@
+-- What a kernel keeps of its namespace besides what each service keeps of its own.
+use Rattle.std.specs.Prelude.{ℕ, ◌+◌, ◌≤◌, length}
+use Rattle.sb_file.specs.Files as files
+use Rattle.sb_pipe.specs.Pipes as pipes
+use Rattle.sb_kernel.specs.Namespaces.{Space}
+
+-- so many objects may be there at the start
+abbrev pub most_at_start : ℕ
+most_at_start = 4096
+
+-- each service made at most so many objects
+pub record MadeAtMost (n : ℕ) (ns : Space) : Type 0 where
+  pub files : length ns.files.objects ≤ n
+  pub pipes : ns.pipes.made ≤ n
+  pub keys : ns.keys.made ≤ n
+  pub events : ns.events.made ≤ n
+
+-- files and pipes agree with the handles on them, and all that was made was there at the start or came with a handle
+pub record IsKept (ns : Space) : Type 0 where
+  pub files_agree : files.Agrees ns.files ns.handles
+  pub pipes_agree : pipes.Agrees ns.pipes ns.handles
+  pub made : MadeAtMost (ns.handles.granted + most_at_start) ns

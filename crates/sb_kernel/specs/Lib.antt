@@ -1,0 +1,4 @@
+pub mod Namespaces
+pub mod Openings
+pub mod Kept
+pub mod Laws

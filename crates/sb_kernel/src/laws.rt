@@ -1,0 +1,24 @@
+// Laws of the namespace. None of these functions changes anything: each contract is a law.
+ghost use Rattle.sb_kernel.specs.Laws.{RefusedCallsChangeNothing, UnheldClosesChangeNothing};
+
+use sb_event::refused_calls_change_nothing as refused_events_change_nothing;
+use sb_file::refusals_change_nothing as refused_files_change_nothing;
+use sb_key::refused_calls_change_nothing as refused_keys_change_nothing;
+use sb_pipe::refusals_change_nothing as refused_pipes_change_nothing;
+
+/// A call that answers a status other than success, and other than that the name exists, leaves the namespace equal.
+pub fn refused_calls_change_nothing()
+    ensures { RefusedCallsChangeNothing }
+{
+    refused_files_change_nothing();
+    refused_pipes_change_nothing();
+    refused_keys_change_nothing();
+    refused_events_change_nothing();
+}
+
+/// `handle.close` of a number under which the target holds no handle is refused and leaves the namespace equal, also where
+/// another target holds one under it.
+#[tactic(auto, using(crate::proofs::Refusals::unheld_closes_change_nothing))]
+pub fn unheld_closes_change_nothing()
+    ensures { UnheldClosesChangeNothing }
+{}
