@@ -25,7 +25,8 @@ use Rattle.sb_ruletext.specs.Conditions.{number_at, numbers_at, most_numbers, mo
 use Rattle.sb_ruletext.specs.Printing.{number_word, range_word, utf8_of, or_tokens, numbers_tokens, test_tokens, not_tokens, parameter_word, cond_tokens, joined_tokens, conds_tokens}
 use Rattle.sb_ruletext.specs.PrintingLaws.{is_number, is_test_of_values}
 use Rattle.sb_ruletext.specs.Steps.{◌>>=◌, or_fault, Read, begins_with, later, after_word, is_end}
-use Rattle.sb_ruletext.specs.Words.{is_word, parameter_words, parameter_of}
+use Rattle.sb_call.specs.CallWords.{is_word}
+use Rattle.sb_ruletext.specs.Words.{parameter_words, parameter_of}
 use Rattle.sb_ruletext.specs.declared.faults.TextKind.{TextKind}
 use Rattle.sb_ruletext.specs.declared.faults.TextKind.TheVariants.{UnknownParam, BadNumber, BadPattern}
 use Rattle.sb_ruletext.proofs.PrintedStrings.{both, and_true, ComesBack, string_back}

@@ -17,7 +17,9 @@ use Rattle.sb_ruletext.specs.Conditions.{most_conditions, conditions_of}
 use Rattle.sb_ruletext.specs.Lines.{most_rules, check_action, when_of, rule, with_rules, with_last_rules, added, line_of}
 use Rattle.sb_ruletext.specs.Printing.{conds_tokens, rule_tokens}
 use Rattle.sb_ruletext.specs.Steps.{◌>>=◌, or_fault, Read}
-use Rattle.sb_ruletext.specs.Words.{is_word, action_word, action_of, call_word, call_of}
+use Rattle.sb_call.specs.CallWords.{is_word, call_word, tag_of_word}
+use Rattle.sb_rule.specs.Actions.{action_word}
+use Rattle.sb_ruletext.specs.Words.{action_of}
 use Rattle.sb_ruletext.specs.declared.faults.TextKind.{TextKind}
 use Rattle.sb_ruletext.specs.declared.faults.TextKind.TheVariants.{UnknownWord, UnknownCall, TooMany, NotReadOnly}
 use Rattle.sb_ruletext.proofs.PrintedConditions.{AreSound, PatternsComeBack, conditions_read}

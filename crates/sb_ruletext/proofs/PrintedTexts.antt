@@ -24,7 +24,8 @@ use Rattle.sb_ruletext.specs.PolicyTexts.{version_of, on_line, policies_from, po
 use Rattle.sb_ruletext.specs.Printing.{rule_tokens, heading_tokens, policy_lines, is_read_only, has_read_only, version_tokens, printed_lines, line_text, printed, relined_rules, relined_from, relined}
 use Rattle.sb_ruletext.specs.PrintingLaws.{is_rule_of_values, is_policy_of_values, PrintedPoliciesAreRead}
 use Rattle.sb_ruletext.specs.Steps.{◌>>=◌, Read, end_after}
-use Rattle.sb_ruletext.specs.Words.{action_word, action_of}
+use Rattle.sb_rule.specs.Actions.{action_word}
+use Rattle.sb_ruletext.specs.Words.{action_of}
 use Rattle.sb_ruletext.specs.declared.faults.TextFault.{TextFault}
 use Rattle.sb_ruletext.specs.declared.faults.TextKind.{TextKind}
 use Rattle.sb_ruletext.specs.declared.faults.TextKind.TheVariants.{NotUtf8, UnknownWord, TooMany, SameName}

@@ -24,7 +24,9 @@ use Rattle.sb_text.specs.Tokens.{Lexeme, Word, Quoted}
 use Rattle.sb_wide.specs.Wide.{is_unit}
 use Rattle.sb_ruletext.specs.Printing.{number_word, utf8_of, or_tokens, numbers_tokens, test_tokens, not_tokens, parameter_word, cond_tokens, joined_tokens, conds_tokens, rule_tokens, heading_tokens, policy_lines, has_read_only, version_word, version_tokens, printed_lines}
 use Rattle.sb_ruletext.specs.PrintingLaws.{is_number, is_test_of_values, is_rule_of_values, is_policy_of_values}
-use Rattle.sb_ruletext.specs.Words.{action_word, call_word, parameter_words}
+use Rattle.sb_rule.specs.Actions.{action_word}
+use Rattle.sb_call.specs.CallWords.{call_word}
+use Rattle.sb_ruletext.specs.Words.{parameter_words}
 use Rattle.sb_ruletext.proofs.PrintedConditions.{AreSound, later_sound, number_small}
 use Rattle.sb_ruletext.proofs.PrintedLines.{is_plain_byte, is_plain, is_plain_line, all_more}
 use Rattle.sb_ruletext.proofs.PrintedStrings.{both, and_true, ComesBack, string_back}

@@ -16,7 +16,9 @@ use Rattle.sb_text.specs.NumberLaws.{HexadecimalsAreRead}
 use Rattle.sb_text.specs.Numbers.{is_hexadecimal_digit, are_digits, below_2_64, value_from, number_of}
 use Rattle.sb_ruletext.specs.Conditions.{after_dots, around_from, around_dots, range, range_of}
 use Rattle.sb_ruletext.specs.Printing.{parameter_word, number_word, range_word, is_read_only}
-use Rattle.sb_ruletext.specs.Words.{is_word, place_of, action_word, action_of, call_word, call_of, parameter_words, parameter_of}
+use Rattle.sb_call.specs.CallWords.{is_word, call_word, tag_of_word}
+use Rattle.sb_rule.specs.Actions.{action_word}
+use Rattle.sb_ruletext.specs.Words.{place_of, action_of, parameter_words, parameter_of}
 use Rattle.sb_ruletext.specs.Steps.{◌>>=◌, or_fault}
 use Rattle.sb_ruletext.specs.declared.faults.TextKind.{TextKind}
 use Rattle.sb_ruletext.specs.declared.faults.TextKind.TheVariants.{BadNumber}
@@ -44,7 +46,7 @@ first_action_back Alarm h = refl
 first_action_back Fake h = refl
 first_action_back ReadOnly h = absurd (false≢true (sym h))
 
-pub call_back : (tag : CallTag) → call_of (call_word tag) ≡ Some tag
+pub call_back : (tag : CallTag) → tag_of_word (call_word tag) ≡ Some tag
 call_back Ping = refl
 call_back FileCreate = refl
 call_back FileOpen = refl

@@ -16,7 +16,8 @@ use Rattle.sb_ruletext.specs.Laws.{is_some_line, renumbered_rule, renumbered_pol
 use Rattle.sb_ruletext.specs.Lines.{name_at, with_policy, heading, call_at, check_action, when_of, rule, grant_at, granted_at, grant, with_rules, with_last_rules, added, line_of}
 use Rattle.sb_ruletext.specs.PolicyTexts.{on_line, policies_from, policies_below, policies_of, version_of}
 use Rattle.sb_ruletext.specs.Steps.{◌>>=◌, or_fault, end_after}
-use Rattle.sb_ruletext.specs.Words.{is_word, action_of}
+use Rattle.sb_call.specs.CallWords.{is_word}
+use Rattle.sb_ruletext.specs.Words.{action_of}
 use Rattle.sb_ruletext.specs.declared.faults.TextKind.{TextKind}
 use Rattle.sb_ruletext.specs.declared.faults.TextKind.TheVariants.{TooMany, UnknownWord, SameName}
 use Rattle.sb_ruletext.specs.declared.grants.Grant.{Grant}

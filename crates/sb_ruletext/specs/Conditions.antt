@@ -11,7 +11,8 @@ use Rattle.sb_rule.specs.declared.conditions.Cond.{Cond}
 use Rattle.sb_rule.specs.declared.conditions.Test.{Test}
 use Rattle.sb_rule.specs.declared.conditions.Test.TheVariants.{OneOf, Range, Mask, Equal, Like}
 use Rattle.sb_ruletext.specs.Steps.{◌>>=◌, or_fault, Read, excess, begins_with, later, after_word, is_end}
-use Rattle.sb_ruletext.specs.Words.{is_word, parameter_of}
+use Rattle.sb_call.specs.CallWords.{is_word}
+use Rattle.sb_ruletext.specs.Words.{parameter_of}
 use Rattle.sb_ruletext.specs.declared.faults.TextKind.{TextKind}
 use Rattle.sb_ruletext.specs.declared.faults.TextKind.TheVariants.{UnknownWord, UnknownParam, WrongKind, BadNumber, EmptyRange, BadPattern}
 use Rattle.sb_text.specs.Numbers.{number_of}

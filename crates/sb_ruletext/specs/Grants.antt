@@ -7,7 +7,7 @@ use Rattle.sb_rule.specs.declared.actions.Action.TheVariants.{Allow}
 use Rattle.sb_rule.specs.declared.conditions.Cond.{Cond}
 use Rattle.sb_rule.specs.declared.conditions.Test.TheVariants.{OneOf, Mask, Like}
 use Rattle.sb_rule.specs.declared.policies.Rule.{Rule}
-use Rattle.sb_ruletext.specs.Words.{named}
+use Rattle.sb_call.specs.CallWords.{named}
 use Rattle.sb_ruletext.specs.declared.grants.Grant.{Grant}
 use Rattle.sb_ruletext.specs.declared.grants.Grant.TheVariants.{FilesAny, FilesReadonly, FilesQuery, PipesAny, RegistryAny, RegistryReadonly, EventsAny, EventsReadonly}
 

@@ -12,7 +12,8 @@ use Rattle.sb_rule.specs.declared.policies.Rule.{Rule}
 use Rattle.sb_ruletext.specs.Conditions.{conditions_of, most_conditions, pattern}
 use Rattle.sb_ruletext.specs.Grants.{grant_of, rules_of}
 use Rattle.sb_ruletext.specs.Steps.{◌>>=◌, or_fault, Read, after_word, is_end, end_after}
-use Rattle.sb_ruletext.specs.Words.{is_word, action_of, call_of}
+use Rattle.sb_call.specs.CallWords.{is_word, tag_of_word}
+use Rattle.sb_ruletext.specs.Words.{action_of}
 use Rattle.sb_ruletext.specs.declared.faults.TextKind.{TextKind}
 use Rattle.sb_ruletext.specs.declared.faults.TextKind.TheVariants.{UnknownWord, UnknownCall, TooMany, SameName, NoHeading, NotReadOnly}
 use Rattle.sb_ruletext.specs.declared.grants.Grant.{Grant}
@@ -52,7 +53,7 @@ heading policies tokens = do
 
 -- the name of a call
 abbrev pub call_at : List Lexeme → Read CallTag
-call_at (Word w ∷ tokens) = or_fault UnknownCall (call_of w) >>= λ tag. Ok (tag, tokens)
+call_at (Word w ∷ tokens) = or_fault UnknownCall (tag_of_word w) >>= λ tag. Ok (tag, tokens)
 call_at (Quoted q ∷ tokens) = Err UnknownCall
 call_at _ = Err UnknownWord
 

@@ -4,7 +4,7 @@ use Rattle.sb_rule.specs.declared.policies.Policies.{Policies}
 use Rattle.sb_rule.specs.declared.policies.Policy.{Policy}
 use Rattle.sb_ruletext.specs.Lines.{line_of}
 use Rattle.sb_ruletext.specs.Steps.{◌>>=◌}
-use Rattle.sb_ruletext.specs.Words.{is_word}
+use Rattle.sb_call.specs.CallWords.{is_word}
 use Rattle.sb_ruletext.specs.declared.faults.TextFault.{TextFault}
 use Rattle.sb_ruletext.specs.declared.faults.TextKind.{TextKind}
 use Rattle.sb_ruletext.specs.declared.faults.TextKind.TheVariants.{NotUtf8, BadVersion}

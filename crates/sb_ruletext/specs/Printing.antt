@@ -16,7 +16,9 @@ use Rattle.sb_rule.specs.declared.policies.Rule.{Rule}
 use Rattle.sb_text.specs.LineLaws.{ended}
 use Rattle.sb_text.specs.TokenLaws.{written_token, written_line}
 use Rattle.sb_text.specs.Tokens.{Lexeme, Word, Quoted}
-use Rattle.sb_ruletext.specs.Words.{action_word, call_word, parameter_words}
+use Rattle.sb_rule.specs.Actions.{action_word}
+use Rattle.sb_call.specs.CallWords.{call_word}
+use Rattle.sb_ruletext.specs.Words.{parameter_words}
 
 -- the name of a parameter, and nothing where there is none
 abbrev pub parameter_word : CallTag → ℕ → List ℕ

@@ -1,7 +1,7 @@
 -- Reading a line from left to right, with the first fault that is met.
 use Rattle.std.specs.Prelude.{◌≡◌, ⊤, ℕ, Bool, true, false, List, [], ◌∷◌, Option, None, Some, Result, Ok, Err, if◌then◌else◌}
 use Rattle.sb_text.specs.Tokens.{Lexeme, Word, Quoted}
-use Rattle.sb_ruletext.specs.Words.{is_word}
+use Rattle.sb_call.specs.CallWords.{is_word}
 use Rattle.sb_ruletext.specs.declared.faults.LineRefused.{LineRefused}
 use Rattle.sb_ruletext.specs.declared.faults.LineRefused.TheVariants as refused
 use Rattle.sb_ruletext.specs.declared.faults.TextKind.{TextKind}

@@ -12,8 +12,8 @@ use crate::drafts::Draft;
 use crate::faults::{LineRefused, TextKind};
 use crate::grants::{Grant, grant_of, one, rules_of};
 use crate::line_tokens::LineTokens;
-use crate::words::{action_of, call_of};
-use sb_call::{CallTag, ShortName};
+use crate::words::action_of;
+use sb_call::{CallTag, ShortName, tag_of_word};
 use sb_pattern::Pattern;
 use sb_rule::{Action, Conds, Rule, Rules};
 use sb_text::{Line, Token};
@@ -66,7 +66,7 @@ fn call_at(tokens: &mut LineTokens) -> Result<CallTag, LineRefused>
 {
     match tokens.next_token() {
         Some(Token::Word(word)) => {
-            call_of(word).ok_or(LineRefused::Fault(TextKind::UnknownCall))
+            tag_of_word(word).ok_or(LineRefused::Fault(TextKind::UnknownCall))
         }
         Some(Token::Quoted(_)) => Err(LineRefused::Fault(TextKind::UnknownCall)),
         Some(Token::Bad) | None => Err(LineRefused::Fault(TextKind::UnknownWord)),

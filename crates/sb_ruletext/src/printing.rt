@@ -3,13 +3,15 @@ ghost use Rattle.std.specs.Prelude.{◌≡◌, ◌++◌, ◌∷◌, [], map, cod
 ghost use Rattle.std.specs.List.{flat_map, list_any};
 ghost use Rattle.sb_rule.specs.WellMade.{are_well_made};
 ghost use Rattle.sb_ruletext.specs.PolicyTexts.{reading};
-ghost use Rattle.sb_ruletext.specs.Words.{action_word, call_word, parameter_words};
+ghost use Rattle.sb_rule.specs.Actions.{action_word};
+ghost use Rattle.sb_call.specs.CallWords.{call_word};
+ghost use Rattle.sb_ruletext.specs.Words.{parameter_words};
 ghost use Rattle.sb_ruletext.specs.Printing.{parameter_word, number_word, range_word, utf8_of, or_tokens, numbers_tokens, test_tokens, not_tokens, cond_tokens, joined_tokens, conds_tokens, rule_tokens, heading_tokens, policy_lines, is_read_only, has_read_only, version_word, version_tokens, spaced, line_text, printed, relined};
 
 use crate::printing_laws::printed_policies_are_read;
 use crate::values::are_policies;
-use crate::words::{action_word, call_word, parameter_words};
-use sb_call::CallTag;
+use crate::words::parameter_words;
+use sb_call::{CallTag, call_word};
 use sb_rule::{Action, Cond, Policies, Policy, Rule, Test};
 use sb_wide::NoMemory;
 use std::alloc::Global;
@@ -151,7 +153,7 @@ fn put_conds(text: &mut Vec<u8>, tag: CallTag, conds: &[Cond]) -> Result<(), NoM
 fn put_rule(text: &mut Vec<u8>, rule: &Rule) -> Result<(), NoMemory>
     ensures { OnOk result (text.new.items ≡ text.old.items ++ line_text (rule_tokens rule.now)) }
 {
-    text.extend_from_slice(action_word(rule.action))?;
+    text.extend_from_slice(rule.action.word())?;
     put_word(text, call_word(rule.tag))?;
     put_conds(text, rule.tag, rule.conds.as_slice())?;
     text.push(b'\n')?;

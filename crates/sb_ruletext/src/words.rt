@@ -1,26 +1,13 @@
-// The words of policy texts: the names of actions, calls and parameters.
+// The words of policy texts: the names of actions and parameters.
 ghost use Rattle.std.specs.Prelude.{◌≡◌, ◌≤◌, ◌<◌, length, map, IfSome};
 ghost use Rattle.sb_call.specs.Tags.{shape_of};
-ghost use Rattle.sb_ruletext.specs.Words.{action_word, actions_of, action_of, call_word, calls, call_of, place_of, parameter_words, parameter_of};
+ghost use Rattle.sb_ruletext.specs.Words.{actions_of, action_of, place_of, parameter_words, parameter_of};
 
 use sb_call::CallTag;
 use sb_rule::Action;
 
 /// The version of policy texts from which on `readonly` is an action.
 const READ_ONLY_VERSION: u32 = 2;
-
-/// The word of an action.
-pub(crate) fn action_word(action: Action) -> &'static [u8]
-    ensures { result.now ≡ action_word action }
-{
-    match action {
-        Action::Allow => b"allow",
-        Action::Deny => b"deny",
-        Action::Alarm => b"alarm",
-        Action::Fake => b"fake",
-        Action::ReadOnly => b"readonly",
-    }
-}
 
 fn actions_of(version: u32) -> &'static [Action]
     ensures { result.now ≡ actions_of version }
@@ -43,57 +30,8 @@ pub(crate) fn action_of(version: u32, word: &[u8]) -> Option<Action>
     ensures { result ≡ action_of version word.now }
 {
     for action in actions_of(version) {
-        if word == action_word(*action) {
+        if word == action.word() {
             return Some(*action);
-        }
-    }
-    None
-}
-
-/// The name of a call.
-pub(crate) fn call_word(tag: CallTag) -> &'static [u8]
-    ensures { result.now ≡ call_word tag }
-{
-    match tag {
-        CallTag::Ping => b"ping",
-        CallTag::FileCreate => b"file.create",
-        CallTag::FileOpen => b"file.open",
-        CallTag::FileQuery => b"file.query",
-        CallTag::FileRename => b"file.rename",
-        CallTag::PipeCreate => b"pipe.create",
-        CallTag::KeyCreate => b"key.create",
-        CallTag::KeyOpen => b"key.open",
-        CallTag::EventCreate => b"event.create",
-        CallTag::EventOpen => b"event.open",
-        CallTag::HandleClose => b"handle.close",
-    }
-}
-
-fn calls() -> &'static [CallTag]
-    ensures { result.now ≡ calls }
-{
-    &[
-        CallTag::Ping,
-        CallTag::FileCreate,
-        CallTag::FileOpen,
-        CallTag::FileQuery,
-        CallTag::FileRename,
-        CallTag::PipeCreate,
-        CallTag::KeyCreate,
-        CallTag::KeyOpen,
-        CallTag::EventCreate,
-        CallTag::EventOpen,
-        CallTag::HandleClose,
-    ]
-}
-
-/// The call of a word.
-pub(crate) fn call_of(word: &[u8]) -> Option<CallTag>
-    ensures { result ≡ call_of word.now }
-{
-    for tag in calls() {
-        if word == call_word(*tag) {
-            return Some(*tag);
         }
     }
     None

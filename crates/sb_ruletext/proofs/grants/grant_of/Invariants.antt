@@ -1,6 +1,6 @@
 use Rattle.std.proofs.Common.{◌≡◌, drop}
 use Rattle.sb_ruletext.specs.Grants.{grant_word, grants, grant_of}
-use Rattle.sb_ruletext.specs.Words.{named}
+use Rattle.sb_call.specs.CallWords.{named}
 use Rattle.sb_ruletext.proofs.grants.grant_of.Given as goal
 
 -- the grant is one of those that are left

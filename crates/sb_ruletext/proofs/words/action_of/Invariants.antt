@@ -1,5 +1,7 @@
 use Rattle.std.proofs.Common.{◌≡◌, drop}
-use Rattle.sb_ruletext.specs.Words.{action_word, actions_of, action_of, named}
+use Rattle.sb_rule.specs.Actions.{action_word}
+use Rattle.sb_call.specs.CallWords.{named}
+use Rattle.sb_ruletext.specs.Words.{actions_of, action_of}
 use Rattle.sb_ruletext.proofs.words.action_of.Given as goal
 
 -- the action is one of those that are left

@@ -1,0 +1,10 @@
+pub mod Kinds
+pub mod Steps
+pub mod Arguments
+pub mod Statements
+pub mod Openings
+pub mod Drafts
+pub mod Lines
+pub mod ScriptTexts
+pub mod Readiness
+pub mod Laws

@@ -1,0 +1,125 @@
+-- The lines of a script text below its first.
+use Rattle.std.specs.Prelude.{ℕ, Bool, nat_eq, List, [], ◌∷◌, None, Some, Result, Ok, Err, if◌then◌else◌, codes}
+use Rattle.std.specs.Cmp.Lexicographic.{pointwise}
+use Rattle.std.specs.List.{list_any, position}
+use Rattle.sb_call.specs.CallWords.{is_word}
+use Rattle.sb_call.specs.ShortNames.{is_short_name}
+use Rattle.sb_call.specs.declared.scripts.StartLine.{StartLine}
+use Rattle.sb_call.specs.declared.scripts.TargetScript.{TargetScript}
+use Rattle.sb_call.specs.declared.statements.Statement.{Statement}
+use Rattle.sb_rule.specs.WellMade.{is_named}
+use Rattle.sb_rule.specs.declared.policies.Policy.{Policy}
+use Rattle.sb_script.specs.Arguments.{call}
+use Rattle.sb_script.specs.Drafts.{is_opening, is_in_thread, targets_of, with_patience, with_start, with_target, with_thread, with_statement}
+use Rattle.sb_script.specs.Openings.{dir, file, key, event}
+use Rattle.sb_script.specs.Statements.{store, exchange, load, wait}
+use Rattle.sb_script.specs.Steps.{◌>>=◌, or_fault, Read, number_within, end_at}
+use Rattle.sb_script.specs.declared.drafts.Draft.{Draft}
+use Rattle.sb_script.specs.declared.drafts.Heading.{Heading}
+use Rattle.sb_script.specs.declared.faults.ScriptKind.{ScriptKind}
+use Rattle.sb_script.specs.declared.faults.ScriptKind.TheVariants.{UnknownWord, BadNumber, NoSuchPolicy, SameName}
+use Rattle.sb_text.specs.Tokens.{Lexeme, Word, Quoted, Bad}
+
+-- the greatest patience
+abbrev pub most_patience : ℕ
+most_patience = 1000000
+
+-- the most channels of a target
+abbrev pub most_channels : ℕ
+most_channels = 8
+
+-- `patience N`, behind its first word
+unfoldable pub patience : List Lexeme → Result ℕ ScriptKind
+patience tokens = do
+  number ← number_within 1 most_patience BadNumber UnknownWord tokens
+  end ← end_at UnknownWord number.1
+  Ok number.0
+
+-- a target has this name
+abbrev pub is_target_named : List ℕ → TargetScript → Bool
+is_target_named name target = pointwise nat_eq target.name name
+
+-- NAME as a word: a short name that no target so far has
+abbrev pub new_name : List TargetScript → List ℕ → Result (List ℕ) ScriptKind
+new_name targets name =
+    if is_short_name name
+    then (if list_any (is_target_named name) targets then Err SameName else Ok name)
+    else Err UnknownWord
+
+-- NAME: the name of a target
+unfoldable pub new_name_at : List TargetScript → List Lexeme → Read (List ℕ)
+new_name_at targets (Word w ∷ tokens) = new_name targets w >>= λ name. Ok (name, tokens)
+new_name_at targets (Quoted q ∷ tokens) = Err UnknownWord
+new_name_at targets (Bad ∷ tokens) = Err UnknownWord
+new_name_at targets [] = Err UnknownWord
+
+-- POLICY: the number of the first policy of this name, from 0
+unfoldable pub policy_at : List Policy → List Lexeme → Read ℕ
+policy_at policies (Word w ∷ tokens) = or_fault NoSuchPolicy (position (is_named w) policies) >>= λ policy. Ok (policy, tokens)
+policy_at policies (Quoted q ∷ tokens) = Err NoSuchPolicy
+policy_at policies (Bad ∷ tokens) = Err UnknownWord
+policy_at policies [] = Err UnknownWord
+
+-- `target NAME POLICY CHANNELS`, behind its first word
+unfoldable pub heading : List Policy → List TargetScript → List Lexeme → Result Heading ScriptKind
+heading policies targets tokens = do
+  name ← new_name_at targets tokens
+  policy ← policy_at policies name.1
+  channels ← number_within 1 most_channels BadNumber UnknownWord policy.1
+  end ← end_at UnknownWord channels.1
+  Ok (record { name = name.0; policy = policy.0; channels = channels.0 })
+
+-- a `patience` line, before the first target and once
+unfoldable pub set_patience : Draft → List Lexeme → Result Draft ScriptKind
+set_patience draft tokens =
+    elim draft.patience [
+      | None ↦ if is_opening draft then (patience tokens >>= λ n. Ok (with_patience draft n)) else Err UnknownWord
+      | Some n ↦ Err UnknownWord
+    ]
+
+-- a `target` line
+unfoldable pub add_target : List Policy → Draft → List Lexeme → Result Draft ScriptKind
+add_target policies draft tokens = heading policies (targets_of draft) tokens >>= λ target. with_target draft target
+
+-- a `thread` line, after a target
+unfoldable pub add_thread : Draft → List Lexeme → Result Draft ScriptKind
+add_thread draft tokens =
+    if is_opening draft then Err UnknownWord
+    else (end_at UnknownWord tokens >>= λ end. with_thread draft)
+
+-- the object of an opening line that begins with this word
+unfoldable pub start_line : List ℕ → List Lexeme → Result StartLine ScriptKind
+start_line w tokens =
+    if is_word (codes "dir") w then dir tokens
+    else (if is_word (codes "file") w then file tokens
+    else (if is_word (codes "key") w then key tokens
+    else (if is_word (codes "event") w then event tokens
+    else Err UnknownWord)))
+
+-- the statement of a line that begins with this word
+unfoldable pub statement_line : List ℕ → List Lexeme → Result Statement ScriptKind
+statement_line w tokens =
+    if is_word (codes "call") w then call tokens
+    else (if is_word (codes "store") w then store tokens
+    else (if is_word (codes "exchange") w then exchange tokens
+    else (if is_word (codes "load") w then load tokens
+    else (if is_word (codes "wait") w then wait tokens
+    else Err UnknownWord))))
+
+-- in a thread a statement, before the first target an opening line, and elsewhere neither
+unfoldable pub plain_line : List ℕ → Draft → ℕ → List Lexeme → Result Draft ScriptKind
+plain_line w draft line tokens =
+    if is_in_thread draft then (statement_line w tokens >>= λ statement. with_statement draft line statement)
+    else (if is_opening draft then (start_line w tokens >>= λ start. with_start draft start)
+    else Err UnknownWord)
+
+-- with what a line says: a patience, a target, a thread, an opening line or a statement
+unfoldable pub line_of : List Policy → Draft → ℕ → List Lexeme → Result Draft ScriptKind
+line_of policies draft line (Word w ∷ tokens) =
+    if is_word (codes "patience") w then set_patience draft tokens
+    else (if is_word (codes "target") w then add_target policies draft tokens
+    else (if is_word (codes "thread") w then add_thread draft tokens
+    else plain_line w draft line tokens))
+line_of policies draft line (Quoted q ∷ tokens) = Err UnknownWord
+line_of policies draft line (Bad ∷ tokens) = Err UnknownWord
+line_of policies draft line [] = Err UnknownWord

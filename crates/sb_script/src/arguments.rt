@@ -1,0 +1,78 @@
+// `call CALL ARG ..`: a call with its arguments.
+ghost use Rattle.std.specs.Prelude.{◌≡◌};
+ghost use Rattle.sb_script.specs.Arguments.{tag_at, arg_at, args_at, fitting, call};
+ghost use Rattle.sb_script.specs.Steps.{Gives, Reads};
+
+use crate::faults::{LineRefused, ScriptKind};
+use crate::steps::{end_at, name_at, number_at, number_within, string_at};
+use sb_block::encodes;
+use sb_call::{Arg, Args, CallTag, ParamKind, Statement, shape, tag_of_word};
+use sb_text::{Token, Tokens};
+use std::alloc::Global;
+
+/// The greatest number of 32 bits.
+pub(crate) const MOST_32: u64 = 0xFFFF_FFFF;
+
+// CALL: the word of a call.
+#[tactic(auto, unfolding(crate::specs::Arguments::tag_at))]
+fn tag_at(tokens: &mut Tokens) -> Result<CallTag, LineRefused>
+    ensures { Reads (tag_at tokens.old) result tokens.new }
+{
+    match tokens.next_token() {
+        Some(Token::Word(word)) => {
+            tag_of_word(word).ok_or(LineRefused::Fault(ScriptKind::UnknownCall))
+        }
+        Some(Token::Quoted(_)) => Err(LineRefused::Fault(ScriptKind::UnknownCall)),
+        Some(Token::Bad) | None => Err(LineRefused::Fault(ScriptKind::UnknownWord)),
+    }
+}
+
+// ARG: an argument of this kind.
+#[tactic(auto, unfolding(crate::specs::Arguments::arg_at))]
+fn arg_at(alloc: Global, kind: ParamKind, tokens: &mut Tokens) -> Result<Arg, LineRefused>
+    ensures { Reads (arg_at kind tokens.old) result tokens.new }
+{
+    let wrong = ScriptKind::WrongArgs;
+    match kind {
+        ParamKind::Text => Ok(Arg::Str(string_at(alloc, wrong, tokens)?)),
+        ParamKind::Name => Ok(Arg::Str(name_at(alloc, wrong, tokens)?)),
+        ParamKind::Num => Ok(Arg::Num(number_within(0, MOST_32, wrong, wrong, tokens)?)),
+        ParamKind::Handle => Ok(Arg::Num(number_at(wrong, wrong, tokens)?)),
+    }
+}
+
+// An argument of each of these kinds.
+#[tactic(auto, using(crate::proofs::Reading::args_before, crate::proofs::Reading::args_none, crate::proofs::Reading::args_bad, crate::proofs::Reading::args_more))]
+fn args_at(alloc: Global, kinds: &[ParamKind], tokens: &mut Tokens) -> Result<Args, LineRefused>
+    ensures { Reads (args_at kinds.now tokens.old) result tokens.new }
+{
+    let mut args = Args::new(Vec::new(alloc));
+    let mut left = kinds;
+    while let Some((kind, more)) = left.split_first() {
+        args.push(arg_at(alloc, *kind, tokens)?)?;
+        left = more;
+    }
+    Ok(args)
+}
+
+// The statement of a call, where its block has at most 64 words.
+fn fitting(tag: CallTag, args: Args) -> Result<Statement, LineRefused>
+    ensures { Gives (fitting tag args) result }
+{
+    if encodes(tag, args.as_slice()) {
+        Ok(Statement::Call { tag, args })
+    } else {
+        Err(LineRefused::Fault(ScriptKind::TooBig))
+    }
+}
+
+/// `call CALL ARG ..`, behind its first word.
+#[tactic(auto, unfolding(crate::specs::Arguments::call))]
+pub(crate) fn call(alloc: Global, tokens: &mut Tokens) -> Result<Statement, LineRefused>
+    ensures { Gives (call tokens.old) result }
+{
+    let tag = tag_at(tokens)?;
+    let args = args_at(alloc, shape(tag), tokens)?;
+    end_at(ScriptKind::WrongArgs, tokens)?;
+    fitting(tag, args)
+}

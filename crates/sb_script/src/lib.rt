@@ -1,0 +1,23 @@
+// Scripts as the texts that people write: reading them, with the first fault and its line. A text means one script for
+// given policies or it has one first fault; what is read is sound and ready for its policies.
+#![tactic(auto)]
+
+mod arguments;
+mod drafts;
+mod faults;
+mod laws;
+mod lines;
+mod openings;
+mod placing;
+mod script_texts;
+mod statements;
+mod steps;
+#[cfg(test)]
+mod tests;
+
+pub use faults::{ScriptFault, ScriptKind, ScriptRefused};
+pub use laws::{
+    first_faults_stay, placing_is_opening, read_arguments_fit, read_scripts_are_ready,
+    skipped_lines_count_alone,
+};
+pub use script_texts::read_script;

@@ -1,0 +1,241 @@
+// Reading the lines below the first.
+ghost use Rattle.std.specs.Prelude.{◌≡◌, ◌≤◌, ◌<◌, ◌^◌, length, IfOk, IfSome};
+ghost use Rattle.std.specs.List.{list_any, position};
+ghost use Rattle.sb_rule.specs.WellMade.{is_named};
+ghost use Rattle.sb_script.specs.Arguments.{call};
+ghost use Rattle.sb_script.specs.Drafts.{targets_of};
+ghost use Rattle.sb_script.specs.Lines.{patience, new_name, new_name_at, policy_at, heading, set_patience, add_target, add_thread, start_line, statement_line, plain_line, line_of};
+ghost use Rattle.sb_script.specs.Openings.{dir, file, key, event};
+ghost use Rattle.sb_script.specs.Statements.{store, exchange, load, wait};
+ghost use Rattle.sb_script.specs.Steps.{Gives, Reads, Becomes};
+ghost use Rattle.sb_text.specs.Tokens.{tokens_of};
+
+use crate::arguments::call;
+use crate::drafts::{Draft, Heading};
+use crate::faults::{LineRefused, ScriptKind};
+use crate::openings::{dir, event, file, key};
+use crate::statements::{exchange, load, store, wait};
+use crate::steps::{end_at, number_within};
+use sb_call::{ShortName, StartLine, Statement};
+use sb_rule::Policy;
+use sb_text::{Line, Token, Tokens};
+use std::alloc::Global;
+
+const MOST_PATIENCE: u64 = 1_000_000;
+
+const MOST_CHANNELS: u64 = 8;
+
+// `patience N`, behind its first word.
+#[tactic(auto, unfolding(crate::specs::Lines::patience))]
+fn patience(tokens: &mut Tokens) -> Result<u32, LineRefused>
+    ensures { Gives (patience tokens.old) result }
+{
+    let (number, word) = (ScriptKind::BadNumber, ScriptKind::UnknownWord);
+    let patience = number_within(1, MOST_PATIENCE, number, word, tokens)?;
+    end_at(word, tokens)?;
+    Ok(patience as u32)
+}
+
+// NAME as a word: a short name that no target so far has.
+fn new_name(draft: &Draft, word: &[u8]) -> Result<ShortName, LineRefused>
+    ensures { Gives (new_name (targets_of draft.now) word.now) result }
+{
+    let Some(name) = ShortName::new(word) else {
+        return Err(LineRefused::Fault(ScriptKind::UnknownWord));
+    };
+    if draft.is_named(word) {
+        return Err(LineRefused::Fault(ScriptKind::SameName));
+    }
+    Ok(name)
+}
+
+// NAME: the name of a target.
+#[tactic(auto, unfolding(crate::specs::Lines::new_name_at))]
+fn new_name_at(draft: &Draft, tokens: &mut Tokens) -> Result<ShortName, LineRefused>
+    ensures { Reads (new_name_at (targets_of draft.now) tokens.old) result tokens.new }
+{
+    match tokens.next_token() {
+        Some(Token::Word(word)) => new_name(draft, word),
+        Some(Token::Quoted(_)) | Some(Token::Bad) | None => {
+            Err(LineRefused::Fault(ScriptKind::UnknownWord))
+        }
+    }
+}
+
+fn is_named(name: &[u8], policy: &Policy) -> bool
+    ensures { result ≡ is_named name.now policy.now }
+{
+    policy.name.bytes() == name
+}
+
+// The number of the first policy of this name, from 0.
+fn policy_number(name: &[u8], policies: &[Policy]) -> Option<usize>
+    ensures value { result ≡ position (is_named name.now) policies.now }
+    ensures below { IfSome result (λ n. n < length policies.now) }
+{
+    policies.iter().position(|policy| is_named(name, policy))
+}
+
+// POLICY: the number of the policy of this name.
+#[tactic(auto, unfolding(crate::specs::Lines::policy_at))]
+fn policy_at(policies: &[Policy], tokens: &mut Tokens) -> Result<u32, LineRefused>
+    requires few { length policies.now < 2 ^ 32 }
+    ensures read { Reads (policy_at policies.now tokens.old) result tokens.new }
+{
+    match tokens.next_token() {
+        Some(Token::Word(word)) => match policy_number(word, policies) {
+            Some(number) => Ok(number as u32),
+            None => Err(LineRefused::Fault(ScriptKind::NoSuchPolicy)),
+        },
+        Some(Token::Quoted(_)) => Err(LineRefused::Fault(ScriptKind::NoSuchPolicy)),
+        Some(Token::Bad) | None => Err(LineRefused::Fault(ScriptKind::UnknownWord)),
+    }
+}
+
+// `target NAME POLICY CHANNELS`, behind its first word.
+#[tactic(auto, unfolding(crate::specs::Lines::heading))]
+fn heading(policies: &[Policy], draft: &Draft, tokens: &mut Tokens) -> Result<Heading, LineRefused>
+    requires few { length policies.now < 2 ^ 32 }
+    ensures read { Gives (heading policies.now (targets_of draft.now) tokens.old) result }
+{
+    let (number, word) = (ScriptKind::BadNumber, ScriptKind::UnknownWord);
+    let name = new_name_at(draft, tokens)?;
+    let policy = policy_at(policies, tokens)?;
+    let channels = number_within(1, MOST_CHANNELS, number, word, tokens)?;
+    end_at(word, tokens)?;
+    Ok(Heading {
+        name,
+        policy,
+        channels: channels as u32,
+    })
+}
+
+// A `patience` line, before the first target and once.
+#[tactic(auto, unfolding(crate::specs::Lines::set_patience))]
+fn set_patience(draft: &mut Draft, tokens: &mut Tokens) -> Result<(), LineRefused>
+    ensures { Becomes (set_patience draft.old tokens.old) result draft.new }
+{
+    if draft.patience.is_some() {
+        return Err(LineRefused::Fault(ScriptKind::UnknownWord));
+    }
+    if !draft.is_opening() {
+        return Err(LineRefused::Fault(ScriptKind::UnknownWord));
+    }
+    let patience = patience(tokens)?;
+    draft.patience = Some(patience);
+    Ok(())
+}
+
+// A `target` line.
+#[tactic(auto, unfolding(crate::specs::Lines::add_target))]
+fn add_target(
+    alloc: Global,
+    policies: &[Policy],
+    draft: &mut Draft,
+    tokens: &mut Tokens,
+) -> Result<(), LineRefused>
+    requires few { length policies.now < 2 ^ 32 }
+    ensures read { Becomes (add_target policies.now draft.old tokens.old) result draft.new }
+{
+    let heading = heading(policies, draft, tokens)?;
+    draft.add_target(alloc, heading)
+}
+
+// A `thread` line, after a target.
+#[tactic(auto, unfolding(crate::specs::Lines::add_thread))]
+fn add_thread(alloc: Global, draft: &mut Draft, tokens: &mut Tokens) -> Result<(), LineRefused>
+    ensures { Becomes (add_thread draft.old tokens.old) result draft.new }
+{
+    if draft.is_opening() {
+        return Err(LineRefused::Fault(ScriptKind::UnknownWord));
+    }
+    end_at(ScriptKind::UnknownWord, tokens)?;
+    draft.add_thread(alloc)
+}
+
+// The object of an opening line that begins with this word.
+#[tactic(auto, unfolding(crate::specs::Lines::start_line))]
+fn start_line(alloc: Global, word: &[u8], tokens: &mut Tokens) -> Result<StartLine, LineRefused>
+    ensures { Gives (start_line word.now tokens.old) result }
+{
+    if word == b"dir".as_slice() {
+        dir(alloc, tokens)
+    } else if word == b"file".as_slice() {
+        file(alloc, tokens)
+    } else if word == b"key".as_slice() {
+        key(alloc, tokens)
+    } else if word == b"event".as_slice() {
+        event(alloc, tokens)
+    } else {
+        Err(LineRefused::Fault(ScriptKind::UnknownWord))
+    }
+}
+
+// The statement of a line that begins with this word.
+#[tactic(auto, unfolding(crate::specs::Lines::statement_line))]
+fn statement_line(alloc: Global, word: &[u8], tokens: &mut Tokens) -> Result<Statement, LineRefused>
+    ensures { Gives (statement_line word.now tokens.old) result }
+{
+    if word == b"call".as_slice() {
+        call(alloc, tokens)
+    } else if word == b"store".as_slice() {
+        store(tokens)
+    } else if word == b"exchange".as_slice() {
+        exchange(tokens)
+    } else if word == b"load".as_slice() {
+        load(tokens)
+    } else if word == b"wait".as_slice() {
+        wait(tokens)
+    } else {
+        Err(LineRefused::Fault(ScriptKind::UnknownWord))
+    }
+}
+
+// In a thread a statement, before the first target an opening line.
+#[tactic(auto, unfolding(crate::specs::Lines::plain_line))]
+fn plain_line(
+    alloc: Global,
+    word: &[u8],
+    draft: &mut Draft,
+    line: u32,
+    tokens: &mut Tokens,
+) -> Result<(), LineRefused>
+    ensures { Becomes (plain_line word.now draft.old line tokens.old) result draft.new }
+{
+    if draft.is_in_thread() {
+        let statement = statement_line(alloc, word, tokens)?;
+        return draft.add_statement(line, statement);
+    }
+    if !draft.is_opening() {
+        return Err(LineRefused::Fault(ScriptKind::UnknownWord));
+    }
+    let start = start_line(alloc, word, tokens)?;
+    draft.add_start(alloc, start)
+}
+
+/// What a line adds to what was read so far. After an error the draft is of no more use.
+#[tactic(auto, unfolding(crate::specs::Lines::line_of))]
+pub(crate) fn line_of(
+    alloc: Global,
+    policies: &[Policy],
+    draft: &mut Draft,
+    line: &Line,
+) -> Result<(), LineRefused>
+    requires few { length policies.now < 2 ^ 32 }
+    ensures read { Becomes (line_of policies.now draft.old line.now.number (tokens_of line.now.text.now)) result draft.new }
+{
+    let mut tokens = line.tokens();
+    let Some(Token::Word(word)) = tokens.next_token() else {
+        return Err(LineRefused::Fault(ScriptKind::UnknownWord));
+    };
+    if word == b"patience".as_slice() {
+        return set_patience(draft, &mut tokens);
+    }
+    if word == b"target".as_slice() {
+        return add_target(alloc, policies, draft, &mut tokens);
+    }
+    if word == b"thread".as_slice() {
+        return add_thread(alloc, draft, &mut tokens);
+    }
+    plain_line(alloc, word, draft, line.number, &mut tokens)
+}

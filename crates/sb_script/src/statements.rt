@@ -1,0 +1,148 @@
+// `store`, `exchange`, `load` and `wait`: words of channels that are stored and loaded by hand.
+ghost use Rattle.std.specs.Prelude.{◌≡◌};
+ghost use Rattle.sb_script.specs.Statements.{short, value_at, short_at, block_place, place_of, place_at, word_at, store, exchange, load, wait};
+ghost use Rattle.sb_script.specs.Steps.{Gives, Reads};
+
+use crate::arguments::MOST_32;
+use crate::faults::{LineRefused, ScriptKind};
+use crate::steps::{end_at, number_at, within};
+use sb_call::{Statement, Word};
+use sb_text::{Token, Tokens, number_of};
+
+const MOST_LOADS: u64 = 1_000_000;
+
+const LAST_BLOCK_WORD: u64 = 63;
+
+// The number of a target or a channel.
+fn short(number: u64) -> u32
+    ensures { result ≡ short number }
+{
+    if number <= MOST_32 {
+        number as u32
+    } else {
+        0xFFFF_FFFF
+    }
+}
+
+// V: a value.
+fn value_at(tokens: &mut Tokens) -> Result<u64, LineRefused>
+    ensures { Reads (value_at tokens.old) result tokens.new }
+{
+    number_at(ScriptKind::BadNumber, ScriptKind::WrongArgs, tokens)
+}
+
+// T or C: a target or a channel.
+#[tactic(auto, unfolding(crate::specs::Statements::short_at))]
+fn short_at(tokens: &mut Tokens) -> Result<u32, LineRefused>
+    ensures { Reads (short_at tokens.old) result tokens.new }
+{
+    Ok(short(value_at(tokens)?))
+}
+
+// The place of a block word in its channel.
+fn block_place(word: u64) -> Result<u32, LineRefused>
+    ensures { Gives (block_place word) result }
+{
+    if word <= LAST_BLOCK_WORD {
+        Ok(1 + word as u32)
+    } else {
+        Err(LineRefused::Fault(ScriptKind::NoSuchWord))
+    }
+}
+
+// W as a word.
+fn place_of(word: &[u8]) -> Result<u32, LineRefused>
+    ensures { Gives (place_of word.now) result }
+{
+    if word == b"state".as_slice() {
+        return Ok(0);
+    }
+    match number_of(word) {
+        Some(number) => block_place(number),
+        None => Err(LineRefused::Fault(ScriptKind::BadNumber)),
+    }
+}
+
+// W: the place of a word in its channel.
+#[tactic(auto, unfolding(crate::specs::Statements::place_at))]
+fn place_at(tokens: &mut Tokens) -> Result<u32, LineRefused>
+    ensures { Reads (place_at tokens.old) result tokens.new }
+{
+    match tokens.next_token() {
+        Some(Token::Word(word)) => place_of(word),
+        Some(Token::Quoted(_)) => Err(LineRefused::Fault(ScriptKind::BadNumber)),
+        Some(Token::Bad) => Err(LineRefused::Fault(ScriptKind::UnknownWord)),
+        None => Err(LineRefused::Fault(ScriptKind::WrongArgs)),
+    }
+}
+
+// T C W: a target, and a word of one of its channels.
+#[tactic(auto, unfolding(crate::specs::Statements::word_at))]
+fn word_at(tokens: &mut Tokens) -> Result<(u32, Word), LineRefused>
+    ensures { Reads (word_at tokens.old) result tokens.new }
+{
+    let target = short_at(tokens)?;
+    let channel = short_at(tokens)?;
+    let at = place_at(tokens)?;
+    Ok((target, Word { channel, at }))
+}
+
+/// `store T C W V`, behind its first word.
+#[tactic(auto, unfolding(crate::specs::Statements::store))]
+pub(crate) fn store(tokens: &mut Tokens) -> Result<Statement, LineRefused>
+    ensures { Gives (store tokens.old) result }
+{
+    let (target, word) = word_at(tokens)?;
+    let value = value_at(tokens)?;
+    end_at(ScriptKind::WrongArgs, tokens)?;
+    Ok(Statement::Store {
+        target,
+        word,
+        value,
+    })
+}
+
+/// `exchange T C W FROM TO`, behind its first word.
+#[tactic(auto, unfolding(crate::specs::Statements::exchange))]
+pub(crate) fn exchange(tokens: &mut Tokens) -> Result<Statement, LineRefused>
+    ensures { Gives (exchange tokens.old) result }
+{
+    let (target, word) = word_at(tokens)?;
+    let from = value_at(tokens)?;
+    let to = value_at(tokens)?;
+    end_at(ScriptKind::WrongArgs, tokens)?;
+    Ok(Statement::Exchange {
+        target,
+        word,
+        from,
+        to,
+    })
+}
+
+/// `load T C W`, behind its first word.
+#[tactic(auto, unfolding(crate::specs::Statements::load))]
+pub(crate) fn load(tokens: &mut Tokens) -> Result<Statement, LineRefused>
+    ensures { Gives (load tokens.old) result }
+{
+    let (target, word) = word_at(tokens)?;
+    end_at(ScriptKind::WrongArgs, tokens)?;
+    Ok(Statement::Load { target, word })
+}
+
+/// `wait T C W V N`, behind its first word.
+#[tactic(auto, unfolding(crate::specs::Statements::wait))]
+pub(crate) fn wait(tokens: &mut Tokens) -> Result<Statement, LineRefused>
+    ensures { Gives (wait tokens.old) result }
+{
+    let (target, word) = word_at(tokens)?;
+    let value = value_at(tokens)?;
+    let loads = value_at(tokens)?;
+    end_at(ScriptKind::WrongArgs, tokens)?;
+    let most = within(1, MOST_LOADS, loads)? as u32;
+    Ok(Statement::Wait {
+        target,
+        word,
+        value,
+        most,
+    })
+}
