@@ -1,3 +1,6 @@
 pub mod Counts
 pub mod Ends
+pub mod Holding
+pub mod Judging
+pub mod Naming
 pub mod Orders

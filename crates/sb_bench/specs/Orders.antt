@@ -1,17 +1,32 @@
 -- Which work the words ask for.
-use Rattle.std.specs.Prelude.{ℕ, nat_eq, nat_le, List, [], ◌∷◌, Option, None, Some, if◌then◌else◌, codes, map, string_bytes, String}
-use Rattle.std.specs.Cmp.Lexicographic.{pointwise}
+use Rattle.std.specs.Prelude.{ℕ, nat_le, List, [], ◌∷◌, Option, None, Some, if◌then◌else◌, codes, map, string_bytes, String}
 use Rattle.std.specs.declared.alloc.Global.{Global}
+use Rattle.sb_call.specs.CallWords.{named}
 use Rattle.sb_text.specs.Numbers.{decimal_of}
 use Rattle.sb_bench.specs.declared.orders.Order.{Order}
 use Rattle.sb_bench.specs.declared.orders.Work.{Work}
-use Rattle.sb_bench.specs.declared.orders.Work.TheVariants.{Pattern, Decode}
+use Rattle.sb_bench.specs.declared.orders.Work.TheVariants.{Pattern, Decode, Judge, JudgePlain, NamesAdd, NamesFind, NamesRename, HandlesGrant, HandlesLookup, HandlesClose}
+
+-- the word of a work
+abbrev pub work_word : Work → List ℕ
+work_word Pattern = codes "pattern"
+work_word Decode = codes "decode"
+work_word Judge = codes "judge"
+work_word JudgePlain = codes "judge-plain"
+work_word NamesAdd = codes "names-add"
+work_word NamesFind = codes "names-find"
+work_word NamesRename = codes "names-rename"
+work_word HandlesGrant = codes "handles-grant"
+work_word HandlesLookup = codes "handles-lookup"
+work_word HandlesClose = codes "handles-close"
+
+-- all that can be done
+abbrev pub every_work : List Work
+every_work = Pattern ∷ Decode ∷ Judge ∷ JudgePlain ∷ NamesAdd ∷ NamesFind ∷ NamesRename ∷ HandlesGrant ∷ HandlesLookup ∷ HandlesClose ∷ []
 
 -- the work of a word
 abbrev pub work_by : List ℕ → Option Work
-work_by word =
-    if pointwise nat_eq word (codes "pattern") then Some Pattern
-    else (if pointwise nat_eq word (codes "decode") then Some Decode else None)
+work_by word = named work_word every_work word
 
 -- work in at most 1,000,000 rounds
 abbrev pub order_by : Option Work → Option ℕ → Option Order

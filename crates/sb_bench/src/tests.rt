@@ -1,7 +1,10 @@
+use crate::calls::{calls, compiled_policy};
 use crate::decoding::{Tally, copies, decode_rounds};
 use crate::ends::End;
+use crate::judging::{judge_plain_rounds, judge_rounds};
 use crate::matching::{match_rounds, names, patterns};
 use crate::orders::{Order, Work, order_of};
+use crate::{holding, naming};
 use std::test::Fail;
 
 #[test]
@@ -56,5 +59,47 @@ fn every_second_copy_is_faulty(rt: HostRuntime) -> Result<(), End> {
         calls: 1500,
     };
     assert_eq!(rt; decode_rounds(rt.alloc(), &copies, 3)?, wanted);
+    Ok(())
+}
+
+#[test]
+fn half_of_the_calls_that_a_rule_decides_are_allowed(rt: HostRuntime) -> Result<(), End> {
+    let compiled = compiled_policy(rt.alloc())?;
+    let calls = calls(rt.alloc())?;
+    assert_eq!(rt; judge_rounds(&compiled, &calls, 1), 256);
+    assert_eq!(rt; judge_plain_rounds(&compiled, &calls, 1), 256);
+    Ok(())
+}
+
+#[test]
+fn all_names_are_added_and_the_files_found(rt: HostRuntime) -> Result<(), End> {
+    let alloc = rt.alloc();
+    let names = naming::names(alloc)?;
+    let sought = naming::sought_names(alloc)?;
+    assert_eq!(rt; naming::add_rounds(alloc, &names, 1)?, 4096);
+    let (tree, _) = naming::tree_of(alloc, &names)?;
+    assert_eq!(rt; naming::find_rounds(&tree, &sought, 1), 4032);
+    Ok(())
+}
+
+#[test]
+fn renames_come_back(rt: HostRuntime) -> Result<(), End> {
+    let alloc = rt.alloc();
+    let names = naming::names(alloc)?;
+    let (mut tree, _) = naming::tree_of(alloc, &names)?;
+    let moves = naming::moves(alloc)?;
+    assert_eq!(rt; naming::rename_rounds(&mut tree, &moves, 1)?, 128);
+    assert_eq!(rt; naming::find_rounds(&tree, &names, 1), 4096);
+    Ok(())
+}
+
+#[test]
+fn all_handles_are_granted_held_and_closed(rt: HostRuntime) -> Result<(), End> {
+    let alloc = rt.alloc();
+    let handles = holding::handles(alloc)?;
+    let table = holding::table(alloc)?;
+    assert_eq!(rt; holding::grant_rounds(alloc, 1)?, 100_000);
+    assert_eq!(rt; holding::lookup_rounds(&table, &handles, 1), 100_000);
+    assert_eq!(rt; holding::close_rounds(alloc, &handles, 1)?, 100_000);
     Ok(())
 }

@@ -1,0 +1,4 @@
+pub mod Fitting
+pub mod HistoryLaws
+pub mod Legal
+pub mod Ready

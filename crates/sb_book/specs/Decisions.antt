@@ -1,5 +1,6 @@
 -- What the broker decides of a copy.
-use Rattle.std.specs.Prelude.{ℕ, List, ◌∷◌, Result, Ok, Err, bit_and}
+use Rattle.std.specs.Prelude.{ℕ, Bool, true, List, ◌∷◌, Result, Ok, Err, bit_and}
+use Rattle.sb_call.specs.Arguments.{fits}
 use Rattle.sb_call.specs.declared.tags.CallTag.{CallTag}
 use Rattle.sb_call.specs.declared.arguments.Arg.{Arg}
 use Rattle.sb_call.specs.declared.arguments.Arg.TheVariants.{Num}
@@ -41,3 +42,10 @@ by_decoded policy (Ok call) = by_verdict call.tag call.args (verdict_of policy c
 -- the decision of a policy on a copy
 abbrev pub decision_of : Policy → Copied → Decision
 decision_of policy copy = by_decoded policy (decoded copy)
+
+-- what is performed has arguments that fit its call
+abbrev pub is_fitting : Decision → Bool
+is_fitting (Performed tag line action args) = fits tag args
+is_fitting (Refused fault) = true
+is_fitting (Denied tag verdict) = true
+is_fitting (Faked tag line) = true

@@ -1,28 +1,45 @@
 -- The history of what was decided, and when it is a legal one.
-use Rattle.std.specs.Prelude.{◌≡◌, ℕ, ◌<◌, List, [], ◌∷◌, ◌++◌, length, slice_index, ⊤}
+use Rattle.std.specs.Prelude.{◌≡◌, ℕ, ◌<◌, List, [], ◌∷◌, ◌++◌, length, map, slice_index, ⊤}
+use Rattle.sb_call.specs.Statuses.{success, invalid_parameter, access_denied}
 use Rattle.sb_call.specs.declared.replies.Answer.{Answer}
 use Rattle.sb_call.specs.declared.replies.Reply.{Reply}
+use Rattle.sb_call.specs.declared.scripts.Script.{Script}
+use Rattle.sb_call.specs.declared.scripts.StartLine.{StartLine}
 use Rattle.sb_block.specs.Copies.{Copied, mark_of}
 use Rattle.sb_block.specs.declared.faults.BlockFault.{BlockFault}
 use Rattle.sb_block.specs.declared.faults.BlockFault.TheVariants.{TooManyParams, BadEnd, CountChanged, EndChanged, BadParamType, BadPlace, UnknownTag, WrongShape, BadSize, BadName}
 use Rattle.sb_rule.specs.Verdicts.{policy_at}
 use Rattle.sb_rule.specs.declared.policies.Policy.{Policy}
 use Rattle.sb_book.specs.Decisions.{decision_of}
-use Rattle.sb_book.specs.Namespaces.{Space, empty_space, perform, invalid_parameter, success}
+use Rattle.sb_kernel.specs.Namespaces.{Space, perform}
+use Rattle.sb_kernel.specs.Openings.{opening}
 use Rattle.sb_book.specs.declared.decisions.Decision.{Decision}
 use Rattle.sb_book.specs.declared.decisions.Decision.TheVariants.{Refused, Denied, Faked, Performed}
 use Rattle.sb_book.specs.declared.entries.Entry.{Entry}
 
--- a namespace, and the entries that led to it
+-- the policy and the number of channels of each target, and what is there at the start
+pub record Setting : Type 0 where
+  pub policies : List Policy
+  pub channels : List ℕ
+  pub start : List StartLine
+
+-- the setting of a script's targets, each under the policy that it names
+abbrev pub setting_of : List Policy → Script → Setting
+setting_of policies script = record {
+  policies = map (λ target. policy_at policies target.policy) script.targets;
+  channels = map (λ target. target.channels) script.targets;
+  start = script.start;
+}
+
+-- a setting, the entries so far, and the namespace that they led to
 pub record History : Type 0 where
+  pub setting : Setting
   pub space : Space
   pub entries : List Entry
 
-abbrev pub empty_history : History
-empty_history = record { space = empty_space; entries = [] }
-
-abbrev pub access_denied : ℕ
-access_denied = 0xC0000022
+-- no entries yet
+abbrev pub new_history : Setting → History
+new_history setting = record { setting = setting; space = opening setting.start; entries = [] }
 
 -- a fault's number, and then its values
 abbrev pub fault_words : BlockFault → List ℕ
@@ -79,12 +96,7 @@ entry_of ns target channel taken decision =
 -- the history with one entry more
 abbrev pub answered : History → ℕ → ℕ → Copied → Decision → History
 answered h target channel taken decision =
-    record { space = space_after h.space target decision; entries = h.entries ++ entry_of h.space target channel taken decision ∷ [] }
-
--- the policy and the number of channels of each target
-pub record Setting : Type 0 where
-  pub policies : List Policy
-  pub channels : List ℕ
+    record h { space = space_after h.space target decision; entries = h.entries ++ entry_of h.space target channel taken decision ∷ [] }
 
 -- the entry follows from its own copy, the policy of its target and the namespace before it
 pub record IsEntry (s : Setting) (ns : Space) (e : Entry) : Type 0 where
@@ -100,9 +112,14 @@ IsLegalFrom s ns (e ∷ es) = IsEntry s ns e × IsLegalFrom s (space_after ns e.
 
 -- the entries are a legal history
 abbrev pub IsLegalHistory : Setting → List Entry → Type 0
-IsLegalHistory s es = IsLegalFrom s empty_space es
+IsLegalHistory s es = IsLegalFrom s (opening s.start) es
 
 -- the namespace after these entries
 abbrev pub space_from : Space → List Entry → Space
 space_from ns [] = ns
 space_from ns (e ∷ es) = space_from (space_after ns e.target e.decision) es
+
+-- the entries are a legal history of the setting, and the namespace is the one that they led to
+pub record IsHistory (h : History) : Type 0 where
+  pub legal : IsLegalHistory h.setting h.entries
+  pub led : h.space ≡ space_from (opening h.setting.start) h.entries

@@ -1,4 +1,5 @@
 pub mod Decisions
-pub mod Namespaces
 pub mod Histories
+pub mod Readiness
+pub mod Laws
 pub mod Reports

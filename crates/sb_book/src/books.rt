@@ -1,30 +1,59 @@
-// The book: every entry so far, and the namespace that they led to.
-ghost use Rattle.std.specs.Prelude.{◌≡◌, ◌∷◌, [], OnOk, OnErr, IfOk};
+// The book: the setting of a run, every entry so far, and the namespace that they led to.
+ghost use Rattle.std.specs.Prelude.{◌≡◌, ◌≤◌, ◌<◌, ◌∷◌, [], true, length, map, is_ok, slice_index, OnOk, OnErr, IfOk};
+ghost use Rattle.std.specs.List.{list_all};
 ghost use Rattle.sb_block.specs.Copies.{mark_of};
-ghost use Rattle.sb_book.specs.Histories.{History, empty_history, fault_words, performed_reply, reply_of, space_after, answered};
+ghost use Rattle.sb_kernel.specs.Openings.{is_named, opened, opening};
+ghost use Rattle.sb_rule.specs.Verdicts.{policy_at};
+ghost use Rattle.sb_book.specs.Decisions.{decision_of, is_fitting};
+ghost use Rattle.sb_book.specs.Histories.{History, IsHistory, new_history, setting_of, fault_words, performed_reply, reply_of, space_after, answered};
+ghost use Rattle.sb_book.specs.Readiness.{is_judged, is_ready};
 
 use crate::decisions::Decision;
 use crate::entries::{Entries, Entry};
-use crate::namespaces::Namespace;
-use sb_block::{BlockFault, Taken};
-use sb_call::{Answer, Extended, Reply};
+use sb_block::{BlockFault, Taken, faultless_copies_fit};
+use sb_call::{
+    ACCESS_DENIED, Answer, Extended, INVALID_PARAMETER, Reply, SUCCESS, Script, StartLine,
+    StartLines, TargetScript,
+};
+use sb_kernel::{Kernel, StartRefused};
+use sb_rule::{Policies, Policy, PolicyList};
 use sb_wide::NoMemory;
 use std::alloc::Global;
 use std::marker::Model;
 
-/// Every entry so far, in order, and the namespace that they led to.
+/// How many channels each target has.
+#[derive(Debug, Drop)]
+pub struct ChannelCounts {
+    items: Vec<u32>,
+}
+
+impl Model for ChannelCounts {
+    ghost use Rattle.std.specs.Prelude.{List, ℕ};
+
+    ghost Value = { List ℕ };
+
+    ghost view = { λ c. c.items.items };
+}
+
+/// The append-only history of what the broker decided: the policies and channels of the targets, what is there at the start,
+/// every entry so far, and the namespace that they led to. Its entries are always a legal history of that setting.
 #[derive(Debug, Drop)]
 pub struct Book {
-    namespace: Namespace,
+    policies: PolicyList,
+    channels: ChannelCounts,
+    start: StartLines,
+    kernel: Kernel,
     entries: Vec<Entry>,
 }
 
 impl Model for Book {
-    ghost use Rattle.sb_book.specs.Histories.{History};
+    ghost use Rattle.sb_book.specs.Histories.{History, IsHistory};
 
     ghost Value = { History };
 
-    ghost view = { λ b. record { space = b.namespace; entries = b.entries.items } };
+    ghost view = { λ b. record { setting = record { policies = b.policies; channels = b.channels; start = b.start }; space = b.kernel; entries = b.entries.items } };
+
+    ghost invariant = { λ b. IsHistory (record { setting = record { policies = b.policies; channels = b.channels; start = b.start }; space = b.kernel; entries = b.entries.items }) };
 }
 
 // A fault's number alone.
@@ -92,72 +121,132 @@ fn performed_reply(mark: u64, answer: Answer) -> Reply
 
 // Performs what is decided, and gives the reply. After an error nothing is changed.
 fn carry_out(
-    namespace: &mut Namespace,
-    alloc: Global,
+    kernel: &mut Kernel,
     target: u32,
     mark: u64,
     decision: &Decision,
 ) -> Result<Reply, NoMemory>
-    ensures reply { IfOk result (λ r. r ≡ reply_of namespace.old target mark decision.now) }
-    ensures ok { OnOk result (namespace.new ≡ space_after namespace.old target decision.now) }
-    ensures err { OnErr result (namespace.new ≡ namespace.old) }
+    requires fits { is_fitting decision.now ≡ true }
+    ensures reply { IfOk result (λ r. r ≡ reply_of kernel.old target mark decision.now) }
+    ensures ok { OnOk result (kernel.new ≡ space_after kernel.old target decision.now) }
+    ensures err { OnErr result (kernel.new ≡ kernel.old) }
 {
     match decision {
         Decision::Refused(fault) => Ok(Reply {
             mark,
             outcome: 1,
-            status: 0xC000_000D,
+            status: u64::from(INVALID_PARAMETER),
             handle: 0,
             ext: fault_words(*fault),
         }),
         Decision::Denied { .. } => Ok(Reply {
             mark,
             outcome: 2,
-            status: 0xC000_0022,
+            status: u64::from(ACCESS_DENIED),
             handle: 0,
             ext: Extended::none(),
         }),
         Decision::Faked { .. } => Ok(Reply {
             mark,
             outcome: 3,
-            status: 0,
+            status: u64::from(SUCCESS),
             handle: 0,
             ext: Extended::none(),
         }),
         Decision::Performed { tag, args, .. } => {
-            let answer = namespace.perform(alloc, target, *tag, args.as_slice())?;
+            let answer = kernel.perform(target, *tag, args.as_slice())?;
             Ok(performed_reply(mark, answer))
         }
     }
 }
 
+// The policy of each target, in memory of its own.
+fn policies_of(
+    alloc: Global,
+    policies: &[Policy],
+    targets: &[TargetScript],
+) -> Result<PolicyList, NoMemory>
+    requires { list_all (is_judged (length policies.now)) targets.now ≡ true }
+    ensures { IfOk result (λ list. list ≡ map (λ target. policy_at policies.now target.policy) targets.now) }
+{
+    let mut list = Vec::new(alloc);
+    let mut targets = targets;
+    while let Some((target, later)) = targets.split_first() {
+        list.push(policies[target.policy as usize].copy(alloc)?)?;
+        targets = later;
+    }
+    Ok(PolicyList::new(list))
+}
+
+// How many channels each target has.
+fn channels_of(alloc: Global, targets: &[TargetScript]) -> Result<ChannelCounts, NoMemory>
+    ensures { IfOk result (λ counts. counts ≡ map (λ target. target.channels) targets.now) }
+{
+    let mut items = Vec::new(alloc);
+    for target in targets {
+        items.push(target.channels)?;
+    }
+    Ok(ChannelCounts { items })
+}
+
+// The kernel at the start, where all objects can be placed.
+fn kernel_of(alloc: Global, start: &[StartLine]) -> Result<Kernel, NoMemory>
+    requires few { length start.now ≤ 4096 }
+    requires names { list_all is_named start.now ≡ true }
+    requires placed { is_ok (opened start.now) ≡ true }
+    ensures { IfOk result (λ kernel. kernel ≡ opening start.now) }
+{
+    match Kernel::start(alloc, start) {
+        Ok(kernel) => Ok(kernel),
+        Err(StartRefused::BadStart { .. }) => unreachable!(),
+        Err(StartRefused::NoMemory) => Err(NoMemory),
+    }
+}
+
 impl Book {
-    /// No entries, and nothing made.
-    pub fn new(alloc: Global) -> Book
-        ensures { result ≡ empty_history }
+    #[tactic(auto, using(crate::proofs::Ready::named_starts))]
+    /// The book of a script that is ready for policies: no entries, and the namespace that the script opens with.
+    ///
+    /// # Errors
+    /// `NoMemory` where there was none for copies of the policies and of what is there at the start, or for the namespace.
+    pub fn new(alloc: Global, policies: &Policies, script: &Script) -> Result<Book, NoMemory>
+        requires { is_ready policies.now.list script.now ≡ true }
+        ensures { IfOk result (λ book. book ≡ new_history (setting_of policies.now.list script.now)) }
     {
-        Book {
-            namespace: Namespace::new(alloc),
+        let targets = script.targets.as_slice();
+        let kernel = kernel_of(alloc, script.start.as_slice())?;
+        Ok(Book {
+            policies: policies_of(alloc, policies.list.as_slice(), targets)?,
+            channels: channels_of(alloc, targets)?,
+            start: script.start.copy(alloc)?,
+            kernel,
             entries: Vec::new(alloc),
-        }
+        })
     }
 
-    /// Appends the entry of a copy and its decision, performs what is decided, and gives the entry's reply.
-    /// After an error the book is as it was.
+    #[tactic(auto, using(crate::proofs::Fitting::decided_fits, crate::proofs::Legal::answered_is_legal))]
+    /// Appends the entry of a copy and its decision, performs what is decided, and gives the entry's reply. The target and
+    /// the channel are there, and the decision is that of the target's policy on the copy.
+    ///
+    /// # Errors
+    /// `NoMemory` where there was none for the entry or for what the call makes; then the book is as it was.
     pub fn answer(
         &mut self,
-        alloc: Global,
         target: u32,
         channel: u32,
         taken: &Taken,
         decision: Decision,
     ) -> Result<Reply, NoMemory>
+        requires target_there { target < length self.old.setting.policies }
+        requires channel_there { channel < slice_index self.old.setting.channels target }
+        requires decided { decision ≡ decision_of (policy_at self.old.setting.policies target) taken.now }
         ensures reply { IfOk result (λ r. r ≡ reply_of self.old.space target (mark_of taken.now) decision) }
         ensures ok { OnOk result (self.new ≡ answered self.old target channel taken.now decision) }
         ensures err { OnErr result (self.new ≡ self.old) }
     {
+        faultless_copies_fit();
         self.entries.reserve(1)?;
-        let reply = carry_out(&mut self.namespace, alloc, target, taken.mark(), &decision)?;
+        let reply = carry_out(&mut self.kernel, target, taken.mark(), &decision)?;
         let entry = Entry {
             target,
             channel,
@@ -176,10 +265,26 @@ impl Book {
         &self.entries
     }
 
-    /// The entries, taken out.
-    pub fn into_entries(self) -> Entries
-        ensures { result ≡ self.entries }
+    /// The namespace.
+    pub fn kernel(&self) -> &Kernel
+        ensures { result.now ≡ self.now.space }
     {
-        Entries::new(self.entries)
+        &self.kernel
+    }
+
+    /// The entries and the namespace, taken out.
+    pub fn into_parts(self) -> (Entries, Kernel)
+        ensures entries { result.0 ≡ self.entries }
+        ensures space { result.1 ≡ self.space }
+    {
+        (Entries::new(self.entries), self.kernel)
+    }
+
+    /// The entries are a legal history of the book's setting, and the namespace is the one that they led to. It changes
+    /// nothing.
+    pub fn is_legal(&self)
+        ensures { IsHistory self.now }
+    {
+        let _count = self.entries.len();
     }
 }

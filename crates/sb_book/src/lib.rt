@@ -4,11 +4,14 @@
 mod books;
 mod decisions;
 mod entries;
-mod namespaces;
+mod laws;
 mod reports;
 
-pub use books::Book;
+pub use books::{Book, ChannelCounts};
 pub use decisions::{Decision, decide};
 pub use entries::{Entries, Entry};
-pub use namespaces::{EventRow, Held, Namespace};
+pub use laws::{
+    answers_keep_histories, fronts_are_legal, only_performed_calls_count,
+    performed_calls_are_allowed,
+};
 pub use reports::{Report, Results, TargetResults, ThreadResults};

@@ -1,4 +1,4 @@
-// Policies checked: what is printed, and an output that fails.
+// Policies checked: what is printed and listed, and an output that fails.
 
 use crate::runs::{CHECK, Outside, Run, SOUND, check, run_words};
 use sb_top::Status;
@@ -62,10 +62,35 @@ fn prints(alloc: Global, policies: &[u8], written: &[u8]) -> Result<bool, NoMemo
     Ok(is_check(&run, Status::Done, written) && run.files.calls == 1)
 }
 
+// Whether the check of a text is done, and what it puts begins with this.
+fn prints_first(alloc: Global, policies: &[u8], printed: &[u8]) -> Result<bool, NoMemory> {
+    let run = check(alloc, policies)?;
+    Ok(run.outcome.status == Status::Done && run.out.written().starts_with(printed))
+}
+
 #[test]
 fn policies_are_printed_with_their_grants_as_rules(rt: HostRuntime) -> Result<(), NoMemory> {
-    assert!(rt; prints(rt.alloc(), POLICIES, PRINTED)?);
-    assert!(rt; prints(rt.alloc(), PRINTED, PRINTED)?);
+    assert!(rt; prints_first(rt.alloc(), POLICIES, PRINTED)?);
+    assert!(rt; prints_first(rt.alloc(), PRINTED, PRINTED)?);
+    Ok(())
+}
+
+#[test]
+fn the_code_of_a_rule_is_listed(rt: HostRuntime) -> Result<(), NoMemory> {
+    let policies = b"sandbox-policy 1
+policy web
+allow file.open when name like \"\\a*b?c\" and not access has 2
+";
+    let written = b"sandbox-policy 1
+policy web
+allow file.open when name like \"\\a*b?c\" and not access has 0x2
+code web file.open
+0 text p0 skip 0 \"\\\\a\" fold
+1 text p0 end \"b?c\" fold clear
+2 mask p1 0x2 negate clear
+3 action allow line 3
+";
+    assert!(rt; prints(rt.alloc(), policies, written)?);
     Ok(())
 }
 
@@ -76,11 +101,11 @@ fn short_policies_are_printed(rt: HostRuntime) -> Result<(), NoMemory> {
         (b"#\r\n sandbox-policy\t2 \r", b"sandbox-policy 1\n"),
         (
             b"sandbox-policy 2\npolicy a\nallow file.open\npolicy b",
-            b"sandbox-policy 1\npolicy a\nallow file.open\npolicy b\n",
+            b"sandbox-policy 1\npolicy a\nallow file.open\npolicy b\ncode a file.open\n0 action allow line 3\n",
         ),
         (
             b"sandbox-policy 2\npolicy a\npolicy b\nreadonly key.open",
-            b"sandbox-policy 2\npolicy a\npolicy b\nreadonly key.open\n",
+            b"sandbox-policy 2\npolicy a\npolicy b\nreadonly key.open\ncode b key.open\n0 action readonly line 4\n",
         ),
     ];
     for (policies, written) in cases {
@@ -89,15 +114,34 @@ fn short_policies_are_printed(rt: HostRuntime) -> Result<(), NoMemory> {
     Ok(())
 }
 
+const ONE_RULE: &[u8] = b"sandbox-policy 1
+policy web
+allow ping
+";
+
+const ONE_RULE_CHECKED: &[u8] = b"sandbox-policy 1
+policy web
+allow ping
+code web ping
+0 action allow line 3
+";
+
 #[test]
-fn policies_are_put_at_once(rt: HostRuntime) -> Result<(), NoMemory> {
-    let text = b"sandbox-policy 1\npolicy web\n";
-    let cases: [(u64, u64, Status, &[u8]); 5] = [
+fn policies_are_put_and_then_their_listings(rt: HostRuntime) -> Result<(), NoMemory> {
+    let cases: [(u64, u64, Status, &[u8]); 8] = [
         (1, 2_000_000, Status::WriteFault, b""),
-        (2, 2_000_000, Status::Done, text),
+        (2, 2_000_000, Status::WriteFault, ONE_RULE),
+        (3, 2_000_000, Status::Done, ONE_RULE_CHECKED),
         (0, 0, Status::WriteFault, b""),
         (0, 27, Status::WriteFault, b"sandbox-policy 1\npolicy web"),
-        (0, 28, Status::Done, text),
+        (0, 39, Status::WriteFault, ONE_RULE),
+        (
+            0,
+            52,
+            Status::WriteFault,
+            b"sandbox-policy 1\npolicy web\nallow ping\ncode web ping",
+        ),
+        (0, 75, Status::Done, ONE_RULE_CHECKED),
     ];
     for (failing_put, room, status, written) in cases {
         let outside = Outside {
@@ -105,7 +149,7 @@ fn policies_are_put_at_once(rt: HostRuntime) -> Result<(), NoMemory> {
             room,
             ..SOUND
         };
-        let run = run_words(rt.alloc(), &CHECK, Some(text), None, outside)?;
+        let run = run_words(rt.alloc(), &CHECK, Some(ONE_RULE), None, outside)?;
         assert!(rt; is_check(&run, status, written));
     }
     Ok(())

@@ -1,16 +1,8 @@
 // What the rules of a policy decide.
 
 use crate::first_path::{SCRIPT, TRANSCRIPT};
-use crate::runs::replay;
-use sb_top::Status;
+use crate::runs::puts;
 use sb_wide::NoMemory;
-use std::alloc::Global;
-
-// Whether a run of these texts is done and puts this.
-fn puts(alloc: Global, policy: &[u8], script: &[u8], transcript: &[u8]) -> Result<bool, NoMemory> {
-    let run = replay(alloc, policy, script)?;
-    Ok(run.outcome.status == Status::Done && run.out.written() == transcript)
-}
 
 #[test]
 fn rules_for_other_calls_change_nothing(rt: HostRuntime) -> Result<(), NoMemory> {

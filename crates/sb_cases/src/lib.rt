@@ -26,3 +26,5 @@ mod runs;
 mod sizes;
 #[cfg(test)]
 mod words;
+#[cfg(test)]
+mod worked;

@@ -1,16 +1,8 @@
 // What short texts mean.
 
 use crate::first_path::{POLICY, SCRIPT};
-use crate::runs::replay;
-use sb_top::Status;
+use crate::runs::puts;
 use sb_wide::NoMemory;
-use std::alloc::Global;
-
-// Whether a run of these texts is done and puts this.
-fn puts(alloc: Global, policy: &[u8], script: &[u8], transcript: &[u8]) -> Result<bool, NoMemory> {
-    let run = replay(alloc, policy, script)?;
-    Ok(run.outcome.status == Status::Done && run.out.written() == transcript)
-}
 
 #[test]
 fn without_rules_each_call_is_denied(rt: HostRuntime) -> Result<(), NoMemory> {

@@ -102,6 +102,17 @@ pub fn replay(alloc: Global, policy: &[u8], script: &[u8]) -> Result<Run, NoMemo
     run_words(alloc, &REPLAY, Some(policy), Some(script), SOUND)
 }
 
+/// Whether a replay of these two texts is done and puts this.
+pub fn puts(
+    alloc: Global,
+    policy: &[u8],
+    script: &[u8],
+    transcript: &[u8],
+) -> Result<bool, NoMemory> {
+    let run = replay(alloc, policy, script)?;
+    Ok(run.outcome.status == Status::Done && run.out.written() == transcript)
+}
+
 /// A check of this text, where nothing goes wrong outside.
 pub fn check(alloc: Global, policy: &[u8]) -> Result<Run, NoMemory> {
     run_words(alloc, &CHECK, Some(policy), None, SOUND)

@@ -1,14 +1,20 @@
 -- A run appends legal entries alone.
-use Rattle.std.proofs.Common.{◌≡◌, ℕ, zero, suc, Bool, true, false, if◌then◌else◌, List, [], ◌∷◌, ◌++◌, refl, ap, subst, lit<}
+use Rattle.std.proofs.Common.{◌≡◌, ◌∙◌, ℕ, zero, suc, ◌<◌, Bool, true, false, ◌==◌, if◌then◌else◌, List, [], ◌∷◌, length, map, Option, None, refl, sym, ap, subst, arith}
+use Rattle.std.specs.Prelude.{slice_index}
+use Rattle.std.proofs.lemmas.List.{length-map}
+use Rattle.std.proofs.lemmas.Bool.{false≢true}
+use Rattle.std.proofs.lemmas.Bool.Decides.{nat_tests}
 use Rattle.sb_block.specs.Copies.{Copied}
+use Rattle.sb_call.specs.declared.scripts.Script.{Script}
+use Rattle.sb_call.specs.declared.scripts.TargetScript.{TargetScript}
 use Rattle.sb_call.specs.declared.statements.Statement.{Statement}
+use Rattle.sb_rule.specs.Verdicts.{policy_at}
 use Rattle.sb_rule.specs.declared.policies.Policy.{Policy}
 use Rattle.sb_book.specs.Decisions.{decision_of}
-use Rattle.sb_book.specs.Namespaces.{Space, empty_space}
-use Rattle.sb_book.specs.Histories.{History, Setting, IsEntry, IsLegalFrom, IsLegalHistory, space_after, space_from, answered, entry_of}
-use Rattle.sb_book.specs.declared.entries.Entry.{Entry}
-use Rattle.sb_core.specs.Laws.{setting, RunsAreLegal}
-use Rattle.sb_core.specs.Runs.{ran_from, statements_of}
+use Rattle.sb_book.specs.Histories.{History, IsHistory, IsLegalHistory, Setting, answered, new_history, setting_of}
+use Rattle.sb_book.specs.Laws.{AnswersKeepHistories}
+use Rattle.sb_core.specs.Laws.{RunsAreLegal}
+use Rattle.sb_core.specs.Runs.{are_calls, first_policy, is_one_thread, only_thread, only_thread_of, ran_from, statements_of}
 use Rattle.sb_core.specs.Workers.{worker_book}
 use Rattle.sb_core.specs.Worlds.{start_world, worker_step, round, rounds, drained, is_finished, is_settled}
 use Rattle.sb_core.specs.declared.runs.Ran.{Ran}
@@ -16,79 +22,102 @@ use Rattle.sb_core.specs.declared.workers.WorkerPhase.{WorkerPhase}
 use Rattle.sb_core.specs.declared.workers.WorkerPhase.TheVariants.{Look, Count, End, Copy, Take, Mark, Give, Reply, Ack}
 use Rattle.sb_core.specs.declared.worlds.World.{World}
 
--- the entries are legal, and the namespace is the one that they lead to
-pub record IsLegalBook (p : Policy) (h : History) : Type 0 where
-  pub legal : IsLegalHistory (setting p) h.entries
-  pub led : h.space ≡ space_from empty_space h.entries
+-- the book of a setting keeps a history, and the first target has this policy and a channel
+pub record IsLegalBook (s : Setting) (p : Policy) (h : History) : Type 0 where
+  pub setting : h.setting ≡ s
+  pub target : 0 < length s.policies
+  pub channel : 0 < slice_index s.channels 0
+  pub policy : policy_at s.policies 0 ≡ p
+  pub history : IsHistory h
 
-legal_push : (s : Setting) (ns : Space) (es : List Entry) (e : Entry) → IsLegalFrom s ns es → IsEntry s (space_from ns es) e → IsLegalFrom s ns (es ++ e ∷ [])
-legal_push s ns [] e h k = (k, tt)
-legal_push s ns (x ∷ es) e h k = (h.0, legal_push s (space_after ns x.target x.decision) es e h.1 k)
+module _ (law : AnswersKeepHistories) (s : Setting) (p : Policy) where
+  legal_answer : (h : History) (taken : Copied) → IsLegalBook s p h → IsLegalBook s p (answered h 0 0 taken (decision_of p taken))
+  legal_answer h taken book =
+      let there : 0 < length h.setting.policies = rw book.setting book.target in
+      let channel : 0 < slice_index h.setting.channels 0 = rw book.setting book.channel in
+      let decided : decision_of p taken ≡ decision_of (policy_at h.setting.policies 0) taken =
+      ap (λ q. decision_of q taken) (sym (ap (λ t. policy_at t.policies 0) book.setting ∙ book.policy)) in
+      record {
+        setting = book.setting;
+        target = book.target;
+        channel = book.channel;
+        policy = book.policy;
+        history = law h 0 0 taken (decision_of p taken) there channel decided book.history;
+      }
 
-space_push : (ns : Space) (es : List Entry) (e : Entry) → space_from ns (es ++ e ∷ []) ≡ space_after (space_from ns es) e.target e.decision
-space_push ns [] e = refl
-space_push ns (x ∷ es) e = space_push (space_after ns x.target x.decision) es e
+  legal_worker : (phase : WorkerPhase) (h : History) → IsLegalBook s p h → IsLegalBook s p (worker_book p phase h)
+  legal_worker Look h book = book
+  legal_worker Count h book = book
+  legal_worker (End count) h book = book
+  legal_worker (Copy count end words) h book = book
+  legal_worker (Take taken) h book = book
+  legal_worker (Mark taken) h book = legal_answer h taken book
+  legal_worker (Give words) h book = book
+  legal_worker (Reply at words) h book = book
+  legal_worker Ack h book = book
 
-new_entry : (p : Policy) (ns : Space) (taken : Copied) → IsEntry (setting p) ns (entry_of ns 0 0 taken (decision_of p taken))
-new_entry p ns taken = record { target_there = lit< tt; channel_there = lit< tt; decided = refl; replied = refl }
+  one_of : (P : World → Type 0) (b : Bool) (x y : World) → P x → P y → P (if b then x else y)
+  one_of P true x y hx hy = hx
+  one_of P false x y hx hy = hy
 
-legal_answer : (p : Policy) (h : History) (taken : Copied) → IsLegalBook p h → IsLegalBook p (answered h 0 0 taken (decision_of p taken))
-legal_answer p h taken book =
-    let e = entry_of h.space 0 0 taken (decision_of p taken) in
-    let Fits : Space → Type 0 = λ ns. IsEntry (setting p) ns e in
-    record {
-      legal = legal_push (setting p) empty_space h.entries e book.legal (subst Fits book.led (new_entry p h.space taken));
-      led = rw (space_push empty_space h.entries e) (ap (λ ns. space_after ns 0 (decision_of p taken)) book.led);
-    }
+  case_of : (P : World → Type 0) (b : Bool) (x y : World) → P x → P y → P (elim b [ true ↦ x | false ↦ y ])
+  case_of P true x y hx hy = hx
+  case_of P false x y hx hy = hy
 
-legal_worker : (p : Policy) (phase : WorkerPhase) (h : History) → IsLegalBook p h → IsLegalBook p (worker_book p phase h)
-legal_worker p Look h book = book
-legal_worker p Count h book = book
-legal_worker p (End count) h book = book
-legal_worker p (Copy count end words) h book = book
-legal_worker p (Take taken) h book = book
-legal_worker p (Mark taken) h book = legal_answer p h taken book
-legal_worker p (Give words) h book = book
-legal_worker p (Reply at words) h book = book
-legal_worker p Ack h book = book
+  abbrev IsLegal : World → Type 0
+  IsLegal w = IsLegalBook s p w.book
 
-one_of : (P : World → Type 0) (b : Bool) (x y : World) → P x → P y → P (if b then x else y)
-one_of P true x y hx hy = hx
-one_of P false x y hx hy = hy
+  legal_round : (ss : List Statement) (w : World) → IsLegal w → IsLegal (round p ss w)
+  legal_round ss w book =
+      let stepped = legal_worker w.worker w.book book in
+      one_of IsLegal _ _ _ stepped stepped
 
-case_of : (P : World → Type 0) (b : Bool) (x y : World) → P x → P y → P (elim b [ true ↦ x | false ↦ y ])
-case_of P true x y hx hy = hx
-case_of P false x y hx hy = hy
+  legal_rounds : (n : ℕ) (ss : List Statement) (w : World) → IsLegal w → IsLegal (rounds n p ss w)
+  legal_rounds zero ss w book = book
+  legal_rounds (suc n) ss w book =
+      case_of IsLegal (is_finished ss w) w (rounds n p ss (round p ss w)) book (legal_rounds n ss (round p ss w) (legal_round ss w book))
 
-abbrev IsLegal : Policy → World → Type 0
-IsLegal p w = IsLegalBook p w.book
+  legal_drained : (n : ℕ) (w : World) → IsLegal w → IsLegal (drained n p w)
+  legal_drained zero w book = book
+  legal_drained (suc n) w book =
+      case_of IsLegal (is_settled w) w (drained n p (worker_step p w)) book (legal_drained n (worker_step p w) (legal_worker w.worker w.book book))
 
-legal_round : (p : Policy) (ss : List Statement) (w : World) → IsLegal p w → IsLegal p (round p ss w)
-legal_round p ss w book =
-    let stepped = legal_worker p w.worker w.book book in
-    one_of (IsLegal p) _ _ _ stepped stepped
+  one_ran : (b : Bool) (x y : Ran) → IsLegalHistory s x.report.entries → IsLegalHistory s y.report.entries
+      → IsLegalHistory s (if b then x else y).report.entries
+  one_ran true x y hx hy = hx
+  one_ran false x y hx hy = hy
 
-legal_rounds : (n : ℕ) (p : Policy) (ss : List Statement) (w : World) → IsLegal p w → IsLegal p (rounds n p ss w)
-legal_rounds zero p ss w book = book
-legal_rounds (suc n) p ss w book =
-    case_of (IsLegal p) (is_finished ss w) w (rounds n p ss (round p ss w)) book (legal_rounds n p ss (round p ss w) (legal_round p ss w book))
+  entries_legal : (h : History) → IsLegalBook s p h → IsLegalHistory s h.entries
+  entries_legal h book = subst (λ t. IsLegalHistory t h.entries) book.setting book.history.legal
 
-legal_drained : (n : ℕ) (p : Policy) (w : World) → IsLegal p w → IsLegal p (drained n p w)
-legal_drained zero p w book = book
-legal_drained (suc n) p w book =
-    case_of (IsLegal p) (is_settled w) w (drained n p (worker_step p w)) book (legal_drained n p (worker_step p w) (legal_worker p w.worker w.book book))
+  legal_from : (ss : List Statement) (w : World) → IsLegal w → IsLegalHistory s (ran_from p ss w).report.entries
+  legal_from ss w book =
+      one_ran (is_finished ss w) _ _ (entries_legal (drained 100 p w).book (legal_drained 100 w book)) (entries_legal w.book book)
 
-one_ran : (p : Policy) (b : Bool) (x y : Ran) → IsLegalHistory (setting p) x.report.entries → IsLegalHistory (setting p) y.report.entries
-    → IsLegalHistory (setting p) (if b then x else y).report.entries
-one_ran p true x y hx hy = hx
-one_ran p false x y hx hy = hy
+-- a script of one thread has a target, with a channel
+some_target : (targets : List TargetScript) → are_calls (only_thread_of targets) ≡ true → 0 < length targets
+some_target [] h = absurd (false≢true h)
+some_target (target ∷ targets) h = omega arith
 
-legal_from : (p : Policy) (ss : List Statement) (w : World) → IsLegal p w → IsLegalHistory (setting p) (ran_from p ss w).report.entries
-legal_from p ss w book = one_ran p (is_finished ss w) _ _ (legal_drained 100 p w book).legal book.legal
+some_channel : (targets : List TargetScript) → are_calls (only_thread_of targets) ≡ true → 0 < slice_index (map (λ target. target.channels) targets) 0
+some_channel [] h = absurd (false≢true h)
+some_channel (target ∷ []) h = by (target.channels == 1) refl h
+  where
+    by : (b : Bool) → (target.channels == 1) ≡ b → are_calls (if b then only_thread target.threads else None) ≡ true → 0 < target.channels
+    by true e h = grind (arith, nat_tests, e)
+    by false e h = absurd (false≢true h)
+some_channel (target ∷ more ∷ others) h = absurd (false≢true h)
 
-started : (p : Policy) → IsLegal p start_world
-started p = record { legal = tt; led = refl }
-
-pub runs_are_legal : RunsAreLegal
-runs_are_legal p script count =
-    legal_from p (statements_of script) (rounds count p (statements_of script) start_world) (legal_rounds count p (statements_of script) start_world (started p))
+pub runs_are_legal : AnswersKeepHistories → RunsAreLegal
+runs_are_legal law policies script count one =
+    let s = setting_of policies script in
+    let p = first_policy policies script in
+    let start : IsLegalBook s p (new_history s) = record {
+      setting = refl;
+      target = rw length-map (some_target script.targets one);
+      channel = some_channel script.targets one;
+      policy = refl;
+      history = record { legal = tt; led = refl };
+    } in
+    legal_from law s p (statements_of script) (rounds count p (statements_of script) (start_world s))
+    (legal_rounds law s p count (statements_of script) (start_world s) start)

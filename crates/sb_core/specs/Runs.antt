@@ -5,6 +5,8 @@ use Rattle.sb_call.specs.declared.scripts.Script.{Script}
 use Rattle.sb_call.specs.declared.scripts.TargetScript.{TargetScript}
 use Rattle.sb_call.specs.declared.statements.Statement.{Statement}
 use Rattle.sb_rule.specs.declared.policies.Policy.{Policy}
+use Rattle.sb_rule.specs.Verdicts.{policy_at}
+use Rattle.sb_book.specs.Histories.{setting_of}
 use Rattle.sb_book.specs.declared.reports.Report.{Report}
 use Rattle.sb_core.specs.Threads.{is_sendable}
 use Rattle.sb_core.specs.Worlds.{start_world, rounds, drained, is_finished}
@@ -49,6 +51,12 @@ ran_from policy statements w =
     if is_finished statements w then record { report = report_of (drained 100 policy w); unfinished = None }
     else record { report = report_of w; unfinished = Some (0, 0) }
 
+-- the policy of the first target
+abbrev pub first_policy : List Policy → Script → Policy
+first_policy policies script = policy_at (setting_of policies script).policies 0
+
 -- at most so many rounds, and the drain where the thread is finished
-abbrev pub ran : Policy → Script → ℕ → Ran
-ran policy script count = ran_from policy (statements_of script) (rounds count policy (statements_of script) start_world)
+abbrev pub ran : List Policy → Script → ℕ → Ran
+ran policies script count =
+    ran_from (first_policy policies script) (statements_of script)
+    (rounds count (first_policy policies script) (statements_of script) (start_world (setting_of policies script)))

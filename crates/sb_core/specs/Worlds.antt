@@ -1,10 +1,11 @@
 -- The world of one thread and one worker over one channel, and its steps.
-use Rattle.std.specs.Prelude.{◌≡◌, ℕ, zero, suc, ◌+◌, Bool, true, false, ◌&&◌, not, ◌==◌, nat_lt, nat_le, if◌then◌else◌, List, [], ◌++◌, length, Option, None, Some}
+use Rattle.std.specs.Prelude.{◌≡◌, ℕ, zero, suc, ◌+◌, ◌<◌, Bool, true, false, ◌&&◌, not, ◌==◌, nat_lt, nat_le, if◌then◌else◌, List, [], ◌++◌, length, slice_index, Option, None, Some}
 use Rattle.std.specs.Option.{option_to_list}
 use Rattle.sb_call.specs.declared.results.StmtResult.{StmtResult}
 use Rattle.sb_call.specs.declared.statements.Statement.{Statement}
 use Rattle.sb_rule.specs.declared.policies.Policy.{Policy}
-use Rattle.sb_book.specs.Histories.{empty_history}
+use Rattle.sb_rule.specs.Verdicts.{policy_at}
+use Rattle.sb_book.specs.Histories.{History, Setting, new_history}
 use Rattle.sb_core.specs.Channels.{ready_state, free_channel, state_of}
 use Rattle.sb_core.specs.Workers.{worker_after, worker_words, worker_book, is_worker_sound, is_looking}
 use Rattle.sb_core.specs.Threads.{ThreadStep, thread_row, mark_at, block_at, is_thread_sound}
@@ -13,8 +14,14 @@ use Rattle.sb_core.specs.declared.threads.ThreadPhase.TheVariants.{Try}
 use Rattle.sb_core.specs.declared.worlds.World.{World}
 
 -- nothing has happened
-abbrev pub start_world : World
-start_world = record { words = free_channel; worker = Look; place = 0; thread = Try; book = empty_history; results = [] }
+abbrev pub start_world : Setting → World
+start_world setting = record { words = free_channel; worker = Look; place = 0; thread = Try; book = new_history setting; results = [] }
+
+-- the first target of a book has a channel, and its policy is the first of these
+pub record IsJudgedBy (policies : List Policy) (h : History) : Type 0 where
+  pub target : 0 < length h.setting.policies
+  pub channel : 0 < slice_index h.setting.channels 0
+  pub policy : policy_at h.setting.policies 0 ≡ policy_at policies 0
 
 -- one step of the worker
 abbrev pub worker_step : Policy → World → World

@@ -5,13 +5,15 @@ ghost use Rattle.sb_rule.specs.Verdicts.{policy_at};
 ghost use Rattle.sb_core.specs.Threads.{is_sendable};
 ghost use Rattle.sb_core.specs.Runs.{only_thread_of, is_one_thread, ran_from, ran};
 ghost use Rattle.sb_book.specs.Reports.{result_count};
-ghost use Rattle.sb_core.specs.Worlds.{rounds, start_world, is_sound, IsCounted};
+ghost use Rattle.sb_book.specs.Histories.{setting_of};
+ghost use Rattle.sb_book.specs.Readiness.{is_ready};
+ghost use Rattle.sb_core.specs.Worlds.{rounds, is_sound, IsCounted, IsJudgedBy};
 
 use crate::threads::is_sendable;
 use crate::worlds::World;
 use sb_book::Report;
 use sb_call::{Script, Statement};
-use sb_rule::Judge;
+use sb_rule::{Judge, Policies};
 use sb_wide::NoMemory;
 use std::alloc::Global;
 
@@ -61,6 +63,7 @@ fn finish<J: Judge>(
     world: World,
 ) -> Result<Ran, NoMemory>
     requires target { 0 < length (J.policies judge.now) }
+    requires judged { IsJudgedBy (J.policies judge.now) world.book }
     requires few { length statements.now ≤ 4096 }
     requires sound { is_sound statements.now world ≡ true }
     requires counted { IsCounted world }
@@ -81,34 +84,50 @@ fn finish<J: Judge>(
     })
 }
 
-// Runs these statements.
+// Runs these statements, from this world on.
 fn run_statements<J: Judge>(
     alloc: Global,
     judge: &J,
     statements: &[Statement],
+    world: World,
     count: u32,
 ) -> Result<Ran, NoMemory>
     requires target { 0 < length (J.policies judge.now) }
+    requires judged { IsJudgedBy (J.policies judge.now) world.book }
     requires few { length statements.now ≤ 4096 }
     requires sendable { list_all is_sendable statements.now ≡ true }
-    ensures value { IfOk result (λ r. r ≡ ran_from (policy_at (J.policies judge.now) 0) statements.now (rounds count (policy_at (J.policies judge.now) 0) statements.now start_world)) }
+    requires sound { is_sound statements.now world ≡ true }
+    requires counted { IsCounted world }
+    ensures value { IfOk result (λ r. r ≡ ran_from (policy_at (J.policies judge.now) 0) statements.now (rounds count (policy_at (J.policies judge.now) 0) statements.now world)) }
     ensures few { IfOk result (λ r. result_count r.report.results ≤ 4096) }
 {
-    let mut world = World::start(alloc);
+    let mut world = world;
     world.make_rounds(alloc, judge, statements, count)?;
     finish(alloc, judge, statements, world)
 }
 
-/// Runs the one thread of a script against one worker, in rounds of one step of the worker and one of the thread:
-/// at most so many, while the thread is unfinished. Where it is finished, the worker then serves what is still ready.
-pub fn run<J: Judge>(alloc: Global, judge: &J, script: &Script, count: u32) -> Result<Ran, NoMemory>
-    requires target { 0 < length (J.policies judge.now) }
-    requires script { is_one_thread script.now ≡ true }
-    ensures value { IfOk result (λ r. r ≡ ran (policy_at (J.policies judge.now) 0) script.now count) }
+/// Runs the one thread of a script, which is ready for the policies, against one worker, in rounds of one step of the worker
+/// and one of the thread: at most so many, while the thread is unfinished. Where it is finished, the worker then serves what
+/// is still ready. The judge judges the script's targets by their policies.
+///
+/// # Errors
+/// `NoMemory` where there was none for the run.
+pub fn run<J: Judge>(
+    alloc: Global,
+    judge: &J,
+    policies: &Policies,
+    script: &Script,
+    count: u32,
+) -> Result<Ran, NoMemory>
+    requires ready { is_ready policies.now.list script.now ≡ true }
+    requires judge { J.policies judge.now ≡ (setting_of policies.now.list script.now).policies }
+    requires one { is_one_thread script.now ≡ true }
+    ensures value { IfOk result (λ r. r ≡ ran policies.now.list script.now count) }
     ensures few { IfOk result (λ r. result_count r.report.results ≤ 4096) }
 {
     let Some(statements) = only_thread(script) else {
         unreachable!();
     };
-    run_statements(alloc, judge, statements, count)
+    let world = World::start(alloc, policies, script)?;
+    run_statements(alloc, judge, statements, world, count)
 }

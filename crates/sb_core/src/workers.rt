@@ -4,6 +4,7 @@ ghost use Rattle.sb_rule.specs.Verdicts.{policy_at};
 ghost use Rattle.sb_book.specs.Decisions.{decision_of};
 ghost use Rattle.sb_book.specs.Histories.{answered};
 ghost use Rattle.sb_core.specs.declared.workers.WorkerPhase.TheVariants.{Give};
+ghost use Rattle.sb_core.specs.Worlds.{IsJudgedBy};
 ghost use Rattle.sb_core.specs.Workers.{after_count, after_end, after_copy, after_reply, worker_after, worker_words, worker_book, reply_to, is_worker_sound, is_looking};
 
 use crate::channels::{ACKNOWLEDGED, ChannelWords, READY};
@@ -98,12 +99,14 @@ fn answered<J: Judge>(
     book: &mut Book,
 ) -> Result<WorkerPhase, NoMemory>
     requires target { 0 < length (J.policies judge.now) }
+    requires judged { IsJudgedBy (J.policies judge.now) book.old }
+    ensures judged { OnOk result (IsJudgedBy (J.policies judge.now) book.new) }
     ensures value { IfOk result (λ p. p ≡ Give (reply_to (policy_at (J.policies judge.now) 0) book.old taken.now)) }
     ensures book { OnOk result (book.new ≡ answered book.old 0 0 taken.now (decision_of (policy_at (J.policies judge.now) 0) taken.now)) }
     ensures sound { IfOk result (λ p. is_worker_sound p ≡ true) }
 {
     let decision = decide(alloc, judge, 0, taken)?;
-    let reply = book.answer(alloc, 0, 0, taken, decision)?;
+    let reply = book.answer(0, 0, taken, decision)?;
     Ok(WorkerPhase::Give {
         words: reply_words(&reply),
     })
@@ -119,7 +122,9 @@ pub fn worker_row<J: Judge>(
     book: &mut Book,
 ) -> Result<WorkerPhase, NoMemory>
     requires target { 0 < length (J.policies judge.now) }
+    requires judged { IsJudgedBy (J.policies judge.now) book.old }
     requires sound { is_worker_sound phase ≡ true }
+    ensures judged { OnOk result (IsJudgedBy (J.policies judge.now) book.new) }
     ensures value { IfOk result (λ p. p ≡ worker_after (policy_at (J.policies judge.now) 0) phase channel.old book.old) }
     ensures words { OnOk result (channel.new ≡ worker_words phase channel.old) }
     ensures book { OnOk result (book.new ≡ worker_book (policy_at (J.policies judge.now) 0) phase book.old) }

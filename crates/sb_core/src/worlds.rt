@@ -4,7 +4,9 @@ ghost use Rattle.std.specs.List.{list_all};
 ghost use Rattle.sb_rule.specs.Verdicts.{policy_at};
 ghost use Rattle.sb_core.specs.Threads.{is_sendable};
 ghost use Rattle.sb_core.specs.Workers.{is_worker_sound};
-ghost use Rattle.sb_core.specs.Worlds.{start_world, worker_step, thread_step, round, is_finished, is_settled, is_sound, IsCounted, ended_count, rounds, drained};
+ghost use Rattle.sb_book.specs.Histories.{setting_of};
+ghost use Rattle.sb_book.specs.Readiness.{is_ready};
+ghost use Rattle.sb_core.specs.Worlds.{start_world, IsJudgedBy, worker_step, thread_step, round, is_finished, is_settled, is_sound, IsCounted, ended_count, rounds, drained};
 ghost use Rattle.sb_core.specs.Runs.{report_of};
 ghost use Rattle.std.specs.Option.{option_to_list};
 
@@ -12,8 +14,8 @@ use crate::channels::{ChannelWords, READY};
 use crate::threads::{ThreadPhase, thread_row};
 use crate::workers::{WorkerPhase, worker_row};
 use sb_book::{Book, Report, Results, TargetResults, ThreadResults};
-use sb_call::{Statement, StmtResult};
-use sb_rule::Judge;
+use sb_call::{Script, Statement, StmtResult};
+use sb_rule::{Judge, Policies};
 use sb_wide::NoMemory;
 use std::alloc::Global;
 use std::mem;
@@ -36,18 +38,22 @@ pub struct World {
 }
 
 impl World {
-    /// Nothing has happened.
-    pub fn start(alloc: Global) -> World
-        ensures { result ≡ start_world }
+    /// Nothing has happened. The script is ready for the policies.
+    ///
+    /// # Errors
+    /// `NoMemory` where there was none for the book.
+    pub fn start(alloc: Global, policies: &Policies, script: &Script) -> Result<World, NoMemory>
+        requires { is_ready policies.now.list script.now ≡ true }
+        ensures { IfOk result (λ world. world ≡ start_world (setting_of policies.now.list script.now)) }
     {
-        World {
+        Ok(World {
             words: ChannelWords::new(),
             worker: WorkerPhase::Look,
             place: 0,
             thread: ThreadPhase::Try,
-            book: Book::new(alloc),
+            book: Book::new(alloc, policies, script)?,
             results: ThreadResults::new(Vec::new(alloc)),
-        }
+        })
     }
 
     /// Whether each statement has ended.
@@ -67,7 +73,9 @@ impl World {
     /// One step of the worker.
     pub fn worker_step<J: Judge>(&mut self, alloc: Global, judge: &J) -> Result<(), NoMemory>
         requires target { 0 < length (J.policies judge.now) }
+        requires judged { IsJudgedBy (J.policies judge.now) self.old.book }
         requires sound { is_worker_sound self.old.worker ≡ true }
+        ensures judged { OnOk result (IsJudgedBy (J.policies judge.now) self.new.book) }
         ensures ok { OnOk result (self.new ≡ worker_step (policy_at (J.policies judge.now) 0) self.old) }
         ensures sound { OnOk result (is_worker_sound self.new.worker ≡ true) }
     {
@@ -96,6 +104,7 @@ impl World {
         requires sound { is_sound statements.now self.old ≡ true }
         requires counted { IsCounted self.old }
         ensures ok { OnOk result (self.new ≡ thread_step statements.now self.old) }
+        ensures book { OnOk result (self.new.book ≡ self.old.book) }
         ensures sound { OnOk result (is_sound statements.now self.new ≡ true) }
         ensures counted { OnOk result (IsCounted self.new) }
     {
@@ -116,10 +125,12 @@ impl World {
         statements: &[Statement],
     ) -> Result<(), NoMemory>
         requires target { 0 < length (J.policies judge.now) }
+        requires judged { IsJudgedBy (J.policies judge.now) self.old.book }
         requires few { length statements.now < 2 ^ 32 }
         requires sendable { list_all is_sendable statements.now ≡ true }
         requires sound { is_sound statements.now self.old ≡ true }
         requires counted { IsCounted self.old }
+        ensures judged { OnOk result (IsJudgedBy (J.policies judge.now) self.new.book) }
         ensures ok { OnOk result (self.new ≡ round (policy_at (J.policies judge.now) 0) statements.now self.old) }
         ensures sound { OnOk result (is_sound statements.now self.new ≡ true) }
         ensures counted { OnOk result (IsCounted self.new) }
@@ -138,10 +149,12 @@ impl World {
         count: u32,
     ) -> Result<(), NoMemory>
         requires target { 0 < length (J.policies judge.now) }
+        requires judged { IsJudgedBy (J.policies judge.now) self.old.book }
         requires few { length statements.now < 2 ^ 32 }
         requires sendable { list_all is_sendable statements.now ≡ true }
         requires sound { is_sound statements.now self.old ≡ true }
         requires counted { IsCounted self.old }
+        ensures judged { OnOk result (IsJudgedBy (J.policies judge.now) self.new.book) }
         ensures ok { OnOk result (self.new ≡ rounds count (policy_at (J.policies judge.now) 0) statements.now self.old) }
         ensures sound { OnOk result (is_sound statements.now self.new ≡ true) }
         ensures counted { OnOk result (IsCounted self.new) }
@@ -158,6 +171,7 @@ impl World {
     #[tactic(auto, using(crate::proofs::Rounds::drained_done, crate::proofs::Rounds::drained_more))]
     pub fn drain<J: Judge>(&mut self, alloc: Global, judge: &J) -> Result<(), NoMemory>
         requires target { 0 < length (J.policies judge.now) }
+        requires judged { IsJudgedBy (J.policies judge.now) self.old.book }
         requires sound { is_worker_sound self.old.worker ≡ true }
         ensures ok { OnOk result (self.new ≡ drained 100 (policy_at (J.policies judge.now) 0) self.old) }
         ensures results { OnOk result (self.new.results ≡ self.old.results) }
@@ -175,12 +189,13 @@ impl World {
         ensures { IfOk result (λ r. r ≡ report_of self) }
     {
         let World { book, results, .. } = self;
+        let (entries, _) = book.into_parts();
         let mut threads = Vec::new(alloc);
         threads.push(results)?;
         let mut targets = Vec::new(alloc);
         targets.push(TargetResults::new(threads))?;
         Ok(Report {
-            entries: book.into_entries(),
+            entries,
             results: Results::new(targets),
         })
     }

@@ -3,14 +3,16 @@ use Rattle.std.specs.Prelude.{ℕ, List, ◌++◌, codes, decimal}
 use Rattle.std.specs.declared.io.ErrorKind.{ErrorKind}
 use Rattle.std.specs.declared.io.ErrorKind.TheVariants as kind
 use Rattle.sb_ruletext.specs.Kinds.{kind_number}
+use Rattle.sb_script.specs.Kinds as script
 use Rattle.sb_top.specs.declared.outcomes.Status.{Status}
-use Rattle.sb_top.specs.declared.outcomes.Status.TheVariants.{Done, Unfinished, Usage, PolicyRefused, NotYet, Missing, TooLong, ReadFault, WriteFault, NoMemory}
+use Rattle.sb_top.specs.declared.outcomes.Status.TheVariants.{Done, Unfinished, Usage, PolicyRefused, ScriptRefused, NotYet, Missing, TooLong, ReadFault, WriteFault, NoMemory}
 
 -- the exit code of a status
 abbrev pub code_of : Status → ℕ
 code_of Done = 0
 code_of Usage = 2
 code_of (PolicyRefused fault) = 3
+code_of (ScriptRefused fault) = 4
 code_of (Missing which) = 6
 code_of (TooLong which) = 7
 code_of (ReadFault which) = 8
@@ -24,6 +26,7 @@ abbrev pub text_of : Status → List ℕ
 text_of Done = codes "done"
 text_of Usage = codes "usage: check POLICY, replay POLICY SCRIPT"
 text_of (PolicyRefused fault) = codes "policy line " ++ (decimal fault.line ++ (codes " fault " ++ decimal (kind_number fault.kind)))
+text_of (ScriptRefused fault) = codes "script line " ++ (decimal fault.line ++ (codes " fault " ++ decimal (script.kind_number fault.kind)))
 text_of (Missing which) = codes "missing file " ++ decimal which
 text_of (TooLong which) = codes "file " ++ (decimal which ++ codes " too long")
 text_of (ReadFault which) = codes "read fault in file " ++ decimal which

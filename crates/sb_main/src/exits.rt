@@ -13,6 +13,7 @@ pub fn exit_code(status: Status) -> u8
         Status::Done => 0,
         Status::Usage => 2,
         Status::PolicyRefused(_) => 3,
+        Status::ScriptRefused(_) => 4,
         Status::Missing { .. } => 6,
         Status::TooLong { .. } => 7,
         Status::ReadFault { .. } => 8,
@@ -41,6 +42,11 @@ impl fmt::Display for Complaint {
                 let line = fault.line;
                 let number = fault.kind.number();
                 write!(f, "sandbox: policy line {line} fault {number}")
+            }
+            Status::ScriptRefused(fault) => {
+                let line = fault.line;
+                let number = fault.kind.number();
+                write!(f, "sandbox: script line {line} fault {number}")
             }
             Status::Missing { which } => write!(f, "sandbox: missing file {which}"),
             Status::TooLong { which } => write!(f, "sandbox: file {which} too long"),

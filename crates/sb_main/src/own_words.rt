@@ -62,13 +62,15 @@ exit status:
    0  done
    2  usage
    3  policy refused
+   4  script refused
    6  missing file
    7  file too long (it has more than 4194304 bytes)
    8  read fault
    9  write fault
   10  unfinished
   11  no memory
-  20  not yet: the file has a form that is not read yet
+  20  not yet: the script has more than one target, channel or thread,
+      or statements other than calls
 
 faults of a policy:
    1  the text is not UTF-8
@@ -84,6 +86,22 @@ faults of a policy:
   11  same name
   12  no heading
   13  not a call that can be read-only
+
+faults of a script:
+   1  the text is not UTF-8
+   2  unknown, missing or further word
+   3  unknown call
+   4  wrong arguments
+   5  bad number
+   6  bad name
+   7  no such policy
+   8  no such target
+   9  no such channel
+  10  no such word
+  11  too many
+  12  the call is too big
+  13  same name
+  14  cannot be placed: no parent, or the name is there
 
 faults of a block, as the first extended word of its reply:
    1  too-many-params

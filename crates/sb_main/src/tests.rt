@@ -3,6 +3,7 @@ use crate::hosts::{HostFiles, HostSink};
 use crate::own_words::{OwnWord, own_text, own_word};
 use sb_outside::{FileFault, Files, Sink, SinkFault};
 use sb_ruletext::{TextFault, TextKind};
+use sb_script::{ScriptFault, ScriptKind};
 use sb_top::Status;
 use std::alloc::Global;
 use std::io::Cursor;
@@ -53,6 +54,10 @@ fn refused(line: u32, kind: TextKind) -> Status {
     Status::PolicyRefused(TextFault { line, kind })
 }
 
+fn script_refused(line: u32, kind: ScriptKind) -> Status {
+    Status::ScriptRefused(ScriptFault { line, kind })
+}
+
 #[test]
 fn statuses_have_codes_and_lines(rt: HostRuntime) -> Result<(), Fail> {
     let target = 7;
@@ -73,6 +78,16 @@ fn statuses_have_codes_and_lines(rt: HostRuntime) -> Result<(), Fail> {
             refused(1, TextKind::NotReadOnly),
             3,
             "sandbox: policy line 1 fault 13",
+        ),
+        (
+            script_refused(12, ScriptKind::NotUtf8),
+            4,
+            "sandbox: script line 12 fault 1",
+        ),
+        (
+            script_refused(4_294_967_295, ScriptKind::BadStart),
+            4,
+            "sandbox: script line 4294967295 fault 14",
         ),
         (Status::Missing { which: 1 }, 6, "sandbox: missing file 1"),
         (Status::TooLong { which: 2 }, 7, "sandbox: file 2 too long"),

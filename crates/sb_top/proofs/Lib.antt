@@ -1,4 +1,5 @@
-pub mod Judged
+pub mod Complete
+pub mod Ready
 pub mod Runs
-pub mod Sendable
 pub mod Steps
+pub mod Texts

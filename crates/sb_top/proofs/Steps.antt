@@ -1,19 +1,21 @@
 -- Steps of reading, over files that tell what they hold and files that do not.
-use Rattle.std.proofs.Common.{◌≡◌, ◌≢◌, ◌∙◌, ℕ, ◌≤◌, Bool, true, false, if◌then◌else◌, List, length, Option, None, Some, refl, sym, ap, subst, lit≤, arith}
+use Rattle.std.proofs.Common.{◌≡◌, ◌≢◌, ◌∙◌, ℕ, ◌≤◌, Bool, true, false, if◌then◌else◌, List, length, Option, None, Some, refl, sym, ap, subst, lit≤}
 use Rattle.std.specs.Prelude.{nat_le, option_map, IfSome, IfOk, IfErr, Result, Ok, Err}
 use Rattle.sb_call.specs.declared.scripts.Script.{Script}
+use Rattle.sb_core.specs.Runs.{is_one_thread}
 use Rattle.sb_outside.specs.Outside.{Held}
 use Rattle.sb_rule.specs.declared.policies.Policies.{Policies}
 use Rattle.sb_rule.specs.declared.policies.Policy.{Policy}
 use Rattle.sb_ruletext.specs.PolicyTexts.{reading}
 use Rattle.sb_ruletext.specs.Steps.{◌>>=◌}
 use Rattle.sb_ruletext.specs.declared.faults.TextFault.{TextFault}
-use Rattle.sb_first.specs.Scripts.{script_of}
+use Rattle.sb_script.specs.ScriptTexts as scripts
+use Rattle.sb_script.specs.declared.faults.ScriptFault.{ScriptFault}
 use Rattle.sb_top.specs.Outcomes.{IsCause, IsFile}
 use Rattle.sb_top.specs.Refusals.{IsRefused, IsTextRefused}
-use Rattle.sb_top.specs.Wanted.{Refusal, BadWords, NoFile, LongFile, BadPolicy, UnreadScript, Wanted, Work, Prints, Runs, IsReached, most_bytes, text_in, policies_by, policies_in, script_by, script_in, wanted_check, wanted_replay}
+use Rattle.sb_top.specs.Wanted.{Refusal, BadWords, NoFile, LongFile, BadPolicy, BadScript, UnrunScript, Wanted, Prints, Runs, IsReached, most_bytes, text_in, policies_by, policies_in, script_by, script_in, wanted_check, wanted_replay}
 use Rattle.sb_top.specs.declared.outcomes.Status.{Status}
-use Rattle.sb_top.specs.declared.outcomes.Status.TheVariants.{Done, Unfinished, Usage, PolicyRefused, NotYet, Missing, TooLong, ReadFault, WriteFault, NoMemory}
+use Rattle.sb_top.specs.declared.outcomes.Status.TheVariants.{Done, Unfinished, Usage, PolicyRefused, ScriptRefused, NotYet, Missing, TooLong, ReadFault, WriteFault, NoMemory}
 
 -- a step that was taken
 pub taken : {A B : Type 0} (first : Held → Result A Refusal) (next : Held → A → Result B Refusal) (x : A) (held : Option Held)
@@ -43,6 +45,7 @@ refused_first n first next None rose (Missing m) h = h
 refused_first n first next None rose (TooLong m) h = h
 refused_first n first next None rose (ReadFault m) h = h
 refused_first n first next None rose (PolicyRefused fault) h = h
+refused_first n first next None rose (ScriptRefused fault) h = h
 refused_first n first next None rose (NotYet m) h = h
 refused_first n first next None rose NoMemory h = h
 refused_first n first next None rose Done h = h
@@ -53,6 +56,7 @@ refused_first n first next (Some held) rose (Missing m) (e, h) = (e, ap (λ r. r
 refused_first n first next (Some held) rose (TooLong m) (e, h) = (e, ap (λ r. r >>= next held) h)
 refused_first n first next (Some held) rose (ReadFault m) h = h
 refused_first n first next (Some held) rose (PolicyRefused fault) (e, h) = (e, ap (λ r. r >>= next held) h)
+refused_first n first next (Some held) rose (ScriptRefused fault) (e, h) = (e, ap (λ r. r >>= next held) h)
 refused_first n first next (Some held) rose (NotYet m) (e, d, h) = (e, d, ap (λ r. r >>= next held) h)
 refused_first n first next (Some held) rose NoMemory h = h
 refused_first n first next (Some held) rose Done h = h
@@ -64,7 +68,8 @@ refused_first n first next (Some held) rose WriteFault h = h
 text_told : {A : Type 0} (n : ℕ) (r : Result A Refusal) (held : Option Held) (rose : Type 0) (s : Status)
     → IsTextRefused n r s → IsRefused n (option_map (λ (h : Held). r) held) rose s
 text_told n r held rose (PolicyRefused fault) (e, h) = (e, each_found (λ (h : Held). r) (λ q. q ≡ Err (BadPolicy fault)) held (λ _. h))
-text_told n r held rose (NotYet m) (e, d, h) = (e, d, each_found (λ (h : Held). r) (λ q. q ≡ Err UnreadScript) held (λ _. h))
+text_told n r held rose (ScriptRefused fault) (e, h) = (e, each_found (λ (h : Held). r) (λ q. q ≡ Err (BadScript fault)) held (λ _. h))
+text_told n r held rose (NotYet m) (e, d, h) = (e, d, each_found (λ (h : Held). r) (λ q. q ≡ Err UnrunScript) held (λ _. h))
 text_told n r held rose NoMemory h = tt
 text_told n r held rose (Missing m) h = absurd h
 text_told n r held rose (TooLong m) h = absurd h
@@ -97,7 +102,8 @@ reached_next n (Err BadWords) f h k = absurd h
 reached_next n (Err (NoFile m)) f h k = h
 reached_next n (Err (LongFile m)) f h k = h
 reached_next n (Err (BadPolicy fault)) f h k = h
-reached_next n (Err UnreadScript) f h k = h
+reached_next n (Err (BadScript fault)) f h k = h
+reached_next n (Err UnrunScript) f h k = h
 
 reached_policies_by : (r : Result (List Policy) TextFault) → IsReached 1 (policies_by r)
 reached_policies_by (Ok policies) = tt
@@ -107,13 +113,13 @@ reached_policies : (name : List ℕ) (held : Held) → IsReached 1 (policies_in 
 reached_policies name held =
     reached_next 1 (text_in 1 (held name)) (λ text. policies_by (reading text)) (reached_text 1 1 (held name) (lit≤ tt)) (λ text. reached_policies_by (reading text))
 
-reached_script_by : (n : ℕ) (o : Option Script) → n ≤ 2 → IsReached n (script_by o)
-reached_script_by n None h = h
-reached_script_by n (Some script) h = tt
+reached_script_by : (n : ℕ) (r : Result Script ScriptFault) → n ≤ 2 → IsReached n (script_by r)
+reached_script_by n (Ok script) h = reached_if n (is_one_thread script) (Ok script) (Err UnrunScript) tt h
+reached_script_by n (Err fault) h = h
 
 reached_script : (n : ℕ) (policies : List Policy) (name : List ℕ) (held : Held) → n ≤ 2 → IsReached n (script_in policies name held)
 reached_script n policies name held h =
-    reached_next n (text_in 2 (held name)) (λ text. script_by (script_of text policies)) (reached_text n 2 (held name) h) (λ text. reached_script_by n (script_of text policies) h)
+    reached_next n (text_in 2 (held name)) (λ text. script_by (scripts.reading policies text)) (reached_text n 2 (held name) h) (λ text. reached_script_by n (scripts.reading policies text) h)
 
 -- the run of a script in the second file
 abbrev run_in : List Policy → List ℕ → Held → Wanted
@@ -137,7 +143,8 @@ started n (Err BadWords) h = absurd h
 started n (Err (NoFile m)) h = λ e. cc
 started n (Err (LongFile m)) h = λ e. cc
 started n (Err (BadPolicy fault)) h = λ e. cc
-started n (Err UnreadScript) h = λ e. cc
+started n (Err (BadScript fault)) h = λ e. cc
+started n (Err UnrunScript) h = λ e. cc
 
 all_started : (n : ℕ) (wanted : Option Wanted) → IfSome wanted (IsReached n) → IfSome wanted (λ w. w ≢ Err BadWords)
 all_started n None h = tt
@@ -150,6 +157,8 @@ caused n files wanted rose sink (Missing m) number reached (e, h) = rw e (number
 caused n files wanted rose sink (TooLong m) number reached (e, h) = rw e (number, h)
 caused n files wanted rose sink (ReadFault m) number reached (e, h) = rw e (number, h, reached)
 caused n files wanted rose sink (PolicyRefused fault) number reached (e, h) = h
+caused n files wanted rose sink (ScriptRefused fault) number reached (two, h) =
+    let P : ℕ → Type 0 = λ k. IsFile files k in (subst P two number, h)
 caused n files wanted rose sink (NotYet m) number reached (two, e, h) = (rw e number, e ∙ two, h)
 caused n files wanted rose sink NoMemory number reached h = all_started n wanted reached
 caused n files wanted rose sink Done number reached h = absurd h
@@ -207,13 +216,13 @@ policies_not_found name text held rose (Err s) e h = refused_text 1 name (λ tex
 
 -- what was found of the script's text
 pub script_found : (policies : List Policy) (name text : List ℕ) (held : Option Held) (r : Result Script Status) → IfSome held (λ h. text_in 2 (h name) ≡ Ok text)
-    → IfOk r (λ s. script_by (script_of text policies) ≡ Ok s) → IfOk r (λ s. IfSome held (λ h. script_in policies name h ≡ Ok s))
+    → IfOk r (λ s. script_by (scripts.reading policies text) ≡ Ok s) → IfOk r (λ s. IfSome held (λ h. script_in policies name h ≡ Ok s))
 script_found policies name text held (Ok s) e d =
-    both_taken (λ (h : Held). text_in 2 (h name)) (λ h text. script_by (script_of text policies)) text s held e (each _ held (λ h. d))
+    both_taken (λ (h : Held). text_in 2 (h name)) (λ h text. script_by (scripts.reading policies text)) text s held e (each _ held (λ h. d))
 script_found policies name text held (Err s) e d = tt
 
 pub script_not_found : (policies : List Policy) (name text : List ℕ) (held : Option Held) (rose : Type 0) (r : Result Script Status)
-    → IfSome held (λ h. text_in 2 (h name) ≡ Ok text) → IfErr r (λ s. IsTextRefused 2 (script_by (script_of text policies)) s)
+    → IfSome held (λ h. text_in 2 (h name) ≡ Ok text) → IfErr r (λ s. IsTextRefused 2 (script_by (scripts.reading policies text)) s)
     → IfErr r (λ s. IsRefused 2 (option_map (script_in policies name) held) rose s)
 script_not_found policies name text held rose (Ok s) e h = tt
-script_not_found policies name text held rose (Err s) e h = refused_text 2 name (λ text. script_by (script_of text policies)) text held rose s e h
+script_not_found policies name text held rose (Err s) e h = refused_text 2 name (λ text. script_by (scripts.reading policies text)) text held rose s e h

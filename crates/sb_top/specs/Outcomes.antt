@@ -1,16 +1,12 @@
 -- What the top call answers, and when.
-use Rattle.std.specs.Prelude.{◌≡◌, ◌≢◌, ℕ, ◌≤◌, Bool, true, false, List, ◌++◌, Option, None, Some, option_map, IfSome, MatchOption, Err, IsOkAnd, ⊤}
-use Rattle.sb_call.specs.declared.scripts.Script.{Script}
-use Rattle.sb_rule.specs.declared.policies.Policy.{Policy}
-use Rattle.sb_ruletext.specs.Printing.{printed}
+use Rattle.std.specs.Prelude.{◌≡◌, ◌≢◌, ℕ, ◌≤◌, Bool, true, false, List, ◌++◌, Option, None, Some, option_map, IfSome, MatchOption, Ok, Err, IsOkAnd, ⊤}
 use Rattle.sb_book.specs.declared.reports.Report.{Report}
-use Rattle.sb_book.specs.Histories.{IsLegalHistory}
-use Rattle.sb_core.specs.Laws.{setting}
+use Rattle.sb_book.specs.Histories.{setting_of, IsLegalHistory}
 use Rattle.sb_outside.specs.Outside.{GrowsByPrefix}
 use Rattle.sb_transcript.specs.Transcripts.{transcript}
-use Rattle.sb_top.specs.Wanted.{Wanted, BadWords, NoFile, LongFile, BadPolicy, UnreadScript, Work, Prints, Runs, IsReached, target_policy, whole_run}
+use Rattle.sb_top.specs.Wanted.{Wanted, BadWords, NoFile, LongFile, BadPolicy, BadScript, UnrunScript, Work, Prints, Runs, IsReached, checked, whole_run}
 use Rattle.sb_top.specs.declared.outcomes.Status.{Status}
-use Rattle.sb_top.specs.declared.outcomes.Status.TheVariants.{Done, Unfinished, Usage, PolicyRefused, NotYet, Missing, TooLong, ReadFault, WriteFault, NoMemory}
+use Rattle.sb_top.specs.declared.outcomes.Status.TheVariants.{Done, Unfinished, Usage, PolicyRefused, ScriptRefused, NotYet, Missing, TooLong, ReadFault, WriteFault, NoMemory}
 
 -- n is the number of a file of a command with so many files
 abbrev pub IsFile : ℕ → ℕ → Type 0
@@ -33,7 +29,8 @@ IsCause files wanted files_rose sink_rose Done = IfSome wanted (λ w. IsOkAnd w 
 IsCause files wanted files_rose sink_rose (Unfinished target thread) = IfSome wanted (λ w. IsOkAnd w (Leaves target thread))
 IsCause files wanted files_rose sink_rose Usage = IfSome wanted (λ w. w ≡ Err BadWords)
 IsCause files wanted files_rose sink_rose (PolicyRefused fault) = IfSome wanted (λ w. w ≡ Err (BadPolicy fault))
-IsCause files wanted files_rose sink_rose (NotYet n) = IsFile files n × (n ≡ 2) × IfSome wanted (λ w. w ≡ Err UnreadScript)
+IsCause files wanted files_rose sink_rose (ScriptRefused fault) = IsFile files 2 × IfSome wanted (λ w. w ≡ Err (BadScript fault))
+IsCause files wanted files_rose sink_rose (NotYet n) = IsFile files n × (n ≡ 2) × IfSome wanted (λ w. w ≡ Err UnrunScript)
 IsCause files wanted files_rose sink_rose (Missing n) = IsFile files n × MatchOption wanted files_rose (λ w. w ≡ Err (NoFile n))
 IsCause files wanted files_rose sink_rose (TooLong n) = IsFile files n × MatchOption wanted files_rose (λ w. w ≡ Err (LongFile n))
 IsCause files wanted files_rose sink_rose (ReadFault n) = IsFile files n × files_rose × IfSome wanted (IsReached n)
@@ -43,7 +40,7 @@ IsCause files wanted files_rose sink_rose NoMemory = IfSome wanted (λ w. w ≢ 
 -- the report of a run, with a legal history; a print has none
 abbrev pub IsReportOf : Report → Work → Type 0
 IsReportOf report (Prints policies) = ⊥
-IsReportOf report (Runs policies script) = (report ≡ (whole_run policies script).report) × IsLegalHistory (setting (target_policy policies script)) report.entries
+IsReportOf report (Runs policies script) = (report ≡ (whole_run policies script).report) × IsLegalHistory (setting_of policies script) report.entries
 
 -- there is a report, and it is that of the run that is wanted
 abbrev pub HasReport : Option Wanted → Option Report → Type 0
@@ -62,15 +59,16 @@ IsReported runs wanted report (Unfinished target thread) = (runs ≡ true) × Ha
 IsReported runs wanted report WriteFault = HasReportOfRun runs wanted report
 IsReported runs wanted report Usage = report ≡ None
 IsReported runs wanted report (PolicyRefused fault) = report ≡ None
+IsReported runs wanted report (ScriptRefused fault) = report ≡ None
 IsReported runs wanted report (NotYet n) = report ≡ None
 IsReported runs wanted report (Missing n) = report ≡ None
 IsReported runs wanted report (TooLong n) = report ≡ None
 IsReported runs wanted report (ReadFault n) = report ≡ None
 IsReported runs wanted report NoMemory = report ≡ None
 
--- all that is written: the policies as a text, or the transcript of the run
+-- all that is written: the policies as a text with the listings of their programs, or the transcript of the run
 abbrev pub text_of : Work → List ℕ
-text_of (Prints policies) = printed policies
+text_of (Prints policies) = checked policies
 text_of (Runs policies script) = transcript script (whole_run policies script).report
 
 -- the output grew by exactly this text
@@ -84,6 +82,7 @@ IsWritten wanted before after WriteFault = IfSome wanted (λ w. IsOkAnd w (λ wo
 IsWritten wanted before after (Unfinished target thread) = after ≡ before
 IsWritten wanted before after Usage = after ≡ before
 IsWritten wanted before after (PolicyRefused fault) = after ≡ before
+IsWritten wanted before after (ScriptRefused fault) = after ≡ before
 IsWritten wanted before after (NotYet n) = after ≡ before
 IsWritten wanted before after (Missing n) = after ≡ before
 IsWritten wanted before after (TooLong n) = after ≡ before
@@ -97,8 +96,28 @@ IsSilent WriteFault = ⊥
 IsSilent (Unfinished target thread) = ⊤
 IsSilent Usage = ⊤
 IsSilent (PolicyRefused fault) = ⊤
+IsSilent (ScriptRefused fault) = ⊤
 IsSilent (NotYet n) = ⊤
 IsSilent (Missing n) = ⊤
 IsSilent (TooLong n) = ⊤
 IsSilent (ReadFault n) = ⊤
 IsSilent NoMemory = ⊤
+
+-- how work ends for which nothing outside was missing: it is done, or a run leaves a thread unfinished, or there was no memory
+abbrev pub IsEndOf : Work → Status → Type 0
+IsEndOf work Done = Ends work
+IsEndOf work (Unfinished target thread) = Leaves target thread work
+IsEndOf work NoMemory = ⊤
+IsEndOf work Usage = ⊥
+IsEndOf work (PolicyRefused fault) = ⊥
+IsEndOf work (ScriptRefused fault) = ⊥
+IsEndOf work (NotYet n) = ⊥
+IsEndOf work (Missing n) = ⊥
+IsEndOf work (TooLong n) = ⊥
+IsEndOf work (ReadFault n) = ⊥
+IsEndOf work WriteFault = ⊥
+
+-- where the words and the told files come to work, and neither count rose, the work comes to its end
+abbrev pub IsComplete : Option Wanted → Type 0 → Type 0 → Status → Type 0
+IsComplete wanted files_rose sink_rose status =
+    IfSome wanted (λ w. (work : Work) → w ≡ Ok work → (files_rose → ⊥) → (sink_rose → ⊥) → IsEndOf work status)

@@ -1,25 +1,30 @@
 -- What the words come to, where the files tell what they hold.
-use Rattle.std.specs.Prelude.{ℕ, ◌≤◌, nat_le, ⊤, List, length, map, Option, None, Some, Result, Ok, Err, if◌then◌else◌}
+use Rattle.std.specs.Prelude.{ℕ, ◌≤◌, nat_le, ⊤, List, ◌++◌, length, Option, None, Some, Result, Ok, Err, if◌then◌else◌}
+use Rattle.std.specs.List.{flat_map}
 use Rattle.sb_call.specs.declared.scripts.Script.{Script}
-use Rattle.sb_rule.specs.Verdicts.{policy_at}
+use Rattle.sb_compile.specs.Compiling.{program_of}
+use Rattle.sb_compile.specs.Listing.{listing_of}
 use Rattle.sb_rule.specs.declared.policies.Policy.{Policy}
 use Rattle.sb_ruletext.specs.PolicyTexts.{reading}
+use Rattle.sb_ruletext.specs.Printing.{printed}
 use Rattle.sb_ruletext.specs.Steps.{◌>>=◌}
 use Rattle.sb_ruletext.specs.declared.faults.TextFault.{TextFault}
-use Rattle.sb_core.specs.Runs.{ran}
+use Rattle.sb_core.specs.Runs.{ran, is_one_thread}
 use Rattle.sb_core.specs.declared.runs.Ran.{Ran}
-use Rattle.sb_first.specs.Scripts.{script_of}
 use Rattle.sb_outside.specs.Outside.{Held}
+use Rattle.sb_script.specs.ScriptTexts as scripts
+use Rattle.sb_script.specs.declared.faults.ScriptFault.{ScriptFault}
 use Rattle.sb_top.specs.Commands.{Command, Check, Replay, command_of}
 
--- why nothing is done: the words are no command; file n is missing, or too long; the policies' text has this fault; the script's text
--- has no form that is read yet
+-- why nothing is done: the words are no command; file n is missing, or too long; the policies' text has this fault, or the script's
+-- text; the script cannot be run yet
 pub data Refusal : Type 0 where
   BadWords : Refusal
   NoFile : ℕ → Refusal
   LongFile : ℕ → Refusal
   BadPolicy : TextFault → Refusal
-  UnreadScript : Refusal
+  BadScript : ScriptFault → Refusal
+  UnrunScript : Refusal
 
 -- what is done: policies are printed, or a script is run under policies
 pub data Work : Type 0 where
@@ -48,14 +53,18 @@ policies_by (Err fault) = Err (BadPolicy fault)
 abbrev pub policies_in : List ℕ → Held → Result (List Policy) Refusal
 policies_in name held = text_in 1 (held name) >>= λ text. policies_by (reading text)
 
--- the script of a text, where it has one
-abbrev pub script_by : Option Script → Result Script Refusal
-script_by None = Err UnreadScript
-script_by (Some script) = Ok script
+-- a script can be run where it has one target with one channel and one thread, which only makes calls
+abbrev pub runnable : Script → Result Script Refusal
+runnable script = if is_one_thread script then Ok script else Err UnrunScript
+
+-- the script of a text, where it can be run, or the text's fault
+abbrev pub script_by : Result Script ScriptFault → Result Script Refusal
+script_by (Ok script) = runnable script
+script_by (Err fault) = Err (BadScript fault)
 
 -- the script of the second file, for targets of these policies
 abbrev pub script_in : List Policy → List ℕ → Held → Result Script Refusal
-script_in policies name held = text_in 2 (held name) >>= λ text. script_by (script_of text policies)
+script_in policies name held = text_in 2 (held name) >>= λ text. script_by (scripts.reading policies text)
 
 -- a check reads policies, and prints them
 abbrev pub wanted_check : List ℕ → Held → Wanted
@@ -74,17 +83,17 @@ by_command (Some (Replay policy script)) held = wanted_replay policy script held
 abbrev pub wanted_of : List (List ℕ) → Held → Wanted
 wanted_of words held = by_command (command_of words) held
 
--- the policies of a script's targets, one for each
-abbrev pub target_policies : List Policy → Script → List Policy
-target_policies policies script = map (λ target. policy_at policies target.policy) script.targets
+-- the listings of the programs of policies, one after another
+abbrev pub listings : List Policy → List ℕ
+listings policies = flat_map (λ policy. listing_of (program_of policy)) policies
 
--- the policy of its first target, of whose thread is the run
-abbrev pub target_policy : List Policy → Script → Policy
-target_policy policies script = policy_at (target_policies policies script) 0
+-- what is printed of policies: they as a text, and then the listings of their programs
+unfoldable pub checked : List Policy → List ℕ
+checked policies = printed policies ++ listings policies
 
 -- the run of a script under policies, of at most 20,000,000 rounds
 unfoldable pub whole_run : List Policy → Script → Ran
-whole_run policies script = ran (target_policy policies script) script 20000000
+whole_run policies script = ran policies script 20000000
 
 -- each file before file n was read without a fault
 abbrev pub IsReached : {A : Type 0} → ℕ → Result A Refusal → Type 0
@@ -93,4 +102,5 @@ IsReached n (Err BadWords) = ⊥
 IsReached n (Err (NoFile m)) = n ≤ m
 IsReached n (Err (LongFile m)) = n ≤ m
 IsReached n (Err (BadPolicy fault)) = n ≤ 1
-IsReached n (Err UnreadScript) = n ≤ 2
+IsReached n (Err (BadScript fault)) = n ≤ 2
+IsReached n (Err UnrunScript) = n ≤ 2

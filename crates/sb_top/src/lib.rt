@@ -2,7 +2,6 @@
 #![tactic(auto)]
 
 mod commands;
-mod judges;
 mod outcomes;
 mod prepared;
 mod prints;

@@ -2,6 +2,7 @@
 
 use sb_book::Report;
 use sb_ruletext::TextFault;
+use sb_script::ScriptFault;
 
 /// How a command ended. Files are numbered by their place in the command, from 1.
 #[derive(Clone, Copy, Debug, PartialEq, Eq)]
@@ -14,7 +15,10 @@ pub enum Status {
     Usage,
     /// The text of the policies has this fault, and none before it.
     PolicyRefused(TextFault),
-    /// The file has a form that is not read yet.
+    /// The first fault of the text of the script.
+    ScriptRefused(ScriptFault),
+    /// The file has a script that cannot be run yet: one of more than one target, channel or thread, or with statements other
+    /// than calls.
     NotYet { which: u8 },
     /// There is no such file.
     Missing { which: u8 },

@@ -1,21 +1,23 @@
 // The files of a command, read and found to be policies, and a script that can be run under them.
 ghost use Rattle.std.specs.Prelude.{◌≡◌, ◌≤◌, ◌<◌, ◌^◌, length, true, option_map, IfOk, IfErr, IfSome, OnOk, Ok};
+ghost use Rattle.sb_book.specs.Readiness.{is_ready};
 ghost use Rattle.sb_core.specs.Runs.{is_one_thread};
 ghost use Rattle.sb_outside.specs.Outside.{Rose};
 ghost use Rattle.sb_rule.specs.WellMade.{are_well_made};
 ghost use Rattle.sb_ruletext.specs.PolicyTexts.{reading};
-ghost use Rattle.sb_first.specs.Scripts.{script_of, are_judged};
-ghost use Rattle.sb_top.specs.Wanted.{Runs, text_in, policies_by, policies_in, script_by, script_in, wanted_replay, most_bytes};
+ghost use Rattle.sb_script.specs.ScriptTexts as scripts;
+ghost use Rattle.sb_top.specs.Wanted.{Runs, text_in, policies_by, policies_in, runnable, script_by, script_in, wanted_replay, most_bytes};
 ghost use Rattle.sb_top.specs.Outcomes.{IsCause};
 ghost use Rattle.sb_top.specs.Refusals.{IsRefusal, IsRefused, IsTextRefused, status_of};
 
 use crate::outcomes::Status;
 use crate::prepared::Prepared;
 use sb_call::Script;
-use sb_first::read_script;
+use sb_core::is_one_thread;
 use sb_outside::{FileFault, Files};
-use sb_rule::{Policies, Policy};
+use sb_rule::Policies;
 use sb_ruletext::{TextRefused, read_policies};
+use sb_script::{ScriptRefused, placing_is_opening, read_script};
 use std::alloc::Global;
 
 /// A file may have so many bytes.
@@ -77,19 +79,33 @@ pub fn policies_in<F: Files>(alloc: Global, files: &mut F, name: &str) -> Result
     }
 }
 
-// The script of a text, for targets of these policies. Each that is read can be run.
-fn script_by(alloc: Global, policies: &[Policy], text: &[u8]) -> Result<Script, Status>
-    requires short { length text.now < 2 ^ 32 }
-    requires few { length policies.now < 2 ^ 32 }
-    ensures ok { IfOk result (λ s. script_by (script_of text.now policies.now) ≡ Ok s) }
-    ensures judged { IfOk result (λ s. are_judged (length policies.now) s.targets ≡ true) }
+// The script itself, where it can be run.
+fn runnable(script: Script) -> Result<Script, Status>
+    ensures ok { IfOk result (λ s. (s ≡ script) × (runnable script ≡ Ok s)) }
     ensures runs { IfOk result (λ s. is_one_thread s ≡ true) }
-    ensures err { IfErr result (λ s. IsTextRefused 2 (script_by (script_of text.now policies.now)) s) }
+    ensures err { IfErr result (λ s. IsTextRefused 2 (runnable script) s) }
 {
+    if is_one_thread(&script) {
+        return Ok(script);
+    }
+    Err(Status::NotYet { which: 2 })
+}
+
+// The script of a text, for targets of these policies, where it can be run.
+#[tactic(auto, using(crate::proofs::Ready::few_made, crate::proofs::Ready::ready_of))]
+fn script_by(alloc: Global, policies: &Policies, text: &[u8]) -> Result<Script, Status>
+    requires short { length text.now < 2 ^ 32 }
+    requires well_made { are_well_made policies.now.list ≡ true }
+    ensures ok { IfOk result (λ s. script_by (scripts.reading policies.now.list text.now) ≡ Ok s) }
+    ensures ready { IfOk result (λ s. is_ready policies.now.list s ≡ true) }
+    ensures runs { IfOk result (λ s. is_one_thread s ≡ true) }
+    ensures err { IfErr result (λ s. IsTextRefused 2 (script_by (scripts.reading policies.now.list text.now)) s) }
+{
+    placing_is_opening();
     match read_script(alloc, text, policies) {
-        Ok(Some(script)) => Ok(script),
-        Ok(None) => Err(Status::NotYet { which: 2 }),
-        Err(_) => Err(Status::NoMemory),
+        Ok(script) => runnable(script),
+        Err(ScriptRefused::Fault(fault)) => Err(Status::ScriptRefused(fault)),
+        Err(ScriptRefused::NoMemory) => Err(Status::NoMemory),
     }
 }
 
@@ -97,17 +113,17 @@ fn script_by(alloc: Global, policies: &[Policy], text: &[u8]) -> Result<Script, 
 fn script_in<F: Files>(
     alloc: Global,
     files: &mut F,
-    policies: &[Policy],
+    policies: &Policies,
     name: &str,
 ) -> Result<Script, Status>
-    requires few { length policies.now < 2 ^ 32 }
+    requires well_made { are_well_made policies.now.list ≡ true }
     ensures kept { F.held files.new ≡ F.held files.old }
     ensures counted { F.faults files.old ≤ F.faults files.new }
-    ensures ok { IfOk result (λ s. IfSome (F.held files.old) (λ held. script_in policies.now name.now held ≡ Ok s)) }
-    ensures judged { IfOk result (λ s. are_judged (length policies.now) s.targets ≡ true) }
+    ensures ok { IfOk result (λ s. IfSome (F.held files.old) (λ held. script_in policies.now.list name.now held ≡ Ok s)) }
+    ensures ready { IfOk result (λ s. is_ready policies.now.list s ≡ true) }
     ensures runs { IfOk result (λ s. is_one_thread s ≡ true) }
     ensures ok_count { OnOk result (F.faults files.new ≡ F.faults files.old) }
-    ensures err { IfErr result (λ s. IsRefused 2 (option_map (script_in policies.now name.now) (F.held files.old)) (Rose (F.faults files.old) (F.faults files.new)) s) }
+    ensures err { IfErr result (λ s. IsRefused 2 (option_map (script_in policies.now.list name.now) (F.held files.old)) (Rose (F.faults files.old) (F.faults files.new)) s) }
 {
     match text_in(alloc, files, name, 2) {
         Ok(text) => script_by(alloc, policies, &text),
@@ -133,7 +149,7 @@ pub fn prepare<F: Files>(
         Ok(policies) => policies,
         Err(status) => return Err(status),
     };
-    match script_in(alloc, files, policies.list.as_slice(), script) {
+    match script_in(alloc, files, &policies, script) {
         Ok(script) => Ok(Prepared { policies, script }),
         Err(status) => Err(status),
     }

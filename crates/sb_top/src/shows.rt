@@ -1,26 +1,23 @@
 // The run of a script under policies, and its transcript put line by line.
-ghost use Rattle.std.specs.Prelude.{◌≡◌, ◌≤◌, ◌<◌, ◌^◌, length, true, Ok, Some, IfOk};
-ghost use Rattle.std.specs.List.{list_all};
-ghost use Rattle.sb_book.specs.Histories.{IsLegalHistory};
+ghost use Rattle.std.specs.Prelude.{◌≡◌, ◌≤◌, ◌<◌, ◌^◌, true, Ok, Some, IfOk};
+ghost use Rattle.sb_book.specs.Histories.{setting_of, IsLegalHistory};
+ghost use Rattle.sb_book.specs.Readiness.{is_ready};
 ghost use Rattle.sb_book.specs.Reports.{result_count};
-ghost use Rattle.sb_core.specs.Laws.{setting};
 ghost use Rattle.sb_core.specs.Runs.{is_one_thread};
-ghost use Rattle.sb_first.specs.Scripts.{are_judged};
 ghost use Rattle.sb_outside.specs.Outside.{Rose};
-ghost use Rattle.sb_rule.specs.WellMade.{is_well_made};
 ghost use Rattle.sb_transcript.specs.Transcripts.{transcript};
-ghost use Rattle.sb_top.specs.Wanted.{Runs, target_policy, whole_run};
+ghost use Rattle.sb_top.specs.Wanted.{Runs, whole_run};
 ghost use Rattle.sb_top.specs.Outcomes.{IsCause, IsReported, IsWritten, IsSilent};
 ghost use Rattle.sb_top.specs.Refusals.{IsPut};
 
-use crate::judges::judge_of;
 use crate::outcomes::{Outcome, Status};
 use crate::prepared::Prepared;
 use sb_book::Report;
 use sb_call::Script;
+use sb_compile::Programs;
 use sb_core::{Ran, run, runs_are_legal};
 use sb_outside::{Sink, put_lines};
-use sb_rule::Policy;
+use sb_rule::Policies;
 use sb_transcript::transcript_lines;
 use sb_wide::NoMemory;
 use std::alloc::Global;
@@ -28,19 +25,18 @@ use std::alloc::Global;
 /// A run has so many rounds where no schedule says otherwise.
 const ROUNDS: u32 = 20_000_000;
 
-// The run of a script under policies.
-#[tactic(auto, unfolding(crate::specs::Wanted::whole_run))]
-fn run_whole(alloc: Global, policies: &[Policy], script: &Script) -> Result<Ran, NoMemory>
-    requires well_made { list_all is_well_made policies.now ≡ true }
-    requires judged { are_judged (length policies.now) script.now.targets ≡ true }
+// The run of a script, whose calls are judged by the programs of the policies.
+#[tactic(auto, unfolding(crate::specs::Wanted::whole_run), using(crate::proofs::Ready::ready_made))]
+fn run_whole(alloc: Global, policies: &Policies, script: &Script) -> Result<Ran, NoMemory>
+    requires ready { is_ready policies.now.list script.now ≡ true }
     requires runs { is_one_thread script.now ≡ true }
-    ensures value { IfOk result (λ r. r ≡ whole_run policies.now script.now) }
+    ensures value { IfOk result (λ r. r ≡ whole_run policies.now.list script.now) }
     ensures few { IfOk result (λ r. result_count r.report.results < 2 ^ 62) }
-    ensures legal { IfOk result (λ r. IsLegalHistory (setting (target_policy policies.now script.now)) r.report.entries) }
+    ensures legal { IfOk result (λ r. IsLegalHistory (setting_of policies.now.list script.now) r.report.entries) }
 {
     runs_are_legal();
-    let judge = judge_of(alloc, policies, script)?;
-    run(alloc, &judge, script, ROUNDS)
+    let judge = Programs::new(alloc, policies, script)?;
+    run(alloc, &judge, policies, script, ROUNDS)
 }
 
 // Puts the transcript, one put a line. All lines are made before the first put, and no put follows one that failed.
@@ -72,7 +68,7 @@ pub fn show<K: Sink>(alloc: Global, prepared: &Prepared, out: &mut K) -> Outcome
     ensures done_count { result.status ≡ Status.Done → K.faults out.new ≡ K.faults out.old }
 {
     let script = &prepared.script;
-    let Ok(ran) = run_whole(alloc, prepared.policies.list.as_slice(), script) else {
+    let Ok(ran) = run_whole(alloc, &prepared.policies, script) else {
         return Outcome {
             status: Status::NoMemory,
             report: None,

@@ -3,7 +3,7 @@ ghost use Rattle.std.specs.Prelude.{◌≡◌, ◌≢◌, ◌≤◌, ◌↔◌, 
 ghost use Rattle.sb_outside.specs.Outside.{Rose};
 ghost use Rattle.sb_top.specs.Commands.{command_of, file_count, is_run, texts};
 ghost use Rattle.sb_top.specs.Wanted.{wanted_of, wanted_check, wanted_replay};
-ghost use Rattle.sb_top.specs.Outcomes.{IsCause, IsReported, IsWritten, IsSilent};
+ghost use Rattle.sb_top.specs.Outcomes.{IsCause, IsComplete, IsReported, IsWritten, IsSilent};
 
 use crate::commands::{CommandWords, command_of};
 use crate::outcomes::{Outcome, Status};
@@ -66,6 +66,7 @@ fn replay<F: Files, K: Sink>(
     }
 }
 
+#[tactic(auto, using(crate::proofs::Complete::complete))]
 /// All that the program does, over any files and any output: reads the words, and carries out the command that they are.
 ///
 /// It always answers, since no command that waits for another thread exists yet. It waits for nobody.
@@ -92,11 +93,14 @@ pub fn plain_top<F: Files, K: Sink>(
     ensures done_files { IfSome result (λ o. o.status ≡ Status.Done → F.faults files.new ≡ F.faults files.old) }
     ensures done_sink { IfSome result (λ o. o.status ≡ Status.Done → K.faults out.new ≡ K.faults out.old) }
 
+    // Where the words and the files come to work, and neither count rose, the work comes to its end, if there was memory.
+    ensures complete { IfSome result (λ o. IsComplete (option_map (wanted_of (texts words.now)) (F.held files.old)) (Rose (F.faults files.old) (F.faults files.new)) (Rose (K.faults out.old) (K.faults out.new)) o.status) }
+
     // The report is that of the run of the script under the policies that the texts mean, and its entries are a legal history. A check
     // has none.
     ensures report { IfSome result (λ o. IsReported (is_run (command_of (texts words.now))) (option_map (wanted_of (texts words.now)) (F.held files.old)) o.report o.status) }
 
-    // The output grew by exactly the transcript of script and report, or of a check the policies as a text, after a write fault by a
+    // The output grew by exactly the transcript of script and report, or of a check the policies as a text and the listings of their programs, after a write fault by a
     // prefix of it, else by nothing.
     ensures written { IfSome result (λ o. IsWritten (option_map (wanted_of (texts words.now)) (F.held files.old)) (K.written out.old) (K.written out.new) o.status) }
 {

@@ -3,8 +3,7 @@ use Rattle.std.specs.Prelude.{ℕ, List, [], ◌++◌, codes, Option, None, Some
 use Rattle.std.specs.List.{flat_map}
 use Rattle.std.specs.Fmt.{decimal}
 use Rattle.sb_wide.specs.Quoting.{quoted}
-use Rattle.sb_call.specs.declared.tags.CallTag.{CallTag}
-use Rattle.sb_call.specs.declared.tags.CallTag.TheVariants.{Ping, FileCreate, FileOpen, FileQuery, FileRename, PipeCreate, KeyCreate, KeyOpen, EventCreate, EventOpen, HandleClose}
+use Rattle.sb_call.specs.CallWords.{call_word}
 use Rattle.sb_call.specs.declared.arguments.Arg.{Arg}
 use Rattle.sb_call.specs.declared.arguments.Arg.TheVariants.{Num, Str}
 use Rattle.sb_call.specs.declared.replies.Reply.{Reply}
@@ -21,20 +20,6 @@ use Rattle.sb_book.specs.declared.decisions.Decision.{Decision}
 use Rattle.sb_book.specs.declared.decisions.Decision.TheVariants.{Refused, Denied, Faked, Performed}
 use Rattle.sb_book.specs.declared.entries.Entry.{Entry}
 use Rattle.sb_transcript.specs.Numbers.{hexadecimal, eight_digits, comma_words}
-
--- a call by its name
-abbrev pub call_text : CallTag → List ℕ
-call_text Ping = codes "ping"
-call_text FileCreate = codes "file.create"
-call_text FileOpen = codes "file.open"
-call_text FileQuery = codes "file.query"
-call_text FileRename = codes "file.rename"
-call_text PipeCreate = codes "pipe.create"
-call_text KeyCreate = codes "key.create"
-call_text KeyOpen = codes "key.open"
-call_text EventCreate = codes "event.create"
-call_text EventOpen = codes "event.open"
-call_text HandleClose = codes "handle.close"
 
 -- a fault by its name, and its values
 abbrev pub fault_text : BlockFault → List ℕ
@@ -77,10 +62,10 @@ verdict_text (verdict.Rule line action) = denial_word action ++ decimal line
 -- a decision: its fault, or its call with the rule that decided
 abbrev pub decision_text : Decision → List ℕ
 decision_text (Refused fault) = codes "refused " ++ fault_text fault
-decision_text (Denied tag verdict) = codes "denied " ++ call_text tag ++ verdict_text verdict
-decision_text (Faked tag line) = codes "faked " ++ call_text tag ++ codes " rule " ++ decimal line
+decision_text (Denied tag verdict) = codes "denied " ++ call_word tag ++ verdict_text verdict
+decision_text (Faked tag line) = codes "faked " ++ call_word tag ++ codes " rule " ++ decimal line
 decision_text (Performed tag line action args) =
-    codes "performed " ++ call_text tag ++ flat_map argument_text args ++ grant_word action ++ decimal line
+    codes "performed " ++ call_word tag ++ flat_map argument_text args ++ grant_word action ++ decimal line
 
 -- outcome, status, handle and the extended words of a reply
 abbrev pub reply_text : Reply → List ℕ

@@ -2,34 +2,15 @@
 ghost use Rattle.std.specs.Prelude.{◌≡◌, ◌++◌, codes, IfOk, OnOk};
 ghost use Rattle.std.specs.Fmt.{decimal};
 ghost use Rattle.std.specs.List.{flat_map};
-ghost use Rattle.sb_transcript.specs.EntryLines.{call_text, fault_text, argument_text, denial_word, grant_word, verdict_text, decision_text, reply_text, target_name, entry_line};
+ghost use Rattle.sb_transcript.specs.EntryLines.{fault_text, argument_text, denial_word, grant_word, verdict_text, decision_text, reply_text, target_name, entry_line};
 
 use crate::numbers::{put_comma_words, put_decimal, put_eight_digits, put_hexadecimal};
 use sb_block::BlockFault;
 use sb_book::{Decision, Entry};
-use sb_call::{Arg, CallTag, Reply, Script};
+use sb_call::{Arg, Reply, Script, call_word};
 use sb_rule::{Action, Verdict};
 use sb_wide::{NoMemory, quote_into};
 use std::alloc::Global;
-
-/// The name of a call.
-pub fn call_text(tag: CallTag) -> &'static [u8]
-    ensures { result.now ≡ call_text tag }
-{
-    match tag {
-        CallTag::Ping => b"ping",
-        CallTag::FileCreate => b"file.create",
-        CallTag::FileOpen => b"file.open",
-        CallTag::FileQuery => b"file.query",
-        CallTag::FileRename => b"file.rename",
-        CallTag::PipeCreate => b"pipe.create",
-        CallTag::KeyCreate => b"key.create",
-        CallTag::KeyOpen => b"key.open",
-        CallTag::EventCreate => b"event.create",
-        CallTag::EventOpen => b"event.open",
-        CallTag::HandleClose => b"handle.close",
-    }
-}
 
 /// Appends a name and a number in decimal.
 pub fn put_named(line: &mut Vec<u8>, name: &[u8], value: u64) -> Result<(), NoMemory>
@@ -129,12 +110,12 @@ fn put_decision(line: &mut Vec<u8>, decision: &Decision) -> Result<(), NoMemory>
         }
         Decision::Denied { tag, verdict } => {
             line.extend_from_slice(b"denied ")?;
-            line.extend_from_slice(call_text(*tag))?;
+            line.extend_from_slice(call_word(*tag))?;
             put_verdict(line, *verdict)
         }
         Decision::Faked { tag, line: number } => {
             line.extend_from_slice(b"faked ")?;
-            line.extend_from_slice(call_text(*tag))?;
+            line.extend_from_slice(call_word(*tag))?;
             put_named(line, b" rule ", u64::from(*number))
         }
         Decision::Performed {
@@ -144,7 +125,7 @@ fn put_decision(line: &mut Vec<u8>, decision: &Decision) -> Result<(), NoMemory>
             args,
         } => {
             line.extend_from_slice(b"performed ")?;
-            line.extend_from_slice(call_text(*tag))?;
+            line.extend_from_slice(call_word(*tag))?;
             put_arguments(line, args.as_slice())?;
             put_named(line, grant_word(*action), u64::from(*number))
         }

@@ -13,11 +13,10 @@ returns-in-Err-clause-cause g c =
 pub returns-in-Err-script_in-clause-cause : goal.returns-in-Err-script_in-clause-cause
 returns-in-Err-script_in-clause-cause g c =
     let held = g.F.Files.held c.args.files.now in
-    let list : c.as_slice.result.now ≡ c.in-Ok.policies.list = c.as_slice.ensures in
     let kept : g.F.Files.held c.policies_in.new.files ≡ held = c.in-Ok.ensures.kept in
     let count : g.F.Files.faults c.policies_in.new.files ≡ g.F.Files.faults c.args.files.now = c.in-Ok.ensures.ok_count in
-    let found : IsRefused 2 (option_map (script_in c.as_slice.result.now c.args.script.now) (g.F.Files.held c.policies_in.new.files))
+    let found : IsRefused 2 (option_map (script_in c.in-Ok.policies.list c.args.script.now) (g.F.Files.held c.policies_in.new.files))
     (Rose (g.F.Files.faults c.policies_in.new.files) (g.F.Files.faults c.script_in.new.files)) c.in-Err-script_in.status = c.in-Err-script_in.ensures.err in
     let refused : IsRefused 2 (option_map (script_in c.in-Ok.policies.list c.args.script.now) held)
-    (Rose (g.F.Files.faults c.args.files.now) (g.F.Files.faults c.script_in.new.files)) c.in-Err-script_in.status = rw count at (rw kept at (rw list at found)) in
+    (Rose (g.F.Files.faults c.args.files.now) (g.F.Files.faults c.script_in.new.files)) c.in-Err-script_in.status = rw count at (rw kept at found) in
     script_refused c.args.policy.now c.args.script.now c.in-Ok.policies.list held _ c.in-Err-script_in.status c.in-Ok.ensures.ok refused

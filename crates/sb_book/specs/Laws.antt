@@ -1,0 +1,55 @@
+-- Laws of histories.
+use Rattle.std.specs.Prelude.{◌≡◌, ℕ, ◌<◌, Bool, true, false, List, ◌++◌, length, slice_index}
+use Rattle.std.specs.List.{filter}
+use Rattle.sb_call.specs.declared.arguments.Arg.{Arg}
+use Rattle.sb_call.specs.declared.tags.CallTag.{CallTag}
+use Rattle.sb_block.specs.Calls.{call_of}
+use Rattle.sb_block.specs.Copies.{Copied}
+use Rattle.sb_rule.specs.Verdicts.{verdict_of}
+use Rattle.sb_rule.specs.declared.actions.Action.{Action}
+use Rattle.sb_rule.specs.declared.actions.Action.TheVariants.{Allow, Deny, Alarm, Fake, ReadOnly}
+use Rattle.sb_rule.specs.declared.policies.Policy.{Policy}
+use Rattle.sb_rule.specs.declared.verdicts.Verdict.TheVariants as verdict
+use Rattle.sb_kernel.specs.Namespaces.{Space}
+use Rattle.sb_book.specs.Decisions.{decision_of, read_only_args}
+use Rattle.sb_rule.specs.Verdicts.{policy_at}
+use Rattle.sb_book.specs.Histories.{History, IsHistory, Setting, IsLegalHistory, answered, space_from}
+use Rattle.sb_book.specs.declared.decisions.Decision.{Decision}
+use Rattle.sb_book.specs.declared.decisions.Decision.TheVariants.{Refused, Denied, Faked, Performed}
+use Rattle.sb_book.specs.declared.entries.Entry.{Entry}
+
+-- every front of a legal history is one
+abbrev pub FrontsAreLegal : Type 0
+FrontsAreLegal = (s : Setting) (front rest : List Entry) → IsLegalHistory s (front ++ rest) → IsLegalHistory s front
+
+-- the call was performed
+abbrev pub is_performed : Entry → Bool
+is_performed e = elim e.decision [
+  | Performed tag line action args ↦ true
+  | _ ↦ false
+]
+
+-- the namespace after entries is that after those alone whose calls were performed
+abbrev pub OnlyPerformedCallsCount : Type 0
+OnlyPerformedCallsCount = (ns : Space) (entries : List Entry) → space_from ns (filter is_performed entries) ≡ space_from ns entries
+
+-- the arguments that an action grants of those in the copy: allow all, and readonly with the access cut to the bits that read
+abbrev pub Grants : Action → List Arg → List Arg → Type 0
+Grants Allow asked given = given ≡ asked
+Grants ReadOnly asked given = given ≡ read_only_args asked
+Grants Deny asked given = ⊥
+Grants Alarm asked given = ⊥
+Grants Fake asked given = ⊥
+
+-- a call that is performed is the copy's, its rule on this line says so of the copy's arguments, and the arguments are those that the
+-- rule's action grants
+abbrev pub PerformedCallsAreAllowed : Type 0
+PerformedCallsAreAllowed = (policy : Policy) (copy : Copied) (tag : CallTag) (line : ℕ) (action : Action) (args : List Arg)
+    → decision_of policy copy ≡ Performed tag line action args
+    → ((call_of copy).tag ≡ tag) × (verdict_of policy tag (call_of copy).args ≡ verdict.Rule line action) × Grants action (call_of copy).args args
+
+-- an answer to a copy, decided by the policy of its target, leaves a history
+abbrev pub AnswersKeepHistories : Type 0
+AnswersKeepHistories = (h : History) (target channel : ℕ) (taken : Copied) (decision : Decision) → target < length h.setting.policies
+    → channel < slice_index h.setting.channels target → decision ≡ decision_of (policy_at h.setting.policies target) taken → IsHistory h
+    → IsHistory (answered h target channel taken decision)
