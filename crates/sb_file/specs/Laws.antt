@@ -1,12 +1,13 @@
 -- Laws of files and directories.
-use Rattle.std.specs.Prelude.{◌≡◌, ◌≤◌, ◌+◌, ◌⊎◌, ℕ, Bool, true, false, ◌||◌, ◌==◌, List, [], ◌∷◌, ◌++◌, drop, length, Option, None, Some, if◌then◌else◌}
+use Rattle.std.specs.Prelude.{◌≡◌, ◌≤◌, ◌+◌, ◌⊎◌, ℕ, Bool, true, false, ◌&&◌, ◌||◌, ◌==◌, nat_eq, List, [], ◌∷◌, ◌++◌, drop, length, Option, None, Some, if◌then◌else◌}
+use Rattle.std.specs.Cmp.Lexicographic.{pointwise}
 use Rattle.sb_call.specs.Statuses.{success}
 use Rattle.sb_handles.specs.Agreements.{is_file}
 use Rattle.sb_handles.specs.Tables.{Table, IsTable, held_by, with_handle, without_handle}
 use Rattle.sb_handles.specs.declared.objects.Held.{Held}
 use Rattle.sb_names.specs.Keys.{key_of, is_below}
 use Rattle.sb_names.specs.Maps.{Rows, Rises, found, is_key, is_there}
-use Rattle.sb_file.specs.Creation.{create}
+use Rattle.sb_file.specs.Creation.{create, open_file, was_created}
 use Rattle.sb_file.specs.Files.{Files, AreFiles, Agrees, rename, closed}
 
 -- a file.create that answers a status other than success leaves files and handles as they are; so does file.open, which is
@@ -32,6 +33,23 @@ CreatesGrantFiles = (files : Files) (handles : Table) (target : ℕ) (name : Lis
 abbrev pub CreatesMakeOne : Type 0
 CreatesMakeOne = (files : Files) (handles : Table) (target : ℕ) (name : List ℕ) (attributes access sharing disposition options : ℕ)
     → length (create files handles target name attributes access sharing disposition options).service.objects ≤ length files.objects + 1
+
+-- the extended words say that a file or directory was made
+abbrev pub says_made : List ℕ → Bool
+says_made words = pointwise nat_eq words (was_created ∷ [])
+
+-- what was made is found under its name, with the number that follows those of all objects; every other name is found as before
+abbrev pub CreatesAreFound : Type 0
+CreatesAreFound = (files : Files) (handles : Table) (target : ℕ) (name other : List ℕ) (attributes access sharing disposition options : ℕ)
+    → found (create files handles target name attributes access sharing disposition options).service.names other
+    ≡ (if says_made (create files handles target name attributes access sharing disposition options).answer.ext && is_key (key_of other) (key_of name)
+    then Some (length files.objects + 1)
+    else found files.names other)
+
+-- a file.open makes nothing
+abbrev pub OpensLeaveNames : Type 0
+OpensLeaveNames = (files : Files) (handles : Table) (target : ℕ) (name : List ℕ) (access sharing options : ℕ)
+    → (open_file files handles target name access sharing options).service.names ≡ files.names
 
 -- a rename leaves all objects and open handles
 abbrev pub RenamesKeepObjects : Type 0

@@ -1,5 +1,5 @@
 // Laws of files and directories. None of these functions changes anything: each contract is a law.
-ghost use Rattle.sb_file.specs.Laws.{CreatesGrantFiles, CreatesMakeOne, RefusalsChangeNothing, RefusedRenamesChangeNothing, RenamesAreExact, RenamesKeepObjects, RenamesMove, RenamesLeaveNothing, RenamesLeaveOthers, ClosesKeepFiles, ClosesLeaveFiles, GrantsLeaveFiles};
+ghost use Rattle.sb_file.specs.Laws.{CreatesAreFound, CreatesGrantFiles, CreatesMakeOne, OpensLeaveNames, RefusalsChangeNothing, RefusedRenamesChangeNothing, RenamesAreExact, RenamesKeepObjects, RenamesMove, RenamesLeaveNothing, RenamesLeaveOthers, ClosesKeepFiles, ClosesLeaveFiles, GrantsLeaveFiles};
 
 use sb_handles::agreement_is_kept as shares_are_kept;
 use sb_names::puts_are_found;
@@ -17,6 +17,15 @@ pub fn creates_grant_files()
     ensures granted { CreatesGrantFiles }
     ensures made { CreatesMakeOne }
 {}
+
+/// The file or directory found under a name is the one that was made there, whatever file.create or file.open came after.
+#[tactic(auto, using(crate::proofs::CreationLaws::creates_are_found, crate::proofs::CreationLaws::opens_leave_names))]
+pub fn files_are_found_where_made()
+    ensures creates { CreatesAreFound }
+    ensures opens { OpensLeaveNames }
+{
+    puts_are_found::<u64>();
+}
 
 /// After a rename each name below the old one is found at its new place, with the same object, and nowhere else. All other
 /// names are found as before.

@@ -10,6 +10,7 @@ mod tests;
 
 pub use files::FileService;
 pub use laws::{
-    agreement_is_kept, creates_grant_files, refusals_change_nothing, renames_move_names,
+    agreement_is_kept, creates_grant_files, files_are_found_where_made, refusals_change_nothing,
+    renames_move_names,
 };
 pub use objects::{FileKind, FileObject};
