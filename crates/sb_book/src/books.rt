@@ -161,7 +161,7 @@ fn carry_out(
 }
 
 // The policy of each target, in memory of its own.
-fn policies_of(
+pub(crate) fn policies_of(
     alloc: Global,
     policies: &[Policy],
     targets: &[TargetScript],

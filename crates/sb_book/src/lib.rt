@@ -6,6 +6,8 @@ mod decisions;
 mod entries;
 mod laws;
 mod reports;
+#[cfg(test)]
+mod tests;
 
 pub use books::{Book, ChannelCounts};
 pub use decisions::{Decision, decide};
