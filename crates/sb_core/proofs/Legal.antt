@@ -1,9 +1,11 @@
 -- A run appends legal entries alone.
-use Rattle.std.proofs.Common.{◌≡◌, ◌∙◌, ℕ, zero, suc, ◌<◌, Bool, true, false, ◌==◌, if◌then◌else◌, List, [], ◌∷◌, length, map, Option, None, refl, sym, ap, subst, arith}
-use Rattle.std.specs.Prelude.{slice_index}
+use Rattle.std.proofs.Common.{◌≡◌, ◌∙◌, ℕ, zero, suc, ◌<◌, Bool, true, false, if◌then◌else◌, List, [], ◌∷◌, length, map, Option, None, Some, refl, sym, ap, subst, arith}
+use Rattle.std.specs.Prelude.{nat_le, slice_index}
+use Rattle.std.specs.List.{list_all}
 use Rattle.std.proofs.lemmas.List.{length-map}
-use Rattle.std.proofs.lemmas.Bool.{false≢true}
+use Rattle.std.proofs.lemmas.Bool.{and_parts}
 use Rattle.std.proofs.lemmas.Bool.Decides.{nat_tests}
+use Rattle.std.proofs.lemmas.Grind.{common_steps}
 use Rattle.sb_block.specs.Copies.{Copied}
 use Rattle.sb_call.specs.declared.scripts.Script.{Script}
 use Rattle.sb_call.specs.declared.scripts.TargetScript.{TargetScript}
@@ -14,7 +16,8 @@ use Rattle.sb_book.specs.Decisions.{decision_of}
 use Rattle.sb_book.specs.Histories.{History, IsHistory, IsLegalHistory, Setting, answered, new_history, setting_of}
 use Rattle.sb_book.specs.Laws.{AnswersKeepHistories}
 use Rattle.sb_core.specs.Laws.{RunsAreLegal}
-use Rattle.sb_core.specs.Runs.{are_calls, first_policy, is_one_thread, only_thread, only_thread_of, ran_from, statements_of}
+use Rattle.sb_core.specs.Runs.{first_policy, ran_by, ran_from}
+use Rattle.sb_core.specs.Single.{first_thread, is_single, is_single_threaded}
 use Rattle.sb_core.specs.Workers.{worker_book}
 use Rattle.sb_core.specs.Worlds.{start_world, worker_step, round, rounds, drained, is_finished, is_settled}
 use Rattle.sb_core.specs.declared.runs.Ran.{Ran}
@@ -94,30 +97,37 @@ module _ (law : AnswersKeepHistories) (s : Setting) (p : Policy) where
   legal_from ss w book =
       one_ran (is_finished ss w) _ _ (entries_legal (drained 100 p w).book (legal_drained 100 w book)) (entries_legal w.book book)
 
--- a script of one thread has a target, with a channel
-some_target : (targets : List TargetScript) → are_calls (only_thread_of targets) ≡ true → 0 < length targets
-some_target [] h = absurd (false≢true h)
-some_target (target ∷ targets) h = omega arith
+-- a script with a thread has a target
+some_target : (targets : List TargetScript) (statements : List Statement) → first_thread targets ≡ Some statements → 0 < length targets
+some_target [] statements e = cc
+some_target (target ∷ others) statements e = omega arith
 
-some_channel : (targets : List TargetScript) → are_calls (only_thread_of targets) ≡ true → 0 < slice_index (map (λ target. target.channels) targets) 0
-some_channel [] h = absurd (false≢true h)
-some_channel (target ∷ []) h = by (target.channels == 1) refl h
-  where
-    by : (b : Bool) → (target.channels == 1) ≡ b → are_calls (if b then only_thread target.threads else None) ≡ true → 0 < target.channels
-    by true e h = grind (arith, nat_tests, e)
-    by false e h = absurd (false≢true h)
-some_channel (target ∷ more ∷ others) h = absurd (false≢true h)
+-- and the target has a channel
+some_channel : (targets : List TargetScript) → list_all is_single targets ≡ true → 0 < length targets
+    → 0 < slice_index (map (λ target. target.channels) targets) 0
+some_channel [] each there = absurd (omega arith)
+some_channel (target ∷ others) each there = grind (arith, nat_tests, common_steps)
 
-pub runs_are_legal : AnswersKeepHistories → RunsAreLegal
-runs_are_legal law policies script count one =
+-- the run of a thread
+legal_run : (law : AnswersKeepHistories) (policies : List Policy) (script : Script) (statements : List Statement) (count : ℕ) → is_single_threaded script ≡ true
+    → first_thread script.targets ≡ Some statements → IsLegalHistory (setting_of policies script) (ran_by (Some statements) policies script count).report.entries
+legal_run law policies script statements count single e =
     let s = setting_of policies script in
     let p = first_policy policies script in
+    let there = some_target script.targets statements e in
+    let each = (and_parts (nat_le (length script.targets) 1) (list_all is_single script.targets) single).1 in
     let start : IsLegalBook s p (new_history s) = record {
       setting = refl;
-      target = rw length-map (some_target script.targets one);
-      channel = some_channel script.targets one;
+      target = rw length-map there;
+      channel = some_channel script.targets each there;
       policy = refl;
       history = record { legal = tt; led = refl };
     } in
-    legal_from law s p (statements_of script) (rounds count p (statements_of script) (start_world s))
-    (legal_rounds law s p count (statements_of script) (start_world s) start)
+    legal_from law s p statements (rounds count p statements (start_world s)) (legal_rounds law s p count statements (start_world s) start)
+
+pub runs_are_legal : AnswersKeepHistories → RunsAreLegal
+runs_are_legal law policies script count single = by (first_thread script.targets) refl
+  where
+    by : (o : Option (List Statement)) → first_thread script.targets ≡ o → IsLegalHistory (setting_of policies script) (ran_by o policies script count).report.entries
+    by None e = tt
+    by (Some statements) e = legal_run law policies script statements count single e

@@ -1,3 +1,5 @@
+pub mod Counts
+pub mod Idle
 pub mod Places
 pub mod Rounds
 pub mod Legal

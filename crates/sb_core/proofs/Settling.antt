@@ -11,7 +11,7 @@ use Rattle.sb_rule.specs.declared.policies.Policy.{Policy}
 use Rattle.sb_core.specs.Channels.{state_of, block_word, with_block_word, exchanged}
 use Rattle.sb_core.specs.Laws.{DrainsSettle, RunsSettle}
 use Rattle.sb_book.specs.Histories.{setting_of}
-use Rattle.sb_core.specs.Runs.{first_policy, statements_of}
+use Rattle.sb_core.specs.Runs.{first_policy}
 use Rattle.sb_call.specs.declared.statements.Statement.{Statement}
 use Rattle.sb_core.specs.Workers.{worker_after, worker_words, is_worker_sound, is_looking}
 use Rattle.sb_core.specs.Threads.{thread_row, mark_at, block_at}
@@ -167,7 +167,7 @@ sound_rounds (suc n) policy ss w sound =
     case_sound (is_finished ss w) w (rounds n policy ss (round policy ss w)) sound (sound_rounds n policy ss (round policy ss w) (sound_round policy ss w sound))
 
 pub runs_settle : RunsSettle
-runs_settle policies script count =
+runs_settle policies script statements count =
     let policy = first_policy policies script in
     let start = start_world (setting_of policies script) in
-    drains_settle policy (rounds count policy (statements_of script) start) (sound_rounds count policy (statements_of script) start refl)
+    drains_settle policy (rounds count policy statements start) (sound_rounds count policy statements start refl)

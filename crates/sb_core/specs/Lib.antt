@@ -1,6 +1,7 @@
 pub mod Channels
 pub mod Workers
 pub mod Threads
+pub mod Single
 pub mod Worlds
 pub mod Runs
 pub mod Laws

@@ -1,6 +1,5 @@
--- A whole run of a script's one thread.
-use Rattle.std.specs.Prelude.{ℕ, Bool, false, ◌&&◌, ◌==◌, nat_le, if◌then◌else◌, List, [], ◌∷◌, length, Option, None, Some}
-use Rattle.std.specs.List.{list_all}
+-- A whole run of a script that has at most one thread.
+use Rattle.std.specs.Prelude.{ℕ, if◌then◌else◌, List, [], ◌∷◌, map, Option, None, Some}
 use Rattle.sb_call.specs.declared.scripts.Script.{Script}
 use Rattle.sb_call.specs.declared.scripts.TargetScript.{TargetScript}
 use Rattle.sb_call.specs.declared.statements.Statement.{Statement}
@@ -8,38 +7,14 @@ use Rattle.sb_rule.specs.declared.policies.Policy.{Policy}
 use Rattle.sb_rule.specs.Verdicts.{policy_at}
 use Rattle.sb_book.specs.Histories.{setting_of}
 use Rattle.sb_book.specs.declared.reports.Report.{Report}
-use Rattle.sb_core.specs.Threads.{is_sendable}
+use Rattle.sb_core.specs.Single.{first_thread}
 use Rattle.sb_core.specs.Worlds.{start_world, rounds, drained, is_finished}
 use Rattle.sb_core.specs.declared.runs.Ran.{Ran}
 use Rattle.sb_core.specs.declared.worlds.World.{World}
 
--- the only thread among threads, where there is one
-abbrev pub only_thread : List (List Statement) → Option (List Statement)
-only_thread [] = None
-only_thread (statements ∷ []) = Some statements
-only_thread (statements ∷ more ∷ others) = None
-
--- the only thread of the only target, where there is one and the target has one channel
-abbrev pub only_thread_of : List TargetScript → Option (List Statement)
-only_thread_of [] = None
-only_thread_of (target ∷ []) = if target.channels == 1 then only_thread target.threads else None
-only_thread_of (target ∷ more ∷ others) = None
-
-abbrev pub are_calls : Option (List Statement) → Bool
-are_calls None = false
-are_calls (Some statements) = nat_le (length statements) 4096 && list_all is_sendable statements
-
--- the script has one target with one channel and one thread, which makes at most 4,096 calls that can be sent
-abbrev pub is_one_thread : Script → Bool
-is_one_thread script = are_calls (only_thread_of script.targets)
-
-abbrev pub statements_by : Option (List Statement) → List Statement
-statements_by None = []
-statements_by (Some statements) = statements
-
--- the statements of that thread
-abbrev pub statements_of : Script → List Statement
-statements_of script = statements_by (only_thread_of script.targets)
+-- the policy of the first target
+abbrev pub first_policy : List Policy → Script → Policy
+first_policy policies script = policy_at (setting_of policies script).policies 0
 
 -- the entries and the results so far
 abbrev pub report_of : World → Report
@@ -51,12 +26,17 @@ ran_from policy statements w =
     if is_finished statements w then record { report = report_of (drained 100 policy w); unfinished = None }
     else record { report = report_of w; unfinished = Some (0, 0) }
 
--- the policy of the first target
-abbrev pub first_policy : List Policy → Script → Policy
-first_policy policies script = policy_at (setting_of policies script).policies 0
+-- where there is no thread, nothing is decided, and each target has no results
+abbrev pub idle_report : List TargetScript → Report
+idle_report targets = record { entries = []; results = map (λ target. []) targets }
 
--- at most so many rounds, and the drain where the thread is finished
+-- the run of a thread, where there is one: at most so many rounds, and the drain where the thread is finished
+abbrev pub ran_by : Option (List Statement) → List Policy → Script → ℕ → Ran
+ran_by None policies script count = record { report = idle_report script.targets; unfinished = None }
+ran_by (Some statements) policies script count =
+    ran_from (first_policy policies script) statements
+    (rounds count (first_policy policies script) statements (start_world (setting_of policies script)))
+
+-- the run of a script's only thread
 abbrev pub ran : List Policy → Script → ℕ → Ran
-ran policies script count =
-    ran_from (first_policy policies script) (statements_of script)
-    (rounds count (first_policy policies script) (statements_of script) (start_world (setting_of policies script)))
+ran policies script count = ran_by (first_thread script.targets) policies script count

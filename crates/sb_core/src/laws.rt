@@ -1,5 +1,5 @@
-// What holds of every run.
-ghost use Rattle.sb_core.specs.Laws.{DrainsSettle, RunsAreLegal, RunsSettle};
+// What holds of every run, and which scripts are run.
+ghost use Rattle.sb_core.specs.Laws.{CountsDecide, DrainsSettle, RunsAreLegal, RunsSettle};
 
 use sb_book::answers_keep_histories;
 
@@ -11,12 +11,18 @@ pub fn runs_are_legal()
     answers_keep_histories();
 }
 
+/// A sound script has one thread at most, whose calls can be sent, exactly where it has at most one target, and that at most one
+/// channel, at most one thread and calls alone.
+pub fn counts_decide()
+    ensures { CountsDecide }
+{}
+
 /// The drain leaves the worker looking, with nothing ready.
 pub fn drains_settle()
     ensures { DrainsSettle }
 {}
 
-/// After the rounds of a run, however many they are, the drain leaves the worker looking, with nothing ready.
+/// After the rounds of a run, whatever its thread makes and however many they are, the drain leaves the worker looking, with nothing ready.
 pub fn runs_settle()
     ensures { RunsSettle }
 {}

@@ -1,18 +1,19 @@
-// A whole run of a script's one thread.
-ghost use Rattle.std.specs.Prelude.{◌≡◌, ◌<◌, ◌≤◌, length, true, IfOk, option_map};
+// A whole run of a script that has at most one thread.
+ghost use Rattle.std.specs.Prelude.{◌≡◌, ◌<◌, ◌≤◌, [], length, map, true, IfOk};
 ghost use Rattle.std.specs.List.{list_all};
 ghost use Rattle.sb_rule.specs.Verdicts.{policy_at};
 ghost use Rattle.sb_core.specs.Threads.{is_sendable};
-ghost use Rattle.sb_core.specs.Runs.{only_thread_of, is_one_thread, ran_from, ran};
+ghost use Rattle.sb_core.specs.Single.{is_single_threaded};
+ghost use Rattle.sb_core.specs.Runs.{idle_report, ran_from, ran};
 ghost use Rattle.sb_book.specs.Reports.{result_count};
 ghost use Rattle.sb_book.specs.Histories.{setting_of};
 ghost use Rattle.sb_book.specs.Readiness.{is_ready};
 ghost use Rattle.sb_core.specs.Worlds.{rounds, is_sound, IsCounted, IsJudgedBy};
 
-use crate::threads::is_sendable;
+use crate::single::first_thread;
 use crate::worlds::World;
-use sb_book::Report;
-use sb_call::{Script, Statement};
+use sb_book::{Entries, Report, Results, TargetResults};
+use sb_call::{Script, Statement, TargetScript};
 use sb_rule::{Judge, Policies};
 use sb_wide::NoMemory;
 use std::alloc::Global;
@@ -26,33 +27,27 @@ pub struct Ran {
     pub unfinished: Option<(u32, u32)>,
 }
 
-// The statements of the only thread of the only target, where there is one and the target has one channel.
-fn only_thread(script: &Script) -> Option<&[Statement]>
-    ensures { option_map (λ s. s.now) result ≡ only_thread_of script.now.targets }
+// No results of each target.
+fn no_results(alloc: Global, targets: &[TargetScript]) -> Result<Results, NoMemory>
+    ensures { IfOk result (λ r. r ≡ map (λ target. []) targets.now) }
 {
-    match script.targets.as_slice() {
-        [target] if target.channels == 1 => match target.threads.as_slice() {
-            [statements] => Some(statements.as_slice()),
-            _ => None,
-        },
-        _ => None,
+    let mut results = Vec::new(alloc);
+    for _target in targets {
+        results.push(TargetResults::new(Vec::new(alloc)))?;
     }
+    Ok(Results::new(results))
 }
 
-fn are_sendable(statements: &[Statement]) -> bool
-    ensures { result ≡ list_all is_sendable statements.now }
+// What a run gives where there is no thread.
+#[tactic(auto, using(crate::proofs::Idle::no_results))]
+fn idle_report(alloc: Global, targets: &[TargetScript]) -> Result<Report, NoMemory>
+    ensures value { IfOk result (λ r. r ≡ idle_report targets.now) }
+    ensures none { IfOk result (λ r. result_count r.results ≡ 0) }
 {
-    statements.iter().all(|statement| is_sendable(statement))
-}
-
-/// Whether a script has one target with one channel and one thread, which makes at most 4,096 calls that can be sent.
-pub fn is_one_thread(script: &Script) -> bool
-    ensures { result ≡ is_one_thread script.now }
-{
-    match only_thread(script) {
-        Some(statements) => statements.len() <= 4096 && are_sendable(statements),
-        None => false,
-    }
+    Ok(Report {
+        entries: Entries::new(Vec::new(alloc)),
+        results: no_results(alloc, targets)?,
+    })
 }
 
 // Drains a finished world, and reports.
@@ -106,9 +101,10 @@ fn run_statements<J: Judge>(
     finish(alloc, judge, statements, world)
 }
 
-/// Runs the one thread of a script, which is ready for the policies, against one worker, in rounds of one step of the worker
-/// and one of the thread: at most so many, while the thread is unfinished. Where it is finished, the worker then serves what
-/// is still ready. The judge judges the script's targets by their policies.
+/// Runs a script, which is ready for the policies and has at most one thread. The thread runs against one worker, in rounds
+/// of one step of the worker and one of the thread: at most so many, while the thread is unfinished. Where it is finished, the
+/// worker then serves what is still ready. Without a thread nothing is decided, and each target has no results. The judge
+/// judges the script's targets by their policies.
 ///
 /// # Errors
 /// `NoMemory` where there was none for the run.
@@ -121,12 +117,15 @@ pub fn run<J: Judge>(
 ) -> Result<Ran, NoMemory>
     requires ready { is_ready policies.now.list script.now ≡ true }
     requires judge { J.policies judge.now ≡ (setting_of policies.now.list script.now).policies }
-    requires one { is_one_thread script.now ≡ true }
+    requires single { is_single_threaded script.now ≡ true }
     ensures value { IfOk result (λ r. r ≡ ran policies.now.list script.now count) }
     ensures few { IfOk result (λ r. result_count r.report.results ≤ 4096) }
 {
-    let Some(statements) = only_thread(script) else {
-        unreachable!();
+    let Some(statements) = first_thread(script) else {
+        return Ok(Ran {
+            report: idle_report(alloc, script.targets.as_slice())?,
+            unfinished: None,
+        });
     };
     let world = World::start(alloc, policies, script)?;
     run_statements(alloc, judge, statements, world, count)

@@ -6,7 +6,8 @@ use Rattle.sb_call.specs.declared.scripts.Script.{Script}
 use Rattle.sb_rule.specs.declared.policies.Policy.{Policy}
 use Rattle.sb_book.specs.Histories.{setting_of, IsLegalHistory}
 use Rattle.sb_core.specs.Laws.{RunsAreLegal}
-use Rattle.sb_core.specs.Runs.{is_one_thread, ran}
+use Rattle.sb_core.specs.Runs.{ran}
+use Rattle.sb_core.specs.Single.{is_single_threaded}
 use Rattle.sb_core.specs.declared.runs.Ran.{Ran}
 use Rattle.sb_top.specs.Refusals.{IsRefusal}
 use Rattle.sb_top.specs.Wanted.{whole_run}
@@ -14,7 +15,7 @@ use Rattle.sb_top.specs.declared.outcomes.Status.{Status}
 use Rattle.sb_top.specs.declared.outcomes.Status.TheVariants as status
 
 -- the entries of a run are a legal history
-pub legal_run : (law : RunsAreLegal) (policies : List Policy) (script : Script) (n : ℕ) (r : Result Ran NoMemory) → is_one_thread script ≡ true
+pub legal_run : (law : RunsAreLegal) (policies : List Policy) (script : Script) (n : ℕ) (r : Result Ran NoMemory) → is_single_threaded script ≡ true
     → IfOk r (λ x. x ≡ ran policies script n) → IfOk r (λ x. IsLegalHistory (setting_of policies script) x.report.entries)
 legal_run law policies script n (Ok x) one e =
     let P : Ran → Type 0 = λ y. IsLegalHistory (setting_of policies script) y.report.entries in subst P (sym e) (law policies script n one)

@@ -2,7 +2,7 @@
 use Rattle.std.proofs.Common.{◌≡◌, ◌≢◌, ◌∙◌, ℕ, ◌≤◌, Bool, true, false, if◌then◌else◌, List, length, Option, None, Some, refl, sym, ap, subst, lit≤}
 use Rattle.std.specs.Prelude.{nat_le, option_map, IfSome, IfOk, IfErr, Result, Ok, Err}
 use Rattle.sb_call.specs.declared.scripts.Script.{Script}
-use Rattle.sb_core.specs.Runs.{is_one_thread}
+use Rattle.sb_core.specs.Single.{is_single_threaded}
 use Rattle.sb_outside.specs.Outside.{Held}
 use Rattle.sb_rule.specs.declared.policies.Policies.{Policies}
 use Rattle.sb_rule.specs.declared.policies.Policy.{Policy}
@@ -114,7 +114,7 @@ reached_policies name held =
     reached_next 1 (text_in 1 (held name)) (λ text. policies_by (reading text)) (reached_text 1 1 (held name) (lit≤ tt)) (λ text. reached_policies_by (reading text))
 
 reached_script_by : (n : ℕ) (r : Result Script ScriptFault) → n ≤ 2 → IsReached n (script_by r)
-reached_script_by n (Ok script) h = reached_if n (is_one_thread script) (Ok script) (Err UnrunScript) tt h
+reached_script_by n (Ok script) h = reached_if n (is_single_threaded script) (Ok script) (Err UnrunScript) tt h
 reached_script_by n (Err fault) h = h
 
 reached_script : (n : ℕ) (policies : List Policy) (name : List ℕ) (held : Held) → n ≤ 2 → IsReached n (script_in policies name held)

@@ -9,7 +9,8 @@ use Rattle.sb_ruletext.specs.PolicyTexts.{reading}
 use Rattle.sb_ruletext.specs.Printing.{printed}
 use Rattle.sb_ruletext.specs.Steps.{◌>>=◌}
 use Rattle.sb_ruletext.specs.declared.faults.TextFault.{TextFault}
-use Rattle.sb_core.specs.Runs.{ran, is_one_thread}
+use Rattle.sb_core.specs.Runs.{ran}
+use Rattle.sb_core.specs.Single.{is_single_threaded}
 use Rattle.sb_core.specs.declared.runs.Ran.{Ran}
 use Rattle.sb_outside.specs.Outside.{Held}
 use Rattle.sb_script.specs.ScriptTexts as scripts
@@ -53,9 +54,9 @@ policies_by (Err fault) = Err (BadPolicy fault)
 abbrev pub policies_in : List ℕ → Held → Result (List Policy) Refusal
 policies_in name held = text_in 1 (held name) >>= λ text. policies_by (reading text)
 
--- a script can be run where it has one target with one channel and one thread, which only makes calls
+-- a script can be run where it has at most one target, with one channel and at most one thread, which only makes calls
 abbrev pub runnable : Script → Result Script Refusal
-runnable script = if is_one_thread script then Ok script else Err UnrunScript
+runnable script = if is_single_threaded script then Ok script else Err UnrunScript
 
 -- the script of a text, where it can be run, or the text's fault
 abbrev pub script_by : Result Script ScriptFault → Result Script Refusal

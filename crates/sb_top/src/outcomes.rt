@@ -17,8 +17,8 @@ pub enum Status {
     PolicyRefused(TextFault),
     /// The first fault of the text of the script.
     ScriptRefused(ScriptFault),
-    /// The file has a script that cannot be run yet: one of more than one target, channel or thread, or with statements other
-    /// than calls.
+    /// The file has a script that cannot be run yet: one of more than one target, of a target with more than one channel or
+    /// thread, or with a statement other than a call.
     NotYet { which: u8 },
     /// There is no such file.
     Missing { which: u8 },

@@ -1,7 +1,7 @@
 // Policies, and a script that can be run under them.
 ghost use Rattle.std.specs.Prelude.{◌≡◌, true};
 ghost use Rattle.sb_book.specs.Readiness.{is_ready};
-ghost use Rattle.sb_core.specs.Runs.{is_one_thread};
+ghost use Rattle.sb_core.specs.Single.{is_single_threaded};
 
 use sb_call::Script;
 use sb_rule::Policies;
@@ -14,5 +14,5 @@ pub struct Prepared {
     /// The script.
     pub script: Script,
     ghost ready: { is_ready policies.list script ≡ true },
-    ghost runs: { is_one_thread script ≡ true },
+    ghost runs: { is_single_threaded script ≡ true },
 }

@@ -1,7 +1,7 @@
 // The files of a command, read and found to be policies, and a script that can be run under them.
 ghost use Rattle.std.specs.Prelude.{◌≡◌, ◌≤◌, ◌<◌, ◌^◌, length, true, option_map, IfOk, IfErr, IfSome, OnOk, Ok};
 ghost use Rattle.sb_book.specs.Readiness.{is_ready};
-ghost use Rattle.sb_core.specs.Runs.{is_one_thread};
+ghost use Rattle.sb_core.specs.Single.{is_single_threaded};
 ghost use Rattle.sb_outside.specs.Outside.{Rose};
 ghost use Rattle.sb_rule.specs.WellMade.{are_well_made};
 ghost use Rattle.sb_ruletext.specs.PolicyTexts.{reading};
@@ -13,7 +13,7 @@ ghost use Rattle.sb_top.specs.Refusals.{IsRefusal, IsRefused, IsTextRefused, sta
 use crate::outcomes::Status;
 use crate::prepared::Prepared;
 use sb_call::Script;
-use sb_core::is_one_thread;
+use sb_core::is_single_threaded;
 use sb_outside::{FileFault, Files};
 use sb_rule::Policies;
 use sb_ruletext::{TextRefused, read_policies};
@@ -82,10 +82,10 @@ pub fn policies_in<F: Files>(alloc: Global, files: &mut F, name: &str) -> Result
 // The script itself, where it can be run.
 fn runnable(script: Script) -> Result<Script, Status>
     ensures ok { IfOk result (λ s. (s ≡ script) × (runnable script ≡ Ok s)) }
-    ensures runs { IfOk result (λ s. is_one_thread s ≡ true) }
+    ensures runs { IfOk result (λ s. is_single_threaded s ≡ true) }
     ensures err { IfErr result (λ s. IsTextRefused 2 (runnable script) s) }
 {
-    if is_one_thread(&script) {
+    if is_single_threaded(&script) {
         return Ok(script);
     }
     Err(Status::NotYet { which: 2 })
@@ -98,7 +98,7 @@ fn script_by(alloc: Global, policies: &Policies, text: &[u8]) -> Result<Script, 
     requires well_made { are_well_made policies.now.list ≡ true }
     ensures ok { IfOk result (λ s. script_by (scripts.reading policies.now.list text.now) ≡ Ok s) }
     ensures ready { IfOk result (λ s. is_ready policies.now.list s ≡ true) }
-    ensures runs { IfOk result (λ s. is_one_thread s ≡ true) }
+    ensures runs { IfOk result (λ s. is_single_threaded s ≡ true) }
     ensures err { IfErr result (λ s. IsTextRefused 2 (script_by (scripts.reading policies.now.list text.now)) s) }
 {
     placing_is_opening();
@@ -121,7 +121,7 @@ fn script_in<F: Files>(
     ensures counted { F.faults files.old ≤ F.faults files.new }
     ensures ok { IfOk result (λ s. IfSome (F.held files.old) (λ held. script_in policies.now.list name.now held ≡ Ok s)) }
     ensures ready { IfOk result (λ s. is_ready policies.now.list s ≡ true) }
-    ensures runs { IfOk result (λ s. is_one_thread s ≡ true) }
+    ensures runs { IfOk result (λ s. is_single_threaded s ≡ true) }
     ensures ok_count { OnOk result (F.faults files.new ≡ F.faults files.old) }
     ensures err { IfErr result (λ s. IsRefused 2 (option_map (script_in policies.now.list name.now) (F.held files.old)) (Rose (F.faults files.old) (F.faults files.new)) s) }
 {

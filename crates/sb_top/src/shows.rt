@@ -3,7 +3,7 @@ ghost use Rattle.std.specs.Prelude.{◌≡◌, ◌≤◌, ◌<◌, ◌^◌, true
 ghost use Rattle.sb_book.specs.Histories.{setting_of, IsLegalHistory};
 ghost use Rattle.sb_book.specs.Readiness.{is_ready};
 ghost use Rattle.sb_book.specs.Reports.{result_count};
-ghost use Rattle.sb_core.specs.Runs.{is_one_thread};
+ghost use Rattle.sb_core.specs.Single.{is_single_threaded};
 ghost use Rattle.sb_outside.specs.Outside.{Rose};
 ghost use Rattle.sb_transcript.specs.Transcripts.{transcript};
 ghost use Rattle.sb_top.specs.Wanted.{Runs, whole_run};
@@ -29,7 +29,7 @@ const ROUNDS: u32 = 20_000_000;
 #[tactic(auto, unfolding(crate::specs::Wanted::whole_run), using(crate::proofs::Ready::ready_made))]
 fn run_whole(alloc: Global, policies: &Policies, script: &Script) -> Result<Ran, NoMemory>
     requires ready { is_ready policies.now.list script.now ≡ true }
-    requires runs { is_one_thread script.now ≡ true }
+    requires runs { is_single_threaded script.now ≡ true }
     ensures value { IfOk result (λ r. r ≡ whole_run policies.now.list script.now) }
     ensures few { IfOk result (λ r. result_count r.report.results < 2 ^ 62) }
     ensures legal { IfOk result (λ r. IsLegalHistory (setting_of policies.now.list script.now) r.report.entries) }
