@@ -3,3 +3,4 @@ pub mod Ready
 pub mod Runs
 pub mod Steps
 pub mod Texts
+pub mod TakenWords

@@ -11,9 +11,10 @@ use Rattle.sb_ruletext.specs.Steps.{◌>>=◌}
 use Rattle.sb_ruletext.specs.declared.faults.TextFault.{TextFault}
 use Rattle.sb_script.specs.ScriptTexts as scripts
 use Rattle.sb_script.specs.declared.faults.ScriptFault.{ScriptFault}
+use Rattle.sb_top.specs.Commands.{Command, Check, Replay, command_of}
 use Rattle.sb_top.specs.Outcomes.{IsCause, IsFile}
 use Rattle.sb_top.specs.Refusals.{IsRefused, IsTextRefused}
-use Rattle.sb_top.specs.Wanted.{Refusal, BadWords, NoFile, LongFile, BadPolicy, BadScript, UnrunScript, Wanted, Prints, Runs, IsReached, most_bytes, text_in, policies_by, policies_in, script_by, script_in, wanted_check, wanted_replay}
+use Rattle.sb_top.specs.Wanted.{Refusal, BadWords, NoFile, LongFile, BadPolicy, BadScript, UnrunScript, Wanted, Prints, Runs, IsReached, most_bytes, text_in, policies_by, policies_in, script_by, script_in, by_command, wanted_check, wanted_of, wanted_replay}
 use Rattle.sb_top.specs.declared.outcomes.Status.{Status}
 use Rattle.sb_top.specs.declared.outcomes.Status.TheVariants.{Done, Unfinished, Usage, PolicyRefused, ScriptRefused, NotYet, Missing, TooLong, ReadFault, WriteFault, NoMemory}
 
@@ -149,6 +150,16 @@ started n (Err UnrunScript) h = λ e. cc
 all_started : (n : ℕ) (wanted : Option Wanted) → IfSome wanted (IsReached n) → IfSome wanted (λ w. w ≢ Err BadWords)
 all_started n None h = tt
 all_started n (Some w) h = started n w h
+
+-- a command wants more than the right words
+begun : (command : Option Command) (held : Held) → command ≢ None → by_command command held ≢ Err BadWords
+begun None held h = absurd (h refl)
+begun (Some (Check policy)) held h = started 1 (wanted_check policy held) (reached_check policy held)
+begun (Some (Replay policy script)) held h = started 1 (wanted_replay policy script held) (reached_replay policy script held)
+
+pub commands_are_wanted : (words : List (List ℕ)) (held : Option Held) → command_of words ≢ None
+    → IfSome (option_map (wanted_of words) held) (λ w. w ≢ Err BadWords)
+commands_are_wanted words held h = each_found (wanted_of words) (λ w. w ≢ Err BadWords) held (λ files. begun (command_of words) files h)
 
 -- a refusal at file n is a cause, where that file was reached
 caused : (n files : ℕ) (wanted : Option Wanted) (rose sink : Type 0) (s : Status) → IsFile files n → IfSome wanted (IsReached n) → IsRefused n wanted rose s

@@ -1,6 +1,11 @@
 // Which command the words are.
-ghost use Rattle.std.specs.Prelude.{◌≡◌, option_map};
+ghost use Rattle.std.specs.Prelude.{◌≡◌, ◌≢◌, IfOk, IsErr, None, is_some, option_map};
 ghost use Rattle.sb_top.specs.Commands.{command_of, check_of, replay_of, is_file_word, meant, texts};
+
+use crate::command_line::{command_line, found_command};
+use clap::error::ErrorKind;
+use sb_wide::NoMemory;
+use std::alloc::Global;
 
 /// A command with the names of its files.
 #[derive(Clone, Copy, Debug)]
@@ -21,33 +26,52 @@ fn is_file_word(word: &str) -> bool
     }
 }
 
-fn check_of<'a>(command: &str, policy: &'a str) -> Option<CommandWords<'a>>
-    ensures { option_map meant result ≡ check_of command.now policy.now }
+// Whether the words are `check POLICY`.
+fn is_check(command: &str, policy: &str) -> bool
+    ensures { result ≡ is_some (check_of command.now policy.now) }
 {
-    if command.as_bytes() == b"check".as_slice() && is_file_word(policy) {
-        return Some(CommandWords::Check { policy });
-    }
-    None
+    command == "check" && is_file_word(policy)
 }
 
-fn replay_of<'a>(command: &str, policy: &'a str, script: &'a str) -> Option<CommandWords<'a>>
-    ensures { option_map meant result ≡ replay_of command.now policy.now script.now }
+// Whether the words are `replay POLICY SCRIPT`.
+fn is_replay(command: &str, policy: &str, script: &str) -> bool
+    ensures { result ≡ is_some (replay_of command.now policy.now script.now) }
 {
-    if command.as_bytes() == b"replay".as_slice() && is_file_word(policy) && is_file_word(script) {
-        return Some(CommandWords::Replay { policy, script });
+    command == "replay" && is_file_word(policy) && is_file_word(script)
+}
+
+// Whether the words are a command.
+fn is_command(words: &[String]) -> bool
+    ensures { result ≡ is_some (command_of (texts words.now)) }
+{
+    match words {
+        [command, policy] => is_check(command.as_str(), policy.as_str()),
+        [command, policy, script] => {
+            is_replay(command.as_str(), policy.as_str(), script.as_str())
+        }
+        _ => false,
     }
-    None
 }
 
 /// The command that the words are: `check POLICY` or `replay POLICY SCRIPT`. Any other words are no command.
-pub fn command_of(words: &[String]) -> Option<CommandWords<'_>>
-    ensures { option_map meant result ≡ command_of (texts words.now) }
+///
+/// Which words are a command is tested here. Only words that are go to the library for command lines, which gives the
+/// values.
+///
+/// `NoMemory` where there was none to read words that are a command.
+#[tactic(auto, using(crate::proofs::TakenWords::commands_are_taken, crate::proofs::TakenWords::commands_are_read, crate::proofs::TakenWords::line_is_simple))]
+pub fn command_of(alloc: Global, words: &[String]) -> Result<Option<CommandWords<'_>>, NoMemory>
+    ensures exact { IfOk result (λ command. option_map meant command ≡ command_of (texts words.now)) }
+    ensures memory { IsErr result → command_of (texts words.now) ≢ None }
 {
-    match words {
-        [command, policy] => check_of(command.as_str(), policy.as_str()),
-        [command, policy, script] => {
-            replay_of(command.as_str(), policy.as_str(), script.as_str())
-        }
-        _ => None,
+    if !is_command(words) {
+        return Ok(None);
+    }
+    match command_line(alloc)?.try_get_matches_from(words) {
+        Ok(matches) => Ok(found_command(&matches)),
+        Err(error) => match error.kind() {
+            ErrorKind::OutOfMemory => Err(NoMemory),
+            _ => Ok(None),
+        },
     }
 }

@@ -1,6 +1,7 @@
 // The top call: all that the program does, over any files and any output.
 #![tactic(auto)]
 
+mod command_line;
 mod commands;
 mod outcomes;
 mod prepared;

@@ -11,6 +11,7 @@ use crate::prints::print;
 use crate::reading::{policies_in, prepare};
 use crate::shows::show;
 use sb_outside::{Files, Sink};
+use sb_wide::NoMemory;
 use std::alloc::Global;
 
 // A check of this file.
@@ -66,7 +67,7 @@ fn replay<F: Files, K: Sink>(
     }
 }
 
-#[tactic(auto, using(crate::proofs::Complete::complete))]
+#[tactic(auto, using(crate::proofs::Complete::complete, crate::proofs::Steps::commands_are_wanted))]
 /// All that the program does, over any files and any output: reads the words, and carries out the command that they are.
 ///
 /// It always answers, since no command that waits for another thread exists yet. It waits for nobody.
@@ -104,13 +105,17 @@ pub fn plain_top<F: Files, K: Sink>(
     // prefix of it, else by nothing.
     ensures written { IfSome result (λ o. IsWritten (option_map (wanted_of (texts words.now)) (F.held files.old)) (K.written out.old) (K.written out.new) o.status) }
 {
-    match command_of(words) {
-        Some(CommandWords::Check { policy }) => Some(check(alloc, policy, files, out)),
-        Some(CommandWords::Replay { policy, script }) => {
+    match command_of(alloc, words) {
+        Ok(Some(CommandWords::Check { policy })) => Some(check(alloc, policy, files, out)),
+        Ok(Some(CommandWords::Replay { policy, script })) => {
             Some(replay(alloc, policy, script, files, out))
         }
-        None => Some(Outcome {
+        Ok(None) => Some(Outcome {
             status: Status::Usage,
+            report: None,
+        }),
+        Err(NoMemory) => Some(Outcome {
+            status: Status::NoMemory,
             report: None,
         }),
     }
