@@ -327,9 +327,68 @@ fn texts_have_their_first_fault(rt: HostRuntime) -> Result<(), NoMemory> {
 }
 
 #[test]
+fn faults_are_found_on_later_lines_too(rt: HostRuntime) -> Result<(), NoMemory> {
+    let alloc = rt.alloc();
+    let rows: [(&[u8], &[u8], u32, ScriptKind); 8] = [
+        (
+            FIRST,
+            b"target one web 1\ntarget two none 1\n",
+            3,
+            ScriptKind::NoSuchPolicy,
+        ),
+        (
+            FIRST,
+            b"dir \"\\d\"\nfile \"\\d\\f.\" 0\n",
+            3,
+            ScriptKind::BadName,
+        ),
+        (
+            FIRST,
+            b"patience 7\nevent \"\\e\" 0 2\n",
+            3,
+            ScriptKind::BadNumber,
+        ),
+        (
+            FIRST,
+            b"event \"\\e\" 0 0\nevent \"\\e\" 0 2\n",
+            3,
+            ScriptKind::BadNumber,
+        ),
+        (
+            FIRST,
+            b"event \"\\e\" 0 0\nevent \"\\e\" 0 0 0\n",
+            3,
+            ScriptKind::UnknownWord,
+        ),
+        (
+            THREAD,
+            b"call ping 7 \"\"\ncall ping 7\n",
+            5,
+            ScriptKind::WrongArgs,
+        ),
+        (
+            THREAD,
+            b"load 0 0 0\nthread\nload 0 0 64\n",
+            6,
+            ScriptKind::NoSuchWord,
+        ),
+        (
+            THREAD,
+            b"load 0 0 0\nload 0 1 0\n",
+            5,
+            ScriptKind::NoSuchChannel,
+        ),
+    ];
+    for (head, end, line, kind) in rows {
+        assert!(rt; ends_with_fault(alloc, head, end, line, kind)?);
+    }
+    Ok(())
+}
+
+#[test]
 fn lines_before_targets_have_their_first_fault(rt: HostRuntime) -> Result<(), NoMemory> {
     let alloc = rt.alloc();
-    let rows: [(&[u8], ScriptKind); 43] = [
+    let rows: [(&[u8], ScriptKind); 44] = [
         (b"patience", ScriptKind::UnknownWord),
         (b"patience 0", ScriptKind::BadNumber),
         (b"patience 1000001 x", ScriptKind::BadNumber),
@@ -361,6 +420,10 @@ fn lines_before_targets_have_their_first_fault(rt: HostRuntime) -> Result<(), No
         (b"target", ScriptKind::UnknownWord),
         (b"target \"tab\" web 1", ScriptKind::UnknownWord),
         (b"target Tab web 1", ScriptKind::UnknownWord),
+        (
+            b"target abcdefghijklmnopqrstuvwxyz_012345 web 8",
+            ScriptKind::UnknownWord,
+        ),
         (b"target tab", ScriptKind::UnknownWord),
         (b"target tab none 9", ScriptKind::NoSuchPolicy),
         (b"target tab \"web\" 1", ScriptKind::NoSuchPolicy),
@@ -449,6 +512,192 @@ fn statements_have_their_first_fault(rt: HostRuntime) -> Result<(), NoMemory> {
 }
 
 #[test]
+fn of_two_faults_of_a_line_the_first_met_counts(rt: HostRuntime) -> Result<(), NoMemory> {
+    let alloc = rt.alloc();
+    let rows: [(&[u8], &[u8], u32, ScriptKind); 31] = [
+        (FIRST, b"patience 0 \"", 2, ScriptKind::BadNumber),
+        (FIRST, b"dir \"d\" \"", 2, ScriptKind::BadName),
+        (FIRST, b"file \"\\f\" x 0", 2, ScriptKind::BadNumber),
+        // A parent that is missing comes behind all other faults of the line.
+        (FIRST, b"file \"\\a\\f\" x", 2, ScriptKind::BadNumber),
+        (FIRST, b"file \"\\a\\f\" 0 0", 2, ScriptKind::UnknownWord),
+        (FIRST, b"key \"k\" 0", 2, ScriptKind::BadName),
+        (FIRST, b"key \"\\k\\l\" 0", 2, ScriptKind::UnknownWord),
+        (FIRST, b"event \"e\" 2 0", 2, ScriptKind::BadName),
+        (FIRST, b"event \"\\e\" x \"", 2, ScriptKind::BadNumber),
+        (FIRST, b"target Tab none 9", 2, ScriptKind::UnknownWord),
+        (FIRST, b"target tab none \"1", 2, ScriptKind::NoSuchPolicy),
+        (THREAD, b"call nothing \"", 4, ScriptKind::UnknownCall),
+        (THREAD, b"call ping \"7\" \"", 4, ScriptKind::WrongArgs),
+        (THREAD, b"call ping x \"", 4, ScriptKind::BadNumber),
+        (THREAD, b"call ping 4294967296 7", 4, ScriptKind::BadNumber),
+        (THREAD, b"call file.query \"a\" \"", 4, ScriptKind::BadName),
+        (
+            THREAD,
+            b"call file.rename a \"b\"",
+            4,
+            ScriptKind::WrongArgs,
+        ),
+        (THREAD, b"call file.rename \"a\" b", 4, ScriptKind::BadName),
+        (
+            THREAD,
+            b"call file.open \"a\" x 7 0",
+            4,
+            ScriptKind::BadName,
+        ),
+        (
+            THREAD,
+            b"call file.open \"\\a\" 1 \"7\" x",
+            4,
+            ScriptKind::WrongArgs,
+        ),
+        (THREAD, b"call handle.close x 1", 4, ScriptKind::BadNumber),
+        (THREAD, b"store x 0 64 0", 4, ScriptKind::BadNumber),
+        (
+            THREAD,
+            b"store 0 18446744073709551616 64 0",
+            4,
+            ScriptKind::BadNumber,
+        ),
+        (THREAD, b"store 0 0 64 x", 4, ScriptKind::NoSuchWord),
+        (THREAD, b"store 0 0 64 \"", 4, ScriptKind::NoSuchWord),
+        (
+            THREAD,
+            b"exchange 0 0 state x 1 2",
+            4,
+            ScriptKind::BadNumber,
+        ),
+        (
+            THREAD,
+            b"exchange 0 0 state \"1\"",
+            4,
+            ScriptKind::BadNumber,
+        ),
+        // A target that is missing comes behind all other faults of the text.
+        (THREAD, b"load 9 0 64", 4, ScriptKind::NoSuchWord),
+        (THREAD, b"load 9 0", 4, ScriptKind::WrongArgs),
+        (THREAD, b"wait 0 0 64 4 0", 4, ScriptKind::NoSuchWord),
+        // The range of the loads comes behind all other faults of the line.
+        (THREAD, b"wait 0 0 state 4 0 \"", 4, ScriptKind::UnknownWord),
+    ];
+    for (head, end, line, kind) in rows {
+        assert!(rt; ends_with_fault(alloc, head, end, line, kind)?);
+    }
+    Ok(())
+}
+
+// A line of these tokens behind a head, with another token in a place, from 0, or behind the last.
+fn text_of_tokens(
+    alloc: Global,
+    head: &[u8],
+    tokens: &[&str],
+    place: usize,
+    other: &[u8],
+) -> Result<Vec<u8>, NoMemory> {
+    let mut text = Vec::from_slice(alloc, head)?;
+    for (at, token) in tokens.iter().enumerate() {
+        text.extend_from_slice(if at == place { other } else { token.as_bytes() })?;
+        text.extend_from_slice(b" ")?;
+    }
+    if place == tokens.len() {
+        text.extend_from_slice(other)?;
+    }
+    Ok(text)
+}
+
+// Whether a line of these tokens has an unknown word where a token that breaks the rules stands in this place: one with a
+// quote inside a word, one that is not closed, one with a character below 32, and one that no blank follows.
+fn is_broken_at(
+    alloc: Global,
+    head: &[u8],
+    line: u32,
+    tokens: &[&str],
+    place: usize,
+) -> Result<bool, NoMemory> {
+    for broken in [b"a\"b".as_slice(), b"\"a", b"\"a\tb\"", b"\"a\"b"] {
+        let text = text_of_tokens(alloc, head, tokens, place, broken)?;
+        if !has_fault(alloc, &text, line, ScriptKind::UnknownWord)? {
+            return Ok(false);
+        }
+    }
+    Ok(true)
+}
+
+#[test]
+fn a_broken_token_is_an_unknown_word_at_each_place(rt: HostRuntime) -> Result<(), NoMemory> {
+    let alloc = rt.alloc();
+    let rows: [(&[u8], u32, &[&str]); 15] = [
+        (b"", 1, &["sandbox-script", "1"]),
+        (FIRST, 2, &["patience", "7"]),
+        (FIRST, 2, &["dir", "\"\\d\""]),
+        (FIRST, 2, &["file", "\"\\f\"", "0"]),
+        (FIRST, 2, &["key", "\"\\k\""]),
+        (FIRST, 2, &["event", "\"\\e\"", "0", "0"]),
+        (FIRST, 2, &["target", "tab", "web", "1"]),
+        (THREAD, 4, &["thread"]),
+        (THREAD, 4, &["call", "ping", "7", "\"a\""]),
+        (THREAD, 4, &["call", "file.rename", "\"\\a\"", "\"\\b\""]),
+        (THREAD, 4, &["call", "handle.close", "1"]),
+        (THREAD, 4, &["store", "0", "0", "state", "3"]),
+        (THREAD, 4, &["exchange", "0", "0", "63", "1", "2"]),
+        (THREAD, 4, &["load", "0", "0", "1"]),
+        (THREAD, 4, &["wait", "0", "0", "state", "4", "1"]),
+    ];
+    for (head, line, tokens) in rows {
+        let whole = text_of_tokens(alloc, head, tokens, tokens.len(), b"")?;
+        assert!(rt; is_read(alloc, &whole)?);
+        for place in 0..=tokens.len() {
+            assert!(rt; is_broken_at(alloc, head, line, tokens, place)?);
+        }
+    }
+    Ok(())
+}
+
+#[test]
+fn values_at_their_limits_are_read(rt: HostRuntime) -> Result<(), NoMemory> {
+    let alloc = rt.alloc();
+    let rows: [(&[u8], &[u8]); 5] = [
+        (FIRST, b"patience 1"),
+        (FIRST, b"patience 1000000"),
+        (FIRST, b"target abcdefghijklmnopqrstuvwxyz_01234 web 8"),
+        (THREAD, b"store 0 0 63 18446744073709551615"),
+        (THREAD, b"wait 0 0 0 0xffffffffffffffff 1"),
+    ];
+    for (head, end) in rows {
+        let text = text_with(alloc, head, end, 1, b"")?;
+        assert!(rt; is_read(alloc, &text)?);
+    }
+    Ok(())
+}
+
+// Whether a call that ends with a string fits a block where the string ends with so many of a character, and not with one
+// more.
+fn fits_with(alloc: Global, call: &[u8], character: &str, most: usize) -> Result<bool, NoMemory> {
+    let head = text_with(alloc, THREAD, call, 1, b"")?;
+    let part = character.as_bytes();
+    let fits = text_with(alloc, &head, part, most, b"\"\n")?;
+    let too_big = text_with(alloc, &head, part, most.saturating_add(1), b"\"\n")?;
+    Ok(is_read(alloc, &fits)? && has_fault(alloc, &too_big, 4, ScriptKind::TooBig)?)
+}
+
+#[test]
+fn strings_fit_by_their_units_in_whole_words(rt: HostRuntime) -> Result<(), NoMemory> {
+    let alloc = rt.alloc();
+    // A block has 64 words: 16, one for each parameter, one for each number, and in each string one for four units.
+    let rows: [(&[u8], &str, usize); 5] = [
+        (b"call ping 7 \"", "a", 180),
+        (b"call ping 7 \"", "\u{E9}", 180),
+        (b"call ping 7 \"", "\u{1F600}", 90),
+        (b"call file.rename \"\\aaa\" \"\\", "n", 179),
+        (b"call file.rename \"\\aaaa\" \"\\", "n", 175),
+    ];
+    for (call, character, most) in rows {
+        assert!(rt; fits_with(alloc, call, character, most)?);
+    }
+    Ok(())
+}
+
+#[test]
 fn names_of_147_letters_fit(rt: HostRuntime) -> Result<(), NoMemory> {
     let alloc = rt.alloc();
     let head = b"sandbox-script 1\ntarget tab web 1\nthread\ncall file.create \"\\".as_slice();
@@ -516,6 +765,39 @@ fn targets_are_at_most_eight(rt: HostRuntime) -> Result<(), NoMemory> {
     Ok(())
 }
 
+#[test]
+fn limits_are_of_each_target_and_each_thread(rt: HostRuntime) -> Result<(), NoMemory> {
+    let alloc = rt.alloc();
+    let head = b"sandbox-script 1\ntarget one web 1\n".as_slice();
+    let first = text_with(alloc, head, b"thread\n", 4, b"target two web 1\n")?;
+    let both = text_with(alloc, &first, b"thread\n", 4, b"")?;
+    assert!(rt; is_read(alloc, &both)?);
+    assert!(rt; ends_with_fault(alloc, &both, b"thread\n", 12, ScriptKind::TooMany)?);
+    let next = b"thread\nload 0 0 0\n";
+    let statements = text_with(alloc, THREAD, b"load 0 0 0\n", 4096, next)?;
+    assert!(rt; is_read(alloc, &statements)?);
+    Ok(())
+}
+
+#[test]
+fn a_limit_comes_behind_other_faults_of_its_line(rt: HostRuntime) -> Result<(), NoMemory> {
+    let alloc = rt.alloc();
+    let statements = text_with(alloc, THREAD, b"load 0 0 0\n", 4096, b"call ping 7 \"")?;
+    let too_big = text_with(alloc, &statements, b"a", 181, b"\"\n")?;
+    assert!(rt; has_fault(alloc, &too_big, 4100, ScriptKind::TooBig)?);
+    let targets =
+        b"sandbox-script 1\ntarget a web 1\ntarget b web 1\ntarget c web 1\ntarget d web 1\ntarget e web 1\ntarget f web 1\ntarget g web 1\ntarget h web 1\n".as_slice();
+    let rows: [(&[u8], ScriptKind); 3] = [
+        (b"target i none 1\n", ScriptKind::NoSuchPolicy),
+        (b"target i web 9\n", ScriptKind::BadNumber),
+        (b"target i web 1 1\n", ScriptKind::UnknownWord),
+    ];
+    for (end, kind) in rows {
+        assert!(rt; ends_with_fault(alloc, targets, end, 10, kind)?);
+    }
+    Ok(())
+}
+
 // So many opening lines, each an event with a name of its own.
 fn events(alloc: Global, count: u32) -> Result<Vec<u8>, NoMemory> {
     let mut text = Vec::from_slice(alloc, FIRST)?;
@@ -542,6 +824,9 @@ fn opening_lines_have_a_limit(rt: HostRuntime) -> Result<(), NoMemory> {
         )?
     );
     assert!(rt; ends_with_fault(alloc, &full, b"dir \"\\9\"\n", 4098, ScriptKind::TooMany)?);
+    // A patience is none of the opening lines.
+    let with_patience = text_with(alloc, &full, b"patience 7\n", 1, b"")?;
+    assert!(rt; is_read(alloc, &with_patience)?);
     Ok(())
 }
 
