@@ -71,7 +71,8 @@ pub fn command_of(alloc: Global, words: &[String]) -> Result<Option<CommandWords
         Ok(matches) => Ok(found_command(&matches)),
         Err(error) => match error.kind() {
             ErrorKind::OutOfMemory => Err(NoMemory),
-            _ => Ok(None),
+            // The library takes all words that are a command.
+            _ => unreachable!(),
         },
     }
 }

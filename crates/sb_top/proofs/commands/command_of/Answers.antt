@@ -5,9 +5,9 @@ use Rattle.sb_top.proofs.TakenWords.{commands_are_taken}
 use Rattle.sb_top.proofs.commands.command_of.Goals as goal
 
 -- a refusal other than want of memory does not come
-pub returns : goal.returns
-returns c =
+pub unreachable-requires : goal.unreachable-requires
+unreachable-requires c =
     let some : IsSome (command_of (texts c.args.words.now)) = search rules in
     let taken : takes (app_of c.in_ok-command_line.field-0) (texts c.args.words.now) ≡ true =
     ap (λ (a : App). takes a (texts c.args.words.now)) c.in_ok-command_line.ensures.app ∙ commands_are_taken (texts c.args.words.now) some in
-    absurd (c.in_default.not-OutOfMemory (c.kind.ensures ∙ c.in-Err.ensures.passes taken))
+    c.in_default.not-OutOfMemory (c.kind.ensures ∙ c.in-Err.ensures.passes taken)
