@@ -3,3 +3,5 @@ pub mod EntryLines
 pub mod ResultLines
 pub mod Totals
 pub mod Transcripts
+pub mod Places
+pub mod Laws

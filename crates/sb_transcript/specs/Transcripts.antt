@@ -1,7 +1,8 @@
 -- The whole transcript.
-use Rattle.std.specs.Prelude.{ℕ, ◌+◌, List, [], ◌∷◌, ◌++◌}
+use Rattle.std.specs.Prelude.{ℕ, ◌+◌, List, [], ◌∷◌, ◌++◌, length}
 use Rattle.sb_call.specs.declared.results.StmtResult.{StmtResult}
 use Rattle.sb_call.specs.declared.scripts.Script.{Script}
+use Rattle.sb_book.specs.Reports.{result_count}
 use Rattle.sb_book.specs.declared.entries.Entry.{Entry}
 use Rattle.sb_book.specs.declared.reports.Report.{Report}
 use Rattle.sb_outside.specs.Outside.{joined}
@@ -32,6 +33,10 @@ result_lines script target (threads ∷ more) = target_lines script target 0 thr
 -- a line for each entry in order, one for each result by target, thread and place, and the totals
 abbrev pub transcript_lines : Script → Report → List (List ℕ)
 transcript_lines script report = entry_lines script 0 report.entries ++ result_lines script 0 report.results ++ totals_line report ∷ []
+
+-- how many lines there are
+abbrev pub line_count : Report → ℕ
+line_count report = length report.entries + result_count report.results + 1
 
 -- the lines one after another
 abbrev pub transcript : Script → Report → List ℕ

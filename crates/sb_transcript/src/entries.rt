@@ -158,6 +158,9 @@ pub fn put_target(line: &mut Vec<u8>, script: &Script, target: usize) -> Result<
 }
 
 /// The line of entry `n` of a history, counted from 0, with its LF.
+///
+/// # Errors
+/// `NoMemory` where there was none for the line.
 pub fn entry_line(
     alloc: Global,
     script: &Script,

@@ -1,15 +1,23 @@
 // The transcript: one line for each entry of the history, one for each statement's result, and the totals.
 #![tactic(auto)]
 
+mod counts;
 mod entries;
+mod laws;
+mod lines;
 mod numbers;
+mod places;
 mod results;
 #[cfg(test)]
 mod tests;
-mod totals;
 mod transcripts;
 
+pub use counts::totals;
 pub use entries::entry_line;
+pub use laws::{
+    entries_come_first, lines_are_counted, lines_end_once, names_are_short, numbers_are_results,
+    results_are_in_order, results_follow, totals_end, transcripts_tell_their_lines,
+};
+pub use lines::{line, line_count};
 pub use results::result_line;
-pub use totals::totals_line;
 pub use transcripts::transcript_lines;

@@ -3,9 +3,9 @@ ghost use Rattle.std.specs.Prelude.{◌≡◌, ◌++◌, ◌<◌, ◌^◌, IfOk,
 ghost use Rattle.sb_book.specs.Reports.{result_count};
 ghost use Rattle.sb_transcript.specs.Transcripts.{entry_lines, thread_lines, target_lines, result_lines, transcript_lines};
 
+use crate::counts::totals;
 use crate::entries::entry_line;
 use crate::results::line_at;
-use crate::totals::totals_line;
 use sb_book::{Entry, Report, TargetResults, ThreadResults};
 use sb_call::{Script, StmtResult};
 use sb_outside::Bytes;
@@ -75,6 +75,9 @@ fn put_result_lines(
 
 /// The lines of the transcript, each with its LF: one for each entry in order, one for each result by target, thread and
 /// place, and the totals.
+///
+/// # Errors
+/// `NoMemory` where there was none for the lines.
 pub fn transcript_lines(
     alloc: Global,
     script: &Script,
@@ -86,7 +89,7 @@ pub fn transcript_lines(
     let mut lines = Vec::new(alloc);
     put_entry_lines(&mut lines, alloc, script, report.entries.as_slice())?;
     put_result_lines(&mut lines, alloc, script, report.results.as_slice())?;
-    let totals = totals_line(alloc, report)?;
-    lines.push(Bytes::new(totals))?;
+    let last = totals(alloc, report)?;
+    lines.push(Bytes::new(last))?;
     Ok(lines)
 }

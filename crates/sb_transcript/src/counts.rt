@@ -1,4 +1,4 @@
-// The last line of the transcript.
+// The counts of a report, and the last line of the transcript, which tells them.
 ghost use Rattle.std.specs.Prelude.{◌≡◌, ◌<◌, ◌++◌, ◌^◌, IfOk, OnOk};
 ghost use Rattle.sb_book.specs.Reports.{result_count, thread_count};
 ghost use Rattle.sb_transcript.specs.Totals.{is_performed, is_faked, is_denied, is_refused, count_of, counted, decisions_text, totals_line};
@@ -44,7 +44,8 @@ fn refused_count(entries: &[Entry]) -> usize
         .count()
 }
 
-fn thread_count(threads: &[ThreadResults]) -> usize
+/// How many results the threads of a target have.
+pub fn thread_count(threads: &[ThreadResults]) -> usize
     requires { thread_count threads.now < 2 ^ 62 }
     ensures { result ≡ thread_count threads.now }
 {
@@ -55,7 +56,8 @@ fn thread_count(threads: &[ThreadResults]) -> usize
     count
 }
 
-fn result_count(targets: &[TargetResults]) -> usize
+/// How many results there are.
+pub fn result_count(targets: &[TargetResults]) -> usize
     requires { result_count targets.now < 2 ^ 62 }
     ensures { result ≡ result_count targets.now }
 {
@@ -85,7 +87,10 @@ fn put_decisions(line: &mut Vec<u8>, entries: &[Entry]) -> Result<(), NoMemory>
 }
 
 /// The last line: how many entries there are, how many of each decision, and how many results, with its LF.
-pub fn totals_line(alloc: Global, report: &Report) -> Result<Vec<u8>, NoMemory>
+///
+/// # Errors
+/// `NoMemory` where there was none for the line.
+pub fn totals(alloc: Global, report: &Report) -> Result<Vec<u8>, NoMemory>
     requires { result_count report.now.results < 2 ^ 62 }
     ensures { IfOk result (λ line. line.items ≡ totals_line report.now) }
 {

@@ -1,7 +1,7 @@
 use Rattle.std.proofs.Common.{◌≡◌, ◌++◌, [], ◌∷◌, length, refl}
 use Rattle.std.specs.Prelude.{codes}
 use Rattle.sb_transcript.specs.Totals.{counted, decisions_text}
-use Rattle.sb_transcript.proofs.totals.totals_line.Goals as goal
+use Rattle.sb_transcript.proofs.counts.totals.Goals as goal
 
 pub returns : goal.returns
 returns c =

@@ -1,0 +1,55 @@
+// Laws of the transcript. None of these functions changes anything: each contract is a law.
+ghost use Rattle.sb_transcript.specs.Laws.{LinesAreCounted, EntriesComeFirst, ResultsFollow, TotalsEnd, NumbersAreResults, ResultsAreInOrder, HasShortNames, LinesEndOnce, TranscriptsTellTheirLines};
+
+use sb_call::Script;
+
+/// The transcript has as many lines as are counted: one for each entry, one for each result, and one more.
+pub fn lines_are_counted()
+    ensures { LinesAreCounted }
+{}
+
+/// Line `n` is that of entry `n`, where there is such an entry.
+pub fn entries_come_first()
+    ensures { EntriesComeFirst }
+{}
+
+/// The line of a result comes after those of all entries and of the results before it.
+pub fn results_follow()
+    ensures { ResultsFollow }
+{}
+
+/// The line after those of all entries and results is the totals.
+pub fn totals_end()
+    ensures { TotalsEnd }
+{}
+
+/// Each number below that of all results is how many come before one of them. So each line between the entries' and the
+/// totals is that of a result.
+pub fn numbers_are_results()
+    ensures { NumbersAreResults }
+{}
+
+/// More results come before the later of two, by target, thread and place. So the lines of results stand in this order, and
+/// no two results share a line.
+pub fn results_are_in_order()
+    ensures { ResultsAreInOrder }
+{}
+
+/// Where the names of a script's targets are short names, each line ends with LF and holds no other.
+pub fn lines_end_once()
+    ensures { LinesEndOnce }
+{}
+
+/// So the text of its transcript, cut behind each LF, falls into its lines.
+pub fn transcripts_tell_their_lines()
+    ensures { TranscriptsTellTheirLines }
+{}
+
+/// The names of a script's targets are short names. It walks through the targets, and has no other effect.
+pub fn names_are_short(script: &Script)
+    ensures { HasShortNames script.now }
+{
+    for target in script.targets.as_slice() {
+        let _name = target.name.bytes();
+    }
+}
