@@ -1,6 +1,9 @@
-use crate::{entry_line, result_line};
+ghost use Rattle.std.specs.Prelude.{◌≤◌, IsTrue};
+ghost use Rattle.sb_book.specs.Reports.{result_count};
+
+use crate::{entry_line, line, line_count, result_line, totals};
 use sb_block::{BlockFault as Fault, Taken, Words};
-use sb_book::{Decision, Entry};
+use sb_book::{Decision, Entries, Entry, Report, Results, TargetResults, ThreadResults};
 use sb_call::{
     Arg, Args, CallResult, CallTag, Extended, Reply, Script, ShortName, StartLines, StmtResult,
     TargetScript, Targets, Threads,
@@ -10,10 +13,10 @@ use sb_wide::{NoMemory, units};
 use std::alloc::Global;
 use std::test::Fail;
 
-// A script with the targets `tab` and `two_b`.
+// A script of five targets, by these names.
 fn script_of(alloc: Global) -> Result<Script, Fail> {
     let mut targets = Targets::new(Vec::new(alloc));
-    for name in [b"tab".as_slice(), b"two_b".as_slice()] {
+    for name in [b"tab".as_slice(), b"two_b", b"c", b"d", b"e"] {
         let Some(name) = ShortName::new(name) else {
             return Err(Fail::new("no short name"));
         };
@@ -58,15 +61,20 @@ fn reply_of(mark: u64, outcome: u64, status: u64, handle: u64, words: &[u64]) ->
     }
 }
 
-// The line of entry 7, on channel 2 of the second target.
-fn entry_text(alloc: Global, decision: Decision, reply: Reply) -> Result<Vec<u8>, Fail> {
-    let entry = Entry {
+// An entry on channel 2 of the second target.
+fn entry_of(decision: Decision, reply: Reply) -> Result<Entry, Fail> {
+    Ok(Entry {
         target: 1,
         channel: 2,
         taken: copy_with(reply.mark)?,
         decision,
         reply,
-    };
+    })
+}
+
+// The line of such an entry, as entry 7.
+fn entry_text(alloc: Global, decision: Decision, reply: Reply) -> Result<Vec<u8>, Fail> {
+    let entry = entry_of(decision, reply)?;
     Ok(entry_line(alloc, &script_of(alloc)?, 7, &entry)?)
 }
 
@@ -262,5 +270,100 @@ fn results_of_each_kind_have_their_line(rt: HostRuntime) -> Result<(), Fail> {
         let line = result_line(rt.alloc(), &script, 0, 3, 4095, result_)?;
         assert_eq!(rt; line.as_slice(), text);
     }
+    Ok(())
+}
+
+// A refused block, a performed call, and a refused block.
+fn entries_of(alloc: Global) -> Result<Entries, Fail> {
+    let mut entries = Vec::new(alloc);
+    let refused = Decision::Refused(Fault::WrongShape);
+    let reply = reply_of(65536, 1, 0xc000_000d, 0, &[8]);
+    entries.push(entry_of(refused, reply)?)?;
+    let mut args = Args::new(Vec::new(alloc));
+    args.push(Arg::Num(7))?;
+    let closed = Decision::Performed {
+        tag: CallTag::HandleClose,
+        line: 9,
+        action: Action::Allow,
+        args,
+    };
+    let reply = reply_of(65537, 0, 0xc000_0008, 0, &[]);
+    entries.push(entry_of(closed, reply)?)?;
+    let refused = Decision::Refused(Fault::BadSize(2));
+    let reply = reply_of(65538, 1, 0xc000_000d, 0, &[9, 2]);
+    entries.push(entry_of(refused, reply)?)?;
+    Ok(Entries::new(entries))
+}
+
+// The results of a thread whose statements found these values.
+fn thread_of(alloc: Global, values: &[u64]) -> Result<ThreadResults, NoMemory> {
+    let mut results = ThreadResults::new(Vec::new(alloc));
+    for value in values {
+        results.push(StmtResult::Found(*value))?;
+    }
+    Ok(results)
+}
+
+fn target_of(alloc: Global, threads: &[&[u64]]) -> Result<TargetResults, NoMemory> {
+    let mut results = Vec::new(alloc);
+    for values in threads {
+        results.push(thread_of(alloc, values)?)?;
+    }
+    Ok(TargetResults::new(results))
+}
+
+// Results of five targets: the first and the last have no thread, the third has a thread without results.
+fn results_of(alloc: Global) -> Result<Results, NoMemory> {
+    let targets: [&[&[u64]]; 5] = [&[], &[&[], &[7, 8], &[]], &[&[]], &[&[9], &[10]], &[]];
+    let mut results = Vec::new(alloc);
+    for threads in targets {
+        results.push(target_of(alloc, threads)?)?;
+    }
+    Ok(Results::new(results))
+}
+
+// Whether there are at most 100 results.
+fn is_small(targets: &[TargetResults]) -> bool
+    ensures { IsTrue result → result_count targets.now ≤ 100 }
+{
+    let mut left: usize = 100;
+    for threads in targets {
+        for results in threads.as_slice() {
+            let Some(less) = left.checked_sub(results.as_slice().len()) else {
+                return false;
+            };
+            left = less;
+        }
+    }
+    true
+}
+
+const LINES: [&[u8]; 8] = [
+    b"entry 0 two_b 2 mark 65536 refused wrong-shape reply 1 c000000d 0 [8]\n",
+    b"entry 1 two_b 2 mark 65537 performed handle.close 0x7 rule 9 reply 0 c0000008 0 []\n",
+    b"entry 2 two_b 2 mark 65538 refused bad-size 2 reply 1 c000000d 0 [9,2]\n",
+    b"result two_b 1 0 found 7\n",
+    b"result two_b 1 1 found 8\n",
+    b"result d 0 0 found 9\n",
+    b"result d 1 0 found 10\n",
+    b"total entries 3 performed 1 faked 0 denied 0 refused 2 results 4\n",
+];
+
+#[test]
+fn each_line_is_found_by_its_number(rt: HostRuntime) -> Result<(), Fail> {
+    let alloc = rt.alloc();
+    let script = script_of(alloc)?;
+    let report = Report {
+        entries: entries_of(alloc)?,
+        results: results_of(alloc)?,
+    };
+    assert!(rt; is_small(report.results.as_slice()));
+    assert_eq!(rt; line_count(&report), 8);
+    for (n, text) in LINES.iter().enumerate() {
+        let line = line(alloc, &script, &report, n as u64)?;
+        assert_eq!(rt; line.as_slice(), *text);
+    }
+    let last = totals(alloc, &report)?;
+    assert_eq!(rt; last.as_slice(), LINES[7]);
     Ok(())
 }
