@@ -161,13 +161,15 @@ fn one_unit_too_many_is_refused(rt: HostRuntime) -> Result<(), NoMemory> {
 fn a_script_of_more_than_one_thread_of_calls_is_not_yet_run(
     rt: HostRuntime,
 ) -> Result<(), NoMemory> {
-    let cases: [&[u8]; 6] = [
-        b"sandbox-script 1\n",
-        b"sandbox-script 1\ntarget tab web 1\n",
+    let cases: [&[u8]; 8] = [
+        b"sandbox-script 1\ntarget one web 1\ntarget two web 1\n",
+        b"sandbox-script 1\ntarget tab web 2\n",
         b"sandbox-script 1\ntarget tab web 2\nthread\n",
         b"sandbox-script 1\ntarget tab web 1\nthread\nthread\n",
         b"sandbox-script 1\ntarget tab web 1\nthread\nstore 0 0 state 1\n",
-        b"sandbox-script 1\ntarget one web 1\nthread\ntarget two web 1\n",
+        b"sandbox-script 1\ntarget tab web 1\nthread\nexchange 0 0 63 1 2\n",
+        b"sandbox-script 1\ntarget tab web 1\nthread\nload 0 0 state\n",
+        b"sandbox-script 1\ntarget tab web 1\nthread\nwait 0 0 0 1 1\n",
     ];
     for script in cases {
         assert!(rt; is_not_yet(rt.alloc(), script)?);

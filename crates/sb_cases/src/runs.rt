@@ -134,6 +134,19 @@ pub fn has_entries(run: &Run, count: usize) -> bool {
     }
 }
 
+/// Whether a run has a report of no entries, and of so many targets without a result.
+pub fn has_idle_targets(run: &Run, targets: usize) -> bool {
+    match &run.outcome.report {
+        Some(report) => {
+            let results = report.results.as_slice();
+            report.entries.as_slice().is_empty()
+                && results.len() == targets
+                && results.iter().all(|threads| threads.as_slice().is_empty())
+        }
+        None => false,
+    }
+}
+
 /// A head, a part so many times, and a tail.
 pub fn repeated(
     alloc: Global,

@@ -1,7 +1,9 @@
 // Worked cases: a policy, a script with what is there at the start, and the whole transcript.
 
-use crate::runs::puts;
+use crate::runs::{has_idle_targets, puts, replay};
+use sb_top::Status;
 use sb_wide::NoMemory;
+use std::alloc::Global;
 
 // A target may open documents for reading.
 const READING_POLICY: &[u8] = b"sandbox-policy 1
@@ -164,5 +166,37 @@ total entries 2 performed 2 faked 0 denied 0 refused 0 results 2
 #[test]
 fn a_readonly_rule_cuts_the_access(rt: HostRuntime) -> Result<(), NoMemory> {
     assert!(rt; puts(rt.alloc(), CUT_POLICY, CUT_SCRIPT, CUT_TRANSCRIPT)?);
+    Ok(())
+}
+
+// Where there is no thread, only the totals are put.
+const IDLE_POLICY: &[u8] = b"sandbox-policy 1
+policy web
+allow ping
+";
+
+const IDLE_TRANSCRIPT: &[u8] =
+    b"total entries 0 performed 0 faked 0 denied 0 refused 0 results 0\n";
+
+// Whether nothing comes of this script, which has so many targets.
+fn is_idle(alloc: Global, script: &[u8], targets: usize) -> Result<bool, NoMemory> {
+    let run = replay(alloc, IDLE_POLICY, script)?;
+    Ok(
+        run.outcome.status == Status::Done
+            && has_idle_targets(&run, targets)
+            && run.out.written() == IDLE_TRANSCRIPT,
+    )
+}
+
+#[test]
+fn a_script_without_a_thread_puts_the_totals_alone(rt: HostRuntime) -> Result<(), NoMemory> {
+    let cases: [(&[u8], usize); 3] = [
+        (b"sandbox-script 1\n", 0),
+        (b"sandbox-script 1\npatience 1\ndir \"\\d\"\n", 0),
+        (b"sandbox-script 1\ntarget tab web 1\n", 1),
+    ];
+    for (script, targets) in cases {
+        assert!(rt; is_idle(rt.alloc(), script, targets)?);
+    }
     Ok(())
 }
