@@ -1,5 +1,5 @@
 -- The library takes words that are a command, and finds that command.
-use Rattle.std.proofs.Common.{◌≡◌, ◌∙◌, ap, refl, sym, subst, codes, true, false, ℕ, Bool, List, [], ◌∷◌, ◌==◌, Option, Some, None, IsSome, not, ◌&&◌, true≢false, nat_eq, if◌then◌else◌}
+use Rattle.std.proofs.Common.{◌≡◌, refl, sym, subst, codes, true, false, ℕ, Bool, List, [], ◌∷◌, ◌==◌, Option, Some, None, IsSome, not, ◌&&◌, true≢false, nat_eq, if◌then◌else◌}
 use Rattle.std.specs.Cmp.Lexicographic.{pointwise, bytes_decides}
 use Rattle.clap.specs.Words.{Text, first_of, first_value, found_of, is_simple, rows_of, subcommand_of, takes}
 use Rattle.clap.specs.declared.ArgMatches.{ArgMatches}
