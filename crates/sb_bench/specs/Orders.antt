@@ -5,7 +5,7 @@ use Rattle.sb_call.specs.CallWords.{named}
 use Rattle.sb_text.specs.Numbers.{decimal_of}
 use Rattle.sb_bench.specs.declared.orders.Order.{Order}
 use Rattle.sb_bench.specs.declared.orders.Work.{Work}
-use Rattle.sb_bench.specs.declared.orders.Work.TheVariants.{Pattern, Decode, Judge, JudgePlain, NamesAdd, NamesFind, NamesRename, HandlesGrant, HandlesLookup, HandlesClose}
+use Rattle.sb_bench.specs.declared.orders.Work.TheVariants.{Pattern, Decode, Judge, JudgePlain, NamesAdd, NamesFind, NamesRename, HandlesGrant, HandlesLookup, HandlesClose, Book}
 
 -- the word of a work
 abbrev pub work_word : Work → List ℕ
@@ -19,10 +19,11 @@ work_word NamesRename = codes "names-rename"
 work_word HandlesGrant = codes "handles-grant"
 work_word HandlesLookup = codes "handles-lookup"
 work_word HandlesClose = codes "handles-close"
+work_word Book = codes "book"
 
 -- all that can be done
 abbrev pub every_work : List Work
-every_work = Pattern ∷ Decode ∷ Judge ∷ JudgePlain ∷ NamesAdd ∷ NamesFind ∷ NamesRename ∷ HandlesGrant ∷ HandlesLookup ∷ HandlesClose ∷ []
+every_work = Pattern ∷ Decode ∷ Judge ∷ JudgePlain ∷ NamesAdd ∷ NamesFind ∷ NamesRename ∷ HandlesGrant ∷ HandlesLookup ∷ HandlesClose ∷ Book ∷ []
 
 -- the work of a word
 abbrev pub work_by : List ℕ → Option Work

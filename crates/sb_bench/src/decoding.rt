@@ -93,8 +93,8 @@ fn spoiled(block: &[u64], number: u64) -> Option<Words>
     }
 }
 
-// The words with another one at a place, where there is that place.
-fn changed(block: &[u64], place: usize, word: u64) -> Option<Words>
+/// The words with another one at a place, where there is that place.
+pub fn changed(block: &[u64], place: usize, word: u64) -> Option<Words>
     requires { length block.now ≤ 64 }
 {
     if place >= block.len() {
@@ -109,8 +109,8 @@ fn changed(block: &[u64], place: usize, word: u64) -> Option<Words>
     Some(words)
 }
 
-// The copy of these words, where the count of the block was seen before.
-fn copy_of(block: &[u64], words: Words) -> Option<Taken> {
+/// The copy of these words, where the count of the block was seen before.
+pub fn copy_of(block: &[u64], words: Words) -> Option<Taken> {
     let count = *block.get(2)?;
     let end = words.len() as u64;
     Taken::of(count, end, words)

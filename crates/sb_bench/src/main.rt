@@ -6,6 +6,7 @@ ghost use Rattle.std.specs.Prelude.{◌≡◌};
 ghost use Rattle.std.specs.Process.{exit_status};
 ghost use Rattle.sb_bench.specs.Ends.{code_of};
 
+mod answering;
 mod calls;
 mod decoding;
 mod ends;
@@ -14,10 +15,13 @@ mod judging;
 mod matching;
 mod naming;
 mod orders;
+mod outcomes;
 mod rules;
+mod steps;
 mod telling;
 #[cfg(test)]
 mod tests;
+mod texts;
 
 use ends::{End, exit_code};
 use orders::order_of;

@@ -27,6 +27,8 @@ pub enum Work {
     HandlesLookup,
     /// Handles are granted and closed.
     HandlesClose,
+    /// Copies of calls are answered by a book; each answer is a round.
+    Book,
 }
 
 /// Work, and in how many rounds.
@@ -54,6 +56,7 @@ fn work_word(work: Work) -> &'static [u8]
         Work::HandlesGrant => b"handles-grant",
         Work::HandlesLookup => b"handles-lookup",
         Work::HandlesClose => b"handles-close",
+        Work::Book => b"book",
     }
 }
 
@@ -71,6 +74,7 @@ fn every_work() -> &'static [Work]
         Work::HandlesGrant,
         Work::HandlesLookup,
         Work::HandlesClose,
+        Work::Book,
     ]
 }
 

@@ -1,11 +1,13 @@
 // Each work, and the line that tells what came of it.
 ghost use Rattle.std.specs.Prelude.{◌≤◌};
 
+use crate::answering::answered_book;
 use crate::calls::{calls, compiled_policy};
 use crate::decoding::{Tally, copies, decode_rounds};
 use crate::ends::End;
 use crate::judging::{judge_plain_rounds, judge_rounds};
 use crate::orders::{Order, Work};
+use crate::outcomes::{Outcomes, outcomes_of};
 use crate::{holding, matching, naming};
 
 /// Does what is ordered, and tells how often it was tried and how often it came to something.
@@ -24,6 +26,7 @@ pub fn tell<R: Print + AllocGlobal>(rt: &R, order: Order) -> Result<(), End>
         Work::HandlesGrant => tell_grants(rt, rounds),
         Work::HandlesLookup => tell_lookups(rt, rounds),
         Work::HandlesClose => tell_closes(rt, rounds),
+        Work::Book => tell_answers(rt, rounds),
     }
 }
 
@@ -144,4 +147,27 @@ fn tell_closes<R: Print + AllocGlobal>(rt: &R, rounds: u64) -> Result<(), End>
     let handles = holding::handles(alloc)?;
     let closed = holding::close_rounds(alloc, &handles, rounds)?;
     put(rt, "handles-close", rounds * 100_000, "closed", closed)
+}
+
+// Answers so many copies, and tells how many were performed, of these how many with a status that is no error, and how many
+// were faked, denied and refused.
+fn tell_answers<R: Print + AllocGlobal>(rt: &R, count: u64) -> Result<(), End> {
+    let book = answered_book(rt.alloc(), count)?;
+    put_outcomes(rt, count, outcomes_of(book.entries()))
+}
+
+fn put_outcomes<R: Print>(rt: &R, answered: u64, outcomes: Outcomes) -> Result<(), End> {
+    let Outcomes {
+        performed,
+        succeeded,
+        faked,
+        denied,
+        refused,
+    } = outcomes;
+    match println!(rt;
+        "book {answered} performed {performed} succeeded {succeeded} faked {faked} denied {denied} refused {refused}"
+    ) {
+        Ok(()) => Ok(()),
+        Err(_) => Err(End::WriteFault),
+    }
 }

@@ -1,9 +1,11 @@
+use crate::answering::answered_book;
 use crate::calls::{calls, compiled_policy};
 use crate::decoding::{Tally, copies, decode_rounds};
 use crate::ends::End;
 use crate::judging::{judge_plain_rounds, judge_rounds};
 use crate::matching::{match_rounds, names, patterns};
 use crate::orders::{Order, Work, order_of};
+use crate::outcomes::{Outcomes, outcomes_of};
 use crate::{holding, naming};
 use std::test::Fail;
 
@@ -101,5 +103,19 @@ fn all_handles_are_granted_held_and_closed(rt: HostRuntime) -> Result<(), End> {
     assert_eq!(rt; holding::grant_rounds(alloc, 1)?, 100_000);
     assert_eq!(rt; holding::lookup_rounds(&table, &handles, 1), 100_000);
     assert_eq!(rt; holding::close_rounds(alloc, &handles, 1)?, 100_000);
+    Ok(())
+}
+
+#[test]
+fn a_book_answers_each_call_as_its_rule_says(rt: HostRuntime) -> Result<(), End> {
+    let book = answered_book(rt.alloc(), 64)?;
+    let wanted = Outcomes {
+        performed: 40,
+        succeeded: 36,
+        faked: 4,
+        denied: 12,
+        refused: 8,
+    };
+    assert_eq!(rt; outcomes_of(book.entries()), wanted);
     Ok(())
 }
