@@ -12,15 +12,6 @@ pub const POLICY: &[u8] =
 pub const SCRIPT: &[u8] =
     b"sandbox-script 1\ntarget tab web 1\nthread\ncall event.create \"\\good\" 0 0\ncall event.create \"\\bad\" 0 0\n";
 
-/// The lines of its transcript.
-pub const LINES: [&[u8]; 5] = [
-    b"entry 0 tab 0 mark 65536 performed event.create \"\\\\good\" 0x0 0x0 rule 3 reply 0 00000000 1 [0,0]\n",
-    b"entry 1 tab 0 mark 65537 denied event.create norule reply 2 c0000022 0 []\n",
-    b"result tab 0 0 reply 0 0 00000000 1 [0,0]\n",
-    b"result tab 0 1 reply 0 2 c0000022 0 []\n",
-    b"total entries 2 performed 1 faked 0 denied 1 refused 0 results 2\n",
-];
-
 /// Its transcript.
 pub const TRANSCRIPT: &[u8] =
     b"entry 0 tab 0 mark 65536 performed event.create \"\\\\good\" 0x0 0x0 rule 3 reply 0 00000000 1 [0,0]

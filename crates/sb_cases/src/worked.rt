@@ -5,13 +5,14 @@ use sb_top::Status;
 use sb_wide::NoMemory;
 use std::alloc::Global;
 
-// A target may open documents for reading.
-const READING_POLICY: &[u8] = b"sandbox-policy 1
+/// A target may open documents for reading.
+pub const READING_POLICY: &[u8] = b"sandbox-policy 1
 policy web
 grant files_readonly \"\\/?/?\\C:\\docs\\*\"
 ";
 
-const READING_SCRIPT: &[u8] = b"sandbox-script 1
+/// It opens one for reading and then for writing.
+pub const READING_SCRIPT: &[u8] = b"sandbox-script 1
 dir \"\\??\"
 dir \"\\??\\C:\"
 dir \"\\??\\C:\\docs\"
@@ -22,7 +23,17 @@ call file.open \"\\??\\C:\\docs\\a.txt\" 0x80000000 7 0x40
 call file.open \"\\??\\C:\\docs\\a.txt\" 0x40000000 7 0x40
 ";
 
-const READING_TRANSCRIPT: &[u8] =
+/// The lines of its transcript.
+pub const READING_LINES: [&[u8]; 5] = [
+    b"entry 0 tab 0 mark 65536 performed file.open \"\\\\??\\\\C:\\\\docs\\\\a.txt\" 0x80000000 0x7 0x40 rule 3 reply 0 00000000 1 [1]\n",
+    b"entry 1 tab 0 mark 65537 denied file.open norule reply 2 c0000022 0 []\n",
+    b"result tab 0 0 reply 0 0 00000000 1 [1]\n",
+    b"result tab 0 1 reply 0 2 c0000022 0 []\n",
+    b"total entries 2 performed 1 faked 0 denied 1 refused 0 results 2\n",
+];
+
+/// Its transcript.
+pub const READING_TRANSCRIPT: &[u8] =
     b"entry 0 tab 0 mark 65536 performed file.open \"\\\\??\\\\C:\\\\docs\\\\a.txt\" 0x80000000 0x7 0x40 rule 3 reply 0 00000000 1 [1]
 entry 1 tab 0 mark 65537 denied file.open norule reply 2 c0000022 0 []
 result tab 0 0 reply 0 0 00000000 1 [1]
