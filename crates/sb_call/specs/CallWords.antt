@@ -3,6 +3,7 @@ use Rattle.std.specs.Prelude.{ℕ, Bool, nat_eq, List, [], ◌∷◌, Option, No
 use Rattle.std.specs.Cmp.Lexicographic.{pointwise}
 use Rattle.sb_call.specs.declared.tags.CallTag.{CallTag}
 use Rattle.sb_call.specs.declared.tags.CallTag.TheVariants.{Ping, FileCreate, FileOpen, FileQuery, FileRename, PipeCreate, KeyCreate, KeyOpen, EventCreate, EventOpen, HandleClose}
+pub use Rattle.sb_call.specs.Tags.{every_tag}
 
 -- a word is the expected one
 abbrev pub is_word : List ℕ → List ℕ → Bool
@@ -26,10 +27,6 @@ call_word KeyOpen = codes "key.open"
 call_word EventCreate = codes "event.create"
 call_word EventOpen = codes "event.open"
 call_word HandleClose = codes "handle.close"
-
--- all tags in the order of their numbers
-abbrev pub every_tag : List CallTag
-every_tag = Ping ∷ FileCreate ∷ FileOpen ∷ FileQuery ∷ FileRename ∷ PipeCreate ∷ KeyCreate ∷ KeyOpen ∷ EventCreate ∷ EventOpen ∷ HandleClose ∷ []
 
 -- the call of a word
 abbrev pub tag_of_word : List ℕ → Option CallTag

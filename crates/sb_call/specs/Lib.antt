@@ -1,8 +1,6 @@
 pub mod Arguments
 pub mod CallWords
-pub mod Equality
-pub mod EqualityLaws
-pub mod Scripts
+pub mod Equalities
 pub mod ShortNames
 pub mod Statuses
 pub mod Tags

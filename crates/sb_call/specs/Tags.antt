@@ -19,21 +19,18 @@ number_of EventCreate = 9
 number_of EventOpen = 10
 number_of HandleClose = 11
 
+-- all tags in the order of their numbers
+abbrev pub every_tag : List CallTag
+every_tag = Ping ∷ FileCreate ∷ FileOpen ∷ FileQuery ∷ FileRename ∷ PipeCreate ∷ KeyCreate ∷ KeyOpen ∷ EventCreate ∷ EventOpen ∷ HandleClose ∷ []
+
+-- the first of these tags whose number it is
+abbrev pub tag_among : List CallTag → ℕ → Option CallTag
+tag_among [] n = None
+tag_among (t ∷ ts) n = if n == number_of t then Some t else tag_among ts n
+
 -- the tag that a number stands for, where there is one
 abbrev pub tag_of : ℕ → Option CallTag
-tag_of n =
-    if n == 1 then Some Ping
-    else (if n == 2 then Some FileCreate
-    else (if n == 3 then Some FileOpen
-    else (if n == 4 then Some FileQuery
-    else (if n == 5 then Some FileRename
-    else (if n == 6 then Some PipeCreate
-    else (if n == 7 then Some KeyCreate
-    else (if n == 8 then Some KeyOpen
-    else (if n == 9 then Some EventCreate
-    else (if n == 10 then Some EventOpen
-    else (if n == 11 then Some HandleClose
-    else None))))))))))
+tag_of n = tag_among every_tag n
 
 -- the kinds of a call's parameters, in order
 abbrev pub shape_of : CallTag → List ParamKind

@@ -74,9 +74,7 @@ impl Extended {
         ensures { result ≡ self.now }
     {
         let mut items = ArrayVec::new();
-        for word in self.items.as_slice() {
-            items.push(*word);
-        }
+        let _fits = items.try_extend_from_slice(self.items.as_slice());
         Extended { items }
     }
 }

@@ -51,9 +51,7 @@ impl ShortName {
             return None;
         }
         let mut copy = ArrayVec::new();
-        for byte in bytes {
-            copy.push(*byte);
-        }
+        copy.try_extend_from_slice(bytes).ok()?;
         Some(ShortName { bytes: copy })
     }
 
@@ -70,9 +68,7 @@ impl ShortName {
         ensures { result ≡ self.now }
     {
         let mut bytes = ArrayVec::new();
-        for byte in self.bytes.as_slice() {
-            bytes.push(*byte);
-        }
+        let _fits = bytes.try_extend_from_slice(self.bytes.as_slice());
         ShortName { bytes }
     }
 }

@@ -8,8 +8,6 @@ mod lists;
 mod mem_files;
 mod mem_sink;
 mod sink;
-#[cfg(test)]
-mod tests;
 
 pub use files::{FileFault, Files};
 pub use gate::{Gate, OpenGate};

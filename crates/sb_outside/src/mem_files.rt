@@ -1,11 +1,11 @@
 // Files in memory.
 ghost use Rattle.std.specs.Prelude.{◌≡◌, ◌≤◌, Some, option_copied};
-ghost use Rattle.sb_outside.specs.MemFiles.{IsAnswer, found};
+ghost use Rattle.sb_outside.specs.MemFiles.{IsAnswer, content_of, found};
 
 use crate::files::{FileFault, Files};
 use crate::lists::{Bytes, Numbers, Text};
+use sb_items::Items;
 use std::alloc::Global;
-use std::marker::Model;
 
 /// A file in memory.
 #[derive(Debug, Drop, PartialEq)]
@@ -17,48 +17,18 @@ pub struct StoredFile {
 }
 
 /// A list of files in memory.
-#[derive(Debug, Drop)]
-pub struct FileList {
-    items: Vec<StoredFile>,
-}
+pub type FileList = Items<StoredFile>;
 
-impl Model for FileList {
-    ghost use Rattle.std.specs.Prelude.{List};
-    ghost use Rattle.sb_outside.specs.declared.mem_files.StoredFile.{StoredFile};
-
-    ghost Value = { List StoredFile };
-
-    ghost view = { λ f. f.items.items };
-}
-
-impl FileList {
-    ghost use Rattle.sb_outside.specs.MemFiles.{content_of};
-
-    /// The list of these files. It takes no memory.
-    pub fn new(items: Vec<StoredFile>) -> FileList
-        ensures { result ≡ items.items }
-    {
-        FileList { items }
-    }
-
-    /// The files, given back. It takes no memory.
-    pub fn into_items(self) -> Vec<StoredFile>
-        ensures { result.items ≡ self }
-    {
-        self.items
-    }
-
-    /// The content of the first file of this name, and `None` where there is none.
-    pub fn find(&self, name: &str) -> Option<&Bytes>
-        ensures { option_copied result ≡ content_of self.now name.now }
-    {
-        for file in &self.items {
-            if file.name.as_str() == name {
-                return Some(&file.content);
-            }
+// The content of the first file of this name, and `None` where there is none.
+fn content_of<'a>(files: &'a [StoredFile], name: &str) -> Option<&'a Bytes>
+    ensures { option_copied result ≡ content_of files.now name.now }
+{
+    for file in files {
+        if file.name.as_str() == name {
+            return Some(&file.content);
         }
-        None
     }
+    None
 }
 
 /// Files in memory. They tell what they hold.
@@ -75,7 +45,7 @@ pub struct MemFiles {
 }
 
 impl Files for MemFiles {
-    ghost use Rattle.sb_outside.specs.MemFiles.{content_of, read_of, after_read};
+    ghost use Rattle.sb_outside.specs.MemFiles.{read_of, after_read};
 
     ghost held = { λ m. Some (content_of m.files) };
 
@@ -88,11 +58,11 @@ impl Files for MemFiles {
         ensures counted { self.old.faults ≤ self.new.faults }
     {
         self.calls = self.calls.saturating_add(1);
-        if self.fails.contains(self.calls) {
+        if self.fails.as_slice().contains(&self.calls) {
             self.faults = self.faults.saturating_add(1);
             return Err(FileFault::Failed);
         }
-        content_within(alloc, self.files.find(name), most)
+        content_within(alloc, content_of(self.files.as_slice(), name), most)
     }
 }
 

@@ -77,7 +77,7 @@ impl Sink for MemSink {
         ensures room_kept { length self.new.bytes ≤ self.new.room }
     {
         self.calls = self.calls.saturating_add(1);
-        if self.fails.contains(self.calls) {
+        if self.fails.as_slice().contains(&self.calls) {
             self.faults = self.faults.saturating_add(1);
             return Err(SinkFault::Failed);
         }

@@ -2,3 +2,4 @@ pub mod Folding
 pub mod Paths
 pub mod Printable
 pub mod Quotes
+pub mod Padding

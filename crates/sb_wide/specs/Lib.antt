@@ -1,3 +1,4 @@
 pub mod Wide
 pub mod Names
 pub mod Quoting
+pub mod Numbers

@@ -2,7 +2,7 @@
 ghost use Rattle.std.specs.Prelude.{◌≡◌, ◌^◌, ◌<◌, ◌++◌, ◌≤◌, length, take, vec_len, OnOk, OnErr};
 ghost use Rattle.sb_wide.specs.Quoting.{quoted, quoted_unit, hex_digit};
 
-use crate::memory::NoMemory;
+use sb_items::NoMemory;
 
 /// How many bytes `quote_into` appends for these units, of which there are fewer than 2^60.
 pub fn quoted_len(units: &[u16]) -> u64

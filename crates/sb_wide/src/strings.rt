@@ -3,7 +3,7 @@ ghost use Rattle.std.specs.Prelude.{◌≡◌, IfOk, length};
 ghost use Rattle.std.specs.Str.{chars};
 ghost use Rattle.sb_wide.specs.Wide.{utf16_of};
 
-use crate::memory::NoMemory;
+use sb_items::{Copies, Exact, NoMemory};
 use std::alloc::Global;
 use std::marker::Model;
 
@@ -49,14 +49,10 @@ impl Wide {
     {
         self.units.len()
     }
+}
 
-    /// An equal string, in memory of its own.
-    ///
-    /// # Errors
-    /// `NoMemory` where there was none for the copy.
-    pub fn copy(&self, alloc: Global) -> Result<Wide, NoMemory>
-        ensures { IfOk result (λ w. w ≡ self.now) }
-    {
+impl Copies for Wide {
+    fn copy(&self, alloc: Global) -> Result<Wide, NoMemory> {
         wide_of(alloc, &self.units)
     }
 }
@@ -74,6 +70,12 @@ impl PartialEq for Wide {
     fn eq(&self, other: &Wide) -> bool {
         self.units == other.units
     }
+}
+
+impl Exact for Wide {
+    ghost use Rattle.std.specs.Cmp.Lexicographic.{bytes_decides};
+
+    ghost decides = { bytes_decides };
 }
 
 /// The UTF-16 units of a text: one for each character below 65,536, and a pair of surrogates for each other.
