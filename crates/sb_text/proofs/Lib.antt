@@ -7,3 +7,4 @@ pub mod TokenLaws
 pub mod Utf8Laws
 pub mod Values
 pub mod WordLemmas
+mod ReadingLaws

@@ -7,9 +7,9 @@ use Rattle.std.proofs.lemmas.List.Sums.{sum_by-cons}
 use Rattle.std.proofs.lemmas.Bool.Decides.{nat_tests}
 use Rattle.std.specs.Prelude.{count_by}
 use Rattle.std.specs.List.{flat_map, list_all, onto_first}
-use Rattle.sb_text.specs.Lines.{raw_lines, is_ended, is_skipped, has_cr, without_cr, NumberedRawLine, onto_raw, raw_lines_from, lines_from}
+use Rattle.sb_text.specs.Lines.{raw_lines, is_ended, is_skipped, has_cr, without_cr, numbered_from, raw_lines_from, lines_from}
 use Rattle.sb_text.proofs.Conjunctions.{both, and_true}
-use Rattle.sb_text.specs.LineLaws.{ended_from, WrittenRawLinesAreRead, RawLinesAreLines, is_line, ended, whole, WrittenLinesAreRead, LinesHoldNoLf, RawLinesJoin, LinesAreCounted, LinesAppend, SayingLinesAppend, NumbersAreWithin, OneCrIsDropped, OtherEndsAreKept}
+use Rattle.sb_text.specs.LineLaws.{WrittenRawLinesAreRead, RawLinesAreLines, is_line, ended, whole, WrittenLinesAreRead, LinesHoldNoLf, RawLinesJoin, LinesAreCounted, LinesAppend, SayingLinesAppend, NumbersAreWithin, OneCrIsDropped, OtherEndsAreKept}
 
 -- a line and its LF before other bytes
 line_first : (line rest : List ℕ) → is_line line ≡ true → raw_lines (line ++ 10 ∷ rest) ≡ line ∷ raw_lines rest
@@ -28,42 +28,28 @@ written_lines (line ∷ lines) h =
     ∙ line_first line (flat_map ended lines) (both _ _ h).0
     ∙ ap (λ ls. line ∷ ls) (written_lines lines (both _ _ h).1)
 
-raw_first : (n : ℕ) (line rest : List ℕ) → is_line line ≡ true → raw_lines_from n (line ++ 10 ∷ rest) ≡ record { number = n; bytes = line; is_ended = true } ∷ raw_lines_from (n + 1) rest
-raw_first n [] rest h = refl
-raw_first n (b ∷ line) rest h = by_first (b == 10) (both _ _ h).0 (raw_first n line rest (both _ _ h).1)
-  where
-    by_first : (t : Bool) → not t ≡ true → raw_lines_from n (line ++ 10 ∷ rest) ≡ record { number = n; bytes = line; is_ended = true } ∷ raw_lines_from (n + 1) rest
-        → cond t (record { number = n; bytes = []; is_ended = true } ∷ raw_lines_from (n + 1) (line ++ 10 ∷ rest)) (onto_raw n b (raw_lines_from n (line ++ 10 ∷ rest)))
-        ≡ record { number = n; bytes = b ∷ line; is_ended = true } ∷ raw_lines_from (n + 1) rest
-    by_first true k e = absurd (false≢true k)
-    by_first false k e = ap (onto_raw n b) e
+ended_ends : (front : List ℕ) (rest : List ℕ) → is_ended rest ≡ true → is_ended (front ++ 10 ∷ rest) ≡ true
+ended_ends [] [] h = refl
+ended_ends [] (c ∷ rest) h = h
+ended_ends (b ∷ []) rest h = ended_ends [] rest h
+ended_ends (b ∷ c ∷ front) rest h = ended_ends (c ∷ front) rest h
 
-written_raw_from : (n : ℕ) (lines : List (List ℕ)) → list_all is_line lines ≡ true → raw_lines_from n (flat_map ended lines) ≡ ended_from n lines
-written_raw_from n [] h = refl
-written_raw_from n (line ∷ lines) h =
-    ap (raw_lines_from n) (append_assoc line (10 ∷ []) (flat_map ended lines))
-    ∙ raw_first n line (flat_map ended lines) (both _ _ h).0
-    ∙ ap (λ ls. record { number = n; bytes = line; is_ended = true } ∷ ls) (written_raw_from (n + 1) lines (both _ _ h).1)
+all_ended : (lines : List (List ℕ)) → is_ended (flat_map ended lines) ≡ true
+all_ended [] = refl
+all_ended (line ∷ lines) =
+    ap is_ended (append_assoc line (10 ∷ []) (flat_map ended lines)) ∙ ended_ends line (flat_map ended lines) (all_ended lines)
 
 pub written_raw_lines : WrittenRawLinesAreRead
-written_raw_lines lines h = written_raw_from 1 lines h
+written_raw_lines lines h =
+    ap (λ ends. numbered_from 1 ends (raw_lines (flat_map ended lines))) (all_ended lines) ∙ ap (numbered_from 1 true) (written_lines lines h)
 
-bytes_onto : (n b : ℕ) (lines : List NumberedRawLine) → map (λ line. line.bytes) (onto_raw n b lines) ≡ onto_first b (map (λ line. line.bytes) lines)
-bytes_onto n b [] = refl
-bytes_onto n b (line ∷ lines) = refl
-
-raw_bytes_from : (n : ℕ) (bs : List ℕ) → map (λ line. line.bytes) (raw_lines_from n bs) ≡ raw_lines bs
-raw_bytes_from n [] = refl
-raw_bytes_from n (b ∷ bs) = by_first (b == 10) (raw_bytes_from (n + 1) bs) (raw_bytes_from n bs)
-  where
-    by_first : (t : Bool) → map (λ line. line.bytes) (raw_lines_from (n + 1) bs) ≡ raw_lines bs → map (λ line. line.bytes) (raw_lines_from n bs) ≡ raw_lines bs
-        → map (λ line. line.bytes) (cond t (record { number = n; bytes = []; is_ended = true } ∷ raw_lines_from (n + 1) bs) (onto_raw n b (raw_lines_from n bs)))
-        ≡ cond t ([] ∷ raw_lines bs) (onto_first b (raw_lines bs))
-    by_first true e f = ap (λ ls. [] ∷ ls) e
-    by_first false e f = bytes_onto n b (raw_lines_from n bs) ∙ ap (onto_first b) f
+numbered_bytes : (n : ℕ) (ends : Bool) (lines : List (List ℕ)) → map (λ line. line.bytes) (numbered_from n ends lines) ≡ lines
+numbered_bytes n ends [] = refl
+numbered_bytes n ends (line ∷ []) = refl
+numbered_bytes n ends (line ∷ next ∷ lines) = ap (λ ls. line ∷ ls) (numbered_bytes (n + 1) ends (next ∷ lines))
 
 pub raw_bytes : RawLinesAreLines
-raw_bytes bs = raw_bytes_from 1 bs
+raw_bytes bs = numbered_bytes 1 (is_ended bs) (raw_lines bs)
 
 onto_holds : (b : ℕ) (lines : List (List ℕ)) → not (b == 10) ≡ true → list_all is_line lines ≡ true → list_all is_line (onto_first b lines) ≡ true
 onto_holds b [] k h = rw (k) refl
@@ -77,32 +63,48 @@ no_lf (b ∷ bs) = by_first (b == 10) refl (no_lf bs)
     by_first true k e = e
     by_first false k e = onto_holds b (raw_lines bs) (ap not k) e
 
-ten : (b : ℕ) → (b == 10) ≡ true → 10 ≡ b
-ten b k = grind (arith, nat_tests)
-
-whole_onto : (n b : ℕ) (lines : List NumberedRawLine) → flat_map whole (onto_raw n b lines) ≡ b ∷ flat_map whole lines
-whole_onto n b [] = refl
-whole_onto n b (line ∷ lines) = by_end line.is_ended
-  where
-    by_end : (t : Bool) → cond t ((b ∷ line.bytes) ++ 10 ∷ []) (b ∷ line.bytes) ++ flat_map whole lines ≡ b ∷ (cond t (line.bytes ++ 10 ∷ []) line.bytes ++ flat_map whole lines)
-    by_end true = refl
-    by_end false = refl
-
-joined_from : (n : ℕ) (bs : List ℕ) → flat_map whole (raw_lines_from n bs) ≡ bs
-joined_from n [] = refl
-joined_from n (b ∷ bs) = by_first (b == 10) refl (joined_from (n + 1) bs) (joined_from n bs)
-  where
-    by_first : (t : Bool) → (b == 10) ≡ t → flat_map whole (raw_lines_from (n + 1) bs) ≡ bs → flat_map whole (raw_lines_from n bs) ≡ bs
-        → flat_map whole (cond t (record { number = n; bytes = []; is_ended = true } ∷ raw_lines_from (n + 1) bs) (onto_raw n b (raw_lines_from n bs))) ≡ b ∷ bs
-    by_first true k e f = ap (λ l. 10 ∷ l) e ∙ ap (λ x. x ∷ bs) (ten b k)
-    by_first false k e f = whole_onto n b (raw_lines_from n bs) ∙ ap (λ l. b ∷ l) f
-
-pub joined : RawLinesJoin
-joined bs = joined_from 1 bs
-
 onto_some : (b : ℕ) (xs : List (List ℕ)) → 0 < length (onto_first b xs)
 onto_some b [] = omega arith
 onto_some b (x ∷ xs) = omega arith
+
+pub lines_some : (b : ℕ) (bs : List ℕ) → 0 < length (raw_lines (b ∷ bs))
+lines_some b bs = by_first (b == 10)
+  where
+    by_first : (t : Bool) → 0 < length (cond t ([] ∷ raw_lines bs) (onto_first b (raw_lines bs)))
+    by_first true = omega arith
+    by_first false = onto_some b (raw_lines bs)
+
+ten : (b : ℕ) → (b == 10) ≡ true → 10 ≡ b
+ten b k = grind (arith, nat_tests)
+
+whole_onto : (n b : ℕ) (ends : Bool) (lines : List (List ℕ)) → 0 < length lines
+    → flat_map whole (numbered_from n ends (onto_first b lines)) ≡ b ∷ flat_map whole (numbered_from n ends lines)
+whole_onto n b ends [] h = absurd (omega arith)
+whole_onto n b true (line ∷ []) h = refl
+whole_onto n b false (line ∷ []) h = refl
+whole_onto n b ends (line ∷ next ∷ lines) h = refl
+
+whole_behind : (n : ℕ) (ends : Bool) (lines : List (List ℕ)) → 0 < length lines
+    → flat_map whole (numbered_from n ends ([] ∷ lines)) ≡ 10 ∷ flat_map whole (numbered_from (n + 1) ends lines)
+whole_behind n ends [] h = absurd (omega arith)
+whole_behind n ends (line ∷ lines) h = refl
+
+joined_from : (n : ℕ) (bs : List ℕ) → flat_map whole (raw_lines_from n bs) ≡ bs
+joined_from n [] = refl
+joined_from n (b ∷ []) = by_first (b == 10) refl
+  where
+    by_first : (t : Bool) → (b == 10) ≡ t → flat_map whole (numbered_from n t (cond t ([] ∷ []) ((b ∷ []) ∷ []))) ≡ b ∷ []
+    by_first true k = ap (λ x. x ∷ []) (ten b k)
+    by_first false k = refl
+joined_from n (b ∷ c ∷ bs) = by_first (b == 10) refl (joined_from (n + 1) (c ∷ bs)) (joined_from n (c ∷ bs))
+  where
+    by_first : (t : Bool) → (b == 10) ≡ t → flat_map whole (raw_lines_from (n + 1) (c ∷ bs)) ≡ c ∷ bs → flat_map whole (raw_lines_from n (c ∷ bs)) ≡ c ∷ bs
+        → flat_map whole (numbered_from n (is_ended (c ∷ bs)) (cond t ([] ∷ raw_lines (c ∷ bs)) (onto_first b (raw_lines (c ∷ bs))))) ≡ b ∷ c ∷ bs
+    by_first true k e f = whole_behind n (is_ended (c ∷ bs)) (raw_lines (c ∷ bs)) (lines_some c bs) ∙ ap (λ l. 10 ∷ l) e ∙ ap (λ x. x ∷ c ∷ bs) (ten b k)
+    by_first false k e f = whole_onto n b (is_ended (c ∷ bs)) (raw_lines (c ∷ bs)) (lines_some c bs) ∙ ap (λ l. b ∷ l) f
+
+pub joined : RawLinesJoin
+joined bs = joined_from 1 bs
 
 plus_zero : (n : ℕ) → n ≡ n + 0
 plus_zero n = omega arith
@@ -152,13 +154,6 @@ length_onto : (b : ℕ) (xs : List (List ℕ)) → 0 < length xs → length (ont
 length_onto b [] h = absurd (omega arith)
 length_onto b (x ∷ xs) h = refl
 
-lines_some : (b : ℕ) (bs : List ℕ) → 0 < length (raw_lines (b ∷ bs))
-lines_some b bs = by_first (b == 10)
-  where
-    by_first : (t : Bool) → 0 < length (cond t ([] ∷ raw_lines bs) (onto_first b (raw_lines bs)))
-    by_first true = omega arith
-    by_first false = onto_some b (raw_lines bs)
-
 pub counted : LinesAreCounted
 counted [] = refl
 counted (b ∷ []) = by_first (b == 10) refl
@@ -173,7 +168,7 @@ counted (b ∷ c ∷ bs) = by_first (b == 10) refl (counted (c ∷ bs))
     by_first true k e = omega (arith, e, sum_by-cons (λ x. cond (x == 10) 1 0) b (c ∷ bs), ap {B = ℕ} (λ t. cond t 1 0) k)
     by_first false k e = omega (arith, e, length_onto b (raw_lines (c ∷ bs)) (lines_some c bs), sum_by-cons (λ x. cond (x == 10) 1 0) b (c ∷ bs), ap {B = ℕ} (λ t. cond t 1 0) k)
 
-within_from : (n : ℕ) (lines : List (List ℕ)) (low high : ℕ) → low ≤ n → n + length lines ≤ high + 1 → list_all (λ line. nat_le low line.number && nat_le line.number high) (lines_from n lines) ≡ true
+pub within_from : (n : ℕ) (lines : List (List ℕ)) (low high : ℕ) → low ≤ n → n + length lines ≤ high + 1 → list_all (λ line. nat_le low line.number && nat_le line.number high) (lines_from n lines) ≡ true
 within_from n [] low high h k = refl
 within_from n (line ∷ lines) low high h k = by_skip (is_skipped (without_cr line)) (within_from (n + 1) lines low high (omega arith) (omega arith))
   where

@@ -1,9 +1,11 @@
 -- The lines of a text, cut at its first LF.
-use Rattle.std.proofs.Common.{nat_lt, ◌≡◌, ℕ, ◌+◌, ◌<◌, ◌==◌, List, [], ◌∷◌, length, take, drop, get_or, arith}
+use Rattle.std.proofs.Common.{nat_lt, ◌≡◌, ◌∙◌, ap, refl, sym, subst, suc, not, ◌-◌, ◌≤◌, Bool, true, false, cond, ℕ, ◌+◌, ◌<◌, ◌==◌, List, [], ◌∷◌, length, take, drop, get_or, arith}
+use Rattle.std.proofs.lemmas.List.{length-drop, length-take-le}
+use Rattle.sb_text.proofs.LineLaws.{lines_some}
 use Rattle.std.proofs.lemmas.Grind.{common_steps}
 use Rattle.std.proofs.lemmas.Bool.Decides.{nat_tests}
 use Rattle.std.specs.List.{position_or_len}
-use Rattle.sb_text.specs.Lines.{raw_lines, raw_lines_from}
+use Rattle.sb_text.specs.Lines.{raw_lines, is_ended, numbered_from, raw_lines_from}
 
 pub lines_at_first : (bs : List ℕ) → 0 < length bs → raw_lines bs ≡ take (position_or_len (λ b. b == 10) bs) bs ∷ raw_lines (drop (position_or_len (λ b. b == 10) bs + 1) bs)
 lines_at_first [] h = absurd (omega arith)
@@ -14,8 +16,53 @@ pub lf_at_first : (bs : List ℕ) → position_or_len (λ b. b == 10) bs < lengt
 lf_at_first [] h = absurd (omega arith)
 lf_at_first (b ∷ bs) h = grind (arith, nat_tests, common_steps, lf_at_first bs)
 
+abbrev first_end : List ℕ → ℕ
+first_end bs = position_or_len (λ b. b == 10) bs
+
+drop_more : (n b : ℕ) (bs : List ℕ) → drop (1 + n + 1) (b ∷ bs) ≡ drop (n + 1) bs
+drop_more n b bs = let e : 1 + n + 1 ≡ suc (n + 1) = omega arith in ap (λ n. drop n (b ∷ bs)) e
+
+-- where bytes follow the first LF, the last line ends as theirs does
+ends_as : (bs : List ℕ) → 0 < length (drop (first_end bs + 1) bs) → is_ended bs ≡ is_ended (drop (first_end bs + 1) bs)
+ends_as [] h = absurd (omega arith)
+ends_as (b ∷ []) h = grind (arith, nat_tests, common_steps)
+ends_as (b ∷ c ∷ bs) h = by_first (b == 10) h (ends_as (c ∷ bs))
+  where
+    by_first : (t : Bool) → 0 < length (drop (cond (not t) (1 + first_end (c ∷ bs)) 0 + 1) (b ∷ c ∷ bs))
+        → (0 < length (drop (first_end (c ∷ bs) + 1) (c ∷ bs)) → is_ended (c ∷ bs) ≡ is_ended (drop (first_end (c ∷ bs) + 1) (c ∷ bs)))
+        → is_ended (c ∷ bs) ≡ is_ended (drop (cond (not t) (1 + first_end (c ∷ bs)) 0 + 1) (b ∷ c ∷ bs))
+    by_first true h e = refl
+    by_first false h e =
+        let d = drop_more (first_end (c ∷ bs)) b (c ∷ bs) in
+        e (subst (λ (xs : List ℕ). 0 < length xs) d h) ∙ ap is_ended (sym d)
+
+-- where none follow, the first line is the last
+ends_here : (bs : List ℕ) → 0 < length bs → length (drop (first_end bs + 1) bs) ≡ 0 → is_ended bs ≡ nat_lt (length (take (first_end bs) bs)) (length bs)
+ends_here [] h k = absurd (omega arith)
+ends_here (b ∷ []) h k = grind (arith, nat_tests, common_steps)
+ends_here (b ∷ c ∷ bs) h k = grind (arith, nat_tests, common_steps, ends_here (c ∷ bs))
+
+is_shorter : (bs : List ℕ) (n : ℕ) → 0 < length (drop (n + 1) bs) → nat_lt (length (take n bs)) (length bs) ≡ true
+is_shorter bs n h =
+    let l : n < length bs = omega (arith, h, length-drop (n + 1) bs) in
+    ap (λ k. nat_lt k (length bs)) (length-take-le n bs (omega (arith, l))) ∙ grind (arith, nat_tests, l)
+
+one_more : (n : ℕ) (ends : Bool) (line : List ℕ) (lines : List (List ℕ)) → 0 < length lines
+    → numbered_from n ends (line ∷ lines) ≡ record { number = n; bytes = line; is_ended = true } ∷ numbered_from (n + 1) ends lines
+one_more n ends line [] h = absurd (omega arith)
+one_more n ends line (next ∷ lines) h = refl
+
 pub raw_lines_at_first : (bs : List ℕ) (n : ℕ) → 0 < length bs → raw_lines_from n bs
     ≡ record { number = n; bytes = take (position_or_len (λ b. b == 10) bs) bs; is_ended = nat_lt (length (take (position_or_len (λ b. b == 10) bs) bs)) (length bs) } ∷ raw_lines_from (n + 1) (drop (position_or_len (λ b. b == 10) bs + 1) bs)
-raw_lines_at_first [] n h = absurd (omega arith)
-raw_lines_at_first (b ∷ []) n h = grind (arith, nat_tests, common_steps)
-raw_lines_at_first (b ∷ c ∷ bs) n h = grind (arith, nat_tests, common_steps, raw_lines_at_first (c ∷ bs) n)
+raw_lines_at_first bs n h =
+    ap (numbered_from n (is_ended bs)) (lines_at_first bs h)
+    ∙ by_rest (take (first_end bs) bs) (drop (first_end bs + 1) bs) (ends_as bs) (ends_here bs h) (is_shorter bs (first_end bs))
+  where
+    by_rest : (line rest : List ℕ) → (0 < length rest → is_ended bs ≡ is_ended rest) → (length rest ≡ 0 → is_ended bs ≡ nat_lt (length line) (length bs))
+        → (0 < length rest → nat_lt (length line) (length bs) ≡ true)
+        → numbered_from n (is_ended bs) (line ∷ raw_lines rest) ≡ record { number = n; bytes = line; is_ended = nat_lt (length line) (length bs) } ∷ raw_lines_from (n + 1) rest
+    by_rest line [] later here less = ap (λ ends. record { number = n; bytes = line; is_ended = ends } ∷ []) (here refl)
+    by_rest line (c ∷ cs) later here less =
+        one_more n (is_ended bs) line (raw_lines (c ∷ cs)) (lines_some c cs)
+        ∙ ap (λ ends. record { number = n; bytes = line; is_ended = ends } ∷ numbered_from (n + 1) (is_ended bs) (raw_lines (c ∷ cs))) (sym (less (omega arith)))
+        ∙ ap (λ ends. record { number = n; bytes = line; is_ended = nat_lt (length line) (length bs) } ∷ numbered_from (n + 1) ends (raw_lines (c ∷ cs))) (later (omega arith))

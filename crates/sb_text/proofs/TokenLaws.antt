@@ -8,7 +8,7 @@ use Rattle.std.specs.List.{filter, list_all, onto_first, slice_split}
 use Rattle.sb_text.specs.Lines.{is_blank, is_skipped}
 use Rattle.sb_text.specs.Tokens.{Lexeme, Word, Quoted, Bad, Place, Between, InWord, InQuote, AfterQuote, scan, tokens_of}
 use Rattle.sb_text.specs.Words.{is_some_word, words_of}
-use Rattle.sb_text.specs.TokenLaws.{is_word_byte, is_quoted_byte, is_writable, written_token, written_line, are_found, WrittenTokensAreRead, TokenIsReadBeforeBlank, BrokenTokensAreBad, BlanksAreNothing, TokensAreFound, PlainLinesHaveWords, SayingLinesHaveTokens, FirstTokenSkips}
+use Rattle.sb_text.specs.TokenLaws.{is_word_byte, is_quoted_byte, is_writable, written_token, written_line, are_found, is_quotable, first_byte, WrittenTokensAreRead, TokenIsReadBeforeBlank, BrokenTokensAreBad, BlanksAreNothing, TokensAreFound, PlainLinesHaveWords, SayingLinesHaveTokens, FirstTokenSkips}
 use Rattle.sb_text.proofs.Conjunctions.{both, and_true}
 
 -- a blank at the end
@@ -261,9 +261,20 @@ first_says (b ∷ line) = by_first (is_blank b) (b == 34) refl (first_says line)
     by_first false true k e f g = quote_says b (scan (InQuote []) line) k f
     by_first false false k e f g = word_says b (scan (InWord (b ∷ [])) line) g
 
+byte_skips : (line : List ℕ) → 0 < length (tokens_of line) → is_skipped line ≡ (first_byte line == 35)
+byte_skips [] h = absurd (omega arith)
+byte_skips (b ∷ line) h = by_first (is_blank b) h (byte_skips line)
+  where
+    by_first : (s : Bool) → 0 < length (cond s (scan Between line) (cond (b == 34) (scan (InQuote []) line) (scan (InWord (b ∷ [])) line)))
+        → (0 < length (scan Between line) → is_skipped line ≡ (first_byte line == 35))
+        → cond s (is_skipped line) (b == 35) ≡ (cond s (first_byte line) b == 35)
+    by_first true h e = e h
+    by_first false h e = refl
+
 pub first_skips : FirstTokenSkips
 first_skips = (
   λ line e. subst (λ ts. FirstSays ts (is_skipped line)) e (first_says line),
+  λ line token tokens e. byte_skips line (subst (λ ts. 0 < length ts) (sym e) (omega arith)),
   λ line q tokens e. subst (λ ts. FirstSays ts (is_skipped line)) e (first_says line),
   λ line w tokens e. subst (λ ts. FirstSays ts (is_skipped line)) e (first_says line),
 )
@@ -322,3 +333,19 @@ plain_line (c ∷ line) h = plain_step c line (both _ _ h).0 (plain_line line (b
 
 pub plain : PlainLinesHaveWords
 plain line h = (plain_line line h).between
+
+-- behind a token that was found the others were found too
+pub found_next : (token : Lexeme) (tokens others : List Lexeme) → are_found (token ∷ tokens) ≡ true → tokens ≡ others → are_found others ≡ true
+found_next token tokens others h e = subst (λ tokens. are_found tokens ≡ true) e (found_behind token tokens h)
+  where
+    found_behind : (token : Lexeme) (tokens : List Lexeme) → are_found (token ∷ tokens) ≡ true → are_found tokens ≡ true
+    found_behind (Word w) tokens h = (both (is_writable (Word w)) (are_found tokens) h).1
+    found_behind (Quoted q) tokens h = (both (is_writable (Quoted q)) (are_found tokens) h).1
+    found_behind Bad [] h = refl
+    found_behind Bad (token ∷ tokens) h = (both (is_writable Bad) (are_found (token ∷ tokens)) h).1
+
+-- a token that was found can be quoted
+pub sound_next : (token : Lexeme) (tokens : List Lexeme) → are_found (token ∷ tokens) ≡ true → is_quotable token ≡ true
+sound_next (Word w) tokens h = refl
+sound_next (Quoted q) tokens h = (both (is_writable (Quoted q)) (are_found tokens) h).0
+sound_next Bad tokens h = refl

@@ -3,7 +3,10 @@ pub mod Numbers
 pub mod Tokens
 pub mod Utf8
 pub mod Words
+pub mod Steps
+pub mod Readings
 pub mod LineLaws
 pub mod TokenLaws
 pub mod NumberLaws
 pub mod Utf8Laws
+pub mod ReadingLaws

@@ -1,7 +1,7 @@
 -- What is true of the lines of each text.
 use Rattle.std.specs.Prelude.{◌≡◌, ℕ, ◌+◌, Bool, true, false, not, ◌&&◌, nat_le, ◌==◌, List, [], ◌∷◌, ◌++◌, length, map, count_by, if◌then◌else◌}
 use Rattle.std.specs.List.{flat_map, list_all}
-use Rattle.sb_text.specs.Lines.{raw_lines, is_ended, without_cr, NumberedRawLine, numbered_raw_lines, lines_from, lines_of}
+use Rattle.sb_text.specs.Lines.{raw_lines, is_ended, without_cr, NumberedRawLine, numbered_from, numbered_raw_lines, lines_from, lines_of}
 
 -- any byte but LF
 abbrev pub is_line_byte : ℕ → Bool
@@ -23,14 +23,9 @@ whole line = if line.is_ended then ended line.bytes else line.bytes
 abbrev pub WrittenLinesAreRead : Type 0
 WrittenLinesAreRead = (lines : List (List ℕ)) → list_all is_line lines ≡ true → raw_lines (flat_map ended lines) ≡ lines
 
--- these lines with an LF behind each, numbered from n
-abbrev pub ended_from : ℕ → List (List ℕ) → List NumberedRawLine
-ended_from n [] = []
-ended_from n (line ∷ lines) = record { number = n; bytes = line; is_ended = true } ∷ ended_from (n + 1) lines
-
 -- the same of lines as they stand between LFs
 abbrev pub WrittenRawLinesAreRead : Type 0
-WrittenRawLinesAreRead = (lines : List (List ℕ)) → list_all is_line lines ≡ true → numbered_raw_lines (flat_map ended lines) ≡ ended_from 1 lines
+WrittenRawLinesAreRead = (lines : List (List ℕ)) → list_all is_line lines ≡ true → numbered_raw_lines (flat_map ended lines) ≡ numbered_from 1 true lines
 
 -- the lines as they stand between LFs, without their numbers and ends, are the lines
 abbrev pub RawLinesAreLines : Type 0

@@ -19,17 +19,16 @@ pub record NumberedRawLine : Type 0 where
   pub bytes : List ℕ
   pub is_ended : Bool
 
--- the lines with this byte put before the first, whose number is n
-abbrev pub onto_raw : ℕ → ℕ → List NumberedRawLine → List NumberedRawLine
-onto_raw n b [] = record { number = n; bytes = b ∷ []; is_ended = false } ∷ []
-onto_raw n b (line ∷ lines) = record { number = line.number; bytes = b ∷ line.bytes; is_ended = line.is_ended } ∷ lines
+-- these lines as they stand between LFs, numbered from n: an LF follows each but the last, and the last where the test says so
+abbrev pub numbered_from : ℕ → Bool → List (List ℕ) → List NumberedRawLine
+numbered_from n last_ended [] = []
+numbered_from n last_ended (line ∷ []) = record { number = n; bytes = line; is_ended = last_ended } ∷ []
+numbered_from n last_ended (line ∷ next ∷ lines) =
+    record { number = n; bytes = line; is_ended = true } ∷ numbered_from (n + 1) last_ended (next ∷ lines)
 
 -- the lines of these bytes as they stand between LFs, numbered from n
 abbrev pub raw_lines_from : ℕ → List ℕ → List NumberedRawLine
-raw_lines_from n [] = []
-raw_lines_from n (b ∷ bs) =
-    if b == 10 then record { number = n; bytes = []; is_ended = true } ∷ raw_lines_from (n + 1) bs
-    else onto_raw n b (raw_lines_from n bs)
+raw_lines_from n bs = numbered_from n (is_ended bs) (raw_lines bs)
 
 -- the lines of bytes as they stand between LFs, numbered from 1
 abbrev pub numbered_raw_lines : List ℕ → List NumberedRawLine

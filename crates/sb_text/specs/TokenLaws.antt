@@ -1,5 +1,5 @@
 -- What is true of the tokens of each line.
-use Rattle.std.specs.Prelude.{◌≡◌, ℕ, Bool, true, false, not, ◌&&◌, ◌<◌, nat_lt, ◌==◌, List, [], ◌∷◌, ◌++◌, length, map, slice_index}
+use Rattle.std.specs.Prelude.{◌≡◌, ℕ, Bool, true, false, not, ◌&&◌, ◌<◌, nat_lt, ◌==◌, List, [], ◌∷◌, ◌++◌, length, map, slice_index, if◌then◌else◌}
 use Rattle.std.specs.List.{list_all}
 use Rattle.sb_text.specs.Lines.{is_blank, is_skipped}
 use Rattle.sb_text.specs.Tokens.{Lexeme, Word, Quoted, Bad, tokens_of}
@@ -37,6 +37,17 @@ are_found [] = true
 are_found (Bad ∷ []) = true
 are_found (token ∷ tokens) = is_writable token && are_found tokens
 
+-- what a quoted token holds can stand between quotes
+abbrev pub is_quotable : Lexeme → Bool
+is_quotable (Quoted q) = list_all is_quoted_byte q
+is_quotable (Word w) = true
+is_quotable Bad = true
+
+-- the first byte that is no blank, and 0 where there is none
+abbrev pub first_byte : List ℕ → ℕ
+first_byte [] = 0
+first_byte (b ∷ bs) = if is_blank b then first_byte bs else b
+
 -- a token and a blank: the token is found, and the rest of the line is read for itself
 abbrev pub TokenIsReadBeforeBlank : Type 0
 TokenIsReadBeforeBlank = (token : Lexeme) (b : ℕ) (rest : List ℕ) → is_writable token ≡ true → is_blank b ≡ true → tokens_of (written_token token ++ b ∷ rest) ≡ token ∷ tokens_of rest
@@ -69,9 +80,11 @@ PlainLinesHaveWords = (line : List ℕ) → list_all (λ b. not (b == 34)) line 
 abbrev pub SayingLinesHaveTokens : Type 0
 SayingLinesHaveTokens = (line : List ℕ) → is_skipped line ≡ false → 0 < length (tokens_of line)
 
--- a line without tokens is skipped, one whose first token is quoted is not, and one whose first token is a word exactly where that begins with `#`
+-- a line without tokens is skipped, and one with a token, also one that breaks the rules, exactly where its first byte that is no
+-- blank is `#`. So one whose first token is quoted is not, and one whose first token is a word exactly where that begins with `#`
 abbrev pub FirstTokenSkips : Type 0
 FirstTokenSkips =
     ((line : List ℕ) → tokens_of line ≡ [] → is_skipped line ≡ true)
+    × ((line : List ℕ) (token : Lexeme) (tokens : List Lexeme) → tokens_of line ≡ token ∷ tokens → is_skipped line ≡ (first_byte line == 35))
     × ((line q : List ℕ) (tokens : List Lexeme) → tokens_of line ≡ Quoted q ∷ tokens → is_skipped line ≡ false)
     × ((line w : List ℕ) (tokens : List Lexeme) → tokens_of line ≡ Word w ∷ tokens → is_skipped line ≡ (slice_index w 0 == 35))

@@ -1,5 +1,6 @@
--- The tokens of a line.
-use Rattle.std.specs.Prelude.{ℕ, List, [], ◌∷◌, ◌++◌, ◌==◌, nat_lt, if◌then◌else◌}
+-- The tokens of a line. The laws in TokenLaws say what they are without the scan, and may be read first: WrittenTokensAreRead and
+-- TokensAreFound (tokens and lines as they are written), BrokenTokensAreBad (what breaks the rules), FirstTokenSkips (comments).
+use Rattle.std.specs.Prelude.{ℕ, List, [], ◌∷◌, ◌++◌, ◌==◌, nat_lt, Option, None, Some, if◌then◌else◌}
 use Rattle.std.specs.Str.{chars}
 use Rattle.sb_wide.specs.Wide.{utf16_of}
 use Rattle.sb_text.specs.Lines.{is_blank}
@@ -48,6 +49,11 @@ abbrev pub lexeme_of : Token → Lexeme
 lexeme_of (token.Word w) = Word w.now
 lexeme_of (token.Quoted w) = Quoted w.now
 lexeme_of token.Bad = Bad
+
+-- the token at hand, and those after it
+abbrev pub at_hand : Option Token → List Lexeme → List Lexeme
+at_hand None tokens = []
+at_hand (Some token) tokens = lexeme_of token ∷ tokens
 
 -- the wide string that a quoted token means: the UTF-16 units of its characters, without escapes
 abbrev pub string_of : List ℕ → List ℕ

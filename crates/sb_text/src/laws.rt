@@ -1,4 +1,5 @@
 // Laws of the definitions.
+ghost use Rattle.sb_text.specs.ReadingLaws.{NoLineAddsNothing, FirstLineAdds, FirstLineIsRefused, FirstFaultsStay, LinesBeforeAreRead, SkippedLinesCountAlone};
 ghost use Rattle.sb_text.specs.LineLaws.{WrittenRawLinesAreRead, RawLinesAreLines, WrittenLinesAreRead, LinesHoldNoLf, RawLinesJoin, LinesAreCounted, LinesAppend, SayingLinesAppend, NumbersAreWithin, OneCrIsDropped, OtherEndsAreKept};
 ghost use Rattle.sb_text.specs.Utf8Laws.{NotUtf8LineTells};
 ghost use Rattle.sb_text.specs.TokenLaws.{TokenIsReadBeforeBlank, BrokenTokensAreBad, WrittenTokensAreRead, TokensAreFound, BlanksAreNothing, PlainLinesHaveWords, SayingLinesHaveTokens, FirstTokenSkips};
@@ -80,8 +81,8 @@ pub fn saying_lines_have_tokens()
     ensures { SayingLinesHaveTokens }
 {}
 
-/// A line without tokens is skipped, one whose first token is quoted is not, and one whose first
-/// token is a word exactly where that begins with `#`.
+/// A line without tokens is skipped, and one with a token, also one that breaks the rules, exactly where its first byte that
+/// is no blank is `#`.
 pub fn first_token_skips()
     ensures { FirstTokenSkips }
 {}
@@ -115,4 +116,31 @@ pub fn other_ends_are_kept()
 /// number of LF in their longest front that is.
 pub fn not_utf8_line_tells()
     ensures { NotUtf8LineTells }
+{}
+
+/// Lines are read one after another, up to the first that is refused.
+#[tactic(auto, using(crate::proofs::ReadingLaws::no_line, crate::proofs::ReadingLaws::first_adds, crate::proofs::ReadingLaws::first_refused))]
+pub fn lines_are_read_in_turn<D, K>()
+    ensures end { NoLineAddsNothing D K }
+    ensures more { FirstLineAdds D K }
+    ensures refused { FirstLineIsRefused D K }
+{}
+
+/// A fault on one of the first lines of a text, some of which have tokens, is that of each text that begins with these
+/// lines: a fault depends on its line and on those before it alone.
+#[tactic(auto, using(crate::proofs::ReadingLaws::first_faults_stay))]
+pub fn first_faults_stay<D, K>()
+    ensures { FirstFaultsStay D K }
+{}
+
+/// The lines before the one with the fault, where some of them have tokens, are read.
+#[tactic(auto, using(crate::proofs::ReadingLaws::lines_before))]
+pub fn lines_before_are_read<D, K>()
+    ensures { LinesBeforeAreRead D K }
+{}
+
+/// A line that is skipped may be put in anywhere below the first with tokens, and changes nothing but numbers of lines.
+#[tactic(auto, using(crate::proofs::ReadingLaws::skipped_lines))]
+pub fn skipped_lines_count_alone<D, K>()
+    ensures { SkippedLinesCountAlone D K }
 {}

@@ -6,12 +6,13 @@
 mod blanks;
 mod byte_lines;
 mod cuts;
+mod first_tokens;
 mod laws;
 mod lines;
 mod numbers;
 mod raw_lines;
-#[cfg(test)]
-mod tests;
+mod refusals;
+mod steps;
 mod tokens;
 mod utf8;
 mod words;
@@ -19,16 +20,19 @@ mod words;
 pub use byte_lines::{ByteLine, ByteLines};
 pub use cuts::line_count;
 pub use laws::{
-    blanks_are_nothing, broken_tokens_are_bad, decimals_are_read, first_token_skips,
-    hexadecimals_are_read, lines_append, lines_are_counted, lines_hold_no_lf, not_utf8_line_tells,
+    blanks_are_nothing, broken_tokens_are_bad, decimals_are_read, first_faults_stay,
+    first_token_skips, hexadecimals_are_read, lines_append, lines_are_counted,
+    lines_are_read_in_turn, lines_before_are_read, lines_hold_no_lf, not_utf8_line_tells,
     numbers_are_within, one_cr_is_dropped, other_ends_are_kept, plain_lines_have_words,
     raw_lines_are_lines, raw_lines_join, saying_lines_append, saying_lines_have_tokens,
-    token_is_read_before_blank, tokens_are_found, written_lines_are_read,
-    written_raw_lines_are_read, written_tokens_are_read,
+    skipped_lines_count_alone, token_is_read_before_blank, tokens_are_found,
+    written_lines_are_read, written_raw_lines_are_read, written_tokens_are_read,
 };
 pub use lines::{Line, Lines};
 pub use numbers::{decimal_of, number_of};
 pub use raw_lines::{RawLine, RawLines};
+pub use refusals::{LineFault, Refused};
+pub use steps::{end_at, or_fault, quoted_at, word_at};
 pub use tokens::{Token, Tokens};
 pub use utf8::{NotUtf8, string_of, text_of};
 pub use words::Words;

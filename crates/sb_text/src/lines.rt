@@ -1,11 +1,12 @@
 // The lines of a text that say something, one after another.
 ghost use Rattle.std.specs.Prelude.{◌≡◌, ◌∷◌, ◌+◌, ◌<◌, ◌≤◌, ◌^◌, [], length, MatchOption};
 ghost use Rattle.sb_text.specs.Lines.{NumberedLine, lines_of, lines_from, raw_lines};
+ghost use Rattle.sb_text.specs.Steps.{version_of};
 ghost use Rattle.sb_text.specs.Tokens.{tokens_of};
 
 use crate::blanks::is_skipped;
 use crate::cuts::{cut_text, text_without_cr};
-use crate::tokens::Tokens;
+use crate::tokens::{Token, Tokens};
 use std::marker::Model;
 
 /// A line that says something.
@@ -23,6 +24,24 @@ impl<'a> Line<'a> {
         ensures { result ≡ tokens_of self.now.text.now }
     {
         Tokens::new(self.text)
+    }
+
+    /// The version that the line names: the word `name`, and a digit from 1 to `most`.
+    pub fn version(&self, name: &[u8], most: u8) -> Option<u32>
+        requires { most ≤ 9 }
+        ensures { result ≡ version_of name.now most (tokens_of self.now.text.now) }
+    {
+        let mut tokens = self.tokens();
+        let first = tokens.next_token();
+        let second = tokens.next_token();
+        let more = tokens.next_token();
+        match (first, second, more) {
+            (Some(Token::Word(word)), Some(Token::Word([digit])), None)
+                if word == name && b'1' <= *digit && *digit <= b'0' + most => {
+                Some(u32::from(*digit - b'0'))
+            }
+            _ => None,
+        }
     }
 }
 

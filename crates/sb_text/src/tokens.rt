@@ -1,10 +1,11 @@
 // The tokens of a line, one after another.
-ghost use Rattle.std.specs.Prelude.{◌≡◌, ◌∷◌, ◌<◌, ◌≤◌, [], length, slice_index, MatchOption, false, nat_lt, ◌&&◌};
-ghost use Rattle.sb_text.specs.Lines.{is_blank};
-ghost use Rattle.sb_text.specs.Tokens.{tokens_of, lexeme_of, scan, InWord, InQuote, AfterQuote};
+ghost use Rattle.std.specs.Prelude.{◌≡◌, ◌∷◌, [], true, if◌then◌else◌, IfSome, MatchOption};
+ghost use Rattle.sb_text.specs.Steps.{begins_with, later, is_end};
+ghost use Rattle.sb_text.specs.TokenLaws.{is_quotable};
+ghost use Rattle.sb_text.specs.Tokens.{tokens_of, lexeme_of};
 
-use crate::blanks::is_blank;
-use crate::cuts::after_ascii;
+use crate::first_tokens::cut_token;
+use crate::laws::tokens_are_found;
 use std::marker::Model;
 
 /// A token of a line, or bytes that break the rules for tokens.
@@ -18,104 +19,23 @@ pub enum Token<'a> {
     Bad,
 }
 
-/// What is left of a line: its tokens.
+/// What is left of a line: its tokens, the next of them at hand.
 #[derive(Debug, Drop)]
 pub struct Tokens<'a> {
+    next: Option<Token<'a>>,
     rest: &'a str,
 }
 
 impl<'a> Model for Tokens<'a> {
-    ghost use Rattle.std.specs.Prelude.{List};
-    ghost use Rattle.sb_text.specs.Tokens.{Lexeme, tokens_of};
+    ghost use Rattle.std.specs.Prelude.{◌≡◌, List, true};
+    ghost use Rattle.sb_text.specs.TokenLaws.{are_found};
+    ghost use Rattle.sb_text.specs.Tokens.{Lexeme, tokens_of, at_hand};
 
     ghost Value = { List Lexeme };
 
-    ghost view = { λ t. tokens_of t.rest.now };
-}
+    ghost view = { λ t. at_hand t.next (tokens_of t.rest.now) };
 
-// Whether a text begins with a blank.
-fn starts_with_blank(text: &str) -> bool
-    ensures { result ≡ (nat_lt 0 (length text.now) && is_blank (slice_index text.now 0)) }
-{
-    match text.as_bytes() {
-        [first, ..] => is_blank(*first),
-        [] => false,
-    }
-}
-
-// The text without the blanks that it begins with.
-#[tactic(auto, using(crate::proofs::Scans::scan_past_blank))]
-fn without_blanks(text: &str) -> &str
-    ensures tokens { tokens_of result.now ≡ tokens_of text.now }
-    ensures starts { 0 < length result.now → is_blank (slice_index result.now 0) ≡ false }
-    ensures shorter { length result.now ≤ length text.now }
-{
-    let mut rest = text;
-    while starts_with_blank(rest) {
-        rest = after_ascii(rest, 0);
-    }
-    rest
-}
-
-// The word that the text begins with, and what follows it.
-#[tactic(auto, using(crate::proofs::Scans::scan_word_at))]
-fn word<'a>(text: &'a str) -> (Token<'a>, &'a str)
-    requires some { 0 < length text.now }
-    requires starts { is_blank (slice_index text.now 0) ≡ false }
-    ensures token { scan (InWord []) text.now ≡ lexeme_of result.0 ∷ tokens_of result.1.now }
-    ensures shorter { length result.1.now < length text.now }
-{
-    let bytes = text.as_bytes();
-    let mut n = 0;
-    while n < bytes.len() && !is_blank(bytes[n]) {
-        if bytes[n] == b'"' {
-            return (Token::Bad, "");
-        }
-        n += 1;
-    }
-    (Token::Word(&bytes[..n]), &text[n..])
-}
-
-// The text up to the next quote, and what follows that.
-#[tactic(auto, using(crate::proofs::Scans::scan_quote_at))]
-fn quoted<'a>(text: &'a str) -> (Token<'a>, &'a str)
-    ensures token { scan (InQuote []) text.now ≡ lexeme_of result.0 ∷ tokens_of result.1.now }
-    ensures shorter { length result.1.now ≤ length text.now }
-{
-    let bytes = text.as_bytes();
-    let mut n = 0;
-    while n < bytes.len() && bytes[n] >= 32 {
-        if bytes[n] == b'"' {
-            return closed(&text[..n], after_ascii(text, n));
-        }
-        n += 1;
-    }
-    (Token::Bad, "")
-}
-
-// A quoted token, where a blank or nothing follows its second quote.
-fn closed<'a>(quoted: &'a str, rest: &'a str) -> (Token<'a>, &'a str)
-    ensures token { scan (AfterQuote quoted.now) rest.now ≡ lexeme_of result.0 ∷ tokens_of result.1.now }
-    ensures shorter { length result.1.now ≤ length rest.now }
-{
-    match rest.as_bytes() {
-        [first, ..] if !is_blank(*first) => (Token::Bad, ""),
-        _ => (Token::Quoted(quoted), rest),
-    }
-}
-
-// The first token of a text that begins with no blank, and what follows it.
-fn first_token<'a>(text: &'a str) -> (Token<'a>, &'a str)
-    requires some { 0 < length text.now }
-    requires starts { is_blank (slice_index text.now 0) ≡ false }
-    ensures token { tokens_of text.now ≡ lexeme_of result.0 ∷ tokens_of result.1.now }
-    ensures shorter { length result.1.now < length text.now }
-{
-    if text.as_bytes()[0] == b'"' {
-        quoted(after_ascii(text, 0))
-    } else {
-        word(text)
-    }
+    ghost invariant = { λ t. are_found (at_hand t.next (tokens_of t.rest.now)) ≡ true };
 }
 
 impl<'a> Tokens<'a> {
@@ -123,20 +43,57 @@ impl<'a> Tokens<'a> {
     pub fn new(line: &'a str) -> Tokens<'a>
         ensures { result ≡ tokens_of line.now }
     {
-        Tokens { rest: line }
+        tokens_are_found();
+        let (next, rest) = cut_token(line);
+        Tokens { next, rest }
     }
 
-    /// The next token. Nothing is left after one that breaks the rules.
+    /// The next token, which is passed. Nothing is left after one that breaks the rules.
+    #[tactic(auto, using(crate::proofs::TokenLaws::found_next, crate::proofs::TokenLaws::sound_next))]
     pub fn next_token(&mut self) -> Option<Token<'a>>
-        ensures { MatchOption result ((self.old ≡ []) × (self.new ≡ [])) (λ token. self.old ≡ lexeme_of token ∷ self.new) }
+        ensures token { MatchOption result ((self.old ≡ []) × (self.new ≡ [])) (λ token. self.old ≡ lexeme_of token ∷ self.new) }
+        ensures sound { IfSome result (λ token. is_quotable (lexeme_of token) ≡ true) }
     {
-        let rest = without_blanks(self.rest);
-        if rest.is_empty() {
-            self.rest = rest;
-            return None;
-        }
-        let (token, later) = first_token(rest);
-        self.rest = later;
+        let token = self.next?;
+        let (next, rest) = cut_token(self.rest);
+        self.next = next;
+        self.rest = rest;
         Some(token)
+    }
+
+    /// The next token, which is not passed.
+    pub fn peek(&self) -> Option<Token<'a>>
+        ensures { MatchOption result (self.now ≡ []) (λ token. self.now ≡ lexeme_of token ∷ later self.now) }
+    {
+        self.next
+    }
+
+    /// Whether the line ends here.
+    pub fn is_end(&self) -> bool
+        ensures { result ≡ is_end self.now }
+    {
+        self.next.is_none()
+    }
+
+    /// Whether the line goes on with this word.
+    pub fn begins_with(&self, expected: &[u8]) -> bool
+        ensures { result ≡ begins_with expected.now self.now }
+    {
+        match self.next {
+            Some(Token::Word(word)) => word == expected,
+            _ => false,
+        }
+    }
+
+    /// Passes a word where the line goes on with it, and returns whether it does.
+    pub fn pass_word(&mut self, expected: &[u8]) -> bool
+        ensures begins { result ≡ begins_with expected.now self.old }
+        ensures rest { self.new ≡ (if result then later self.old else self.old) }
+    {
+        let begins = self.begins_with(expected);
+        if begins {
+            self.next_token();
+        }
+        begins
     }
 }

@@ -1,7 +1,7 @@
 use Rattle.std.proofs.Common.{◌≡◌, ◌≤◌, length}
 use Rattle.std.specs.Str.{IsUtf8}
 use Rattle.sb_text.specs.Tokens.{tokens_of}
-use Rattle.sb_text.proofs.tokens.without_blanks.Given as goal
+use Rattle.sb_text.proofs.first_tokens.without_blanks.Given as goal
 
 abbrev pub invariant-loop-rest : goal.invariant-loop-rest
 invariant-loop-rest l = IsUtf8 l.rest × (length l.rest ≤ length l.text) × (tokens_of l.rest ≡ tokens_of l.text)

@@ -1,0 +1,237 @@
+-- The laws of texts that are read line by line.
+use Rattle.std.proofs.Common.{◌≡◌, refl, sym, ap, ◌∙◌, ℕ, ◌+◌, ◌<◌, ◌≤◌, List, [], ◌∷◌, ◌++◌, append-nil, Bool, true, false, ◌&&◌, nat_le, nat_lt, cond, length, map, Option, None, Some, Result, Ok, Err, arith}
+use Rattle.std.proofs.lemmas.Bool.{false≢true}
+use Rattle.std.proofs.lemmas.Bool.Decides.{nat_tests}
+use Rattle.std.specs.List.{list_all}
+use Rattle.sb_text.proofs.Conjunctions.{both, and_true}
+use Rattle.sb_text.proofs.LineLaws.{append, saying_append, within, within_from, written_lines}
+use Rattle.sb_text.specs.LineLaws.{ended, is_line}
+use Rattle.sb_text.specs.Lines.{NumberedLine, raw_lines, lines_from, lines_of, is_skipped, without_cr}
+use Rattle.sb_text.specs.ReadingLaws.{NoLineAddsNothing, FirstLineAdds, FirstLineIsRefused, FirstFaultsStay, LinesBeforeAreRead, MovesWith, SkippedLinesCountAlone}
+use Rattle.sb_text.specs.Readings.{Grammar, on_line, read_lines, read_below, read_by, is_some_line, renumbered_line, renumbered, behind}
+use Rattle.sb_text.specs.Steps.{◌>>=◌, on_value}
+use Rattle.sb_text.specs.declared.refusals.LineFault.{LineFault}
+use Rattle.sb_text.specs.declared.refusals.Refused.TheVariants.{Fault, NoMemory}
+
+pub no_line : {D K : Type 0} → NoLineAddsNothing D K
+unfolding read_lines
+no_line add sofar = refl
+
+pub first_adds : {D K : Type 0} → FirstLineAdds D K
+unfolding read_lines
+first_adds add sofar more line lines h = rw (h) refl
+
+pub first_refused : {D K : Type 0} → FirstLineIsRefused D K
+unfolding read_lines
+first_refused add sofar new line lines (Fault kind) h = rw (h) refl
+first_refused add sofar new line lines NoMemory h = tt
+
+nested : {D K : Type 0} (add : D → NumberedLine → Result D K) (xs ys : List NumberedLine) (first : Result D (LineFault K))
+    → ((more : D) → read_lines add more (xs ++ ys) ≡ (read_lines add more xs >>= λ more. read_lines add more ys))
+    → (first >>= λ more. read_lines add more (xs ++ ys)) ≡ ((first >>= λ more. read_lines add more xs) >>= λ more. read_lines add more ys)
+nested add xs ys (Ok more) h = h more
+nested add xs ys (Err fault) h = refl
+
+-- what lines and further lines add
+lines_append : {D K : Type 0} (add : D → NumberedLine → Result D K) (sofar : D) (xs ys : List NumberedLine)
+    → read_lines add sofar (xs ++ ys) ≡ (read_lines add sofar xs >>= λ more. read_lines add more ys)
+unfolding read_lines
+lines_append add sofar [] ys = refl
+lines_append add sofar (x ∷ xs) ys = nested add xs ys (on_line x.number (add sofar x)) (λ more. lines_append add more xs ys)
+
+abbrev line_in : {A K : Type 0} → Result A (LineFault K) → ℕ
+line_in (Ok x) = 0
+line_in (Err fault) = fault.line
+
+abbrev refused : {D K : Type 0} → LineFault K → Result D (LineFault K)
+refused fault = Err fault
+
+-- where this is a fault, it has such a number
+abbrev IsFaultIn : {D K : Type 0} → (ℕ → Bool) → Result D (LineFault K) → LineFault K → Type 0
+IsFaultIn p read fault = read ≡ Err fault → p fault.line ≡ true
+
+fault_here : {D K : Type 0} (p : ℕ → Bool) (n : ℕ) (kind : K) (fault : LineFault K) → p n ≡ true
+    → IsFaultIn {D = D} p (Err (record { line = n; kind = kind })) fault
+fault_here p n kind fault t e = ap p (sym (ap line_in e)) ∙ t
+
+first_among : {D K : Type 0} (p : ℕ → Bool) (n : ℕ) (read : Result D K) (rest : D → Result D (LineFault K)) (fault : LineFault K) → p n ≡ true
+    → ((more : D) → IsFaultIn p (rest more) fault) → IsFaultIn p (on_line n read >>= rest) fault
+first_among p n (Ok more) rest fault t h e = h more e
+first_among p n (Err kind) rest fault t h e = fault_here p n kind fault t e
+
+-- a fault has the number of one of the lines
+among : {D K : Type 0} (p : ℕ → Bool) (add : D → NumberedLine → Result D K) (sofar : D) (lines : List NumberedLine) (fault : LineFault K)
+    → list_all (λ line. p line.number) lines ≡ true → IsFaultIn p (read_lines add sofar lines) fault
+unfolding read_lines
+among p add sofar [] fault t e = absurd cc
+among p add sofar (x ∷ xs) fault t e =
+    first_among p x.number (add sofar x) (λ more. read_lines add more xs) fault (both _ _ t).0 (λ more. among p add more xs fault (both _ _ t).1) e
+
+below_among : {D K : Type 0} (p : ℕ → Bool) (grammar : Grammar D K) (n : ℕ) (version : Option ℕ) (lines : List NumberedLine) (fault : LineFault K)
+    → p n ≡ true → list_all (λ line. p line.number) lines ≡ true → IsFaultIn p (read_below grammar n version lines) fault
+below_among p grammar n None lines fault t h e = fault_here p n grammar.no_version fault t e
+below_among p grammar n (Some version) lines fault t h e = among p (grammar.add version) grammar.start lines fault h e
+
+-- a fault that is none of the rest comes from the front
+from_front : {D K : Type 0} (p : ℕ → Bool) (front : Result D (LineFault K)) (rest : D → Result D (LineFault K)) (fault : LineFault K)
+    → ((more : D) → IsFaultIn p (rest more) fault) → p fault.line ≡ false → (front >>= rest) ≡ Err fault → front ≡ Err fault
+from_front p (Ok more) rest fault h n e = absurd (false≢true (sym n ∙ h more e))
+from_front p (Err other) rest fault h n e = e
+
+-- behind a front that has no such fault it comes from the rest
+front_read : {D K : Type 0} (p : ℕ → Bool) (front : Result D (LineFault K)) (rest : D → Result D (LineFault K)) (fault : LineFault K)
+    → IsFaultIn p front fault → p fault.line ≡ false → (front >>= rest) ≡ Err fault → (read : D) × (front ≡ Ok read)
+front_read p (Ok more) rest fault h n e = (more, refl)
+front_read p (Err other) rest fault h n e = absurd (false≢true (sym n ∙ h e))
+
+below_stays : {D K : Type 0} (p : ℕ → Bool) (grammar : Grammar D K) (n : ℕ) (version : Option ℕ) (xs ys zs : List NumberedLine) (fault : LineFault K)
+    → list_all (λ line. p line.number) ys ≡ true → p fault.line ≡ false
+    → read_below grammar n version (xs ++ ys) ≡ Err fault → read_below grammar n version (xs ++ zs) ≡ Err fault
+below_stays p grammar n None xs ys zs fault h k e = e
+below_stays p grammar n (Some version) xs ys zs fault h k e =
+    let add = grammar.add version in
+    let front : read_lines add grammar.start xs ≡ Err fault =
+    from_front p (read_lines add grammar.start xs) (λ more. read_lines add more ys) fault (λ more. among p add more ys fault h) k
+    (sym (lines_append add grammar.start xs ys) ∙ e) in
+    lines_append add grammar.start xs zs ∙ ap (λ (front : Result _ (LineFault _)). front >>= λ more. read_lines add more zs) front
+
+below_read : {D K : Type 0} (p : ℕ → Bool) (grammar : Grammar D K) (n : ℕ) (version : Option ℕ) (xs ys : List NumberedLine) (fault : LineFault K)
+    → p n ≡ true → list_all (λ line. p line.number) xs ≡ true → p fault.line ≡ false
+    → read_below grammar n version (xs ++ ys) ≡ Err fault → (read : D) × (read_below grammar n version xs ≡ Ok read)
+below_read p grammar n None xs ys fault t h k e = absurd (false≢true (sym k ∙ fault_here p n grammar.no_version fault t e))
+below_read p grammar n (Some version) xs ys fault t h k e =
+    let add = grammar.add version in
+    front_read p (read_lines add grammar.start xs) (λ more. read_lines add more ys) fault (among p add grammar.start xs fault h) k
+    (sym (lines_append add grammar.start xs ys) ∙ e)
+
+lines_stay : {D K : Type 0} (p : ℕ → Bool) (grammar : Grammar D K) (front ys zs : List NumberedLine) (fault : LineFault K) → is_some_line front ≡ true
+    → list_all (λ line. p line.number) ys ≡ true → p fault.line ≡ false
+    → read_by grammar (front ++ ys) ≡ Err fault → read_by grammar (front ++ zs) ≡ Err fault
+lines_stay p grammar [] ys zs fault s h k e = absurd (false≢true s)
+lines_stay p grammar (x ∷ xs) ys zs fault s h k e = below_stays p grammar x.number (grammar.version x.text) xs ys zs fault h k e
+
+lines_read : {D K : Type 0} (p : ℕ → Bool) (grammar : Grammar D K) (front ys : List NumberedLine) (fault : LineFault K) → is_some_line front ≡ true
+    → list_all (λ line. p line.number) front ≡ true → p fault.line ≡ false
+    → read_by grammar (front ++ ys) ≡ Err fault → (read : D) × (read_by grammar front ≡ Ok read)
+lines_read p grammar [] ys fault s h k e = absurd (false≢true s)
+lines_read p grammar (x ∷ xs) ys fault s h k e =
+    below_read p grammar x.number (grammar.version x.text) xs ys fault (both _ _ h).0 (both _ _ h).1 k e
+
+outside : (low high k : ℕ) → k < low → (nat_le low k && nat_le k high) ≡ false
+outside low high k h = grind (arith, nat_tests)
+
+above : (low high k : ℕ) → high < k → (nat_le low k && nat_le k high) ≡ false
+above low high k h = grind (arith, nat_tests)
+
+pub first_faults_stay : {D K : Type 0} → FirstFaultsStay D K
+first_faults_stay grammar front rest other fault s l e =
+    let n = length (raw_lines (ended front)) in
+    let m = length (raw_lines rest) in
+    ap (read_by grammar) (saying_append front other)
+    ∙ lines_stay (λ k. nat_le (1 + n) k && nat_le k (n + m)) grammar (lines_of (ended front)) (lines_from (1 + n) (raw_lines rest))
+    (lines_from (1 + n) (raw_lines other)) fault s
+    (within_from (1 + n) (raw_lines rest) (1 + n) (n + m) (omega arith) (omega arith)) (outside (1 + n) (n + m) fault.line (omega (arith, l)))
+    (ap (read_by grammar) (sym (saying_append front rest)) ∙ e)
+
+pub lines_before : {D K : Type 0} → LinesBeforeAreRead D K
+lines_before grammar front rest fault s l e =
+    let n = length (raw_lines (ended front)) in
+    lines_read (λ k. nat_le 1 k && nat_le k n) grammar (lines_of (ended front)) (lines_from (1 + n) (raw_lines rest)) fault s
+    (within (ended front)) (above 1 n fault.line l) (ap (read_by grammar) (sym (saying_append front rest)) ∙ e)
+
+first_moves : {D K : Type 0} (f : ℕ → ℕ) (moved : D → D) (n : ℕ) (read other : Result D K) (rest others : D → Result D (LineFault K))
+    → on_value moved read ≡ other → ((more : D) → renumbered f moved (rest more) ≡ others (moved more))
+    → renumbered f moved (on_line n read >>= rest) ≡ (on_line (f n) other >>= others)
+first_moves f moved n (Ok more) other rest others e h = h more ∙ ap (λ read. on_line (f n) read >>= others) e
+first_moves f moved n (Err kind) other rest others e h = ap (λ read. on_line (f n) read >>= others) e
+
+lines_move : {D K : Type 0} (f : ℕ → ℕ) (moved : D → D) (add : D → NumberedLine → Result D K)
+    → ((sofar : D) (line : NumberedLine) → on_value moved (add sofar line) ≡ add (moved sofar) (renumbered_line f line))
+    → (sofar : D) (lines : List NumberedLine)
+    → renumbered f moved (read_lines add sofar lines) ≡ read_lines add (moved sofar) (map (renumbered_line f) lines)
+unfolding read_lines
+lines_move f moved add h sofar [] = refl
+lines_move f moved add h sofar (x ∷ xs) =
+    first_moves f moved x.number (add sofar x) (add (moved sofar) (renumbered_line f x)) (λ more. read_lines add more xs)
+    (λ more. read_lines add more (map (renumbered_line f) xs)) (h sofar x) (λ more. lines_move f moved add h more xs)
+
+below_moves : {D K : Type 0} (f : ℕ → ℕ) (moved : D → D) (grammar : Grammar D K) → MovesWith grammar f moved
+    → (n : ℕ) (version : Option ℕ) (lines : List NumberedLine)
+    → renumbered f moved (read_below grammar n version lines) ≡ read_below grammar (f n) version (map (renumbered_line f) lines)
+below_moves f moved grammar h n None lines = refl
+below_moves f moved grammar h n (Some version) lines =
+    lines_move f moved (grammar.add version) (h.1 version) grammar.start lines
+    ∙ ap (λ sofar. read_lines (grammar.add version) sofar (map (renumbered_line f) lines)) h.0
+
+-- what is read of lines with other numbers
+by_moves : {D K : Type 0} (f : ℕ → ℕ) (moved : D → D) (grammar : Grammar D K) → MovesWith grammar f moved → (lines : List NumberedLine)
+    → is_some_line lines ≡ true → renumbered f moved (read_by grammar lines) ≡ read_by grammar (map (renumbered_line f) lines)
+by_moves f moved grammar h [] s = absurd (false≢true s)
+by_moves f moved grammar h (x ∷ xs) s = below_moves f moved grammar h x.number (grammar.version x.text) xs
+
+front_stays : (f : ℕ → ℕ) (p : ℕ → Bool) (lines : List NumberedLine) → ((k : ℕ) → p k ≡ true → f k ≡ k)
+    → list_all (λ line. p line.number) lines ≡ true → map (renumbered_line f) lines ≡ lines
+front_stays f p [] h t = refl
+front_stays f p (x ∷ xs) h t =
+    ap (λ n. record { number = n; text = x.text } ∷ map (renumbered_line f) xs) (h x.number (both _ _ t).0)
+    ∙ ap (λ lines. x ∷ lines) (front_stays f p xs h (both _ _ t).1)
+
+rest_line : (f : ℕ → ℕ) (n : ℕ) (line : List ℕ) (raw : List (List ℕ)) (b : Bool) → f n ≡ n + 1
+    → map (renumbered_line f) (lines_from (n + 1) raw) ≡ lines_from (n + 1 + 1) raw
+    → map (renumbered_line f) (cond b (lines_from (n + 1) raw) (record { number = n; text = line } ∷ lines_from (n + 1) raw))
+    ≡ cond b (lines_from (n + 1 + 1) raw) (record { number = n + 1; text = line } ∷ lines_from (n + 1 + 1) raw)
+rest_line f n line raw true h e = e
+rest_line f n line raw false h e =
+    ap (λ k. record { number = k; text = line } ∷ map (renumbered_line f) (lines_from (n + 1) raw)) h
+    ∙ ap (λ lines. record { number = n + 1; text = line } ∷ lines) e
+
+rest_moves : (f : ℕ → ℕ) (m n : ℕ) (raw : List (List ℕ)) → ((k : ℕ) → m < k → f k ≡ k + 1) → m < n
+    → map (renumbered_line f) (lines_from n raw) ≡ lines_from (n + 1) raw
+rest_moves f m n [] h l = refl
+rest_moves f m n (line ∷ raw) h l =
+    rest_line f n (without_cr line) raw (is_skipped (without_cr line)) (h n l) (rest_moves f m (n + 1) raw h (omega (arith, l)))
+
+behind_stays : (n k : ℕ) → (nat_le 1 k && nat_le k n) ≡ true → behind n k ≡ k
+behind_stays n k h = let t : nat_le k n ≡ true = (both (nat_le 1 k) (nat_le k n) h).1 in let s : nat_lt n k ≡ false = grind (arith, nat_tests, t) in
+    ap (λ b. cond b (k + 1) k) s
+
+behind_moves : (n k : ℕ) → n < k → behind n k ≡ k + 1
+behind_moves n k l = let s : nat_lt n k ≡ true = grind (arith, nat_tests, l) in ap (λ b. cond b (k + 1) k) s
+
+map_append : {A B : Type 0} (f : A → B) (xs ys : List A) → map f (xs ++ ys) ≡ map f xs ++ map f ys
+map_append f [] ys = refl
+map_append f (x ∷ xs) ys = ap (λ zs. f x ∷ zs) (map_append f xs ys)
+
+one_line : (line : List ℕ) → is_line line ≡ true → raw_lines (ended line) ≡ line ∷ []
+one_line line h = ap raw_lines (sym (append-nil (ended line))) ∙ written_lines (line ∷ []) (and_true _ _ h refl)
+
+skipped : (n : ℕ) (line : List ℕ) (raw : List (List ℕ)) → is_skipped (without_cr line) ≡ true → lines_from n (line ∷ raw) ≡ lines_from (n + 1) raw
+skipped n line raw h = ap (λ b. cond b (lines_from (n + 1) raw) (record { number = n; text = without_cr line } ∷ lines_from (n + 1) raw)) h
+
+-- a line that is skipped, put in behind the first lines, changes the numbers of the others
+line_put_in : (front line rest : List ℕ) → is_line line ≡ true → is_skipped (without_cr line) ≡ true
+    → lines_of (ended front ++ (ended line ++ rest)) ≡ map (renumbered_line (behind (length (raw_lines (ended front))))) (lines_of (ended front ++ rest))
+line_put_in front line rest i k =
+    let n = length (raw_lines (ended front)) in
+    let raw : raw_lines (ended line ++ rest) ≡ line ∷ raw_lines rest = append line rest ∙ ap (λ lines. lines ++ raw_lines rest) (one_line line i) in
+    let with_line : lines_of (ended front ++ (ended line ++ rest)) ≡ lines_of (ended front) ++ lines_from (1 + n + 1) (raw_lines rest) =
+    saying_append front (ended line ++ rest) ∙ ap (λ lines. lines_of (ended front) ++ lines_from (1 + n) lines) raw
+    ∙ ap (λ lines. lines_of (ended front) ++ lines) (skipped (1 + n) line (raw_lines rest) k) in
+    let shifted : map (renumbered_line (behind n)) (lines_of (ended front ++ rest)) ≡ lines_of (ended front) ++ lines_from (1 + n + 1) (raw_lines rest) =
+    ap (map (renumbered_line (behind n))) (saying_append front rest)
+    ∙ map_append (renumbered_line (behind n)) (lines_of (ended front)) (lines_from (1 + n) (raw_lines rest))
+    ∙ ap (λ lines. lines ++ map (renumbered_line (behind n)) (lines_from (1 + n) (raw_lines rest)))
+    (front_stays (behind n) (λ k. nat_le 1 k && nat_le k n) (lines_of (ended front)) (behind_stays n) (within (ended front)))
+    ∙ ap (λ lines. lines_of (ended front) ++ lines) (rest_moves (behind n) n (1 + n) (raw_lines rest) (behind_moves n) (omega arith)) in
+    with_line ∙ sym shifted
+
+pub skipped_lines : {D K : Type 0} → SkippedLinesCountAlone D K
+skipped_lines grammar moved front line rest h i k s =
+    let n = length (raw_lines (ended front)) in
+    let some : is_some_line (lines_of (ended front ++ rest)) ≡ true =
+    ap is_some_line (saying_append front rest) ∙ some_more (lines_of (ended front)) (lines_from (1 + n) (raw_lines rest)) s in
+    ap (read_by grammar) (line_put_in front line rest i k) ∙ sym (by_moves (behind n) moved grammar h (lines_of (ended front ++ rest)) some)
+  where
+    some_more : (xs ys : List NumberedLine) → is_some_line xs ≡ true → is_some_line (xs ++ ys) ≡ true
+    some_more [] ys h = absurd (false≢true h)
+    some_more (x ∷ xs) ys h = refl
