@@ -12,7 +12,8 @@ use Rattle.sb_call.specs.declared.tags.ParamKind.TheVariants as kind
 use Rattle.sb_call.specs.declared.arguments.Arg.{Arg}
 use Rattle.sb_call.specs.declared.arguments.Arg.TheVariants as arg
 use Rattle.sb_block.specs.Packing.{type_of, offset_of, size_of, information, words_for, unit_word, word_units}
-use Rattle.sb_block.specs.Blocks.{block, bytes_of, content_of, contents_of, informations_of, first_offset, end_offset}
+use Rattle.sb_block.specs.Blocks.{block, bytes_of, content_of, contents_of, informations_of, end_offset}
+use Rattle.sb_block.specs.Layout.{first_offset}
 use Rattle.sb_block.proofs.PackingLemmas.{packed_len}
 
 -- there are as many information words as arguments that fit
@@ -30,8 +31,8 @@ pub block_len : (tag : CallTag) (args : List Arg) (mark : ℕ) → fits tag args
 block_len tag args mark h =
     omega (
       arith,
-      length-append (informations_of (first_offset args) (shape_of tag) args) (end_offset args * 2 ^ 16 ∷ contents_of args),
-      informations_len (first_offset args) (shape_of tag) args h,
+      length-append (informations_of (first_offset (length args)) (shape_of tag) args) (end_offset args * 2 ^ 16 ∷ contents_of args),
+      informations_len (first_offset (length args)) (shape_of tag) args h,
     )
 
 -- what the three parts of an information word are
@@ -70,12 +71,12 @@ four_back a b c d ha hb hc hd =
     let fourth : unit_word a b c d / 2 ^ 48 % 2 ^ 16 ≡ d = omega arith in
     rw (first, second, third, fourth)
 
--- what has no room in 48 words makes a block of more than 64
-pub too_long : (n m b : ℕ) (r : Bool) → b ≡ 16 + n + m → r ≡ false → r ≡ nat_le (n + m) 48 → 64 < b
+-- what is not small makes a block of more than 64 words
+pub too_long : (n m b : ℕ) (r : Bool) → b ≡ 16 + n + m → r ≡ false → r ≡ nat_le (16 + n + m) 64 → 64 < b
 too_long n m b r e h t = grind (arith, nat_tests)
 
--- and what has room makes one of at most 64
-pub enough_room : (n m b : ℕ) (r : Bool) → b ≡ 16 + n + m → r ≡ true → r ≡ nat_le (n + m) 48 → b ≤ 64
+-- and what is small makes one of at most 64
+pub enough_room : (n m b : ℕ) (r : Bool) → b ≡ 16 + n + m → r ≡ true → r ≡ nat_le (16 + n + m) 64 → b ≤ 64
 enough_room n m b r e h t = grind (arith, nat_tests)
 
 -- the parts of a block, put one after the other

@@ -1,35 +1,138 @@
 -- What a copy without a fault has.
-use Rattle.std.proofs.Common.{◌≡◌, ℕ, List, [], ◌∷◌, Bool, true, false, arith, refl, sym, map}
+use Rattle.std.proofs.Common.{◌≡◌, ℕ, zero, suc, List, [], ◌∷◌, Bool, true, false, arith, refl, sym, map, take, drop, ◌&&◌, length}
 use Rattle.std.proofs.lemmas.Bool.{and_parts, false≢true, eqb-true}
 use Rattle.std.proofs.lemmas.Bool.Decides.{nat_tests}
-use Rattle.std.specs.Prelude.{not, ◌==◌, nat_lt, slice_index, Option, None, Some, option_map, unwrap_or, if◌then◌else◌}
+use Rattle.std.specs.Prelude.{not, ◌==◌, nat_eq, nat_lt, Option, None, Some, is_none, option_map, if◌then◌else◌}
 use Rattle.std.specs.Option.{option_or}
 use Rattle.std.specs.List.{position}
-use Rattle.sb_call.specs.Arguments.{fit, fits, fits_kind}
+use Rattle.sb_call.specs.Arguments.{fit, fits_kind}
 use Rattle.sb_call.specs.Tags.{shape_of, tag_of}
-use Rattle.sb_call.specs.declared.tags.CallTag.{CallTag}
-use Rattle.sb_call.specs.declared.tags.CallTag.TheVariants.{Ping}
 use Rattle.sb_call.specs.declared.tags.ParamKind.{ParamKind}
 use Rattle.sb_call.specs.declared.tags.ParamKind.TheVariants as kind
-use Rattle.sb_block.specs.Copies.{Copied, is_end}
+use Rattle.sb_block.specs.Copies.{Copied, copied, is_copy, is_end, whole}
+use Rattle.sb_block.specs.Layout.{most_parameters, tag_word, count_in, end_in, informations}
 use Rattle.sb_block.specs.Packing.{type_of}
-use Rattle.sb_block.specs.Faults.{fault, parameter_fault, tag_fault, argument_fault, informations, end_in, is_untyped, is_misplaced, is_missized, is_unnamed, first_unnamed, has_shape, type_number}
+use Rattle.sb_block.specs.Faults.{fault, faults, first_there, where_holds, is_untyped, is_misplaced, is_missized, is_unnamed, first_unnamed, has_shape, type_number, tag_in}
 use Rattle.sb_block.specs.Calls.{argument_in}
-use Rattle.sb_block.specs.Laws.{FaultlessCopiesFit}
-use Rattle.sb_block.specs.declared.faults.BlockFault.TheVariants.{TooManyParams, BadEnd, CountChanged, EndChanged, BadParamType, BadPlace, WrongShape, BadSize, BadName}
+use Rattle.sb_block.specs.Laws.{FaultlessCopiesFit, FaultlessCopiesAreWhole, LaterFaultsAreOfWholeCopies, FetchedNumbersAreCopied}
+use Rattle.sb_block.specs.declared.faults.BlockFault.{BlockFault}
+use Rattle.sb_block.specs.declared.faults.BlockFault.TheVariants.{TooManyParams, BadEnd, CountChanged, EndChanged, BadParamType, BadPlace, UnknownTag, WrongShape, BadSize, BadName}
 
--- a case that is not taken, and a choice that gives nothing
+-- a case that is not taken
 pub not_taken : {X : Type 0} (b : Bool) (x : X) (o : Option X) → (if b then Some x else o) ≡ None → (b ≡ false) × (o ≡ None)
 not_taken true x o h = absurd (cc)
 not_taken false x o h = (refl, h)
 
-pub neither : {X : Type 0} (f : ℕ → X) (p : Option ℕ) (o : Option X) → option_or (option_map f p) o ≡ None → (p ≡ None) × (o ≡ None)
-neither f None o h = (refl, h)
-neither f (Some n) o h = absurd (cc)
-
-unmapped : {X : Type 0} (f : ℕ → X) (p : Option ℕ) → option_map f p ≡ None → p ≡ None
+pub unmapped : {X : Type 0} (f : ℕ → X) (p : Option ℕ) → option_map f p ≡ None → p ≡ None
 unmapped f None h = refl
 unmapped f (Some n) h = absurd (cc)
+
+-- where no fault is there, the first is not, and none of the others
+none_there : (found : Option BlockFault) (more : List (Option BlockFault)) → option_or found (first_there more) ≡ None
+    → (found ≡ None) × (first_there more ≡ None)
+none_there None more h = (refl, h)
+none_there (Some f) more h = absurd (cc)
+
+-- what a copy has that has none of the first four faults
+pub record Fetched (c : Copied) : Type 0 where
+  pub few : nat_lt most_parameters c.count_seen ≡ false
+  pub ends : not (is_end c.count_seen c.end_seen) ≡ false
+  pub count : not (c.count_seen == count_in c.words) ≡ false
+  pub end : not (c.end_seen == end_in c.words) ≡ false
+
+pub fetched : (c : Copied) → first_there (take 4 (faults c)) ≡ None → Fetched c
+fetched c h =
+    let few = none_there (where_holds (nat_lt most_parameters c.count_seen) (TooManyParams c.count_seen)) (drop 1 (take 4 (faults c))) h in
+    let ends = none_there (where_holds (not (is_end c.count_seen c.end_seen)) (BadEnd c.end_seen)) (drop 2 (take 4 (faults c))) few.1 in
+    let count = none_there (where_holds (not (c.count_seen == count_in c.words)) (CountChanged c.count_seen (count_in c.words)))
+    (drop 3 (take 4 (faults c))) ends.1 in
+    let end = none_there (where_holds (not (c.end_seen == end_in c.words)) (EndChanged c.end_seen (end_in c.words))) [] count.1 in
+    record {
+      few = (not_taken (nat_lt most_parameters c.count_seen) (TooManyParams c.count_seen) None few.0).0;
+      ends = (not_taken (not (is_end c.count_seen c.end_seen)) (BadEnd c.end_seen) None ends.0).0;
+      count = (not_taken (not (c.count_seen == count_in c.words)) (CountChanged c.count_seen (count_in c.words)) None count.0).0;
+      end = (not_taken (not (c.end_seen == end_in c.words)) (EndChanged c.end_seen (end_in c.words)) None end.0).0;
+    }
+
+-- and what the words have that have none of the others
+pub record Faultless (words : List ℕ) : Type 0 where
+  pub typed : position is_untyped (informations words) ≡ None
+  pub placed : position (is_misplaced (count_in words) (end_in words)) (informations words) ≡ None
+  pub known : is_none (tag_of (tag_word words)) ≡ false
+  pub shaped : not (has_shape (shape_of (tag_in words)) (informations words)) ≡ false
+  pub sized : position is_missized (informations words) ≡ None
+  pub named : first_unnamed (shape_of (tag_in words)) (informations words) words ≡ None
+
+pub faultless_words : (c : Copied) → first_there (drop 4 (faults c)) ≡ None → Faultless c.words
+faultless_words c h =
+    let typed = none_there (option_map BadParamType (position is_untyped (informations c.words))) (drop 5 (faults c)) h in
+    let placed = none_there (option_map BadPlace (position (is_misplaced (count_in c.words) (end_in c.words)) (informations c.words)))
+    (drop 6 (faults c)) typed.1 in
+    let known = none_there (where_holds (is_none (tag_of (tag_word c.words))) (UnknownTag (tag_word c.words))) (drop 7 (faults c)) placed.1 in
+    let shaped = none_there (where_holds (not (has_shape (shape_of (tag_in c.words)) (informations c.words))) WrongShape) (drop 8 (faults c)) known.1 in
+    let sized = none_there (option_map BadSize (position is_missized (informations c.words))) (drop 9 (faults c)) shaped.1 in
+    let named = none_there (option_map BadName (first_unnamed (shape_of (tag_in c.words)) (informations c.words) c.words)) [] sized.1 in
+    record {
+      typed = unmapped BadParamType _ typed.0;
+      placed = unmapped BadPlace _ placed.0;
+      known = (not_taken (is_none (tag_of (tag_word c.words))) (UnknownTag (tag_word c.words)) None known.0).0;
+      shaped = (not_taken (not (has_shape (shape_of (tag_in c.words)) (informations c.words))) WrongShape None shaped.0).0;
+      sized = unmapped BadSize _ sized.0;
+      named = unmapped BadName _ named.0;
+    }
+
+-- where no fault is there, none of the first few is, and none of the others
+halves : (n : ℕ) (found : List (Option BlockFault)) → first_there found ≡ None
+    → (first_there (take n found) ≡ None) × (first_there (drop n found) ≡ None)
+halves zero found h = (refl, h)
+halves (suc n) [] h = (refl, refl)
+halves (suc n) (None ∷ found) h = halves n found h
+halves (suc n) (Some f ∷ found) h = absurd (cc)
+
+pub both_halves : (c : Copied) → fault c ≡ None → (first_there (take 4 (faults c)) ≡ None) × (first_there (drop 4 (faults c)) ≡ None)
+both_halves c h = halves 4 (faults c) h
+
+pub faultless : (c : Copied) → fault c ≡ None → Faultless c.words
+faultless c h = faultless_words c (both_halves c h).1
+
+-- a test that is not false is true
+pub not_false : (b : Bool) → not b ≡ false → b ≡ true
+not_false true h = refl
+not_false false h = absurd (cc)
+
+-- the count and the end that were fetched are those that stand in the words
+pub counted : (c : Copied) → Fetched c → c.count_seen ≡ count_in c.words
+counted c f = eqb-true c.count_seen (count_in c.words) (not_false _ f.count)
+
+pub ended : (c : Copied) → Fetched c → c.end_seen ≡ end_in c.words
+ended c f = eqb-true c.end_seen (end_in c.words) (not_false _ f.end)
+
+pub fetched_numbers_are_copied : FetchedNumbersAreCopied
+fetched_numbers_are_copied c h =
+    let f = fetched c (both_halves c h).0 in
+    (counted c f, ended c f)
+
+-- the end is the number of words
+by_end : (many ends : Bool) (n e : ℕ) → many ≡ false → ends ≡ true
+    → (if many then e == 0 && n == 0 else (if ends then n == e else n == 0)) ≡ true → e ≡ n
+by_end false true n e m s h = grind (arith, nat_tests)
+by_end true ends n e m s h = absurd (false≢true (sym m))
+by_end false false n e m s h = absurd (false≢true s)
+
+pub has_length : (c : Copied) → is_copy c ≡ true → Fetched c → c.end_seen ≡ length c.words
+has_length c rule f = by_end (nat_lt most_parameters c.count_seen) (is_end c.count_seen c.end_seen) (length c.words) c.end_seen f.few
+    (not_false _ f.ends) rule
+
+same_copied : (n n' e e' : ℕ) (words : List ℕ) → n ≡ n' → e ≡ e' → copied n e words ≡ copied n' e' words
+same_copied n n' e e' words same ends = rw (same, ends)
+
+pub later_faults_are_of_whole_copies : LaterFaultsAreOfWholeCopies
+later_faults_are_of_whole_copies c rule h =
+    let f = fetched c h in
+    same_copied c.count_seen (count_in c.words) c.end_seen (length c.words) c.words (counted c f) (has_length c rule f)
+
+pub faultless_copies_are_whole : FaultlessCopiesAreWhole
+faultless_copies_are_whole c rule h = later_faults_are_of_whole_copies c rule (both_halves c h).0
 
 -- where nothing stands for what ought to be a name, each argument is of its kind
 fitting_kind : (k : ParamKind) (word : ℕ) (words : List ℕ) → type_of word ≡ type_number k → is_unnamed k word words ≡ false
@@ -45,43 +148,12 @@ fitting_kinds [] [] words s n = refl
 fitting_kinds [] (word ∷ more) words s n = absurd (false≢true s)
 fitting_kinds (k ∷ kinds) [] words s n = absurd (false≢true s)
 fitting_kinds (k ∷ kinds) (word ∷ more) words s n =
-    let shaped = and_parts (type_of word == type_number k) (has_shape kinds more) s in
+    let shaped = and_parts (nat_eq (type_of word) (type_number k)) (has_shape kinds more) s in
     let named = not_taken (is_unnamed k word words) 0 _ n in
     let here = fitting_kind k word words (eqb-true (type_of word) (type_number k) shaped.0) named.0 in
     rw (here, fitting_kinds kinds more words shaped.1 (unmapped _ _ named.1))
 
--- arguments that have no fault under a tag fit it
-fitting_tag : (tag : CallTag) (infos words : List ℕ) (shaped : Bool) → shaped ≡ has_shape (shape_of tag) infos
-    → (if shaped then argument_fault tag infos words else Some WrongShape) ≡ None
-    → fits tag (map (argument_in words) infos) ≡ true
-fitting_tag tag infos words false e h = absurd (cc)
-fitting_tag tag infos words true e h =
-    let sized = neither BadSize (position is_missized infos) _ h in
-    fitting_kinds (shape_of tag) infos words (sym e) (unmapped BadName _ sized.1)
-
-fitting_number : (number : ℕ) (tag : Option CallTag) (infos words : List ℕ) → tag_fault number tag infos words ≡ None
-    → fits (unwrap_or tag Ping) (map (argument_in words) infos) ≡ true
-fitting_number number None infos words h = absurd (cc)
-fitting_number number (Some tag) infos words h = fitting_tag tag infos words (has_shape (shape_of tag) infos) refl h
-
--- what a copy without a fault has, test by test
-pub record Faultless (c : Copied) : Type 0 where
-  pub few : nat_lt 9 c.count_seen ≡ false
-  pub ends : not (is_end c.count_seen c.end_seen) ≡ false
-  pub count : not (c.count_seen == slice_index c.words 2) ≡ false
-  pub end : not (c.end_seen == end_in c.count_seen c.words) ≡ false
-  pub parameters : parameter_fault c.count_seen c.end_seen c.words ≡ None
-
-pub faultless : (c : Copied) → fault c ≡ None → Faultless c
-faultless c h =
-    let a = not_taken (nat_lt 9 c.count_seen) (TooManyParams c.count_seen) _ h in
-    let b = not_taken (not (is_end c.count_seen c.end_seen)) (BadEnd c.end_seen) _ a.1 in
-    let d = not_taken (not (c.count_seen == slice_index c.words 2)) (CountChanged c.count_seen (slice_index c.words 2)) _ b.1 in
-    let e = not_taken (not (c.end_seen == end_in c.count_seen c.words)) (EndChanged c.end_seen (end_in c.count_seen c.words)) _ d.1 in
-    record { few = a.0; ends = b.0; count = d.0; end = e.0; parameters = e.1 }
-
 pub faultless_copies_fit : FaultlessCopiesFit
 faultless_copies_fit c h =
-    let typed = neither BadParamType (position is_untyped (informations c.count_seen c.words)) _ (faultless c h).parameters in
-    let placed = neither BadPlace (position (is_misplaced c.count_seen c.end_seen) (informations c.count_seen c.words)) _ typed.1 in
-    fitting_number (slice_index c.words 0) (tag_of (slice_index c.words 0)) (informations c.count_seen c.words) c.words placed.1
+    let f = faultless c h in
+    fitting_kinds (shape_of (tag_in c.words)) (informations c.words) c.words (not_false _ f.shaped) f.named

@@ -1,8 +1,9 @@
 pub mod BlockLemmas
 pub mod FaultLemmas
 pub mod PackingLemmas
+pub mod ParameterLemmas
 pub mod ReadingLemmas
 pub mod ReplyLemmas
-pub mod SoundLemmas
 pub mod UnreadLemmas
+pub mod WellFormed
 pub mod WholeBlocks

@@ -14,7 +14,8 @@ use Rattle.sb_block.specs.Packing.{information, words_for, part_of, packed, unpa
 use Rattle.sb_block.specs.Blocks.{bytes_of, content_of, contents_of, informations_of}
 use Rattle.sb_block.specs.Faults.{type_number, is_untyped, is_misplaced, is_missized, has_shape, is_unnamed, first_unnamed}
 use Rattle.sb_block.specs.Calls.{argument_in}
-use Rattle.sb_block.specs.Blocks.{is_unit, has_units}
+use Rattle.sb_wide.specs.Wide.{is_unit}
+use Rattle.sb_block.specs.Blocks.{has_units}
 use Rattle.sb_block.proofs.PackingLemmas.{packed_len}
 use Rattle.sb_block.proofs.BlockLemmas.{type_back, offset_back, size_back, content_words, bytes_small, four_back}
 
@@ -114,7 +115,7 @@ is_placed : (count end t at s : ℕ) → at < 2 ^ 16 → s < 2 ^ 16 → 16 + cou
     → not (is_misplaced count end (information t at s)) ≡ true
 is_placed count end t at s ha hs low high = rw (offset_back t at s ha hs, size_back t at s ha hs) (grind (arith, nat_tests))
 
-even_size : (n : ℕ) → 2 * n % 2 ≡ 0
+pub even_size : (n : ℕ) → 2 * n % 2 ≡ 0
 even_size n = omega arith
 
 is_sized : (k : ParamKind) (a : Arg) (at : ℕ) → at < 2 ^ 16 → bytes_of k a < 2 ^ 16 → fits_kind k a ≡ true

@@ -2,9 +2,9 @@
 use Rattle.std.proofs.Common.{◌≡◌, ℕ, suc, ◌+◌, ◌-◌, ◌*◌, ◌≤◌, ◌<◌, ◌^◌, ◌%◌, List, [], ◌∷◌, ◌++◌, Bool, true, false, length, length-append, append_assoc, take, drop, arith, refl, sym, ap, map, ◌∙◌}
 use Rattle.std.proofs.Math.Seq.{drop-append_seam, drop-append-add}
 use Rattle.std.proofs.lemmas.List.{get_or-append_right}
-use Rattle.std.proofs.lemmas.Bool.{and_parts}
+use Rattle.std.proofs.lemmas.Bool.{and_parts, eqb-true}
 use Rattle.std.proofs.lemmas.Bool.Decides.{nat_tests}
-use Rattle.std.specs.Prelude.{not, ◌==◌, nat_lt, slice_index, Option, None, Some, option_map, unwrap_or, if◌then◌else◌}
+use Rattle.std.specs.Prelude.{not, ◌==◌, nat_lt, slice_index, Option, None, Some, is_none, option_map, unwrap_or, if◌then◌else◌}
 use Rattle.std.specs.Option.{option_or}
 use Rattle.std.specs.List.{list_all, position, prefix_len}
 use Rattle.sb_call.specs.Tags.{shape_of, tag_of}
@@ -13,14 +13,15 @@ use Rattle.sb_call.specs.declared.tags.CallTag.TheVariants.{Ping}
 use Rattle.sb_call.specs.declared.tags.ParamKind.{ParamKind}
 use Rattle.sb_call.specs.declared.tags.ParamKind.TheVariants as kind
 use Rattle.sb_call.specs.declared.arguments.Arg.TheVariants.{Num}
-use Rattle.sb_block.specs.Copies.{is_end}
+use Rattle.sb_block.specs.Copies.{Copied, copied, is_end}
 use Rattle.sb_block.specs.Packing.{type_of, offset_of, string_in, number_in}
-use Rattle.sb_block.specs.Faults.{tag_fault, informations, end_in, is_untyped, is_misplaced, is_unnamed, first_unnamed}
-use Rattle.sb_block.specs.Calls.{called, argument_in, arguments_in, call_unless}
+use Rattle.sb_block.specs.Layout.{most_parameters, informations, end_in}
+use Rattle.sb_block.specs.Faults.{faults, first_there, has_shape, is_untyped, is_misplaced, is_missized, is_unnamed, first_unnamed, where_holds}
+use Rattle.sb_block.specs.Calls.{called, argument_in, arguments_in, call_of, call_unless, decoded}
 use Rattle.sb_block.specs.Laws.{laid, UnreadWordsDoNotMatter, UpperHalvesDoNotMatter}
 use Rattle.sb_block.specs.declared.calls.Call.{Call}
 use Rattle.sb_block.specs.declared.faults.BlockFault.{BlockFault}
-use Rattle.sb_block.specs.declared.faults.BlockFault.TheVariants.{TooManyParams, BadEnd, CountChanged, EndChanged, BadParamType, BadPlace}
+use Rattle.sb_block.specs.declared.faults.BlockFault.TheVariants.{TooManyParams, BadEnd, CountChanged, EndChanged, BadParamType, BadPlace, UnknownTag, WrongShape, BadSize, BadName}
 use Rattle.sb_block.proofs.BlockLemmas.{taken_front, found_after}
 use Rattle.sb_block.proofs.FaultLemmas.{not_taken}
 
@@ -95,11 +96,6 @@ same_unnamed count end ws vs (k ∷ kinds) (word ∷ more) same h =
     let placed = and_parts (not (is_misplaced count end word)) (list_all (λ x. not (is_misplaced count end x)) more) h in
     rw (same_named count end ws vs k word same placed.0, same_unnamed count end ws vs kinds more same placed.1)
 
-same_tag_fault : (count end : ℕ) (ws vs infos : List ℕ) (number : ℕ) (tag : Option CallTag) → Same (16 + count) ws vs
-    → list_all (λ x. not (is_misplaced count end x)) infos ≡ true → tag_fault number tag infos ws ≡ tag_fault number tag infos vs
-same_tag_fault count end ws vs infos number None same h = refl
-same_tag_fault count end ws vs infos number (Some tag) same h = rw (same_unnamed count end ws vs (shape_of tag) infos same h)
-
 front_step : (b : Bool) (n m : ℕ) → nat_lt (if b then 1 + n else 0) (suc m) ≡ false → (b ≡ true) × (nat_lt n m ≡ false)
 front_step true n m h = (refl, grind (arith, nat_tests))
 front_step false n m h = absurd (grind (arith, nat_tests))
@@ -111,23 +107,21 @@ all_pass_from q (x ∷ xs) h =
     rw (step.0, all_pass_from q xs step.1)
 
 -- where a test passes nowhere, it fails everywhere
-fails_everywhere : (p : ℕ → Bool) (xs : List ℕ) → position p xs ≡ None → list_all (λ x. not (p x)) xs ≡ true
+pub fails_everywhere : (p : ℕ → Bool) (xs : List ℕ) → position p xs ≡ None → list_all (λ x. not (p x)) xs ≡ true
 fails_everywhere p xs h =
     all_pass_from (λ x. not (p x)) xs (not_taken (nat_lt (prefix_len (λ x. not (p x)) xs) (length xs)) _ None h).0
 
 -- a fault that comes first leaves the rest unread
-after_case : (b : Bool) (x : BlockFault) (o o' : Option BlockFault) (k k' : Call) → call_unless o k ≡ call_unless o' k'
-    → call_unless (if b then Some x else o) k ≡ call_unless (if b then Some x else o') k'
-after_case true x o o' k k' h = refl
-after_case false x o o' k k' h = h
+after : (found o o' : Option BlockFault) (k k' : Call) → call_unless o k ≡ call_unless o' k'
+    → call_unless (option_or found o) k ≡ call_unless (option_or found o') k'
+after None o o' k k' h = h
+after (Some f) o o' k k' h = refl
 
-after_choices : (f g : ℕ → BlockFault) (p q : Option ℕ) (o o' : Option BlockFault) (k k' : Call)
-    → (q ≡ None → call_unless o k ≡ call_unless o' k')
-    → call_unless (option_or (option_map f p) (option_or (option_map g q) o)) k
-    ≡ call_unless (option_or (option_map f p) (option_or (option_map g q) o')) k'
-after_choices f g None None o o' k k' h = h refl
-after_choices f g None (Some n) o o' k k' h = refl
-after_choices f g (Some n) q o o' k k' h = refl
+-- and the rest may stand on its not being there
+after_place : (place : Option ℕ) (o o' : Option BlockFault) (k k' : Call) → (place ≡ None → call_unless o k ≡ call_unless o' k')
+    → call_unless (option_or (option_map BadPlace place) o) k ≡ call_unless (option_or (option_map BadPlace place) o') k'
+after_place None o o' k k' h = h refl
+after_place (Some n) o o' k k' h = refl
 
 -- the words before the parameters, and the parts that are found again
 abbrev lead : ℕ → ℕ → ℕ → List ℕ → List ℕ → ℕ → List ℕ
@@ -144,19 +138,19 @@ lead_len : (n tag mark count : ℕ) (reply infos : List ℕ) (item : ℕ) → le
 lead_len n tag mark count reply infos item r i =
     omega (arith, length-append (tag ∷ mark ∷ count ∷ reply) (infos ++ (item ∷ [])), length-append infos (item ∷ []))
 
-infos_found : (n tag mark count : ℕ) (reply infos params : List ℕ) (item : ℕ) → length reply ≡ 12 → length infos ≡ n
-    → informations n (laid tag mark count reply infos item params) ≡ infos
-infos_found n tag mark count reply infos params item r i =
-    ap (λ (xs : List ℕ). take n xs) (dropped_front (tag ∷ mark ∷ count ∷ reply) (infos ++ (item ∷ params)) 15 (omega arith))
-    ∙ taken_front infos (item ∷ params) n i
+infos_found : (tag mark count : ℕ) (reply infos params : List ℕ) (item : ℕ) → length reply ≡ 12 → length infos ≡ count
+    → informations (laid tag mark count reply infos item params) ≡ infos
+infos_found tag mark count reply infos params item r i =
+    ap (λ (xs : List ℕ). take count xs) (dropped_front (tag ∷ mark ∷ count ∷ reply) (infos ++ (item ∷ params)) 15 (omega arith))
+    ∙ taken_front infos (item ∷ params) count i
 
-end_found : (n tag mark count : ℕ) (reply infos params : List ℕ) (item : ℕ) → length reply ≡ 12 → length infos ≡ n
-    → end_in n (laid tag mark count reply infos item params) ≡ offset_of item
-end_found n tag mark count reply infos params item r i =
-    let place : length ((tag ∷ mark ∷ count ∷ reply) ++ infos) ≡ 15 + n =
+end_found : (tag mark count : ℕ) (reply infos params : List ℕ) (item : ℕ) → length reply ≡ 12 → length infos ≡ count
+    → end_in (laid tag mark count reply infos item params) ≡ offset_of item
+end_found tag mark count reply infos params item r i =
+    let place : length ((tag ∷ mark ∷ count ∷ reply) ++ infos) ≡ 15 + count =
     omega (arith, length-append (tag ∷ mark ∷ count ∷ reply) infos) in
-    ap (λ (ws : List ℕ). offset_of (slice_index ws (15 + n))) (sym (append_assoc (tag ∷ mark ∷ count ∷ reply) infos (item ∷ params)))
-    ∙ ap offset_of (found_after ((tag ∷ mark ∷ count ∷ reply) ++ infos) params item (15 + n) place)
+    ap (λ (ws : List ℕ). offset_of (slice_index ws (15 + count))) (sym (append_assoc (tag ∷ mark ∷ count ∷ reply) infos (item ∷ params)))
+    ∙ ap offset_of (found_after ((tag ∷ mark ∷ count ∷ reply) ++ infos) params item (15 + count) place)
 
 same_laid : (n tag mark count : ℕ) (reply reply' infos params : List ℕ) (item item' : ℕ) → length reply ≡ 12 → length reply' ≡ 12
     → length infos ≡ n → Same (16 + n) (laid tag mark count reply infos item params) (laid tag mark count reply' infos item' params)
@@ -165,28 +159,60 @@ same_laid n tag mark count reply reply' infos params item item' r r' i =
     (same_after (lead tag mark count reply infos item) (lead tag mark count reply' infos item') params (16 + n)
     (lead_len n tag mark count reply infos item r i) (lead_len n tag mark count reply' infos item' r' i))
 
-pub unread_words_do_not_matter : UnreadWordsDoNotMatter
-unread_words_do_not_matter n end tag mark count reply reply' infos params item item' r r' i e =
+-- where another count was fetched than stands in the words, that or a fault before it is the fault
+other_count : (found found' : Option BlockFault) (x : BlockFault) (o o' : Option BlockFault) (k k' : Call)
+    → call_unless (option_or found (option_or found' (option_or (Some x) o))) k
+    ≡ call_unless (option_or found (option_or found' (option_or (Some x) o'))) k'
+other_count None None x o o' k k' = refl
+other_count None (Some f) x o o' k k' = refl
+other_count (Some f) found' x o o' k k' = refl
+
+-- the first four faults, and those of parameters that are read from the information words alone, are the same
+same_count : (n end tag mark count : ℕ) (reply reply' infos params : List ℕ) (item item' : ℕ) → n ≡ count
+    → length reply ≡ 12 → length reply' ≡ 12 → length infos ≡ n → offset_of item ≡ offset_of item'
+    → decoded (copied n end (laid tag mark count reply infos item params)) ≡ decoded (copied n end (laid tag mark count reply' infos item' params))
+same_count n end tag mark count reply reply' infos params item item' c r r' i e =
     let ws : List ℕ = laid tag mark count reply infos item params in
     let vs : List ℕ = laid tag mark count reply' infos item' params in
-    let same = same_laid n tag mark count reply reply' infos params item item' r r' i in
-    let o : Option BlockFault = tag_fault tag (tag_of tag) infos ws in
-    let o' : Option BlockFault = tag_fault tag (tag_of tag) infos vs in
+    let many : length infos ≡ count = i ∙ c in
+    let same = same_laid count tag mark count reply reply' infos params item item' r r' many in
     let k : Call = called (unwrap_or (tag_of tag) Ping) mark (arguments_in infos ws) in
     let k' : Call = called (unwrap_or (tag_of tag) Ping) mark (arguments_in infos vs) in
-    let last : position (is_misplaced n end) infos ≡ None → call_unless o k ≡ call_unless o' k'
-    = λ p. let placed = fails_everywhere (is_misplaced n end) infos p in
-    rw (same_tag_fault n end ws vs infos tag (tag_of tag) same placed, same_arguments n end ws vs infos same placed) in
-    let choices = after_choices BadParamType BadPlace (position is_untyped infos) (position (is_misplaced n end) infos) o o' k k' last in
-    let ends = after_case (not (end == offset_of item')) (EndChanged end (offset_of item')) _ _ k k' choices in
-    let counts = after_case (not (n == count)) (CountChanged n count) _ _ k k' ends in
-    let bounds = after_case (not (is_end n end)) (BadEnd end) _ _ k k' counts in
-    let all = after_case (nat_lt 9 n) (TooManyParams n) _ _ k k' bounds in
+    let kinds = shape_of (unwrap_or (tag_of tag) Ping) in
+    let few = where_holds (nat_lt most_parameters n) (TooManyParams n) in
+    let ends = where_holds (not (is_end n end)) (BadEnd end) in
+    let counts = where_holds (not (n == count)) (CountChanged n count) in
+    let at_end = where_holds (not (end == offset_of item')) (EndChanged end (offset_of item')) in
+    let typed = option_map BadParamType (position is_untyped infos) in
+    let known = where_holds (is_none (tag_of tag)) (UnknownTag tag) in
+    let shaped = where_holds (not (has_shape kinds infos)) WrongShape in
+    let sized = option_map BadSize (position is_missized infos) in
+    let named = λ (words : List ℕ). option_or (option_map BadName (first_unnamed kinds infos words)) None in
+    let last : position (is_misplaced count (offset_of item')) infos ≡ None
+    → call_unless (option_or known (option_or shaped (option_or sized (named ws)))) k
+    ≡ call_unless (option_or known (option_or shaped (option_or sized (named vs)))) k'
+    = λ p. let placed = fails_everywhere (is_misplaced count (offset_of item')) infos p in
+    rw (same_unnamed count (offset_of item') ws vs kinds infos same placed, same_arguments count (offset_of item') ws vs infos same placed) refl in
+    let after_types = after typed _ _ k k' (after_place (position (is_misplaced count (offset_of item')) infos) _ _ k k' last) in
+    let all = after few _ _ k k' (after ends _ _ k k' (after counts _ _ k k' (after at_end _ _ k k' after_types))) in
     rw (
-      infos_found n tag mark count reply infos params item r i,
-      infos_found n tag mark count reply' infos params item' r' i,
-      end_found n tag mark count reply infos params item r i,
-      end_found n tag mark count reply' infos params item' r' i,
+      infos_found tag mark count reply infos params item r many,
+      infos_found tag mark count reply' infos params item' r' many,
+      end_found tag mark count reply infos params item r many,
+      end_found tag mark count reply' infos params item' r' many,
       e,
     )
     all
+
+pub unread_words_do_not_matter : UnreadWordsDoNotMatter
+unread_words_do_not_matter n end tag mark count reply reply' infos params item item' r r' i e = by (n == count) refl
+  where
+    by : (same : Bool) → (n == count) ≡ same
+        → decoded (copied n end (laid tag mark count reply infos item params))
+        ≡ decoded (copied n end (laid tag mark count reply' infos item' params))
+    by true s = same_count n end tag mark count reply reply' infos params item item' (eqb-true n count s) r r' i e
+    by false s =
+        let c : Copied = copied n end (laid tag mark count reply infos item params) in
+        let c' : Copied = copied n end (laid tag mark count reply' infos item' params) in
+        rw s (other_count (where_holds (nat_lt most_parameters n) (TooManyParams n)) (where_holds (not (is_end n end)) (BadEnd end))
+        (CountChanged n count) (first_there (drop 3 (faults c))) (first_there (drop 3 (faults c'))) (call_of c) (call_of c'))

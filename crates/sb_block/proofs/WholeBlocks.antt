@@ -11,8 +11,9 @@ use Rattle.sb_call.specs.declared.tags.ParamKind.{ParamKind}
 use Rattle.sb_call.specs.declared.arguments.Arg.{Arg}
 use Rattle.sb_block.specs.Copies.{whole, is_copy, is_end}
 use Rattle.sb_block.specs.Packing.{offset_of}
-use Rattle.sb_block.specs.Blocks.{block, encodes, has_units, contents_of, informations_of, first_offset, end_offset}
-use Rattle.sb_block.specs.Faults.{fault, parameter_fault, argument_fault, informations, end_in, is_untyped, is_misplaced, is_missized}
+use Rattle.sb_block.specs.Blocks.{block, encodes, has_units, contents_of, informations_of, end_offset}
+use Rattle.sb_block.specs.Layout.{end_in, first_offset, informations}
+use Rattle.sb_block.specs.Faults.{fault, faults, first_there, is_untyped, is_misplaced, is_missized}
 use Rattle.sb_block.specs.Calls.{decoded, call_of, called}
 use Rattle.sb_block.specs.Laws.{BlocksComeBack}
 use Rattle.std.specs.List.{list_all}
@@ -34,7 +35,7 @@ tag_back EventOpen = refl
 tag_back HandleClose = refl
 
 -- no call has more than six parameters
-few_parameters : (tag : CallTag) → length (shape_of tag) ≤ 6
+pub few_parameters : (tag : CallTag) → length (shape_of tag) ≤ 6
 few_parameters Ping = omega arith
 few_parameters FileCreate = omega arith
 few_parameters FileOpen = omega arith
@@ -56,11 +57,10 @@ fit_len (k ∷ kinds) (a ∷ args) f = omega (arith, fit_len kinds args (and_par
 -- what the steps below stand on: a block that fits in 64 words
 pub record Fitting (tag : CallTag) (args : List Arg) (mark : ℕ) : Type 0 where
   pub fitting : fits tag args ≡ true
-  pub units : list_all has_units args ≡ true
   pub room : length (block tag args mark) ≤ 64
 
 abbrev infos_in : CallTag → List Arg → List ℕ
-infos_in tag args = informations_of (first_offset args) (shape_of tag) args
+infos_in tag args = informations_of (first_offset (length args)) (shape_of tag) args
 
 abbrev opening : CallTag → List Arg → ℕ → List ℕ
 opening tag args mark = number_of tag ∷ mark ∷ length args ∷ replicate 12 0
@@ -83,12 +83,12 @@ block_parts tag args mark =
 end_of_item : (e : ℕ) → e ≤ 64 → offset_of (e * 2 ^ 16) ≡ e
 end_of_item e h = omega arith
 
-before_len : (tag : CallTag) (args : List Arg) (mark : ℕ) → fits tag args ≡ true → length (before tag args mark) ≡ first_offset args
+before_len : (tag : CallTag) (args : List Arg) (mark : ℕ) → fits tag args ≡ true → length (before tag args mark) ≡ first_offset (length args)
 before_len tag args mark f = omega (
   arith,
   length-append (opening tag args mark ++ infos_in tag args) (end_offset args * 2 ^ 16 ∷ []),
   length-append (opening tag args mark) (infos_in tag args),
-  informations_len (first_offset args) (shape_of tag) args f,
+  informations_len (first_offset (length args)) (shape_of tag) args f,
 )
 
 room_for : (tag : CallTag) (args : List Arg) (mark : ℕ) → Fitting tag args mark → end_offset args ≤ 64
@@ -99,45 +99,24 @@ few_arguments tag args mark p = omega (arith, fit_len (shape_of tag) args p.fitt
 
 -- the information words are found again
 infos_back : (tag : CallTag) (args : List Arg) (mark : ℕ) → Fitting tag args mark
-    → informations (length args) (block tag args mark) ≡ infos_in tag args
+    → informations (block tag args mark) ≡ infos_in tag args
 infos_back tag args mark p =
     taken_front (infos_in tag args) (end_offset args * 2 ^ 16 ∷ contents_of args) (length args)
-    (informations_len (first_offset args) (shape_of tag) args p.fitting)
+    (informations_len (first_offset (length args)) (shape_of tag) args p.fitting)
 
 -- the end is found again
 end_back : (tag : CallTag) (args : List Arg) (mark : ℕ) → Fitting tag args mark
-    → end_in (length args) (block tag args mark) ≡ end_offset args
+    → end_in (block tag args mark) ≡ end_offset args
 end_back tag args mark p =
     let place : length (front tag args mark) ≡ 15 + length args = omega (
       arith,
       length-append (opening tag args mark) (infos_in tag args),
-      informations_len (first_offset args) (shape_of tag) args p.fitting,
+      informations_len (first_offset (length args)) (shape_of tag) args p.fitting,
     ) in
     let item : slice_index (block tag args mark) (15 + length args) ≡ end_offset args * 2 ^ 16 =
     ap (λ (ws : List ℕ). slice_index ws (15 + length args)) (end_parts tag args mark)
     ∙ found_after (front tag args mark) (contents_of args) (end_offset args * 2 ^ 16) (15 + length args) place in
     ap offset_of item ∙ end_of_item (end_offset args) (room_for tag args mark p)
-
--- the arguments have no fault
-arguments_fine : (tag : CallTag) (args : List Arg) (mark : ℕ) → Fitting tag args mark
-    → argument_fault tag (infos_in tag args) (block tag args mark) ≡ None
-arguments_fine tag args mark p =
-    let room = room_for tag args mark p in
-    let sized = nowhere is_missized (infos_in tag args) (all_sized (first_offset args) (shape_of tag) args room p.fitting) in
-    let named = all_named (block tag args mark) (before tag args mark) (first_offset args) (shape_of tag) args
-    (block_parts tag args mark) (before_len tag args mark p.fitting) room p.fitting p.units in
-    rw (sized, named)
-
--- the parameters have no fault
-parameters_fine : (tag : CallTag) (args : List Arg) (mark : ℕ) → Fitting tag args mark
-    → parameter_fault (length args) (end_offset args) (block tag args mark) ≡ None
-parameters_fine tag args mark p =
-    let room = room_for tag args mark p in
-    let typed = nowhere is_untyped (infos_in tag args) (all_typed (first_offset args) (shape_of tag) args room) in
-    let placed = nowhere (is_misplaced (length args) (end_offset args)) (infos_in tag args)
-    (all_placed (length args) (end_offset args) (first_offset args) (shape_of tag) args room (omega arith) (omega arith)) in
-    let shaped = all_shaped (first_offset args) (shape_of tag) args room p.fitting in
-    rw (infos_back tag args mark p, typed, placed, tag_back tag, shaped) (arguments_fine tag args mark p)
 
 counted : (tag : CallTag) (args : List Arg) (mark : ℕ) → Fitting tag args mark → nat_lt 9 (length args) ≡ false
 counted tag args mark p = grind (arith, nat_tests, few_arguments tag args mark p)
@@ -146,24 +125,40 @@ ended : (tag : CallTag) (args : List Arg) (mark : ℕ) → Fitting tag args mark
 ended tag args mark p = grind (arith, nat_tests, room_for tag args mark p)
 
 -- the copy has no fault
-copy_fine : (tag : CallTag) (args : List Arg) (mark : ℕ) → Fitting tag args mark → fault (whole (block tag args mark)) ≡ None
-copy_fine tag args mark p =
+copy_fine : (tag : CallTag) (args : List Arg) (mark : ℕ) → Fitting tag args mark → list_all has_units args ≡ true
+    → fault (whole (block tag args mark)) ≡ None
+copy_fine tag args mark p units =
+    let room = room_for tag args mark p in
+    let typed = nowhere is_untyped (infos_in tag args) (all_typed (first_offset (length args)) (shape_of tag) args room) in
+    let placed = nowhere (is_misplaced (length args) (end_offset args)) (infos_in tag args)
+    (all_placed (length args) (end_offset args) (first_offset (length args)) (shape_of tag) args room (omega arith) (omega arith)) in
+    let shaped = all_shaped (first_offset (length args)) (shape_of tag) args room p.fitting in
+    let sized = nowhere is_missized (infos_in tag args) (all_sized (first_offset (length args)) (shape_of tag) args room p.fitting) in
+    let named = all_named (block tag args mark) (before tag args mark) (first_offset (length args)) (shape_of tag) args
+    (block_parts tag args mark) (before_len tag args mark p.fitting) room p.fitting units in
     rw (
       block_len tag args mark p.fitting,
+      infos_back tag args mark p,
+      end_back tag args mark p,
+      tag_back tag,
       counted tag args mark p,
       ended tag args mark p,
       same_equal (length args),
-      end_back tag args mark p,
       same_equal (end_offset args),
+      typed,
+      placed,
+      shaped,
+      sized,
+      named,
     )
-    (parameters_fine tag args mark p)
+    refl
 
 -- the copy's call is the call
-call_back : (tag : CallTag) (args : List Arg) (mark : ℕ) → Fitting tag args mark
+call_back : (tag : CallTag) (args : List Arg) (mark : ℕ) → Fitting tag args mark → list_all has_units args ≡ true
     → call_of (whole (block tag args mark)) ≡ called tag mark args
-call_back tag args mark p =
-    let back = all_back (block tag args mark) (before tag args mark) (first_offset args) (shape_of tag) args
-    (block_parts tag args mark) (before_len tag args mark p.fitting) (room_for tag args mark p) p.fitting p.units in
+call_back tag args mark p units =
+    let back = all_back (block tag args mark) (before tag args mark) (first_offset (length args)) (shape_of tag) args
+    (block_parts tag args mark) (before_len tag args mark p.fitting) (room_for tag args mark p) p.fitting units in
     rw (tag_back tag, infos_back tag args mark p, back)
 
 is_whole_copy : (tag : CallTag) (args : List Arg) (mark : ℕ) → Fitting tag args mark
@@ -174,29 +169,26 @@ is_whole_copy tag args mark p =
 -- a call that encodes has a block that fits
 pub fitting_of : (tag : CallTag) (args : List Arg) (mark : ℕ) → encodes tag args ≡ true → Fitting tag args mark
 fitting_of tag args mark h =
-    let most = nat_le (length (block tag args 0)) 64 in
-    let outer = and_parts (fits tag args && list_all has_units args) most h in
-    let inner = and_parts (fits tag args) (list_all has_units args) outer.0 in
-    record { fitting = inner.0; units = inner.1; room = grind (arith, nat_tests, outer.1) }
+    let parts = and_parts (fits tag args) (nat_le (length (block tag args 0)) 64) h in
+    record { fitting = parts.0; room = grind (arith, nat_tests, parts.1) }
 
-pub block_back : (tag : CallTag) (args : List Arg) (mark : ℕ) → Fitting tag args mark
+pub block_back : (tag : CallTag) (args : List Arg) (mark : ℕ) → Fitting tag args mark → list_all has_units args ≡ true
     → (is_copy (whole (block tag args mark)) ≡ true) × (decoded (whole (block tag args mark)) ≡ Ok (called tag mark args))
-block_back tag args mark p = (is_whole_copy tag args mark p, rw (copy_fine tag args mark p, call_back tag args mark p))
+block_back tag args mark p units = (is_whole_copy tag args mark p, rw (copy_fine tag args mark p units, call_back tag args mark p units))
 
 pub blocks_come_back : BlocksComeBack
-blocks_come_back tag args mark h = block_back tag args mark (fitting_of tag args mark h)
+blocks_come_back tag args mark h units = block_back tag args mark (fitting_of tag args mark h) units
 
 -- a call whose block fits encodes, and one whose block does not fit does not
 pub fits_encoded : (tag : CallTag) (args : List Arg) (mark : ℕ) → Fitting tag args mark → encodes tag args ≡ true
 fits_encoded tag args mark p =
     let most : nat_le (length (block tag args 0)) 64 ≡ true = grind (arith, nat_tests, p.room) in
-    rw (p.fitting, p.units, most)
+    rw (p.fitting, most)
 
-last_false : (a b c : Bool) → c ≡ false → (a && b && c) ≡ false
-last_false true true c h = h
-last_false true false c h = refl
-last_false false b c h = refl
+last_false : (a b : Bool) → b ≡ false → (a && b) ≡ false
+last_false true b h = h
+last_false false b h = refl
 
 pub too_big_not_encoded : (tag : CallTag) (args : List Arg) (mark : ℕ) → 64 < length (block tag args mark) → encodes tag args ≡ false
 too_big_not_encoded tag args mark h =
-    last_false (fits tag args) (list_all has_units args) (nat_le (length (block tag args 0)) 64) (grind (arith, nat_tests, h))
+    last_false (fits tag args) (nat_le (length (block tag args 0)) 64) (grind (arith, nat_tests, h))

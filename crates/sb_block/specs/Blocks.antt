@@ -1,6 +1,7 @@
 -- How a call is laid out in words.
-use Rattle.std.specs.Prelude.{ℕ, Bool, true, ◌+◌, ◌*◌, ◌^◌, ◌&&◌, nat_lt, nat_le, List, [], ◌∷◌, ◌++◌, length, replicate}
+use Rattle.std.specs.Prelude.{ℕ, Bool, true, ◌+◌, ◌*◌, ◌^◌, ◌&&◌, nat_le, List, [], ◌∷◌, ◌++◌, length, replicate}
 use Rattle.std.specs.List.{flat_map, list_all}
+use Rattle.sb_wide.specs.Wide.{is_unit}
 use Rattle.sb_call.specs.Arguments.{fits}
 use Rattle.sb_call.specs.Tags.{number_of, shape_of}
 use Rattle.sb_call.specs.declared.tags.CallTag.{CallTag}
@@ -8,6 +9,7 @@ use Rattle.sb_call.specs.declared.tags.ParamKind.{ParamKind}
 use Rattle.sb_call.specs.declared.tags.ParamKind.TheVariants as kind
 use Rattle.sb_call.specs.declared.arguments.Arg.{Arg}
 use Rattle.sb_call.specs.declared.arguments.Arg.TheVariants.{Num, Str}
+use Rattle.sb_block.specs.Layout.{first_offset, most_words, reply_length}
 use Rattle.sb_block.specs.Faults.{type_number}
 use Rattle.sb_block.specs.Packing.{information, packed}
 
@@ -35,30 +37,22 @@ informations_of at (k ∷ kinds) [] = []
 informations_of at (k ∷ kinds) (a ∷ args) =
     information (type_number k) at (bytes_of k a) ∷ informations_of (at + length (content_of a)) kinds args
 
--- where the contents of so many arguments begin
-abbrev pub first_offset : List Arg → ℕ
-first_offset args = 16 + length args
-
 -- where the contents of arguments end
 abbrev pub end_offset : List Arg → ℕ
-end_offset args = first_offset args + length (contents_of args)
+end_offset args = first_offset (length args) + length (contents_of args)
 
 -- tag, mark, count, zeros for the reply, information words, the end item, and the contents
 abbrev pub block : CallTag → List Arg → ℕ → List ℕ
 block tag args mark =
-    number_of tag ∷ mark ∷ length args ∷ replicate 12 0
-    ++ (informations_of (first_offset args) (shape_of tag) args
+    number_of tag ∷ mark ∷ length args ∷ replicate reply_length 0
+    ++ (informations_of (first_offset (length args)) (shape_of tag) args
     ++ (end_offset args * 2 ^ 16 ∷ contents_of args))
 
--- a unit has 16 bits
-abbrev pub is_unit : ℕ → Bool
-is_unit u = nat_lt u (2 ^ 16)
+-- a call encodes: its arguments fit it, and its block has at most 64 words, whatever the mark is
+abbrev pub encodes : CallTag → List Arg → Bool
+encodes tag args = fits tag args && nat_le (length (block tag args 0)) most_words
 
 -- a string is made of units
 abbrev pub has_units : Arg → Bool
 has_units (Num number) = true
 has_units (Str units) = list_all is_unit units
-
--- a call encodes: its arguments fit it and are made of units, and its block has at most 64 words, whatever the mark is
-abbrev pub encodes : CallTag → List Arg → Bool
-encodes tag args = fits tag args && list_all has_units args && nat_le (length (block tag args 0)) 64

@@ -1,12 +1,11 @@
 -- The call that stands in a copy.
-use Rattle.std.specs.Prelude.{◌≡◌, ℕ, ◌%◌, ◌^◌, ◌==◌, List, map, Option, None, Some, Result, Ok, Err, slice_index, unwrap_or, if◌then◌else◌}
-use Rattle.sb_call.specs.Tags.{tag_of}
+use Rattle.std.specs.Prelude.{◌≡◌, ℕ, ◌%◌, ◌^◌, ◌==◌, List, map, Option, None, Some, Result, Ok, Err, if◌then◌else◌}
 use Rattle.sb_call.specs.declared.tags.CallTag.{CallTag}
-use Rattle.sb_call.specs.declared.tags.CallTag.TheVariants.{Ping}
 use Rattle.sb_call.specs.declared.arguments.Arg.{Arg}
 use Rattle.sb_call.specs.declared.arguments.Arg.TheVariants.{Num, Str}
-use Rattle.sb_block.specs.Copies.{Copied, mark_of}
-use Rattle.sb_block.specs.Faults.{fault, informations}
+use Rattle.sb_block.specs.Layout.{mark_in, informations}
+use Rattle.sb_block.specs.Copies.{Copied}
+use Rattle.sb_block.specs.Faults.{fault, tag_in}
 use Rattle.sb_block.specs.Packing.{type_of, string_in, number_in}
 use Rattle.sb_block.specs.declared.faults.BlockFault.{BlockFault}
 use Rattle.sb_block.specs.declared.calls.BlockRefused.{BlockRefused}
@@ -24,17 +23,17 @@ argument_in words word =
 abbrev pub arguments_in : List ℕ → List ℕ → List Arg
 arguments_in infos words = map (argument_in words) infos
 
--- the tag of word 0; where that is no tag's number, which is a fault, it is ping
-abbrev pub tag_in : List ℕ → CallTag
-tag_in words = unwrap_or (tag_of (slice_index words 0)) Ping
-
 -- a call is a tag, a mark and arguments
 abbrev pub called : CallTag → ℕ → List Arg → Call
 called tag mark args = record { tag = tag; mark = mark; args = args }
 
--- the call of a copy without a fault
+-- the call of words: nothing else is read
+abbrev pub call_in : List ℕ → Call
+call_in words = called (tag_in words) (mark_in words) (arguments_in (informations words) words)
+
+-- the call of a copy without a fault is that of its words
 abbrev pub call_of : Copied → Call
-call_of c = called (tag_in c.words) (mark_of c) (arguments_in (informations c.count_seen c.words) c.words)
+call_of c = call_in c.words
 
 abbrev pub call_unless : Option BlockFault → Call → Result Call BlockFault
 call_unless None call = Ok call
@@ -44,7 +43,7 @@ call_unless (Some fault) call = Err fault
 abbrev pub decoded : Copied → Result Call BlockFault
 decoded c = call_unless (fault c) (call_of c)
 
--- a refusal is want of memory, or the fault
+-- a refusal is out of memory, or the fault
 abbrev pub IsRefusal : Result Call BlockFault → BlockRefused → Type 0
 IsRefusal wanted (Fault fault) = wanted ≡ Err fault
 IsRefusal wanted NoMemory = Unit {0}

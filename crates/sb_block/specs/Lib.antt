@@ -3,6 +3,6 @@ pub mod Calls
 pub mod Copies
 pub mod Faults
 pub mod Laws
+pub mod Layout
 pub mod Packing
 pub mod Replies
-pub mod Soundness

@@ -22,7 +22,7 @@ information kind offset size = size + offset * 2 ^ 16 + kind * 2 ^ 32
 abbrev pub words_for : ℕ → ℕ
 words_for bytes = (bytes + 7) / 8
 
--- so many words from an offset on, or as many as there are
+-- the given number of words from an offset on, or as many as there are
 abbrev pub part_of : ℕ → ℕ → List ℕ → List ℕ
 part_of offset len words = take len (drop offset words)
 
@@ -42,7 +42,7 @@ packed (a ∷ b ∷ []) = unit_word a b 0 0 ∷ []
 packed (a ∷ b ∷ c ∷ []) = unit_word a b c 0 ∷ []
 packed (a ∷ b ∷ c ∷ d ∷ more) = unit_word a b c d ∷ packed more
 
--- the units that stand in words, so many of them
+-- the first units of words, the given number of them
 abbrev pub unpacked : ℕ → List ℕ → List ℕ
 unpacked count words = take count (flat_map word_units words)
 

@@ -1,11 +1,13 @@
 // The call that stands in a copy of a block.
 ghost use Rattle.std.specs.Prelude.{◌≡◌, ◌≤◌, length, true, None, IfOk, IfErr, Ok, MatchResult};
 ghost use Rattle.sb_call.specs.Arguments.{fits};
-ghost use Rattle.sb_block.specs.Faults.{fault};
-ghost use Rattle.sb_block.specs.Calls.{argument_in, arguments_in, tag_in, decoded, IsRefusal};
+ghost use Rattle.sb_block.specs.Calls.{argument_in, arguments_in, decoded, IsRefusal};
+ghost use Rattle.sb_block.specs.Faults.{fault, tag_in};
+ghost use Rattle.sb_block.specs.Layout.{most_words};
 
 use crate::faults::{BlockFault, fault_of};
-use crate::packing::{number_in, part_of, string_in, type_of, word_at};
+use crate::layout::{informations, tag_word};
+use crate::packing::{number_in, string_in, type_of};
 use crate::taken::Taken;
 use sb_call::{Arg, Args, CallTag, tag_of};
 use sb_wide::{NoMemory, wide_of};
@@ -29,7 +31,7 @@ pub enum BlockRefused {
     /// The copy has this as its first fault.
     #[error("the block is faulty: {0}")]
     Fault(BlockFault),
-    /// There was no memory.
+    /// Out of memory.
     #[error("out of memory")]
     NoMemory,
 }
@@ -46,7 +48,7 @@ impl From<NoMemory> for BlockRefused {
 }
 
 fn argument_in(alloc: Global, words: &[u64], information: u64) -> Result<Arg, NoMemory>
-    requires { length words.now ≤ 64 }
+    requires { length words.now ≤ most_words }
     ensures { IfOk result (λ a. a ≡ argument_in words.now information) }
 {
     match type_of(information) {
@@ -60,7 +62,7 @@ fn argument_in(alloc: Global, words: &[u64], information: u64) -> Result<Arg, No
 }
 
 fn arguments_in(alloc: Global, informations: &[u64], words: &[u64]) -> Result<Args, NoMemory>
-    requires { length words.now ≤ 64 }
+    requires { length words.now ≤ most_words }
     ensures { IfOk result (λ args. args ≡ arguments_in informations.now words.now) }
 {
     let mut args = Args::new(Vec::new(alloc));
@@ -73,7 +75,7 @@ fn arguments_in(alloc: Global, informations: &[u64], words: &[u64]) -> Result<Ar
 fn tag_in(words: &[u64]) -> CallTag
     ensures { result ≡ tag_in words.now }
 {
-    tag_of(word_at(words, 0)).unwrap_or(CallTag::Ping)
+    tag_of(tag_word(words)).unwrap_or(CallTag::Ping)
 }
 
 /// The call of a copy, whatever its words are: the tag of word 0, the mark of word 1, and an
@@ -81,8 +83,8 @@ fn tag_in(words: &[u64]) -> CallTag
 /// word, and a string has half as many units as bytes. The arguments fit the call.
 ///
 /// # Errors
-/// `Fault` exactly where `fault_of` gives that fault, and `NoMemory` where there was none for the
-/// arguments of a copy without a fault.
+/// `Fault` exactly where `fault_of` gives that fault, and `NoMemory` only where a copy without a
+/// fault ran out of memory for its arguments.
 pub fn decode(alloc: Global, taken: &Taken) -> Result<Call, BlockRefused>
     ensures value { MatchResult result (λ call. decoded taken.now ≡ Ok call) (IsRefusal (decoded taken.now)) }
     ensures faultless { IfErr result (λ refused. refused ≡ BlockRefused.NoMemory → fault taken.now ≡ None) }
@@ -92,10 +94,9 @@ pub fn decode(alloc: Global, taken: &Taken) -> Result<Call, BlockRefused>
         return Err(BlockRefused::Fault(fault));
     }
     let words = taken.words();
-    let informations = part_of(words, 15, taken.count_seen());
     Ok(Call {
         tag: tag_in(words),
         mark: taken.mark(),
-        args: arguments_in(alloc, informations, words)?,
+        args: arguments_in(alloc, informations(words), words)?,
     })
 }

@@ -6,9 +6,12 @@ ghost use Rattle.std.specs.List.{list_all};
 ghost use Rattle.sb_block.specs.Calls.{called, decoded};
 ghost use Rattle.sb_block.specs.Copies.{is_copy, whole};
 ghost use Rattle.sb_block.specs.Packing.{packed};
-ghost use Rattle.sb_block.specs.Blocks.{block, encodes, has_units, is_unit, bytes_of, content_of, contents_of, informations_of, first_offset, end_offset};
+ghost use Rattle.sb_wide.specs.Wide.{is_unit};
+ghost use Rattle.sb_block.specs.Blocks.{block, encodes, has_units, bytes_of, content_of, contents_of, informations_of};
+ghost use Rattle.sb_block.specs.Layout.{first_offset, most_words, reply_length};
 
 use crate::faults::type_number;
+use crate::layout::{MOST_WORDS, REPLY_LENGTH, first_offset};
 use crate::packing::{end_item, information, unit_word};
 use crate::words::Words;
 use sb_call::{Arg, CallTag, ParamKind, fits, number_of, shape};
@@ -37,9 +40,9 @@ fn content_len(arg: &Arg) -> usize
     }
 }
 
-/// The words that the contents of arguments need. There must be at most 64.
+/// The number of words that the contents of arguments need, at most 64.
 fn contents_len(args: &[Arg]) -> u64
-    requires { length (contents_of args.now) ≤ 64 }
+    requires { length (contents_of args.now) ≤ most_words }
     ensures value { result ≡ length (contents_of args.now) }
     ensures units { list_all has_units args.now ≡ true }
 {
@@ -52,13 +55,13 @@ fn contents_len(args: &[Arg]) -> u64
     len
 }
 
-fn has_room(args: &[Arg], room: usize) -> bool
+fn has_room(args: &[Arg], room: u64) -> bool
     ensures { result ≡ nat_le (length args.now + length (contents_of args.now)) room }
 {
     let mut room = room;
     let mut args = args;
     while let Some((arg, more)) = args.split_first() {
-        let needed = content_len(arg);
+        let needed = content_len(arg) as u64;
         if needed >= room {
             return false;
         }
@@ -68,9 +71,16 @@ fn has_room(args: &[Arg], room: usize) -> bool
     true
 }
 
+/// Whether the block of these arguments has at most 64 words.
+fn is_small(args: &[Arg]) -> bool
+    ensures { result ≡ nat_le (first_offset (length args.now) + length (contents_of args.now)) most_words }
+{
+    has_room(args, MOST_WORDS - first_offset(0))
+}
+
 #[tactic(auto, using(crate::proofs::PackingLemmas::packed_len))]
 fn bytes_of(kind: ParamKind, arg: &Arg) -> u64
-    requires { length (content_of arg.now) ≤ 64 }
+    requires { length (content_of arg.now) ≤ most_words }
     ensures value { result ≡ bytes_of kind arg.now }
     ensures small { result < 2 ^ 16 }
 {
@@ -82,8 +92,8 @@ fn bytes_of(kind: ParamKind, arg: &Arg) -> u64
 }
 
 fn put_informations(words: &mut Words, first: u64, kinds: &[ParamKind], args: &[Arg])
-    requires room { length words.old + length args.now ≤ 64 }
-    requires offsets { first + length (contents_of args.now) ≤ 64 }
+    requires room { length words.old + length args.now ≤ most_words }
+    requires offsets { first + length (contents_of args.now) ≤ most_words }
     ensures { words.new ≡ words.old ++ informations_of first kinds.now args.now }
 {
     let mut offset = first;
@@ -101,7 +111,7 @@ fn put_informations(words: &mut Words, first: u64, kinds: &[ParamKind], args: &[
 }
 
 fn put_units(words: &mut Words, units: &[u16])
-    requires { length words.old + length (packed units.now) ≤ 64 }
+    requires { length words.old + length (packed units.now) ≤ most_words }
     ensures { words.new ≡ words.old ++ packed units.now }
 {
     let mut units = units;
@@ -118,7 +128,7 @@ fn put_units(words: &mut Words, units: &[u16])
 }
 
 fn put_content(words: &mut Words, arg: &Arg)
-    requires { length words.old + length (content_of arg.now) ≤ 64 }
+    requires { length words.old + length (content_of arg.now) ≤ most_words }
     ensures { words.new ≡ words.old ++ content_of arg.now }
 {
     match arg {
@@ -128,7 +138,7 @@ fn put_content(words: &mut Words, arg: &Arg)
 }
 
 fn put_contents(words: &mut Words, args: &[Arg])
-    requires { length words.old + length (contents_of args.now) ≤ 64 }
+    requires { length words.old + length (contents_of args.now) ≤ most_words }
     ensures { words.new ≡ words.old ++ contents_of args.now }
 {
     let mut args = args;
@@ -139,11 +149,11 @@ fn put_contents(words: &mut Words, args: &[Arg])
 }
 
 fn opening(tag: CallTag, mark: u64, count: u64) -> Words
-    ensures { result ≡ number_of tag ∷ mark ∷ count ∷ replicate 12 0 }
+    ensures { result ≡ number_of tag ∷ mark ∷ count ∷ replicate reply_length 0 }
 {
     let mut words = Words::empty();
     words.extend(&[number_of(tag), mark, count]);
-    words.extend(&[0; 12]);
+    words.extend(&[0; REPLY_LENGTH]);
     words
 }
 
@@ -154,16 +164,16 @@ fn opening(tag: CallTag, mark: u64, count: u64) -> Words
 /// `TooBig` exactly where the block needs more than 64 words.
 pub fn encode(tag: CallTag, args: &[Arg], mark: u64) -> Result<Words, TooBig>
     requires { fits tag args.now ≡ true }
-    ensures value { MatchResult result (λ words. (words ≡ block tag args.now mark) × (length words ≤ 64))
-        (λ _. 64 < length (block tag args.now mark)) }
+    ensures value { MatchResult result (λ words. (words ≡ block tag args.now mark) × (length words ≤ most_words))
+        (λ _. most_words < length (block tag args.now mark)) }
     ensures encodes { MatchResult result (λ _. encodes tag args.now ≡ true) (λ _. encodes tag args.now ≡ false) }
     ensures back { IfOk result (λ words. (is_copy (whole words) ≡ true)
         × (decoded (whole words) ≡ Ok (called tag mark args.now))) }
 {
-    if !has_room(args, 48) {
+    if !is_small(args) {
         return Err(TooBig);
     }
-    let first = 16 + args.len() as u64;
+    let first = first_offset(args.len() as u64);
     let mut words = opening(tag, mark, args.len() as u64);
     put_informations(&mut words, first, shape(tag), args);
     let end = first + contents_len(args);
@@ -173,15 +183,9 @@ pub fn encode(tag: CallTag, args: &[Arg], mark: u64) -> Result<Words, TooBig>
 }
 
 /// Whether a call encodes: its arguments fit it, and its block has at most 64 words, whatever its
-/// mark is. It takes no memory.
+/// mark is. It takes no memory and lays out no block.
 pub fn encodes(tag: CallTag, args: &[Arg]) -> bool
     ensures { result ≡ encodes tag args.now }
 {
-    if !fits(tag, args) {
-        return false;
-    }
-    match encode(tag, args, 0) {
-        Ok(_) => true,
-        Err(TooBig) => false,
-    }
+    fits(tag, args) && is_small(args)
 }

@@ -1,29 +1,34 @@
 // What can be wrong with a copy of a block.
-ghost use Rattle.std.specs.Prelude.{◌≡◌, ◌≤◌, length, slice_index};
+ghost use Rattle.std.specs.Prelude.{◌≡◌, ◌≤◌, length, drop};
 ghost use Rattle.std.specs.List.{position};
-ghost use Rattle.sb_call.specs.Tags.{tag_of};
-ghost use Rattle.sb_block.specs.Faults.{fault, argument_fault, tag_fault, parameter_fault, is_untyped, is_misplaced, is_missized, first_unnamed, has_shape, is_unnamed, type_number};
+ghost use Rattle.sb_block.specs.Copies.{whole};
+ghost use Rattle.sb_block.specs.Faults.{fault, faults, first_there, is_untyped, is_misplaced, is_missized, first_unnamed, has_shape, is_unnamed, type_number};
+ghost use Rattle.sb_block.specs.Layout.{count_in, most_parameters, most_words};
 
-use crate::packing::{offset_of, part_of, size_of, string_in, type_of, word_at, words_for};
+use crate::layout::{
+    MOST_PARAMETERS, count_in, end_in, first_offset, informations, is_end, tag_word,
+};
+use crate::packing::{offset_of, size_of, string_in, type_of, words_for};
 use crate::taken::Taken;
-use sb_call::{CallTag, ParamKind, shape, tag_of};
+use sb_call::{ParamKind, shape, tag_of};
 use sb_wide::is_name;
 use thiserror::Error;
 
-/// The first thing that is wrong with a copy, in the order of the variants and then of the
-/// parameters.
+/// What is wrong with a copy: the first of these that is there, in the order of the variants and
+/// then of the parameters.
 #[derive(Clone, Copy, Debug, PartialEq, Eq, Error)]
 pub enum BlockFault {
-    /// The count that was seen is this and above 9.
+    /// The count that was fetched before the copy is this, and above 9.
     #[error("there are {0} parameters")]
     TooManyParams(u64),
-    /// The end that was seen is this, and lies before the parameters or past word 64.
+    /// The end that was fetched before the copy is this, and lies before the parameters or past
+    /// word 64.
     #[error("the end is {0}")]
     BadEnd(u64),
-    /// The first count was seen, and the second stands in the copy.
+    /// The first count was fetched before the copy, and the second stands in it.
     #[error("the count was {0} and is {1}")]
     CountChanged(u64, u64),
-    /// The first end was seen, and the second stands in the copy.
+    /// The first end was fetched before the copy, and the second stands in it.
     #[error("the end was {0} and is {1}")]
     EndChanged(u64, u64),
     /// This parameter, from 0, is neither string, number nor handle.
@@ -41,7 +46,7 @@ pub enum BlockFault {
     /// This parameter, from 0, has no size that its type allows.
     #[error("parameter {0} has a wrong size")]
     BadSize(u32),
-    /// This parameter, from 0, ought to be a name and is none.
+    /// This parameter, from 0, should be a name and is not one.
     #[error("parameter {0} is not a name")]
     BadName(u32),
 }
@@ -53,11 +58,11 @@ fn is_untyped(information: u64) -> bool
 }
 
 fn is_misplaced(count: u64, end: u64, information: u64) -> bool
-    requires { count ≤ 9 }
+    requires { count ≤ most_parameters }
     ensures { result ≡ is_misplaced count end information }
 {
     let offset = offset_of(information);
-    offset < 16 + count || offset + words_for(size_of(information)) > end
+    offset < first_offset(count) || offset + words_for(size_of(information)) > end
 }
 
 fn is_missized(information: u64) -> bool
@@ -104,7 +109,7 @@ fn has_shape(kinds: &[ParamKind], informations: &[u64]) -> bool
 }
 
 fn is_unnamed(kind: ParamKind, information: u64, words: &[u64]) -> bool
-    requires { length words.now ≤ 64 }
+    requires { length words.now ≤ most_words }
     ensures { result ≡ is_unnamed kind information words.now }
 {
     match kind {
@@ -114,8 +119,8 @@ fn is_unnamed(kind: ParamKind, information: u64, words: &[u64]) -> bool
 }
 
 fn first_unnamed(kinds: &[ParamKind], informations: &[u64], words: &[u64]) -> Option<u32>
-    requires words { length words.now ≤ 64 }
-    requires few { length informations.now ≤ 9 }
+    requires words { length words.now ≤ most_words }
+    requires few { length informations.now ≤ most_parameters }
     ensures { result ≡ first_unnamed kinds.now informations.now words.now }
 {
     let mut kinds = kinds;
@@ -140,7 +145,7 @@ fn first_untyped(informations: &[u64]) -> Option<usize>
 }
 
 fn first_misplaced(count: u64, end: u64, informations: &[u64]) -> Option<usize>
-    requires { count ≤ 9 }
+    requires { count ≤ most_parameters }
     ensures { result ≡ position (is_misplaced count end) informations.now }
 {
     informations
@@ -154,45 +159,30 @@ fn first_missized(informations: &[u64]) -> Option<usize>
     informations.iter().position(|word| is_missized(*word))
 }
 
-fn argument_fault(tag: CallTag, informations: &[u64], words: &[u64]) -> Option<BlockFault>
-    requires words { length words.now ≤ 64 }
-    requires few { length informations.now ≤ 9 }
-    ensures { result ≡ argument_fault tag informations.now words.now }
+/// The first fault of the words of a copy, by themselves.
+fn fault_in(words: &[u64]) -> Option<BlockFault>
+    requires words { length words.now ≤ most_words }
+    requires few { count_in words.now ≤ most_parameters }
+    ensures { result ≡ first_there (drop 4 (faults (whole words.now))) }
 {
+    let informations = informations(words);
+    if let Some(at) = first_untyped(informations) {
+        return Some(BlockFault::BadParamType(at as u32));
+    }
+    if let Some(at) = first_misplaced(count_in(words), end_in(words), informations) {
+        return Some(BlockFault::BadPlace(at as u32));
+    }
+    let Some(tag) = tag_of(tag_word(words)) else {
+        return Some(BlockFault::UnknownTag(tag_word(words)));
+    };
+    if !has_shape(shape(tag), informations) {
+        return Some(BlockFault::WrongShape);
+    }
     if let Some(at) = first_missized(informations) {
         return Some(BlockFault::BadSize(at as u32));
     }
     let at = first_unnamed(shape(tag), informations, words)?;
     Some(BlockFault::BadName(at))
-}
-
-fn tag_fault(number: u64, informations: &[u64], words: &[u64]) -> Option<BlockFault>
-    requires words { length words.now ≤ 64 }
-    requires few { length informations.now ≤ 9 }
-    ensures { result ≡ tag_fault number (tag_of number) informations.now words.now }
-{
-    let Some(tag) = tag_of(number) else {
-        return Some(BlockFault::UnknownTag(number));
-    };
-    if !has_shape(shape(tag), informations) {
-        return Some(BlockFault::WrongShape);
-    }
-    argument_fault(tag, informations, words)
-}
-
-fn parameter_fault(count: u64, end: u64, words: &[u64]) -> Option<BlockFault>
-    requires words { length words.now ≤ 64 }
-    requires few { count ≤ 9 }
-    ensures { result ≡ parameter_fault count end words.now }
-{
-    let informations = part_of(words, 15, count);
-    if let Some(at) = first_untyped(informations) {
-        return Some(BlockFault::BadParamType(at as u32));
-    }
-    if let Some(at) = first_misplaced(count, end, informations) {
-        return Some(BlockFault::BadPlace(at as u32));
-    }
-    tag_fault(word_at(words, 0), informations, words)
 }
 
 /// The first fault of a copy, or None where it has none. It takes no memory.
@@ -202,19 +192,19 @@ pub fn fault_of(taken: &Taken) -> Option<BlockFault>
     let count = taken.count_seen();
     let end = taken.end_seen();
     let words = taken.words();
-    if count > 9 {
+    if count > MOST_PARAMETERS {
         return Some(BlockFault::TooManyParams(count));
     }
-    if end < 16 + count || end > 64 {
+    if !is_end(count, end) {
         return Some(BlockFault::BadEnd(end));
     }
-    let copied_count = word_at(words, 2);
+    let copied_count = count_in(words);
     if count != copied_count {
         return Some(BlockFault::CountChanged(count, copied_count));
     }
-    let copied_end = offset_of(word_at(words, 15 + count));
+    let copied_end = end_in(words);
     if end != copied_end {
         return Some(BlockFault::EndChanged(end, copied_end));
     }
-    parameter_fault(count, end, words)
+    fault_in(words)
 }

@@ -1,6 +1,7 @@
-// Information words, and what stands in the words of a parameter.
+// Information words, and the words of a parameter.
 ghost use Rattle.std.specs.Prelude.{◌≡◌, ◌<◌, ◌≤◌, ◌+◌, ◌*◌, ◌^◌, length, slice_index, drop};
 ghost use Rattle.sb_block.specs.Packing.{type_of, offset_of, size_of, information, words_for, unit_word, part_of, unpacked, string_in, number_in};
+ghost use Rattle.sb_block.specs.Layout.{most_words};
 
 use arrayvec::ArrayVec;
 
@@ -38,15 +39,15 @@ pub fn information(kind: u64, offset: u64, size: u64) -> u64
     size | offset << 16 | kind << 32
 }
 
-/// The end item of an end in words. There are at most 64.
+/// The end item of an end, which is a number of words, at most 64.
 pub fn end_item(end: u64) -> u64
-    requires { end ≤ 64 }
+    requires { end ≤ most_words }
     ensures { result ≡ end * 2 ^ 16 }
 {
     end << 16
 }
 
-/// The number of words that so many bytes need.
+/// The number of words that the given number of bytes needs.
 pub fn words_for(bytes: u64) -> u64
     requires { bytes < 2 ^ 32 }
     ensures { result ≡ words_for bytes }
@@ -75,6 +76,7 @@ pub fn word_at(words: &[u64], at: u64) -> u64
 pub fn part_of(words: &[u64], offset: u64, len: u64) -> &[u64]
     ensures value { result.now ≡ part_of offset len words.now }
     ensures most { length result.now ≤ length words.now }
+    ensures asked { length result.now ≤ len }
 {
     let rest = from(words, offset);
     match rest.get(..len as usize) {
@@ -92,9 +94,9 @@ fn from(words: &[u64], offset: u64) -> &[u64]
     }
 }
 
-/// The units that stand in words, four in each, so many of them or as many as there are.
+/// The first `count` units of words, four units in each, or as many as there are.
 fn unpacked(words: &[u64], count: usize) -> ArrayVec<u16, 256>
-    requires { length words.now ≤ 64 }
+    requires { length words.now ≤ most_words }
     ensures { result.items ≡ unpacked count words.now }
 {
     let mut units = ArrayVec::new();
@@ -108,9 +110,9 @@ fn unpacked(words: &[u64], count: usize) -> ArrayVec<u16, 256>
     units
 }
 
-/// The units of the string that an information word tells of.
+/// The units of the string that an information word describes.
 pub fn string_in(words: &[u64], information: u64) -> ArrayVec<u16, 256>
-    requires { length words.now ≤ 64 }
+    requires { length words.now ≤ most_words }
     ensures { result.items ≡ string_in information words.now }
 {
     let size = size_of(information);
@@ -118,7 +120,7 @@ pub fn string_in(words: &[u64], information: u64) -> ArrayVec<u16, 256>
     unpacked(part, (size / 2) as usize)
 }
 
-/// The word at the offset that an information word tells of, or 0 past the end.
+/// The word at the offset of an information word, or 0 past the end.
 pub fn number_in(words: &[u64], information: u64) -> u64
     ensures { result ≡ number_in information words.now }
 {

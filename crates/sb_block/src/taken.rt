@@ -1,11 +1,13 @@
 // A copy of a block, as a worker takes it.
 ghost use Rattle.std.specs.Prelude.{◌≡◌, ◌≤◌, length, true, Option, None, Some, if◌then◌else◌};
 ghost use Rattle.sb_block.specs.Copies.{Copied, copied, is_copy, mark_of};
+ghost use Rattle.sb_block.specs.Layout.{most_words};
 
+use crate::layout::{MOST_PARAMETERS, is_end};
 use crate::words::Words;
 use std::marker::Model;
 
-/// A copy of a block with the count and the end that stood in the channel when the copy began.
+/// A copy of a block, with the count and the end that were fetched before it.
 ///
 /// A count above 9 ends the copying at once: the end is then 0 and there are no words. An end
 /// below `16 + count` or above 64 ends it too, and there are no words. Otherwise there are as many
@@ -37,12 +39,12 @@ impl Taken {
             else None) }
     {
         let len = words.len() as u64;
-        let right = if count > 9 {
+        let right = if count > MOST_PARAMETERS {
             end == 0 && len == 0
-        } else if end < 16 + count || end > 64 {
-            len == 0
-        } else {
+        } else if is_end(count, end) {
             len == end
+        } else {
+            len == 0
         };
         if !right {
             return None;
@@ -50,15 +52,14 @@ impl Taken {
         Some(Taken { count, end, words })
     }
 
-    /// The number of parameters that stood in the channel when the copy began.
+    /// The number of parameters that was fetched before the copy.
     pub fn count_seen(&self) -> u64
         ensures { result ≡ self.now.count_seen }
     {
         self.count
     }
 
-    /// The end, in words, that stood in the channel when the copy began, or 0 where it was not
-    /// loaded.
+    /// The end, in words, that was fetched before the copy, or 0 where it was not fetched.
     pub fn end_seen(&self) -> u64
         ensures { result ≡ self.now.end_seen }
     {
@@ -68,7 +69,7 @@ impl Taken {
     /// The words of the copy, at most 64.
     pub fn words(&self) -> &[u64]
         ensures value { result.now ≡ self.now.words }
-        ensures most { length result.now ≤ 64 }
+        ensures most { length result.now ≤ most_words }
         ensures rule { is_copy self.now ≡ true }
     {
         self.words.as_slice()

@@ -1,5 +1,6 @@
 // The words of a block, in an array of fixed room.
 ghost use Rattle.std.specs.Prelude.{◌≡◌, ◌<◌, ◌≤◌, ◌+◌, ◌++◌, ◌∷◌, [], length};
+ghost use Rattle.sb_block.specs.Layout.{most_words};
 
 use arrayvec::ArrayVec;
 use std::marker::Model;
@@ -19,7 +20,9 @@ impl Model for Words {
 
     ghost inverse = { λ w. record { items = record { items = w } } };
 
-    ghost invariant = { λ w. length w.items.items ≤ 64 };
+    ghost use Rattle.sb_block.specs.Layout.{most_words};
+
+    ghost invariant = { λ w. length w.items.items ≤ most_words };
 }
 
 impl Words {
@@ -49,7 +52,7 @@ impl Words {
     /// The number of words, at most 64.
     pub fn len(&self) -> usize
         ensures len { result ≡ length self.now }
-        ensures most { result ≤ 64 }
+        ensures most { result ≤ most_words }
     {
         self.items.len()
     }
@@ -57,14 +60,14 @@ impl Words {
     /// The words.
     pub fn as_slice(&self) -> &[u64]
         ensures value { result.now ≡ self.now }
-        ensures most { length result.now ≤ 64 }
+        ensures most { length result.now ≤ most_words }
     {
         self.items.as_slice()
     }
 
     /// Appends a word. There must be fewer than 64.
     pub fn push(&mut self, word: u64)
-        requires { length self.old < 64 }
+        requires { length self.old < most_words }
         ensures { self.new ≡ self.old ++ word ∷ [] }
     {
         self.items.push(word);
@@ -72,7 +75,7 @@ impl Words {
 
     /// Appends words. There must be room for all of them.
     pub fn extend(&mut self, words: &[u64])
-        requires { length self.old + length words.now ≤ 64 }
+        requires { length self.old + length words.now ≤ most_words }
         ensures { self.new ≡ self.old ++ words.now }
     {
         for word in words {

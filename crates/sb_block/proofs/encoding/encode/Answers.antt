@@ -1,32 +1,33 @@
 use Rattle.std.proofs.Common.{◌≡◌, ◌≤◌, ◌<◌, ◌++◌, ◌*◌, ◌^◌, length}
 use Rattle.sb_call.specs.Tags.{shape_of}
-use Rattle.sb_block.specs.Blocks.{block, contents_of, end_offset, first_offset, informations_of}
+use Rattle.sb_block.specs.Blocks.{block, contents_of, end_offset, informations_of}
+use Rattle.sb_block.specs.Layout.{first_offset}
 use Rattle.sb_block.proofs.BlockLemmas.{block_len, assembled, too_long, enough_room}
 use Rattle.sb_block.proofs.WholeBlocks.{Fitting, block_back, fits_encoded, too_big_not_encoded}
 use Rattle.sb_block.proofs.encoding.encode.Goals as goal
 
-pub returns-then-not-has_room : goal.returns-then-not-has_room
-returns-then-not-has_room c =
+pub returns-then-not-is_small : goal.returns-then-not-is_small
+returns-then-not-is_small c =
     let long : 64 < length (block c.args.tag c.args.args.now c.args.mark) =
-    too_long (length c.args.args.now) (length (contents_of c.args.args.now)) _ c.has_room.result
-    (block_len c.args.tag c.args.args.now c.args.mark c.requires) c.if-not-has_room.true c.has_room.ensures in
+    too_long (length c.args.args.now) (length (contents_of c.args.args.now)) _ c.is_small.result
+    (block_len c.args.tag c.args.args.now c.args.mark c.requires) c.if-not-is_small.true c.is_small.ensures in
     record { value = long; encodes = too_big_not_encoded c.args.tag c.args.args.now c.args.mark long; back = tt }
 
 pub returns : goal.returns
 returns c =
-    let item : c.end_item.result ≡ end_offset c.args.args.now * 2 ^ 16 = rw c.contents_len.ensures.value at c.end_item.ensures in
+    let first : c.first_offset-first.result ≡ first_offset (length c.args.args.now) = c.first_offset-first.ensures in
+    let item : c.end_item.result ≡ end_offset c.args.args.now * 2 ^ 16 = rw (c.contents_len.ensures.value, first) at c.end_item.ensures in
     let infos : c.put_informations.new.words
-    ≡ c.opening-words.result ++ informations_of (first_offset c.args.args.now) (shape_of c.args.tag) c.args.args.now
-    = rw c.shape.ensures at c.put_informations.ensures in
+    ≡ c.opening-words.result ++ informations_of (first_offset (length c.args.args.now)) (shape_of c.args.tag) c.args.args.now
+    = rw (c.shape.ensures, first) at c.put_informations.ensures in
     let same : c.put_contents.new.words ≡ block c.args.tag c.args.args.now c.args.mark =
     assembled _ _ _ _ _ _ _ _ c.opening-words.ensures infos (rw item at c.push.ensures) c.put_contents.ensures in
     let len : length (block c.args.tag c.args.args.now c.args.mark) ≤ 64 =
-    enough_room (length c.args.args.now) (length (contents_of c.args.args.now)) _ c.has_room.result
-    (block_len c.args.tag c.args.args.now c.args.mark c.requires) c.if-not-has_room.false c.has_room.ensures in
-    let fitting : Fitting c.args.tag c.args.args.now c.args.mark =
-    record { fitting = c.requires; units = c.contents_len.ensures.units; room = len } in
+    enough_room (length c.args.args.now) (length (contents_of c.args.args.now)) _ c.is_small.result
+    (block_len c.args.tag c.args.args.now c.args.mark c.requires) c.if-not-is_small.false c.is_small.ensures in
+    let fitting : Fitting c.args.tag c.args.args.now c.args.mark = record { fitting = c.requires; room = len } in
     record {
       value = (same, rw same len);
       encodes = fits_encoded c.args.tag c.args.args.now c.args.mark fitting;
-      back = rw same (block_back c.args.tag c.args.args.now c.args.mark fitting);
+      back = rw same (block_back c.args.tag c.args.args.now c.args.mark fitting c.contents_len.ensures.units);
     }

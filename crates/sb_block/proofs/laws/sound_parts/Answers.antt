@@ -1,5 +1,0 @@
-use Rattle.sb_block.proofs.SoundLemmas.{sound_targets, sound_statements}
-use Rattle.sb_block.proofs.laws.sound_parts.Goals as goal
-
-pub returns : goal.returns
-returns c = record { targets = sound_targets; statements = sound_statements }

@@ -1,0 +1,5 @@
+pub mod CleanMarks
+pub mod Equalities
+pub mod Limits
+pub mod Scripts
+pub mod Soundness

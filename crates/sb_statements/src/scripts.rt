@@ -1,0 +1,129 @@
+// A script: how it opens, and what its targets do.
+ghost use Rattle.std.specs.Prelude.{◌≡◌};
+ghost use Rattle.std.specs.List.{list_any};
+ghost use Rattle.sb_statements.specs.Scripts.{writes_channel, threads_write, is_clean};
+
+use crate::statements::{Statement, Statements, Threads};
+use sb_call::ShortName;
+use sb_items::{Copies, Items, NoMemory};
+use sb_wide::Wide;
+use std::alloc::Global;
+
+/// An object that is there at the start.
+#[derive(Debug, Drop, PartialEq)]
+pub enum StartLine {
+    /// A directory.
+    Dir { name: Wide },
+    /// A file with its attributes.
+    File { name: Wide, attributes: u64 },
+    /// A registry key.
+    Key { name: Wide },
+    /// An event with its kind and its initial state.
+    Event { name: Wide, kind: u64, initial: u64 },
+}
+
+impl Copies for StartLine {
+    fn copy(&self, alloc: Global) -> Result<StartLine, NoMemory> {
+        Ok(match self {
+            StartLine::Dir { name } => StartLine::Dir {
+                name: name.copy(alloc)?,
+            },
+            StartLine::File { name, attributes } => StartLine::File {
+                name: name.copy(alloc)?,
+                attributes: *attributes,
+            },
+            StartLine::Key { name } => StartLine::Key {
+                name: name.copy(alloc)?,
+            },
+            StartLine::Event {
+                name,
+                kind,
+                initial,
+            } => StartLine::Event {
+                name: name.copy(alloc)?,
+                kind: *kind,
+                initial: *initial,
+            },
+        })
+    }
+}
+
+/// The objects that are there at the start, in the order in which they are placed.
+pub type StartLines = Items<StartLine>;
+
+/// A target: its policy by number, how many channels it has, and its threads.
+#[derive(Debug, Drop, PartialEq)]
+pub struct TargetScript {
+    /// The name, as transcripts show it.
+    pub name: ShortName,
+    /// The number of the policy that judges its calls, from 0.
+    pub policy: u32,
+    /// How many channels it has, from 1 to 8 in a script that was read.
+    pub channels: u32,
+    /// Its threads.
+    pub threads: Threads,
+}
+
+impl Copies for TargetScript {
+    fn copy(&self, alloc: Global) -> Result<TargetScript, NoMemory> {
+        Ok(TargetScript {
+            name: self.name.copy(),
+            policy: self.policy,
+            channels: self.channels,
+            threads: self.threads.copy(alloc)?,
+        })
+    }
+}
+
+/// The targets of a script, numbered from 0.
+pub type Targets = Items<TargetScript>;
+
+/// A script.
+#[derive(Debug, Drop, PartialEq)]
+pub struct Script {
+    /// How many loads of its channel's state a call makes at most where the channel is not clean, and how many rounds
+    /// over the channels where the target has no clean one. From 1 to 1,000,000 in a script that was read.
+    pub patience: u32,
+    /// What is there at the start.
+    pub start: StartLines,
+    /// Its targets.
+    pub targets: Targets,
+}
+
+impl Copies for Script {
+    fn copy(&self, alloc: Global) -> Result<Script, NoMemory> {
+        Ok(Script {
+            patience: self.patience,
+            start: self.start.copy(alloc)?,
+            targets: self.targets.copy(alloc)?,
+        })
+    }
+}
+
+fn statements_write(target: u32, channel: u32, statements: &[Statement]) -> bool
+    ensures { result ≡ list_any (writes_channel target channel) statements.now }
+{
+    statements
+        .iter()
+        .any(|statement| statement.writes_channel(target, channel))
+}
+
+fn threads_write(target: u32, channel: u32, threads: &[Statements]) -> bool
+    ensures { result ≡ threads_write target channel threads.now }
+{
+    threads.iter().any(|statements| statements_write(target, channel, statements.as_slice()))
+}
+
+fn targets_write(target: u32, channel: u32, targets: &[TargetScript]) -> bool
+    ensures { result ≡ list_any (λ t. threads_write target channel t.threads) targets.now }
+{
+    targets.iter().any(|other| threads_write(target, channel, other.threads.as_slice()))
+}
+
+/// Whether a channel of a target is clean: no store and no exchange statement of any thread of any target names a word
+/// of it. Loads and waits leave it clean. A channel that is not there is clean.
+pub fn clean(script: &Script, target: u32, channel: u32) -> bool
+    ensures { result ≡ is_clean script.now target channel }
+{
+    !targets_write(target, channel, script.targets.as_slice())
+}

@@ -1,0 +1,124 @@
+// What the threads of a target do.
+ghost use Rattle.std.specs.Prelude.{◌≡◌};
+ghost use Rattle.sb_statements.specs.Scripts.{writes_channel};
+
+use sb_call::{Args, CallTag};
+use sb_items::{Copies, Items, NoMemory};
+use std::alloc::Global;
+
+/// A word of a target's channels.
+#[derive(Clone, Copy, Debug, PartialEq, Eq)]
+pub struct Word {
+    /// The channel, from 0.
+    pub channel: u32,
+    /// The place in the channel: 0 is the state, and 1 + i is block word i, for i from 0 to 63.
+    pub at: u32,
+}
+
+/// What a thread does. Targets are numbered from 0.
+#[derive(Debug, Drop, PartialEq)]
+pub enum Statement {
+    /// Forwards a call of its own target.
+    Call {
+        tag: CallTag,
+        args: Args,
+    },
+    /// Stores a value into a word by hand.
+    Store {
+        target: u32,
+        word: Word,
+        value: u64,
+    },
+    /// Stores `to` into a word by hand, where it holds `from`.
+    Exchange {
+        target: u32,
+        word: Word,
+        from: u64,
+        to: u64,
+    },
+    /// Loads a word.
+    Load {
+        target: u32,
+        word: Word,
+    },
+    /// Loads a word until it holds the value, at most `most` times.
+    Wait {
+        target: u32,
+        word: Word,
+        value: u64,
+        most: u32,
+    },
+}
+
+impl Copies for Statement {
+    fn copy(&self, alloc: Global) -> Result<Statement, NoMemory> {
+        Ok(match self {
+            Statement::Call { tag, args } => Statement::Call {
+                tag: *tag,
+                args: args.copy(alloc)?,
+            },
+            Statement::Store {
+                target,
+                word,
+                value,
+            } => Statement::Store {
+                target: *target,
+                word: *word,
+                value: *value,
+            },
+            Statement::Exchange {
+                target,
+                word,
+                from,
+                to,
+            } => Statement::Exchange {
+                target: *target,
+                word: *word,
+                from: *from,
+                to: *to,
+            },
+            Statement::Load { target, word } => Statement::Load {
+                target: *target,
+                word: *word,
+            },
+            Statement::Wait {
+                target,
+                word,
+                value,
+                most,
+            } => Statement::Wait {
+                target: *target,
+                word: *word,
+                value: *value,
+                most: *most,
+            },
+        })
+    }
+}
+
+impl Statement {
+    // Whether this is a store or an exchange that names a word of the channel.
+    pub(crate) fn writes_channel(&self, target: u32, channel: u32) -> bool
+        ensures { result ≡ writes_channel target channel self.now }
+    {
+        match self {
+            Statement::Store {
+                target: named,
+                word,
+                ..
+            } => *named == target && word.channel == channel,
+            Statement::Exchange {
+                target: named,
+                word,
+                ..
+            } => { *named == target && word.channel == channel }
+            _ => false,
+        }
+    }
+}
+
+/// The statements of a thread, numbered from 0.
+pub type Statements = Items<Statement>;
+
+/// The threads of a target, numbered from 0.
+pub type Threads = Items<Statements>;
