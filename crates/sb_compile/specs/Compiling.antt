@@ -4,7 +4,7 @@ use Rattle.std.specs.List.{flat_map, prefix_len, slice_split}
 use Rattle.sb_call.specs.CallWords.{every_tag}
 use Rattle.sb_call.specs.Tags.{number_of}
 use Rattle.sb_call.specs.declared.arguments.Arg.{Arg}
-use Rattle.sb_call.specs.declared.scripts.TargetScript.{TargetScript}
+use Rattle.sb_statements.specs.declared.scripts.TargetScript.{TargetScript}
 use Rattle.sb_call.specs.declared.tags.CallTag.{CallTag}
 use Rattle.sb_pattern.specs.Chunks.{is_any}
 use Rattle.sb_pattern.specs.declared.cells.Cell.{Cell}

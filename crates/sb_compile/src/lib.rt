@@ -9,8 +9,6 @@ mod patterns;
 mod programs;
 mod rules;
 mod targets;
-#[cfg(test)]
-mod tests;
 
 pub use laws::{compiled_code_is_faultless, compiling_keeps_verdicts, letter_case_does_not_matter};
 pub use programs::{Program, compile};

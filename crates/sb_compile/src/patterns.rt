@@ -2,6 +2,7 @@
 ghost use Rattle.std.specs.Prelude.{◌≡◌, ◌+◌, ◌<◌, ◌≤◌, ◌^◌, ◌++◌, ◌∷◌, [], length, position, OnOk, MatchOption, IfOk, ⊤};
 ghost use Rattle.std.specs.List.{slice_split, prefix_len};
 ghost use Rattle.sb_pattern.specs.Chunks.{is_any};
+ghost use Rattle.sb_pattern.specs.Limits.{most_units};
 ghost use Rattle.sb_opcode.specs.declared.opcodes.OpKind.TheVariants as op;
 ghost use Rattle.sb_compile.specs.Compiling.{opcode, closed, is_one, here, later_code, runs_code};
 ghost use Rattle.sb_compile.specs.Steps.{last_if, is_none};
@@ -102,7 +103,7 @@ fn push_here(
     is_last: bool,
 ) -> Result<(), NoMemory>
     requires room { length code.old + 1 < 2 ^ 32 }
-    requires short { length cells.now ≤ 256 }
+    requires short { length cells.now ≤ most_units }
     ensures { OnOk result (code.new ≡ code.old ++ last_if is_last group.negated (here group.param bits cells.now) ∷ []) }
 {
     let skip = questions(cells);
@@ -156,7 +157,7 @@ fn push_parts(
     later: &[Cell],
 ) -> Result<(), NoMemory>
     requires room { length code.old + length run.now + length later.now + 1 < 2 ^ 32 }
-    requires short { length run.now ≤ 256 }
+    requires short { length run.now ≤ most_units }
     ensures ok { OnOk result (code.new ≡ code.old ++ closed group.negated (runs_code group.param (run.now ∷ slice_split is_any later.now))) }
     ensures few { OnOk result (length code.new ≤ length code.old + length run.now + length later.now + 1) }
 {
@@ -176,7 +177,7 @@ pub(crate) fn push_pattern(
     cells: &[Cell],
 ) -> Result<(), NoMemory>
     requires room { length code.old + length cells.now + 1 < 2 ^ 32 }
-    requires short { length cells.now ≤ 256 }
+    requires short { length cells.now ≤ most_units }
     ensures ok { OnOk result (code.new ≡ code.old ++ closed group.negated (runs_code group.param (slice_split is_any cells.now))) }
     ensures few { OnOk result (length code.new ≤ length code.old + length cells.now + 1) }
 {

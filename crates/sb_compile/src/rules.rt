@@ -2,6 +2,7 @@
 ghost use Rattle.std.specs.Prelude.{◌≡◌, ◌+◌, ◌*◌, ◌<◌, ◌≤◌, ◌^◌, ◌++◌, ◌∷◌, [], true, length, map, OnOk, IfOk};
 ghost use Rattle.std.specs.List.{flat_map, list_all};
 ghost use Rattle.sb_pattern.specs.declared.cells.Cell.TheVariants.{Lit};
+ghost use Rattle.sb_rule.specs.Limits.{most_rules};
 ghost use Rattle.sb_rule.specs.WellMade.{is_sensible, is_well_made_rule};
 ghost use Rattle.sb_opcode.specs.declared.opcodes.OpKind.TheVariants as op;
 ghost use Rattle.sb_opcode.specs.declared.opcodes.Seek.TheVariants.{Skip};
@@ -101,7 +102,7 @@ fn push_rule(alloc: Global, code: &mut Code, rule: &Rule) -> Result<(), NoMemory
 
 // The code of the rules that are for a call.
 pub(crate) fn code_of(alloc: Global, rules: &[Rule], tag: CallTag) -> Result<Code, NoMemory>
-    requires few { length rules.now ≤ 256 }
+    requires few { length rules.now ≤ most_rules }
     requires made { list_all is_well_made_rule rules.now ≡ true }
     ensures { IfOk result (λ code. code ≡ code_of rules.now tag) }
 {

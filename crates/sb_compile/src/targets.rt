@@ -7,40 +7,17 @@ ghost use Rattle.sb_compile.specs.Compiling.{program_of, policies_of_targets};
 ghost use Rattle.sb_compile.specs.Targets.{nothing, policies_in};
 
 use crate::programs::{Program, compile};
-use sb_call::{Arg, CallTag, Script, TargetScript};
+use sb_call::{Arg, CallTag};
+use sb_items::{Copies, Items, NoMemory};
 use sb_rule::{Judge, Policies, Policy, PolicyList, Verdict};
-use sb_wide::NoMemory;
+use sb_statements::{Script, TargetScript};
 use std::alloc::Global;
-use std::marker::Model;
 
 /// Programs, in order.
-#[derive(Debug, Drop)]
-pub struct ProgramList {
-    items: Vec<Program>,
-}
-
-impl Model for ProgramList {
-    ghost use Rattle.std.specs.Prelude.{List};
-    ghost use Rattle.sb_compile.specs.Compiling.{Compiled};
-
-    ghost Value = { List Compiled };
-
-    ghost view = { λ l. l.items.items };
-}
+pub type ProgramList = Items<Program>;
 
 /// The numbers of policies, in order.
-#[derive(Debug, Drop)]
-pub struct PolicyNumbers {
-    items: Vec<u32>,
-}
-
-impl Model for PolicyNumbers {
-    ghost use Rattle.std.specs.Prelude.{List, ℕ};
-
-    ghost Value = { List ℕ };
-
-    ghost view = { λ l. l.items.items };
-}
+pub type PolicyNumbers = Items<u32>;
 
 /// Judges the calls of targets by the programs of their policies, each compiled once.
 #[derive(Debug, Drop)]
@@ -66,7 +43,7 @@ fn compile_all(alloc: Global, policies: &[Policy]) -> Result<ProgramList, NoMemo
         items.push(compile(alloc, policy)?)?;
         rest = later;
     }
-    Ok(ProgramList { items })
+    Ok(ProgramList::new(items))
 }
 
 // The numbers of the policies of targets.
@@ -77,7 +54,7 @@ fn numbers_of(alloc: Global, targets: &[TargetScript]) -> Result<PolicyNumbers, 
     for target in targets {
         items.push(target.policy)?;
     }
-    Ok(PolicyNumbers { items })
+    Ok(PolicyNumbers::new(items))
 }
 
 impl Programs {
@@ -107,8 +84,8 @@ impl Programs {
         ensures { MatchOption result (policy_at (policies_in self.now.policies self.now.numbers) target ≡ nothing)
             (λ program. program.now ≡ program_of (policy_at (policies_in self.now.policies self.now.numbers) target)) }
     {
-        let number = self.numbers.items.get(target as usize)?;
-        self.programs.items.get(*number as usize)
+        let number = self.numbers.as_slice().get(target as usize)?;
+        self.programs.as_slice().get(*number as usize)
     }
 }
 

@@ -6,8 +6,6 @@ mod fragments;
 mod judged;
 mod opcodes;
 mod states;
-#[cfg(test)]
-mod tests;
 mod walks;
 
 pub use judged::Judged;

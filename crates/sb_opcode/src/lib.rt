@@ -9,8 +9,6 @@ mod laws;
 mod opcodes;
 mod options;
 mod records;
-#[cfg(test)]
-mod tests;
 mod verified;
 mod words;
 

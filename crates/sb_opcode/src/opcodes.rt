@@ -1,10 +1,9 @@
 // What an opcode is.
-ghost use Rattle.std.specs.Prelude.{◌≡◌, length};
 
 use crate::options::Options;
+use sb_items::Items;
 use sb_pattern::Cell;
 use sb_rule::Action;
-use std::marker::Model;
 
 /// Where in a string the fragment of a text opcode is to stand. The position is 0 at the beginning of a group, and after
 /// an opcode it is where that opcode's fragment ended.
@@ -19,62 +18,7 @@ pub enum Seek {
 }
 
 /// The cells of a fragment.
-#[derive(Debug, Drop)]
-pub struct Cells {
-    items: Vec<Cell>,
-}
-
-impl Model for Cells {
-    ghost use Rattle.std.specs.Prelude.{List};
-    ghost use Rattle.sb_pattern.specs.declared.cells.Cell.{Cell};
-
-    ghost Value = { List Cell };
-
-    ghost view = { λ c. c.items.items };
-}
-
-impl Cells {
-    /// The list of these items.
-    pub fn new(items: Vec<Cell>) -> Cells
-        ensures { result ≡ items.items }
-    {
-        Cells { items }
-    }
-
-    /// The items.
-    pub fn into_items(self) -> Vec<Cell>
-        ensures { result.items ≡ self }
-    {
-        self.items
-    }
-
-    /// The items, in order.
-    pub fn as_slice(&self) -> &[Cell]
-        ensures { result.now ≡ self.now }
-    {
-        &self.items
-    }
-
-    /// How many items there are.
-    pub fn len(&self) -> usize
-        ensures { result ≡ length self.now }
-    {
-        self.items.len()
-    }
-}
-
-impl PartialEq for Cells {
-    ghost use Rattle.std.specs.Cmp.Lexicographic.{pointwise};
-    ghost use Rattle.sb_pattern.specs.Cells.{same_cell, same_cells_laws};
-
-    ghost eq = { pointwise same_cell };
-
-    ghost laws = { same_cells_laws };
-
-    fn eq(&self, other: &Cells) -> bool {
-        self.items == other.items
-    }
-}
+pub type Cells = Items<Cell>;
 
 /// What an opcode does.
 #[derive(Debug, Drop, PartialEq)]

@@ -1,5 +1,6 @@
 pub mod Cells
 pub mod Chunks
+pub mod Limits
 pub mod Matching
 pub mod Reading
 pub mod Rows

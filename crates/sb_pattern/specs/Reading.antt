@@ -1,6 +1,7 @@
 -- The text of a pattern.
 use Rattle.std.specs.Prelude.{◌≡◌, ◌↔◌, ◌+◌, ◌&&◌, ◌==◌, ℕ, Bool, true, false, not, nat_le, nat_lt, List, [], ◌∷◌, length, Option, None, Some, Result, Ok, Err, if◌then◌else◌, ⊤}
 use Rattle.std.specs.List.{flat_map}
+use Rattle.sb_pattern.specs.Limits.{most_units}
 use Rattle.sb_pattern.specs.declared.cells.Cell.{Cell}
 use Rattle.sb_pattern.specs.declared.cells.Cell.TheVariants.{Lit, One, Any}
 use Rattle.sb_pattern.specs.declared.faults.PatternFault.{PatternFault}
@@ -33,7 +34,7 @@ star_fault n (u ∷ us) =
 
 -- what makes a text no pattern
 abbrev pub fault_of : List ℕ → Option PatternFault
-fault_of text = if nat_lt 256 (length text) then Some TooLong else star_fault 0 text
+fault_of text = if nat_lt most_units (length text) then Some TooLong else star_fault 0 text
 
 -- the fault, where there is one
 abbrev pub unless : Option PatternFault → List Cell → Result (List Cell) PatternFault
@@ -87,7 +88,7 @@ is_spellable (cell ∷ later) = may_precede cell later && is_spellable later
 
 -- cells are a pattern where each may stand before those after it and their text has at most 256 units
 abbrev pub is_pattern : List Cell → Bool
-is_pattern cells = nat_le (length (text_of cells)) 256 && is_spellable cells
+is_pattern cells = nat_le (length (text_of cells)) most_units && is_spellable cells
 
 -- cells are a pattern exactly where their text is read as they are
 abbrev pub PatternsAreRead : Type 0

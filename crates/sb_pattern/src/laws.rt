@@ -1,5 +1,4 @@
 // Laws of patterns. None of these functions does anything: each contract is a law.
-ghost use Rattle.sb_pattern.specs.Cells.{CellsTell};
 ghost use Rattle.sb_pattern.specs.Chunks.{ChunksAreTheRuns};
 ghost use Rattle.sb_pattern.specs.Matching.{LiteralsMatchTheSame, StarMatchesAll, MatchingFoldsTheString, MatchingFoldsTheLiterals};
 ghost use Rattle.sb_pattern.specs.Reading.{TextsComeBack, PatternsAreRead, ReadingGivesPatterns};
@@ -31,9 +30,4 @@ pub fn matching_folds()
 /// The chunks of cells cut out the parts between the stars.
 pub fn chunks_are_the_runs()
     ensures { ChunksAreTheRuns }
-{}
-
-/// `==` of patterns holds exactly where their cells are equal.
-pub fn equality_tells()
-    ensures { CellsTell }
 {}

@@ -4,19 +4,20 @@
 
 mod cells;
 mod chunks;
+mod equalities;
 mod faults;
 mod laws;
+mod limits;
 mod matching;
 mod patterns;
 mod reading;
-#[cfg(test)]
-mod tests;
 
 pub use cells::Cell;
 pub use chunks::Chunks;
 pub use faults::{PatternFault, PatternRefused};
 pub use laws::{
-    chunks_are_the_runs, equality_tells, literals_match_the_same, matching_folds, star_matches_all,
+    chunks_are_the_runs, literals_match_the_same, matching_folds, star_matches_all,
     texts_and_patterns,
 };
+pub use limits::MOST_UNITS;
 pub use patterns::Pattern;

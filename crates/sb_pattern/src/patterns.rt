@@ -9,7 +9,8 @@ use crate::chunks::{Chunks, chunks_of};
 use crate::faults::PatternRefused;
 use crate::matching::matches;
 use crate::reading::{cells_of, fault_of};
-use sb_wide::{NoMemory, Wide};
+use sb_items::{Copies, NoMemory};
+use sb_wide::Wide;
 use std::alloc::Global;
 use std::marker::Model;
 
@@ -69,17 +70,6 @@ impl Pattern {
         Ok(Wide::new(units))
     }
 
-    /// An equal pattern, in memory of its own.
-    ///
-    /// # Errors
-    /// `NoMemory` where there was none for the copy.
-    pub fn copy(&self, alloc: Global) -> Result<Pattern, NoMemory>
-        ensures { IfOk result (λ copy. copy ≡ self.now) }
-    {
-        let cells = Vec::from_slice(alloc, &self.cells)?;
-        Ok(Pattern { cells })
-    }
-
     #[tactic(auto, using(crate::proofs::Texts::few_cells))]
     /// The cells, in order: at most 256, with no `*` before `*` or `?`, no literal `*`, and no literal `/` before `?`.
     pub fn cells(&self) -> &[Cell]
@@ -109,13 +99,20 @@ impl Pattern {
     }
 }
 
+impl Copies for Pattern {
+    fn copy(&self, alloc: Global) -> Result<Pattern, NoMemory> {
+        let cells = Vec::from_slice(alloc, &self.cells)?;
+        Ok(Pattern { cells })
+    }
+}
+
 impl PartialEq for Pattern {
-    ghost use Rattle.std.specs.Cmp.Lexicographic.{pointwise};
-    ghost use Rattle.sb_pattern.specs.Cells.{same_cell, same_cells_laws};
+    ghost use Rattle.sb_items.specs.Deciding.{laws_of_decides};
+    ghost use Rattle.sb_pattern.specs.Cells.{same_cells, cells_decide};
 
-    ghost eq = { pointwise same_cell };
+    ghost eq = { same_cells };
 
-    ghost laws = { same_cells_laws };
+    ghost laws = { laws_of_decides same_cells cells_decide };
 
     fn eq(&self, other: &Pattern) -> bool {
         self.cells == other.cells

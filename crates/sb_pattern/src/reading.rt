@@ -4,10 +4,9 @@ ghost use Rattle.sb_pattern.specs.Reading.{cells_of, fault_of, star_fault};
 
 use crate::cells::Cell;
 use crate::faults::PatternFault;
+use crate::limits::MOST_UNITS;
 use sb_wide::NoMemory;
 use std::alloc::Global;
-
-const MOST_UNITS: usize = 256;
 
 const STAR: u16 = 42;
 

@@ -1,5 +1,5 @@
 pub mod Actions
-pub mod Equality
-pub mod EqualityLaws
+pub mod Equalities
+pub mod Limits
 pub mod Verdicts
 pub mod WellMade

@@ -10,9 +10,11 @@ use Rattle.sb_call.specs.declared.tags.CallTag.{CallTag}
 use Rattle.sb_call.specs.declared.tags.CallTag.TheVariants.{FileOpen, KeyOpen, EventOpen}
 use Rattle.sb_call.specs.declared.tags.ParamKind.{ParamKind}
 use Rattle.sb_call.specs.declared.tags.ParamKind.TheVariants as kind
+use Rattle.sb_pattern.specs.Limits.{most_units}
 use Rattle.sb_pattern.specs.Reading.{text_of, is_pattern}
 use Rattle.sb_pattern.specs.declared.cells.Cell.{Cell}
 use Rattle.sb_pattern.specs.declared.cells.Cell.TheVariants.{Lit, One, Any}
+use Rattle.sb_rule.specs.Limits.{most_policies, most_rules, most_conditions, most_numbers}
 use Rattle.sb_rule.specs.declared.actions.Action.{Action}
 use Rattle.sb_rule.specs.declared.actions.Action.TheVariants.{ReadOnly}
 use Rattle.sb_rule.specs.declared.conditions.Cond.{Cond}
@@ -40,7 +42,7 @@ is_text_unit u = nat_le 32 u && not (u == 34)
 
 -- a string that can stand between quotes: at most 256 units, all of them text, and no surrogate alone
 abbrev pub is_policy_text : List ℕ → Bool
-is_policy_text us = nat_le (length us) 256 && list_all is_text_unit us && is_paired false us
+is_policy_text us = nat_le (length us) most_units && list_all is_text_unit us && is_paired false us
 
 -- cells that can stand between quotes: a pattern whose text can
 abbrev pub is_like_text : List Cell → Bool
@@ -48,7 +50,7 @@ is_like_text cells = is_pattern cells && is_policy_text (text_of cells)
 
 -- a list has 1 to 16 numbers, a range is not empty, and strings and patterns can stand between quotes
 abbrev pub is_sensible : Test → Bool
-is_sensible (OneOf numbers) = nat_lt 0 (length numbers) && nat_le (length numbers) 16
+is_sensible (OneOf numbers) = nat_lt 0 (length numbers) && nat_le (length numbers) most_numbers
 is_sensible (Range lo hi) = nat_le lo hi
 is_sensible (Mask mask) = true
 is_sensible (Equal text) = is_policy_text text
@@ -84,11 +86,11 @@ is_for_readers _ _ = true
 
 -- at most 8 conditions, each well formed, and read-only for calls that open alone
 abbrev pub is_well_made_rule : Rule → Bool
-is_well_made_rule rule = nat_le (length rule.conds) 8 && is_for_readers rule.action rule.tag && list_all (is_well_formed rule.tag) rule.conds
+is_well_made_rule rule = nat_le (length rule.conds) most_conditions && is_for_readers rule.action rule.tag && list_all (is_well_formed rule.tag) rule.conds
 
 -- at most 256 rules, each well made
 abbrev pub is_well_made : Policy → Bool
-is_well_made policy = nat_le (length policy.rules) 256 && list_all is_well_made_rule policy.rules
+is_well_made policy = nat_le (length policy.rules) most_rules && list_all is_well_made_rule policy.rules
 
 -- a policy has this name
 abbrev pub is_named : List ℕ → Policy → Bool
@@ -101,7 +103,7 @@ are_named_apart (policy ∷ policies) = not (list_any (is_named policy.name) pol
 
 -- at most 8 policies, no two of one name, each well made
 abbrev pub are_well_made : List Policy → Bool
-are_well_made policies = nat_le (length policies) 8 && are_named_apart policies && list_all is_well_made policies
+are_well_made policies = nat_le (length policies) most_policies && are_named_apart policies && list_all is_well_made policies
 
 -- the last unit of a cell's text
 abbrev pub last_unit : Cell → ℕ

@@ -8,19 +8,10 @@ ghost use Rattle.sb_rule.specs.WellMade.{is_high, is_low, is_paired, is_text_uni
 
 use crate::actions::Action;
 use crate::conditions::{Cond, Test};
+use crate::limits::{MOST_CONDITIONS, MOST_NUMBERS, MOST_POLICIES, MOST_RULES};
 use crate::policies::{Policies, Policy, Rule};
 use sb_call::{CallTag, ParamKind, ShortName, shape};
-use sb_pattern::{Cell, Pattern};
-
-const MOST_POLICIES: usize = 8;
-
-const MOST_RULES: usize = 256;
-
-const MOST_CONDITIONS: usize = 8;
-
-const MOST_NUMBERS: usize = 16;
-
-const MOST_UNITS: usize = 256;
+use sb_pattern::{Cell, MOST_UNITS, Pattern};
 
 fn is_high(unit: u16) -> bool
     ensures { result ≡ is_high unit }

@@ -1,7 +1,4 @@
-// Laws of verdicts, equality and the strings of policies. None of these functions does anything: each contract is a law.
-ghost use Rattle.std.specs.Cmp.Lexicographic.{pointwise};
-ghost use Rattle.sb_call.specs.Equality.{Tells};
-ghost use Rattle.sb_rule.specs.Equality.{same_cond, same_rule, same_policy};
+// Laws of verdicts and the strings of policies. None of these functions does anything: each contract is a law.
 ghost use Rattle.sb_rule.specs.Verdicts.{FirstRuleDecides, NoRuleWhereNoneHolds, RulesWithoutConditionsDecide, AppendingKeepsVerdicts};
 ghost use Rattle.sb_rule.specs.WellMade.{CharactersArePaired};
 
@@ -23,13 +20,6 @@ pub fn rules_without_conditions_decide()
 /// Rules appended never change a verdict that a rule gave before.
 pub fn appending_keeps_verdicts()
     ensures { AppendingKeepsVerdicts }
-{}
-
-/// `==` of lists of conditions, rules and policies holds exactly where the two are equal.
-pub fn equality_tells()
-    ensures conditions { Tells (pointwise same_cond) }
-    ensures rules { Tells (pointwise same_rule) }
-    ensures policies { Tells (pointwise same_policy) }
 {}
 
 /// The units of characters have no surrogate alone.

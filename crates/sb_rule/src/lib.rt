@@ -5,11 +5,11 @@
 mod actions;
 mod checks;
 mod conditions;
+mod equalities;
 mod judges;
 mod laws;
+mod limits;
 mod policies;
-#[cfg(test)]
-mod tests;
 mod verdicts;
 
 pub use actions::Action;
@@ -17,8 +17,9 @@ pub use checks::{all_well_made, well_made};
 pub use conditions::{Cond, Conds, Numbers, Test};
 pub use judges::{Judge, PlainJudge};
 pub use laws::{
-    appending_keeps_verdicts, characters_are_paired, equality_tells, first_rule_decides,
-    no_rule_where_none_holds, rules_without_conditions_decide,
+    appending_keeps_verdicts, characters_are_paired, first_rule_decides, no_rule_where_none_holds,
+    rules_without_conditions_decide,
 };
+pub use limits::{MOST_CONDITIONS, MOST_NUMBERS, MOST_POLICIES, MOST_RULES};
 pub use policies::{Policies, Policy, PolicyList, Rule, Rules};
 pub use verdicts::{Verdict, verdict_plain};
