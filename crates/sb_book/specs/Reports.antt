@@ -1,6 +1,6 @@
 -- What a report holds.
 use Rattle.std.specs.Prelude.{ℕ, List, length, sum_by}
-use Rattle.sb_call.specs.declared.results.StmtResult.{StmtResult}
+use Rattle.sb_statements.specs.declared.results.StmtResult.{StmtResult}
 
 -- how many results the threads of a target have
 abbrev pub thread_count : List (List StmtResult) → ℕ

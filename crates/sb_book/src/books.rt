@@ -4,6 +4,7 @@ ghost use Rattle.std.specs.List.{list_all};
 ghost use Rattle.sb_block.specs.Copies.{mark_of};
 ghost use Rattle.sb_kernel.specs.Openings.{is_named, opened, opening};
 ghost use Rattle.sb_rule.specs.Verdicts.{policy_at};
+ghost use Rattle.sb_statements.specs.Limits.{most_start_lines};
 ghost use Rattle.sb_book.specs.Decisions.{decision_of, is_fitting};
 ghost use Rattle.sb_book.specs.Histories.{History, IsHistory, new_history, setting_of, fault_words, performed_reply, reply_of, space_after, answered};
 ghost use Rattle.sb_book.specs.Readiness.{is_judged, is_ready};
@@ -11,29 +12,16 @@ ghost use Rattle.sb_book.specs.Readiness.{is_judged, is_ready};
 use crate::decisions::Decision;
 use crate::entries::{Entries, Entry};
 use sb_block::{BlockFault, Taken, faultless_copies_fit};
-use sb_call::{
-    ACCESS_DENIED, Answer, Extended, INVALID_PARAMETER, Reply, SUCCESS, Script, StartLine,
-    StartLines, TargetScript,
-};
+use sb_call::{ACCESS_DENIED, Answer, Extended, INVALID_PARAMETER, Reply, SUCCESS};
+use sb_items::{Copies, Items, NoMemory};
 use sb_kernel::{Kernel, StartRefused};
 use sb_rule::{Policies, Policy, PolicyList};
-use sb_wide::NoMemory;
+use sb_statements::{Script, StartLine, StartLines, TargetScript};
 use std::alloc::Global;
 use std::marker::Model;
 
 /// How many channels each target has.
-#[derive(Debug, Drop)]
-pub struct ChannelCounts {
-    items: Vec<u32>,
-}
-
-impl Model for ChannelCounts {
-    ghost use Rattle.std.specs.Prelude.{List, ℕ};
-
-    ghost Value = { List ℕ };
-
-    ghost view = { λ c. c.items.items };
-}
+pub type ChannelCounts = Items<u32>;
 
 /// The append-only history of what the broker decided: the policies and channels of the targets, what is there at the start,
 /// every entry so far, and the namespace that they led to. Its entries are always a legal history of that setting.
@@ -186,12 +174,12 @@ fn channels_of(alloc: Global, targets: &[TargetScript]) -> Result<ChannelCounts,
     for target in targets {
         items.push(target.channels)?;
     }
-    Ok(ChannelCounts { items })
+    Ok(ChannelCounts::new(items))
 }
 
 // The kernel at the start, where all objects can be placed.
 fn kernel_of(alloc: Global, start: &[StartLine]) -> Result<Kernel, NoMemory>
-    requires few { length start.now ≤ 4096 }
+    requires few { length start.now ≤ most_start_lines }
     requires names { list_all is_named start.now ≡ true }
     requires placed { is_ok (opened start.now) ≡ true }
     ensures { IfOk result (λ kernel. kernel ≡ opening start.now) }

@@ -3,7 +3,7 @@
 use crate::decisions::Decision;
 use sb_block::Taken;
 use sb_call::Reply;
-use std::marker::Model;
+use sb_items::Items;
 
 /// One answered block: whose it was, the copy that was taken of it, the decision and the reply.
 #[derive(Debug, Drop)]
@@ -21,34 +21,4 @@ pub struct Entry {
 }
 
 /// Entries, in the order in which they were answered.
-#[derive(Debug, Drop)]
-pub struct Entries {
-    items: Vec<Entry>,
-}
-
-impl Model for Entries {
-    ghost use Rattle.std.specs.Prelude.{List};
-    ghost use Rattle.sb_book.specs.declared.entries.Entry.{Entry};
-
-    ghost Value = { List Entry };
-
-    ghost view = { λ e. e.items.items };
-}
-
-impl Entries {
-    ghost use Rattle.std.specs.Prelude.{◌≡◌};
-
-    /// These entries.
-    pub fn new(items: Vec<Entry>) -> Entries
-        ensures { result ≡ items.items }
-    {
-        Entries { items }
-    }
-
-    /// The entries in order.
-    pub fn as_slice(&self) -> &[Entry]
-        ensures { result.now ≡ self.now }
-    {
-        &self.items
-    }
-}
+pub type Entries = Items<Entry>;

@@ -6,8 +6,6 @@ mod decisions;
 mod entries;
 mod laws;
 mod reports;
-#[cfg(test)]
-mod tests;
 
 pub use books::{Book, ChannelCounts};
 pub use decisions::{Decision, decide};

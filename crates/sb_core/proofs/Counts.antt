@@ -4,13 +4,11 @@ use Rattle.std.specs.Prelude.{nat_le, slice_get}
 use Rattle.std.specs.List.{list_all}
 use Rattle.std.proofs.lemmas.Bool.{and_parts}
 use Rattle.std.proofs.lemmas.Bool.Decides.{nat_tests}
-use Rattle.sb_block.specs.Blocks.{block, has_units}
-use Rattle.sb_block.specs.Soundness.{is_patience, is_start, is_statement, is_target, is_thread, are_targets, names_differ}
-use Rattle.sb_call.specs.Arguments.{fits}
-use Rattle.sb_call.specs.declared.scripts.Script.{Script}
-use Rattle.sb_call.specs.declared.scripts.TargetScript.{TargetScript}
-use Rattle.sb_call.specs.declared.statements.Statement.{Statement}
-use Rattle.sb_call.specs.declared.statements.Statement.TheVariants.{Call, Store, Exchange, Load, Wait}
+use Rattle.sb_statements.specs.Soundness.{is_patience, is_start, is_statement, is_target, is_thread, are_targets, names_differ}
+use Rattle.sb_statements.specs.declared.scripts.Script.{Script}
+use Rattle.sb_statements.specs.declared.scripts.TargetScript.{TargetScript}
+use Rattle.sb_statements.specs.declared.statements.Statement.{Statement}
+use Rattle.sb_statements.specs.declared.statements.Statement.TheVariants.{Call, Store, Exchange, Load, Wait}
 use Rattle.sb_core.specs.Laws.{CountsDecide}
 use Rattle.sb_core.specs.Single.{first_thread, is_call, is_single, is_single_by_count, is_single_threaded, makes_calls}
 use Rattle.sb_core.specs.Threads.{is_sendable}
@@ -51,10 +49,7 @@ same_all p q r each (x ∷ xs) h =
 
 -- a sound statement can be sent exactly where it is a call
 sends_calls : (targets : List TargetScript) (statement : Statement) → is_statement targets statement ≡ true → is_sendable statement ≡ is_call statement
-sends_calls targets (Call tag args) h =
-    let parts = and_parts (fits tag args && list_all has_units args) (nat_le (length (block tag args 0)) 64) h in
-    let fitting : fits tag args ≡ true = (and_parts (fits tag args) (list_all has_units args) parts.0).0 in
-    rw (fitting, parts.1) refl
+sends_calls targets (Call tag args) h = h
 sends_calls targets (Store target word value) h = refl
 sends_calls targets (Exchange target word from to) h = refl
 sends_calls targets (Load target word) h = refl

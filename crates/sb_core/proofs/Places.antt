@@ -9,8 +9,8 @@ use Rattle.sb_block.specs.Blocks.{block}
 use Rattle.sb_call.specs.Arguments.{fits}
 use Rattle.sb_call.specs.declared.tags.CallTag.{CallTag}
 use Rattle.sb_call.specs.declared.arguments.Arg.{Arg}
-use Rattle.sb_call.specs.declared.statements.Statement.{Statement}
-use Rattle.sb_call.specs.declared.statements.Statement.TheVariants.{Call}
+use Rattle.sb_statements.specs.declared.statements.Statement.{Statement}
+use Rattle.sb_statements.specs.declared.statements.Statement.TheVariants.{Call}
 use Rattle.sb_core.specs.Threads.{is_sendable}
 
 past : (n : ℕ) → nat_le n 64 ≡ true → 64 < n → ⊥

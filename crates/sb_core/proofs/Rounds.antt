@@ -1,6 +1,6 @@
 -- Rounds and the drain, one step at a time.
 use Rattle.std.proofs.Common.{◌≡◌, ℕ, zero, suc, true, false, List, refl}
-use Rattle.sb_call.specs.declared.statements.Statement.{Statement}
+use Rattle.sb_statements.specs.declared.statements.Statement.{Statement}
 use Rattle.sb_rule.specs.declared.policies.Policy.{Policy}
 use Rattle.sb_core.specs.Worlds.{rounds, drained, round, worker_step, is_finished, is_settled}
 use Rattle.sb_core.specs.declared.worlds.World.{World}

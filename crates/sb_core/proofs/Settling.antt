@@ -12,7 +12,7 @@ use Rattle.sb_core.specs.Channels.{state_of, block_word, with_block_word, exchan
 use Rattle.sb_core.specs.Laws.{DrainsSettle, RunsSettle}
 use Rattle.sb_book.specs.Histories.{setting_of}
 use Rattle.sb_core.specs.Runs.{first_policy}
-use Rattle.sb_call.specs.declared.statements.Statement.{Statement}
+use Rattle.sb_statements.specs.declared.statements.Statement.{Statement}
 use Rattle.sb_core.specs.Workers.{worker_after, worker_words, is_worker_sound, is_looking}
 use Rattle.sb_core.specs.Threads.{thread_row, mark_at, block_at}
 use Rattle.sb_core.specs.Worlds.{start_world, worker_step, after_thread, round, rounds, drained, is_finished, is_settled}

@@ -1,8 +1,8 @@
 -- A whole run of a script that has at most one thread.
 use Rattle.std.specs.Prelude.{ℕ, if◌then◌else◌, List, [], ◌∷◌, map, Option, None, Some}
-use Rattle.sb_call.specs.declared.scripts.Script.{Script}
-use Rattle.sb_call.specs.declared.scripts.TargetScript.{TargetScript}
-use Rattle.sb_call.specs.declared.statements.Statement.{Statement}
+use Rattle.sb_statements.specs.declared.scripts.Script.{Script}
+use Rattle.sb_statements.specs.declared.scripts.TargetScript.{TargetScript}
+use Rattle.sb_statements.specs.declared.statements.Statement.{Statement}
 use Rattle.sb_rule.specs.declared.policies.Policy.{Policy}
 use Rattle.sb_rule.specs.Verdicts.{policy_at}
 use Rattle.sb_book.specs.Histories.{setting_of}

@@ -1,15 +1,16 @@
 -- Scripts that have at most one thread, which makes calls.
 use Rattle.std.specs.Prelude.{Bool, true, false, ◌&&◌, ◌==◌, nat_le, List, [], ◌∷◌, length, slice_get, Option, None}
 use Rattle.std.specs.List.{list_all}
-use Rattle.sb_call.specs.declared.scripts.Script.{Script}
-use Rattle.sb_call.specs.declared.scripts.TargetScript.{TargetScript}
-use Rattle.sb_call.specs.declared.statements.Statement.{Statement}
-use Rattle.sb_call.specs.declared.statements.Statement.TheVariants.{Call, Store, Exchange, Load, Wait}
+use Rattle.sb_statements.specs.Limits.{most_statements}
+use Rattle.sb_statements.specs.declared.scripts.Script.{Script}
+use Rattle.sb_statements.specs.declared.scripts.TargetScript.{TargetScript}
+use Rattle.sb_statements.specs.declared.statements.Statement.{Statement}
+use Rattle.sb_statements.specs.declared.statements.Statement.TheVariants.{Call, Store, Exchange, Load, Wait}
 use Rattle.sb_core.specs.Threads.{is_sendable}
 
 -- a thread makes at most 4,096 calls that can be sent
 abbrev pub makes_calls : List Statement → Bool
-makes_calls statements = nat_le (length statements) 4096 && list_all is_sendable statements
+makes_calls statements = nat_le (length statements) most_statements && list_all is_sendable statements
 
 -- a target has one channel and at most one thread, which makes such calls
 abbrev pub is_single : TargetScript → Bool

@@ -4,12 +4,12 @@ use Rattle.sb_block.specs.Blocks.{block}
 use Rattle.sb_block.specs.Replies.{read_reply}
 use Rattle.sb_call.specs.Arguments.{fits}
 use Rattle.sb_call.specs.declared.replies.Reply.{Reply}
-use Rattle.sb_call.specs.declared.results.CallResult.{CallResult}
-use Rattle.sb_call.specs.declared.results.CallResult.TheVariants as result
-use Rattle.sb_call.specs.declared.results.StmtResult.{StmtResult}
-use Rattle.sb_call.specs.declared.results.StmtResult.TheVariants.{Call}
-use Rattle.sb_call.specs.declared.statements.Statement.{Statement}
-use Rattle.sb_call.specs.declared.statements.Statement.TheVariants as statement
+use Rattle.sb_statements.specs.declared.results.CallResult.{CallResult}
+use Rattle.sb_statements.specs.declared.results.CallResult.TheVariants as result
+use Rattle.sb_statements.specs.declared.results.StmtResult.{StmtResult}
+use Rattle.sb_statements.specs.declared.results.StmtResult.TheVariants.{Call}
+use Rattle.sb_statements.specs.declared.statements.Statement.{Statement}
+use Rattle.sb_statements.specs.declared.statements.Statement.TheVariants as statement
 use Rattle.sb_core.specs.Channels.{free_state, busy_state, ready_state, acknowledged_state, abandoned_state, state_of, block_word, with_block_word, exchanged}
 use Rattle.sb_core.specs.declared.threads.ThreadPhase.{ThreadPhase}
 use Rattle.sb_core.specs.declared.threads.ThreadPhase.TheVariants.{Try, Fill, Send, Wait, Fetch, Free}

@@ -1,8 +1,8 @@
 -- The world of one thread and one worker over one channel, and its steps.
 use Rattle.std.specs.Prelude.{◌≡◌, ℕ, zero, suc, ◌+◌, ◌<◌, Bool, true, false, ◌&&◌, not, ◌==◌, nat_lt, nat_le, if◌then◌else◌, List, [], ◌++◌, length, slice_index, Option, None, Some}
 use Rattle.std.specs.Option.{option_to_list}
-use Rattle.sb_call.specs.declared.results.StmtResult.{StmtResult}
-use Rattle.sb_call.specs.declared.statements.Statement.{Statement}
+use Rattle.sb_statements.specs.declared.results.StmtResult.{StmtResult}
+use Rattle.sb_statements.specs.declared.statements.Statement.{Statement}
 use Rattle.sb_rule.specs.declared.policies.Policy.{Policy}
 use Rattle.sb_rule.specs.Verdicts.{policy_at}
 use Rattle.sb_book.specs.Histories.{History, Setting, new_history}

@@ -2,6 +2,7 @@
 ghost use Rattle.std.specs.Prelude.{◌≡◌, ◌<◌, ◌≤◌, [], length, map, true, IfOk};
 ghost use Rattle.std.specs.List.{list_all};
 ghost use Rattle.sb_rule.specs.Verdicts.{policy_at};
+ghost use Rattle.sb_statements.specs.Limits.{most_statements};
 ghost use Rattle.sb_core.specs.Threads.{is_sendable};
 ghost use Rattle.sb_core.specs.Single.{is_single_threaded};
 ghost use Rattle.sb_core.specs.Runs.{idle_report, ran_from, ran};
@@ -13,8 +14,8 @@ ghost use Rattle.sb_core.specs.Worlds.{rounds, is_sound, IsCounted, IsJudgedBy};
 use crate::single::first_thread;
 use crate::worlds::World;
 use sb_book::{Entries, Report, Results, TargetResults};
-use sb_call::{Script, Statement, TargetScript};
 use sb_rule::{Judge, Policies};
+use sb_statements::{Script, Statement, TargetScript};
 use sb_wide::NoMemory;
 use std::alloc::Global;
 
@@ -59,11 +60,11 @@ fn finish<J: Judge>(
 ) -> Result<Ran, NoMemory>
     requires target { 0 < length (J.policies judge.now) }
     requires judged { IsJudgedBy (J.policies judge.now) world.book }
-    requires few { length statements.now ≤ 4096 }
+    requires few { length statements.now ≤ most_statements }
     requires sound { is_sound statements.now world ≡ true }
     requires counted { IsCounted world }
     ensures value { IfOk result (λ r. r ≡ ran_from (policy_at (J.policies judge.now) 0) statements.now world) }
-    ensures few { IfOk result (λ r. result_count r.report.results ≤ 4096) }
+    ensures few { IfOk result (λ r. result_count r.report.results ≤ most_statements) }
 {
     let mut world = world;
     if !world.is_finished(statements) {
@@ -89,12 +90,12 @@ fn run_statements<J: Judge>(
 ) -> Result<Ran, NoMemory>
     requires target { 0 < length (J.policies judge.now) }
     requires judged { IsJudgedBy (J.policies judge.now) world.book }
-    requires few { length statements.now ≤ 4096 }
+    requires few { length statements.now ≤ most_statements }
     requires sendable { list_all is_sendable statements.now ≡ true }
     requires sound { is_sound statements.now world ≡ true }
     requires counted { IsCounted world }
     ensures value { IfOk result (λ r. r ≡ ran_from (policy_at (J.policies judge.now) 0) statements.now (rounds count (policy_at (J.policies judge.now) 0) statements.now world)) }
-    ensures few { IfOk result (λ r. result_count r.report.results ≤ 4096) }
+    ensures few { IfOk result (λ r. result_count r.report.results ≤ most_statements) }
 {
     let mut world = world;
     world.make_rounds(alloc, judge, statements, count)?;
@@ -119,7 +120,7 @@ pub fn run<J: Judge>(
     requires judge { J.policies judge.now ≡ (setting_of policies.now.list script.now).policies }
     requires single { is_single_threaded script.now ≡ true }
     ensures value { IfOk result (λ r. r ≡ ran policies.now.list script.now count) }
-    ensures few { IfOk result (λ r. result_count r.report.results ≤ 4096) }
+    ensures few { IfOk result (λ r. result_count r.report.results ≤ most_statements) }
 {
     let Some(statements) = first_thread(script) else {
         return Ok(Ran {

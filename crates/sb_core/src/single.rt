@@ -5,7 +5,7 @@ ghost use Rattle.sb_core.specs.Threads.{is_sendable};
 ghost use Rattle.sb_core.specs.Single.{makes_calls, is_single, is_single_threaded, first_thread};
 
 use crate::threads::is_sendable;
-use sb_call::{Script, Statement, Statements, TargetScript};
+use sb_statements::{MOST_STATEMENTS, Script, Statement, Statements, TargetScript};
 
 /// The first thread of the first target, where there is one.
 pub fn first_thread(script: &Script) -> Option<&[Statement]>
@@ -30,7 +30,7 @@ fn are_sendable(statements: &[Statement]) -> bool
 fn makes_calls(statements: &Statements) -> bool
     ensures { result ≡ makes_calls statements.now }
 {
-    statements.len() <= 4096 && are_sendable(statements.as_slice())
+    statements.len() <= MOST_STATEMENTS && are_sendable(statements.as_slice())
 }
 
 fn all_make_calls(threads: &[Statements]) -> bool

@@ -4,8 +4,9 @@ ghost use Rattle.std.specs.List.{list_all};
 ghost use Rattle.sb_core.specs.Threads.{block_at, block_by, mark_at, is_sendable, thread_row, is_thread_sound, reply_by, try_by, send_by, after_fill, after_wait, after_fetch};
 
 use crate::channels::{ABANDONED, ACKNOWLEDGED, BUSY, ChannelWords, FREE, READY};
-use sb_block::{Words, encode, read_reply};
-use sb_call::{CallResult, Reply, Statement, StmtResult, fits};
+use sb_block::{Words, encode, encodes, read_reply};
+use sb_call::Reply;
+use sb_statements::{CallResult, Statement, StmtResult};
 
 /// Where a thread stands within its call, named by its next step.
 #[derive(Debug, Drop)]
@@ -36,9 +37,7 @@ pub fn is_sendable(statement: &Statement) -> bool
     ensures { result ≡ is_sendable statement.now }
 {
     match statement {
-        Statement::Call { tag, args } => {
-            fits(*tag, args.as_slice()) && encode(*tag, args.as_slice(), 0).is_ok()
-        }
+        Statement::Call { tag, args } => encodes(*tag, args.as_slice()),
         _ => false,
     }
 }

@@ -4,8 +4,6 @@
 mod events;
 mod laws;
 mod rows;
-#[cfg(test)]
-mod tests;
 
 pub use events::EventService;
 pub use laws::{events_are_found_where_made, refused_calls_change_nothing};

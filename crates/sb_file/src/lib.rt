@@ -5,8 +5,6 @@ mod creation;
 mod files;
 mod laws;
 mod objects;
-#[cfg(test)]
-mod tests;
 
 pub use files::FileService;
 pub use laws::{

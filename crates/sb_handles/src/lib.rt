@@ -5,8 +5,6 @@ mod laws;
 mod objects;
 mod shares;
 mod tables;
-#[cfg(test)]
-mod tests;
 
 pub use laws::{
     agreement_is_kept, closed_are_gone, grants_are_held, numbers_are_new, opens_come_back,

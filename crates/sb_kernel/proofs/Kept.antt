@@ -10,7 +10,8 @@ use Rattle.sb_pipe.specs.Laws.{GrantsLeavePipes}
 use Rattle.sb_pipe.specs.Pipes as pipes
 use Rattle.sb_key.specs.Registry as registry
 use Rattle.sb_event.specs.Events as events
-use Rattle.sb_kernel.specs.Kept.{IsKept, MadeAtMost, most_at_start}
+use Rattle.sb_kernel.specs.Kept.{IsKept, MadeAtMost}
+use Rattle.sb_statements.specs.Limits.{most_start_lines}
 use Rattle.sb_kernel.specs.Namespaces.{Space}
 use Rattle.sb_file.specs.Creation as creation
 use Rattle.sb_handles.specs.Tables.{held_by, without_handle}
@@ -55,10 +56,10 @@ module _ (other_files : GrantsLeaveFiles) (other_pipes : GrantsLeavePipes) (ns :
     files_agree = agree;
     pipes_agree = pipes_kept other_pipes ns.pipes service.File _ _ ns.handles after refl step kept.pipes_agree;
     made = record {
-      files = count_kept service.File _ _ most_at_start ns.handles after step kept.made.files;
-      pipes = other_count_kept service.File _ _ ns.pipes.made most_at_start ns.handles after step kept.made.pipes;
-      keys = other_count_kept service.File _ _ ns.keys.made most_at_start ns.handles after step kept.made.keys;
-      events = other_count_kept service.File _ _ ns.events.made most_at_start ns.handles after step kept.made.events;
+      files = count_kept service.File _ _ most_start_lines ns.handles after step kept.made.files;
+      pipes = other_count_kept service.File _ _ ns.pipes.made most_start_lines ns.handles after step kept.made.pipes;
+      keys = other_count_kept service.File _ _ ns.keys.made most_start_lines ns.handles after step kept.made.keys;
+      events = other_count_kept service.File _ _ ns.events.made most_start_lines ns.handles after step kept.made.events;
     };
   }
 
@@ -68,10 +69,10 @@ module _ (other_files : GrantsLeaveFiles) (other_pipes : GrantsLeavePipes) (ns :
     files_agree = files_kept other_files ns.files service.Pipe _ _ ns.handles after refl table step kept.files_agree;
     pipes_agree = agree;
     made = record {
-      files = other_count_kept service.Pipe _ _ (length ns.files.objects) most_at_start ns.handles after step kept.made.files;
-      pipes = count_kept service.Pipe _ _ most_at_start ns.handles after step kept.made.pipes;
-      keys = other_count_kept service.Pipe _ _ ns.keys.made most_at_start ns.handles after step kept.made.keys;
-      events = other_count_kept service.Pipe _ _ ns.events.made most_at_start ns.handles after step kept.made.events;
+      files = other_count_kept service.Pipe _ _ (length ns.files.objects) most_start_lines ns.handles after step kept.made.files;
+      pipes = count_kept service.Pipe _ _ most_start_lines ns.handles after step kept.made.pipes;
+      keys = other_count_kept service.Pipe _ _ ns.keys.made most_start_lines ns.handles after step kept.made.keys;
+      events = other_count_kept service.Pipe _ _ ns.events.made most_start_lines ns.handles after step kept.made.events;
     };
   }
 
@@ -81,10 +82,10 @@ module _ (other_files : GrantsLeaveFiles) (other_pipes : GrantsLeavePipes) (ns :
     files_agree = files_kept other_files ns.files service.Key _ _ ns.handles after refl table step kept.files_agree;
     pipes_agree = pipes_kept other_pipes ns.pipes service.Key _ _ ns.handles after refl step kept.pipes_agree;
     made = record {
-      files = other_count_kept service.Key _ _ (length ns.files.objects) most_at_start ns.handles after step kept.made.files;
-      pipes = other_count_kept service.Key _ _ ns.pipes.made most_at_start ns.handles after step kept.made.pipes;
-      keys = count_kept service.Key _ _ most_at_start ns.handles after step kept.made.keys;
-      events = other_count_kept service.Key _ _ ns.events.made most_at_start ns.handles after step kept.made.events;
+      files = other_count_kept service.Key _ _ (length ns.files.objects) most_start_lines ns.handles after step kept.made.files;
+      pipes = other_count_kept service.Key _ _ ns.pipes.made most_start_lines ns.handles after step kept.made.pipes;
+      keys = count_kept service.Key _ _ most_start_lines ns.handles after step kept.made.keys;
+      events = other_count_kept service.Key _ _ ns.events.made most_start_lines ns.handles after step kept.made.events;
     };
   }
 
@@ -94,10 +95,10 @@ module _ (other_files : GrantsLeaveFiles) (other_pipes : GrantsLeavePipes) (ns :
     files_agree = files_kept other_files ns.files service.Event _ _ ns.handles after refl table step kept.files_agree;
     pipes_agree = pipes_kept other_pipes ns.pipes service.Event _ _ ns.handles after refl step kept.pipes_agree;
     made = record {
-      files = other_count_kept service.Event _ _ (length ns.files.objects) most_at_start ns.handles after step kept.made.files;
-      pipes = other_count_kept service.Event _ _ ns.pipes.made most_at_start ns.handles after step kept.made.pipes;
-      keys = other_count_kept service.Event _ _ ns.keys.made most_at_start ns.handles after step kept.made.keys;
-      events = count_kept service.Event _ _ most_at_start ns.handles after step kept.made.events;
+      files = other_count_kept service.Event _ _ (length ns.files.objects) most_start_lines ns.handles after step kept.made.files;
+      pipes = other_count_kept service.Event _ _ ns.pipes.made most_start_lines ns.handles after step kept.made.pipes;
+      keys = other_count_kept service.Event _ _ ns.keys.made most_start_lines ns.handles after step kept.made.keys;
+      events = count_kept service.Event _ _ most_start_lines ns.handles after step kept.made.events;
     };
   }
 

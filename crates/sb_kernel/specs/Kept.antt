@@ -3,10 +3,7 @@ use Rattle.std.specs.Prelude.{ℕ, ◌+◌, ◌≤◌, length}
 use Rattle.sb_file.specs.Files as files
 use Rattle.sb_pipe.specs.Pipes as pipes
 use Rattle.sb_kernel.specs.Namespaces.{Space}
-
--- so many objects may be there at the start
-abbrev pub most_at_start : ℕ
-most_at_start = 4096
+use Rattle.sb_statements.specs.Limits.{most_start_lines}
 
 -- each service made at most so many objects
 pub record MadeAtMost (n : ℕ) (ns : Space) : Type 0 where
@@ -19,4 +16,4 @@ pub record MadeAtMost (n : ℕ) (ns : Space) : Type 0 where
 pub record IsKept (ns : Space) : Type 0 where
   pub files_agree : files.Agrees ns.files ns.handles
   pub pipes_agree : pipes.Agrees ns.pipes ns.handles
-  pub made : MadeAtMost (ns.handles.granted + most_at_start) ns
+  pub made : MadeAtMost (ns.handles.granted + most_start_lines) ns

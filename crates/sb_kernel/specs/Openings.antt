@@ -1,8 +1,8 @@
 -- The namespace that is there before the first call.
 use Rattle.std.specs.Prelude.{◌≡◌, ℕ, ◌+◌, Bool, true, false, List, [], ◌∷◌, Option, None, Some, Result, Ok, Err, ⊤, if◌then◌else◌}
 use Rattle.sb_wide.specs.Names.{is_name_of}
-use Rattle.sb_call.specs.declared.scripts.StartLine.{StartLine}
-use Rattle.sb_call.specs.declared.scripts.StartLine.TheVariants.{Dir, File, Key, Event}
+use Rattle.sb_statements.specs.declared.scripts.StartLine.{StartLine}
+use Rattle.sb_statements.specs.declared.scripts.StartLine.TheVariants.{Dir, File, Key, Event}
 use Rattle.sb_file.specs.Files as files
 use Rattle.sb_key.specs.Registry as registry
 use Rattle.sb_event.specs.Events as events

@@ -12,12 +12,13 @@ ghost use Rattle.sb_file.specs.Laws.{GrantsLeaveFiles, ClosesKeepFiles, ClosesLe
 ghost use Rattle.sb_pipe.specs.Laws.{GrantsLeavePipes, ClosesKeepPipes, ClosesLeavePipes};
 ghost use Rattle.sb_kernel.specs.Kept.{MadeAtMost};
 
-use sb_call::{Answer, Arg, CallTag, INVALID_HANDLE, INVALID_PARAMETER, SUCCESS, StartLine};
+use sb_call::{Answer, Arg, CallTag, INVALID_HANDLE, INVALID_PARAMETER, SUCCESS};
 use sb_event::EventService;
 use sb_file::{FileService, agreement_is_kept as files_stay_agreed};
 use sb_handles::{HandleTable, Object, Service};
 use sb_key::KeyService;
 use sb_pipe::{PipeService, agreement_is_kept as pipes_stay_agreed};
+use sb_statements::StartLine;
 use sb_wide::NoMemory;
 use std::alloc::Global;
 use std::marker::Model;

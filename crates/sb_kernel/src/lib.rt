@@ -4,8 +4,6 @@
 mod kernels;
 mod laws;
 mod openings;
-#[cfg(test)]
-mod tests;
 
 pub use kernels::Kernel;
 pub use laws::{refused_calls_change_nothing, unheld_closes_change_nothing};

@@ -1,10 +1,11 @@
 // The kernel at the start.
 ghost use Rattle.std.specs.Prelude.{◌≡◌, ◌≤◌, true, length, Ok, IfOk, IfErr};
 ghost use Rattle.std.specs.List.{list_all};
+ghost use Rattle.sb_statements.specs.Limits.{most_start_lines};
 ghost use Rattle.sb_kernel.specs.Openings.{opened, is_named, IsStartRefused};
 
 use crate::kernels::Kernel;
-use sb_call::StartLine;
+use sb_statements::StartLine;
 use sb_wide::NoMemory;
 use std::alloc::Global;
 use thiserror::Error;
@@ -38,7 +39,7 @@ impl Kernel {
     /// # Errors
     /// `BadStart` exactly where one cannot be placed, with the place of the first, and `NoMemory` where there was none.
     pub fn start(alloc: Global, lines: &[StartLine]) -> Result<Kernel, StartRefused>
-        requires few { length lines.now ≤ 4096 }
+        requires few { length lines.now ≤ most_start_lines }
         requires names { list_all is_named lines.now ≡ true }
         ensures ok { IfOk result (λ kernel. opened lines.now ≡ Ok kernel) }
         ensures err { IfErr result (λ refused. IsStartRefused (opened lines.now) refused) }

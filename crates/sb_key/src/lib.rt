@@ -3,8 +3,6 @@
 
 mod laws;
 mod registry;
-#[cfg(test)]
-mod tests;
 
 pub use laws::{keys_are_found_where_made, keys_stand_below_keys, refused_calls_change_nothing};
 pub use registry::KeyService;

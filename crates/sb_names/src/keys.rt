@@ -2,7 +2,6 @@
 ghost use Rattle.std.specs.Prelude.{◌≡◌, ◌||◌, length};
 ghost use Rattle.std.specs.Cmp.Lexicographic.{slice_cmp};
 ghost use Rattle.std.specs.Ordering.{nat_cmp};
-ghost use Rattle.std.specs.List.{list_any};
 ghost use Rattle.sb_names.specs.Maps.{is_key};
 ghost use Rattle.sb_names.specs.Keys.{key_of, parent_of, is_below, is_backslash};
 
@@ -34,26 +33,22 @@ pub(crate) fn compare(key: &[u16], name: &[u16]) -> Ordering
     }
 }
 
-fn has_backslash(units: &[u16]) -> bool
-    ensures { result ≡ list_any is_backslash units.now }
-{
-    units.iter().any(|unit| *unit == BACKSLASH)
-}
-
 // How many units stand before the last `\`.
+#[tactic(auto, using(crate::proofs::KeyLemmas::last_later))]
 fn parent_len(name: &[u16]) -> usize
     ensures { result ≡ length (parent_of name.now) }
 {
-    let mut len = 0;
+    let mut last = 0;
+    let mut at = 0;
     let mut rest = name;
-    while let Some((_, more)) = rest.split_first() {
-        if !has_backslash(more) {
-            return len;
+    while let Some((unit, more)) = rest.split_first() {
+        if *unit == BACKSLASH {
+            last = at;
         }
-        len += 1;
+        at += 1;
         rest = more;
     }
-    len
+    last
 }
 
 #[tactic(auto, using(crate::proofs::KeyLemmas::parent_start, crate::proofs::KeyLemmas::parent_short))]

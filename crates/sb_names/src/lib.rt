@@ -7,8 +7,6 @@ mod keys;
 mod laws;
 mod maps;
 mod moves;
-#[cfg(test)]
-mod tests;
 mod trees;
 
 pub use faults::TreeFault;

@@ -4,8 +4,6 @@
 mod laws;
 mod pipes;
 mod rows;
-#[cfg(test)]
-mod tests;
 
 pub use laws::{agreement_is_kept, calls_grant_pipes, pipes_have_handles, refusals_change_nothing};
 pub use pipes::PipeService;

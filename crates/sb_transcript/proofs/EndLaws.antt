@@ -12,12 +12,12 @@ use Rattle.sb_call.specs.ShortNames.{is_name_byte, is_short_name}
 use Rattle.sb_call.specs.declared.arguments.Arg.{Arg}
 use Rattle.sb_call.specs.declared.arguments.Arg.TheVariants.{Num, Str}
 use Rattle.sb_call.specs.declared.replies.Reply.{Reply}
-use Rattle.sb_call.specs.declared.results.CallResult.{CallResult}
-use Rattle.sb_call.specs.declared.results.CallResult.TheVariants as call
-use Rattle.sb_call.specs.declared.results.StmtResult.{StmtResult}
-use Rattle.sb_call.specs.declared.results.StmtResult.TheVariants.{Call, Stored, Found, Met, Unmet}
-use Rattle.sb_call.specs.declared.scripts.Script.{Script}
-use Rattle.sb_call.specs.declared.scripts.TargetScript.{TargetScript}
+use Rattle.sb_statements.specs.declared.results.CallResult.{CallResult}
+use Rattle.sb_statements.specs.declared.results.CallResult.TheVariants as call
+use Rattle.sb_statements.specs.declared.results.StmtResult.{StmtResult}
+use Rattle.sb_statements.specs.declared.results.StmtResult.TheVariants.{Call, Stored, Found, Met, Unmet}
+use Rattle.sb_statements.specs.declared.scripts.Script.{Script}
+use Rattle.sb_statements.specs.declared.scripts.TargetScript.{TargetScript}
 use Rattle.sb_call.specs.declared.tags.CallTag.{CallTag}
 use Rattle.sb_call.specs.declared.tags.CallTag.TheVariants.{Ping, FileCreate, FileOpen, FileQuery, FileRename, PipeCreate, KeyCreate, KeyOpen, EventCreate, EventOpen, HandleClose}
 use Rattle.sb_block.specs.Copies.{mark_of}
@@ -32,7 +32,8 @@ use Rattle.sb_book.specs.declared.decisions.Decision.{Decision}
 use Rattle.sb_book.specs.declared.decisions.Decision.TheVariants.{Refused, Denied, Faked, Performed}
 use Rattle.sb_book.specs.declared.entries.Entry.{Entry}
 use Rattle.sb_book.specs.declared.reports.Report.{Report}
-use Rattle.sb_transcript.specs.Numbers.{hexadecimal, eight_digits, more_words, comma_words}
+use Rattle.sb_wide.specs.Numbers.{hexadecimal, eight_digits}
+use Rattle.sb_transcript.specs.CommaWords.{more_words, comma_words}
 use Rattle.sb_transcript.specs.EntryLines.{fault_text, argument_text, denial_word, grant_word, verdict_text, decision_text, reply_text, name_by, target_name, entry_line}
 use Rattle.sb_transcript.specs.ResultLines.{call_result_text, result_text, result_line}
 use Rattle.sb_transcript.specs.Totals.{counted, decisions_text, totals_line, count_of, is_performed, is_faked, is_denied, is_refused}

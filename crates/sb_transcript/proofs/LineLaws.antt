@@ -2,12 +2,12 @@
 use Rattle.std.proofs.Common.{◌≡◌, ◌∙◌, ℕ, ◌+◌, ◌-◌, ◌≤◌, List, [], ◌∷◌, ◌++◌, length, take, get_or, refl, ap, sym, zero, suc, arith, length-append, append_assoc, zero-add}
 use Rattle.std.proofs.lemmas.Option.{none-some}
 use Rattle.std.specs.Prelude.{Some, option_map, slice_get}
-use Rattle.sb_call.specs.declared.results.StmtResult.{StmtResult}
+use Rattle.sb_statements.specs.declared.results.StmtResult.{StmtResult}
 use Rattle.sb_book.specs.declared.reports.Report.{Report}
 use Rattle.sb_transcript.specs.Places.{result_at, results_before}
 use Rattle.sb_book.specs.Reports.{thread_count, result_count}
 use Rattle.sb_book.specs.declared.entries.Entry.{Entry}
-use Rattle.sb_call.specs.declared.scripts.Script.{Script}
+use Rattle.sb_statements.specs.declared.scripts.Script.{Script}
 use Rattle.sb_transcript.specs.EntryLines.{entry_line}
 use Rattle.sb_transcript.specs.ResultLines.{result_line}
 use Rattle.sb_transcript.specs.Totals.{totals_line}

@@ -3,7 +3,7 @@ use Rattle.std.proofs.Common.{◌≡◌, ℕ, ◌+◌, ◌-◌, ◌<◌, ◌≤�
 use Rattle.std.proofs.lemmas.Bool.{cases_lt, false≢true}
 use Rattle.std.proofs.lemmas.List.Sums.{sum_by-cons}
 use Rattle.std.specs.Prelude.{IsSome, slice_get}
-use Rattle.sb_call.specs.declared.results.StmtResult.{StmtResult}
+use Rattle.sb_statements.specs.declared.results.StmtResult.{StmtResult}
 use Rattle.sb_book.specs.Reports.{thread_count, result_count}
 use Rattle.sb_transcript.specs.Places.{result_at, results_before, threads_of}
 use Rattle.sb_transcript.specs.Laws.{NumbersAreResults, ResultsAreInOrder}

@@ -7,8 +7,8 @@ use Rattle.sb_call.specs.CallWords.{call_word}
 use Rattle.sb_call.specs.declared.arguments.Arg.{Arg}
 use Rattle.sb_call.specs.declared.arguments.Arg.TheVariants.{Num, Str}
 use Rattle.sb_call.specs.declared.replies.Reply.{Reply}
-use Rattle.sb_call.specs.declared.scripts.Script.{Script}
-use Rattle.sb_call.specs.declared.scripts.TargetScript.{TargetScript}
+use Rattle.sb_statements.specs.declared.scripts.Script.{Script}
+use Rattle.sb_statements.specs.declared.scripts.TargetScript.{TargetScript}
 use Rattle.sb_block.specs.Copies.{mark_of}
 use Rattle.sb_block.specs.declared.faults.BlockFault.{BlockFault}
 use Rattle.sb_block.specs.declared.faults.BlockFault.TheVariants.{TooManyParams, BadEnd, CountChanged, EndChanged, BadParamType, BadPlace, UnknownTag, WrongShape, BadSize, BadName}
@@ -19,7 +19,8 @@ use Rattle.sb_rule.specs.declared.verdicts.Verdict.TheVariants as verdict
 use Rattle.sb_book.specs.declared.decisions.Decision.{Decision}
 use Rattle.sb_book.specs.declared.decisions.Decision.TheVariants.{Refused, Denied, Faked, Performed}
 use Rattle.sb_book.specs.declared.entries.Entry.{Entry}
-use Rattle.sb_transcript.specs.Numbers.{hexadecimal, eight_digits, comma_words}
+use Rattle.sb_wide.specs.Numbers.{hexadecimal, eight_digits}
+use Rattle.sb_transcript.specs.CommaWords.{comma_words}
 
 -- a fault by its name, and its values
 abbrev pub fault_text : BlockFault → List ℕ

@@ -2,9 +2,9 @@
 use Rattle.std.specs.Prelude.{◌≡◌, ℕ, ◌+◌, ◌<◌, ◌⊎◌, Bool, true, false, not, ◌&&◌, ◌==◌, List, [], ◌∷◌, length, Some, IsSome, slice_get, if◌then◌else◌}
 use Rattle.std.specs.List.{list_all, onto_first}
 use Rattle.sb_call.specs.ShortNames.{is_short_name}
-use Rattle.sb_call.specs.declared.results.StmtResult.{StmtResult}
-use Rattle.sb_call.specs.declared.scripts.Script.{Script}
-use Rattle.sb_call.specs.declared.scripts.TargetScript.{TargetScript}
+use Rattle.sb_statements.specs.declared.results.StmtResult.{StmtResult}
+use Rattle.sb_statements.specs.declared.scripts.Script.{Script}
+use Rattle.sb_statements.specs.declared.scripts.TargetScript.{TargetScript}
 use Rattle.sb_book.specs.Reports.{result_count}
 use Rattle.sb_book.specs.declared.entries.Entry.{Entry}
 use Rattle.sb_book.specs.declared.reports.Report.{Report}

@@ -1,4 +1,4 @@
-pub mod Numbers
+pub mod CommaWords
 pub mod EntryLines
 pub mod ResultLines
 pub mod Totals

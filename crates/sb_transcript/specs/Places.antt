@@ -1,6 +1,6 @@
 -- Where a result stands among all.
 use Rattle.std.specs.Prelude.{ℕ, ◌+◌, List, [], take, Option, slice_get, slice_index_or}
-use Rattle.sb_call.specs.declared.results.StmtResult.{StmtResult}
+use Rattle.sb_statements.specs.declared.results.StmtResult.{StmtResult}
 use Rattle.sb_book.specs.Reports.{result_count, thread_count}
 
 -- the results of a target by thread, none where there is no such target

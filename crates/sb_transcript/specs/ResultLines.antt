@@ -1,11 +1,11 @@
 -- The line of a statement's result.
 use Rattle.std.specs.Prelude.{ℕ, List, ◌++◌, codes}
 use Rattle.std.specs.Fmt.{decimal}
-use Rattle.sb_call.specs.declared.results.CallResult.{CallResult}
-use Rattle.sb_call.specs.declared.results.CallResult.TheVariants as call
-use Rattle.sb_call.specs.declared.results.StmtResult.{StmtResult}
-use Rattle.sb_call.specs.declared.results.StmtResult.TheVariants.{Call, Stored, Found, Met, Unmet}
-use Rattle.sb_call.specs.declared.scripts.Script.{Script}
+use Rattle.sb_statements.specs.declared.results.CallResult.{CallResult}
+use Rattle.sb_statements.specs.declared.results.CallResult.TheVariants as call
+use Rattle.sb_statements.specs.declared.results.StmtResult.{StmtResult}
+use Rattle.sb_statements.specs.declared.results.StmtResult.TheVariants.{Call, Stored, Found, Met, Unmet}
+use Rattle.sb_statements.specs.declared.scripts.Script.{Script}
 use Rattle.sb_transcript.specs.EntryLines.{reply_text, target_name}
 
 abbrev pub call_result_text : CallResult → List ℕ

@@ -4,12 +4,13 @@ ghost use Rattle.std.specs.Fmt.{decimal};
 ghost use Rattle.std.specs.List.{flat_map};
 ghost use Rattle.sb_transcript.specs.EntryLines.{fault_text, argument_text, denial_word, grant_word, verdict_text, decision_text, reply_text, target_name, entry_line};
 
-use crate::numbers::{put_comma_words, put_decimal, put_eight_digits, put_hexadecimal};
+use crate::comma_words::put_comma_words;
 use sb_block::BlockFault;
 use sb_book::{Decision, Entry};
-use sb_call::{Arg, Reply, Script, call_word};
+use sb_call::{Arg, Reply, call_word};
 use sb_rule::{Action, Verdict};
-use sb_wide::{NoMemory, quote_into};
+use sb_statements::Script;
+use sb_wide::{NoMemory, put_decimal, put_eight_digits, put_hexadecimal, quote_into};
 use std::alloc::Global;
 
 /// Appends a name and a number in decimal.

@@ -1,7 +1,7 @@
 // Laws of the transcript. None of these functions changes anything: each contract is a law.
 ghost use Rattle.sb_transcript.specs.Laws.{LinesAreCounted, EntriesComeFirst, ResultsFollow, TotalsEnd, NumbersAreResults, ResultsAreInOrder, HasShortNames, LinesEndOnce, TranscriptsTellTheirLines};
 
-use sb_call::Script;
+use sb_statements::Script;
 
 /// The transcript has as many lines as are counted: one for each entry, one for each result, and one more.
 pub fn lines_are_counted()

@@ -1,15 +1,13 @@
 // The transcript: one line for each entry of the history, one for each statement's result, and the totals.
 #![tactic(auto)]
 
+mod comma_words;
 mod counts;
 mod entries;
 mod laws;
 mod lines;
-mod numbers;
 mod places;
 mod results;
-#[cfg(test)]
-mod tests;
 mod transcripts;
 
 pub use counts::totals;

@@ -9,7 +9,7 @@ use crate::laws::{entries_come_first, results_follow, totals_end};
 use crate::places::place_of;
 use crate::results::line_at;
 use sb_book::Report;
-use sb_call::Script;
+use sb_statements::Script;
 use sb_wide::NoMemory;
 use std::alloc::Global;
 

@@ -5,7 +5,7 @@ ghost use Rattle.sb_transcript.specs.Places.{result_at, results_before};
 
 use crate::counts::thread_count;
 use sb_book::{Results, ThreadResults};
-use sb_call::StmtResult;
+use sb_statements::StmtResult;
 
 /// A result, and where it stands: its target, its thread and its place there, each numbered from 0.
 #[derive(Clone, Copy)]

@@ -7,8 +7,8 @@ use crate::counts::totals;
 use crate::entries::entry_line;
 use crate::results::line_at;
 use sb_book::{Entry, Report, TargetResults, ThreadResults};
-use sb_call::{Script, StmtResult};
 use sb_outside::Bytes;
+use sb_statements::{Script, StmtResult};
 use sb_wide::NoMemory;
 use std::alloc::Global;
 

@@ -1,5 +1,5 @@
 use Rattle.std.proofs.Common.{◌≡◌, ◌++◌, [], drop, map}
-use Rattle.sb_call.specs.declared.scripts.TargetScript.{TargetScript}
+use Rattle.sb_statements.specs.declared.scripts.TargetScript.{TargetScript}
 use Rattle.sb_core.proofs.runs.no_results.Given as goal
 
 -- the results so far, and those of the targets that are left, are those of all

@@ -1,5 +1,5 @@
 use Rattle.std.proofs.Common.{◌≡◌, List, IfOk, subst, Option, Some}
-use Rattle.sb_call.specs.declared.statements.Statement.{Statement}
+use Rattle.sb_statements.specs.declared.statements.Statement.{Statement}
 use Rattle.sb_rule.specs.Verdicts.{policy_at}
 use Rattle.sb_rule.specs.declared.policies.Policy.{Policy}
 use Rattle.sb_book.specs.Histories.{setting_of}

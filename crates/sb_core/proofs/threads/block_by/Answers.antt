@@ -1,6 +1,6 @@
 use Rattle.std.proofs.Common.{◌≡◌, ◌<◌, true, length}
 use Rattle.sb_block.specs.Blocks.{block}
-use Rattle.sb_call.specs.declared.statements.Statement.TheVariants.{Call}
+use Rattle.sb_statements.specs.declared.statements.Statement.TheVariants.{Call}
 use Rattle.sb_core.specs.Threads.{is_sendable}
 use Rattle.sb_core.proofs.Places.{too_big}
 use Rattle.sb_core.proofs.threads.block_by.Goals as goal

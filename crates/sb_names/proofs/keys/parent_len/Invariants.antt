@@ -1,10 +1,13 @@
-use Rattle.std.proofs.Common.{◌≡◌, ◌+◌, ℕ, length}
-use Rattle.sb_names.specs.Keys.{parent_of}
+use Rattle.std.proofs.Common.{◌≡◌, ◌+◌, ℕ, length, if◌then◌else◌}
+use Rattle.std.specs.List.{list_any}
+use Rattle.sb_names.specs.Keys.{parent_of, is_backslash}
 use Rattle.sb_names.proofs.keys.parent_len.Given as goal
 
-abbrev pub invariant-loop-more : goal.invariant-loop-more
-invariant-loop-more l =
-    (length (parent_of l.name) ≡ l.len + length (parent_of l.rest)) × (l.len + length l.rest ≡ length l.name)
+-- the last `\` is the one of what is left, where that has one, and else the last so far
+abbrev pub invariant-loop-unit : goal.invariant-loop-unit
+invariant-loop-unit l =
+    (length (parent_of l.name) ≡ (if list_any is_backslash l.rest then l.at + length (parent_of l.rest) else l.last))
+    × (l.at + length l.rest ≡ length l.name)
 
-abbrev pub decreases-loop-more : goal.decreases-loop-more
-decreases-loop-more l = length l.rest
+abbrev pub decreases-loop-unit : goal.decreases-loop-unit
+decreases-loop-unit l = length l.rest

@@ -1,6 +1,6 @@
 use Rattle.std.proofs.Common.{◌≡◌, ◌++◌, drop}
-use Rattle.sb_transcript.specs.Numbers.{more_words}
-use Rattle.sb_transcript.proofs.numbers.put_more_words.Given as goal
+use Rattle.sb_transcript.specs.CommaWords.{more_words}
+use Rattle.sb_transcript.proofs.comma_words.put_more_words.Given as goal
 
 abbrev pub invariant-loop-word : goal.invariant-loop-word
 invariant-loop-word l =
