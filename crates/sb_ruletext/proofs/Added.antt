@@ -8,11 +8,11 @@ use Rattle.std.specs.List.{list_all, list_any}
 use Rattle.sb_rule.specs.WellMade.{is_well_made_rule, is_well_made, are_well_made, are_named_apart, is_named}
 use Rattle.sb_rule.specs.declared.policies.Policy.{Policy}
 use Rattle.sb_rule.specs.declared.policies.Rule.{Rule}
-use Rattle.sb_ruletext.proofs.Sound.{left, right, both}
-use Rattle.sb_ruletext.specs.Drafts.{is_headed, Becomes}
+use Rattle.sb_ruletext.proofs.Conjunctions.{both, and_true}
+use Rattle.sb_ruletext.specs.Drafts.{is_headed}
 use Rattle.sb_ruletext.specs.Lines.{with_last_rules, added, with_policy}
-use Rattle.sb_ruletext.specs.Steps.{◌>>=◌}
-use Rattle.sb_ruletext.specs.declared.faults.LineRefused.{LineRefused}
+use Rattle.sb_text.specs.Steps.{◌>>=◌, Becomes}
+use Rattle.sb_text.specs.declared.refusals.Refused.{Refused}
 use Rattle.sb_ruletext.specs.declared.faults.TextKind.{TextKind}
 use Rattle.sb_ruletext.specs.declared.faults.TextKind.TheVariants.{TooMany, NoHeading}
 
@@ -95,21 +95,21 @@ longer_well_made : (name : List ℕ) (old rules : List Rule) → is_well_made (p
     → length old + length rules ≤ 256 → is_well_made (policy_of name (old ++ rules)) ≡ true
 longer_well_made name old rules h k l =
     let few : nat_le (length (old ++ rules)) 256 ≡ true = ap (λ n. nat_le n 256) (length-append old rules) ∙ grind (arith, nat_tests) in
-    both _ _ few (list_all-append is_well_made_rule old rules ∙ both _ _ (right _ _ h) k)
+    and_true _ _ few (list_all-append is_well_made_rule old rules ∙ and_true _ _ (both _ _ h).1 k)
 
 -- the last policy stays well made with more rules that are
 pub well_made_longer : (before : List Policy) (name : List ℕ) (old rules : List Rule)
     → are_well_made (before ++ record { name = name; rules = old } ∷ []) ≡ true → list_all is_well_made_rule rules ≡ true
     → length old + length rules ≤ 256 → are_well_made (before ++ record { name = name; rules = old ++ rules } ∷ []) ≡ true
 well_made_longer before name old rules h k l =
-    let few = left _ _ (left _ _ h) in
-    let apart = right _ _ (left _ _ h) in
+    let few = (both _ _ (both _ _ h).0).0 in
+    let apart = (both _ _ (both _ _ h).0).1 in
     let each : (list_all is_well_made before && list_all is_well_made (policy_of name old ∷ [])) ≡ true =
-    sym (list_all-append is_well_made before (policy_of name old ∷ [])) ∙ right _ _ h in
-    let last = longer_well_made name old rules (left _ _ (right _ _ each)) k l in
-    both _ _
-    (both _ _ (ap (λ n. nat_le n 8) (same_length before (policy_of name old) (policy_of name (old ++ rules))) ∙ few) (same_apart name before old (old ++ rules) ∙ apart))
-    (list_all-append is_well_made before (policy_of name (old ++ rules) ∷ []) ∙ both _ _ (left _ _ each) (both _ _ last refl))
+    sym (list_all-append is_well_made before (policy_of name old ∷ [])) ∙ (both _ _ h).1 in
+    let last = longer_well_made name old rules (both _ _ (both _ _ each).1).0 k l in
+    and_true _ _
+    (and_true _ _ (ap (λ n. nat_le n 8) (same_length before (policy_of name old) (policy_of name (old ++ rules))) ∙ few) (same_apart name before old (old ++ rules) ∙ apart))
+    (list_all-append is_well_made before (policy_of name (old ++ rules) ∷ []) ∙ and_true _ _ (both _ _ each).0 (and_true _ _ last refl))
 
 names_symm : (a b : List ℕ) → pointwise nat_eq a b ≡ pointwise nat_eq b a
 names_symm = (lists_per (partial_equiv_from_equiv nat_eq_equiv)).symm
@@ -127,9 +127,9 @@ apart_with : (policies : List Policy) (last : Policy) → are_named_apart polici
 apart_with [] last h k = refl
 apart_with (policy ∷ policies) last h k =
     let parts = neither (is_named last.name policy) (list_any (is_named last.name) policies) k in
-    let others : list_any (is_named policy.name) policies ≡ false = not_true _ (left _ _ h) in
+    let others : list_any (is_named policy.name) policies ≡ false = not_true _ (both _ _ h).0 in
     let other : is_named policy.name last ≡ false = names_symm last.name policy.name ∙ parts.0 in
-    both _ _ (ap not (none_of (is_named policy.name) policies last others other)) (apart_with policies last (right _ _ h) parts.1)
+    and_true _ _ (ap not (none_of (is_named policy.name) policies last others other)) (apart_with policies last (both _ _ h).1 parts.1)
   where
     not_true : (b : Bool) → not b ≡ true → b ≡ false
     not_true false h = refl
@@ -141,15 +141,15 @@ pub well_made_more : (policies : List Policy) (name : List ℕ) → are_well_mad
 well_made_more policies name h k l =
     let few : nat_le (length (policies ++ policy_of name [] ∷ [])) 8 ≡ true =
     ap (λ n. nat_le n 8) (length-append policies (policy_of name [] ∷ [])) ∙ grind (arith, nat_tests) in
-    both _ _ (both _ _ few (apart_with policies (policy_of name []) (right _ _ (left _ _ h)) k))
-    (list_all-append is_well_made policies (policy_of name [] ∷ []) ∙ both _ _ (right _ _ h) refl)
+    and_true _ _ (and_true _ _ few (apart_with policies (policy_of name []) (both _ _ (both _ _ h).0).1 k))
+    (list_all-append is_well_made policies (policy_of name [] ∷ []) ∙ and_true _ _ (both _ _ h).1 refl)
 
 chosen : (b : Bool) (policies new : List Policy) → cond b (Ok policies) (Err TooMany) ≡ Ok new → (b ≡ true) × (policies ≡ new)
 chosen true policies new h = (refl, search h)
 chosen false policies new h = search h
 
 -- the policies with a new one stay well made
-pub heading_well_made : {A : Type 0} (old new : List Policy) (name : List ℕ) (result : Result A LineRefused) → Becomes (with_policy old name) result new
+pub heading_well_made : {A : Type 0} (old new : List Policy) (name : List ℕ) (result : Result A (Refused TextKind)) → Becomes (with_policy old name) result new
     → are_well_made old ≡ true → list_any (is_named name) old ≡ false → OnOk result (are_well_made new ≡ true)
 heading_well_made old new name (Ok done) h k n =
     let p = chosen (nat_lt (length old) 8) (old ++ policy_of name [] ∷ []) new h in

@@ -6,13 +6,12 @@ pub mod PrintedConditions
 pub mod PrintedTokens
 pub mod PrintedRules
 pub mod PrintedTexts
-pub mod Sound
+pub mod Conjunctions
 pub mod Strings
 pub mod Patterns
 pub mod Dots
 pub mod Joined
 pub mod WellMade
 pub mod Added
-pub mod Rests
 pub mod Prefixes
 pub mod Renumbered

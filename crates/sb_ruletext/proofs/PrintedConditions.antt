@@ -21,15 +21,19 @@ use Rattle.sb_text.specs.NumberLaws.{HexadecimalsAreRead}
 use Rattle.sb_text.specs.Numbers.{number_of}
 use Rattle.sb_text.specs.Tokens.{Lexeme, Word, Quoted, Bad, string_of}
 use Rattle.sb_wide.specs.Wide.{is_unit}
-use Rattle.sb_ruletext.specs.Conditions.{number_at, numbers_at, most_numbers, most_units, range_of, range_at, string, cells, pattern, string_at, pattern_at, test_at, parameter_at, is_number_at, plain_condition_at, condition_at, conditions_of}
+use Rattle.sb_pattern.specs.Limits.{most_units}
+use Rattle.sb_rule.specs.Limits.{most_numbers}
+use Rattle.sb_ruletext.specs.Conditions.{number_at, numbers_at, range_of, range_at, string, cells, pattern, string_at, pattern_at, test_at, parameter_at, is_number_at, plain_condition_at, condition_at, conditions_of}
 use Rattle.sb_ruletext.specs.Printing.{number_word, range_word, utf8_of, or_tokens, numbers_tokens, test_tokens, not_tokens, parameter_word, cond_tokens, joined_tokens, conds_tokens}
 use Rattle.sb_ruletext.specs.PrintingLaws.{is_number, is_test_of_values}
-use Rattle.sb_ruletext.specs.Steps.{◌>>=◌, or_fault, Read, begins_with, later, after_word, is_end}
+use Rattle.sb_ruletext.specs.Steps.{joined_at}
+use Rattle.sb_text.specs.Steps.{◌>>=◌, or_fault, Read, begins_with, later, end_at}
 use Rattle.sb_call.specs.CallWords.{is_word}
 use Rattle.sb_ruletext.specs.Words.{parameter_words, parameter_of}
 use Rattle.sb_ruletext.specs.declared.faults.TextKind.{TextKind}
-use Rattle.sb_ruletext.specs.declared.faults.TextKind.TheVariants.{UnknownParam, BadNumber, BadPattern}
-use Rattle.sb_ruletext.proofs.PrintedStrings.{both, and_true, ComesBack, string_back}
+use Rattle.sb_ruletext.specs.declared.faults.TextKind.TheVariants.{UnknownWord, UnknownParam, BadNumber, BadPattern}
+use Rattle.sb_ruletext.proofs.Conjunctions.{both, and_true}
+use Rattle.sb_ruletext.proofs.PrintedStrings.{ComesBack, string_back}
 use Rattle.sb_ruletext.proofs.PrintedWords.{is_itself, not_true, parameter_back, apart_at, within, number_back, range_back}
 
 pub number_small : (n : ℕ) → is_number n ≡ true → n < 2 ^ 64
@@ -40,25 +44,26 @@ number_small n h = grind (arith, nat_tests)
 number_read : HexadecimalsAreRead → (n : ℕ) (rest : List Lexeme) → is_number n ≡ true → number_at (Word (number_word n) ∷ rest) ≡ Ok (n, rest)
 number_read law n rest h = ap (λ o. or_fault BadNumber o >>= λ n. Ok (n, rest)) (number_back law n (number_small n h))
 
--- what `numbers_at` does behind the first of at most m + 1 numbers
-abbrev and_others : ℕ → ℕ × List Lexeme → Read (List ℕ)
-and_others m first =
-    cond (begins_with (codes "or") first.1) (numbers_at m (later first.1) >>= λ others. Ok (first.0 ∷ others.0, others.1)) (Ok (first.0 ∷ [], first.1))
+-- what `joined_at` does behind the first of at most m + 1 items
+abbrev and_others : {A : Type 0} → ℕ → List ℕ → (List Lexeme → Read A TextKind) → A × List Lexeme → Read (List A) TextKind
+and_others m joint item_at first =
+    cond (begins_with joint first.1) (joined_at m joint item_at (later first.1) >>= λ others. Ok (first.0 ∷ others.0, others.1)) (Ok (first.0 ∷ [], first.1))
 
-numbers_step : (m : ℕ) (tokens : List Lexeme) → numbers_at (suc m) tokens ≡ number_at tokens >>= and_others m
-unfolding numbers_at
-numbers_step m tokens = refl
+joined_step : {A : Type 0} (m : ℕ) (joint : List ℕ) (item_at : List Lexeme → Read A TextKind) (tokens : List Lexeme)
+    → joined_at (suc m) joint item_at tokens ≡ item_at tokens >>= and_others m joint item_at
+unfolding joined_at
+joined_step m joint item_at tokens = refl
 
 numbers_read : HexadecimalsAreRead → (m n : ℕ) (more : List ℕ) (rest : List Lexeme) → length more ≤ m → list_all is_number (n ∷ more) ≡ true
-    → begins_with (codes "or") rest ≡ false → numbers_at (suc m) (numbers_tokens (n ∷ more) ++ rest) ≡ Ok (n ∷ more, rest)
+    → begins_with (codes "or") rest ≡ false → joined_at (suc m) (codes "or") number_at (numbers_tokens (n ∷ more) ++ rest) ≡ Ok (n ∷ more, rest)
 numbers_read law m n [] rest k h e =
-    numbers_step m (Word (number_word n) ∷ rest)
-    ∙ ap (λ r. r >>= and_others m) (number_read law n rest (both _ _ h).0)
-    ∙ ap (λ t. cond t (numbers_at m (later rest) >>= λ others. Ok (n ∷ others.0, others.1)) (Ok (n ∷ [], rest))) e
+    joined_step m (codes "or") number_at (Word (number_word n) ∷ rest)
+    ∙ ap (λ r. r >>= and_others m (codes "or") number_at) (number_read law n rest (both _ _ h).0)
+    ∙ ap (λ t. cond t (joined_at m (codes "or") number_at (later rest) >>= λ others. Ok (n ∷ others.0, others.1)) (Ok (n ∷ [], rest))) e
 numbers_read law zero n (next ∷ more) rest k h e = absurd (omega arith)
 numbers_read law (suc m) n (next ∷ more) rest k h e =
-    numbers_step (suc m) (Word (number_word n) ∷ Word (codes "or") ∷ (numbers_tokens (next ∷ more) ++ rest))
-    ∙ ap (λ r. r >>= and_others (suc m)) (number_read law n (Word (codes "or") ∷ (numbers_tokens (next ∷ more) ++ rest)) (both _ _ h).0)
+    joined_step (suc m) (codes "or") number_at (Word (number_word n) ∷ Word (codes "or") ∷ (numbers_tokens (next ∷ more) ++ rest))
+    ∙ ap (λ r. r >>= and_others (suc m) (codes "or") number_at) (number_read law n (Word (codes "or") ∷ (numbers_tokens (next ∷ more) ++ rest)) (both _ _ h).0)
     ∙ ap (λ r. r >>= λ others. Ok (n ∷ others.0, others.1)) (numbers_read law m next more rest (omega arith) (both _ _ h).1 e)
 
 -- strings and patterns
@@ -117,11 +122,11 @@ of_its_kind false true h = sym h
 of_its_kind false false h = refl
 
 -- a parameter, and the tokens after it
-abbrev then_tokens : List Lexeme → ℕ → Read ℕ
+abbrev then_tokens : List Lexeme → ℕ → Read ℕ TextKind
 then_tokens tokens param = Ok (param, tokens)
 
 -- the condition with this test
-abbrev with_test : ℕ → Bool → Test × List Lexeme → Read Cond
+abbrev with_test : ℕ → Bool → Test × List Lexeme → Read Cond TextKind
 with_test param negated test = Ok (record { param = param; negated = negated; test = test.0 }, test.1)
 
 plain_read : HexadecimalsAreRead → PatternsComeBack → (negated : Bool) (tag : CallTag) (cond : Cond) (rest : List Lexeme)
@@ -153,16 +158,6 @@ condition_read law back tag cond rest h v e = by_not cond.negated (λ negated. p
         let tokens = Word (parameter_word tag cond.param) ∷ (test_tokens cond.test ++ rest) in
         ap (λ t. if t then plain_condition_at true tag (later tokens) else plain_condition_at false tag tokens) other ∙ f false
 
--- what `conditions_of` does behind the first of at most m + 1 conditions
-abbrev and_more : ℕ → CallTag → Cond × List Lexeme → Result (List Cond) TextKind
-and_more m tag first =
-    if is_end first.1 then Ok (first.0 ∷ [])
-    else (after_word (codes "and") first.1 >>= λ rest. conditions_of m tag rest >>= λ others. Ok (first.0 ∷ others))
-
-conditions_step : (m : ℕ) (tag : CallTag) (tokens : List Lexeme) → conditions_of (suc m) tag tokens ≡ condition_at tag tokens >>= and_more m tag
-unfolding conditions_of
-conditions_step m tag tokens = refl
-
 -- conditions of a call whose numbers and units are those of values
 pub record AreSound (tag : CallTag) (conds : List Cond) : Type 0 where
   pub formed : list_all (is_well_formed tag) conds ≡ true
@@ -174,14 +169,20 @@ and_tokens tag conds = flat_map (joined_tokens (codes "and") tag) conds
 pub later_sound : (tag : CallTag) (cond : Cond) (conds : List Cond) → AreSound tag (cond ∷ conds) → AreSound tag conds
 later_sound tag cond conds s = record { formed = (both _ _ s.formed).1; values = (both _ _ s.values).1 }
 
-pub conditions_read : HexadecimalsAreRead → PatternsComeBack → (m : ℕ) (tag : CallTag) (cond : Cond) (more : List Cond)
-    → length more ≤ m → AreSound tag (cond ∷ more) → conditions_of (suc m) tag (cond_tokens tag cond ++ and_tokens tag more) ≡ Ok (cond ∷ more)
-conditions_read law back m tag cond [] k s =
-    conditions_step m tag (cond_tokens tag cond ++ [])
-    ∙ ap (λ r. r >>= and_more m tag) (condition_read law back tag cond [] (both _ _ s.formed).0 (both _ _ s.values).0 refl)
-conditions_read law back zero tag cond (next ∷ more) k s = absurd (omega arith)
-conditions_read law back (suc m) tag cond (next ∷ more) k s =
+joined_read : HexadecimalsAreRead → PatternsComeBack → (m : ℕ) (tag : CallTag) (cond : Cond) (more : List Cond)
+    → length more ≤ m → AreSound tag (cond ∷ more)
+    → joined_at (suc m) (codes "and") (condition_at tag) (cond_tokens tag cond ++ and_tokens tag more) ≡ Ok (cond ∷ more, [])
+joined_read law back m tag cond [] k s =
+    joined_step m (codes "and") (condition_at tag) (cond_tokens tag cond ++ [])
+    ∙ ap (λ r. r >>= and_others m (codes "and") (condition_at tag)) (condition_read law back tag cond [] (both _ _ s.formed).0 (both _ _ s.values).0 refl)
+joined_read law back zero tag cond (next ∷ more) k s = absurd (omega arith)
+joined_read law back (suc m) tag cond (next ∷ more) k s =
     let rest = Word (codes "and") ∷ (cond_tokens tag next ++ and_tokens tag more) in
-    conditions_step (suc m) tag (cond_tokens tag cond ++ rest)
-    ∙ ap (λ r. r >>= and_more (suc m) tag) (condition_read law back tag cond rest (both _ _ s.formed).0 (both _ _ s.values).0 refl)
-    ∙ ap (λ r. r >>= λ others. Ok (cond ∷ others)) (conditions_read law back m tag next more (omega arith) (later_sound tag cond (next ∷ more) s))
+    joined_step (suc m) (codes "and") (condition_at tag) (cond_tokens tag cond ++ rest)
+    ∙ ap (λ r. r >>= and_others (suc m) (codes "and") (condition_at tag)) (condition_read law back tag cond rest (both _ _ s.formed).0 (both _ _ s.values).0 refl)
+    ∙ ap (λ r. r >>= λ others. Ok (cond ∷ others.0, others.1)) (joined_read law back m tag next more (omega arith) (later_sound tag cond (next ∷ more) s))
+
+pub conditions_read : HexadecimalsAreRead → PatternsComeBack → (tag : CallTag) (cond : Cond) (more : List Cond)
+    → length more ≤ 7 → AreSound tag (cond ∷ more) → conditions_of tag (cond_tokens tag cond ++ and_tokens tag more) ≡ Ok (cond ∷ more)
+conditions_read law back tag cond more k s =
+    ap (λ (r : Read (List Cond) TextKind). r >>= λ conds. end_at UnknownWord UnknownWord conds.1 >>= λ end. Ok conds.0) (joined_read law back 7 tag cond more k s)

@@ -13,7 +13,7 @@ use Rattle.sb_text.specs.TokenLaws.{is_word_byte, is_quoted_byte, is_writable, w
 use Rattle.sb_text.specs.Tokens.{Lexeme, Word, Quoted, Bad, tokens_of}
 use Rattle.sb_text.specs.Words.{is_some_word}
 use Rattle.sb_ruletext.specs.Printing.{spaced, line_text}
-use Rattle.sb_ruletext.proofs.PrintedStrings.{both, and_true}
+use Rattle.sb_ruletext.proofs.Conjunctions.{both, and_true}
 use Rattle.sb_ruletext.proofs.Spaces.{spaced_line}
 
 -- printable ASCII behind `#`

@@ -13,10 +13,11 @@ use Rattle.sb_rule.specs.declared.policies.Policy.{Policy}
 use Rattle.sb_rule.specs.declared.policies.Rule.{Rule}
 use Rattle.sb_text.specs.NumberLaws.{HexadecimalsAreRead}
 use Rattle.sb_text.specs.Tokens.{Lexeme, Word}
-use Rattle.sb_ruletext.specs.Conditions.{most_conditions, conditions_of}
-use Rattle.sb_ruletext.specs.Lines.{most_rules, check_action, when_of, rule, with_rules, with_last_rules, added, line_of}
+use Rattle.sb_rule.specs.Limits.{most_conditions, most_rules}
+use Rattle.sb_ruletext.specs.Conditions.{conditions_of}
+use Rattle.sb_ruletext.specs.Lines.{check_action, when_of, rule, with_rules, with_last_rules, added, line_of}
 use Rattle.sb_ruletext.specs.Printing.{conds_tokens, rule_tokens}
-use Rattle.sb_ruletext.specs.Steps.{◌>>=◌, or_fault, Read}
+use Rattle.sb_text.specs.Steps.{◌>>=◌, or_fault, Read}
 use Rattle.sb_call.specs.CallWords.{is_word, call_word, tag_of_word}
 use Rattle.sb_rule.specs.Actions.{action_word}
 use Rattle.sb_ruletext.specs.Words.{action_of}
@@ -30,7 +31,7 @@ use Rattle.sb_ruletext.proofs.PrintedWords.{call_back}
 when_read : HexadecimalsAreRead → PatternsComeBack → (tag : CallTag) (conds : List Cond) → nat_le (length conds) 8 ≡ true → AreSound tag conds
     → when_of tag (conds_tokens tag conds) ≡ Ok conds
 when_read law back tag [] k s = refl
-when_read law back tag (cond ∷ conds) k s = conditions_read law back 7 tag cond conds (few conds k) s
+when_read law back tag (cond ∷ conds) k s = conditions_read law back tag cond conds (few conds k) s
   where
     few : (conds : List Cond) → nat_le (suc (length conds)) 8 ≡ true → length conds ≤ 7
     few conds k = grind (arith, nat_tests)
@@ -40,7 +41,7 @@ abbrev ruled : ℕ → Action → CallTag → List Cond → Result (List Rule) T
 ruled line action tag conds = Ok (record { tag = tag; conds = conds; action = action; line = line } ∷ [])
 
 -- a call, and the tokens after it
-abbrev then_tokens : List Lexeme → CallTag → Read CallTag
+abbrev then_tokens : List Lexeme → CallTag → Read CallTag TextKind
 then_tokens tokens tag = Ok (tag, tokens)
 
 rule_read : HexadecimalsAreRead → PatternsComeBack → (line : ℕ) (action : Action) (tag : CallTag) (conds : List Cond)

@@ -17,16 +17,7 @@ use Rattle.sb_text.specs.TokenLaws.{is_quoted_byte}
 use Rattle.sb_text.specs.Tokens.{string_of}
 use Rattle.sb_wide.specs.Wide.{is_unit, utf16_of}
 use Rattle.sb_ruletext.specs.Printing.{utf8_of}
-
-pub both : (a b : Bool) → (a && b) ≡ true → (a ≡ true) × (b ≡ true)
-both true true e = (refl, refl)
-both true false e = absurd (false≢true e)
-both false b e = absurd (false≢true e)
-
-pub and_true : (a b : Bool) → a ≡ true → b ≡ true → (a && b) ≡ true
-and_true true true h k = refl
-and_true true false h k = k
-and_true false b h k = h
+use Rattle.sb_ruletext.proofs.Conjunctions.{both, and_true}
 
 -- a unit alone
 

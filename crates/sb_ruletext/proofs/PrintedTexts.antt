@@ -8,6 +8,7 @@ use Rattle.std.proofs.lemmas.Bool.Decides.{nat_tests}
 use Rattle.std.proofs.lemmas.List.{append_assoc, append-nil, length-append}
 use Rattle.std.proofs.lemmas.List.Folds.{list_any-append}
 use Rattle.sb_call.specs.ShortNames.{is_short_name}
+use Rattle.sb_rule.specs.Limits.{most_policies}
 use Rattle.sb_ruletext.proofs.PrintedConditions.{PatternsComeBack}
 use Rattle.sb_rule.specs.WellMade.{is_well_made_rule, is_well_made, is_named, are_named_apart, are_well_made}
 use Rattle.sb_rule.specs.declared.policies.Policy.{Policy}
@@ -17,21 +18,21 @@ use Rattle.sb_text.specs.Lines.{NumberedLine, lines_of}
 use Rattle.sb_text.specs.NumberLaws.{HexadecimalsAreRead}
 use Rattle.sb_text.specs.TokenLaws.{written_line, WrittenTokensAreRead}
 use Rattle.sb_text.specs.Tokens.{Lexeme, Word, tokens_of}
-use Rattle.sb_text.specs.Utf8.{not_utf8_line}
 use Rattle.sb_text.specs.Utf8Laws.{NotUtf8LineTells}
-use Rattle.sb_ruletext.specs.Lines.{most_policies, new_name, name_at, with_policy, heading, line_of}
-use Rattle.sb_ruletext.specs.PolicyTexts.{version_of, on_line, policies_from, policies_below, policies_of, reading}
+use Rattle.sb_ruletext.specs.Lines.{new_name, name_at, with_policy, heading, line_of}
+use Rattle.sb_ruletext.specs.PolicyTexts.{add_line, grammar, reading}
 use Rattle.sb_ruletext.specs.Printing.{rule_tokens, heading_tokens, policy_lines, is_read_only, has_read_only, version_tokens, printed_lines, line_text, printed, relined_rules, relined_from, relined}
 use Rattle.sb_ruletext.specs.PrintingLaws.{is_rule_of_values, is_policy_of_values, PrintedPoliciesAreRead}
-use Rattle.sb_ruletext.specs.Steps.{◌>>=◌, Read, end_after}
+use Rattle.sb_text.specs.Readings.{on_line, read_lines, read_below, read_by}
+use Rattle.sb_text.specs.Steps.{◌>>=◌, Read, end_at, version_of}
 use Rattle.sb_rule.specs.Actions.{action_word}
 use Rattle.sb_ruletext.specs.Words.{action_of}
-use Rattle.sb_ruletext.specs.declared.faults.TextFault.{TextFault}
+use Rattle.sb_ruletext.proofs.Prefixes.{read_by_lines}
 use Rattle.sb_ruletext.specs.declared.faults.TextKind.{TextKind}
 use Rattle.sb_ruletext.specs.declared.faults.TextKind.TheVariants.{NotUtf8, UnknownWord, TooMany, SameName}
 use Rattle.sb_ruletext.proofs.PrintedLines.{is_plain_line, numbered, lines_utf8, lines_back, tokens_back}
 use Rattle.sb_ruletext.proofs.PrintedRules.{policy_of, rule_line_read}
-use Rattle.sb_ruletext.proofs.PrintedStrings.{both, and_true}
+use Rattle.sb_ruletext.proofs.Conjunctions.{both, and_true}
 use Rattle.sb_ruletext.proofs.PrintedTokens.{sound_conds, rule_plain, heading_plain, printed_plain}
 use Rattle.sb_ruletext.proofs.PrintedWords.{not_true, action_back, first_action_back}
 
@@ -55,21 +56,21 @@ AreActionsOfAll version (policy ∷ policies) = AreActions version policy.rules 
 -- a line
 
 line_read : Laws → (version : ℕ) (done more : List Policy) (n : ℕ) (tokens : List Lexeme) (lines : List (List Lexeme)) → is_plain_line tokens ≡ true
-    → line_of version done n tokens ≡ Ok more → policies_from version done (numbered n (tokens ∷ lines)) ≡ policies_from version more (numbered (n + 1) lines)
-unfolding policies_from
+    → line_of version done n tokens ≡ Ok more → read_lines (add_line version) done (numbered n (tokens ∷ lines)) ≡ read_lines (add_line version) more (numbered (n + 1) lines)
+unfolding read_lines
 line_read laws version done more n tokens lines p e =
-    ap (λ tokens. on_line n (line_of version done n tokens) >>= λ more. policies_from version more (numbered (n + 1) lines)) (tokens_back laws.tokens tokens p)
-    ∙ ap (λ r. on_line n r >>= λ more. policies_from version more (numbered (n + 1) lines)) e
+    ap (λ tokens. on_line n (line_of version done n tokens) >>= λ more. read_lines (add_line version) more (numbered (n + 1) lines)) (tokens_back laws.tokens tokens p)
+    ∙ ap (λ r. on_line n r >>= λ more. read_lines (add_line version) more (numbered (n + 1) lines)) e
 
 -- the rules of a policy
 
 rules_read : Laws → (version : ℕ) (done : List Policy) (name : List ℕ) (before : List Rule) (n : ℕ) (rules : List Rule) (lines : List (List Lexeme))
     → list_all is_well_made_rule rules ≡ true → list_all is_rule_of_values rules ≡ true → AreActions version rules → length before + length rules ≤ 256
-    → policies_from version (done ++ policy_of name before ∷ []) (numbered n (map rule_tokens rules ++ lines))
-    ≡ policies_from version (done ++ policy_of name (before ++ relined_rules n rules) ∷ []) (numbered (n + length rules) lines)
+    → read_lines (add_line version) (done ++ policy_of name before ∷ []) (numbered n (map rule_tokens rules ++ lines))
+    ≡ read_lines (add_line version) (done ++ policy_of name (before ++ relined_rules n rules) ∷ []) (numbered (n + length rules) lines)
 rules_read laws version done name before n [] lines h v a few =
-    ap (λ rules. policies_from version (done ++ policy_of name rules ∷ []) (numbered n lines)) (sym (append-nil before))
-    ∙ ap (λ n. policies_from version (done ++ policy_of name (before ++ []) ∷ []) (numbered n lines)) {x = n} {y = n + 0} (omega arith)
+    ap (λ rules. read_lines (add_line version) (done ++ policy_of name rules ∷ []) (numbered n lines)) (sym (append-nil before))
+    ∙ ap (λ n. read_lines (add_line version) (done ++ policy_of name (before ++ []) ∷ []) (numbered n lines)) {x = n} {y = n + 0} (omega arith)
 rules_read laws version done name before n (rule ∷ rules) lines h v a few =
     let made = record rule { line = n } in
     let formed = (both _ _ h).0 in
@@ -78,19 +79,20 @@ rules_read laws version done name before n (rule ∷ rules) lines h v a few =
     (rule_line_read laws.numbers laws.patterns version done name before n rule a.0 (both _ _ (both _ _ formed).0).1 (both _ _ (both _ _ formed).0).0
     (sound_conds rule formed (both _ _ v).0) (omega arith))
     ∙ rules_read laws version done name (before ++ made ∷ []) (n + 1) rules lines (both _ _ h).1 (both _ _ v).1 a.1 (omega (arith, length-append before (made ∷ [])))
-    ∙ ap (λ all. policies_from version (done ++ policy_of name all ∷ []) (numbered (n + 1 + length rules) lines)) (append_assoc before (made ∷ []) (relined_rules (n + 1) rules))
-    ∙ ap (λ m. policies_from version (done ++ policy_of name (before ++ made ∷ relined_rules (n + 1) rules) ∷ []) (numbered m lines))
+    ∙ ap (λ all. read_lines (add_line version) (done ++ policy_of name all ∷ []) (numbered (n + 1 + length rules) lines)) (append_assoc before (made ∷ []) (relined_rules (n + 1) rules))
+    ∙ ap (λ m. read_lines (add_line version) (done ++ policy_of name (before ++ made ∷ relined_rules (n + 1) rules) ∷ []) (numbered m lines))
     {x = n + 1 + length rules} {y = n + suc (length rules)} (omega arith)
 
 -- a heading
 
 -- a name, with which the line ends
-abbrev then_end : List ℕ → Read (List ℕ)
+abbrev then_end : List ℕ → Read (List ℕ) TextKind
 then_end name = Ok (name, [])
 
 -- what `heading` does with a name, where there is room for one more policy or not
 abbrev headed : List Policy → Bool → Result (List ℕ) TextKind → Result (List Policy) TextKind
-headed done few name = (name >>= then_end) >>= λ name. end_after name.0 name.1 >>= λ whole. if few then Ok (done ++ policy_of whole [] ∷ []) else Err TooMany
+headed done few name =
+    (name >>= then_end) >>= λ name. end_at UnknownWord UnknownWord name.1 >>= λ end. if few then Ok (done ++ policy_of name.0 [] ∷ []) else Err TooMany
 
 heading_read : (version : ℕ) (done : List Policy) (n : ℕ) (policy : Policy) → is_short_name policy.name ≡ true → list_any (is_named policy.name) done ≡ false
     → nat_lt (length done) most_policies ≡ true → line_of version done n (heading_tokens policy) ≡ Ok (done ++ policy_of policy.name [] ∷ [])
@@ -106,8 +108,8 @@ heading_read version done n policy short new few = by_tests (is_short_name polic
 policy_read : Laws → (version : ℕ) (done : List Policy) (n : ℕ) (policy : Policy) (lines : List (List Lexeme))
     → is_well_made policy ≡ true → is_policy_of_values policy ≡ true → AreActions version policy.rules
     → list_any (is_named policy.name) done ≡ false → nat_lt (length done) most_policies ≡ true
-    → policies_from version done (numbered n (policy_lines policy ++ lines))
-    ≡ policies_from version (done ++ record policy { rules = relined_rules (n + 1) policy.rules } ∷ []) (numbered (n + 1 + length policy.rules) lines)
+    → read_lines (add_line version) done (numbered n (policy_lines policy ++ lines))
+    ≡ read_lines (add_line version) (done ++ record policy { rules = relined_rules (n + 1) policy.rules } ∷ []) (numbered (n + 1 + length policy.rules) lines)
 policy_read laws version done n policy lines h v a new few =
     line_read laws version done (done ++ policy_of policy.name [] ∷ []) n (heading_tokens policy) (map rule_tokens policy.rules ++ lines)
     (heading_plain policy (both _ _ v).0) (heading_read version done n policy (both _ _ v).0 new few)
@@ -156,8 +158,8 @@ new_to_none (policy ∷ policies) = new_to_none policies
 policies_read : Laws → (version : ℕ) (done : List Policy) (n : ℕ) (policies : List Policy)
     → list_all is_well_made policies ≡ true → list_all is_policy_of_values policies ≡ true → AreActionsOfAll version policies
     → are_new done policies ≡ true → are_named_apart policies ≡ true → length done + length policies ≤ 8
-    → policies_from version done (numbered n (flat_map policy_lines policies)) ≡ Ok (done ++ relined_from n policies)
-unfolding policies_from
+    → read_lines (add_line version) done (numbered n (flat_map policy_lines policies)) ≡ Ok (done ++ relined_from n policies)
+unfolding read_lines
 policies_read laws version done n [] h v a new apart few = ap Ok (sym (append-nil done))
 policies_read laws version done n (policy ∷ policies) h v a new apart few =
     let made = record policy { rules = relined_rules (n + 1) policy.rules } in
@@ -190,13 +192,10 @@ first_actions_of_all (policy ∷ policies) h = let parts = or_false _ _ h in (fi
 
 -- the whole text
 
-abbrev by_utf8 : Option ℕ → List NumberedLine → Result (List Policy) TextFault
-by_utf8 line lines = elim (line) [ None ↦ policies_of lines | Some line ↦ Err (record { line = line; kind = NotUtf8 }) ]
-
 -- the policies below the version line, where some rule only lets read or none does
 below_read : Laws → (policies : List Policy) → list_all is_well_made policies ≡ true → list_all is_policy_of_values policies ≡ true
     → are_named_apart policies ≡ true → length policies ≤ 8 → (t : Bool) → list_any has_read_only policies ≡ t
-    → policies_below 1 (version_of (Word (codes "sandbox-policy") ∷ Word (if t then codes "2" else codes "1") ∷ [])) (numbered 2 (flat_map policy_lines policies)) ≡ Ok (relined policies)
+    → read_below grammar 1 (version_of (codes "sandbox-policy") 2 (Word (codes "sandbox-policy") ∷ Word (if t then codes "2" else codes "1") ∷ [])) (numbered 2 (flat_map policy_lines policies)) ≡ Ok (relined policies)
 below_read laws policies h v apart few true e = policies_read laws 2 [] 2 policies h v (all_actions_of_all policies) (new_to_none policies) apart (omega arith)
 below_read laws policies h v apart few false e = policies_read laws 1 [] 2 policies h v (first_actions_of_all policies e) (new_to_none policies) apart (omega arith)
 
@@ -204,9 +203,9 @@ pub printed_read : Laws → PrintedPoliciesAreRead
 printed_read laws policies h v =
     let made = (both _ _ h).1 in
     let plain = printed_plain laws.numbers policies made v in
-    ap (λ line. by_utf8 line (lines_of (printed policies))) (laws.utf8.0 (printed policies) (lines_utf8 (printed_lines policies) plain))
-    ∙ ap policies_of (lines_back laws.lines (printed_lines policies) plain)
-    ∙ ap (λ tokens. policies_below 1 (version_of tokens) (numbered 2 (flat_map policy_lines policies))) (tokens_back laws.tokens (version_tokens policies) (both _ _ plain).0)
+    read_by_lines (printed policies) (laws.utf8.0 (printed policies) (lines_utf8 (printed_lines policies) plain))
+    ∙ ap (read_by grammar) (lines_back laws.lines (printed_lines policies) plain)
+    ∙ ap (λ tokens. read_below grammar 1 (version_of (codes "sandbox-policy") 2 tokens) (numbered 2 (flat_map policy_lines policies))) (tokens_back laws.tokens (version_tokens policies) (both _ _ plain).0)
     ∙ below_read laws policies made v (both _ _ (both _ _ h).0).1 (most policies (both _ _ (both _ _ h).0).0) (list_any has_read_only policies) refl
   where
     most : (policies : List Policy) → nat_le (length policies) 8 ≡ true → length policies ≤ 8

@@ -29,7 +29,8 @@ use Rattle.sb_call.specs.CallWords.{call_word}
 use Rattle.sb_ruletext.specs.Words.{parameter_words}
 use Rattle.sb_ruletext.proofs.PrintedConditions.{AreSound, later_sound, number_small}
 use Rattle.sb_ruletext.proofs.PrintedLines.{is_plain_byte, is_plain, is_plain_line, all_more}
-use Rattle.sb_ruletext.proofs.PrintedStrings.{both, and_true, ComesBack, string_back}
+use Rattle.sb_ruletext.proofs.Conjunctions.{both, and_true}
+use Rattle.sb_ruletext.proofs.PrintedStrings.{ComesBack, string_back}
 use Rattle.sb_ruletext.proofs.PrintedWords.{within, number_plain, range_plain}
 
 -- words

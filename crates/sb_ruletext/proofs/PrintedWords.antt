@@ -19,13 +19,13 @@ use Rattle.sb_ruletext.specs.Printing.{parameter_word, number_word, range_word, 
 use Rattle.sb_call.specs.CallWords.{is_word, call_word, tag_of_word}
 use Rattle.sb_rule.specs.Actions.{action_word}
 use Rattle.sb_ruletext.specs.Words.{place_of, action_of, parameter_words, parameter_of}
-use Rattle.sb_ruletext.specs.Steps.{◌>>=◌, or_fault}
+use Rattle.sb_text.specs.Steps.{◌>>=◌, or_fault}
 use Rattle.sb_ruletext.specs.declared.faults.TextKind.{TextKind}
 use Rattle.sb_ruletext.specs.declared.faults.TextKind.TheVariants.{BadNumber}
 use Rattle.sb_rule.specs.declared.conditions.Test.{Test}
 use Rattle.sb_rule.specs.declared.conditions.Test.TheVariants.{Range}
 use Rattle.sb_ruletext.proofs.PrintedLines.{is_plain_byte, all_more}
-use Rattle.sb_ruletext.proofs.PrintedStrings.{both, and_true}
+use Rattle.sb_ruletext.proofs.Conjunctions.{both, and_true}
 
 pub is_itself : (word : List ℕ) → is_word word word ≡ true
 is_itself word = (bytes_decides word word).1 refl

@@ -10,26 +10,22 @@ use Rattle.sb_rule.specs.declared.actions.Action.{Action}
 use Rattle.sb_rule.specs.declared.policies.Policy.{Policy}
 use Rattle.sb_rule.specs.declared.policies.Rule.{Rule}
 use Rattle.sb_ruletext.proofs.Prefixes.{read_by_lines}
-use Rattle.sb_ruletext.proofs.Sound.{left, right, both}
 use Rattle.sb_ruletext.specs.Grants.{rules_of}
-use Rattle.sb_ruletext.specs.Laws.{is_some_line, renumbered_rule, renumbered_policy, renumbered, behind, SkippedLinesCountAlone}
+use Rattle.sb_ruletext.specs.Laws.{renumbered_rule, renumbered_policy, SkippedLinesCountAlone}
 use Rattle.sb_ruletext.specs.Lines.{name_at, with_policy, heading, call_at, check_action, when_of, rule, grant_at, granted_at, grant, with_rules, with_last_rules, added, line_of}
-use Rattle.sb_ruletext.specs.PolicyTexts.{on_line, policies_from, policies_below, policies_of, version_of}
-use Rattle.sb_ruletext.specs.Steps.{◌>>=◌, or_fault, end_after}
+use Rattle.sb_ruletext.specs.PolicyTexts.{grammar}
 use Rattle.sb_call.specs.CallWords.{is_word}
 use Rattle.sb_ruletext.specs.Words.{action_of}
 use Rattle.sb_ruletext.specs.declared.faults.TextKind.{TextKind}
 use Rattle.sb_ruletext.specs.declared.faults.TextKind.TheVariants.{TooMany, UnknownWord, SameName}
 use Rattle.sb_ruletext.specs.declared.grants.Grant.{Grant}
 use Rattle.sb_ruletext.specs.declared.grants.Grant.TheVariants.{FilesAny, FilesReadonly, FilesQuery, PipesAny, RegistryAny, RegistryReadonly, EventsAny, EventsReadonly}
-use Rattle.sb_text.specs.LineLaws.{ended, is_line, SayingLinesAppend, LinesAppend, WrittenLinesAreRead, NumbersAreWithin}
-use Rattle.sb_text.specs.Lines.{NumberedLine, raw_lines, lines_from, lines_of, is_skipped, without_cr}
+use Rattle.sb_text.specs.LineLaws.{ended}
+use Rattle.sb_text.specs.Lines.{raw_lines}
+use Rattle.sb_text.specs.ReadingLaws as laws
+use Rattle.sb_text.specs.Readings.{renumbered, behind}
+use Rattle.sb_text.specs.Steps.{◌>>=◌, or_fault, on_value, Read, end_at}
 use Rattle.sb_text.specs.Tokens.{Lexeme, Word, Quoted, Bad, tokens_of}
-
--- the value with a function applied, or the fault
-abbrev on_value : {A B E : Type 0} → (A → B) → Result A E → Result B E
-on_value f (Ok x) = Ok (f x)
-on_value f (Err e) = Err e
 
 then : {A B C E : Type 0} (f : B → C) (first : Result A E) (g : A → Result B E) (h : A → Result C E)
     → ((x : A) → on_value f (g x) ≡ h x) → on_value f (first >>= g) ≡ (first >>= h)
@@ -60,7 +56,7 @@ unfolding grant
 grant_moves f line tokens =
     then (map (renumbered_rule f)) (grant_at tokens) _ _ (λ grant.
     then (map (renumbered_rule f)) (granted_at grant.1) _ _ (λ cells.
-    then (map (renumbered_rule f)) (end_after cells.0 cells.1) _ _ (λ pattern. ap Ok (granted f line grant.0 pattern))))
+    then (map (renumbered_rule f)) (end_at UnknownWord UnknownWord cells.1) _ _ (λ end. ap Ok (granted f line grant.0 cells.0))))
 
 same_names : (f : ℕ → ℕ) (name : List ℕ) (policies : List Policy) → list_any (is_named name) (map (renumbered_policy f) policies) ≡ list_any (is_named name) policies
 same_names f name [] = refl
@@ -137,9 +133,9 @@ heading_moves : (f : ℕ → ℕ) (policies : List Policy) (tokens : List Lexeme
     → on_value (map (renumbered_policy f)) (heading policies tokens) ≡ heading (map (renumbered_policy f) policies) tokens
 unfolding heading
 heading_moves f policies tokens =
-    then (map (renumbered_policy f)) (name_at policies tokens) _ (λ name. end_after name.0 name.1 >>= λ whole. with_policy (map (renumbered_policy f) policies) whole)
-    (λ name. then (map (renumbered_policy f)) (end_after name.0 name.1) _ _ (λ whole. policy_moves f policies whole))
-    ∙ ap (λ read. read >>= λ name. end_after name.0 name.1 >>= λ whole. with_policy (map (renumbered_policy f) policies) whole) (same_name f policies tokens)
+    then (map (renumbered_policy f)) (name_at policies tokens) _ (λ name. end_at UnknownWord UnknownWord name.1 >>= λ end. with_policy (map (renumbered_policy f) policies) name.0)
+    (λ name. then (map (renumbered_policy f)) (end_at UnknownWord UnknownWord name.1) _ _ (λ end. policy_moves f policies name.0))
+    ∙ ap (λ (read : Read (List ℕ) TextKind). read >>= λ name. end_at UnknownWord UnknownWord name.1 >>= λ end. with_policy (map (renumbered_policy f) policies) name.0) (same_name f policies tokens)
 
 -- a line adds the same, with other numbers
 line_moves : (f : ℕ → ℕ) (version : ℕ) (policies : List Policy) (line : ℕ) (tokens : List Lexeme)
@@ -154,91 +150,9 @@ line_moves f version policies line [] = refl
 line_moves f version policies line (Quoted q ∷ tokens) = refl
 line_moves f version policies line (Bad ∷ tokens) = refl
 
--- a line with another number
-abbrev renumbered_line : (ℕ → ℕ) → NumberedLine → NumberedLine
-renumbered_line f line = record { number = f line.number; text = line.text }
-
-step_moves : (f : ℕ → ℕ) (version n : ℕ) (read other : Result (List Policy) TextKind) (xs ys : List NumberedLine)
-    → on_value (map (renumbered_policy f)) read ≡ other
-    → ((more : List Policy) → renumbered f (policies_from version more xs) ≡ policies_from version (map (renumbered_policy f) more) ys)
-    → renumbered f (on_line n read >>= λ more. policies_from version more xs) ≡ (on_line (f n) other >>= λ more. policies_from version more ys)
-step_moves f version n (Ok more) other xs ys e h = h more ∙ ap (λ read. on_line (f n) read >>= λ more. policies_from version more ys) e
-step_moves f version n (Err kind) other xs ys e h = ap (λ read. on_line (f n) read >>= λ more. policies_from version more ys) e
-
-from_moves : (f : ℕ → ℕ) (version : ℕ) (policies : List Policy) (lines : List NumberedLine)
-    → renumbered f (policies_from version policies lines) ≡ policies_from version (map (renumbered_policy f) policies) (map (renumbered_line f) lines)
-unfolding policies_from
-from_moves f version policies [] = refl
-from_moves f version policies (x ∷ xs) =
-    step_moves f version x.number (line_of version policies x.number (tokens_of x.text)) _ xs (map (renumbered_line f) xs)
-    (line_moves f version policies x.number (tokens_of x.text)) (λ more. from_moves f version more xs)
-
-below_moves : (f : ℕ → ℕ) (n : ℕ) (version : Option ℕ) (lines : List NumberedLine)
-    → renumbered f (policies_below n version lines) ≡ policies_below (f n) version (map (renumbered_line f) lines)
-below_moves f n None lines = refl
-below_moves f n (Some version) lines = from_moves f version [] lines
-
--- the policies of lines with other numbers
-lines_move : (f : ℕ → ℕ) (lines : List NumberedLine) → is_some_line lines ≡ true
-    → renumbered f (policies_of lines) ≡ policies_of (map (renumbered_line f) lines)
-lines_move f [] s = absurd (false≢true s)
-lines_move f (x ∷ xs) s = below_moves f x.number (version_of (tokens_of x.text)) xs
-
-front_stays : (f : ℕ → ℕ) (p : ℕ → Bool) (lines : List NumberedLine) → ((k : ℕ) → p k ≡ true → f k ≡ k)
-    → list_all (λ line. p line.number) lines ≡ true → map (renumbered_line f) lines ≡ lines
-front_stays f p [] h t = refl
-front_stays f p (x ∷ xs) h t =
-    ap (λ n. record { number = n; text = x.text } ∷ map (renumbered_line f) xs) (h x.number (left _ _ t))
-    ∙ ap (λ lines. x ∷ lines) (front_stays f p xs h (right _ _ t))
-
-rest_line : (f : ℕ → ℕ) (n : ℕ) (line : List ℕ) (raw : List (List ℕ)) (b : Bool) → f n ≡ n + 1
-    → map (renumbered_line f) (lines_from (n + 1) raw) ≡ lines_from (n + 1 + 1) raw
-    → map (renumbered_line f) (cond b (lines_from (n + 1) raw) (record { number = n; text = line } ∷ lines_from (n + 1) raw))
-    ≡ cond b (lines_from (n + 1 + 1) raw) (record { number = n + 1; text = line } ∷ lines_from (n + 1 + 1) raw)
-rest_line f n line raw true h e = e
-rest_line f n line raw false h e =
-    ap (λ k. record { number = k; text = line } ∷ map (renumbered_line f) (lines_from (n + 1) raw)) h
-    ∙ ap (λ lines. record { number = n + 1; text = line } ∷ lines) e
-
-rest_moves : (f : ℕ → ℕ) (m n : ℕ) (raw : List (List ℕ)) → ((k : ℕ) → m < k → f k ≡ k + 1) → m < n
-    → map (renumbered_line f) (lines_from n raw) ≡ lines_from (n + 1) raw
-rest_moves f m n [] h l = refl
-rest_moves f m n (line ∷ raw) h l =
-    rest_line f n (without_cr line) raw (is_skipped (without_cr line)) (h n l) (rest_moves f m (n + 1) raw h (omega (arith, l)))
-
-behind_stays : (n k : ℕ) → (nat_le 1 k && nat_le k n) ≡ true → behind n k ≡ k
-behind_stays n k h = let t : nat_le k n ≡ true = right (nat_le 1 k) (nat_le k n) h in let s : nat_lt n k ≡ false = grind (arith, nat_tests, t) in
-    ap (λ b. cond b (k + 1) k) s
-
-behind_moves : (n k : ℕ) → n < k → behind n k ≡ k + 1
-behind_moves n k l = let s : nat_lt n k ≡ true = grind (arith, nat_tests, l) in ap (λ b. cond b (k + 1) k) s
-
-one_line : WrittenLinesAreRead → (line : List ℕ) → is_line line ≡ true → raw_lines (ended line) ≡ line ∷ []
-one_line written line h = ap raw_lines (sym (append_nil (ended line))) ∙ written (line ∷ []) (both _ _ h refl)
-  where
-    append_nil : (xs : List ℕ) → xs ++ [] ≡ xs
-    append_nil [] = refl
-    append_nil (x ∷ xs) = ap (λ ys. x ∷ ys) (append_nil xs)
-
-skipped : (n : ℕ) (line : List ℕ) (raw : List (List ℕ)) → is_skipped (without_cr line) ≡ true → lines_from n (line ∷ raw) ≡ lines_from (n + 1) raw
-skipped n line raw h = ap (λ b. cond b (lines_from (n + 1) raw) (record { number = n; text = without_cr line } ∷ lines_from (n + 1) raw)) h
-
-pub skipped_lines_count_alone : SayingLinesAppend → LinesAppend → WrittenLinesAreRead → NumbersAreWithin → SkippedLinesCountAlone
-skipped_lines_count_alone append raw_append written within front line rest i k s u v =
-    let n = length (raw_lines (ended front)) in
-    let raw : raw_lines (ended line ++ rest) ≡ line ∷ raw_lines rest = raw_append line rest ∙ ap (λ lines. lines ++ raw_lines rest) (one_line written line i) in
-    let with_line : lines_of (ended front ++ (ended line ++ rest)) ≡ lines_of (ended front) ++ lines_from (1 + n + 1) (raw_lines rest) =
-    append front (ended line ++ rest) ∙ ap (λ lines. lines_of (ended front) ++ lines_from (1 + n) lines) raw
-    ∙ ap (λ lines. lines_of (ended front) ++ lines) (skipped (1 + n) line (raw_lines rest) k) in
-    let shifted : map (renumbered_line (behind n)) (lines_of (ended front ++ rest)) ≡ lines_of (ended front) ++ lines_from (1 + n + 1) (raw_lines rest) =
-    ap (map (renumbered_line (behind n))) (append front rest) ∙ map_append (renumbered_line (behind n)) (lines_of (ended front)) (lines_from (1 + n) (raw_lines rest))
-    ∙ ap (λ lines. lines ++ map (renumbered_line (behind n)) (lines_from (1 + n) (raw_lines rest)))
-    (front_stays (behind n) (λ k. nat_le 1 k && nat_le k n) (lines_of (ended front)) (behind_stays n) (within (ended front)))
-    ∙ ap (λ lines. lines_of (ended front) ++ lines) (rest_moves (behind n) n (1 + n) (raw_lines rest) (behind_moves n) (omega arith)) in
-    let some : is_some_line (lines_of (ended front ++ rest)) ≡ true = ap is_some_line (append front rest) ∙ some_more (lines_of (ended front)) (lines_from (1 + n) (raw_lines rest)) s in
-    read_by_lines (ended front ++ (ended line ++ rest)) v ∙ ap policies_of (with_line ∙ sym shifted)
-    ∙ sym (lines_move (behind n) (lines_of (ended front ++ rest)) some) ∙ ap (renumbered (behind n)) (sym (read_by_lines (ended front ++ rest) u))
-  where
-    some_more : (xs ys : List NumberedLine) → is_some_line xs ≡ true → is_some_line (xs ++ ys) ≡ true
-    some_more [] ys h = absurd (false≢true h)
-    some_more (x ∷ xs) ys h = refl
+pub skipped_lines_count_alone : laws.SkippedLinesCountAlone (List Policy) TextKind → SkippedLinesCountAlone
+skipped_lines_count_alone law front line rest i k s u v =
+    let f = behind (length (raw_lines (ended front))) in
+    read_by_lines (ended front ++ (ended line ++ rest)) v
+    ∙ law grammar (map (renumbered_policy f)) front line rest (refl, λ version policies line. line_moves f version policies line.number (tokens_of line.text)) i k s
+    ∙ ap (renumbered f (map (renumbered_policy f))) (sym (read_by_lines (ended front ++ rest) u))

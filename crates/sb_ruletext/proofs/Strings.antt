@@ -9,7 +9,7 @@ use Rattle.std.specs.Bool.{beq}
 use Rattle.std.specs.Char.Escape.{encode_utf16}
 use Rattle.std.specs.List.{list_all}
 use Rattle.std.specs.Str.{IsUtf8, chars}
-use Rattle.sb_ruletext.proofs.Sound.{left, right, both}
+use Rattle.sb_ruletext.proofs.Conjunctions.{both, and_true}
 use Rattle.sb_rule.specs.WellMade.{is_high, is_low, is_paired, is_text_unit}
 use Rattle.sb_text.specs.TokenLaws.{is_quoted_byte}
 use Rattle.sb_text.specs.Tokens.{string_of}
@@ -28,10 +28,10 @@ high_text : (c : ℕ) → 128 ≤ c → is_text_unit c ≡ true
 high_text c h = grind (arith, nat_tests)
 
 one_text : (c : ℕ) → 128 ≤ c → list_all is_text_unit (c ∷ []) ≡ true
-one_text c h = both (is_text_unit c) true (high_text c h) refl
+one_text c h = and_true (is_text_unit c) true (high_text c h) refl
 
 two_text : (c d : ℕ) → 128 ≤ c → 128 ≤ d → list_all is_text_unit (c ∷ d ∷ []) ≡ true
-two_text c d h k = both (is_text_unit c) (list_all is_text_unit (d ∷ [])) (high_text c h) (one_text d k)
+two_text c d h k = and_true (is_text_unit c) (list_all is_text_unit (d ∷ [])) (high_text c h) (one_text d k)
 
 char_text : (c : ℕ) → list_all is_quoted_byte (encode c) ≡ true → list_all is_text_unit (encode_utf16 c) ≡ true
 char_text c h = ⊎_elim
@@ -71,9 +71,9 @@ text : (cs : List ℕ) → scalars cs ≡ true → list_all is_quoted_byte (enco
 text [] s h = (refl, refl)
 text (c ∷ cs) s h =
     let split : (list_all is_quoted_byte (encode c) && list_all is_quoted_byte (encodes cs)) ≡ true = sym (list_all-append is_quoted_byte (encode c) (encodes cs)) ∙ h in
-    let later = text cs (right (scalar c) (scalars cs) s) (right _ _ split) in (
-      list_all-append is_text_unit (encode_utf16 c) (utf16_of cs) ∙ both _ _ (char_text c (left _ _ split)) later.0,
-      paired c (utf16_of cs) (left (scalar c) (scalars cs) s) later.1,
+    let later = text cs (both (scalar c) (scalars cs) s).1 (both _ _ split).1 in (
+      list_all-append is_text_unit (encode_utf16 c) (utf16_of cs) ∙ and_true _ _ (char_text c (both _ _ split).0) later.0,
+      paired c (utf16_of cs) (both (scalar c) (scalars cs) s).0 later.1,
     )
 
 -- the string that stands between two quotes is text, with no surrogate alone

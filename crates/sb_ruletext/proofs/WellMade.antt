@@ -7,7 +7,7 @@ use Rattle.sb_pattern.specs.declared.cells.Cell.{Cell}
 use Rattle.sb_rule.specs.WellMade.{is_like_text, is_well_made_rule, is_well_formed, is_for_readers}
 use Rattle.sb_rule.specs.declared.actions.Action.{Action}
 use Rattle.sb_rule.specs.declared.conditions.Cond.{Cond}
-use Rattle.sb_ruletext.proofs.Sound.{both}
+use Rattle.sb_ruletext.proofs.Conjunctions.{and_true}
 use Rattle.sb_ruletext.specs.Grants.{rules_of}
 use Rattle.sb_ruletext.specs.declared.grants.Grant.{Grant}
 use Rattle.sb_ruletext.specs.declared.grants.Grant.TheVariants.{FilesAny, FilesReadonly, FilesQuery, PipesAny, RegistryAny, RegistryReadonly, EventsAny, EventsReadonly}
@@ -29,4 +29,4 @@ pub one_well_made : (tag : CallTag) (conds : List Cond) (action : Action) (line 
     → list_all (is_well_formed tag) conds ≡ true → list_all is_well_made_rule (record { tag = tag; conds = conds; action = action; line = line } ∷ []) ≡ true
 one_well_made tag conds action line l r h =
     let few : nat_le (length conds) 8 ≡ true = grind (arith, nat_tests) in
-    both _ _ (both _ _ (both _ _ few r) h) refl
+    and_true _ _ (and_true _ _ (and_true _ _ few r) h) refl

@@ -6,44 +6,31 @@ use Rattle.sb_pattern.specs.Reading.{reading}
 use Rattle.sb_pattern.specs.declared.cells.Cell.{Cell}
 use Rattle.sb_pattern.specs.declared.faults.PatternFault.{PatternFault}
 use Rattle.sb_pattern.specs.declared.faults.PatternFault.TheVariants.{TooLong}
+use Rattle.sb_pattern.specs.Limits.{most_units}
+use Rattle.sb_rule.specs.Limits.{most_numbers, most_conditions}
 use Rattle.sb_rule.specs.WellMade.{is_number_kind}
 use Rattle.sb_rule.specs.declared.conditions.Cond.{Cond}
 use Rattle.sb_rule.specs.declared.conditions.Test.{Test}
 use Rattle.sb_rule.specs.declared.conditions.Test.TheVariants.{OneOf, Range, Mask, Equal, Like}
-use Rattle.sb_ruletext.specs.Steps.{◌>>=◌, or_fault, Read, excess, begins_with, later, after_word, is_end}
+use Rattle.sb_ruletext.specs.Steps.{joined_at}
 use Rattle.sb_call.specs.CallWords.{is_word}
 use Rattle.sb_ruletext.specs.Words.{parameter_of}
 use Rattle.sb_ruletext.specs.declared.faults.TextKind.{TextKind}
 use Rattle.sb_ruletext.specs.declared.faults.TextKind.TheVariants.{UnknownWord, UnknownParam, WrongKind, BadNumber, EmptyRange, BadPattern}
 use Rattle.sb_text.specs.Numbers.{number_of}
-use Rattle.sb_text.specs.Tokens.{Lexeme, Word, Quoted, string_of}
-
--- the most conditions of a rule
-abbrev pub most_conditions : ℕ
-most_conditions = 8
-
--- the most numbers of one `is`
-abbrev pub most_numbers : ℕ
-most_numbers = 16
-
--- the most units of a string
-abbrev pub most_units : ℕ
-most_units = 256
+use Rattle.sb_text.specs.Steps.{◌>>=◌, or_fault, Read, word_at, quoted_at, end_at, begins_with, later}
+use Rattle.sb_text.specs.Tokens.{Lexeme, string_of}
 
 -- N: a number
-abbrev pub number_at : List Lexeme → Read ℕ
-number_at (Word w ∷ tokens) = or_fault BadNumber (number_of w) >>= λ n. Ok (n, tokens)
-number_at (Quoted q ∷ tokens) = Err WrongKind
-number_at _ = Err UnknownWord
+abbrev pub number_at : List Lexeme → Read ℕ TextKind
+number_at tokens = do
+  word ← word_at WrongKind UnknownWord UnknownWord tokens
+  n ← or_fault BadNumber (number_of word.0)
+  Ok (n, word.1)
 
--- N or N ..: at most so many numbers
-unfoldable pub numbers_at : ℕ → List Lexeme → Read (List ℕ)
-numbers_at zero tokens = Err (excess tokens)
-numbers_at (suc n) tokens = do
-  first ← number_at tokens
-  if begins_with (codes "or") first.1
-      then (numbers_at n (later first.1) >>= λ others. Ok (first.0 ∷ others.0, others.1))
-      else Ok (first.0 ∷ [], first.1)
+-- N or N ..
+abbrev pub numbers_at : List Lexeme → Read (List ℕ) TextKind
+numbers_at tokens = joined_at most_numbers (codes "or") number_at tokens
 
 -- what follows `..`, where the word begins with it
 abbrev pub after_dots : List ℕ → Option (List ℕ)
@@ -73,10 +60,11 @@ range_of word = do
   range lo hi
 
 -- LO..HI as one word
-abbrev pub range_at : List Lexeme → Read Test
-range_at (Word w ∷ tokens) = range_of w >>= λ test. Ok (test, tokens)
-range_at (Quoted q ∷ tokens) = Err WrongKind
-range_at _ = Err UnknownWord
+abbrev pub range_at : List Lexeme → Read Test TextKind
+range_at tokens = do
+  word ← word_at WrongKind UnknownWord UnknownWord tokens
+  test ← range_of word.0
+  Ok (test, word.1)
 
 -- what stands between quotes, as a string of a policy
 abbrev pub string : List ℕ → Result (List ℕ) TextKind
@@ -92,74 +80,79 @@ abbrev pub pattern : List ℕ → Result (List Cell) TextKind
 pattern quoted = cells (reading (string_of quoted))
 
 -- "S": a string
-abbrev pub string_at : List Lexeme → Read Test
-string_at (Quoted q ∷ tokens) = string q >>= λ text. Ok (Equal text, tokens)
-string_at (Word w ∷ tokens) = Err WrongKind
-string_at _ = Err UnknownWord
+abbrev pub string_at : List Lexeme → Read Test TextKind
+string_at tokens = do
+  quoted ← quoted_at WrongKind UnknownWord UnknownWord tokens
+  text ← string quoted.0
+  Ok (Equal text, quoted.1)
 
 -- "P": a pattern
-abbrev pub pattern_at : List Lexeme → Read Test
-pattern_at (Quoted q ∷ tokens) = pattern q >>= λ cells. Ok (Like cells, tokens)
-pattern_at (Word w ∷ tokens) = Err WrongKind
-pattern_at _ = Err UnknownWord
+abbrev pub pattern_at : List Lexeme → Read Test TextKind
+pattern_at tokens = do
+  quoted ← quoted_at WrongKind UnknownWord UnknownWord tokens
+  cells ← pattern quoted.0
+  Ok (Like cells, quoted.1)
 
 -- `is` and its value, on a number or on a string
-abbrev pub is_at : Bool → List Lexeme → Read Test
-is_at true tokens = numbers_at most_numbers tokens >>= λ numbers. Ok (OneOf numbers.0, numbers.1)
+abbrev pub is_at : Bool → List Lexeme → Read Test TextKind
+is_at true tokens = numbers_at tokens >>= λ numbers. Ok (OneOf numbers.0, numbers.1)
 is_at false tokens = string_at tokens
 
 -- `in` and its value
-abbrev pub in_at : Bool → List Lexeme → Read Test
+abbrev pub in_at : Bool → List Lexeme → Read Test TextKind
 in_at true tokens = range_at tokens
 in_at false tokens = Err WrongKind
 
 -- `has` and its value
-abbrev pub has_at : Bool → List Lexeme → Read Test
+abbrev pub has_at : Bool → List Lexeme → Read Test TextKind
 has_at true tokens = number_at tokens >>= λ mask. Ok (Mask mask.0, mask.1)
 has_at false tokens = Err WrongKind
 
 -- `like` and its value
-abbrev pub like_at : Bool → List Lexeme → Read Test
+abbrev pub like_at : Bool → List Lexeme → Read Test TextKind
 like_at true tokens = Err WrongKind
 like_at false tokens = pattern_at tokens
 
 -- a test word, and a value that fits it; the first argument tells whether the parameter is a number
-unfoldable pub test_at : Bool → List Lexeme → Read Test
-test_at is_number (Word w ∷ tokens) =
-    if is_word (codes "is") w then is_at is_number tokens
-    else (if is_word (codes "in") w then in_at is_number tokens
-    else (if is_word (codes "has") w then has_at is_number tokens
-    else (if is_word (codes "like") w then like_at is_number tokens
-    else Err UnknownWord)))
-test_at is_number _ = Err UnknownWord
+unfoldable pub test_at : Bool → List Lexeme → Read Test TextKind
+test_at is_number tokens = do
+  word ← word_at UnknownWord UnknownWord UnknownWord tokens
+  if is_word (codes "is") word.0 then is_at is_number word.1
+      else (if is_word (codes "in") word.0 then in_at is_number word.1
+      else (if is_word (codes "has") word.0 then has_at is_number word.1
+      else (if is_word (codes "like") word.0 then like_at is_number word.1
+      else Err UnknownWord)))
 
 -- the name of a parameter of the call
-abbrev pub parameter_at : CallTag → List Lexeme → Read ℕ
-parameter_at tag (Word w ∷ tokens) = or_fault UnknownParam (parameter_of tag w) >>= λ param. Ok (param, tokens)
-parameter_at tag (Quoted q ∷ tokens) = Err UnknownParam
-parameter_at tag _ = Err UnknownWord
+abbrev pub parameter_at : CallTag → List Lexeme → Read ℕ TextKind
+parameter_at tag tokens = do
+  word ← word_at UnknownParam UnknownWord UnknownWord tokens
+  param ← or_fault UnknownParam (parameter_of tag word.0)
+  Ok (param, word.1)
 
 -- the parameter of a call is a number
 abbrev pub is_number_at : CallTag → ℕ → Bool
 is_number_at tag param = is_number_kind (kind_at tag param)
 
 -- a parameter, a test word and a value
-abbrev pub plain_condition_at : Bool → CallTag → List Lexeme → Read Cond
+abbrev pub plain_condition_at : Bool → CallTag → List Lexeme → Read Cond TextKind
 plain_condition_at negated tag tokens = do
   param ← parameter_at tag tokens
   test ← test_at (is_number_at tag param.0) param.1
   Ok (record { param = param.0; negated = negated; test = test.0 }, test.1)
 
 -- COND: an optional `not` before them
-unfoldable pub condition_at : CallTag → List Lexeme → Read Cond
+unfoldable pub condition_at : CallTag → List Lexeme → Read Cond TextKind
 condition_at tag tokens =
     if begins_with (codes "not") tokens then plain_condition_at true tag (later tokens) else plain_condition_at false tag tokens
 
--- COND and COND .. up to the line's end: at most so many conditions
-unfoldable pub conditions_of : ℕ → CallTag → List Lexeme → Result (List Cond) TextKind
-conditions_of zero tag tokens = Err (excess tokens)
-conditions_of (suc n) tag tokens = do
-  first ← condition_at tag tokens
-  if is_end first.1
-      then Ok (first.0 ∷ [])
-      else (after_word (codes "and") first.1 >>= λ rest. conditions_of n tag rest >>= λ others. Ok (first.0 ∷ others))
+-- COND and COND ..
+abbrev pub conditions_at : CallTag → List Lexeme → Read (List Cond) TextKind
+conditions_at tag tokens = joined_at most_conditions (codes "and") (condition_at tag) tokens
+
+-- the same up to the line's end
+abbrev pub conditions_of : CallTag → List Lexeme → Result (List Cond) TextKind
+conditions_of tag tokens = do
+  conds ← conditions_at tag tokens
+  end ← end_at UnknownWord UnknownWord conds.1
+  Ok conds.0

@@ -2,17 +2,12 @@
 use Rattle.std.specs.Prelude.{◌≡◌, ℕ, ◌+◌, nat_lt, map, Result, if◌then◌else◌, ◌≤◌, ◌<◌, Bool, true, false, List, [], ◌∷◌, ◌++◌, length, None, Ok, Err}
 use Rattle.sb_rule.specs.declared.policies.Policy.{Policy}
 use Rattle.sb_rule.specs.declared.policies.Rule.{Rule}
-use Rattle.sb_ruletext.specs.PolicyTexts.{reading}
-use Rattle.sb_ruletext.specs.declared.faults.TextFault.{TextFault}
+use Rattle.sb_ruletext.specs.PolicyTexts.{TextFault, reading}
 use Rattle.sb_ruletext.specs.declared.faults.TextKind.TheVariants.{BadVersion}
 use Rattle.sb_text.specs.LineLaws.{ended, is_line}
 use Rattle.sb_text.specs.Lines.{NumberedLine, raw_lines, lines_of, is_skipped, without_cr}
+use Rattle.sb_text.specs.Readings.{is_some_line, renumbered, behind}
 use Rattle.sb_text.specs.Utf8.{not_utf8_line}
-
--- there is a line
-abbrev pub is_some_line : List NumberedLine → Bool
-is_some_line [] = false
-is_some_line (line ∷ lines) = true
 
 -- a fault on one of the first lines of a text, some of which say something, is that of each text that begins with these lines
 abbrev pub FirstFaultsStay : Type 0
@@ -33,24 +28,17 @@ abbrev pub SilentTextsLackAVersion : Type 0
 SilentTextsLackAVersion = (text : List ℕ) → not_utf8_line text ≡ None → is_some_line (lines_of text) ≡ false
     → reading text ≡ Err (record { line = 1; kind = BadVersion })
 
--- a rule, and policies or a fault, with other numbers of lines
+-- a rule, and a policy, with other numbers of lines
 abbrev pub renumbered_rule : (ℕ → ℕ) → Rule → Rule
 renumbered_rule f rule = record { tag = rule.tag; conds = rule.conds; action = rule.action; line = f rule.line }
 
 abbrev pub renumbered_policy : (ℕ → ℕ) → Policy → Policy
 renumbered_policy f policy = record { name = policy.name; rules = map (renumbered_rule f) policy.rules }
 
-abbrev pub renumbered : (ℕ → ℕ) → Result (List Policy) TextFault → Result (List Policy) TextFault
-renumbered f (Ok policies) = Ok (map (renumbered_policy f) policies)
-renumbered f (Err fault) = Err (record { line = f fault.line; kind = fault.kind })
-
--- the number of a line where one is put in behind the first n
-abbrev pub behind : ℕ → ℕ → ℕ
-behind n k = if nat_lt n k then k + 1 else k
-
 -- a line that says nothing may be put in anywhere below the version line, and changes nothing but numbers of lines
 abbrev pub SkippedLinesCountAlone : Type 0
 SkippedLinesCountAlone = (front line rest : List ℕ) → is_line line ≡ true → is_skipped (without_cr line) ≡ true
     → is_some_line (lines_of (ended front)) ≡ true
     → not_utf8_line (ended front ++ rest) ≡ None → not_utf8_line (ended front ++ (ended line ++ rest)) ≡ None
-    → reading (ended front ++ (ended line ++ rest)) ≡ renumbered (behind (length (raw_lines (ended front)))) (reading (ended front ++ rest))
+    → reading (ended front ++ (ended line ++ rest))
+    ≡ renumbered (behind (length (raw_lines (ended front)))) (map (renumbered_policy (behind (length (raw_lines (ended front)))))) (reading (ended front ++ rest))

@@ -1,7 +1,6 @@
 pub mod Words
 pub mod Kinds
 pub mod Steps
-pub mod LineTokens
 pub mod Conditions
 pub mod Grants
 pub mod Lines

@@ -3,41 +3,43 @@ ghost use Rattle.std.specs.Prelude.{◌≡◌, ◌≤◌, ◌<◌, length, true,
 ghost use Rattle.std.specs.List.{list_all};
 ghost use Rattle.sb_call.specs.Tags.{shape_of};
 ghost use Rattle.sb_rule.specs.WellMade.{is_policy_text, is_like_text, is_sensible, is_number_test, is_well_formed};
-ghost use Rattle.sb_ruletext.specs.Conditions.{number_at, numbers_at, after_dots, around_dots, range_of, range_at, pattern, string, string_at, pattern_at, is_at, in_at, has_at, like_at, test_at, parameter_at, is_number_at, plain_condition_at, condition_at, conditions_of};
-ghost use Rattle.sb_ruletext.specs.Steps.{Gives, Reads};
+ghost use Rattle.sb_ruletext.specs.Conditions.{number_at, numbers_at, after_dots, around_dots, range_of, range_at, pattern, string, string_at, pattern_at, is_at, in_at, has_at, like_at, test_at, parameter_at, is_number_at, plain_condition_at, condition_at, conditions_at, conditions_of};
+ghost use Rattle.sb_ruletext.specs.Steps.{excess};
+ghost use Rattle.sb_text.specs.Steps.{Gives, Reads};
 ghost use Rattle.sb_text.specs.TokenLaws.{is_quoted_byte};
 
-use crate::faults::{LineRefused, TextKind};
-use crate::line_tokens::LineTokens;
+use crate::faults::LineRefused;
+use crate::faults::TextKind::{self, BadNumber, UnknownParam, UnknownWord, WrongKind};
 use crate::words::parameter_of;
 use sb_call::{CallTag, ParamKind, shape};
-use sb_pattern::{Pattern, PatternFault, PatternRefused, texts_and_patterns};
-use sb_rule::{Cond, Conds, Numbers, Test};
-use sb_text::{Token, number_of, string_of};
+use sb_pattern::{MOST_UNITS, Pattern, PatternFault, PatternRefused, texts_and_patterns};
+use sb_rule::{Cond, Conds, MOST_CONDITIONS, MOST_NUMBERS, Numbers, Test};
+use sb_text::{Token, Tokens, end_at, number_of, or_fault, quoted_at, string_of, word_at};
 use sb_wide::Wide;
 use std::alloc::Global;
 
-const MOST_CONDITIONS: usize = 8;
-
-const MOST_NUMBERS: usize = 16;
-
-const MOST_UNITS: usize = 256;
-
 // N: a number.
-fn number_at(tokens: &mut LineTokens) -> Result<u64, LineRefused>
+fn number_at(tokens: &mut Tokens) -> Result<u64, LineRefused>
     ensures { Reads (number_at tokens.old) result tokens.new }
 {
-    match tokens.next_token() {
-        Some(Token::Word(word)) => number_of(word).ok_or(LineRefused::Fault(TextKind::BadNumber)),
-        Some(Token::Quoted(_)) => Err(LineRefused::Fault(TextKind::WrongKind)),
-        Some(Token::Bad) | None => Err(LineRefused::Fault(TextKind::UnknownWord)),
+    let word = word_at(WrongKind, UnknownWord, UnknownWord, tokens)?;
+    or_fault(BadNumber, number_of(word))
+}
+
+// The fault where one more begins than there may be.
+fn excess(tokens: &Tokens) -> TextKind
+    ensures { result ≡ excess tokens.now }
+{
+    match tokens.peek() {
+        Some(Token::Word(_)) | Some(Token::Quoted(_)) => TextKind::TooMany,
+        Some(Token::Bad) | None => UnknownWord,
     }
 }
 
 // N or N ..
-#[tactic(auto, using(crate::proofs::Joined::numbers_bad, crate::proofs::Joined::numbers_last, crate::proofs::Joined::numbers_more, crate::proofs::Joined::numbers_full))]
-fn numbers_at(alloc: Global, tokens: &mut LineTokens) -> Result<Numbers, LineRefused>
-    ensures read { Reads (numbers_at 16 tokens.old) result tokens.new }
+#[tactic(auto, using(crate::proofs::Joined::joined_bad, crate::proofs::Joined::joined_last, crate::proofs::Joined::joined_more, crate::proofs::Joined::joined_full))]
+fn numbers_at(alloc: Global, tokens: &mut Tokens) -> Result<Numbers, LineRefused>
+    ensures read { Reads (numbers_at tokens.old) result tokens.new }
     ensures some { IfOk result (λ numbers. 0 < length numbers) }
     ensures few { IfOk result (λ numbers. length numbers ≤ 16) }
 {
@@ -48,7 +50,7 @@ fn numbers_at(alloc: Global, tokens: &mut LineTokens) -> Result<Numbers, LineRef
             return Ok(numbers);
         }
     }
-    Err(LineRefused::Fault(tokens.excess()))
+    Err(LineRefused::Fault(excess(tokens)))
 }
 
 // What follows `..`, where the bytes begin with it.
@@ -83,9 +85,9 @@ fn range_of(word: &[u8]) -> Result<Test, LineRefused>
     ensures sensible { IfOk result (λ test. is_sensible test ≡ true) }
     ensures number { IfOk result (λ test. is_number_test test ≡ true) }
 {
-    let (low, high) = around_dots(word).ok_or(LineRefused::Fault(TextKind::BadNumber))?;
-    let lo = number_of(low).ok_or(LineRefused::Fault(TextKind::BadNumber))?;
-    let hi = number_of(high).ok_or(LineRefused::Fault(TextKind::BadNumber))?;
+    let (low, high) = around_dots(word).ok_or(LineRefused::Fault(BadNumber))?;
+    let lo = or_fault(BadNumber, number_of(low))?;
+    let hi = or_fault(BadNumber, number_of(high))?;
     if lo <= hi {
         Ok(Test::Range { lo, hi })
     } else {
@@ -94,16 +96,12 @@ fn range_of(word: &[u8]) -> Result<Test, LineRefused>
 }
 
 // LO..HI as one word.
-fn range_at(tokens: &mut LineTokens) -> Result<Test, LineRefused>
+fn range_at(tokens: &mut Tokens) -> Result<Test, LineRefused>
     ensures read { Reads (range_at tokens.old) result tokens.new }
     ensures sensible { IfOk result (λ test. is_sensible test ≡ true) }
     ensures number { IfOk result (λ test. is_number_test test ≡ true) }
 {
-    match tokens.next_token() {
-        Some(Token::Word(word)) => range_of(word),
-        Some(Token::Quoted(_)) => Err(LineRefused::Fault(TextKind::WrongKind)),
-        Some(Token::Bad) | None => Err(LineRefused::Fault(TextKind::UnknownWord)),
-    }
+    range_of(word_at(WrongKind, UnknownWord, UnknownWord, tokens)?)
 }
 
 // What stands between quotes, as a string of a policy.
@@ -137,33 +135,27 @@ pub(crate) fn pattern(alloc: Global, quoted: &str) -> Result<Pattern, LineRefuse
 }
 
 // "S": a string.
-fn string_at(alloc: Global, tokens: &mut LineTokens) -> Result<Test, LineRefused>
+fn string_at(alloc: Global, tokens: &mut Tokens) -> Result<Test, LineRefused>
     ensures read { Reads (string_at tokens.old) result tokens.new }
     ensures sensible { IfOk result (λ test. is_sensible test ≡ true) }
     ensures string { IfOk result (λ test. is_number_test test ≡ false) }
 {
-    match tokens.next_token() {
-        Some(Token::Quoted(quoted)) => Ok(Test::Equal(string(alloc, quoted)?)),
-        Some(Token::Word(_)) => Err(LineRefused::Fault(TextKind::WrongKind)),
-        Some(Token::Bad) | None => Err(LineRefused::Fault(TextKind::UnknownWord)),
-    }
+    let quoted = quoted_at(WrongKind, UnknownWord, UnknownWord, tokens)?;
+    Ok(Test::Equal(string(alloc, quoted)?))
 }
 
 // "P": a pattern.
-fn pattern_at(alloc: Global, tokens: &mut LineTokens) -> Result<Test, LineRefused>
+fn pattern_at(alloc: Global, tokens: &mut Tokens) -> Result<Test, LineRefused>
     ensures read { Reads (pattern_at tokens.old) result tokens.new }
     ensures sensible { IfOk result (λ test. is_sensible test ≡ true) }
     ensures string { IfOk result (λ test. is_number_test test ≡ false) }
 {
-    match tokens.next_token() {
-        Some(Token::Quoted(quoted)) => Ok(Test::Like(pattern(alloc, quoted)?)),
-        Some(Token::Word(_)) => Err(LineRefused::Fault(TextKind::WrongKind)),
-        Some(Token::Bad) | None => Err(LineRefused::Fault(TextKind::UnknownWord)),
-    }
+    let quoted = quoted_at(WrongKind, UnknownWord, UnknownWord, tokens)?;
+    Ok(Test::Like(pattern(alloc, quoted)?))
 }
 
 // The value of `is`.
-fn is_at(alloc: Global, is_number: bool, tokens: &mut LineTokens) -> Result<Test, LineRefused>
+fn is_at(alloc: Global, is_number: bool, tokens: &mut Tokens) -> Result<Test, LineRefused>
     ensures read { Reads (is_at is_number tokens.old) result tokens.new }
     ensures sensible { IfOk result (λ test. is_sensible test ≡ true) }
     ensures kind { IfOk result (λ test. is_number_test test ≡ is_number) }
@@ -176,7 +168,7 @@ fn is_at(alloc: Global, is_number: bool, tokens: &mut LineTokens) -> Result<Test
 }
 
 // The value of `in`.
-fn in_at(is_number: bool, tokens: &mut LineTokens) -> Result<Test, LineRefused>
+fn in_at(is_number: bool, tokens: &mut Tokens) -> Result<Test, LineRefused>
     ensures read { Reads (in_at is_number tokens.old) result tokens.new }
     ensures sensible { IfOk result (λ test. is_sensible test ≡ true) }
     ensures kind { IfOk result (λ test. is_number_test test ≡ is_number) }
@@ -184,12 +176,12 @@ fn in_at(is_number: bool, tokens: &mut LineTokens) -> Result<Test, LineRefused>
     if is_number {
         range_at(tokens)
     } else {
-        Err(LineRefused::Fault(TextKind::WrongKind))
+        Err(LineRefused::Fault(WrongKind))
     }
 }
 
 // The value of `has`.
-fn has_at(is_number: bool, tokens: &mut LineTokens) -> Result<Test, LineRefused>
+fn has_at(is_number: bool, tokens: &mut Tokens) -> Result<Test, LineRefused>
     ensures read { Reads (has_at is_number tokens.old) result tokens.new }
     ensures sensible { IfOk result (λ test. is_sensible test ≡ true) }
     ensures kind { IfOk result (λ test. is_number_test test ≡ is_number) }
@@ -197,18 +189,18 @@ fn has_at(is_number: bool, tokens: &mut LineTokens) -> Result<Test, LineRefused>
     if is_number {
         Ok(Test::Mask(number_at(tokens)?))
     } else {
-        Err(LineRefused::Fault(TextKind::WrongKind))
+        Err(LineRefused::Fault(WrongKind))
     }
 }
 
 // The value of `like`.
-fn like_at(alloc: Global, is_number: bool, tokens: &mut LineTokens) -> Result<Test, LineRefused>
+fn like_at(alloc: Global, is_number: bool, tokens: &mut Tokens) -> Result<Test, LineRefused>
     ensures read { Reads (like_at is_number tokens.old) result tokens.new }
     ensures sensible { IfOk result (λ test. is_sensible test ≡ true) }
     ensures kind { IfOk result (λ test. is_number_test test ≡ is_number) }
 {
     if is_number {
-        Err(LineRefused::Fault(TextKind::WrongKind))
+        Err(LineRefused::Fault(WrongKind))
     } else {
         pattern_at(alloc, tokens)
     }
@@ -216,14 +208,12 @@ fn like_at(alloc: Global, is_number: bool, tokens: &mut LineTokens) -> Result<Te
 
 // A test word, and a value that fits it.
 #[tactic(auto, unfolding(crate::specs::Conditions::test_at))]
-fn test_at(alloc: Global, is_number: bool, tokens: &mut LineTokens) -> Result<Test, LineRefused>
+fn test_at(alloc: Global, is_number: bool, tokens: &mut Tokens) -> Result<Test, LineRefused>
     ensures read { Reads (test_at is_number tokens.old) result tokens.new }
     ensures sensible { IfOk result (λ test. is_sensible test ≡ true) }
     ensures kind { IfOk result (λ test. is_number_test test ≡ is_number) }
 {
-    let Some(Token::Word(word)) = tokens.next_token() else {
-        return Err(LineRefused::Fault(TextKind::UnknownWord));
-    };
+    let word = word_at(UnknownWord, UnknownWord, UnknownWord, tokens)?;
     if word == b"is".as_slice() {
         is_at(alloc, is_number, tokens)
     } else if word == b"in".as_slice() {
@@ -233,22 +223,17 @@ fn test_at(alloc: Global, is_number: bool, tokens: &mut LineTokens) -> Result<Te
     } else if word == b"like".as_slice() {
         like_at(alloc, is_number, tokens)
     } else {
-        Err(LineRefused::Fault(TextKind::UnknownWord))
+        Err(LineRefused::Fault(UnknownWord))
     }
 }
 
 // The name of a parameter of the call.
-fn parameter_at(tag: CallTag, tokens: &mut LineTokens) -> Result<u32, LineRefused>
+fn parameter_at(tag: CallTag, tokens: &mut Tokens) -> Result<u32, LineRefused>
     ensures read { Reads (parameter_at tag tokens.old) result tokens.new }
     ensures within { IfOk result (λ param. param < length (shape_of tag)) }
 {
-    match tokens.next_token() {
-        Some(Token::Word(word)) => parameter_of(tag, word).ok_or(LineRefused::Fault(
-            TextKind::UnknownParam,
-        )),
-        Some(Token::Quoted(_)) => Err(LineRefused::Fault(TextKind::UnknownParam)),
-        Some(Token::Bad) | None => Err(LineRefused::Fault(TextKind::UnknownWord)),
-    }
+    let word = word_at(UnknownParam, UnknownWord, UnknownWord, tokens)?;
+    parameter_of(tag, word).ok_or(LineRefused::Fault(UnknownParam))
 }
 
 // Whether the parameter of a call is a number.
@@ -266,7 +251,7 @@ fn plain_condition_at(
     alloc: Global,
     negated: bool,
     tag: CallTag,
-    tokens: &mut LineTokens,
+    tokens: &mut Tokens,
 ) -> Result<Cond, LineRefused>
     ensures read { Reads (plain_condition_at negated tag tokens.old) result tokens.new }
     ensures well_formed { IfOk result (λ cond. is_well_formed tag cond ≡ true) }
@@ -282,7 +267,7 @@ fn plain_condition_at(
 
 // COND: an optional `not` before them.
 #[tactic(auto, unfolding(crate::specs::Conditions::condition_at))]
-fn condition_at(alloc: Global, tag: CallTag, tokens: &mut LineTokens) -> Result<Cond, LineRefused>
+fn condition_at(alloc: Global, tag: CallTag, tokens: &mut Tokens) -> Result<Cond, LineRefused>
     ensures read { Reads (condition_at tag tokens.old) result tokens.new }
     ensures well_formed { IfOk result (λ cond. is_well_formed tag cond ≡ true) }
 {
@@ -290,26 +275,34 @@ fn condition_at(alloc: Global, tag: CallTag, tokens: &mut LineTokens) -> Result<
     plain_condition_at(alloc, negated, tag, tokens)
 }
 
-/// COND and COND .., up to the line's end.
-#[tactic(auto, using(crate::proofs::Joined::conditions_bad, crate::proofs::Joined::conditions_last, crate::proofs::Joined::conditions_other, crate::proofs::Joined::conditions_more, crate::proofs::Joined::conditions_full))]
-pub(crate) fn conditions_of(
-    alloc: Global,
-    tag: CallTag,
-    tokens: &mut LineTokens,
-) -> Result<Conds, LineRefused>
-    ensures read { Gives (conditions_of 8 tag tokens.old) result }
+// COND and COND ..
+#[tactic(auto, using(crate::proofs::Joined::joined_bad, crate::proofs::Joined::joined_last, crate::proofs::Joined::joined_more, crate::proofs::Joined::joined_full))]
+fn conditions_at(alloc: Global, tag: CallTag, tokens: &mut Tokens) -> Result<Conds, LineRefused>
+    ensures read { Reads (conditions_at tag tokens.old) result tokens.new }
     ensures few { IfOk result (λ conds. length conds ≤ 8) }
     ensures well_formed { IfOk result (λ conds. list_all (is_well_formed tag) conds ≡ true) }
 {
     let mut conds = Conds::new(Vec::new(alloc));
     while conds.len() < MOST_CONDITIONS {
         conds.push(condition_at(alloc, tag, tokens)?)?;
-        if tokens.is_end() {
+        if !tokens.pass_word(b"and") {
             return Ok(conds);
         }
-        if !tokens.pass_word(b"and") {
-            return Err(LineRefused::Fault(TextKind::UnknownWord));
-        }
     }
-    Err(LineRefused::Fault(tokens.excess()))
+    Err(LineRefused::Fault(excess(tokens)))
+}
+
+/// COND and COND .., up to the line's end.
+pub(crate) fn conditions_of(
+    alloc: Global,
+    tag: CallTag,
+    tokens: &mut Tokens,
+) -> Result<Conds, LineRefused>
+    ensures read { Gives (conditions_of tag tokens.old) result }
+    ensures few { IfOk result (λ conds. length conds ≤ 8) }
+    ensures well_formed { IfOk result (λ conds. list_all (is_well_formed tag) conds ≡ true) }
+{
+    let conds = conditions_at(alloc, tag, tokens)?;
+    end_at(UnknownWord, UnknownWord, tokens)?;
+    Ok(conds)
 }

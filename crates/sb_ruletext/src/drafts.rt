@@ -2,20 +2,17 @@
 ghost use Rattle.std.specs.Prelude.{◌≡◌, [], true, false, OnOk, IfOk, Ok};
 ghost use Rattle.std.specs.List.{list_all, list_any};
 ghost use Rattle.sb_rule.specs.WellMade.{is_named, is_well_made_rule, are_well_made};
-ghost use Rattle.sb_ruletext.specs.Drafts.{is_headed, Becomes};
+ghost use Rattle.sb_ruletext.specs.Drafts.{is_headed};
 ghost use Rattle.sb_ruletext.specs.Lines.{with_policy, added};
+ghost use Rattle.sb_text.specs.Steps.{Becomes};
 
 use crate::faults::{LineRefused, TextKind};
 use sb_call::ShortName;
-use sb_rule::{Policy, PolicyList, Rule, Rules};
+use sb_rule::{MOST_POLICIES, MOST_RULES, Policy, PolicyList, Rule, Rules};
 use sb_wide::NoMemory;
 use std::alloc::Global;
 use std::marker::Model;
 use std::mem;
-
-const MOST_POLICIES: usize = 8;
-
-const MOST_RULES: usize = 256;
 
 /// The policies so far. The last of them is the one to which rules are added.
 #[derive(Debug, Drop)]

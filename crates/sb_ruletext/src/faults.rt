@@ -1,10 +1,9 @@
 // Why a policy text is refused.
 ghost use Rattle.std.specs.Prelude.{◌≡◌};
 ghost use Rattle.sb_ruletext.specs.Kinds.{kind_number};
-ghost use Rattle.sb_ruletext.specs.Steps.{refused_on};
 
 use sb_pattern::PatternFault;
-use sb_wide::NoMemory;
+use sb_text::{LineFault, Refused};
 use thiserror::Error;
 
 /// What is wrong with a line of a policy text.
@@ -75,63 +74,10 @@ impl TextKind {
 }
 
 /// The first fault of a policy text.
-#[derive(Clone, Copy, Debug, PartialEq, Eq, Error)]
-#[error("line {line}: {kind}")]
-pub struct TextFault {
-    /// The line, from 1.
-    pub line: u32,
-    /// What is wrong there.
-    pub kind: TextKind,
-}
+pub type TextFault = LineFault<TextKind>;
 
-/// Why there are no policies of a text.
-#[derive(Clone, Copy, Debug, PartialEq, Eq, Error)]
-pub enum TextRefused {
-    /// The text has this fault, and none before it.
-    #[error("{0}")]
-    Fault(TextFault),
-    /// There was no memory.
-    #[error("out of memory")]
-    NoMemory,
-}
-
-impl From<NoMemory> for TextRefused {
-    ghost use Rattle.std.specs.Prelude.{◌≡◌};
-    ghost use Rattle.sb_ruletext.specs.declared.faults.TextRefused.TheVariants.{NoMemory};
-
-    ghost from_gives = { λ _ refused. refused ≡ NoMemory };
-
-    fn from(_error: NoMemory) -> TextRefused {
-        TextRefused::NoMemory
-    }
-}
+/// Why there are no policies of a text: its first fault, or no memory.
+pub type TextRefused = Refused<TextFault>;
 
 // Why there is nothing of a line, whose number is not known here.
-#[derive(Clone, Copy, Debug, PartialEq, Eq)]
-pub(crate) enum LineRefused {
-    Fault(TextKind),
-    NoMemory,
-}
-
-impl LineRefused {
-    // The same of a text in which this line has a number.
-    pub(crate) fn on(self, line: u32) -> TextRefused
-        ensures { result ≡ refused_on line self }
-    {
-        match self {
-            LineRefused::Fault(kind) => TextRefused::Fault(TextFault { line, kind }),
-            LineRefused::NoMemory => TextRefused::NoMemory,
-        }
-    }
-}
-
-impl From<NoMemory> for LineRefused {
-    ghost use Rattle.std.specs.Prelude.{◌≡◌};
-    ghost use Rattle.sb_ruletext.specs.declared.faults.LineRefused.TheVariants.{NoMemory};
-
-    ghost from_gives = { λ _ refused. refused ≡ NoMemory };
-
-    fn from(_error: NoMemory) -> LineRefused {
-        LineRefused::NoMemory
-    }
-}
+pub(crate) type LineRefused = Refused<TextKind>;

@@ -7,6 +7,7 @@ ghost use Rattle.sb_ruletext.specs.declared.grants.Grant.TheVariants.{FilesAny, 
 ghost use Rattle.sb_ruletext.specs.Grants.{grant_word, grants, grant_of, like_at, reads_at, opens_at, allowing, rules_of};
 
 use sb_call::CallTag;
+use sb_items::Copies;
 use sb_pattern::Pattern;
 use sb_rule::{Action, Cond, Conds, Numbers, Rule, Rules, Test};
 use sb_wide::NoMemory;

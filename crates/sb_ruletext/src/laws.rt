@@ -1,22 +1,22 @@
 // Laws of policy texts. None of these functions does anything: each contract is a law.
 ghost use Rattle.sb_ruletext.specs.Laws.{FirstFaultsStay, LinesBeforeAreRead, SilentTextsLackAVersion, SkippedLinesCountAlone};
 
-use sb_text::{lines_append, numbers_are_within, saying_lines_append, written_lines_are_read};
+use crate::faults::TextKind;
+use sb_rule::PolicyList;
 
 /// A fault on one of the first lines of a text, some of which say something, is that of each text that begins with these
 /// lines: a fault depends on its line and on those before it alone.
 pub fn first_faults_stay()
     ensures { FirstFaultsStay }
 {
-    saying_lines_append();
+    sb_text::first_faults_stay::<PolicyList, TextKind>();
 }
 
 /// The lines before the one with the fault, where some of them say something, are read as policies.
 pub fn lines_before_are_read()
     ensures { LinesBeforeAreRead }
 {
-    saying_lines_append();
-    numbers_are_within();
+    sb_text::lines_before_are_read::<PolicyList, TextKind>();
 }
 
 /// A text whose lines all say nothing lacks a version, on line 1.
@@ -28,8 +28,5 @@ pub fn silent_texts_lack_a_version()
 pub fn skipped_lines_count_alone()
     ensures { SkippedLinesCountAlone }
 {
-    saying_lines_append();
-    lines_append();
-    written_lines_are_read();
-    numbers_are_within();
+    sb_text::skipped_lines_count_alone::<PolicyList, TextKind>();
 }

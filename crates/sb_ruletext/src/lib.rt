@@ -7,15 +7,10 @@ mod drafts;
 mod faults;
 mod grants;
 mod laws;
-mod line_tokens;
 mod lines;
 mod policy_texts;
 mod printing;
 mod printing_laws;
-#[cfg(test)]
-mod printing_tests;
-#[cfg(test)]
-mod tests;
 mod values;
 mod words;
 

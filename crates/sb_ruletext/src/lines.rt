@@ -2,21 +2,20 @@
 ghost use Rattle.std.specs.Prelude.{◌≡◌, ◌≤◌, length, true, false, IfOk, OnOk};
 ghost use Rattle.std.specs.List.{list_all, list_any};
 ghost use Rattle.sb_rule.specs.WellMade.{is_for_readers, is_like_text, is_well_formed, is_well_made_rule, are_well_made, is_named};
-ghost use Rattle.sb_ruletext.specs.Drafts.{Becomes};
 ghost use Rattle.sb_ruletext.specs.Lines.{new_name, name_at, heading, call_at, check_action, when_of, rule, grant_at, granted_at, grant, added, line_of};
-ghost use Rattle.sb_ruletext.specs.Steps.{Gives, Reads};
+ghost use Rattle.sb_text.specs.Steps.{Gives, Reads, Becomes};
 ghost use Rattle.sb_text.specs.Tokens.{tokens_of};
 
 use crate::conditions::{conditions_of, pattern};
 use crate::drafts::Draft;
-use crate::faults::{LineRefused, TextKind};
+use crate::faults::LineRefused;
+use crate::faults::TextKind::{self, UnknownCall, UnknownWord};
 use crate::grants::{Grant, grant_of, one, rules_of};
-use crate::line_tokens::LineTokens;
 use crate::words::action_of;
 use sb_call::{CallTag, ShortName, tag_of_word};
 use sb_pattern::Pattern;
 use sb_rule::{Action, Conds, Rule, Rules};
-use sb_text::{Line, Token};
+use sb_text::{Line, Tokens, end_at, or_fault, quoted_at, word_at};
 use std::alloc::Global;
 
 // NAME: a short name that no policy so far has.
@@ -25,7 +24,7 @@ fn new_name(draft: &Draft, word: &[u8]) -> Result<ShortName, LineRefused>
     ensures new { IfOk result (λ name. list_any (is_named name) draft.now ≡ false) }
 {
     let Some(name) = ShortName::new(word) else {
-        return Err(LineRefused::Fault(TextKind::UnknownWord));
+        return Err(LineRefused::Fault(UnknownWord));
     };
     if draft.is_named(word) {
         return Err(LineRefused::Fault(TextKind::SameName));
@@ -34,43 +33,32 @@ fn new_name(draft: &Draft, word: &[u8]) -> Result<ShortName, LineRefused>
 }
 
 // The name of a policy.
-fn name_at(draft: &Draft, tokens: &mut LineTokens) -> Result<ShortName, LineRefused>
+fn name_at(draft: &Draft, tokens: &mut Tokens) -> Result<ShortName, LineRefused>
     ensures name { Reads (name_at draft.now tokens.old) result tokens.new }
     ensures new { IfOk result (λ name. list_any (is_named name) draft.now ≡ false) }
 {
-    match tokens.next_token() {
-        Some(Token::Word(word)) => new_name(draft, word),
-        Some(Token::Quoted(_)) | Some(Token::Bad) | None => {
-            Err(LineRefused::Fault(TextKind::UnknownWord))
-        }
-    }
+    let word = word_at(UnknownWord, UnknownWord, UnknownWord, tokens)?;
+    new_name(draft, word)
 }
 
 // `policy NAME`, behind its first word.
 #[tactic(auto, unfolding(crate::specs::Lines::heading), using(crate::proofs::Added::heading_well_made))]
-fn heading(alloc: Global, draft: &mut Draft, tokens: &mut LineTokens) -> Result<(), LineRefused>
+fn heading(alloc: Global, draft: &mut Draft, tokens: &mut Tokens) -> Result<(), LineRefused>
     requires { are_well_made draft.old ≡ true }
     ensures read { Becomes (heading draft.old tokens.old) result draft.new }
     ensures well_made { OnOk result (are_well_made draft.new ≡ true) }
 {
     let name = name_at(draft, tokens)?;
-    if !tokens.is_end() {
-        return Err(LineRefused::Fault(TextKind::UnknownWord));
-    }
+    end_at(UnknownWord, UnknownWord, tokens)?;
     draft.add_policy(alloc, name)
 }
 
 // The name of a call.
-fn call_at(tokens: &mut LineTokens) -> Result<CallTag, LineRefused>
+fn call_at(tokens: &mut Tokens) -> Result<CallTag, LineRefused>
     ensures { Reads (call_at tokens.old) result tokens.new }
 {
-    match tokens.next_token() {
-        Some(Token::Word(word)) => {
-            tag_of_word(word).ok_or(LineRefused::Fault(TextKind::UnknownCall))
-        }
-        Some(Token::Quoted(_)) => Err(LineRefused::Fault(TextKind::UnknownCall)),
-        Some(Token::Bad) | None => Err(LineRefused::Fault(TextKind::UnknownWord)),
-    }
+    let word = word_at(UnknownCall, UnknownWord, UnknownWord, tokens)?;
+    or_fault(UnknownCall, tag_of_word(word))
 }
 
 // Whether a call may have an action.
@@ -85,7 +73,7 @@ fn is_for_readers(action: Action, tag: CallTag) -> bool
 }
 
 // Nothing, or `when` and conditions, up to the line's end.
-fn when_of(alloc: Global, tag: CallTag, tokens: &mut LineTokens) -> Result<Conds, LineRefused>
+fn when_of(alloc: Global, tag: CallTag, tokens: &mut Tokens) -> Result<Conds, LineRefused>
     ensures read { Gives (when_of tag tokens.old) result }
     ensures few { IfOk result (λ conds. length conds ≤ 8) }
     ensures well_formed { IfOk result (λ conds. list_all (is_well_formed tag) conds ≡ true) }
@@ -94,19 +82,14 @@ fn when_of(alloc: Global, tag: CallTag, tokens: &mut LineTokens) -> Result<Conds
         return Ok(Conds::new(Vec::new(alloc)));
     }
     if !tokens.pass_word(b"when") {
-        return Err(LineRefused::Fault(TextKind::UnknownWord));
+        return Err(LineRefused::Fault(UnknownWord));
     }
     conditions_of(alloc, tag, tokens)
 }
 
 // `ACTION CALL` and what follows, behind its first word.
 #[tactic(auto, unfolding(crate::specs::Lines::rule), using(crate::proofs::WellMade::one_well_made))]
-fn rule(
-    alloc: Global,
-    line: u32,
-    action: Action,
-    tokens: &mut LineTokens,
-) -> Result<Rules, LineRefused>
+fn rule(alloc: Global, line: u32, action: Action, tokens: &mut Tokens) -> Result<Rules, LineRefused>
     ensures read { Gives (rule line action tokens.old) result }
     ensures well_made { IfOk result (λ rules. list_all is_well_made_rule rules ≡ true) }
 {
@@ -127,43 +110,31 @@ fn rule(
 }
 
 // The word of a grant.
-fn grant_at(tokens: &mut LineTokens) -> Result<Grant, LineRefused>
+fn grant_at(tokens: &mut Tokens) -> Result<Grant, LineRefused>
     ensures { Reads (grant_at tokens.old) result tokens.new }
 {
-    match tokens.next_token() {
-        Some(Token::Word(word)) => {
-            grant_of(word).ok_or(LineRefused::Fault(TextKind::UnknownWord))
-        }
-        Some(Token::Quoted(_)) | Some(Token::Bad) | None => {
-            Err(LineRefused::Fault(TextKind::UnknownWord))
-        }
-    }
+    let word = word_at(UnknownWord, UnknownWord, UnknownWord, tokens)?;
+    or_fault(UnknownWord, grant_of(word))
 }
 
 // The pattern of a grant.
-fn granted_at(alloc: Global, tokens: &mut LineTokens) -> Result<Pattern, LineRefused>
+fn granted_at(alloc: Global, tokens: &mut Tokens) -> Result<Pattern, LineRefused>
     ensures read { Reads (granted_at tokens.old) result tokens.new }
     ensures text { IfOk result (λ cells. is_like_text cells ≡ true) }
 {
-    match tokens.next_token() {
-        Some(Token::Quoted(quoted)) => pattern(alloc, quoted),
-        Some(Token::Word(_)) | Some(Token::Bad) | None => {
-            Err(LineRefused::Fault(TextKind::UnknownWord))
-        }
-    }
+    let quoted = quoted_at(UnknownWord, UnknownWord, UnknownWord, tokens)?;
+    pattern(alloc, quoted)
 }
 
 // `grant GRANT "PATTERN"`, behind its first word.
 #[tactic(auto, unfolding(crate::specs::Lines::grant))]
-fn grant(alloc: Global, line: u32, tokens: &mut LineTokens) -> Result<Rules, LineRefused>
+fn grant(alloc: Global, line: u32, tokens: &mut Tokens) -> Result<Rules, LineRefused>
     ensures read { Gives (grant line tokens.old) result }
     ensures well_made { IfOk result (λ rules. list_all is_well_made_rule rules ≡ true) }
 {
     let grant = grant_at(tokens)?;
     let pattern = granted_at(alloc, tokens)?;
-    if !tokens.is_end() {
-        return Err(LineRefused::Fault(TextKind::UnknownWord));
-    }
+    end_at(UnknownWord, UnknownWord, tokens)?;
     Ok(rules_of(alloc, line, grant, &pattern)?)
 }
 
@@ -173,7 +144,7 @@ fn add_grant(
     alloc: Global,
     draft: &mut Draft,
     line: u32,
-    tokens: &mut LineTokens,
+    tokens: &mut Tokens,
 ) -> Result<(), LineRefused>
     requires { are_well_made draft.old ≡ true }
     ensures read { Becomes (added draft.old (grant line tokens.old)) result draft.new }
@@ -193,7 +164,7 @@ fn add_rule(
     draft: &mut Draft,
     line: u32,
     action: Action,
-    tokens: &mut LineTokens,
+    tokens: &mut Tokens,
 ) -> Result<(), LineRefused>
     requires { are_well_made draft.old ≡ true }
     ensures read { Becomes (added draft.old (rule line action tokens.old)) result draft.new }
@@ -218,10 +189,8 @@ pub(crate) fn line_of(
     ensures read { Becomes (line_of version draft.old line.now.number (tokens_of line.now.text.now)) result draft.new }
     ensures well_made { OnOk result (are_well_made draft.new ≡ true) }
 {
-    let mut tokens = LineTokens::new(line);
-    let Some(Token::Word(word)) = tokens.next_token() else {
-        return Err(LineRefused::Fault(TextKind::UnknownWord));
-    };
+    let mut tokens = line.tokens();
+    let word = word_at(UnknownWord, UnknownWord, UnknownWord, &mut tokens)?;
     if word == b"policy".as_slice() {
         return heading(alloc, draft, &mut tokens);
     }
@@ -229,7 +198,7 @@ pub(crate) fn line_of(
         return add_grant(alloc, draft, line.number, &mut tokens);
     }
     let Some(action) = action_of(version, word) else {
-        return Err(LineRefused::Fault(TextKind::UnknownWord));
+        return Err(LineRefused::Fault(UnknownWord));
     };
     add_rule(alloc, draft, line.number, action, &mut tokens)
 }

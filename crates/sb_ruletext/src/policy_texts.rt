@@ -1,50 +1,23 @@
 // Reading policy texts.
 ghost use Rattle.std.specs.Prelude.{◌≡◌, ◌<◌, ◌^◌, [], length, true, IfOk};
 ghost use Rattle.sb_rule.specs.WellMade.{are_well_made};
-ghost use Rattle.sb_ruletext.specs.PolicyTexts.{version_number, version_of, policies_from, policies_of, reading, IsList, IsReading};
-ghost use Rattle.sb_text.specs.Tokens.{tokens_of};
+ghost use Rattle.sb_ruletext.specs.PolicyTexts.{add_line, grammar, reading};
+ghost use Rattle.sb_text.specs.Readings.{read_lines, read_by};
+ghost use Rattle.sb_text.specs.Steps.{Gives, GivesAs};
 
 use crate::drafts::Draft;
-use crate::faults::{TextFault, TextKind, TextRefused};
+use crate::faults::{LineRefused, TextKind, TextRefused};
 use crate::lines::line_of;
 use sb_rule::{Policies, PolicyList};
-use sb_text::{Line, Lines, Token, text_of};
+use sb_text::{Lines, lines_are_read_in_turn, text_of};
 use std::alloc::Global;
 
-// The version that a word is.
-fn version_number(word: &[u8]) -> Option<u32>
-    ensures { result ≡ version_number word.now }
-{
-    if word == b"1".as_slice() {
-        Some(1)
-    } else if word == b"2".as_slice() {
-        Some(2)
-    } else {
-        None
-    }
-}
-
-// The version of a version line.
-fn version_of(line: &Line) -> Option<u32>
-    ensures { result ≡ version_of (tokens_of line.now.text.now) }
-{
-    let mut tokens = line.tokens();
-    let first = tokens.next_token();
-    let second = tokens.next_token();
-    let more = tokens.next_token();
-    match (first, second, more) {
-        (Some(Token::Word(word)), Some(Token::Word(version)), None)
-            if word == b"sandbox-policy".as_slice() => { version_number(version) }
-        _ => None,
-    }
-}
-
 // The policies that these lines make, below a version line.
-#[tactic(auto, using(crate::proofs::Rests::line_refused, crate::proofs::Rests::line_passed, crate::proofs::Rests::no_line))]
 fn policies_from(alloc: Global, version: u32, lines: Lines) -> Result<PolicyList, TextRefused>
-    ensures exactly { IsList (policies_from version [] lines.entry) result }
+    ensures exactly { Gives (read_lines (add_line version) [] lines.entry) result }
     ensures well_made { IfOk result (λ policies. are_well_made policies ≡ true) }
 {
+    lines_are_read_in_turn::<PolicyList, TextKind>();
     let mut lines = lines;
     let mut draft = Draft::new(alloc);
     while let Some(line) = lines.next_line() {
@@ -56,24 +29,18 @@ fn policies_from(alloc: Global, version: u32, lines: Lines) -> Result<PolicyList
     Ok(draft.into_policies()?)
 }
 
-// The policies of the lines that say something.
+// The policies of the lines with tokens.
 fn policies_of(alloc: Global, lines: Lines) -> Result<PolicyList, TextRefused>
-    ensures exactly { IsList (policies_of lines.entry) result }
+    ensures exactly { Gives (read_by grammar lines.entry) result }
     ensures well_made { IfOk result (λ policies. are_well_made policies ≡ true) }
 {
     let mut lines = lines;
     let Some(first) = lines.next_line() else {
-        return Err(TextRefused::Fault(TextFault {
-            line: 1,
-            kind: TextKind::BadVersion,
-        }));
+        return Err(LineRefused::Fault(TextKind::BadVersion).on(1));
     };
-    match version_of(&first) {
+    match first.version(b"sandbox-policy", 2) {
         Some(version) => policies_from(alloc, version, lines),
-        None => Err(TextRefused::Fault(TextFault {
-            line: first.number,
-            kind: TextKind::BadVersion,
-        })),
+        None => Err(LineRefused::Fault(TextKind::BadVersion).on(first.number)),
     }
 }
 
@@ -87,16 +54,13 @@ fn policies_of(alloc: Global, lines: Lines) -> Result<PolicyList, TextRefused>
 /// that a text that is not UTF-8 has this fault before all others. `NoMemory` where there was none for the policies.
 pub fn read_policies(alloc: Global, text: &[u8]) -> Result<Policies, TextRefused>
     requires { length text.now < 2 ^ 32 }
-    ensures exactly { IsReading (reading text.now) result }
+    ensures exactly { GivesAs (λ policies. policies.list) (reading text.now) result }
     ensures well_made { IfOk result (λ policies. are_well_made policies.list ≡ true) }
 {
     match text_of(text) {
         Ok(text) => Ok(Policies {
             list: policies_of(alloc, Lines::new(text))?,
         }),
-        Err(fault) => Err(TextRefused::Fault(TextFault {
-            line: fault.line,
-            kind: TextKind::NotUtf8,
-        })),
+        Err(fault) => Err(LineRefused::Fault(TextKind::NotUtf8).on(fault.line)),
     }
 }

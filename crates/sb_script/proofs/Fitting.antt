@@ -9,7 +9,8 @@ use Rattle.sb_call.specs.declared.tags.ParamKind.TheVariants.{Text, Name, Num, H
 use Rattle.sb_script.proofs.Sound.{both, made, ok_same, in_range, below_32, named_well}
 use Rattle.sb_script.specs.Arguments.{most_32, arg_at, args_at}
 use Rattle.sb_script.specs.Laws.{ReadArgumentsFit}
-use Rattle.sb_script.specs.Steps.{◌>>=◌, number_at, number_within, string_at, name_at}
+use Rattle.sb_script.specs.Steps.{number_at, number_within, string_at, name_at}
+use Rattle.sb_text.specs.Steps.{◌>>=◌}
 use Rattle.sb_script.specs.declared.faults.ScriptKind.TheVariants.{WrongArgs}
 use Rattle.sb_text.specs.Tokens.{Lexeme}
 

@@ -6,8 +6,8 @@ use Rattle.std.specs.Prelude.{is_ok, is_some, ⊤}
 use Rattle.std.specs.Cmp.Lexicographic.{bytes_decides}
 use Rattle.std.specs.List.{list_any}
 use Rattle.std.specs.Map.{lookup}
-use Rattle.sb_call.specs.declared.scripts.StartLine.{StartLine}
-use Rattle.sb_call.specs.declared.scripts.StartLine.TheVariants.{Dir, File, Key, Event}
+use Rattle.sb_statements.specs.declared.scripts.StartLine.{StartLine}
+use Rattle.sb_statements.specs.declared.scripts.StartLine.TheVariants.{Dir, File, Key, Event}
 use Rattle.sb_event.specs.Events as events
 use Rattle.sb_event.specs.declared.rows.EventRow.{EventRow}
 use Rattle.sb_file.specs.Files as files

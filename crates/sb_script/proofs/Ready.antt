@@ -6,13 +6,13 @@ use Rattle.std.proofs.lemmas.List.Folds.{list_all-append, list_any-append}
 use Rattle.std.specs.Cmp.{nat_eq_equiv, partial_equiv_from_equiv}
 use Rattle.std.specs.Cmp.Lexicographic.{pointwise, lists_per}
 use Rattle.std.specs.List.{list_all, list_any, position}
-use Rattle.sb_block.specs.Soundness.{is_patience, is_start, is_statement, is_thread, is_target, names_differ, is_sound}
+use Rattle.sb_statements.specs.Soundness.{is_patience, is_start, is_statement, is_thread, is_target, names_differ, is_sound}
 use Rattle.sb_call.specs.CallWords.{is_word}
 use Rattle.sb_call.specs.ShortNames.{is_short_name}
-use Rattle.sb_call.specs.declared.scripts.Script.{Script}
-use Rattle.sb_call.specs.declared.scripts.StartLine.{StartLine}
-use Rattle.sb_call.specs.declared.scripts.TargetScript.{TargetScript}
-use Rattle.sb_call.specs.declared.statements.Statement.{Statement}
+use Rattle.sb_statements.specs.declared.scripts.Script.{Script}
+use Rattle.sb_statements.specs.declared.scripts.StartLine.{StartLine}
+use Rattle.sb_statements.specs.declared.scripts.TargetScript.{TargetScript}
+use Rattle.sb_statements.specs.declared.statements.Statement.{Statement}
 use Rattle.sb_rule.specs.WellMade.{is_named}
 use Rattle.sb_rule.specs.declared.policies.Policy.{Policy}
 use Rattle.sb_script.proofs.Sound.{both, made, ok_same, passed, branches, in_range, none_absent, patience_sound, start_sound, statement_sound}
@@ -20,12 +20,13 @@ use Rattle.sb_script.specs.Drafts.{nothing, is_opening, is_in_thread, threads_of
 use Rattle.sb_script.specs.Lines.{is_target_named, new_name, new_name_at, policy_at, heading, patience, set_patience, add_target, add_thread, start_line, statement_line, plain_line, line_of}
 use Rattle.sb_script.specs.Openings.{can_place}
 use Rattle.sb_script.specs.Readiness.{is_judged, can_follow, are_judged, ReadScriptsAreSound, ReadScriptsAreJudged, ReadScriptsArePlaced}
-use Rattle.sb_script.specs.ScriptTexts.{is_version, on_line, draft_from, absence, first_absence, patience_of, script_of, finished, script_below, script_by, reading}
-use Rattle.sb_script.specs.Steps.{◌>>=◌, or_fault, number_within, end_at}
+use Rattle.sb_script.specs.ScriptTexts.{ScriptFault, script_version, add_line, grammar, absence, first_absence, patience_of, script_of, finished, reading}
+use Rattle.sb_text.specs.Readings.{on_line, read_lines, read_below, read_by, where_utf8, read_text}
+use Rattle.sb_script.specs.Steps.{number_within}
+use Rattle.sb_text.specs.Steps.{◌>>=◌, or_fault, end_at}
 use Rattle.sb_script.specs.declared.drafts.Draft.{Draft}
 use Rattle.sb_script.specs.declared.drafts.Heading.{Heading}
 use Rattle.sb_script.specs.declared.drafts.Named.{Named}
-use Rattle.sb_script.specs.declared.faults.ScriptFault.{ScriptFault}
 use Rattle.sb_script.specs.declared.faults.ScriptKind.{ScriptKind}
 use Rattle.sb_script.specs.declared.faults.ScriptKind.TheVariants.{NotUtf8, UnknownWord, BadNumber, SameName, NoSuchPolicy, TooMany, BadStart}
 use Rattle.sb_text.specs.Lines.{NumberedLine, lines_of}
@@ -239,14 +240,14 @@ heading_read : (policies : List Policy) (targets : List TargetScript) (tokens : 
 unfolding heading
 heading_read policies targets tokens x h =
     let n = made (new_name_at targets tokens)
-    (λ name. policy_at policies name.1 >>= λ policy. number_within 1 8 BadNumber UnknownWord policy.1 >>= λ channels. end_at UnknownWord channels.1
+    (λ name. policy_at policies name.1 >>= λ policy. number_within 1 8 BadNumber UnknownWord policy.1 >>= λ channels. end_at UnknownWord UnknownWord channels.1
     >>= λ end. Ok (record { name = name.0; policy = policy.0; channels = channels.0 })) x h in
     let p = made (policy_at policies n.0.1)
-    (λ policy. number_within 1 8 BadNumber UnknownWord policy.1 >>= λ channels. end_at UnknownWord channels.1
+    (λ policy. number_within 1 8 BadNumber UnknownWord policy.1 >>= λ channels. end_at UnknownWord UnknownWord channels.1
     >>= λ end. Ok (record { name = n.0.0; policy = policy.0; channels = channels.0 })) x n.2 in
     let c = made (number_within 1 8 BadNumber UnknownWord p.0.1)
-    (λ channels. end_at UnknownWord channels.1 >>= λ end. Ok (record { name = n.0.0; policy = p.0.0; channels = channels.0 })) x p.2 in
-    let e = made (end_at UnknownWord c.0.1) (λ end. Ok (record { name = n.0.0; policy = p.0.0; channels = c.0.0 })) x c.2 in
+    (λ channels. end_at UnknownWord UnknownWord channels.1 >>= λ end. Ok (record { name = n.0.0; policy = p.0.0; channels = channels.0 })) x p.2 in
+    let e = made (end_at UnknownWord UnknownWord c.0.1) (λ end. Ok (record { name = n.0.0; policy = p.0.0; channels = c.0.0 })) x c.2 in
     subst (IsHeading (length policies) targets) {x = record { name = n.0.0; policy = p.0.0; channels = c.0.0 }} (ok_same (record { name = n.0.0; policy = p.0.0; channels = c.0.0 }) x e.2) (record {
       new = new_name_read targets tokens n.0 n.1;
       judged = policy_read policies n.0.1 p.0 p.1;
@@ -353,7 +354,7 @@ target_fine policies draft tokens f new h =
 thread_fine : (count : ℕ) (draft : Draft) (tokens : List Lexeme) → IsFine count draft → Makes count (add_thread draft tokens)
 unfolding add_thread
 thread_fine count draft tokens f = branches (Makes count) (is_opening draft) (Err UnknownWord) _ (λ new h. absurd cc)
-    (λ new h. fine_thread count draft new f (made (end_at UnknownWord tokens) (λ end. with_thread draft) new h).2)
+    (λ new h. fine_thread count draft new f (made (end_at UnknownWord UnknownWord tokens) (λ end. with_thread draft) new h).2)
 
 plain_fine : (count line : ℕ) (w : List ℕ) (draft : Draft) (tokens : List Lexeme) → IsFine count draft → Makes count (plain_line w draft line tokens)
 unfolding plain_line
@@ -383,12 +384,13 @@ on_this line (Ok y) x h = ap Ok (ok_same y x h)
 on_this line (Err kind) x h = absurd cc
 
 lines_fine : (policies : List Policy) (draft : Draft) (lines : List NumberedLine) → IsFine (length policies) draft
-    → (new : Draft) → draft_from policies draft lines ≡ Ok new → IsFine (length policies) new
-unfolding draft_from
+    → (new : Draft) → read_lines (add_line policies) draft lines ≡ Ok new → IsFine (length policies) new
+unfolding read_lines
 lines_fine policies draft [] f new h = subst (IsFine (length policies)) (ok_same draft new h) f
 lines_fine policies draft (line ∷ lines) f new h =
-    let m = made (on_line line.number (line_of policies draft line.number (tokens_of line.text))) (λ more. draft_from policies more lines) new h in
-    lines_fine policies m.0 lines (line_fine policies draft line.number (tokens_of line.text) f m.0 (on_this line.number (line_of policies draft line.number (tokens_of line.text)) m.0 m.1)) new m.2
+    let read = add_line policies draft line in
+    let m = made (on_line line.number read) (λ more. read_lines (add_line policies) more lines) new h in
+    lines_fine policies m.0 lines (line_fine policies draft line.number (tokens_of line.text) f m.0 (on_this line.number read m.0 m.1)) new m.2
 
 nothing_fine : (count : ℕ) → IsFine count nothing
 nothing_fine count = record {
@@ -417,24 +419,25 @@ draft_ready count draft script f h = by_absence (first_absence (targets_of draft
         })
     by_absence (Some fault) a h = absurd cc
 
-below_ready : (policies : List Policy) (line : ℕ) (version : Bool) (lines : List NumberedLine) (script : Script) → script_below policies line version lines ≡ Ok script
-    → IsReady (length policies) script
-below_ready policies line false lines script h = absurd cc
-below_ready policies line true lines script h =
-    let d = made (draft_from policies nothing lines) (λ draft. finished draft) script h in
-    draft_ready (length policies) d.0 script (lines_fine policies nothing lines (nothing_fine (length policies)) d.0 d.1) d.2
+below_fine : (policies : List Policy) (line : ℕ) (version : Option ℕ) (lines : List NumberedLine) (draft : Draft)
+    → read_below (grammar policies) line version lines ≡ Ok draft → IsFine (length policies) draft
+below_fine policies line None lines draft h = absurd cc
+below_fine policies line (Some version) lines draft h = lines_fine policies nothing lines (nothing_fine (length policies)) draft h
 
-by_ready : (policies : List Policy) (lines : List NumberedLine) (script : Script) → script_by policies lines ≡ Ok script → IsReady (length policies) script
-by_ready policies [] script h = absurd cc
-by_ready policies (first ∷ lines) script h = below_ready policies first.number (is_version (tokens_of first.text)) lines script h
+by_fine : (policies : List Policy) (lines : List NumberedLine) (draft : Draft) → read_by (grammar policies) lines ≡ Ok draft → IsFine (length policies) draft
+by_fine policies [] draft h = absurd cc
+by_fine policies (first ∷ lines) draft h = below_fine policies first.number (script_version first.text) lines draft h
 
 ready : (policies : List Policy) (text : List ℕ) (script : Script) → reading policies text ≡ Ok script → IsReady (length policies) script
-ready policies text script h = by_utf8 (not_utf8_line text) h
+ready policies text script h =
+    let d = made (read_text NotUtf8 (grammar policies) text) (λ draft. finished draft) script h in
+    draft_ready (length policies) d.0 script (by_utf8 d.0 (not_utf8_line text) d.1) d.2
   where
-    by_utf8 : (line : Option ℕ) → ◌≡◌ {A = Result Script ScriptFault} (elim line [ None ↦ script_by policies (lines_of text) | Some line ↦ Err (record { line = line; kind = NotUtf8 }) ]) (Ok script)
-        → IsReady (length policies) script
-    by_utf8 None h = by_ready policies (lines_of text) script h
-    by_utf8 (Some line) h = absurd cc
+    by_utf8 : (draft : Draft) (line : Option ℕ)
+        → where_utf8 NotUtf8 line (read_by (grammar policies) (lines_of text)) ≡ Ok draft
+        → IsFine (length policies) draft
+    by_utf8 draft None h = by_fine policies (lines_of text) draft h
+    by_utf8 draft (Some line) h = absurd cc
 
 pub read_scripts_are_sound : ReadScriptsAreSound
 read_scripts_are_sound policies text script h = (ready policies text script h).sound

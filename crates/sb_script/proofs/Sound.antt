@@ -4,23 +4,23 @@ use Rattle.std.proofs.lemmas.Bool.{and_parts}
 use Rattle.std.proofs.lemmas.Bool.Decides.{nat_tests}
 use Rattle.std.specs.Prelude.{slice_get}
 use Rattle.sb_block.specs.Blocks.{encodes}
-use Rattle.sb_block.specs.Soundness.{channels_of, is_patience, is_start, is_statement}
+use Rattle.sb_statements.specs.Soundness.{channels_of, is_patience, is_start, is_statement}
 use Rattle.sb_call.specs.CallWords.{is_word}
 use Rattle.sb_call.specs.Tags.{shape_of}
-use Rattle.sb_call.specs.declared.scripts.StartLine.{StartLine}
-use Rattle.sb_call.specs.declared.scripts.StartLine.TheVariants.{Dir, File, Key, Event}
-use Rattle.sb_call.specs.declared.scripts.TargetScript.{TargetScript}
-use Rattle.sb_call.specs.declared.statements.Statement.{Statement}
-use Rattle.sb_call.specs.declared.statements.Statement.TheVariants.{Call, Store, Exchange, Load, Wait}
-use Rattle.sb_call.specs.declared.statements.Word as words
+use Rattle.sb_statements.specs.declared.scripts.StartLine.{StartLine}
+use Rattle.sb_statements.specs.declared.scripts.StartLine.TheVariants.{Dir, File, Key, Event}
+use Rattle.sb_statements.specs.declared.scripts.TargetScript.{TargetScript}
+use Rattle.sb_statements.specs.declared.statements.Statement.{Statement}
+use Rattle.sb_statements.specs.declared.statements.Statement.TheVariants.{Call, Store, Exchange, Load, Wait}
+use Rattle.sb_statements.specs.declared.statements.Word as words
 use Rattle.sb_script.specs.Arguments.{most_32, tag_at, args_at, fitting, call}
 use Rattle.sb_script.specs.Drafts.{named_by}
 use Rattle.sb_script.specs.Lines.{patience, start_line, statement_line}
 use Rattle.sb_script.specs.Openings.{dir, file, key, event}
-use Rattle.sb_script.specs.ScriptTexts.{absence, first_absence}
-use Rattle.sb_script.specs.Statements.{value_at, short_at, block_place, place_of, place_at, word_at, store, exchange, load, wait}
-use Rattle.sb_script.specs.Steps.{◌>>=◌, or_fault, number_at, within, number_within, string_at, name, name_at, end_at}
-use Rattle.sb_script.specs.declared.faults.ScriptFault.{ScriptFault}
+use Rattle.sb_script.specs.ScriptTexts.{ScriptFault, absence, first_absence}
+use Rattle.sb_script.specs.Statements.{value_at, short_at, block_place, place_of, place_at, target_word_at, store, exchange, load, wait}
+use Rattle.sb_script.specs.Steps.{number_at, within, number_within, string_at, name, name_at}
+use Rattle.sb_text.specs.Steps.{◌>>=◌, or_fault, end_at}
 use Rattle.sb_script.specs.declared.faults.ScriptKind.{ScriptKind}
 use Rattle.sb_script.specs.declared.faults.ScriptKind.TheVariants.{UnknownWord, WrongArgs, BadNumber, BadName, NoSuchTarget, NoSuchChannel, NoSuchWord, TooBig}
 use Rattle.sb_text.specs.Numbers.{number_of}
@@ -71,8 +71,8 @@ named_well other tokens x h =
 pub patience_sound : (tokens : List Lexeme) (n : ℕ) → patience tokens ≡ Ok n → is_patience n ≡ true
 unfolding patience
 patience_sound tokens n h =
-    let x = made (number_within 1 1000000 BadNumber UnknownWord tokens) (λ number. end_at UnknownWord number.1 >>= λ end. Ok number.0) n h in
-    let e = made (end_at UnknownWord x.0.1) (λ end. Ok x.0.0) n x.2 in
+    let x = made (number_within 1 1000000 BadNumber UnknownWord tokens) (λ number. end_at UnknownWord UnknownWord number.1 >>= λ end. Ok number.0) n h in
+    let e = made (end_at UnknownWord UnknownWord x.0.1) (λ end. Ok x.0.0) n x.2 in
     subst (λ n. is_patience n ≡ true) (ok_same x.0.0 n e.2) (in_range 1 1000000 BadNumber UnknownWord tokens x.0 x.1)
 
 -- an opening line that was read is sound
@@ -85,24 +85,24 @@ below_32 n h = let t = (and_parts (nat_le 0 n) (nat_le n most_32) h).1 in grind 
 dir_sound : (tokens : List Lexeme) → Starts (dir tokens)
 unfolding dir
 dir_sound tokens line h =
-    let x = made (name_at UnknownWord tokens) (λ name. end_at UnknownWord name.1 >>= λ end. Ok (Dir name.0)) line h in
-    let e = made (end_at UnknownWord x.0.1) (λ end. Ok (Dir x.0.0)) line x.2 in
+    let x = made (name_at UnknownWord tokens) (λ name. end_at UnknownWord UnknownWord name.1 >>= λ end. Ok (Dir name.0)) line h in
+    let e = made (end_at UnknownWord UnknownWord x.0.1) (λ end. Ok (Dir x.0.0)) line x.2 in
     subst (λ line. is_start line ≡ true) {x = Dir x.0.0} (ok_same (Dir x.0.0) line e.2) (named_well UnknownWord tokens x.0 x.1)
 
 key_sound : (tokens : List Lexeme) → Starts (key tokens)
 unfolding key
 key_sound tokens line h =
-    let x = made (name_at UnknownWord tokens) (λ name. end_at UnknownWord name.1 >>= λ end. Ok (Key name.0)) line h in
-    let e = made (end_at UnknownWord x.0.1) (λ end. Ok (Key x.0.0)) line x.2 in
+    let x = made (name_at UnknownWord tokens) (λ name. end_at UnknownWord UnknownWord name.1 >>= λ end. Ok (Key name.0)) line h in
+    let e = made (end_at UnknownWord UnknownWord x.0.1) (λ end. Ok (Key x.0.0)) line x.2 in
     subst (λ line. is_start line ≡ true) {x = Key x.0.0} (ok_same (Key x.0.0) line e.2) (named_well UnknownWord tokens x.0 x.1)
 
 file_sound : (tokens : List Lexeme) → Starts (file tokens)
 unfolding file
 file_sound tokens line h =
     let x = made (name_at UnknownWord tokens)
-    (λ name. number_within 0 most_32 BadNumber UnknownWord name.1 >>= λ attributes. end_at UnknownWord attributes.1 >>= λ end. Ok (File name.0 attributes.0)) line h in
-    let a = made (number_within 0 most_32 BadNumber UnknownWord x.0.1) (λ attributes. end_at UnknownWord attributes.1 >>= λ end. Ok (File x.0.0 attributes.0)) line x.2 in
-    let e = made (end_at UnknownWord a.0.1) (λ end. Ok (File x.0.0 a.0.0)) line a.2 in
+    (λ name. number_within 0 most_32 BadNumber UnknownWord name.1 >>= λ attributes. end_at UnknownWord UnknownWord attributes.1 >>= λ end. Ok (File name.0 attributes.0)) line h in
+    let a = made (number_within 0 most_32 BadNumber UnknownWord x.0.1) (λ attributes. end_at UnknownWord UnknownWord attributes.1 >>= λ end. Ok (File x.0.0 attributes.0)) line x.2 in
+    let e = made (end_at UnknownWord UnknownWord a.0.1) (λ end. Ok (File x.0.0 a.0.0)) line a.2 in
     subst (λ line. is_start line ≡ true) {x = File x.0.0 a.0.0} (ok_same (File x.0.0 a.0.0) line e.2)
     (both (is_name_of x.0.0) (nat_lt a.0.0 (2 ^ 32)) (named_well UnknownWord tokens x.0 x.1) (below_32 a.0.0 (in_range 0 most_32 BadNumber UnknownWord x.0.1 a.0 a.1)))
 
@@ -110,11 +110,11 @@ event_sound : (tokens : List Lexeme) → Starts (event tokens)
 unfolding event
 event_sound tokens line h =
     let x = made (name_at UnknownWord tokens)
-    (λ name. number_within 0 1 BadNumber UnknownWord name.1 >>= λ kind. number_within 0 1 BadNumber UnknownWord kind.1 >>= λ initial. end_at UnknownWord initial.1 >>= λ end. Ok (Event name.0 kind.0 initial.0)) line h in
+    (λ name. number_within 0 1 BadNumber UnknownWord name.1 >>= λ kind. number_within 0 1 BadNumber UnknownWord kind.1 >>= λ initial. end_at UnknownWord UnknownWord initial.1 >>= λ end. Ok (Event name.0 kind.0 initial.0)) line h in
     let k = made (number_within 0 1 BadNumber UnknownWord x.0.1)
-    (λ kind. number_within 0 1 BadNumber UnknownWord kind.1 >>= λ initial. end_at UnknownWord initial.1 >>= λ end. Ok (Event x.0.0 kind.0 initial.0)) line x.2 in
-    let i = made (number_within 0 1 BadNumber UnknownWord k.0.1) (λ initial. end_at UnknownWord initial.1 >>= λ end. Ok (Event x.0.0 k.0.0 initial.0)) line k.2 in
-    let e = made (end_at UnknownWord i.0.1) (λ end. Ok (Event x.0.0 k.0.0 i.0.0)) line i.2 in
+    (λ kind. number_within 0 1 BadNumber UnknownWord kind.1 >>= λ initial. end_at UnknownWord UnknownWord initial.1 >>= λ end. Ok (Event x.0.0 kind.0 initial.0)) line x.2 in
+    let i = made (number_within 0 1 BadNumber UnknownWord k.0.1) (λ initial. end_at UnknownWord UnknownWord initial.1 >>= λ end. Ok (Event x.0.0 k.0.0 initial.0)) line k.2 in
+    let e = made (end_at UnknownWord UnknownWord i.0.1) (λ end. Ok (Event x.0.0 k.0.0 i.0.0)) line i.2 in
     let kind = (and_parts (nat_le 0 k.0.0) (nat_le k.0.0 1) (in_range 0 1 BadNumber UnknownWord x.0.1 k.0 k.1)).1 in
     let initial = (and_parts (nat_le 0 i.0.0) (nat_le i.0.0 1) (in_range 0 1 BadNumber UnknownWord k.0.1 i.0 i.1)).1 in
     subst (λ line. is_start line ≡ true) {x = Event x.0.0 k.0.0 i.0.0} (ok_same (Event x.0.0 k.0.0 i.0.0) line e.2)
@@ -139,9 +139,9 @@ States read = (statement : Statement) → read ≡ Ok statement → IsSoundOnce 
 call_sound : (tokens : List Lexeme) → States (call tokens)
 unfolding call
 call_sound tokens statement h targets line absent =
-    let t = made (tag_at tokens) (λ tag. args_at (shape_of tag.0) tag.1 >>= λ args. end_at WrongArgs args.1 >>= λ end. fitting tag.0 args.0) statement h in
-    let a = made (args_at (shape_of t.0.0) t.0.1) (λ args. end_at WrongArgs args.1 >>= λ end. fitting t.0.0 args.0) statement t.2 in
-    let e = made (end_at WrongArgs a.0.1) (λ end. fitting t.0.0 a.0.0) statement a.2 in
+    let t = made (tag_at tokens) (λ tag. args_at (shape_of tag.0) tag.1 >>= λ args. end_at WrongArgs UnknownWord args.1 >>= λ end. fitting tag.0 args.0) statement h in
+    let a = made (args_at (shape_of t.0.0) t.0.1) (λ args. end_at WrongArgs UnknownWord args.1 >>= λ end. fitting t.0.0 args.0) statement t.2 in
+    let e = made (end_at WrongArgs UnknownWord a.0.1) (λ end. fitting t.0.0 a.0.0) statement a.2 in
     let f = passed (encodes t.0.0 a.0.0) (Call t.0.0 a.0.0) statement TooBig e.2 in
     subst (λ statement. is_statement targets statement ≡ true) f.1 f.0
 
@@ -168,8 +168,8 @@ place_sound (Quoted q ∷ tokens) x h = absurd cc
 place_sound (Bad ∷ tokens) x h = absurd cc
 place_sound [] x h = absurd cc
 
-word_sound : (tokens : List Lexeme) (x : (ℕ × words.Word) × List Lexeme) → word_at tokens ≡ Ok x → nat_le x.0.1.at 64 ≡ true
-unfolding word_at
+word_sound : (tokens : List Lexeme) (x : (ℕ × words.Word) × List Lexeme) → target_word_at tokens ≡ Ok x → nat_le x.0.1.at 64 ≡ true
+unfolding target_word_at
 word_sound tokens x h =
     let t = made (short_at tokens)
     (λ target. short_at target.1 >>= λ channel. place_at channel.1 >>= λ place. Ok ((target.0, record { channel = channel.0; at = place.0 }), place.1)) x h in
@@ -198,9 +198,9 @@ there targets line target channel h =
 store_sound : (tokens : List Lexeme) → States (store tokens)
 unfolding store
 store_sound tokens statement h =
-    let w = made (word_at tokens) (λ word. value_at word.1 >>= λ value. end_at WrongArgs value.1 >>= λ end. Ok (Store word.0.0 word.0.1 value.0)) statement h in
-    let v = made (value_at w.0.1) (λ value. end_at WrongArgs value.1 >>= λ end. Ok (Store w.0.0.0 w.0.0.1 value.0)) statement w.2 in
-    let e = made (end_at WrongArgs v.0.1) (λ end. Ok (Store w.0.0.0 w.0.0.1 v.0.0)) statement v.2 in
+    let w = made (target_word_at tokens) (λ word. value_at word.1 >>= λ value. end_at WrongArgs UnknownWord value.1 >>= λ end. Ok (Store word.0.0 word.0.1 value.0)) statement h in
+    let v = made (value_at w.0.1) (λ value. end_at WrongArgs UnknownWord value.1 >>= λ end. Ok (Store w.0.0.0 w.0.0.1 value.0)) statement w.2 in
+    let e = made (end_at WrongArgs UnknownWord v.0.1) (λ end. Ok (Store w.0.0.0 w.0.0.1 v.0.0)) statement v.2 in
     subst IsSoundOnce {x = Store w.0.0.0 w.0.0.1 v.0.0}
     (ok_same (Store w.0.0.0 w.0.0.1 v.0.0) statement e.2)
     (λ targets line absent. both _ _ (there targets line w.0.0.0 w.0.0.1.channel absent) (word_sound tokens w.0 w.1))
@@ -208,10 +208,10 @@ store_sound tokens statement h =
 exchange_sound : (tokens : List Lexeme) → States (exchange tokens)
 unfolding exchange
 exchange_sound tokens statement h =
-    let w = made (word_at tokens) (λ word. value_at word.1 >>= λ from. value_at from.1 >>= λ to. end_at WrongArgs to.1 >>= λ end. Ok (Exchange word.0.0 word.0.1 from.0 to.0)) statement h in
-    let f = made (value_at w.0.1) (λ from. value_at from.1 >>= λ to. end_at WrongArgs to.1 >>= λ end. Ok (Exchange w.0.0.0 w.0.0.1 from.0 to.0)) statement w.2 in
-    let t = made (value_at f.0.1) (λ to. end_at WrongArgs to.1 >>= λ end. Ok (Exchange w.0.0.0 w.0.0.1 f.0.0 to.0)) statement f.2 in
-    let e = made (end_at WrongArgs t.0.1) (λ end. Ok (Exchange w.0.0.0 w.0.0.1 f.0.0 t.0.0)) statement t.2 in
+    let w = made (target_word_at tokens) (λ word. value_at word.1 >>= λ from. value_at from.1 >>= λ to. end_at WrongArgs UnknownWord to.1 >>= λ end. Ok (Exchange word.0.0 word.0.1 from.0 to.0)) statement h in
+    let f = made (value_at w.0.1) (λ from. value_at from.1 >>= λ to. end_at WrongArgs UnknownWord to.1 >>= λ end. Ok (Exchange w.0.0.0 w.0.0.1 from.0 to.0)) statement w.2 in
+    let t = made (value_at f.0.1) (λ to. end_at WrongArgs UnknownWord to.1 >>= λ end. Ok (Exchange w.0.0.0 w.0.0.1 f.0.0 to.0)) statement f.2 in
+    let e = made (end_at WrongArgs UnknownWord t.0.1) (λ end. Ok (Exchange w.0.0.0 w.0.0.1 f.0.0 t.0.0)) statement t.2 in
     subst IsSoundOnce {x = Exchange w.0.0.0 w.0.0.1 f.0.0 t.0.0}
     (ok_same (Exchange w.0.0.0 w.0.0.1 f.0.0 t.0.0) statement e.2)
     (λ targets line absent. both _ _ (there targets line w.0.0.0 w.0.0.1.channel absent) (word_sound tokens w.0 w.1))
@@ -219,8 +219,8 @@ exchange_sound tokens statement h =
 load_sound : (tokens : List Lexeme) → States (load tokens)
 unfolding load
 load_sound tokens statement h =
-    let w = made (word_at tokens) (λ word. end_at WrongArgs word.1 >>= λ end. Ok (Load word.0.0 word.0.1)) statement h in
-    let e = made (end_at WrongArgs w.0.1) (λ end. Ok (Load w.0.0.0 w.0.0.1)) statement w.2 in
+    let w = made (target_word_at tokens) (λ word. end_at WrongArgs UnknownWord word.1 >>= λ end. Ok (Load word.0.0 word.0.1)) statement h in
+    let e = made (end_at WrongArgs UnknownWord w.0.1) (λ end. Ok (Load w.0.0.0 w.0.0.1)) statement w.2 in
     subst IsSoundOnce {x = Load w.0.0.0 w.0.0.1}
     (ok_same (Load w.0.0.0 w.0.0.1) statement e.2)
     (λ targets line absent. both _ _ (there targets line w.0.0.0 w.0.0.1.channel absent) (word_sound tokens w.0 w.1))
@@ -228,12 +228,12 @@ load_sound tokens statement h =
 wait_sound : (tokens : List Lexeme) → States (wait tokens)
 unfolding wait
 wait_sound tokens statement h =
-    let w = made (word_at tokens)
-    (λ word. value_at word.1 >>= λ value. value_at value.1 >>= λ loads. end_at WrongArgs loads.1 >>= λ end. within 1 1000000 loads.0 >>= λ most. Ok (Wait word.0.0 word.0.1 value.0 most)) statement h in
+    let w = made (target_word_at tokens)
+    (λ word. value_at word.1 >>= λ value. value_at value.1 >>= λ loads. end_at WrongArgs UnknownWord loads.1 >>= λ end. within 1 1000000 loads.0 >>= λ most. Ok (Wait word.0.0 word.0.1 value.0 most)) statement h in
     let v = made (value_at w.0.1)
-    (λ value. value_at value.1 >>= λ loads. end_at WrongArgs loads.1 >>= λ end. within 1 1000000 loads.0 >>= λ most. Ok (Wait w.0.0.0 w.0.0.1 value.0 most)) statement w.2 in
-    let l = made (value_at v.0.1) (λ loads. end_at WrongArgs loads.1 >>= λ end. within 1 1000000 loads.0 >>= λ most. Ok (Wait w.0.0.0 w.0.0.1 v.0.0 most)) statement v.2 in
-    let e = made (end_at WrongArgs l.0.1) (λ end. within 1 1000000 l.0.0 >>= λ most. Ok (Wait w.0.0.0 w.0.0.1 v.0.0 most)) statement l.2 in
+    (λ value. value_at value.1 >>= λ loads. end_at WrongArgs UnknownWord loads.1 >>= λ end. within 1 1000000 loads.0 >>= λ most. Ok (Wait w.0.0.0 w.0.0.1 value.0 most)) statement w.2 in
+    let l = made (value_at v.0.1) (λ loads. end_at WrongArgs UnknownWord loads.1 >>= λ end. within 1 1000000 loads.0 >>= λ most. Ok (Wait w.0.0.0 w.0.0.1 v.0.0 most)) statement v.2 in
+    let e = made (end_at WrongArgs UnknownWord l.0.1) (λ end. within 1 1000000 l.0.0 >>= λ most. Ok (Wait w.0.0.0 w.0.0.1 v.0.0 most)) statement l.2 in
     let m = made (within 1 1000000 l.0.0) (λ most. Ok (Wait w.0.0.0 w.0.0.1 v.0.0 most)) statement e.2 in
     let t = passed (nat_le 1 l.0.0 && nat_le l.0.0 1000000) l.0.0 m.0 BadNumber m.1 in
     subst IsSoundOnce {x = Wait w.0.0.0 w.0.0.1 v.0.0 m.0}

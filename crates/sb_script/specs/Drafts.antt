@@ -1,29 +1,17 @@
 -- What was read of a script, and what a line adds to it.
 use Rattle.std.specs.Prelude.{ℕ, Bool, true, false, nat_lt, List, [], ◌∷◌, ◌++◌, length, None, Some, Result, Ok, Err, if◌then◌else◌}
-use Rattle.sb_call.specs.declared.scripts.StartLine.{StartLine}
-use Rattle.sb_call.specs.declared.scripts.TargetScript.{TargetScript}
-use Rattle.sb_call.specs.declared.statements.Statement.{Statement}
-use Rattle.sb_call.specs.declared.statements.Statement.TheVariants.{Call, Store, Exchange, Load, Wait}
+use Rattle.sb_statements.specs.Limits.{most_start_lines, most_targets, most_threads, most_statements}
+use Rattle.sb_statements.specs.declared.scripts.StartLine.{StartLine}
+use Rattle.sb_statements.specs.declared.scripts.TargetScript.{TargetScript}
+use Rattle.sb_statements.specs.declared.statements.Statement.{Statement}
+use Rattle.sb_statements.specs.declared.statements.Statement.TheVariants.{Call, Store, Exchange, Load, Wait}
 use Rattle.sb_script.specs.Openings.{can_place}
-use Rattle.sb_script.specs.Steps.{◌>>=◌}
+use Rattle.sb_text.specs.Steps.{◌>>=◌}
 use Rattle.sb_script.specs.declared.drafts.Draft.{Draft}
 use Rattle.sb_script.specs.declared.drafts.Heading.{Heading}
 use Rattle.sb_script.specs.declared.drafts.Named.{Named}
 use Rattle.sb_script.specs.declared.faults.ScriptKind.{ScriptKind}
 use Rattle.sb_script.specs.declared.faults.ScriptKind.TheVariants.{UnknownWord, TooMany, BadStart}
-
--- the most opening lines, targets, threads of a target and statements of a thread
-abbrev pub most_start : ℕ
-most_start = 4096
-
-abbrev pub most_targets : ℕ
-most_targets = 8
-
-abbrev pub most_threads : ℕ
-most_threads = 4
-
-abbrev pub most_statements : ℕ
-most_statements = 4096
 
 -- nothing was read
 abbrev pub nothing : Draft
@@ -57,7 +45,7 @@ with_patience draft patience = record draft { patience = Some patience }
 abbrev pub with_start : Draft → StartLine → Result Draft ScriptKind
 with_start draft line =
     if can_place draft.start line
-    then (if nat_lt (length draft.start) most_start then Ok (record draft { start = draft.start ++ line ∷ [] }) else Err TooMany)
+    then (if nat_lt (length draft.start) most_start_lines then Ok (record draft { start = draft.start ++ line ∷ [] }) else Err TooMany)
     else Err BadStart
 
 -- one more target

@@ -1,28 +1,23 @@
 -- What is true of all script texts: what one line can do to the lines after it.
 use Rattle.std.specs.Prelude.{◌≡◌, is_ok, ℕ, ◌+◌, ◌≤◌, nat_lt, Bool, true, false, List, [], ◌∷◌, ◌++◌, length, None, Result, Ok, Err, if◌then◌else◌}
 use Rattle.sb_call.specs.declared.arguments.Arg.{Arg}
-use Rattle.sb_call.specs.declared.scripts.Script.{Script}
+use Rattle.sb_statements.specs.declared.scripts.Script.{Script}
 use Rattle.sb_call.specs.declared.tags.CallTag.{CallTag}
 use Rattle.sb_call.specs.Arguments.{fits}
 use Rattle.sb_call.specs.Tags.{shape_of}
-use Rattle.sb_call.specs.declared.scripts.StartLine.{StartLine}
+use Rattle.sb_statements.specs.declared.scripts.StartLine.{StartLine}
 use Rattle.sb_kernel.specs.Openings.{opened}
 use Rattle.sb_rule.specs.declared.policies.Policy.{Policy}
 use Rattle.sb_script.specs.Arguments.{args_at}
 use Rattle.sb_script.specs.Readiness.{can_follow}
-use Rattle.sb_script.specs.ScriptTexts.{reading}
-use Rattle.sb_script.specs.declared.faults.ScriptFault.{ScriptFault}
+use Rattle.sb_script.specs.ScriptTexts.{ScriptFault, reading}
 use Rattle.sb_script.specs.declared.faults.ScriptKind.{ScriptKind}
 use Rattle.sb_script.specs.declared.faults.ScriptKind.TheVariants.{NoSuchTarget, NoSuchChannel}
 use Rattle.sb_text.specs.LineLaws.{ended, is_line}
 use Rattle.sb_text.specs.Lines.{NumberedLine, raw_lines, lines_of, is_skipped, without_cr}
+use Rattle.sb_text.specs.Readings.{is_some_line, renumbered, behind}
 use Rattle.sb_text.specs.Tokens.{Lexeme}
 use Rattle.sb_text.specs.Utf8.{not_utf8_line}
-
--- there is a line
-abbrev pub is_some_line : List NumberedLine → Bool
-is_some_line [] = false
-is_some_line (line ∷ lines) = true
 
 -- a fault that is looked for when all else was read
 abbrev pub is_looked_for_last : ScriptKind → Bool
@@ -38,21 +33,12 @@ FirstFaultsStay = (policies : List Policy) (front rest other : List ℕ) (fault 
     → is_some_line (lines_of (ended front)) ≡ true → fault.line ≤ length (raw_lines (ended front)) → is_looked_for_last fault.kind ≡ false
     → reading policies (ended front ++ rest) ≡ Err fault → reading policies (ended front ++ other) ≡ Err fault
 
--- a script, or a fault on a line with another number
-abbrev pub renumbered : (ℕ → ℕ) → Result Script ScriptFault → Result Script ScriptFault
-renumbered f (Ok script) = Ok script
-renumbered f (Err fault) = Err (record { line = f fault.line; kind = fault.kind })
-
--- the number of a line where one is put in behind the first n
-abbrev pub behind : ℕ → ℕ → ℕ
-behind n k = if nat_lt n k then k + 1 else k
-
 -- a line that says nothing may be put in anywhere below the first that says something, and changes nothing but numbers of lines
 abbrev pub SkippedLinesCountAlone : Type 0
 SkippedLinesCountAlone = (policies : List Policy) (front line rest : List ℕ) → is_line line ≡ true → is_skipped (without_cr line) ≡ true
     → is_some_line (lines_of (ended front)) ≡ true
     → not_utf8_line (ended front ++ rest) ≡ None → not_utf8_line (ended front ++ (ended line ++ rest)) ≡ None
-    → reading policies (ended front ++ (ended line ++ rest)) ≡ renumbered (behind (length (raw_lines (ended front)))) (reading policies (ended front ++ rest))
+    → reading policies (ended front ++ (ended line ++ rest)) ≡ renumbered (behind (length (raw_lines (ended front)))) (λ script. script) (reading policies (ended front ++ rest))
 
 -- the arguments that are read for a call fit it
 abbrev pub ReadArgumentsFit : Type 0

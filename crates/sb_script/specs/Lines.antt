@@ -4,35 +4,29 @@ use Rattle.std.specs.Cmp.Lexicographic.{pointwise}
 use Rattle.std.specs.List.{list_any, position}
 use Rattle.sb_call.specs.CallWords.{is_word}
 use Rattle.sb_call.specs.ShortNames.{is_short_name}
-use Rattle.sb_call.specs.declared.scripts.StartLine.{StartLine}
-use Rattle.sb_call.specs.declared.scripts.TargetScript.{TargetScript}
-use Rattle.sb_call.specs.declared.statements.Statement.{Statement}
+use Rattle.sb_statements.specs.declared.scripts.StartLine.{StartLine}
+use Rattle.sb_statements.specs.declared.scripts.TargetScript.{TargetScript}
+use Rattle.sb_statements.specs.declared.statements.Statement.{Statement}
 use Rattle.sb_rule.specs.WellMade.{is_named}
 use Rattle.sb_rule.specs.declared.policies.Policy.{Policy}
+use Rattle.sb_statements.specs.Limits.{most_patience, most_channels}
 use Rattle.sb_script.specs.Arguments.{call}
 use Rattle.sb_script.specs.Drafts.{is_opening, is_in_thread, targets_of, with_patience, with_start, with_target, with_thread, with_statement}
 use Rattle.sb_script.specs.Openings.{dir, file, key, event}
 use Rattle.sb_script.specs.Statements.{store, exchange, load, wait}
-use Rattle.sb_script.specs.Steps.{◌>>=◌, or_fault, Read, number_within, end_at}
+use Rattle.sb_script.specs.Steps.{number_within}
+use Rattle.sb_text.specs.Steps.{◌>>=◌, or_fault, Read, word_at, end_at}
 use Rattle.sb_script.specs.declared.drafts.Draft.{Draft}
 use Rattle.sb_script.specs.declared.drafts.Heading.{Heading}
 use Rattle.sb_script.specs.declared.faults.ScriptKind.{ScriptKind}
 use Rattle.sb_script.specs.declared.faults.ScriptKind.TheVariants.{UnknownWord, BadNumber, NoSuchPolicy, SameName}
-use Rattle.sb_text.specs.Tokens.{Lexeme, Word, Quoted, Bad}
-
--- the greatest patience
-abbrev pub most_patience : ℕ
-most_patience = 1000000
-
--- the most channels of a target
-abbrev pub most_channels : ℕ
-most_channels = 8
+use Rattle.sb_text.specs.Tokens.{Lexeme}
 
 -- `patience N`, behind its first word
 unfoldable pub patience : List Lexeme → Result ℕ ScriptKind
 patience tokens = do
   number ← number_within 1 most_patience BadNumber UnknownWord tokens
-  end ← end_at UnknownWord number.1
+  end ← end_at UnknownWord UnknownWord number.1
   Ok number.0
 
 -- a target has this name
@@ -47,18 +41,18 @@ new_name targets name =
     else Err UnknownWord
 
 -- NAME: the name of a target
-unfoldable pub new_name_at : List TargetScript → List Lexeme → Read (List ℕ)
-new_name_at targets (Word w ∷ tokens) = new_name targets w >>= λ name. Ok (name, tokens)
-new_name_at targets (Quoted q ∷ tokens) = Err UnknownWord
-new_name_at targets (Bad ∷ tokens) = Err UnknownWord
-new_name_at targets [] = Err UnknownWord
+unfoldable pub new_name_at : List TargetScript → List Lexeme → Read (List ℕ) ScriptKind
+new_name_at targets tokens = do
+  word ← word_at UnknownWord UnknownWord UnknownWord tokens
+  name ← new_name targets word.0
+  Ok (name, word.1)
 
 -- POLICY: the number of the first policy of this name, from 0
-unfoldable pub policy_at : List Policy → List Lexeme → Read ℕ
-policy_at policies (Word w ∷ tokens) = or_fault NoSuchPolicy (position (is_named w) policies) >>= λ policy. Ok (policy, tokens)
-policy_at policies (Quoted q ∷ tokens) = Err NoSuchPolicy
-policy_at policies (Bad ∷ tokens) = Err UnknownWord
-policy_at policies [] = Err UnknownWord
+unfoldable pub policy_at : List Policy → List Lexeme → Read ℕ ScriptKind
+policy_at policies tokens = do
+  word ← word_at NoSuchPolicy UnknownWord UnknownWord tokens
+  policy ← or_fault NoSuchPolicy (position (is_named word.0) policies)
+  Ok (policy, word.1)
 
 -- `target NAME POLICY CHANNELS`, behind its first word
 unfoldable pub heading : List Policy → List TargetScript → List Lexeme → Result Heading ScriptKind
@@ -66,7 +60,7 @@ heading policies targets tokens = do
   name ← new_name_at targets tokens
   policy ← policy_at policies name.1
   channels ← number_within 1 most_channels BadNumber UnknownWord policy.1
-  end ← end_at UnknownWord channels.1
+  end ← end_at UnknownWord UnknownWord channels.1
   Ok (record { name = name.0; policy = policy.0; channels = channels.0 })
 
 -- a `patience` line, before the first target and once
@@ -85,7 +79,7 @@ add_target policies draft tokens = heading policies (targets_of draft) tokens >>
 unfoldable pub add_thread : Draft → List Lexeme → Result Draft ScriptKind
 add_thread draft tokens =
     if is_opening draft then Err UnknownWord
-    else (end_at UnknownWord tokens >>= λ end. with_thread draft)
+    else (end_at UnknownWord UnknownWord tokens >>= λ end. with_thread draft)
 
 -- the object of an opening line that begins with this word
 unfoldable pub start_line : List ℕ → List Lexeme → Result StartLine ScriptKind
@@ -115,11 +109,9 @@ plain_line w draft line tokens =
 
 -- with what a line says: a patience, a target, a thread, an opening line or a statement
 unfoldable pub line_of : List Policy → Draft → ℕ → List Lexeme → Result Draft ScriptKind
-line_of policies draft line (Word w ∷ tokens) =
-    if is_word (codes "patience") w then set_patience draft tokens
-    else (if is_word (codes "target") w then add_target policies draft tokens
-    else (if is_word (codes "thread") w then add_thread draft tokens
-    else plain_line w draft line tokens))
-line_of policies draft line (Quoted q ∷ tokens) = Err UnknownWord
-line_of policies draft line (Bad ∷ tokens) = Err UnknownWord
-line_of policies draft line [] = Err UnknownWord
+line_of policies draft line tokens = do
+  word ← word_at UnknownWord UnknownWord UnknownWord tokens
+  if is_word (codes "patience") word.0 then set_patience draft word.1
+      else (if is_word (codes "target") word.0 then add_target policies draft word.1
+      else (if is_word (codes "thread") word.0 then add_thread draft word.1
+      else plain_line word.0 draft line word.1))

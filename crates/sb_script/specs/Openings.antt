@@ -1,12 +1,13 @@
 -- Opening lines: what is there at the start.
 use Rattle.std.specs.Prelude.{◌≡◌, ℕ, ◌&&◌, not, Bool, true, false, List, [], ◌∷◌, Result, Ok}
 use Rattle.std.specs.List.{list_any}
-use Rattle.sb_call.specs.declared.scripts.StartLine.{StartLine}
-use Rattle.sb_call.specs.declared.scripts.StartLine.TheVariants.{Dir, File, Key, Event}
+use Rattle.sb_statements.specs.declared.scripts.StartLine.{StartLine}
+use Rattle.sb_statements.specs.declared.scripts.StartLine.TheVariants.{Dir, File, Key, Event}
 use Rattle.sb_names.specs.Keys.{parent_of}
 use Rattle.sb_names.specs.Maps.{Rows, is_there}
 use Rattle.sb_script.specs.Arguments.{most_32}
-use Rattle.sb_script.specs.Steps.{◌>>=◌, number_within, name_at, end_at}
+use Rattle.sb_script.specs.Steps.{number_within, name_at}
+use Rattle.sb_text.specs.Steps.{◌>>=◌, end_at}
 use Rattle.sb_script.specs.declared.faults.ScriptKind.{ScriptKind}
 use Rattle.sb_script.specs.declared.faults.ScriptKind.TheVariants.{UnknownWord, BadNumber}
 use Rattle.sb_text.specs.Tokens.{Lexeme}
@@ -16,7 +17,7 @@ use Rattle.sb_wide.specs.Wide.{is_same}
 unfoldable pub dir : List Lexeme → Result StartLine ScriptKind
 dir tokens = do
   name ← name_at UnknownWord tokens
-  end ← end_at UnknownWord name.1
+  end ← end_at UnknownWord UnknownWord name.1
   Ok (Dir name.0)
 
 -- `file "NAME" ATTR`, behind its first word
@@ -24,14 +25,14 @@ unfoldable pub file : List Lexeme → Result StartLine ScriptKind
 file tokens = do
   name ← name_at UnknownWord tokens
   attributes ← number_within 0 most_32 BadNumber UnknownWord name.1
-  end ← end_at UnknownWord attributes.1
+  end ← end_at UnknownWord UnknownWord attributes.1
   Ok (File name.0 attributes.0)
 
 -- `key "NAME"`, behind its first word
 unfoldable pub key : List Lexeme → Result StartLine ScriptKind
 key tokens = do
   name ← name_at UnknownWord tokens
-  end ← end_at UnknownWord name.1
+  end ← end_at UnknownWord UnknownWord name.1
   Ok (Key name.0)
 
 -- `event "NAME" KIND INITIAL`, behind its first word
@@ -40,7 +41,7 @@ event tokens = do
   name ← name_at UnknownWord tokens
   kind ← number_within 0 1 BadNumber UnknownWord name.1
   initial ← number_within 0 1 BadNumber UnknownWord kind.1
-  end ← end_at UnknownWord initial.1
+  end ← end_at UnknownWord UnknownWord initial.1
   Ok (Event name.0 kind.0 initial.0)
 
 -- a line makes a directory of this name

@@ -1,44 +1,40 @@
 -- What a script text means: a script, or the first fault.
-use Rattle.std.specs.Prelude.{◌≡◌, ⊤, ℕ, Bool, true, false, ◌&&◌, nat_lt, List, [], ◌∷◌, length, slice_get, Option, None, Some, Result, Ok, Err, if◌then◌else◌, codes}
-use Rattle.sb_block.specs.Soundness.{channels_of}
-use Rattle.sb_call.specs.CallWords.{is_word}
-use Rattle.sb_call.specs.declared.scripts.Script.{Script}
-use Rattle.sb_call.specs.declared.scripts.TargetScript.{TargetScript}
+use Rattle.std.specs.Prelude.{ℕ, nat_lt, List, [], ◌∷◌, length, slice_get, Option, None, Some, Result, Ok, Err, if◌then◌else◌, codes}
+use Rattle.sb_statements.specs.Soundness.{channels_of}
+use Rattle.sb_statements.specs.declared.scripts.Script.{Script}
+use Rattle.sb_statements.specs.declared.scripts.TargetScript.{TargetScript}
 use Rattle.sb_rule.specs.declared.policies.Policy.{Policy}
 use Rattle.sb_script.specs.Drafts.{nothing, targets_of}
 use Rattle.sb_script.specs.Lines.{line_of}
-use Rattle.sb_script.specs.Steps.{◌>>=◌}
+use Rattle.sb_text.specs.Steps.{◌>>=◌, version_of}
 use Rattle.sb_script.specs.declared.drafts.Draft.{Draft}
 use Rattle.sb_script.specs.declared.drafts.Named.{Named}
-use Rattle.sb_script.specs.declared.faults.ScriptFault.{ScriptFault}
 use Rattle.sb_script.specs.declared.faults.ScriptKind.{ScriptKind}
 use Rattle.sb_script.specs.declared.faults.ScriptKind.TheVariants.{NotUtf8, UnknownWord, NoSuchTarget, NoSuchChannel}
-use Rattle.sb_script.specs.declared.faults.ScriptRefused.{ScriptRefused}
-use Rattle.sb_script.specs.declared.faults.ScriptRefused.TheVariants as refused
-use Rattle.sb_text.specs.Lines.{NumberedLine, lines_of}
-use Rattle.sb_text.specs.Tokens.{Lexeme, Word, tokens_of}
-use Rattle.sb_text.specs.Utf8.{not_utf8_line}
+use Rattle.sb_text.specs.Lines.{NumberedLine}
+use Rattle.sb_text.specs.Readings.{Grammar, read_text}
+use Rattle.sb_text.specs.Tokens.{tokens_of}
+use Rattle.sb_text.specs.declared.refusals.LineFault.{LineFault}
+
+-- the first fault of a script text
+abbrev pub ScriptFault : Type 0
+ScriptFault = LineFault ScriptKind
 
 -- the patience of a script that tells none
 abbrev pub usual_patience : ℕ
 usual_patience = 10000
 
--- the first line: `sandbox-script 1`
-abbrev pub is_version : List Lexeme → Bool
-is_version (Word w ∷ Word v ∷ []) = is_word (codes "sandbox-script") w && is_word (codes "1") v
-is_version _ = false
+-- the version line: `sandbox-script 1`
+abbrev pub script_version : List ℕ → Option ℕ
+script_version line = version_of (codes "sandbox-script") 1 (tokens_of line)
 
--- a kind of fault on a line
-abbrev pub on_line : {A : Type 0} → ℕ → Result A ScriptKind → Result A ScriptFault
-on_line line (Ok x) = Ok x
-on_line line (Err kind) = Err (record { line = line; kind = kind })
+-- what was read so far, and what a line adds to it
+abbrev pub add_line : List Policy → Draft → NumberedLine → Result Draft ScriptKind
+add_line policies draft line = line_of policies draft line.number (tokens_of line.text)
 
--- what was read so far, and what each of these lines adds to it
-unfoldable pub draft_from : List Policy → Draft → List NumberedLine → Result Draft ScriptFault
-draft_from policies draft [] = Ok draft
-draft_from policies draft (line ∷ lines) = do
-  more ← on_line line.number (line_of policies draft line.number (tokens_of line.text))
-  draft_from policies more lines
+-- script texts, for targets of these policies
+abbrev pub grammar : List Policy → Grammar Draft ScriptKind
+grammar policies = record { version = script_version; no_version = UnknownWord; start = nothing; add = λ version. add_line policies }
 
 -- the target that a statement names is not there, or it is and its channel is not
 abbrev pub absence : List TargetScript → Named → Option ScriptKind
@@ -66,23 +62,6 @@ script_of draft = record { patience = patience_of draft.patience; start = draft.
 abbrev pub finished : Draft → Result Script ScriptFault
 finished draft = elim (first_absence (targets_of draft) draft.named) [ None ↦ Ok (script_of draft) | Some fault ↦ Err fault ]
 
--- the script of these lines, below a first line
-abbrev pub script_below : List Policy → ℕ → Bool → List NumberedLine → Result Script ScriptFault
-script_below policies line false lines = Err (record { line = line; kind = UnknownWord })
-script_below policies line true lines = draft_from policies nothing lines >>= λ draft. finished draft
-
--- the script of the lines that say something
-abbrev pub script_by : List Policy → List NumberedLine → Result Script ScriptFault
-script_by policies [] = Err (record { line = 1; kind = UnknownWord })
-script_by policies (first ∷ lines) = script_below policies first.number (is_version (tokens_of first.text)) lines
-
 -- the script of a text for targets of these policies, or its first fault
 abbrev pub reading : List Policy → List ℕ → Result Script ScriptFault
-reading policies text =
-    elim (not_utf8_line text) [ None ↦ script_by policies (lines_of text) | Some line ↦ Err (record { line = line; kind = NotUtf8 }) ]
-
--- the program read the text, or had no memory
-abbrev pub IsReading : {A : Type 0} → Result A ScriptFault → Result A ScriptRefused → Type 0
-IsReading wanted (Ok x) = wanted ≡ Ok x
-IsReading wanted (Err (refused.Fault fault)) = wanted ≡ Err fault
-IsReading wanted (Err refused.NoMemory) = ⊤
+reading policies text = read_text NotUtf8 (grammar policies) text >>= λ draft. finished draft

@@ -1,13 +1,15 @@
 // `call CALL ARG ..`: a call with its arguments.
 ghost use Rattle.std.specs.Prelude.{◌≡◌};
 ghost use Rattle.sb_script.specs.Arguments.{tag_at, arg_at, args_at, fitting, call};
-ghost use Rattle.sb_script.specs.Steps.{Gives, Reads};
+ghost use Rattle.sb_text.specs.Steps.{Gives, Reads};
 
-use crate::faults::{LineRefused, ScriptKind};
-use crate::steps::{end_at, name_at, number_at, number_within, string_at};
+use crate::faults::LineRefused;
+use crate::faults::ScriptKind::{TooBig, UnknownCall, UnknownWord, WrongArgs};
+use crate::steps::{name_at, number_at, number_within, string_at};
 use sb_block::encodes;
-use sb_call::{Arg, Args, CallTag, ParamKind, Statement, shape, tag_of_word};
-use sb_text::{Token, Tokens};
+use sb_call::{Arg, Args, CallTag, ParamKind, shape, tag_of_word};
+use sb_statements::Statement;
+use sb_text::{Tokens, end_at, or_fault, word_at};
 use std::alloc::Global;
 
 /// The greatest number of 32 bits.
@@ -18,13 +20,8 @@ pub(crate) const MOST_32: u64 = 0xFFFF_FFFF;
 fn tag_at(tokens: &mut Tokens) -> Result<CallTag, LineRefused>
     ensures { Reads (tag_at tokens.old) result tokens.new }
 {
-    match tokens.next_token() {
-        Some(Token::Word(word)) => {
-            tag_of_word(word).ok_or(LineRefused::Fault(ScriptKind::UnknownCall))
-        }
-        Some(Token::Quoted(_)) => Err(LineRefused::Fault(ScriptKind::UnknownCall)),
-        Some(Token::Bad) | None => Err(LineRefused::Fault(ScriptKind::UnknownWord)),
-    }
+    let word = word_at(UnknownCall, UnknownWord, UnknownWord, tokens)?;
+    or_fault(UnknownCall, tag_of_word(word))
 }
 
 // ARG: an argument of this kind.
@@ -32,12 +29,11 @@ fn tag_at(tokens: &mut Tokens) -> Result<CallTag, LineRefused>
 fn arg_at(alloc: Global, kind: ParamKind, tokens: &mut Tokens) -> Result<Arg, LineRefused>
     ensures { Reads (arg_at kind tokens.old) result tokens.new }
 {
-    let wrong = ScriptKind::WrongArgs;
     match kind {
-        ParamKind::Text => Ok(Arg::Str(string_at(alloc, wrong, tokens)?)),
-        ParamKind::Name => Ok(Arg::Str(name_at(alloc, wrong, tokens)?)),
-        ParamKind::Num => Ok(Arg::Num(number_within(0, MOST_32, wrong, wrong, tokens)?)),
-        ParamKind::Handle => Ok(Arg::Num(number_at(wrong, wrong, tokens)?)),
+        ParamKind::Text => Ok(Arg::Str(string_at(alloc, WrongArgs, tokens)?)),
+        ParamKind::Name => Ok(Arg::Str(name_at(alloc, WrongArgs, tokens)?)),
+        ParamKind::Num => Ok(Arg::Num(number_within(0, MOST_32, WrongArgs, WrongArgs, tokens)?)),
+        ParamKind::Handle => Ok(Arg::Num(number_at(WrongArgs, WrongArgs, tokens)?)),
     }
 }
 
@@ -62,7 +58,7 @@ fn fitting(tag: CallTag, args: Args) -> Result<Statement, LineRefused>
     if encodes(tag, args.as_slice()) {
         Ok(Statement::Call { tag, args })
     } else {
-        Err(LineRefused::Fault(ScriptKind::TooBig))
+        Err(LineRefused::Fault(TooBig))
     }
 }
 
@@ -73,6 +69,6 @@ pub(crate) fn call(alloc: Global, tokens: &mut Tokens) -> Result<Statement, Line
 {
     let tag = tag_at(tokens)?;
     let args = args_at(alloc, shape(tag), tokens)?;
-    end_at(ScriptKind::WrongArgs, tokens)?;
+    end_at(WrongArgs, UnknownWord, tokens)?;
     fitting(tag, args)
 }

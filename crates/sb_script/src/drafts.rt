@@ -3,23 +3,18 @@ ghost use Rattle.std.specs.Prelude.{◌≡◌, ◌++◌, ◌∷◌, [], length, 
 ghost use Rattle.std.specs.List.{list_any};
 ghost use Rattle.sb_script.specs.Drafts.{nothing, is_opening, is_in_thread, threads_of, headed, targets_of, with_patience, with_start, with_target, with_thread, named_by, with_statement};
 ghost use Rattle.sb_script.specs.Lines.{is_target_named};
-ghost use Rattle.sb_script.specs.Steps.{Becomes};
+ghost use Rattle.sb_text.specs.Steps.{Becomes};
 
 use crate::faults::{LineRefused, ScriptKind};
 use crate::placing::Placed;
-use sb_call::{ShortName, StartLine, Statement, Statements, TargetScript, Targets, Threads, Word};
-use sb_wide::NoMemory;
+use sb_call::ShortName;
+use sb_items::{Items, NoMemory};
+use sb_statements::{
+    MOST_START_LINES, MOST_STATEMENTS, MOST_TARGETS, MOST_THREADS, StartLine, Statement,
+    Statements, TargetScript, Targets, Threads, Word,
+};
 use std::alloc::Global;
-use std::marker::Model;
 use std::mem;
-
-const MOST_START_LINES: usize = 4096;
-
-const MOST_TARGETS: usize = 8;
-
-const MOST_THREADS: usize = 4;
-
-const MOST_STATEMENTS: usize = 4096;
 
 /// What the heading of a target says.
 #[derive(Debug, Drop)]
@@ -44,58 +39,28 @@ pub(crate) struct Named {
 }
 
 /// What statements name, in the order of their lines.
-#[derive(Debug, Drop)]
-pub(crate) struct NamedWords {
-    items: Vec<Named>,
+pub(crate) type NamedWords = Items<Named>;
+
+fn add_word(named: &mut NamedWords, line: u32, target: u32, word: Word) -> Result<(), NoMemory>
+    ensures { OnOk result (named.new ≡ named.old ++ record { line = line; target = target; channel = word.channel } ∷ []) }
+{
+    named.push(Named {
+        line,
+        target,
+        channel: word.channel,
+    })
 }
 
-impl Model for NamedWords {
-    ghost use Rattle.std.specs.Prelude.{List};
-    ghost use Rattle.sb_script.specs.declared.drafts.Named.{Named};
-
-    ghost Value = { List Named };
-
-    ghost view = { λ l. l.items.items };
-}
-
-impl NamedWords {
-    fn new(alloc: Global) -> NamedWords
-        ensures { result ≡ [] }
-    {
-        NamedWords {
-            items: Vec::new(alloc),
-        }
-    }
-
-    /// In order.
-    pub(crate) fn as_slice(&self) -> &[Named]
-        ensures { result.now ≡ self.now }
-    {
-        &self.items
-    }
-
-    fn push(&mut self, line: u32, target: u32, word: Word) -> Result<(), NoMemory>
-        ensures { OnOk result (self.new ≡ self.old ++ record { line = line; target = target; channel = word.channel } ∷ []) }
-    {
-        self.items.push(Named {
-            line,
-            target,
-            channel: word.channel,
-        })?;
-        Ok(())
-    }
-
-    // With what a statement on a line names.
-    fn add(&mut self, line: u32, statement: &Statement) -> Result<(), NoMemory>
-        ensures { OnOk result (self.new ≡ self.old ++ named_by line statement.now) }
-    {
-        match statement {
-            Statement::Call { .. } => Ok(()),
-            Statement::Store { target, word, .. }
-            | Statement::Exchange { target, word, .. }
-            | Statement::Load { target, word }
-            | Statement::Wait { target, word, .. } => self.push(line, *target, *word),
-        }
+// With what a statement on a line names.
+fn add_named(named: &mut NamedWords, line: u32, statement: &Statement) -> Result<(), NoMemory>
+    ensures { OnOk result (named.new ≡ named.old ++ named_by line statement.now) }
+{
+    match statement {
+        Statement::Call { .. } => Ok(()),
+        Statement::Store { target, word, .. }
+        | Statement::Exchange { target, word, .. }
+        | Statement::Load { target, word }
+        | Statement::Wait { target, word, .. } => add_word(named, line, *target, *word),
     }
 }
 
@@ -136,7 +101,7 @@ impl Draft {
             last: None,
             threads: Threads::new(Vec::new(alloc)),
             statements: None,
-            named: NamedWords::new(alloc),
+            named: NamedWords::none(alloc),
         }
     }
 
@@ -245,7 +210,7 @@ impl Draft {
         if statements.len() >= MOST_STATEMENTS {
             return Err(LineRefused::Fault(ScriptKind::TooMany));
         }
-        self.named.add(line, &statement)?;
+        add_named(&mut self.named, line, &statement)?;
         statements.push(statement)?;
         self.statements = Some(statements);
         Ok(())

@@ -1,9 +1,8 @@
 // Why a script text is refused.
 ghost use Rattle.std.specs.Prelude.{◌≡◌};
 ghost use Rattle.sb_script.specs.Kinds.{kind_number};
-ghost use Rattle.sb_script.specs.Steps.{refused_on};
 
-use sb_wide::NoMemory;
+use sb_text::{LineFault, Refused};
 use thiserror::Error;
 
 /// What is wrong with a line of a script text.
@@ -81,63 +80,10 @@ impl ScriptKind {
 }
 
 /// The first fault of a script text.
-#[derive(Clone, Copy, Debug, PartialEq, Eq, Error)]
-#[error("line {line}: {kind}")]
-pub struct ScriptFault {
-    /// The line, from 1.
-    pub line: u32,
-    /// What is wrong there.
-    pub kind: ScriptKind,
-}
+pub type ScriptFault = LineFault<ScriptKind>;
 
-/// Why there is no script of a text.
-#[derive(Clone, Copy, Debug, PartialEq, Eq, Error)]
-pub enum ScriptRefused {
-    /// The text has this fault, and none before it.
-    #[error("{0}")]
-    Fault(ScriptFault),
-    /// There was no memory.
-    #[error("out of memory")]
-    NoMemory,
-}
-
-impl From<NoMemory> for ScriptRefused {
-    ghost use Rattle.std.specs.Prelude.{◌≡◌};
-    ghost use Rattle.sb_script.specs.declared.faults.ScriptRefused.TheVariants.{NoMemory};
-
-    ghost from_gives = { λ _ refused. refused ≡ NoMemory };
-
-    fn from(_error: NoMemory) -> ScriptRefused {
-        ScriptRefused::NoMemory
-    }
-}
+/// Why there is no script of a text: its first fault, or no memory.
+pub type ScriptRefused = Refused<ScriptFault>;
 
 // Why there is nothing of a line, whose number is not known here.
-#[derive(Clone, Copy, Debug, PartialEq, Eq)]
-pub(crate) enum LineRefused {
-    Fault(ScriptKind),
-    NoMemory,
-}
-
-impl LineRefused {
-    // The same of a text in which this line has a number.
-    pub(crate) fn on(self, line: u32) -> ScriptRefused
-        ensures { result ≡ refused_on line self }
-    {
-        match self {
-            LineRefused::Fault(kind) => ScriptRefused::Fault(ScriptFault { line, kind }),
-            LineRefused::NoMemory => ScriptRefused::NoMemory,
-        }
-    }
-}
-
-impl From<NoMemory> for LineRefused {
-    ghost use Rattle.std.specs.Prelude.{◌≡◌};
-    ghost use Rattle.sb_script.specs.declared.faults.LineRefused.TheVariants.{NoMemory};
-
-    ghost from_gives = { λ _ refused. refused ≡ NoMemory };
-
-    fn from(_error: NoMemory) -> LineRefused {
-        LineRefused::NoMemory
-    }
-}
+pub(crate) type LineRefused = Refused<ScriptKind>;

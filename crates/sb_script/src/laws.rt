@@ -2,9 +2,10 @@
 ghost use Rattle.sb_script.specs.Laws.{FirstFaultsStay, SkippedLinesCountAlone, ReadArgumentsFit, PlacingIsOpening};
 ghost use Rattle.sb_script.specs.Readiness.{ReadScriptsAreSound, ReadScriptsAreJudged, ReadScriptsArePlaced};
 
+use crate::drafts::Draft;
+use crate::faults::ScriptKind;
 use sb_event::EventRow;
 use sb_names::puts_are_found;
-use sb_text::{lines_append, numbers_are_within, saying_lines_append, written_lines_are_read};
 
 /// Each script that is read is sound, the policy of each of its targets is there, and its opening lines can be placed one
 /// after another.
@@ -24,7 +25,7 @@ pub fn read_arguments_fit()
 pub fn first_faults_stay()
     ensures { FirstFaultsStay }
 {
-    saying_lines_append();
+    sb_text::first_faults_stay::<Draft, ScriptKind>();
 }
 
 /// A line that says nothing may be put in anywhere below the first that says something, and changes nothing but numbers of
@@ -32,10 +33,7 @@ pub fn first_faults_stay()
 pub fn skipped_lines_count_alone()
     ensures { SkippedLinesCountAlone }
 {
-    saying_lines_append();
-    lines_append();
-    written_lines_are_read();
-    numbers_are_within();
+    sb_text::skipped_lines_count_alone::<Draft, ScriptKind>();
 }
 
 /// Opening lines can be placed one after another exactly where the kernel opens with them.

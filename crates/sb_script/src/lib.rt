@@ -12,8 +12,6 @@ mod placing;
 mod script_texts;
 mod statements;
 mod steps;
-#[cfg(test)]
-mod tests;
 
 pub use faults::{ScriptFault, ScriptKind, ScriptRefused};
 pub use laws::{

@@ -7,32 +7,29 @@ ghost use Rattle.sb_script.specs.Drafts.{targets_of};
 ghost use Rattle.sb_script.specs.Lines.{patience, new_name, new_name_at, policy_at, heading, set_patience, add_target, add_thread, start_line, statement_line, plain_line, line_of};
 ghost use Rattle.sb_script.specs.Openings.{dir, file, key, event};
 ghost use Rattle.sb_script.specs.Statements.{store, exchange, load, wait};
-ghost use Rattle.sb_script.specs.Steps.{Gives, Reads, Becomes};
+ghost use Rattle.sb_text.specs.Steps.{Gives, Reads, Becomes};
 ghost use Rattle.sb_text.specs.Tokens.{tokens_of};
 
 use crate::arguments::call;
 use crate::drafts::{Draft, Heading};
-use crate::faults::{LineRefused, ScriptKind};
+use crate::faults::LineRefused;
+use crate::faults::ScriptKind::{BadNumber, NoSuchPolicy, SameName, UnknownWord};
 use crate::openings::{dir, event, file, key};
 use crate::statements::{exchange, load, store, wait};
-use crate::steps::{end_at, number_within};
-use sb_call::{ShortName, StartLine, Statement};
+use crate::steps::number_within;
+use sb_call::ShortName;
 use sb_rule::Policy;
-use sb_text::{Line, Token, Tokens};
+use sb_statements::{MOST_CHANNELS, MOST_PATIENCE, StartLine, Statement};
+use sb_text::{Line, Tokens, end_at, word_at};
 use std::alloc::Global;
-
-const MOST_PATIENCE: u64 = 1_000_000;
-
-const MOST_CHANNELS: u64 = 8;
 
 // `patience N`, behind its first word.
 #[tactic(auto, unfolding(crate::specs::Lines::patience))]
 fn patience(tokens: &mut Tokens) -> Result<u32, LineRefused>
     ensures { Gives (patience tokens.old) result }
 {
-    let (number, word) = (ScriptKind::BadNumber, ScriptKind::UnknownWord);
-    let patience = number_within(1, MOST_PATIENCE, number, word, tokens)?;
-    end_at(word, tokens)?;
+    let patience = number_within(1, u64::from(MOST_PATIENCE), BadNumber, UnknownWord, tokens)?;
+    end_at(UnknownWord, UnknownWord, tokens)?;
     Ok(patience as u32)
 }
 
@@ -41,10 +38,10 @@ fn new_name(draft: &Draft, word: &[u8]) -> Result<ShortName, LineRefused>
     ensures { Gives (new_name (targets_of draft.now) word.now) result }
 {
     let Some(name) = ShortName::new(word) else {
-        return Err(LineRefused::Fault(ScriptKind::UnknownWord));
+        return Err(LineRefused::Fault(UnknownWord));
     };
     if draft.is_named(word) {
-        return Err(LineRefused::Fault(ScriptKind::SameName));
+        return Err(LineRefused::Fault(SameName));
     }
     Ok(name)
 }
@@ -54,12 +51,8 @@ fn new_name(draft: &Draft, word: &[u8]) -> Result<ShortName, LineRefused>
 fn new_name_at(draft: &Draft, tokens: &mut Tokens) -> Result<ShortName, LineRefused>
     ensures { Reads (new_name_at (targets_of draft.now) tokens.old) result tokens.new }
 {
-    match tokens.next_token() {
-        Some(Token::Word(word)) => new_name(draft, word),
-        Some(Token::Quoted(_)) | Some(Token::Bad) | None => {
-            Err(LineRefused::Fault(ScriptKind::UnknownWord))
-        }
-    }
+    let word = word_at(UnknownWord, UnknownWord, UnknownWord, tokens)?;
+    new_name(draft, word)
 }
 
 fn is_named(name: &[u8], policy: &Policy) -> bool
@@ -82,13 +75,10 @@ fn policy_at(policies: &[Policy], tokens: &mut Tokens) -> Result<u32, LineRefuse
     requires few { length policies.now < 2 ^ 32 }
     ensures read { Reads (policy_at policies.now tokens.old) result tokens.new }
 {
-    match tokens.next_token() {
-        Some(Token::Word(word)) => match policy_number(word, policies) {
-            Some(number) => Ok(number as u32),
-            None => Err(LineRefused::Fault(ScriptKind::NoSuchPolicy)),
-        },
-        Some(Token::Quoted(_)) => Err(LineRefused::Fault(ScriptKind::NoSuchPolicy)),
-        Some(Token::Bad) | None => Err(LineRefused::Fault(ScriptKind::UnknownWord)),
+    let word = word_at(NoSuchPolicy, UnknownWord, UnknownWord, tokens)?;
+    match policy_number(word, policies) {
+        Some(number) => Ok(number as u32),
+        None => Err(LineRefused::Fault(NoSuchPolicy)),
     }
 }
 
@@ -98,11 +88,10 @@ fn heading(policies: &[Policy], draft: &Draft, tokens: &mut Tokens) -> Result<He
     requires few { length policies.now < 2 ^ 32 }
     ensures read { Gives (heading policies.now (targets_of draft.now) tokens.old) result }
 {
-    let (number, word) = (ScriptKind::BadNumber, ScriptKind::UnknownWord);
     let name = new_name_at(draft, tokens)?;
     let policy = policy_at(policies, tokens)?;
-    let channels = number_within(1, MOST_CHANNELS, number, word, tokens)?;
-    end_at(word, tokens)?;
+    let channels = number_within(1, u64::from(MOST_CHANNELS), BadNumber, UnknownWord, tokens)?;
+    end_at(UnknownWord, UnknownWord, tokens)?;
     Ok(Heading {
         name,
         policy,
@@ -116,10 +105,10 @@ fn set_patience(draft: &mut Draft, tokens: &mut Tokens) -> Result<(), LineRefuse
     ensures { Becomes (set_patience draft.old tokens.old) result draft.new }
 {
     if draft.patience.is_some() {
-        return Err(LineRefused::Fault(ScriptKind::UnknownWord));
+        return Err(LineRefused::Fault(UnknownWord));
     }
     if !draft.is_opening() {
-        return Err(LineRefused::Fault(ScriptKind::UnknownWord));
+        return Err(LineRefused::Fault(UnknownWord));
     }
     let patience = patience(tokens)?;
     draft.patience = Some(patience);
@@ -147,9 +136,9 @@ fn add_thread(alloc: Global, draft: &mut Draft, tokens: &mut Tokens) -> Result<(
     ensures { Becomes (add_thread draft.old tokens.old) result draft.new }
 {
     if draft.is_opening() {
-        return Err(LineRefused::Fault(ScriptKind::UnknownWord));
+        return Err(LineRefused::Fault(UnknownWord));
     }
-    end_at(ScriptKind::UnknownWord, tokens)?;
+    end_at(UnknownWord, UnknownWord, tokens)?;
     draft.add_thread(alloc)
 }
 
@@ -167,7 +156,7 @@ fn start_line(alloc: Global, word: &[u8], tokens: &mut Tokens) -> Result<StartLi
     } else if word == b"event".as_slice() {
         event(alloc, tokens)
     } else {
-        Err(LineRefused::Fault(ScriptKind::UnknownWord))
+        Err(LineRefused::Fault(UnknownWord))
     }
 }
 
@@ -187,7 +176,7 @@ fn statement_line(alloc: Global, word: &[u8], tokens: &mut Tokens) -> Result<Sta
     } else if word == b"wait".as_slice() {
         wait(tokens)
     } else {
-        Err(LineRefused::Fault(ScriptKind::UnknownWord))
+        Err(LineRefused::Fault(UnknownWord))
     }
 }
 
@@ -207,7 +196,7 @@ fn plain_line(
         return draft.add_statement(line, statement);
     }
     if !draft.is_opening() {
-        return Err(LineRefused::Fault(ScriptKind::UnknownWord));
+        return Err(LineRefused::Fault(UnknownWord));
     }
     let start = start_line(alloc, word, tokens)?;
     draft.add_start(alloc, start)
@@ -225,9 +214,7 @@ pub(crate) fn line_of(
     ensures read { Becomes (line_of policies.now draft.old line.now.number (tokens_of line.now.text.now)) result draft.new }
 {
     let mut tokens = line.tokens();
-    let Some(Token::Word(word)) = tokens.next_token() else {
-        return Err(LineRefused::Fault(ScriptKind::UnknownWord));
-    };
+    let word = word_at(UnknownWord, UnknownWord, UnknownWord, &mut tokens)?;
     if word == b"patience".as_slice() {
         return set_patience(draft, &mut tokens);
     }

@@ -1,13 +1,14 @@
 // Opening lines: what is there at the start.
 ghost use Rattle.std.specs.Prelude.{◌≡◌};
 ghost use Rattle.sb_script.specs.Openings.{dir, file, key, event};
-ghost use Rattle.sb_script.specs.Steps.{Gives};
+ghost use Rattle.sb_text.specs.Steps.{Gives};
 
 use crate::arguments::MOST_32;
-use crate::faults::{LineRefused, ScriptKind};
-use crate::steps::{end_at, name_at, number_within};
-use sb_call::StartLine;
-use sb_text::Tokens;
+use crate::faults::LineRefused;
+use crate::faults::ScriptKind::{BadNumber, UnknownWord};
+use crate::steps::{name_at, number_within};
+use sb_statements::StartLine;
+use sb_text::{Tokens, end_at};
 use std::alloc::Global;
 
 /// `dir "NAME"`, behind its first word.
@@ -15,8 +16,8 @@ use std::alloc::Global;
 pub(crate) fn dir(alloc: Global, tokens: &mut Tokens) -> Result<StartLine, LineRefused>
     ensures { Gives (dir tokens.old) result }
 {
-    let name = name_at(alloc, ScriptKind::UnknownWord, tokens)?;
-    end_at(ScriptKind::UnknownWord, tokens)?;
+    let name = name_at(alloc, UnknownWord, tokens)?;
+    end_at(UnknownWord, UnknownWord, tokens)?;
     Ok(StartLine::Dir { name })
 }
 
@@ -25,10 +26,9 @@ pub(crate) fn dir(alloc: Global, tokens: &mut Tokens) -> Result<StartLine, LineR
 pub(crate) fn file(alloc: Global, tokens: &mut Tokens) -> Result<StartLine, LineRefused>
     ensures { Gives (file tokens.old) result }
 {
-    let (number, word) = (ScriptKind::BadNumber, ScriptKind::UnknownWord);
-    let name = name_at(alloc, word, tokens)?;
-    let attributes = number_within(0, MOST_32, number, word, tokens)?;
-    end_at(word, tokens)?;
+    let name = name_at(alloc, UnknownWord, tokens)?;
+    let attributes = number_within(0, MOST_32, BadNumber, UnknownWord, tokens)?;
+    end_at(UnknownWord, UnknownWord, tokens)?;
     Ok(StartLine::File { name, attributes })
 }
 
@@ -37,8 +37,8 @@ pub(crate) fn file(alloc: Global, tokens: &mut Tokens) -> Result<StartLine, Line
 pub(crate) fn key(alloc: Global, tokens: &mut Tokens) -> Result<StartLine, LineRefused>
     ensures { Gives (key tokens.old) result }
 {
-    let name = name_at(alloc, ScriptKind::UnknownWord, tokens)?;
-    end_at(ScriptKind::UnknownWord, tokens)?;
+    let name = name_at(alloc, UnknownWord, tokens)?;
+    end_at(UnknownWord, UnknownWord, tokens)?;
     Ok(StartLine::Key { name })
 }
 
@@ -47,11 +47,10 @@ pub(crate) fn key(alloc: Global, tokens: &mut Tokens) -> Result<StartLine, LineR
 pub(crate) fn event(alloc: Global, tokens: &mut Tokens) -> Result<StartLine, LineRefused>
     ensures { Gives (event tokens.old) result }
 {
-    let (number, word) = (ScriptKind::BadNumber, ScriptKind::UnknownWord);
-    let name = name_at(alloc, word, tokens)?;
-    let kind = number_within(0, 1, number, word, tokens)?;
-    let initial = number_within(0, 1, number, word, tokens)?;
-    end_at(word, tokens)?;
+    let name = name_at(alloc, UnknownWord, tokens)?;
+    let kind = number_within(0, 1, BadNumber, UnknownWord, tokens)?;
+    let initial = number_within(0, 1, BadNumber, UnknownWord, tokens)?;
+    end_at(UnknownWord, UnknownWord, tokens)?;
     Ok(StartLine::Event {
         name,
         kind,

@@ -1,12 +1,12 @@
 // The opening lines so far, and whether a further one can be placed behind them.
 ghost use Rattle.std.specs.Prelude.{◌≡◌, ◌++◌, ◌∷◌, [], ℕ, Bool, length, List, IfOk, OnOk};
 ghost use Rattle.std.specs.List.{list_any};
-ghost use Rattle.sb_call.specs.declared.scripts.StartLine.{StartLine};
+ghost use Rattle.sb_statements.specs.declared.scripts.StartLine.{StartLine};
 ghost use Rattle.sb_names.specs.Maps.{is_there};
 ghost use Rattle.sb_script.specs.Openings.{is_directory, is_file, is_key, is_event, has_parent, can_place, Lists};
 
-use sb_call::{StartLine, StartLines};
 use sb_names::{NameMap, parent, puts_are_found};
+use sb_statements::{StartLine, StartLines};
 use sb_wide::NoMemory;
 use std::alloc::Global;
 use std::marker::Model;
@@ -24,7 +24,7 @@ pub(crate) struct Placed {
 
 impl Model for Placed {
     ghost use Rattle.std.specs.Prelude.{List};
-    ghost use Rattle.sb_call.specs.declared.scripts.StartLine.{StartLine};
+    ghost use Rattle.sb_statements.specs.declared.scripts.StartLine.{StartLine};
     ghost use Rattle.sb_script.specs.Openings.{is_directory, is_file, is_key, is_event, Lists};
 
     ghost Value = { List StartLine };

@@ -1,44 +1,30 @@
 // Reading script texts.
 ghost use Rattle.std.specs.Prelude.{◌≡◌, ◌<◌, ◌^◌, [], length, true, IfOk};
-ghost use Rattle.sb_block.specs.Soundness.{is_sound};
+ghost use Rattle.sb_statements.specs.Soundness.{is_sound};
 ghost use Rattle.sb_script.specs.Drafts.{nothing, targets_of};
 ghost use Rattle.sb_script.specs.Readiness.{are_judged, can_follow};
-ghost use Rattle.sb_script.specs.ScriptTexts.{is_version, draft_from, absence, first_absence, finished, script_by, reading, IsReading};
-ghost use Rattle.sb_text.specs.Tokens.{tokens_of};
+ghost use Rattle.sb_script.specs.ScriptTexts.{add_line, grammar, absence, first_absence, finished, reading};
+ghost use Rattle.sb_script.specs.declared.faults.ScriptKind.TheVariants.{NotUtf8};
+ghost use Rattle.sb_text.specs.Readings.{read_lines, read_by, read_text};
+ghost use Rattle.sb_text.specs.Steps.{Gives};
 
 use crate::drafts::{Draft, Named};
-use crate::faults::{ScriptFault, ScriptKind, ScriptRefused};
+use crate::faults::{LineRefused, ScriptFault, ScriptKind, ScriptRefused};
 use crate::laws::read_scripts_are_ready;
 use crate::lines::line_of;
-use sb_call::{Script, TargetScript};
 use sb_rule::{Policies, Policy};
-use sb_text::{Line, Lines, Token, text_of};
+use sb_statements::{Script, TargetScript};
+use sb_text::{Lines, lines_are_read_in_turn, text_of};
 use std::alloc::Global;
 
 const USUAL_PATIENCE: u32 = 10_000;
 
-// Whether a line is `sandbox-script 1`.
-fn is_version(line: &Line) -> bool
-    ensures { result ≡ is_version (tokens_of line.now.text.now) }
-{
-    let mut tokens = line.tokens();
-    let first = tokens.next_token();
-    let second = tokens.next_token();
-    let more = tokens.next_token();
-    match (first, second, more) {
-        (Some(Token::Word(word)), Some(Token::Word(version)), None) => {
-            word == b"sandbox-script".as_slice() && version == b"1".as_slice()
-        }
-        _ => false,
-    }
-}
-
 // What these lines say, below a first line.
-#[tactic(auto, using(crate::proofs::Reading::line_passed, crate::proofs::Reading::no_line))]
 fn draft_from(alloc: Global, policies: &[Policy], lines: Lines) -> Result<Draft, ScriptRefused>
     requires few { length policies.now < 2 ^ 32 }
-    ensures { IsReading (draft_from policies.now nothing lines.entry) result }
+    ensures { Gives (read_lines (add_line policies.now) nothing lines.entry) result }
 {
+    lines_are_read_in_turn::<Draft, ScriptKind>();
     let mut lines = lines;
     let mut draft = Draft::new(alloc);
     while let Some(line) = lines.next_line() {
@@ -48,6 +34,21 @@ fn draft_from(alloc: Global, policies: &[Policy], lines: Lines) -> Result<Draft,
         }
     }
     Ok(draft)
+}
+
+// What the lines with tokens say.
+fn draft_of(alloc: Global, policies: &[Policy], lines: Lines) -> Result<Draft, ScriptRefused>
+    requires few { length policies.now < 2 ^ 32 }
+    ensures { Gives (read_by (grammar policies.now) lines.entry) result }
+{
+    let mut lines = lines;
+    let Some(first) = lines.next_line() else {
+        return Err(LineRefused::Fault(ScriptKind::UnknownWord).on(1));
+    };
+    match first.version(b"sandbox-script", 1) {
+        Some(_) => draft_from(alloc, policies, lines),
+        None => Err(LineRefused::Fault(ScriptKind::UnknownWord).on(first.number)),
+    }
 }
 
 // Whether the target that a statement names is not there, or its channel.
@@ -78,7 +79,7 @@ fn first_absence(targets: &[TargetScript], named: &[Named]) -> Option<ScriptFaul
 
 // The script that was read, where all is there that its statements name.
 fn finished(alloc: Global, draft: Draft) -> Result<Script, ScriptRefused>
-    ensures { IsReading (finished draft) result }
+    ensures { Gives (finished draft) result }
 {
     let mut draft = draft;
     draft.end_target(alloc)?;
@@ -92,26 +93,16 @@ fn finished(alloc: Global, draft: Draft) -> Result<Script, ScriptRefused>
     })
 }
 
-// The script of the lines that say something.
-fn script_by(alloc: Global, policies: &[Policy], lines: Lines) -> Result<Script, ScriptRefused>
+// What a text says.
+fn draft_of_text(alloc: Global, policies: &[Policy], text: &[u8]) -> Result<Draft, ScriptRefused>
+    requires short { length text.now < 2 ^ 32 }
     requires few { length policies.now < 2 ^ 32 }
-    ensures exactly { IsReading (script_by policies.now lines.entry) result }
+    ensures { Gives (read_text NotUtf8 (grammar policies.now) text.now) result }
 {
-    let mut lines = lines;
-    let Some(first) = lines.next_line() else {
-        return Err(ScriptRefused::Fault(ScriptFault {
-            line: 1,
-            kind: ScriptKind::UnknownWord,
-        }));
-    };
-    if !is_version(&first) {
-        return Err(ScriptRefused::Fault(ScriptFault {
-            line: first.number,
-            kind: ScriptKind::UnknownWord,
-        }));
+    match text_of(text) {
+        Ok(text) => draft_of(alloc, policies, Lines::new(text)),
+        Err(fault) => Err(LineRefused::Fault(ScriptKind::NotUtf8).on(fault.line)),
     }
-    let draft = draft_from(alloc, policies, lines)?;
-    finished(alloc, draft)
 }
 
 /// The script of a text, for targets of these policies, or its first fault. The text has fewer than 2^32 bytes. The script
@@ -128,17 +119,12 @@ fn script_by(alloc: Global, policies: &[Policy], lines: Lines) -> Result<Script,
 pub fn read_script(alloc: Global, text: &[u8], policies: &Policies) -> Result<Script, ScriptRefused>
     requires short { length text.now < 2 ^ 32 }
     requires few { length policies.now.list < 2 ^ 32 }
-    ensures exactly { IsReading (reading policies.now.list text.now) result }
+    ensures exactly { Gives (reading policies.now.list text.now) result }
     ensures sound { IfOk result (λ script. is_sound script ≡ true) }
     ensures judged { IfOk result (λ script. are_judged (length policies.now.list) script.targets ≡ true) }
     ensures placed { IfOk result (λ script. can_follow [] script.start ≡ true) }
 {
     read_scripts_are_ready();
-    match text_of(text) {
-        Ok(text) => script_by(alloc, policies.list.as_slice(), Lines::new(text)),
-        Err(fault) => Err(ScriptRefused::Fault(ScriptFault {
-            line: fault.line,
-            kind: ScriptKind::NotUtf8,
-        })),
-    }
+    let draft = draft_of_text(alloc, policies.list.as_slice(), text)?;
+    finished(alloc, draft)
 }

@@ -1,15 +1,14 @@
 // `store`, `exchange`, `load` and `wait`: words of channels that are stored and loaded by hand.
 ghost use Rattle.std.specs.Prelude.{◌≡◌};
-ghost use Rattle.sb_script.specs.Statements.{short, value_at, short_at, block_place, place_of, place_at, word_at, store, exchange, load, wait};
-ghost use Rattle.sb_script.specs.Steps.{Gives, Reads};
+ghost use Rattle.sb_script.specs.Statements.{short, value_at, short_at, block_place, place_of, place_at, target_word_at, store, exchange, load, wait};
+ghost use Rattle.sb_text.specs.Steps.{Gives, Reads};
 
 use crate::arguments::MOST_32;
-use crate::faults::{LineRefused, ScriptKind};
-use crate::steps::{end_at, number_at, within};
-use sb_call::{Statement, Word};
-use sb_text::{Token, Tokens, number_of};
-
-const MOST_LOADS: u64 = 1_000_000;
+use crate::faults::LineRefused;
+use crate::faults::ScriptKind::{BadNumber, NoSuchWord, UnknownWord, WrongArgs};
+use crate::steps::{number_at, within};
+use sb_statements::{MOST_PATIENCE, Statement, Word};
+use sb_text::{Tokens, end_at, number_of, word_at};
 
 const LAST_BLOCK_WORD: u64 = 63;
 
@@ -28,7 +27,7 @@ fn short(number: u64) -> u32
 fn value_at(tokens: &mut Tokens) -> Result<u64, LineRefused>
     ensures { Reads (value_at tokens.old) result tokens.new }
 {
-    number_at(ScriptKind::BadNumber, ScriptKind::WrongArgs, tokens)
+    number_at(BadNumber, WrongArgs, tokens)
 }
 
 // T or C: a target or a channel.
@@ -46,7 +45,7 @@ fn block_place(word: u64) -> Result<u32, LineRefused>
     if word <= LAST_BLOCK_WORD {
         Ok(1 + word as u32)
     } else {
-        Err(LineRefused::Fault(ScriptKind::NoSuchWord))
+        Err(LineRefused::Fault(NoSuchWord))
     }
 }
 
@@ -59,7 +58,7 @@ fn place_of(word: &[u8]) -> Result<u32, LineRefused>
     }
     match number_of(word) {
         Some(number) => block_place(number),
-        None => Err(LineRefused::Fault(ScriptKind::BadNumber)),
+        None => Err(LineRefused::Fault(BadNumber)),
     }
 }
 
@@ -68,18 +67,13 @@ fn place_of(word: &[u8]) -> Result<u32, LineRefused>
 fn place_at(tokens: &mut Tokens) -> Result<u32, LineRefused>
     ensures { Reads (place_at tokens.old) result tokens.new }
 {
-    match tokens.next_token() {
-        Some(Token::Word(word)) => place_of(word),
-        Some(Token::Quoted(_)) => Err(LineRefused::Fault(ScriptKind::BadNumber)),
-        Some(Token::Bad) => Err(LineRefused::Fault(ScriptKind::UnknownWord)),
-        None => Err(LineRefused::Fault(ScriptKind::WrongArgs)),
-    }
+    place_of(word_at(BadNumber, UnknownWord, WrongArgs, tokens)?)
 }
 
 // T C W: a target, and a word of one of its channels.
-#[tactic(auto, unfolding(crate::specs::Statements::word_at))]
-fn word_at(tokens: &mut Tokens) -> Result<(u32, Word), LineRefused>
-    ensures { Reads (word_at tokens.old) result tokens.new }
+#[tactic(auto, unfolding(crate::specs::Statements::target_word_at))]
+fn target_word_at(tokens: &mut Tokens) -> Result<(u32, Word), LineRefused>
+    ensures { Reads (target_word_at tokens.old) result tokens.new }
 {
     let target = short_at(tokens)?;
     let channel = short_at(tokens)?;
@@ -92,9 +86,9 @@ fn word_at(tokens: &mut Tokens) -> Result<(u32, Word), LineRefused>
 pub(crate) fn store(tokens: &mut Tokens) -> Result<Statement, LineRefused>
     ensures { Gives (store tokens.old) result }
 {
-    let (target, word) = word_at(tokens)?;
+    let (target, word) = target_word_at(tokens)?;
     let value = value_at(tokens)?;
-    end_at(ScriptKind::WrongArgs, tokens)?;
+    end_at(WrongArgs, UnknownWord, tokens)?;
     Ok(Statement::Store {
         target,
         word,
@@ -107,10 +101,10 @@ pub(crate) fn store(tokens: &mut Tokens) -> Result<Statement, LineRefused>
 pub(crate) fn exchange(tokens: &mut Tokens) -> Result<Statement, LineRefused>
     ensures { Gives (exchange tokens.old) result }
 {
-    let (target, word) = word_at(tokens)?;
+    let (target, word) = target_word_at(tokens)?;
     let from = value_at(tokens)?;
     let to = value_at(tokens)?;
-    end_at(ScriptKind::WrongArgs, tokens)?;
+    end_at(WrongArgs, UnknownWord, tokens)?;
     Ok(Statement::Exchange {
         target,
         word,
@@ -124,8 +118,8 @@ pub(crate) fn exchange(tokens: &mut Tokens) -> Result<Statement, LineRefused>
 pub(crate) fn load(tokens: &mut Tokens) -> Result<Statement, LineRefused>
     ensures { Gives (load tokens.old) result }
 {
-    let (target, word) = word_at(tokens)?;
-    end_at(ScriptKind::WrongArgs, tokens)?;
+    let (target, word) = target_word_at(tokens)?;
+    end_at(WrongArgs, UnknownWord, tokens)?;
     Ok(Statement::Load { target, word })
 }
 
@@ -134,11 +128,11 @@ pub(crate) fn load(tokens: &mut Tokens) -> Result<Statement, LineRefused>
 pub(crate) fn wait(tokens: &mut Tokens) -> Result<Statement, LineRefused>
     ensures { Gives (wait tokens.old) result }
 {
-    let (target, word) = word_at(tokens)?;
+    let (target, word) = target_word_at(tokens)?;
     let value = value_at(tokens)?;
     let loads = value_at(tokens)?;
-    end_at(ScriptKind::WrongArgs, tokens)?;
-    let most = within(1, MOST_LOADS, loads)? as u32;
+    end_at(WrongArgs, UnknownWord, tokens)?;
+    let most = within(1, u64::from(MOST_PATIENCE), loads)? as u32;
     Ok(Statement::Wait {
         target,
         word,

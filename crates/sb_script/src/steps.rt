@@ -1,9 +1,10 @@
-// Reading a line from left to right: numbers, strings, names and the line's end.
+// Reading a line from left to right: numbers, strings and names.
 ghost use Rattle.std.specs.Prelude.{◌≡◌, ◌≤◌, IfOk};
-ghost use Rattle.sb_script.specs.Steps.{number_at, within, number_within, string_at, name, name_at, end_at, Gives, Reads};
+ghost use Rattle.sb_script.specs.Steps.{number_at, within, number_within, string_at, name, name_at};
+ghost use Rattle.sb_text.specs.Steps.{Gives, Reads};
 
 use crate::faults::{LineRefused, ScriptKind};
-use sb_text::{Token, Tokens, number_of, string_of};
+use sb_text::{Tokens, number_of, or_fault, quoted_at, string_of, word_at};
 use sb_wide::{Wide, is_name};
 use std::alloc::Global;
 
@@ -16,12 +17,8 @@ pub(crate) fn number_at(
 ) -> Result<u64, LineRefused>
     ensures { Reads (number_at quoted missing tokens.old) result tokens.new }
 {
-    match tokens.next_token() {
-        Some(Token::Word(word)) => number_of(word).ok_or(LineRefused::Fault(ScriptKind::BadNumber)),
-        Some(Token::Quoted(_)) => Err(LineRefused::Fault(quoted)),
-        Some(Token::Bad) => Err(LineRefused::Fault(ScriptKind::UnknownWord)),
-        None => Err(LineRefused::Fault(missing)),
-    }
+    let word = word_at(quoted, ScriptKind::UnknownWord, missing, tokens)?;
+    or_fault(ScriptKind::BadNumber, number_of(word))
 }
 
 /// A number from `lo` to `hi`.
@@ -61,11 +58,8 @@ pub(crate) fn string_at(
 ) -> Result<Wide, LineRefused>
     ensures { Reads (string_at other tokens.old) result tokens.new }
 {
-    match tokens.next_token() {
-        Some(Token::Quoted(quoted)) => Ok(string_of(alloc, quoted)?),
-        Some(Token::Bad) => Err(LineRefused::Fault(ScriptKind::UnknownWord)),
-        Some(Token::Word(_)) | None => Err(LineRefused::Fault(other)),
-    }
+    let quoted = quoted_at(other, ScriptKind::UnknownWord, other, tokens)?;
+    Ok(string_of(alloc, quoted)?)
 }
 
 /// "NAME": a name, with the faults of `string_at`.
@@ -82,17 +76,5 @@ pub(crate) fn name_at(
         Ok(units)
     } else {
         Err(LineRefused::Fault(ScriptKind::BadName))
-    }
-}
-
-/// The line is to end here. `further` is the fault of a further token.
-#[tactic(auto, unfolding(crate::specs::Steps::end_at))]
-pub(crate) fn end_at(further: ScriptKind, tokens: &mut Tokens) -> Result<(), LineRefused>
-    ensures { Gives (end_at further tokens.old) result }
-{
-    match tokens.next_token() {
-        None => Ok(()),
-        Some(Token::Bad) => Err(LineRefused::Fault(ScriptKind::UnknownWord)),
-        Some(Token::Word(_)) | Some(Token::Quoted(_)) => Err(LineRefused::Fault(further)),
     }
 }

@@ -2,4 +2,4 @@ use Rattle.sb_ruletext.proofs.Prefixes.{first_faults_stay}
 use Rattle.sb_ruletext.proofs.laws.first_faults_stay.Goals as goal
 
 pub returns : goal.returns
-returns c = first_faults_stay c.saying_lines_append.ensures
+returns c = first_faults_stay c.first_faults_stay.ensures

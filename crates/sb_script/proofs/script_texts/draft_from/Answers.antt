@@ -1,11 +1,17 @@
-use Rattle.sb_script.proofs.Reading.{line_refused}
+use Rattle.std.proofs.Common.{◌≡◌, ap, subst, sym, ◌∙◌, List, Err, Result}
 use Rattle.sb_script.specs.Drafts.{nothing}
-use Rattle.sb_script.specs.ScriptTexts.{draft_from}
+use Rattle.sb_script.specs.ScriptTexts.{ScriptFault, add_line}
+use Rattle.sb_script.specs.declared.drafts.Draft.{Draft}
+use Rattle.sb_text.specs.Lines.{NumberedLine}
+use Rattle.sb_text.specs.Readings.{read_lines, refused_on}
+use Rattle.sb_text.specs.Steps.{Gives}
 use Rattle.sb_script.proofs.script_texts.draft_from.Goals as goal
 
 pub returns-in-Err : goal.returns-in-Err
 returns-in-Err c =
-    let lines = c.in-Some.ensures in
-    let why = c.in-Err.ensures.read in
-    line_refused c.args.policies.now c.loop-line.draft c.line_of.new.draft (record { number = c.in-Some.line.number; text = c.in-Some.line.text.now }) c.next_line.new.self
-    c.loop-line.lines c.in-Err.refused (draft_from c.args.policies.now nothing c.args.lines) c.on.result lines c.loop-line.invariant why c.on.ensures
+    let add = add_line c.args.policies.now in
+    let line : NumberedLine = record { number = c.in-Some.line.number; text = c.in-Some.line.text.now } in
+    let refused = c.lines_are_read_in_turn.ensures.refused add c.loop-line.draft c.line_of.new.draft line c.next_line.new.self c.in-Err.refused c.in-Err.ensures.read in
+    let whole = ap (read_lines add c.loop-line.draft) (sym c.in-Some.ensures) ∙ c.loop-line.invariant in
+    subst (λ why. Gives (read_lines add nothing c.args.lines) (Err why)) (sym c.on.ensures)
+    (subst (λ (read : Result Draft ScriptFault). Gives {A = Draft} read (Err (refused_on line.number c.in-Err.refused))) whole refused)
