@@ -1,8 +1,8 @@
 -- Runs are legal, and known words are no usage fault.
 use Rattle.std.proofs.Common.{◌≡◌, ◌≢◌, ℕ, true, List, sym, subst}
 use Rattle.std.specs.Prelude.{IfOk, Result, Ok, Err}
-use Rattle.sb_wide.specs.declared.memory.NoMemory.{NoMemory}
-use Rattle.sb_call.specs.declared.scripts.Script.{Script}
+use Rattle.sb_items.specs.declared.memory.NoMemory.{NoMemory}
+use Rattle.sb_statements.specs.declared.scripts.Script.{Script}
 use Rattle.sb_rule.specs.declared.policies.Policy.{Policy}
 use Rattle.sb_book.specs.Histories.{setting_of, IsLegalHistory}
 use Rattle.sb_core.specs.Laws.{RunsAreLegal}

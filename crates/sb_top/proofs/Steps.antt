@@ -1,16 +1,15 @@
 -- Steps of reading, over files that tell what they hold and files that do not.
 use Rattle.std.proofs.Common.{◌≡◌, ◌≢◌, ◌∙◌, ℕ, ◌≤◌, Bool, true, false, if◌then◌else◌, List, length, Option, None, Some, refl, sym, ap, subst, lit≤}
 use Rattle.std.specs.Prelude.{nat_le, option_map, IfSome, IfOk, IfErr, Result, Ok, Err}
-use Rattle.sb_call.specs.declared.scripts.Script.{Script}
+use Rattle.sb_statements.specs.declared.scripts.Script.{Script}
 use Rattle.sb_core.specs.Single.{is_single_threaded}
 use Rattle.sb_outside.specs.Outside.{Held}
 use Rattle.sb_rule.specs.declared.policies.Policies.{Policies}
 use Rattle.sb_rule.specs.declared.policies.Policy.{Policy}
-use Rattle.sb_ruletext.specs.PolicyTexts.{reading}
-use Rattle.sb_ruletext.specs.Steps.{◌>>=◌}
-use Rattle.sb_ruletext.specs.declared.faults.TextFault.{TextFault}
+use Rattle.sb_ruletext.specs.PolicyTexts.{TextFault, reading}
 use Rattle.sb_script.specs.ScriptTexts as scripts
-use Rattle.sb_script.specs.declared.faults.ScriptFault.{ScriptFault}
+use Rattle.sb_script.specs.ScriptTexts.{ScriptFault}
+use Rattle.sb_text.specs.Steps.{◌>>=◌}
 use Rattle.sb_top.specs.Commands.{Command, Check, Replay, command_of}
 use Rattle.sb_top.specs.Outcomes.{IsCause, IsFile}
 use Rattle.sb_top.specs.Refusals.{IsRefused, IsTextRefused}

@@ -3,3 +3,4 @@ pub mod Commands
 pub mod Wanted
 pub mod Outcomes
 pub mod Refusals
+pub mod Exits

@@ -1,20 +1,19 @@
 -- What the words come to, where the files tell what they hold.
 use Rattle.std.specs.Prelude.{ℕ, ◌≤◌, nat_le, ⊤, List, ◌++◌, length, Option, None, Some, Result, Ok, Err, if◌then◌else◌}
 use Rattle.std.specs.List.{flat_map}
-use Rattle.sb_call.specs.declared.scripts.Script.{Script}
+use Rattle.sb_statements.specs.declared.scripts.Script.{Script}
 use Rattle.sb_compile.specs.Compiling.{program_of}
 use Rattle.sb_compile.specs.Listing.{listing_of}
 use Rattle.sb_rule.specs.declared.policies.Policy.{Policy}
-use Rattle.sb_ruletext.specs.PolicyTexts.{reading}
+use Rattle.sb_ruletext.specs.PolicyTexts.{TextFault, reading}
 use Rattle.sb_ruletext.specs.Printing.{printed}
-use Rattle.sb_ruletext.specs.Steps.{◌>>=◌}
-use Rattle.sb_ruletext.specs.declared.faults.TextFault.{TextFault}
 use Rattle.sb_core.specs.Runs.{ran}
 use Rattle.sb_core.specs.Single.{is_single_threaded}
 use Rattle.sb_core.specs.declared.runs.Ran.{Ran}
 use Rattle.sb_outside.specs.Outside.{Held}
 use Rattle.sb_script.specs.ScriptTexts as scripts
-use Rattle.sb_script.specs.declared.faults.ScriptFault.{ScriptFault}
+use Rattle.sb_script.specs.ScriptTexts.{ScriptFault}
+use Rattle.sb_text.specs.Steps.{◌>>=◌}
 use Rattle.sb_top.specs.Commands.{Command, Check, Replay, command_of}
 
 -- why nothing is done: the words are no command; file n is missing, or too long; the policies' text has this fault, or the script's

@@ -3,6 +3,7 @@
 
 mod command_line;
 mod commands;
+mod exits;
 mod outcomes;
 mod prepared;
 mod prints;
@@ -10,5 +11,6 @@ mod reading;
 mod shows;
 mod top;
 
+pub use exits::{Complaint, exit_code};
 pub use outcomes::{Outcome, Status};
 pub use top::plain_top;

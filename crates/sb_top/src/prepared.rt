@@ -3,8 +3,8 @@ ghost use Rattle.std.specs.Prelude.{◌≡◌, true};
 ghost use Rattle.sb_book.specs.Readiness.{is_ready};
 ghost use Rattle.sb_core.specs.Single.{is_single_threaded};
 
-use sb_call::Script;
 use sb_rule::Policies;
+use sb_statements::Script;
 
 /// Policies, and a script that can be run under them.
 #[derive(Debug, Drop)]

@@ -12,12 +12,12 @@ ghost use Rattle.sb_top.specs.Refusals.{IsRefusal, IsRefused, IsTextRefused, sta
 
 use crate::outcomes::Status;
 use crate::prepared::Prepared;
-use sb_call::Script;
 use sb_core::is_single_threaded;
 use sb_outside::{FileFault, Files};
 use sb_rule::Policies;
 use sb_ruletext::{TextRefused, read_policies};
 use sb_script::{ScriptRefused, placing_is_opening, read_script};
+use sb_statements::Script;
 use std::alloc::Global;
 
 /// A file may have so many bytes.
