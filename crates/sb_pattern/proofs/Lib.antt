@@ -1,3 +1,4 @@
+pub mod Leftmost
 pub mod Matches
 pub mod Rows
 pub mod Runs

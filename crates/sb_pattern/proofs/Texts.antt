@@ -75,6 +75,10 @@ pattern_read cells h =
     let short : ltb 256 (length (text_of cells)) ≡ false = grind (arith, nat_tests, p.0) in
     λ i. unless (cond (short i) (Some TooLong) (spelling_faultless cells 0 p.1 i)) (spelling_read cells p.1 i)
 
+-- the text of a pattern is read back
+pub text_read : (cells : List Cell) (text : List ℕ) → is_pattern cells ≡ true → text ≡ text_of cells → reading text ≡ Ok cells
+text_read cells text h e = ap reading e ∙ pattern_read cells h
+
 pub patterns_are_read : PatternsAreRead
 patterns_are_read cells = (pattern_read cells, reading_gives_patterns (text_of cells) cells)
 

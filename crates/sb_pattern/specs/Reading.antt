@@ -1,5 +1,5 @@
 -- The text of a pattern.
-use Rattle.std.specs.Prelude.{◌≡◌, ◌↔◌, ◌+◌, ◌&&◌, ◌==◌, ℕ, Bool, true, false, not, nat_le, nat_lt, List, [], ◌∷◌, length, Option, None, Some, Result, Ok, Err, if◌then◌else◌, ⊤}
+use Rattle.std.specs.Prelude.{◌≡◌, ◌↔◌, ◌+◌, ◌&&◌, ◌||◌, ◌==◌, ◌≤◌, ◌<◌, ℕ, Bool, true, false, not, nat_le, nat_lt, List, [], ◌∷◌, length, drop, Option, None, Some, Result, Ok, Err, if◌then◌else◌, ⊤}
 use Rattle.std.specs.List.{flat_map}
 use Rattle.sb_pattern.specs.Limits.{most_units}
 use Rattle.sb_pattern.specs.declared.cells.Cell.{Cell}
@@ -101,3 +101,35 @@ TextsComeBack = (text : List ℕ) (cells : List Cell) → reading text ≡ Ok ce
 -- what was read is a pattern
 abbrev pub ReadingGivesPatterns : Type 0
 ReadingGivesPatterns = (text : List ℕ) (cells : List Cell) → reading text ≡ Ok cells → is_pattern cells ≡ true
+
+-- the units begin with a `*` that is followed by this unit
+abbrev pub begins_with_star_before : ℕ → List ℕ → Bool
+begins_with_star_before unit [] = false
+begins_with_star_before unit (u ∷ us) = u == 42 && begins unit us
+
+-- a `*` stands at this place, and this unit after it
+abbrev pub is_star_before : ℕ → List ℕ → ℕ → Bool
+is_star_before unit text place = begins_with_star_before unit (drop place text)
+
+-- a `*` stands at this place, and `*` or `?` after it
+abbrev pub is_bad_star : List ℕ → ℕ → Bool
+is_bad_star text place = is_star_before 42 text place || is_star_before 63 text place
+
+-- no bad star stands before this place
+abbrev pub HasNoneBefore : List ℕ → ℕ → Type 0
+HasNoneBefore text place = (before : ℕ) → before < place → is_bad_star text before ≡ false
+
+-- a text is too long; or it is not, this star is the leftmost bad one, and `*` or `?` stands after it
+abbrev pub IsFaultOf : List ℕ → PatternFault → Type 0
+IsFaultOf text TooLong = most_units < length text
+IsFaultOf text (DoubleStar place) = (length text ≤ most_units) × (is_star_before 42 text place ≡ true) × HasNoneBefore text place
+IsFaultOf text (StarQuestion place) = (length text ≤ most_units) × (is_star_before 63 text place ≡ true) × HasNoneBefore text place
+
+-- the fault of a text is too many units, and else its leftmost bad star
+abbrev pub FaultsAreLeftmost : Type 0
+FaultsAreLeftmost = (text : List ℕ) (fault : PatternFault) → (reading text ≡ Err fault) ↔ IsFaultOf text fault
+
+-- a text is a pattern exactly where it has at most 256 units and no bad star
+abbrev pub FaultlessTextsAreRead : Type 0
+FaultlessTextsAreRead = (text : List ℕ)
+    → (reading text ≡ Ok (cells_of text)) ↔ ((length text ≤ most_units) × ((place : ℕ) → is_bad_star text place ≡ false))

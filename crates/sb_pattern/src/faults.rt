@@ -1,4 +1,7 @@
 // Why a text is no pattern.
+ghost use Rattle.std.specs.Prelude.{◌≡◌};
+ghost use Rattle.sb_pattern.specs.Faults.{fault_number};
+
 use sb_wide::NoMemory;
 use thiserror::Error;
 
@@ -14,6 +17,19 @@ pub enum PatternFault {
     /// The text has more than 256 units.
     #[error("more than 256 units")]
     TooLong,
+}
+
+impl PatternFault {
+    /// The number of the fault, from 1 to 3.
+    pub fn number(self) -> u64
+        ensures { result ≡ fault_number self }
+    {
+        match self {
+            PatternFault::DoubleStar(_) => 1,
+            PatternFault::StarQuestion(_) => 2,
+            PatternFault::TooLong => 3,
+        }
+    }
 }
 
 /// Why there is no pattern of a text.

@@ -1,7 +1,7 @@
 // Laws of patterns. None of these functions does anything: each contract is a law.
 ghost use Rattle.sb_pattern.specs.Chunks.{ChunksAreTheRuns};
 ghost use Rattle.sb_pattern.specs.Matching.{LiteralsMatchTheSame, StarMatchesAll, MatchingFoldsTheString, MatchingFoldsTheLiterals};
-ghost use Rattle.sb_pattern.specs.Reading.{TextsComeBack, PatternsAreRead, ReadingGivesPatterns};
+ghost use Rattle.sb_pattern.specs.Reading.{FaultsAreLeftmost, FaultlessTextsAreRead, TextsComeBack, PatternsAreRead, ReadingGivesPatterns};
 
 /// The text of what was read is the text that was read, what was read is a pattern, and cells are a pattern exactly where
 /// their text is read as they are.
@@ -9,6 +9,14 @@ pub fn texts_and_patterns()
     ensures texts { TextsComeBack }
     ensures read { ReadingGivesPatterns }
     ensures patterns { PatternsAreRead }
+{}
+
+/// A text is a pattern exactly where it has at most 256 units and no `*` before `*` or `?`. The fault of any other text is too
+/// many units, and else the leftmost such `*`: a fault is reported at a place exactly where such a `*` is there and none
+/// before it.
+pub fn faults_are_leftmost()
+    ensures fault { FaultsAreLeftmost }
+    ensures none { FaultlessTextsAreRead }
 {}
 
 /// A pattern without `*` and `?` matches exactly the strings that are the same as its literals.

@@ -1,5 +1,5 @@
 // Patterns: read from a text, written as one, and matched.
-ghost use Rattle.std.specs.Prelude.{◌≡◌, ◌≤◌, length, true, IfOk};
+ghost use Rattle.std.specs.Prelude.{◌≡◌, ◌≤◌, length, true, IfOk, Ok};
 ghost use Rattle.sb_pattern.specs.Chunks.{chunks_of};
 ghost use Rattle.sb_pattern.specs.Matching.{matches};
 ghost use Rattle.sb_pattern.specs.Reading.{reading, text_of, is_pattern, IsReading};
@@ -8,7 +8,7 @@ use crate::cells::Cell;
 use crate::chunks::{Chunks, chunks_of};
 use crate::faults::PatternRefused;
 use crate::matching::matches;
-use crate::reading::{cells_of, fault_of};
+use crate::reading::{cells_of, fault_of, units_of};
 use sb_items::{Copies, NoMemory};
 use sb_wide::Wide;
 use std::alloc::Global;
@@ -39,7 +39,7 @@ impl Pattern {
     ///
     /// # Errors
     /// `TooLong` exactly where the text has more than 256 units. Otherwise `DoubleStar` or `StarQuestion` exactly where
-    /// a `*` is followed by `*` or by `?`, with the index of the leftmost such star. `NoMemory` where there was none for
+    /// a `*` is followed by `*` or by `?`, with the index of the leftmost such star. `NoMemory` if there is none for
     /// the cells.
     pub fn read(alloc: Global, text: &[u16]) -> Result<Pattern, PatternRefused>
         ensures { IsReading (reading text.now) result }
@@ -51,22 +51,17 @@ impl Pattern {
         Ok(Pattern { cells })
     }
 
+    #[tactic(auto, using(crate::proofs::Texts::text_read))]
     /// The text of the pattern, which is read as this pattern. For a pattern that was read it is the text that was read.
     ///
     /// # Errors
-    /// `NoMemory` where there was none for the text.
+    /// `NoMemory` if there is none for the text.
     pub fn text(&self, alloc: Global) -> Result<Wide, NoMemory>
-        ensures { IfOk result (λ text. text ≡ text_of self.now) }
+        ensures text { IfOk result (λ text. text ≡ text_of self.now) }
+        ensures read { IfOk result (λ text. reading text ≡ Ok self.now) }
     {
-        let mut units = Vec::new(alloc);
-        for cell in &self.cells {
-            match cell {
-                Cell::Lit(63) => units.extend_from_slice(&[47, 63])?,
-                Cell::Lit(unit) => units.push(*unit)?,
-                Cell::One => units.push(63)?,
-                Cell::Any => units.push(42)?,
-            }
-        }
+        let cells = self.cells();
+        let units = units_of(alloc, cells)?;
         Ok(Wide::new(units))
     }
 
@@ -83,7 +78,7 @@ impl Pattern {
     /// The runs of cells between the stars, the first and the last run included, also where they are empty.
     ///
     /// # Errors
-    /// `NoMemory` where there was none for the list.
+    /// `NoMemory` if there is none for the list.
     pub fn chunks(&self, alloc: Global) -> Result<Chunks, NoMemory>
         ensures { IfOk result (λ chunks. chunks ≡ chunks_of self.now) }
     {

@@ -1,6 +1,6 @@
 // The cells of a text, and what makes a text no pattern.
 ghost use Rattle.std.specs.Prelude.{◌≡◌, ◌<◌, ◌≤◌, ◌∷◌, [], length, IfOk, MatchOption};
-ghost use Rattle.sb_pattern.specs.Reading.{cells_of, fault_of, star_fault};
+ghost use Rattle.sb_pattern.specs.Reading.{cells_of, fault_of, star_fault, text_of};
 
 use crate::cells::Cell;
 use crate::faults::PatternFault;
@@ -69,4 +69,20 @@ pub(crate) fn cells_of(alloc: Global, text: &[u16]) -> Result<Vec<Cell>, NoMemor
         rest = after;
     }
     Ok(cells)
+}
+
+// The text of the cells.
+pub(crate) fn units_of(alloc: Global, cells: &[Cell]) -> Result<Vec<u16>, NoMemory>
+    ensures { IfOk result (λ units. units.items ≡ text_of cells.now) }
+{
+    let mut units = Vec::new(alloc);
+    for cell in cells {
+        match cell {
+            Cell::Lit(63) => units.extend_from_slice(&[47, 63])?,
+            Cell::Lit(unit) => units.push(*unit)?,
+            Cell::One => units.push(63)?,
+            Cell::Any => units.push(42)?,
+        }
+    }
+    Ok(units)
 }

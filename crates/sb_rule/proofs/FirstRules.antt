@@ -1,12 +1,13 @@
 -- The first rule that holds.
 use Rattle.std.specs.List.{list_all}
-use Rattle.std.proofs.Common.{◌≡◌, ◌∙◌, Bool, true, false, cond, List, [], ◌∷◌, ◌++◌, ◌||◌, ◌&&◌, eqb, refl, ap, sym}
+use Rattle.std.proofs.Common.{◌≡◌, ◌∙◌, ℕ, Bool, true, false, cond, List, [], ◌∷◌, ◌++◌, ◌||◌, ◌&&◌, eqb, refl, ap, sym}
 use Rattle.std.proofs.lemmas.Bool.{false≢true}
 use Rattle.std.proofs.lemmas.Bool.Decides.{Decides-eqb}
 use Rattle.sb_call.specs.Tags.{number_of}
 use Rattle.sb_call.specs.declared.arguments.Arg.{Arg}
 use Rattle.sb_call.specs.declared.tags.CallTag.{CallTag}
-use Rattle.sb_rule.specs.Verdicts.{cond_holds, rule_holds, verdict_by_rule, verdict_by, some_rule_holds, FirstRuleDecides, NoRuleWhereNoneHolds, RulesWithoutConditionsDecide, AppendingKeepsVerdicts}
+use Rattle.sb_rule.specs.Verdicts.{cond_holds, rule_holds, verdict_by_rule, verdict_by, some_rule_holds, FirstRuleDecides, IsFirstThatHolds, DecidingRuleIsFirst, NoRuleWhereNoneHolds, RulesWithoutConditionsDecide, AppendingKeepsVerdicts}
+use Rattle.sb_rule.specs.declared.actions.Action.{Action}
 use Rattle.sb_rule.specs.declared.policies.Rule.{Rule}
 use Rattle.sb_rule.specs.declared.verdicts.Verdict.{Verdict}
 use Rattle.sb_rule.specs.declared.verdicts.Verdict.TheVariants as verdict
@@ -24,6 +25,56 @@ first_rule_decides (r ∷ before) rule after tag args none holds =
 abbrev is_rule : Verdict → Bool
 is_rule (verdict.Rule line action) = true
 is_rule verdict.NoRule = false
+
+-- the line and the action of a verdict, and stand-ins where it is none
+abbrev line_in : Verdict → ℕ
+line_in (verdict.Rule line action) = line
+line_in verdict.NoRule = 0
+
+abbrev action_in : Action → Verdict → Action
+action_in other (verdict.Rule line action) = action
+action_in other verdict.NoRule = other
+
+abbrev Decider : List Rule → CallTag → List Arg → ℕ → Action → Type 0
+Decider rules tag args line action = (rule : Rule) × IsFirstThatHolds rules tag args rule × (rule.line ≡ line) × (rule.action ≡ action)
+
+-- the first of rules, where it holds
+decided_here : (rule : Rule) (rules : List Rule) (tag : CallTag) (args : List Arg) (line : ℕ) (action : Action) → rule_holds rule tag args ≡ true
+    → verdict_by_rule rule ≡ verdict.Rule line action → Decider (rule ∷ rules) tag args line action
+decided_here rule rules tag args line action holds e = (
+  rule,
+  record { before = []; after = rules; parts = refl; none_before = refl; holds = holds },
+  ap line_in e,
+  ap (action_in action) e,
+)
+
+-- and one after it, where it does not
+decided_later : (rule : Rule) (rules : List Rule) (tag : CallTag) (args : List Arg) (line : ℕ) (action : Action) → rule_holds rule tag args ≡ false
+    → Decider rules tag args line action → Decider (rule ∷ rules) tag args line action
+decided_later rule rules tag args line action fails d =
+    let first = d.1 in (
+      d.0,
+      record {
+        before = rule ∷ first.before;
+        after = first.after;
+        parts = ap (λ l. rule ∷ l) first.parts;
+        none_before = λ i. fails i || first.none_before i;
+        holds = first.holds;
+      },
+      d.2,
+      d.3,
+    )
+
+decided_step : (rule : Rule) (rules : List Rule) (tag : CallTag) (args : List Arg) (line : ℕ) (action : Action) (holds : Bool)
+    → rule_holds rule tag args ≡ holds → (verdict_by rules tag args ≡ verdict.Rule line action → Decider rules tag args line action)
+    → cond holds (verdict_by_rule rule) (verdict_by rules tag args) ≡ verdict.Rule line action → Decider (rule ∷ rules) tag args line action
+decided_step rule rules tag args line action true h later e = decided_here rule rules tag args line action h e
+decided_step rule rules tag args line action false h later e = decided_later rule rules tag args line action h (later e)
+
+pub deciding_rule_is_first : DecidingRuleIsFirst
+deciding_rule_is_first [] tag args line action e = absurd (false≢true (ap is_rule e))
+deciding_rule_is_first (rule ∷ rules) tag args line action e =
+    decided_step rule rules tag args line action (rule_holds rule tag args) refl (deciding_rule_is_first rules tag args line action) e
 
 none_step : (rule : Rule) (b s : Bool) (v : Verdict) → (v ≡ verdict.NoRule → s ≡ false) → cond b (verdict_by_rule rule) v ≡ verdict.NoRule → (b || s) ≡ false
 none_step rule true s v h e = ap is_rule e

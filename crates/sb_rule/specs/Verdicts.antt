@@ -8,6 +8,7 @@ use Rattle.sb_call.specs.declared.arguments.Arg.{Arg}
 use Rattle.sb_call.specs.declared.arguments.Arg.TheVariants as arg
 use Rattle.sb_call.specs.declared.tags.CallTag.{CallTag}
 use Rattle.sb_pattern.specs.Matching.{matches}
+use Rattle.sb_rule.specs.declared.actions.Action.{Action}
 use Rattle.sb_rule.specs.declared.conditions.Cond.{Cond}
 use Rattle.sb_rule.specs.declared.conditions.Test.{Test}
 use Rattle.sb_rule.specs.declared.conditions.Test.TheVariants.{OneOf, Range, Mask, Equal, Like}
@@ -16,28 +17,16 @@ use Rattle.sb_rule.specs.declared.policies.Rule.{Rule}
 use Rattle.sb_rule.specs.declared.verdicts.Verdict.{Verdict}
 use Rattle.sb_rule.specs.declared.verdicts.Verdict.TheVariants as verdict
 
--- a number is one of a list, lies in a range, or has a bit of a mask
-abbrev pub number_passes : Test → ℕ → Bool
-number_passes (OneOf numbers) value = list_any (λ n. n == value) numbers
-number_passes (Range lo hi) value = nat_le lo value && nat_le value hi
-number_passes (Mask mask) value = not (bit_and value mask == 0)
-number_passes (Equal text) value = false
-number_passes (Like pattern) value = false
-
--- a string is the same as another, or a pattern matches it
-abbrev pub text_passes : Test → List ℕ → Bool
-text_passes (Equal text) units = is_same units text
-text_passes (Like pattern) units = matches pattern units
-text_passes (OneOf numbers) units = false
-text_passes (Range lo hi) units = false
-text_passes (Mask mask) units = false
-
--- a test holds of an argument
+-- a number is one of a list, lies in a range or has a bit of a mask; a string is the same as another, or a pattern matches it
 abbrev pub test_holds : Test → Arg → Bool
-test_holds test (arg.Num value) = number_passes test value
-test_holds test (arg.Str units) = text_passes test units
+test_holds (OneOf numbers) (arg.Num value) = list_any (λ n. n == value) numbers
+test_holds (Range lo hi) (arg.Num value) = nat_le lo value && nat_le value hi
+test_holds (Mask mask) (arg.Num value) = not (bit_and value mask == 0)
+test_holds (Equal text) (arg.Str units) = is_same units text
+test_holds (Like pattern) (arg.Str units) = matches pattern units
+test_holds _ _ = false
 
--- a condition holds where its test does, and a negated one where its test does not
+-- a condition holds where its test does; a negated one holds where its test does not
 abbrev pub cond_holds : Cond → List Arg → Bool
 cond_holds cond args =
     if cond.negated then not (test_holds cond.test (arg_at args cond.param)) else test_holds cond.test (arg_at args cond.param)
@@ -72,6 +61,20 @@ abbrev pub FirstRuleDecides : Type 0
 FirstRuleDecides = (before : List Rule) (rule : Rule) (after : List Rule) (tag : CallTag) (args : List Arg)
     → some_rule_holds before tag args ≡ false → rule_holds rule tag args ≡ true
     → verdict_by (before ++ rule ∷ after) tag args ≡ verdict_by_rule rule
+
+-- the rules are those before this one, it, and those after it; none before it holds, and it holds
+pub record IsFirstThatHolds (rules : List Rule) (tag : CallTag) (args : List Arg) (rule : Rule) : Type 0 where
+  pub before : List Rule
+  pub after : List Rule
+  pub parts : rules ≡ before ++ rule ∷ after
+  pub none_before : some_rule_holds before tag args ≡ false
+  pub holds : rule_holds rule tag args ≡ true
+
+-- where a rule decides, it is the first of the rules that holds, and line and action are its own
+abbrev pub DecidingRuleIsFirst : Type 0
+DecidingRuleIsFirst = (rules : List Rule) (tag : CallTag) (args : List Arg) (line : ℕ) (action : Action)
+    → verdict_by rules tag args ≡ verdict.Rule line action
+    → (rule : Rule) × IsFirstThatHolds rules tag args rule × (rule.line ≡ line) × (rule.action ≡ action)
 
 -- there is no rule exactly where no rule holds
 abbrev pub NoRuleWhereNoneHolds : Type 0

@@ -1,9 +1,9 @@
 -- Which policies are well made.
-use Rattle.std.specs.Prelude.{◌≡◌, ◌||◌, ℕ, Bool, true, false, not, ◌&&◌, ◌==◌, nat_eq, nat_le, nat_lt, List, [], ◌∷◌, length}
+use Rattle.std.specs.Prelude.{◌≡◌, ◌||◌, ℕ, Bool, true, false, not, ◌&&◌, ◌==◌, nat_eq, nat_le, nat_lt, if◌then◌else◌, List, [], ◌∷◌, length}
 use Rattle.std.specs.Bool.{beq}
 use Rattle.std.specs.List.{list_all, list_any}
 use Rattle.std.specs.Cmp.Lexicographic.{pointwise}
-use Rattle.sb_wide.specs.Wide.{utf16_of}
+use Rattle.sb_wide.specs.Wide.{is_unit, utf16_of}
 use Rattle.sb_call.specs.Arguments.{kind_at}
 use Rattle.sb_call.specs.Tags.{shape_of}
 use Rattle.sb_call.specs.declared.tags.CallTag.{CallTag}
@@ -31,10 +31,15 @@ is_high u = nat_le 0xD800 u && nat_le u 0xDBFF
 abbrev pub is_low : ℕ → Bool
 is_low u = nat_le 0xDC00 u && nat_le u 0xDFFF
 
--- second halves stand exactly where a first half stands before them; the test tells whether one stands before the list
-abbrev pub is_paired : Bool → List ℕ → Bool
-is_paired after_high [] = not after_high
-is_paired after_high (u ∷ us) = beq (is_low u) after_high && is_paired (is_high u) us
+-- either half
+abbrev pub is_surrogate : ℕ → Bool
+is_surrogate u = is_high u || is_low u
+
+-- no surrogate stands alone: the two halves of a pair stand side by side, and any other unit is no surrogate
+abbrev pub is_paired : List ℕ → Bool
+is_paired [] = true
+is_paired (u ∷ []) = not (is_surrogate u)
+is_paired (u ∷ v ∷ us) = if is_high u && is_low v then is_paired us else not (is_surrogate u) && is_paired (v ∷ us)
 
 -- neither a control unit nor `"`
 abbrev pub is_text_unit : ℕ → Bool
@@ -42,7 +47,7 @@ is_text_unit u = nat_le 32 u && not (u == 34)
 
 -- a string that can stand between quotes: at most 256 units, all of them text, and no surrogate alone
 abbrev pub is_policy_text : List ℕ → Bool
-is_policy_text us = nat_le (length us) most_units && list_all is_text_unit us && is_paired false us
+is_policy_text us = nat_le (length us) most_units && list_all is_text_unit us && is_paired us
 
 -- cells that can stand between quotes: a pattern whose text can
 abbrev pub is_like_text : List Cell → Bool
@@ -117,4 +122,9 @@ is_character c = nat_lt c 0xD800 || (nat_le 0xE000 c && nat_lt c 0x11_0000)
 
 -- the units of characters have no surrogate alone
 abbrev pub CharactersArePaired : Type 0
-CharactersArePaired = (cs : List ℕ) → list_all is_character cs ≡ true → is_paired false (utf16_of cs) ≡ true
+CharactersArePaired = (cs : List ℕ) → list_all is_character cs ≡ true → is_paired (utf16_of cs) ≡ true
+
+-- units without a surrogate alone are those of characters
+abbrev pub PairedUnitsAreCharacters : Type 0
+PairedUnitsAreCharacters = (us : List ℕ) → list_all is_unit us ≡ true → is_paired us ≡ true
+    → (cs : List ℕ) × (list_all is_character cs ≡ true) × (utf16_of cs ≡ us)

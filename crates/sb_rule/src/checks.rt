@@ -4,6 +4,7 @@ ghost use Rattle.std.specs.List.{list_any, list_all};
 ghost use Rattle.std.specs.Cmp.Lexicographic.{pointwise};
 ghost use Rattle.sb_call.specs.Arguments.{kind_at};
 ghost use Rattle.sb_pattern.specs.Reading.{text_of};
+ghost use Rattle.sb_rule.specs.Pairs.{is_paired_after};
 ghost use Rattle.sb_rule.specs.WellMade.{is_high, is_low, is_paired, is_text_unit, is_policy_text, is_like_text, is_number_test, is_number_kind, is_sensible, is_well_formed, is_for_readers, is_well_made_rule, is_well_made, are_named_apart, are_well_made, is_named, last_unit};
 
 use crate::actions::Action;
@@ -31,8 +32,8 @@ fn is_text_unit(unit: u16) -> bool
     unit >= 32 && unit != 34
 }
 
-fn is_paired(units: &[u16]) -> bool
-    ensures { result ≡ is_paired false units.now }
+fn units_are_paired(units: &[u16]) -> bool
+    ensures { result ≡ is_paired_after false units.now }
 {
     let mut after_high = false;
     for unit in units {
@@ -42,6 +43,13 @@ fn is_paired(units: &[u16]) -> bool
         after_high = is_high(*unit);
     }
     !after_high
+}
+
+#[tactic(auto, using(crate::proofs::Pairs::paired_after))]
+fn is_paired(units: &[u16]) -> bool
+    ensures { result ≡ is_paired units.now }
+{
+    units_are_paired(units)
 }
 
 fn are_text_units(units: &[u16]) -> bool
@@ -67,8 +75,8 @@ fn last_unit(cell: Cell) -> u16
     }
 }
 
-fn are_paired_cells(cells: &[Cell]) -> bool
-    ensures { result ≡ is_paired false (text_of cells.now) }
+fn cells_are_paired(cells: &[Cell]) -> bool
+    ensures { result ≡ is_paired_after false (text_of cells.now) }
 {
     let mut after_high = false;
     for cell in cells {
@@ -79,6 +87,13 @@ fn are_paired_cells(cells: &[Cell]) -> bool
         after_high = is_high(unit);
     }
     !after_high
+}
+
+#[tactic(auto, using(crate::proofs::Pairs::paired_after))]
+fn are_paired_cells(cells: &[Cell]) -> bool
+    ensures { result ≡ is_paired (text_of cells.now) }
+{
+    cells_are_paired(cells)
 }
 
 fn are_text_cells(cells: &[Cell]) -> bool

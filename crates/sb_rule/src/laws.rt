@@ -1,10 +1,12 @@
 // Laws of verdicts and the strings of policies. None of these functions does anything: each contract is a law.
-ghost use Rattle.sb_rule.specs.Verdicts.{FirstRuleDecides, NoRuleWhereNoneHolds, RulesWithoutConditionsDecide, AppendingKeepsVerdicts};
-ghost use Rattle.sb_rule.specs.WellMade.{CharactersArePaired};
+ghost use Rattle.sb_rule.specs.Verdicts.{FirstRuleDecides, DecidingRuleIsFirst, NoRuleWhereNoneHolds, RulesWithoutConditionsDecide, AppendingKeepsVerdicts};
+ghost use Rattle.sb_rule.specs.WellMade.{CharactersArePaired, PairedUnitsAreCharacters};
 
-/// A rule that holds decides where no rule before it holds.
+/// A rule that holds decides where no rule before it holds; and where a verdict is a rule, one of the rules is the first that
+/// holds, and line and action are its own.
 pub fn first_rule_decides()
-    ensures { FirstRuleDecides }
+    ensures first { FirstRuleDecides }
+    ensures deciding { DecidingRuleIsFirst }
 {}
 
 /// There is no rule exactly where no rule holds.
@@ -22,7 +24,8 @@ pub fn appending_keeps_verdicts()
     ensures { AppendingKeepsVerdicts }
 {}
 
-/// The units of characters have no surrogate alone.
+/// The units of characters have no surrogate alone, and units without a surrogate alone are those of characters.
 pub fn characters_are_paired()
-    ensures { CharactersArePaired }
+    ensures characters { CharactersArePaired }
+    ensures units { PairedUnitsAreCharacters }
 {}

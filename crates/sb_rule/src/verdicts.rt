@@ -2,7 +2,7 @@
 ghost use Rattle.std.specs.Prelude.{◌≡◌, ◌==◌};
 ghost use Rattle.std.specs.List.{list_any, list_all};
 ghost use Rattle.sb_call.specs.Arguments.{arg_at};
-ghost use Rattle.sb_rule.specs.Verdicts.{number_passes, text_passes, test_holds, cond_holds, rule_holds, verdict_by, verdict_of};
+ghost use Rattle.sb_rule.specs.Verdicts.{test_holds, cond_holds, rule_holds, verdict_by, verdict_of};
 
 use crate::actions::Action;
 use crate::conditions::{Cond, Test};
@@ -25,33 +25,16 @@ fn is_one_of(numbers: &[u64], value: u64) -> bool
     numbers.iter().any(|number| *number == value)
 }
 
-fn number_passes(test: &Test, value: u64) -> bool
-    ensures { result ≡ number_passes test.now value }
-{
-    match test {
-        Test::OneOf(numbers) => is_one_of(numbers.as_slice(), value),
-        Test::Range { lo, hi } => *lo <= value && value <= *hi,
-        Test::Mask(mask) => value & *mask != 0,
-        Test::Equal(_) | Test::Like(_) => false,
-    }
-}
-
-fn text_passes(test: &Test, units: &[u16]) -> bool
-    ensures { result ≡ text_passes test.now units.now }
-{
-    match test {
-        Test::Equal(text) => same(units, text.as_units()),
-        Test::Like(pattern) => pattern.matches_plain(units),
-        Test::OneOf(_) | Test::Range { .. } | Test::Mask(_) => false,
-    }
-}
-
 fn test_holds(test: &Test, arg: &Arg) -> bool
     ensures { result ≡ test_holds test.now arg.now }
 {
-    match arg {
-        Arg::Num(value) => number_passes(test, *value),
-        Arg::Str(text) => text_passes(test, text.as_units()),
+    match (test, arg) {
+        (Test::OneOf(numbers), Arg::Num(value)) => is_one_of(numbers.as_slice(), *value),
+        (Test::Range { lo, hi }, Arg::Num(value)) => *lo <= *value && *value <= *hi,
+        (Test::Mask(mask), Arg::Num(value)) => *value & *mask != 0,
+        (Test::Equal(text), Arg::Str(units)) => same(units.as_units(), text.as_units()),
+        (Test::Like(pattern), Arg::Str(units)) => pattern.matches_plain(units.as_units()),
+        _ => false,
     }
 }
 
@@ -61,7 +44,7 @@ fn param_passes(cond: &Cond, args: &[Arg]) -> bool
 {
     match args.get(cond.param as usize) {
         Some(arg) => test_holds(&cond.test, arg),
-        None => number_passes(&cond.test, 0),
+        None => test_holds(&cond.test, &Arg::Num(0)),
     }
 }
 

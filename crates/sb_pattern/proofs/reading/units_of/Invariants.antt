@@ -1,6 +1,6 @@
 use Rattle.std.proofs.Common.{◌≡◌, take}
 use Rattle.sb_pattern.specs.Reading.{text_of}
-use Rattle.sb_pattern.proofs.patterns.Pattern.text.Given as goal
+use Rattle.sb_pattern.proofs.reading.units_of.Given as goal
 
 abbrev pub invariant-loop-cell : goal.invariant-loop-cell
-invariant-loop-cell l = l.units.items ≡ text_of (take l.cell-index l.cell-items)
+invariant-loop-cell l = l.units.items ≡ text_of (take l.cell-index l.cells)
