@@ -9,8 +9,7 @@ use Rattle.sb_rule.specs.WellMade.{is_well_made_rule, is_well_made, are_well_mad
 use Rattle.sb_rule.specs.declared.policies.Policy.{Policy}
 use Rattle.sb_rule.specs.declared.policies.Rule.{Rule}
 use Rattle.sb_ruletext.proofs.Conjunctions.{both, and_true}
-use Rattle.sb_ruletext.specs.Drafts.{is_headed}
-use Rattle.sb_ruletext.specs.Lines.{with_last_rules, added, with_policy}
+use Rattle.sb_ruletext.specs.Lines.{with_last_rules, check_heading, with_policy}
 use Rattle.sb_text.specs.Steps.{◌>>=◌, Becomes}
 use Rattle.sb_text.specs.declared.refusals.Refused.{Refused}
 use Rattle.sb_ruletext.specs.declared.faults.TextKind.{TextKind}
@@ -42,11 +41,9 @@ last_rules (policy ∷ next ∷ before) last rules =
     ap (λ (others : Result (List Policy) TextKind). others >>= λ others. Ok (policy ∷ others)) (last_rules (next ∷ before) last rules)
     ∙ onto policy (nat_le (length last.rules + length rules) 256) (next ∷ before) (longer last rules)
 
-added_last : (before : List Policy) (last : Policy) (rules : List Rule)
-    → added (before ++ last ∷ []) (Ok rules)
-    ≡ cond (nat_le (length last.rules + length rules) 256) (Ok (before ++ longer last rules ∷ [])) (Err TooMany)
-added_last [] last rules = last_rules [] last rules
-added_last (policy ∷ before) last rules = last_rules (policy ∷ before) last rules
+-- the policies so far with the rules of a line
+abbrev pub added : List Policy → Result (List Rule) TextKind → Result (List Policy) TextKind
+added policies rules = check_heading policies >>= λ headed. rules >>= λ rules. with_last_rules policies rules
 
 -- a policy of this name with these rules
 abbrev pub policy_of : List ℕ → List Rule → Policy
@@ -54,17 +51,17 @@ policy_of name rules = record { name = name; rules = rules }
 
 -- there is room for the rules
 pub added_fits : (before : List Policy) (name : List ℕ) (old rules : List Rule) → length old + length rules ≤ 256
-    → added (before ++ record { name = name; rules = old } ∷ []) (Ok rules) ≡ Ok (before ++ record { name = name; rules = old ++ rules } ∷ [])
+    → with_last_rules (before ++ record { name = name; rules = old } ∷ []) rules ≡ Ok (before ++ record { name = name; rules = old ++ rules } ∷ [])
 added_fits before name old rules h =
     let t : nat_le (length old + length rules) 256 ≡ true = grind (arith, nat_tests) in
-    added_last before (policy_of name old) rules ∙ ap (λ b. cond b (Ok (before ++ policy_of name (old ++ rules) ∷ [])) (Err TooMany)) t
+    last_rules before (policy_of name old) rules ∙ ap (λ b. cond b (Ok (before ++ policy_of name (old ++ rules) ∷ [])) (Err TooMany)) t
 
 -- there is none
 pub added_too_many : (before : List Policy) (name : List ℕ) (old rules : List Rule) → 256 < length old + length rules
-    → added (before ++ record { name = name; rules = old } ∷ []) (Ok rules) ≡ Err TooMany
+    → with_last_rules (before ++ record { name = name; rules = old } ∷ []) rules ≡ Err TooMany
 added_too_many before name old rules h =
     let t : nat_le (length old + length rules) 256 ≡ false = grind (arith, nat_tests) in
-    added_last before (policy_of name old) rules ∙ ap (λ b. cond b (Ok (before ++ policy_of name (old ++ rules) ∷ [])) (Err TooMany)) t
+    last_rules before (policy_of name old) rules ∙ ap (λ b. cond b (Ok (before ++ policy_of name (old ++ rules) ∷ [])) (Err TooMany)) t
 
 or_false : (b : Bool) → (b || false) ≡ b
 or_false true = refl
@@ -144,6 +141,12 @@ well_made_more policies name h k l =
     and_true _ _ (and_true _ _ few (apart_with policies (policy_of name []) (both _ _ (both _ _ h).0).1 k))
     (list_all-append is_well_made policies (policy_of name [] ∷ []) ∙ and_true _ _ (both _ _ h).1 refl)
 
+-- there is room for one more policy behind the last
+pub room_more : (before : List Policy) (last : Policy) → nat_lt (length before) 7 ≡ nat_lt (length (before ++ last ∷ [])) 8
+room_more before last =
+    let shifted : nat_lt (length before) 7 ≡ nat_lt (length before + 1) 8 = grind (arith, nat_tests) in
+    shifted ∙ ap (λ n. nat_lt n 8) (sym (length-append before (last ∷ [])))
+
 chosen : (b : Bool) (policies new : List Policy) → cond b (Ok policies) (Err TooMany) ≡ Ok new → (b ≡ true) × (policies ≡ new)
 chosen true policies new h = (refl, search h)
 chosen false policies new h = search h
@@ -158,13 +161,7 @@ heading_well_made old new name (Ok done) h k n =
     subst (λ policies. are_well_made policies ≡ true) p.1 (well_made_more old name k n few)
 heading_well_made old new name (Err refused) h k n = tt
 
--- why the rules of a line are refused is why the line is
-pub added_refused : (policies : List Policy) (rules : Result (List Rule) TextKind) (kind : TextKind) → is_headed policies ≡ true
-    → rules ≡ Err kind → added policies rules ≡ Err kind
-added_refused [] rules kind h k = search h
-added_refused (policy ∷ policies) rules kind h k = rw (k) refl
-
--- no policy is there
-pub added_headless : (policies : List Policy) (rules : Result (List Rule) TextKind) → is_headed policies ≡ false → added policies rules ≡ Err NoHeading
-added_headless [] rules h = refl
-added_headless (policy ∷ policies) rules h = search h
+-- before the first heading there is no policy to which rules could be added
+pub added_nowhere : (rules : List Rule) → with_last_rules [] rules ≡ Err NoHeading
+unfolding with_last_rules
+added_nowhere rules = refl

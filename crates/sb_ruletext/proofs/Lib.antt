@@ -1,4 +1,3 @@
-pub mod Spaces
 pub mod PrintedStrings
 pub mod PrintedLines
 pub mod PrintedWords

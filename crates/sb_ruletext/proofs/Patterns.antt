@@ -11,7 +11,7 @@ use Rattle.sb_ruletext.proofs.Conjunctions.{and_true}
 
 -- text of at most 256 units
 pub short_text : (text : List ℕ) → nat_le (length text) 256 ≡ true
-    → (list_all is_text_unit text ≡ true) × (is_paired false text ≡ true) → is_policy_text text ≡ true
+    → (list_all is_text_unit text ≡ true) × (is_paired text ≡ true) → is_policy_text text ≡ true
 short_text text h k = and_true _ _ (and_true _ _ h k.0) k.1
 
 too_long : (b : Bool) (fault : Option PatternFault) (cells read : List Cell)
@@ -27,6 +27,6 @@ read_is_short text cells h =
 
 -- a pattern that was read from such a text
 pub read_like : TextsComeBack → ReadingGivesPatterns → (text : List ℕ) (cells : List Cell) → reading text ≡ Ok cells
-    → (list_all is_text_unit text ≡ true) × (is_paired false text ≡ true) → is_like_text cells ≡ true
+    → (list_all is_text_unit text ≡ true) × (is_paired text ≡ true) → is_like_text cells ≡ true
 read_like texts patterns text cells h k =
     and_true _ _ (patterns text cells h) (subst (λ us. is_policy_text us ≡ true) (sym (texts text cells h)) (short_text text (read_is_short text cells h) k))

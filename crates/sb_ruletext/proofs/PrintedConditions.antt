@@ -1,40 +1,35 @@
 -- The conditions that are printed are read as they were.
-use Rattle.std.proofs.Common.{◌≡◌, ◌∙◌, ℕ, zero, suc, ◌+◌, ◌^◌, ◌<◌, ◌≤◌, nat_lt, nat_le, Bool, true, false, not, cond, if◌then◌else◌, ◌&&◌, List, [], ◌∷◌, ◌++◌, None, Some, Option, Ok, Err, Result, length, ap, refl, sym, arith}
+use Rattle.std.proofs.Common.{◌≡◌, ◌∙◌, ℕ, zero, suc, ◌^◌, ◌<◌, ◌≤◌, nat_le, Bool, true, false, not, cond, if◌then◌else◌, List, [], ◌∷◌, ◌++◌, Ok, Err, length, ap, refl, sym, arith}
 use Rattle.std.specs.Bool.{beq}
 use Rattle.std.specs.List.{flat_map, list_all}
 use Rattle.std.specs.Prelude.{codes}
 use Rattle.std.proofs.lemmas.Bool.{false≢true}
 use Rattle.std.proofs.lemmas.Bool.Decides.{nat_tests}
-use Rattle.std.proofs.lemmas.List.{append_assoc}
-use Rattle.sb_call.specs.Arguments.{kind_at}
-use Rattle.sb_call.specs.Tags.{shape_of}
 use Rattle.sb_call.specs.declared.tags.CallTag.{CallTag}
 use Rattle.sb_call.specs.declared.tags.CallTag.TheVariants.{Ping, FileCreate, FileOpen, FileQuery, FileRename, PipeCreate, KeyCreate, KeyOpen, EventCreate, EventOpen, HandleClose}
 use Rattle.sb_pattern.specs.Reading.{text_of, reading, is_pattern}
 use Rattle.sb_pattern.specs.declared.cells.Cell.{Cell}
 use Rattle.sb_pattern.specs.declared.faults.PatternFault.TheVariants.{TooLong}
-use Rattle.sb_rule.specs.WellMade.{is_number_test, is_number_kind, is_sensible, is_well_formed, is_policy_text, is_like_text}
+use Rattle.sb_rule.specs.WellMade.{is_number_test, is_sensible, is_well_formed, is_policy_text, is_like_text}
 use Rattle.sb_rule.specs.declared.conditions.Cond.{Cond}
 use Rattle.sb_rule.specs.declared.conditions.Test.{Test}
 use Rattle.sb_rule.specs.declared.conditions.Test.TheVariants.{OneOf, Range, Mask, Equal, Like}
 use Rattle.sb_text.specs.NumberLaws.{HexadecimalsAreRead}
-use Rattle.sb_text.specs.Numbers.{number_of}
-use Rattle.sb_text.specs.Tokens.{Lexeme, Word, Quoted, Bad, string_of}
+use Rattle.sb_text.specs.Tokens.{Lexeme, Word}
 use Rattle.sb_wide.specs.Wide.{is_unit}
 use Rattle.sb_pattern.specs.Limits.{most_units}
-use Rattle.sb_rule.specs.Limits.{most_numbers}
-use Rattle.sb_ruletext.specs.Conditions.{number_at, numbers_at, range_of, range_at, string, cells, pattern, string_at, pattern_at, test_at, parameter_at, is_number_at, plain_condition_at, condition_at, conditions_of}
-use Rattle.sb_ruletext.specs.Printing.{number_word, range_word, utf8_of, or_tokens, numbers_tokens, test_tokens, not_tokens, parameter_word, cond_tokens, joined_tokens, conds_tokens}
-use Rattle.sb_ruletext.specs.PrintingLaws.{is_number, is_test_of_values}
+use Rattle.sb_ruletext.specs.Conditions.{number_at, string, cells, pattern, test_at, is_number_at, plain_condition_at, condition_at, conditions_of}
+use Rattle.sb_ruleprint.specs.Parameters.{parameter_word, parameter_words}
+use Rattle.sb_ruleprint.specs.Printing.{number_word, utf8_of, numbers_tokens, test_tokens, not_tokens, cond_tokens, joined_tokens}
+use Rattle.sb_ruleprint.specs.Values.{is_number, is_test_of_values}
 use Rattle.sb_ruletext.specs.Steps.{joined_at}
 use Rattle.sb_text.specs.Steps.{◌>>=◌, or_fault, Read, begins_with, later, end_at}
 use Rattle.sb_call.specs.CallWords.{is_word}
-use Rattle.sb_ruletext.specs.Words.{parameter_words, parameter_of}
 use Rattle.sb_ruletext.specs.declared.faults.TextKind.{TextKind}
 use Rattle.sb_ruletext.specs.declared.faults.TextKind.TheVariants.{UnknownWord, UnknownParam, BadNumber, BadPattern}
-use Rattle.sb_ruletext.proofs.Conjunctions.{both, and_true}
-use Rattle.sb_ruletext.proofs.PrintedStrings.{ComesBack, string_back}
-use Rattle.sb_ruletext.proofs.PrintedWords.{is_itself, not_true, parameter_back, apart_at, within, number_back, range_back}
+use Rattle.sb_ruletext.proofs.Conjunctions.{both}
+use Rattle.sb_ruletext.proofs.PrintedStrings.{string_back}
+use Rattle.sb_ruletext.proofs.PrintedWords.{parameter_back, apart_at, within, number_back, range_back}
 
 pub number_small : (n : ℕ) → is_number n ≡ true → n < 2 ^ 64
 number_small n h = grind (arith, nat_tests)

@@ -1,20 +1,20 @@
 -- Lines of plain tokens are read again, line by line and token by token.
-use Rattle.std.proofs.Common.{◌≡◌, ◌∙◌, ℕ, zero, suc, ◌+◌, ◌-◌, ◌<◌, ◌==◌, nat_lt, nat_le, Bool, true, false, not, cond, ◌&&◌, List, [], ◌∷◌, ◌++◌, None, Option, length, map, slice_index, ap, refl, sym, subst, arith}
+use Rattle.std.proofs.Common.{◌≡◌, ◌∙◌, ℕ, zero, suc, ◌+◌, ◌-◌, ◌<◌, ◌==◌, nat_le, Bool, true, false, not, cond, ◌&&◌, List, [], ◌∷◌, ◌++◌, length, map, slice_index, ap, refl, sym, arith}
 use Rattle.std.proofs.lemmas.Bool.{false≢true}
 use Rattle.std.proofs.lemmas.Bool.Decides.{nat_tests}
+use Rattle.std.proofs.lemmas.List.{append-nil}
 use Rattle.std.proofs.lemmas.List.Folds.{list_all-append}
 use Rattle.std.proofs.lemmas.Str.{IsUtf8-append, IsUtf8-nil, IsUtf8-from_ascii, IsUtf8-from_is_utf8}
 use Rattle.std.proofs.lemmas.Str.Ascii.{IsAscii-nil, IsAscii-cons}
 use Rattle.std.specs.List.{flat_map, list_all}
 use Rattle.std.specs.Str.{IsUtf8, IsAscii, is_utf8}
 use Rattle.sb_text.specs.LineLaws.{is_line_byte, is_line, ended, WrittenLinesAreRead}
-use Rattle.sb_text.specs.Lines.{NumberedLine, is_blank, is_skipped, has_cr, without_cr, raw_lines, lines_from, lines_of}
+use Rattle.sb_text.specs.Lines.{NumberedLine, is_blank, is_skipped, has_cr, without_cr, lines_from, lines_of}
 use Rattle.sb_text.specs.TokenLaws.{is_word_byte, is_quoted_byte, is_writable, written_token, written_line, WrittenTokensAreRead}
 use Rattle.sb_text.specs.Tokens.{Lexeme, Word, Quoted, Bad, tokens_of}
 use Rattle.sb_text.specs.Words.{is_some_word}
-use Rattle.sb_ruletext.specs.Printing.{spaced, line_text}
+use Rattle.sb_ruleprint.specs.Printing.{spaced, line_text}
 use Rattle.sb_ruletext.proofs.Conjunctions.{both, and_true}
-use Rattle.sb_ruletext.proofs.Spaces.{spaced_line}
 
 -- printable ASCII behind `#`
 abbrev pub is_plain_byte : ℕ → Bool
@@ -34,6 +34,11 @@ is_plain_line _ = false
 pub all_more : {A : Type 0} (p q : A → Bool) → ((x : A) → p x ≡ true → q x ≡ true) → (xs : List A) → list_all p xs ≡ true → list_all q xs ≡ true
 all_more p q f [] h = refl
 all_more p q f (x ∷ xs) h = and_true _ _ (f x (both _ _ h).0) (all_more p q f xs (both _ _ h).1)
+
+-- a line of tokens is its first token, and a space before each other
+spaced_line : (token : Lexeme) (more : List Lexeme) → written_line (token ∷ more) ≡ written_token token ++ spaced more
+spaced_line token [] = sym (append-nil (written_token token))
+spaced_line token (next ∷ more) = ap (λ rest. written_token token ++ 32 ∷ rest) (spaced_line next more)
 
 -- the tokens
 

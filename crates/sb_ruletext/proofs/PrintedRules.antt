@@ -1,8 +1,6 @@
 -- The lines of rules that are printed are read as these rules.
-use Rattle.std.proofs.Common.{◌≡◌, ◌∙◌, ℕ, zero, suc, ◌+◌, ◌<◌, ◌≤◌, nat_le, nat_lt, Bool, true, false, List, [], ◌∷◌, ◌++◌, Some, Option, Ok, Err, Result, length, map, ap, refl, sym, arith}
-use Rattle.std.specs.List.{flat_map, list_all}
-use Rattle.std.specs.Prelude.{codes, if◌then◌else◌}
-use Rattle.std.proofs.lemmas.Bool.{false≢true}
+use Rattle.std.proofs.Common.{◌≡◌, ◌∙◌, ℕ, suc, ◌+◌, ◌≤◌, nat_le, true, List, [], ◌∷◌, ◌++◌, Some, Ok, Err, Result, length, ap, refl, arith}
+use Rattle.std.specs.Prelude.{if◌then◌else◌}
 use Rattle.std.proofs.lemmas.Bool.Decides.{nat_tests}
 use Rattle.sb_call.specs.declared.tags.CallTag.{CallTag}
 use Rattle.sb_rule.specs.WellMade.{is_for_readers}
@@ -13,12 +11,12 @@ use Rattle.sb_rule.specs.declared.policies.Policy.{Policy}
 use Rattle.sb_rule.specs.declared.policies.Rule.{Rule}
 use Rattle.sb_text.specs.NumberLaws.{HexadecimalsAreRead}
 use Rattle.sb_text.specs.Tokens.{Lexeme, Word}
-use Rattle.sb_rule.specs.Limits.{most_conditions, most_rules}
-use Rattle.sb_ruletext.specs.Conditions.{conditions_of}
-use Rattle.sb_ruletext.specs.Lines.{check_action, when_of, rule, with_rules, with_last_rules, added, line_of}
-use Rattle.sb_ruletext.specs.Printing.{conds_tokens, rule_tokens}
+use Rattle.sb_rule.specs.Limits.{most_rules}
+use Rattle.sb_ruletext.proofs.Added.{added}
+use Rattle.sb_ruletext.specs.Lines.{check_action, when_of, rule, with_rules, with_last_rules, line_of}
+use Rattle.sb_ruleprint.specs.Printing.{conds_tokens, rule_tokens}
 use Rattle.sb_text.specs.Steps.{◌>>=◌, or_fault, Read}
-use Rattle.sb_call.specs.CallWords.{is_word, call_word, tag_of_word}
+use Rattle.sb_call.specs.CallWords.{call_word}
 use Rattle.sb_rule.specs.Actions.{action_word}
 use Rattle.sb_ruletext.specs.Words.{action_of}
 use Rattle.sb_ruletext.specs.declared.faults.TextKind.{TextKind}

@@ -1,22 +1,21 @@
 -- The string of the text that is printed between quotes is the string that was printed.
-use Rattle.std.proofs.Common.{◌≡◌, ◌∙◌, ℕ, ◌+◌, ◌-◌, ◌*◌, ◌<◌, ◌≤◌, Bool, true, false, ◌&&◌, List, [], ◌∷◌, ◌++◌, map, Some, Option, ap, refl, sym, subst, ⊎_elim, arith}
+use Rattle.std.proofs.Common.{◌≡◌, ◌∙◌, ℕ, ◌<◌, ◌≤◌, Bool, true, false, not, cond, ◌&&◌, ◌||◌, List, [], ◌∷◌, ◌++◌, map, Some, ap, refl, sym, ⊎_elim, arith}
 use Rattle.std.proofs.Math.Utf8.{scalar, scalars, encode, encodes}
 use Rattle.std.proofs.lemmas.Bool.{false≢true, cases_lt}
 use Rattle.std.proofs.lemmas.Bool.Decides.{nat_tests}
 use Rattle.std.proofs.lemmas.List.Folds.{list_all-append}
 use Rattle.std.proofs.lemmas.Str.{chars-encodes, encode_ascii, utf16_chars-nil, utf16_chars_lone, utf16_chars_pair}
 use Rattle.std.proofs.str.Utf16.{IsPair, one_unit, pair_units}
-use Rattle.std.specs.Bool.{beq}
 use Rattle.std.specs.Char.Escape.{encode_utf16}
 use Rattle.std.specs.Char.Utf16.{lone_unit_char, surrogate_pair_char, utf16_lossy_chars}
 use Rattle.std.specs.List.{list_all}
 use Rattle.std.specs.Option.{unwrap_or}
-use Rattle.std.specs.Str.{IsUtf8, chars}
-use Rattle.sb_rule.specs.WellMade.{is_high, is_low, is_paired, is_text_unit, is_policy_text}
+use Rattle.std.specs.Str.{IsUtf8}
+use Rattle.sb_rule.specs.WellMade.{is_high, is_low, is_surrogate, is_paired, is_text_unit, is_policy_text}
 use Rattle.sb_text.specs.TokenLaws.{is_quoted_byte}
 use Rattle.sb_text.specs.Tokens.{string_of}
 use Rattle.sb_wide.specs.Wide.{is_unit, utf16_of}
-use Rattle.sb_ruletext.specs.Printing.{utf8_of}
+use Rattle.sb_ruleprint.specs.Printing.{utf8_of}
 use Rattle.sb_ruletext.proofs.Conjunctions.{both, and_true}
 
 -- a unit alone
@@ -43,9 +42,6 @@ pair_high u v p = omega arith
 
 pair_encodes : (u v : ℕ) → IsPair u v → encode_utf16 (surrogate_pair_char u v) ≡ u ∷ v ∷ []
 pair_encodes u v p = ap encode_utf16 {x = surrogate_pair_char u v} (omega arith) ∙ pair_units u v p.0 p.2 p.3
-
-low_not_high : (v : ℕ) → is_low v ≡ true → is_high v ≡ false
-low_not_high v h = grind (arith, nat_tests)
 
 -- the bytes of a character
 
@@ -82,14 +78,6 @@ lone_lossy u us h l =
 pair_lossy : (u v : ℕ) (us : List ℕ) → IsPair u v → utf16_lossy_chars (u ∷ v ∷ us) ≡ surrogate_pair_char u v ∷ utf16_lossy_chars us
 pair_lossy u v us p = ap (map (λ o. unwrap_or o 0xFFFD)) (utf16_chars_pair u v us p)
 
-not_low : (t : Bool) → beq t false ≡ true → t ≡ false
-not_low false h = refl
-not_low true h = sym h
-
-low : (t : Bool) → beq t true ≡ true → t ≡ true
-low false h = h
-low true h = refl
-
 unit_small : (u : ℕ) → is_unit u ≡ true → u < 65536
 unit_small u h = grind (arith, nat_tests)
 
@@ -110,23 +98,36 @@ spells_none =
     let none = ap (map (λ o. unwrap_or o 0xFFFD)) utf16_chars-nil in
     record { units = ap utf16_of none; scalar = ap scalars none; quoted = ap (λ cs. list_all is_quoted_byte (encodes cs)) none }
 
-spells : (us : List ℕ) → is_paired false us ≡ true → list_all is_text_unit us ≡ true → list_all is_unit us ≡ true → Spells us
+untrue : (b : Bool) → not b ≡ true → b ≡ false
+untrue true h = absurd (false≢true h)
+untrue false h = refl
+
+neither : (a b : Bool) → (a || b) ≡ false → (a ≡ false) × (b ≡ false)
+neither true b h = absurd (false≢true (sym h))
+neither false b h = (refl, h)
+
+-- a unit that is no surrogate
+spells_alone : (u : ℕ) (us : List ℕ) → is_surrogate u ≡ false → is_text_unit u ≡ true → is_unit u ≡ true → Spells us → Spells (u ∷ us)
+spells_alone u us s t b rest = let p = neither (is_high u) (is_low u) s in spells_lone u us p.0 p.1 t b rest
+
+-- a pair, or a unit that is no surrogate
+spells_step : (u v : ℕ) (us : List ℕ) (pair : Bool) → (is_high u && is_low v) ≡ pair → is_text_unit u ≡ true → is_unit u ≡ true
+    → cond pair (is_paired us) (not (is_surrogate u) && is_paired (v ∷ us)) ≡ true
+    → (is_paired us ≡ true → Spells us) → (is_paired (v ∷ us) ≡ true → Spells (v ∷ us)) → Spells (u ∷ v ∷ us)
+spells_step u v us true e t b h two one = let p = both (is_high u) (is_low v) e in spells_pair u v us p.0 p.1 (two h)
+spells_step u v us false e t b h two one =
+    let p = both (not (is_surrogate u)) (is_paired (v ∷ us)) h in spells_alone u (v ∷ us) (untrue (is_surrogate u) p.0) t b (one p.1)
+
+spells : (us : List ℕ) → is_paired us ≡ true → list_all is_text_unit us ≡ true → list_all is_unit us ≡ true → Spells us
 spells [] h t b = spells_none
-spells (u ∷ []) h t b = by_high (is_high u) refl (both _ _ h).1
-  where
-    by_high : (s : Bool) → is_high u ≡ s → is_paired (is_high u) [] ≡ true → Spells (u ∷ [])
-    by_high true e k = absurd (false≢true (ap (λ s. is_paired s []) (sym e) ∙ k))
-    by_high false e k = spells_lone u [] e (not_low _ (both _ _ h).0) (both _ _ t).0 (both _ _ b).0 spells_none
+spells (u ∷ []) h t b = spells_alone u [] (untrue (is_surrogate u) h) (both _ _ t).0 (both _ _ b).0 spells_none
 spells (u ∷ v ∷ us) h t b =
-    by_high (is_high u) refl (both _ _ h).1 (λ k. spells (v ∷ us) k (both _ _ t).1 (both _ _ b).1) (λ k. spells us k (both _ _ (both _ _ t).1).1 (both _ _ (both _ _ b).1).1)
-  where
-    by_high : (s : Bool) → is_high u ≡ s → is_paired (is_high u) (v ∷ us) ≡ true → (is_paired false (v ∷ us) ≡ true → Spells (v ∷ us)) → (is_paired false us ≡ true → Spells us) → Spells (u ∷ v ∷ us)
-    by_high false e k f g =
-        spells_lone u (v ∷ us) e (not_low _ (both _ _ h).0) (both _ _ t).0 (both _ _ b).0 (f (ap (λ s. is_paired s (v ∷ us)) (sym e) ∙ k))
-    by_high true e k f g =
-        let second : is_paired true (v ∷ us) ≡ true = ap (λ s. is_paired s (v ∷ us)) (sym e) ∙ k in
-        let last : is_low v ≡ true = low _ (both _ _ second).0 in
-        spells_pair u v us e last (g (ap (λ s. is_paired s us) (sym (low_not_high v last)) ∙ (both _ _ second).1))
+    let t_later = (both (is_text_unit u) (list_all is_text_unit (v ∷ us)) t).1 in
+    let b_later = (both (is_unit u) (list_all is_unit (v ∷ us)) b).1 in
+    spells_step u v us (is_high u && is_low v) refl (both (is_text_unit u) (list_all is_text_unit (v ∷ us)) t).0
+    (both (is_unit u) (list_all is_unit (v ∷ us)) b).0 h
+    (λ k. spells us k (both (is_text_unit v) (list_all is_text_unit us) t_later).1 (both (is_unit v) (list_all is_unit us) b_later).1)
+    (λ k. spells (v ∷ us) k t_later b_later)
 
 -- a string comes back, and what is printed of it is UTF-8 and can stand between quotes
 pub record ComesBack (us : List ℕ) : Type 0 where

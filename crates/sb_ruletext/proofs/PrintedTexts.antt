@@ -1,5 +1,5 @@
 -- The text of policies is read as these policies.
-use Rattle.std.proofs.Common.{◌≡◌, ◌∙◌, ℕ, zero, suc, ◌+◌, ◌<◌, ◌≤◌, nat_le, nat_lt, Bool, true, false, not, ◌&&◌, ◌||◌, List, [], ◌∷◌, ◌++◌, None, Some, Option, Ok, Err, Result, length, map, ap, refl, sym, arith}
+use Rattle.std.proofs.Common.{◌≡◌, ◌∙◌, ℕ, suc, ◌+◌, ◌<◌, ◌≤◌, nat_le, nat_lt, Bool, true, false, not, ◌&&◌, ◌||◌, List, [], ◌∷◌, ◌++◌, Some, Ok, Err, Result, length, map, ap, refl, sym, arith}
 use Rattle.std.specs.Cmp.Lexicographic.{pointwise, bytes_decides}
 use Rattle.std.specs.List.{flat_map, list_all, list_any}
 use Rattle.std.specs.Prelude.{codes, nat_eq, if◌then◌else◌}
@@ -10,26 +10,26 @@ use Rattle.std.proofs.lemmas.List.Folds.{list_any-append}
 use Rattle.sb_call.specs.ShortNames.{is_short_name}
 use Rattle.sb_rule.specs.Limits.{most_policies}
 use Rattle.sb_ruletext.proofs.PrintedConditions.{PatternsComeBack}
-use Rattle.sb_rule.specs.WellMade.{is_well_made_rule, is_well_made, is_named, are_named_apart, are_well_made}
+use Rattle.sb_rule.specs.WellMade.{is_well_made_rule, is_well_made, is_named, are_named_apart}
 use Rattle.sb_rule.specs.declared.policies.Policy.{Policy}
 use Rattle.sb_rule.specs.declared.policies.Rule.{Rule}
 use Rattle.sb_text.specs.LineLaws.{WrittenLinesAreRead}
-use Rattle.sb_text.specs.Lines.{NumberedLine, lines_of}
 use Rattle.sb_text.specs.NumberLaws.{HexadecimalsAreRead}
-use Rattle.sb_text.specs.TokenLaws.{written_line, WrittenTokensAreRead}
-use Rattle.sb_text.specs.Tokens.{Lexeme, Word, tokens_of}
+use Rattle.sb_text.specs.TokenLaws.{WrittenTokensAreRead}
+use Rattle.sb_text.specs.Tokens.{Lexeme, Word}
 use Rattle.sb_text.specs.Utf8Laws.{NotUtf8LineTells}
-use Rattle.sb_ruletext.specs.Lines.{new_name, name_at, with_policy, heading, line_of}
-use Rattle.sb_ruletext.specs.PolicyTexts.{add_line, grammar, reading}
-use Rattle.sb_ruletext.specs.Printing.{rule_tokens, heading_tokens, policy_lines, is_read_only, has_read_only, version_tokens, printed_lines, line_text, printed, relined_rules, relined_from, relined}
-use Rattle.sb_ruletext.specs.PrintingLaws.{is_rule_of_values, is_policy_of_values, PrintedPoliciesAreRead}
+use Rattle.sb_ruletext.specs.Lines.{heading, line_of}
+use Rattle.sb_ruletext.specs.PolicyTexts.{add_line, grammar}
+use Rattle.sb_ruleprint.specs.Printing.{rule_tokens, heading_tokens, policy_lines, is_read_only, has_read_only, version_tokens, printed_lines, printed, relined_rules, relined_from, relined}
+use Rattle.sb_ruleprint.specs.Values.{is_rule_of_values, is_policy_of_values}
+use Rattle.sb_ruletext.specs.PrintingLaws.{PrintedPoliciesAreRead}
 use Rattle.sb_text.specs.Readings.{on_line, read_lines, read_below, read_by}
 use Rattle.sb_text.specs.Steps.{◌>>=◌, Read, end_at, version_of}
 use Rattle.sb_rule.specs.Actions.{action_word}
 use Rattle.sb_ruletext.specs.Words.{action_of}
 use Rattle.sb_ruletext.proofs.Prefixes.{read_by_lines}
 use Rattle.sb_ruletext.specs.declared.faults.TextKind.{TextKind}
-use Rattle.sb_ruletext.specs.declared.faults.TextKind.TheVariants.{NotUtf8, UnknownWord, TooMany, SameName}
+use Rattle.sb_ruletext.specs.declared.faults.TextKind.TheVariants.{UnknownWord, TooMany, SameName}
 use Rattle.sb_ruletext.proofs.PrintedLines.{is_plain_line, numbered, lines_utf8, lines_back, tokens_back}
 use Rattle.sb_ruletext.proofs.PrintedRules.{policy_of, rule_line_read}
 use Rattle.sb_ruletext.proofs.Conjunctions.{both, and_true}

@@ -1,5 +1,5 @@
 -- The tokens that are printed are plain.
-use Rattle.std.proofs.Common.{◌≡◌, ◌∙◌, ℕ, zero, suc, ◌^◌, ◌<◌, nat_lt, Bool, true, false, ◌&&◌, List, [], ◌∷◌, ◌++◌, length, map, slice_index_or, ap, refl, arith}
+use Rattle.std.proofs.Common.{◌≡◌, ◌∙◌, ℕ, zero, suc, ◌<◌, nat_lt, Bool, true, false, List, [], ◌∷◌, length, map, slice_index_or, refl, arith}
 use Rattle.std.specs.List.{flat_map, list_all, list_any}
 use Rattle.std.specs.Prelude.{codes, if◌then◌else◌}
 use Rattle.std.proofs.lemmas.Bool.{false≢true}
@@ -20,17 +20,17 @@ use Rattle.sb_rule.specs.declared.conditions.Test.TheVariants.{OneOf, Range, Mas
 use Rattle.sb_rule.specs.declared.policies.Policy.{Policy}
 use Rattle.sb_rule.specs.declared.policies.Rule.{Rule}
 use Rattle.sb_text.specs.NumberLaws.{HexadecimalsAreRead}
-use Rattle.sb_text.specs.Tokens.{Lexeme, Word, Quoted}
+use Rattle.sb_text.specs.Tokens.{Word, Quoted}
 use Rattle.sb_wide.specs.Wide.{is_unit}
-use Rattle.sb_ruletext.specs.Printing.{number_word, utf8_of, or_tokens, numbers_tokens, test_tokens, not_tokens, parameter_word, cond_tokens, joined_tokens, conds_tokens, rule_tokens, heading_tokens, policy_lines, has_read_only, version_word, version_tokens, printed_lines}
-use Rattle.sb_ruletext.specs.PrintingLaws.{is_number, is_test_of_values, is_rule_of_values, is_policy_of_values}
+use Rattle.sb_ruleprint.specs.Parameters.{parameter_word, parameter_words}
+use Rattle.sb_ruleprint.specs.Printing.{utf8_of, numbers_tokens, test_tokens, not_tokens, cond_tokens, joined_tokens, conds_tokens, rule_tokens, heading_tokens, policy_lines, has_read_only, version_tokens, printed_lines}
+use Rattle.sb_ruleprint.specs.Values.{is_number, is_test_of_values, is_rule_of_values, is_policy_of_values}
 use Rattle.sb_rule.specs.Actions.{action_word}
 use Rattle.sb_call.specs.CallWords.{call_word}
-use Rattle.sb_ruletext.specs.Words.{parameter_words}
 use Rattle.sb_ruletext.proofs.PrintedConditions.{AreSound, later_sound, number_small}
 use Rattle.sb_ruletext.proofs.PrintedLines.{is_plain_byte, is_plain, is_plain_line, all_more}
 use Rattle.sb_ruletext.proofs.Conjunctions.{both, and_true}
-use Rattle.sb_ruletext.proofs.PrintedStrings.{ComesBack, string_back}
+use Rattle.sb_ruletext.proofs.PrintedStrings.{string_back}
 use Rattle.sb_ruletext.proofs.PrintedWords.{within, number_plain, range_plain}
 
 -- words

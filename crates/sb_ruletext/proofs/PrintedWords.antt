@@ -13,12 +13,13 @@ use Rattle.sb_call.specs.declared.tags.CallTag.TheVariants.{Ping, FileCreate, Fi
 use Rattle.sb_rule.specs.declared.actions.Action.{Action}
 use Rattle.sb_rule.specs.declared.actions.Action.TheVariants.{Allow, Deny, Alarm, Fake, ReadOnly}
 use Rattle.sb_text.specs.NumberLaws.{HexadecimalsAreRead}
-use Rattle.sb_text.specs.Numbers.{is_hexadecimal_digit, are_digits, below_2_64, value_from, number_of}
+use Rattle.sb_text.specs.Numbers.{is_hexadecimal_digit, number_of}
 use Rattle.sb_ruletext.specs.Conditions.{after_dots, around_from, around_dots, range, range_of}
-use Rattle.sb_ruletext.specs.Printing.{parameter_word, number_word, range_word, is_read_only}
+use Rattle.sb_ruleprint.specs.Parameters.{parameter_word, parameter_words}
+use Rattle.sb_ruleprint.specs.Printing.{number_word, range_word, is_read_only}
 use Rattle.sb_call.specs.CallWords.{is_word, call_word, tag_of_word}
 use Rattle.sb_rule.specs.Actions.{action_word}
-use Rattle.sb_ruletext.specs.Words.{place_of, action_of, parameter_words, parameter_of}
+use Rattle.sb_ruletext.specs.Words.{place_of, action_of, parameter_of}
 use Rattle.sb_text.specs.Steps.{◌>>=◌, or_fault}
 use Rattle.sb_ruletext.specs.declared.faults.TextKind.{TextKind}
 use Rattle.sb_ruletext.specs.declared.faults.TextKind.TheVariants.{BadNumber}

@@ -1,18 +1,17 @@
 -- Policies whose lines are given other numbers.
-use Rattle.std.proofs.Common.{◌≡◌, refl, sym, ap, ◌∙◌, ℕ, suc, ◌+◌, ◌<◌, List, [], ◌∷◌, ◌++◌, Bool, true, false, ◌&&◌, ◌||◌, nat_le, nat_lt, cond, length, map, Option, None, Some, Result, Ok, Err, codes, arith}
-use Rattle.std.proofs.lemmas.Bool.{false≢true}
-use Rattle.std.proofs.lemmas.Bool.Decides.{nat_tests}
-use Rattle.std.specs.List.{list_all, list_any}
+use Rattle.std.proofs.Common.{◌≡◌, refl, sym, ap, ◌∙◌, ℕ, suc, ◌+◌, List, [], ◌∷◌, ◌++◌, Bool, true, false, ◌||◌, nat_le, nat_lt, cond, length, map, Result, Ok, Err, codes}
+use Rattle.std.specs.List.{list_any}
 use Rattle.sb_call.specs.ShortNames.{is_short_name}
 use Rattle.sb_pattern.specs.declared.cells.Cell.{Cell}
 use Rattle.sb_rule.specs.WellMade.{is_named}
 use Rattle.sb_rule.specs.declared.actions.Action.{Action}
 use Rattle.sb_rule.specs.declared.policies.Policy.{Policy}
 use Rattle.sb_rule.specs.declared.policies.Rule.{Rule}
+use Rattle.sb_ruletext.proofs.Added.{added}
 use Rattle.sb_ruletext.proofs.Prefixes.{read_by_lines}
 use Rattle.sb_ruletext.specs.Grants.{rules_of}
 use Rattle.sb_ruletext.specs.Laws.{renumbered_rule, renumbered_policy, SkippedLinesCountAlone}
-use Rattle.sb_ruletext.specs.Lines.{name_at, with_policy, heading, call_at, check_action, when_of, rule, grant_at, granted_at, grant, with_rules, with_last_rules, added, line_of}
+use Rattle.sb_ruletext.specs.Lines.{name_at, with_policy, heading, call_at, check_action, when_of, rule, grant_at, granted_at, grant, with_rules, with_last_rules, line_of}
 use Rattle.sb_ruletext.specs.PolicyTexts.{grammar}
 use Rattle.sb_call.specs.CallWords.{is_word}
 use Rattle.sb_ruletext.specs.Words.{action_of}

@@ -1,16 +1,15 @@
 -- What stands between quotes is text.
-use Rattle.std.proofs.Common.{◌≡◌, refl, sym, ap, subst, ◌∙◌, arith, ℕ, ◌+◌, ◌-◌, ◌/◌, ◌%◌, ◌<◌, ◌≤◌, ◌⊎◌, ⊎_elim, List, [], ◌∷◌, ◌++◌, Bool, true, false, ◌&&◌, nat_lt}
+use Rattle.std.proofs.Common.{◌≡◌, refl, sym, ap, subst, ◌∙◌, arith, ℕ, ◌+◌, ◌-◌, ◌/◌, ◌%◌, ◌<◌, ◌≤◌, ◌⊎◌, ⊎_elim, List, [], ◌∷◌, ◌++◌, true, false, not, cond, ◌&&◌, ◌||◌, nat_lt}
 use Rattle.std.proofs.Math.Utf8.{scalar, scalars, scalar_cases, encode, encodes}
 use Rattle.std.proofs.lemmas.Bool.{cases_lt}
 use Rattle.std.proofs.lemmas.Bool.Decides.{nat_tests}
 use Rattle.std.proofs.lemmas.List.Folds.{list_all-append}
 use Rattle.std.proofs.lemmas.Str.{encode_ascii, chars-encodes}
-use Rattle.std.specs.Bool.{beq}
 use Rattle.std.specs.Char.Escape.{encode_utf16}
 use Rattle.std.specs.List.{list_all}
 use Rattle.std.specs.Str.{IsUtf8, chars}
 use Rattle.sb_ruletext.proofs.Conjunctions.{both, and_true}
-use Rattle.sb_rule.specs.WellMade.{is_high, is_low, is_paired, is_text_unit}
+use Rattle.sb_rule.specs.WellMade.{is_high, is_low, is_surrogate, is_paired, is_text_unit}
 use Rattle.sb_text.specs.TokenLaws.{is_quoted_byte}
 use Rattle.sb_text.specs.Tokens.{string_of}
 use Rattle.sb_wide.specs.Wide.{utf16_of}
@@ -41,25 +40,25 @@ char_text c h = ⊎_elim
     (cases_lt c 65536))
     (cases_lt c 128)
 
-step : (p : Bool → Bool) (low high : Bool) → low ≡ false → high ≡ false → p false ≡ true → (beq low false && p high) ≡ true
-step p low high l h k = rw (l) rw (h) k
+-- a unit that is no surrogate, before text
+alone : (c : ℕ) (us : List ℕ) → is_high c ≡ false → is_low c ≡ false → is_paired us ≡ true → is_paired (c ∷ us) ≡ true
+alone c [] h l k = λ i. not (h i || l i)
+alone c (v ∷ us) h l k = (λ i. cond (h i && is_low v) (is_paired us) (not (h i || l i) && is_paired (v ∷ us))) ∙ k
 
-steps : (p : Bool → Bool) (low high low_next high_next : Bool) → low ≡ false → high ≡ true → low_next ≡ true → high_next ≡ false → p false ≡ true
-    → (beq low false && (beq low_next high && p high_next)) ≡ true
-steps p low high low_next high_next l h m n k = rw (l) rw (h) rw (m) rw (n) k
-
-paired_one : (c : ℕ) (us : List ℕ) → (c < 55296) ⊎ ((57344 ≤ c) × (c < 1114112)) → is_paired false us ≡ true → is_paired false (c ∷ us) ≡ true
-paired_one c us s k = step (λ b. is_paired b us) (is_low c) (is_high c)
+paired_one : (c : ℕ) (us : List ℕ) → (c < 55296) ⊎ ((57344 ≤ c) × (c < 1114112)) → is_paired us ≡ true → is_paired (c ∷ us) ≡ true
+paired_one c us s k = alone c us
     (⊎_elim (λ a. grind (arith, nat_tests)) (λ a. grind (arith, nat_tests)) s) (⊎_elim (λ a. grind (arith, nat_tests)) (λ a. grind (arith, nat_tests)) s) k
 
-paired_two : (h l : ℕ) (us : List ℕ) → 0xD800 ≤ h → h ≤ 0xDBFF → 0xDC00 ≤ l → l ≤ 0xDFFF → is_paired false us ≡ true → is_paired false (h ∷ l ∷ us) ≡ true
-paired_two h l us a b c d k = steps (λ t. is_paired t us) (is_low h) (is_high h) (is_low l) (is_high l)
-    (grind (arith, nat_tests)) (grind (arith, nat_tests)) (grind (arith, nat_tests)) (grind (arith, nat_tests)) k
+paired_two : (h l : ℕ) (us : List ℕ) → 0xD800 ≤ h → h ≤ 0xDBFF → 0xDC00 ≤ l → l ≤ 0xDFFF → is_paired us ≡ true → is_paired (h ∷ l ∷ us) ≡ true
+paired_two h l us a b c d k =
+    let first : is_high h ≡ true = grind (arith, nat_tests) in
+    let second : is_low l ≡ true = grind (arith, nat_tests) in
+    (λ i. cond (first i && second i) (is_paired us) (not (is_surrogate h) && is_paired (l ∷ us))) ∙ k
 
-paired : (c : ℕ) (us : List ℕ) → scalar c ≡ true → is_paired false us ≡ true → is_paired false (encode_utf16 c ++ us) ≡ true
+paired : (c : ℕ) (us : List ℕ) → scalar c ≡ true → is_paired us ≡ true → is_paired (encode_utf16 c ++ us) ≡ true
 paired c us s k = ⊎_elim
-    (λ b. subst (λ l. is_paired false (l ++ us) ≡ true) (sym (one_unit c b)) (paired_one c us (scalar_cases c s) k))
-    (λ b. subst (λ l. is_paired false (l ++ us) ≡ true) (sym (two_units c b))
+    (λ b. subst (λ l. is_paired (l ++ us) ≡ true) (sym (one_unit c b)) (paired_one c us (scalar_cases c s) k))
+    (λ b. subst (λ l. is_paired (l ++ us) ≡ true) (sym (two_units c b))
     (paired_two (0xD800 + (c - 65536) / 0x400) (0xDC00 + (c - 65536) % 0x400) us (omega arith) (within c (scalar_cases c s)) (omega arith) (omega arith) k))
     (cases_lt c 65536)
   where
@@ -67,7 +66,7 @@ paired c us s k = ⊎_elim
     within c s = ⊎_elim (λ a. omega (arith, a)) (λ a. omega (arith, a.1)) s
 
 text : (cs : List ℕ) → scalars cs ≡ true → list_all is_quoted_byte (encodes cs) ≡ true
-    → (list_all is_text_unit (utf16_of cs) ≡ true) × (is_paired false (utf16_of cs) ≡ true)
+    → (list_all is_text_unit (utf16_of cs) ≡ true) × (is_paired (utf16_of cs) ≡ true)
 text [] s h = (refl, refl)
 text (c ∷ cs) s h =
     let split : (list_all is_quoted_byte (encode c) && list_all is_quoted_byte (encodes cs)) ≡ true = sym (list_all-append is_quoted_byte (encode c) (encodes cs)) ∙ h in
@@ -78,8 +77,8 @@ text (c ∷ cs) s h =
 
 -- the string that stands between two quotes is text, with no surrogate alone
 pub quoted_is_text : (q : List ℕ) → IsUtf8 q → list_all is_quoted_byte q ≡ true
-    → (list_all is_text_unit (string_of q) ≡ true) × (is_paired false (string_of q) ≡ true)
+    → (list_all is_text_unit (string_of q) ≡ true) × (is_paired (string_of q) ≡ true)
 quoted_is_text q u h =
     let cs_is : u.0 ≡ chars q = sym (chars-encodes u.0 u.1.0) ∙ ap chars u.1.1 in
-    subst (λ cs. (list_all is_text_unit (utf16_of cs) ≡ true) × (is_paired false (utf16_of cs) ≡ true)) cs_is
+    subst (λ cs. (list_all is_text_unit (utf16_of cs) ≡ true) × (is_paired (utf16_of cs) ≡ true)) cs_is
     (text u.0 u.1.0 (subst (λ b. list_all is_quoted_byte b ≡ true) (sym u.1.1) h))

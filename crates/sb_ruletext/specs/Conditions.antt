@@ -1,5 +1,5 @@
 -- The conditions of rules.
-use Rattle.std.specs.Prelude.{ℕ, zero, suc, ◌&&◌, ◌==◌, Bool, true, false, nat_le, List, [], ◌∷◌, length, Option, None, Some, option_map, Result, Ok, Err, if◌then◌else◌, codes}
+use Rattle.std.specs.Prelude.{ℕ, ◌&&◌, ◌==◌, Bool, true, false, nat_le, List, [], ◌∷◌, length, Option, None, Some, option_map, Result, Ok, Err, if◌then◌else◌, codes}
 use Rattle.sb_call.specs.Arguments.{kind_at}
 use Rattle.sb_call.specs.declared.tags.CallTag.{CallTag}
 use Rattle.sb_pattern.specs.Reading.{reading}
@@ -7,26 +7,26 @@ use Rattle.sb_pattern.specs.declared.cells.Cell.{Cell}
 use Rattle.sb_pattern.specs.declared.faults.PatternFault.{PatternFault}
 use Rattle.sb_pattern.specs.declared.faults.PatternFault.TheVariants.{TooLong}
 use Rattle.sb_pattern.specs.Limits.{most_units}
-use Rattle.sb_rule.specs.Limits.{most_numbers, most_conditions}
+use Rattle.sb_rule.specs.Limits.{most_conditions, most_numbers}
 use Rattle.sb_rule.specs.WellMade.{is_number_kind}
 use Rattle.sb_rule.specs.declared.conditions.Cond.{Cond}
 use Rattle.sb_rule.specs.declared.conditions.Test.{Test}
 use Rattle.sb_rule.specs.declared.conditions.Test.TheVariants.{OneOf, Range, Mask, Equal, Like}
-use Rattle.sb_ruletext.specs.Steps.{joined_at}
+use Rattle.sb_ruletext.specs.Steps.{word_or, quoted_or, line_end, joined_at}
 use Rattle.sb_call.specs.CallWords.{is_word}
 use Rattle.sb_ruletext.specs.Words.{parameter_of}
 use Rattle.sb_ruletext.specs.declared.faults.TextKind.{TextKind}
 use Rattle.sb_ruletext.specs.declared.faults.TextKind.TheVariants.{UnknownWord, UnknownParam, WrongKind, BadNumber, EmptyRange, BadPattern}
 use Rattle.sb_text.specs.Numbers.{number_of}
-use Rattle.sb_text.specs.Steps.{◌>>=◌, or_fault, Read, word_at, quoted_at, end_at, begins_with, later}
+use Rattle.sb_text.specs.Steps.{◌>>=◌, or_fault, Read, begins_with, later}
 use Rattle.sb_text.specs.Tokens.{Lexeme, string_of}
 
 -- N: a number
 abbrev pub number_at : List Lexeme → Read ℕ TextKind
 number_at tokens = do
-  word ← word_at WrongKind UnknownWord UnknownWord tokens
-  n ← or_fault BadNumber (number_of word.0)
-  Ok (n, word.1)
+  (word, rest) ← word_or WrongKind tokens
+  n ← or_fault BadNumber (number_of word)
+  Ok (n, rest)
 
 -- N or N ..
 abbrev pub numbers_at : List Lexeme → Read (List ℕ) TextKind
@@ -54,17 +54,17 @@ range lo hi = if nat_le lo hi then Ok (Range lo hi) else Err EmptyRange
 -- LO..HI: two numbers joined by `..`
 abbrev pub range_of : List ℕ → Result Test TextKind
 range_of word = do
-  ends ← or_fault BadNumber (around_dots word)
-  lo ← or_fault BadNumber (number_of ends.0)
-  hi ← or_fault BadNumber (number_of ends.1)
+  (before, after) ← or_fault BadNumber (around_dots word)
+  lo ← or_fault BadNumber (number_of before)
+  hi ← or_fault BadNumber (number_of after)
   range lo hi
 
 -- LO..HI as one word
 abbrev pub range_at : List Lexeme → Read Test TextKind
 range_at tokens = do
-  word ← word_at WrongKind UnknownWord UnknownWord tokens
-  test ← range_of word.0
-  Ok (test, word.1)
+  (word, rest) ← word_or WrongKind tokens
+  test ← range_of word
+  Ok (test, rest)
 
 -- what stands between quotes, as a string of a policy
 abbrev pub string : List ℕ → Result (List ℕ) TextKind
@@ -82,20 +82,20 @@ pattern quoted = cells (reading (string_of quoted))
 -- "S": a string
 abbrev pub string_at : List Lexeme → Read Test TextKind
 string_at tokens = do
-  quoted ← quoted_at WrongKind UnknownWord UnknownWord tokens
-  text ← string quoted.0
-  Ok (Equal text, quoted.1)
+  (quoted, rest) ← quoted_or WrongKind tokens
+  text ← string quoted
+  Ok (Equal text, rest)
 
 -- "P": a pattern
 abbrev pub pattern_at : List Lexeme → Read Test TextKind
 pattern_at tokens = do
-  quoted ← quoted_at WrongKind UnknownWord UnknownWord tokens
-  cells ← pattern quoted.0
-  Ok (Like cells, quoted.1)
+  (quoted, rest) ← quoted_or WrongKind tokens
+  cells ← pattern quoted
+  Ok (Like cells, rest)
 
 -- `is` and its value, on a number or on a string
 abbrev pub is_at : Bool → List Lexeme → Read Test TextKind
-is_at true tokens = numbers_at tokens >>= λ numbers. Ok (OneOf numbers.0, numbers.1)
+is_at true tokens = numbers_at tokens >>= λ (numbers, rest). Ok (OneOf numbers, rest)
 is_at false tokens = string_at tokens
 
 -- `in` and its value
@@ -105,7 +105,7 @@ in_at false tokens = Err WrongKind
 
 -- `has` and its value
 abbrev pub has_at : Bool → List Lexeme → Read Test TextKind
-has_at true tokens = number_at tokens >>= λ mask. Ok (Mask mask.0, mask.1)
+has_at true tokens = number_at tokens >>= λ (mask, rest). Ok (Mask mask, rest)
 has_at false tokens = Err WrongKind
 
 -- `like` and its value
@@ -116,19 +116,19 @@ like_at false tokens = pattern_at tokens
 -- a test word, and a value that fits it; the first argument tells whether the parameter is a number
 unfoldable pub test_at : Bool → List Lexeme → Read Test TextKind
 test_at is_number tokens = do
-  word ← word_at UnknownWord UnknownWord UnknownWord tokens
-  if is_word (codes "is") word.0 then is_at is_number word.1
-      else (if is_word (codes "in") word.0 then in_at is_number word.1
-      else (if is_word (codes "has") word.0 then has_at is_number word.1
-      else (if is_word (codes "like") word.0 then like_at is_number word.1
+  (word, rest) ← word_or UnknownWord tokens
+  if is_word (codes "is") word then is_at is_number rest
+      else (if is_word (codes "in") word then in_at is_number rest
+      else (if is_word (codes "has") word then has_at is_number rest
+      else (if is_word (codes "like") word then like_at is_number rest
       else Err UnknownWord)))
 
 -- the name of a parameter of the call
 abbrev pub parameter_at : CallTag → List Lexeme → Read ℕ TextKind
 parameter_at tag tokens = do
-  word ← word_at UnknownParam UnknownWord UnknownWord tokens
-  param ← or_fault UnknownParam (parameter_of tag word.0)
-  Ok (param, word.1)
+  (word, rest) ← word_or UnknownParam tokens
+  param ← or_fault UnknownParam (parameter_of tag word)
+  Ok (param, rest)
 
 -- the parameter of a call is a number
 abbrev pub is_number_at : CallTag → ℕ → Bool
@@ -137,9 +137,9 @@ is_number_at tag param = is_number_kind (kind_at tag param)
 -- a parameter, a test word and a value
 abbrev pub plain_condition_at : Bool → CallTag → List Lexeme → Read Cond TextKind
 plain_condition_at negated tag tokens = do
-  param ← parameter_at tag tokens
-  test ← test_at (is_number_at tag param.0) param.1
-  Ok (record { param = param.0; negated = negated; test = test.0 }, test.1)
+  (param, rest) ← parameter_at tag tokens
+  (test, after) ← test_at (is_number_at tag param) rest
+  Ok (record { param = param; negated = negated; test = test }, after)
 
 -- COND: an optional `not` before them
 unfoldable pub condition_at : CallTag → List Lexeme → Read Cond TextKind
@@ -153,6 +153,6 @@ conditions_at tag tokens = joined_at most_conditions (codes "and") (condition_at
 -- the same up to the line's end
 abbrev pub conditions_of : CallTag → List Lexeme → Result (List Cond) TextKind
 conditions_of tag tokens = do
-  conds ← conditions_at tag tokens
-  end ← end_at UnknownWord UnknownWord conds.1
-  Ok conds.0
+  (conds, rest) ← conditions_at tag tokens
+  end ← line_end rest
+  Ok conds

@@ -1,11 +1,11 @@
 -- What is true of all policy texts: what one line can do to the lines after it.
-use Rattle.std.specs.Prelude.{◌≡◌, ℕ, ◌+◌, nat_lt, map, Result, if◌then◌else◌, ◌≤◌, ◌<◌, Bool, true, false, List, [], ◌∷◌, ◌++◌, length, None, Ok, Err}
+use Rattle.std.specs.Prelude.{◌≡◌, ℕ, map, ◌≤◌, ◌<◌, true, false, List, ◌++◌, length, None, Ok, Err}
 use Rattle.sb_rule.specs.declared.policies.Policy.{Policy}
 use Rattle.sb_rule.specs.declared.policies.Rule.{Rule}
 use Rattle.sb_ruletext.specs.PolicyTexts.{TextFault, reading}
 use Rattle.sb_ruletext.specs.declared.faults.TextKind.TheVariants.{BadVersion}
 use Rattle.sb_text.specs.LineLaws.{ended, is_line}
-use Rattle.sb_text.specs.Lines.{NumberedLine, raw_lines, lines_of, is_skipped, without_cr}
+use Rattle.sb_text.specs.Lines.{raw_lines, lines_of, is_skipped, without_cr}
 use Rattle.sb_text.specs.Readings.{is_some_line, renumbered, behind}
 use Rattle.sb_text.specs.Utf8.{not_utf8_line}
 

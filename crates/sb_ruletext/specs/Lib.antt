@@ -6,6 +6,5 @@ pub mod Grants
 pub mod Lines
 pub mod Drafts
 pub mod PolicyTexts
-pub mod Printing
 pub mod PrintingLaws
 pub mod Laws

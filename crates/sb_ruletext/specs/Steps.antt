@@ -1,9 +1,21 @@
--- Items of a line that are joined by a word.
-use Rattle.std.specs.Prelude.{ℕ, zero, suc, List, [], ◌∷◌, Ok, Err, if◌then◌else◌}
+-- Readers of a policy text's lines, and items that are joined by a word.
+use Rattle.std.specs.Prelude.{⊤, ℕ, zero, suc, List, [], ◌∷◌, Result, Ok, Err, if◌then◌else◌}
 use Rattle.sb_ruletext.specs.declared.faults.TextKind.{TextKind}
 use Rattle.sb_ruletext.specs.declared.faults.TextKind.TheVariants.{UnknownWord, TooMany}
-use Rattle.sb_text.specs.Steps.{◌>>=◌, Read, begins_with, later}
+use Rattle.sb_text.specs.Steps.{◌>>=◌, Read, word_at, quoted_at, end_at, begins_with, later}
 use Rattle.sb_text.specs.Tokens.{Lexeme, Word, Quoted}
+
+-- a word. A quoted token in its place has this fault; a broken one, or none, is UnknownWord
+abbrev pub word_or : TextKind → List Lexeme → Read (List ℕ) TextKind
+word_or quoted tokens = word_at quoted UnknownWord UnknownWord tokens
+
+-- what stands between quotes. A word in its place has this fault; a broken token, or none, is UnknownWord
+abbrev pub quoted_or : TextKind → List Lexeme → Read (List ℕ) TextKind
+quoted_or word tokens = quoted_at word UnknownWord UnknownWord tokens
+
+-- the line ends here. Any further token is UnknownWord
+abbrev pub line_end : List Lexeme → Result ⊤ TextKind
+line_end tokens = end_at UnknownWord UnknownWord tokens
 
 -- the fault where one more begins than there may be; a missing or broken token is the fault of its own
 abbrev pub excess : List Lexeme → TextKind
@@ -15,7 +27,7 @@ excess _ = UnknownWord
 unfoldable pub joined_at : {A : Type 0} → ℕ → List ℕ → (List Lexeme → Read A TextKind) → List Lexeme → Read (List A) TextKind
 joined_at zero joint item_at tokens = Err (excess tokens)
 joined_at (suc n) joint item_at tokens = do
-  first ← item_at tokens
-  if begins_with joint first.1
-      then (joined_at n joint item_at (later first.1) >>= λ others. Ok (first.0 ∷ others.0, others.1))
-      else Ok (first.0 ∷ [], first.1)
+  (first, rest) ← item_at tokens
+  if begins_with joint rest
+      then (joined_at n joint item_at (later rest) >>= λ (others, rest). Ok (first ∷ others, rest))
+      else Ok (first ∷ [], rest)

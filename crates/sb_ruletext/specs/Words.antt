@@ -1,9 +1,9 @@
--- The words of policy texts: the names of actions and parameters.
-use Rattle.std.specs.Prelude.{ℕ, ◌+◌, ◌==◌, List, [], ◌∷◌, Option, None, Some, option_map, if◌then◌else◌, codes}
+-- The words of policy texts: actions and parameters by their names.
+use Rattle.std.specs.Prelude.{ℕ, ◌+◌, ◌==◌, List, [], ◌∷◌, Option, None, Some, option_map, if◌then◌else◌}
 use Rattle.sb_call.specs.CallWords.{is_word, named}
 use Rattle.sb_call.specs.declared.tags.CallTag.{CallTag}
-use Rattle.sb_call.specs.declared.tags.CallTag.TheVariants.{Ping, FileCreate, FileOpen, FileQuery, FileRename, PipeCreate, KeyCreate, KeyOpen, EventCreate, EventOpen, HandleClose}
 use Rattle.sb_rule.specs.Actions.{action_word}
+use Rattle.sb_ruleprint.specs.Parameters.{parameter_words}
 use Rattle.sb_rule.specs.declared.actions.Action.{Action}
 use Rattle.sb_rule.specs.declared.actions.Action.TheVariants.{Allow, Deny, Alarm, Fake, ReadOnly}
 
@@ -19,20 +19,6 @@ actions_of version = if version == 2 then Allow ∷ Deny ∷ Alarm ∷ Fake ∷ 
 -- the action of a word, in a version of policy texts
 abbrev pub action_of : ℕ → List ℕ → Option Action
 action_of version word = named action_word (actions_of version) word
-
--- the names of a call's parameters, in order
-abbrev pub parameter_words : CallTag → List (List ℕ)
-parameter_words Ping = codes "cookie" ∷ codes "text" ∷ []
-parameter_words FileCreate = codes "name" ∷ codes "attributes" ∷ codes "access" ∷ codes "sharing" ∷ codes "disposition" ∷ codes "options" ∷ []
-parameter_words FileOpen = codes "name" ∷ codes "access" ∷ codes "sharing" ∷ codes "options" ∷ []
-parameter_words FileQuery = codes "name" ∷ []
-parameter_words FileRename = codes "name" ∷ codes "to" ∷ []
-parameter_words PipeCreate = codes "name" ∷ codes "mode" ∷ codes "form" ∷ codes "instances" ∷ []
-parameter_words KeyCreate = codes "name" ∷ codes "access" ∷ []
-parameter_words KeyOpen = codes "name" ∷ codes "access" ∷ []
-parameter_words EventCreate = codes "name" ∷ codes "kind" ∷ codes "initial" ∷ []
-parameter_words EventOpen = codes "name" ∷ codes "access" ∷ []
-parameter_words HandleClose = codes "handle" ∷ []
 
 -- the number of a call's parameter, from 0, by its name
 abbrev pub parameter_of : CallTag → List ℕ → Option ℕ

@@ -10,11 +10,12 @@ ghost use Rattle.sb_text.specs.TokenLaws.{is_quoted_byte};
 
 use crate::faults::LineRefused;
 use crate::faults::TextKind::{self, BadNumber, UnknownParam, UnknownWord, WrongKind};
+use crate::readers::{line_end, quoted_or, word_or};
 use crate::words::parameter_of;
 use sb_call::{CallTag, ParamKind, shape};
 use sb_pattern::{MOST_UNITS, Pattern, PatternFault, PatternRefused, texts_and_patterns};
 use sb_rule::{Cond, Conds, MOST_CONDITIONS, MOST_NUMBERS, Numbers, Test};
-use sb_text::{Token, Tokens, end_at, number_of, or_fault, quoted_at, string_of, word_at};
+use sb_text::{Token, Tokens, number_of, or_fault, string_of};
 use sb_wide::Wide;
 use std::alloc::Global;
 
@@ -22,7 +23,7 @@ use std::alloc::Global;
 fn number_at(tokens: &mut Tokens) -> Result<u64, LineRefused>
     ensures { Reads (number_at tokens.old) result tokens.new }
 {
-    let word = word_at(WrongKind, UnknownWord, UnknownWord, tokens)?;
+    let word = word_or(WrongKind, tokens)?;
     or_fault(BadNumber, number_of(word))
 }
 
@@ -101,7 +102,7 @@ fn range_at(tokens: &mut Tokens) -> Result<Test, LineRefused>
     ensures sensible { IfOk result (λ test. is_sensible test ≡ true) }
     ensures number { IfOk result (λ test. is_number_test test ≡ true) }
 {
-    range_of(word_at(WrongKind, UnknownWord, UnknownWord, tokens)?)
+    range_of(word_or(WrongKind, tokens)?)
 }
 
 // What stands between quotes, as a string of a policy.
@@ -140,7 +141,7 @@ fn string_at(alloc: Global, tokens: &mut Tokens) -> Result<Test, LineRefused>
     ensures sensible { IfOk result (λ test. is_sensible test ≡ true) }
     ensures string { IfOk result (λ test. is_number_test test ≡ false) }
 {
-    let quoted = quoted_at(WrongKind, UnknownWord, UnknownWord, tokens)?;
+    let quoted = quoted_or(WrongKind, tokens)?;
     Ok(Test::Equal(string(alloc, quoted)?))
 }
 
@@ -150,7 +151,7 @@ fn pattern_at(alloc: Global, tokens: &mut Tokens) -> Result<Test, LineRefused>
     ensures sensible { IfOk result (λ test. is_sensible test ≡ true) }
     ensures string { IfOk result (λ test. is_number_test test ≡ false) }
 {
-    let quoted = quoted_at(WrongKind, UnknownWord, UnknownWord, tokens)?;
+    let quoted = quoted_or(WrongKind, tokens)?;
     Ok(Test::Like(pattern(alloc, quoted)?))
 }
 
@@ -213,7 +214,7 @@ fn test_at(alloc: Global, is_number: bool, tokens: &mut Tokens) -> Result<Test, 
     ensures sensible { IfOk result (λ test. is_sensible test ≡ true) }
     ensures kind { IfOk result (λ test. is_number_test test ≡ is_number) }
 {
-    let word = word_at(UnknownWord, UnknownWord, UnknownWord, tokens)?;
+    let word = word_or(UnknownWord, tokens)?;
     if word == b"is".as_slice() {
         is_at(alloc, is_number, tokens)
     } else if word == b"in".as_slice() {
@@ -232,7 +233,7 @@ fn parameter_at(tag: CallTag, tokens: &mut Tokens) -> Result<u32, LineRefused>
     ensures read { Reads (parameter_at tag tokens.old) result tokens.new }
     ensures within { IfOk result (λ param. param < length (shape_of tag)) }
 {
-    let word = word_at(UnknownParam, UnknownWord, UnknownWord, tokens)?;
+    let word = word_or(UnknownParam, tokens)?;
     parameter_of(tag, word).ok_or(LineRefused::Fault(UnknownParam))
 }
 
@@ -303,6 +304,6 @@ pub(crate) fn conditions_of(
     ensures well_formed { IfOk result (λ conds. list_all (is_well_formed tag) conds ≡ true) }
 {
     let conds = conditions_at(alloc, tag, tokens)?;
-    end_at(UnknownWord, UnknownWord, tokens)?;
+    line_end(tokens)?;
     Ok(conds)
 }

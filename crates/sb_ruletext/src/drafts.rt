@@ -1,9 +1,9 @@
 // The policies so far, while a text is read.
-ghost use Rattle.std.specs.Prelude.{◌≡◌, [], true, false, OnOk, IfOk, Ok};
+ghost use Rattle.std.specs.Prelude.{◌≡◌, ◌<◌, [], true, false, nat_lt, length, vec_len, vec_capacity, OnOk, OnErr, IfOk};
 ghost use Rattle.std.specs.List.{list_all, list_any};
 ghost use Rattle.sb_rule.specs.WellMade.{is_named, is_well_made_rule, are_well_made};
 ghost use Rattle.sb_ruletext.specs.Drafts.{is_headed};
-ghost use Rattle.sb_ruletext.specs.Lines.{with_policy, added};
+ghost use Rattle.sb_ruletext.specs.Lines.{with_policy, with_last_rules};
 ghost use Rattle.sb_text.specs.Steps.{Becomes};
 
 use crate::faults::{LineRefused, TextKind};
@@ -17,7 +17,7 @@ use std::mem;
 /// The policies so far. The last of them is the one to which rules are added.
 #[derive(Debug, Drop)]
 pub(crate) struct Draft {
-    before: PolicyList,
+    before: Vec<Policy>,
     last_name: Option<ShortName>,
     last_rules: Vec<Rule>,
 }
@@ -29,9 +29,9 @@ impl Model for Draft {
 
     ghost Value = { List Policy };
 
-    ghost view = { λ d. drafted d.before d.last_name d.last_rules.items };
+    ghost view = { λ d. drafted d.before.items d.last_name d.last_rules.items };
 
-    ghost invariant = { λ d. IsBegun d.before d.last_name d.last_rules.items };
+    ghost invariant = { λ d. IsBegun d.before.items d.last_name d.last_rules.items };
 }
 
 impl Draft {
@@ -40,7 +40,7 @@ impl Draft {
         ensures { result ≡ [] }
     {
         Draft {
-            before: PolicyList::new(Vec::new(alloc)),
+            before: Vec::new(alloc),
             last_name: None,
             last_rules: Vec::new(alloc),
         }
@@ -59,35 +59,49 @@ impl Draft {
         ensures { result ≡ list_any (is_named name.now) self.now }
     {
         match &self.last_name {
-            Some(last) => is_any_named(self.before.as_slice(), name) || last.bytes() == name,
+            Some(last) => is_any_named(&self.before, name) || last.bytes() == name,
             None => false,
         }
     }
 
-    /// Adds a policy without rules. After an error the draft is of no more use.
-    pub(crate) fn add_policy(&mut self, alloc: Global, name: ShortName) -> Result<(), LineRefused>
-        ensures { Becomes (with_policy self.old name) result self.new }
+    // Whether there is room for one more policy.
+    #[tactic(auto, using(crate::proofs::Added::room_more))]
+    fn has_room(&self) -> bool
+        ensures { result ≡ nat_lt (length self.now) 8 }
     {
+        match &self.last_name {
+            Some(_) => self.before.len() < MOST_POLICIES - 1,
+            None => true,
+        }
+    }
+
+    /// Adds a policy without rules. After an error the draft is as it was.
+    pub(crate) fn add_policy(&mut self, alloc: Global, name: ShortName) -> Result<(), LineRefused>
+        ensures read { Becomes (with_policy self.old name) result self.new }
+        ensures kept { OnErr result (self.new ≡ self.old) }
+    {
+        if !self.has_room() {
+            return Err(LineRefused::Fault(TextKind::TooMany));
+        }
+        reserve_one(&mut self.before)?;
         if let Some(last) = mem::replace(&mut self.last_name, Some(name)) {
-            if self.before.len() >= MOST_POLICIES - 1 {
-                return Err(LineRefused::Fault(TextKind::TooMany));
-            }
             let rules = mem::replace(&mut self.last_rules, Vec::new(alloc));
-            self.before.push(Policy {
+            self.before.push_reserved(Policy {
                 name: last,
                 rules: Rules::new(rules),
-            })?;
+            });
         }
         Ok(())
     }
 
     /// Adds rules to the last policy. After an error the draft is as it was.
-    #[tactic(auto, using(crate::proofs::Added::added_fits, crate::proofs::Added::added_too_many, crate::proofs::Added::well_made_longer))]
+    #[tactic(auto, using(crate::proofs::Added::added_fits, crate::proofs::Added::added_too_many, crate::proofs::Added::added_nowhere, crate::proofs::Added::well_made_longer))]
     pub(crate) fn add_rules(&mut self, rules: Rules) -> Result<(), LineRefused>
         requires well_made { are_well_made self.old ≡ true }
         requires rules { list_all is_well_made_rule rules ≡ true }
-        ensures added { Becomes (added self.old (Ok rules)) result self.new }
+        ensures read { Becomes (with_last_rules self.old rules) result self.new }
         ensures well_made { OnOk result (are_well_made self.new ≡ true) }
+        ensures kept { OnErr result (self.new ≡ self.old) }
     {
         if self.last_name.is_none() {
             return Err(LineRefused::Fault(TextKind::NoHeading));
@@ -118,8 +132,17 @@ impl Draft {
                 rules: Rules::new(last_rules),
             })?;
         }
-        Ok(policies)
+        Ok(PolicyList::new(policies))
     }
+}
+
+// Makes room for one more policy.
+fn reserve_one(policies: &mut Vec<Policy>) -> Result<(), NoMemory>
+    ensures items { policies.new.items ≡ policies.old.items }
+    ensures room { OnOk result (vec_len policies.new < vec_capacity policies.new) }
+{
+    policies.reserve(1)?;
+    Ok(())
 }
 
 fn is_any_named(policies: &[Policy], name: &[u8]) -> bool

@@ -11,7 +11,7 @@ mod lines;
 mod policy_texts;
 mod printing;
 mod printing_laws;
-mod values;
+mod readers;
 mod words;
 
 pub use faults::{TextFault, TextKind, TextRefused};

@@ -1,8 +1,8 @@
 // Reading the lines below the version line.
-ghost use Rattle.std.specs.Prelude.{◌≡◌, ◌≤◌, length, true, false, IfOk, OnOk};
+ghost use Rattle.std.specs.Prelude.{◌≡◌, ◌≤◌, length, true, false, IfOk, OnOk, OnErr};
 ghost use Rattle.std.specs.List.{list_all, list_any};
 ghost use Rattle.sb_rule.specs.WellMade.{is_for_readers, is_like_text, is_well_formed, is_well_made_rule, are_well_made, is_named};
-ghost use Rattle.sb_ruletext.specs.Lines.{new_name, name_at, heading, call_at, check_action, when_of, rule, grant_at, granted_at, grant, added, line_of};
+ghost use Rattle.sb_ruletext.specs.Lines.{new_name, name_at, heading, call_at, check_action, when_of, rule, grant_at, granted_at, grant, check_heading, with_grant, with_rule, line_of};
 ghost use Rattle.sb_text.specs.Steps.{Gives, Reads, Becomes};
 ghost use Rattle.sb_text.specs.Tokens.{tokens_of};
 
@@ -11,11 +11,12 @@ use crate::drafts::Draft;
 use crate::faults::LineRefused;
 use crate::faults::TextKind::{self, UnknownCall, UnknownWord};
 use crate::grants::{Grant, grant_of, one, rules_of};
+use crate::readers::{line_end, quoted_or, word_or};
 use crate::words::action_of;
 use sb_call::{CallTag, ShortName, tag_of_word};
 use sb_pattern::Pattern;
 use sb_rule::{Action, Conds, Rule, Rules};
-use sb_text::{Line, Tokens, end_at, or_fault, quoted_at, word_at};
+use sb_text::{Line, Tokens, or_fault};
 use std::alloc::Global;
 
 // NAME: a short name that no policy so far has.
@@ -37,19 +38,20 @@ fn name_at(draft: &Draft, tokens: &mut Tokens) -> Result<ShortName, LineRefused>
     ensures name { Reads (name_at draft.now tokens.old) result tokens.new }
     ensures new { IfOk result (λ name. list_any (is_named name) draft.now ≡ false) }
 {
-    let word = word_at(UnknownWord, UnknownWord, UnknownWord, tokens)?;
+    let word = word_or(UnknownWord, tokens)?;
     new_name(draft, word)
 }
 
-// `policy NAME`, behind its first word.
+// `policy NAME`, behind its first word. After an error the policies are as they were.
 #[tactic(auto, unfolding(crate::specs::Lines::heading), using(crate::proofs::Added::heading_well_made))]
 fn heading(alloc: Global, draft: &mut Draft, tokens: &mut Tokens) -> Result<(), LineRefused>
     requires { are_well_made draft.old ≡ true }
     ensures read { Becomes (heading draft.old tokens.old) result draft.new }
     ensures well_made { OnOk result (are_well_made draft.new ≡ true) }
+    ensures kept { OnErr result (draft.new ≡ draft.old) }
 {
     let name = name_at(draft, tokens)?;
-    end_at(UnknownWord, UnknownWord, tokens)?;
+    line_end(tokens)?;
     draft.add_policy(alloc, name)
 }
 
@@ -57,7 +59,7 @@ fn heading(alloc: Global, draft: &mut Draft, tokens: &mut Tokens) -> Result<(), 
 fn call_at(tokens: &mut Tokens) -> Result<CallTag, LineRefused>
     ensures { Reads (call_at tokens.old) result tokens.new }
 {
-    let word = word_at(UnknownCall, UnknownWord, UnknownWord, tokens)?;
+    let word = word_or(UnknownCall, tokens)?;
     or_fault(UnknownCall, tag_of_word(word))
 }
 
@@ -113,7 +115,7 @@ fn rule(alloc: Global, line: u32, action: Action, tokens: &mut Tokens) -> Result
 fn grant_at(tokens: &mut Tokens) -> Result<Grant, LineRefused>
     ensures { Reads (grant_at tokens.old) result tokens.new }
 {
-    let word = word_at(UnknownWord, UnknownWord, UnknownWord, tokens)?;
+    let word = word_or(UnknownWord, tokens)?;
     or_fault(UnknownWord, grant_of(word))
 }
 
@@ -122,7 +124,7 @@ fn granted_at(alloc: Global, tokens: &mut Tokens) -> Result<Pattern, LineRefused
     ensures read { Reads (granted_at tokens.old) result tokens.new }
     ensures text { IfOk result (λ cells. is_like_text cells ≡ true) }
 {
-    let quoted = quoted_at(UnknownWord, UnknownWord, UnknownWord, tokens)?;
+    let quoted = quoted_or(UnknownWord, tokens)?;
     pattern(alloc, quoted)
 }
 
@@ -134,12 +136,22 @@ fn grant(alloc: Global, line: u32, tokens: &mut Tokens) -> Result<Rules, LineRef
 {
     let grant = grant_at(tokens)?;
     let pattern = granted_at(alloc, tokens)?;
-    end_at(UnknownWord, UnknownWord, tokens)?;
+    line_end(tokens)?;
     Ok(rules_of(alloc, line, grant, &pattern)?)
 }
 
-// Adds the rules of a grant to the last policy.
-#[tactic(auto, using(crate::proofs::Added::added_refused, crate::proofs::Added::added_headless))]
+// A heading is to stand before the line.
+fn check_heading(draft: &Draft) -> Result<(), LineRefused>
+    ensures { Gives (check_heading draft.now) result }
+{
+    if draft.is_headed() {
+        Ok(())
+    } else {
+        Err(LineRefused::Fault(TextKind::NoHeading))
+    }
+}
+
+// Adds the rules of a grant to the last policy. After an error the policies are as they were.
 fn add_grant(
     alloc: Global,
     draft: &mut Draft,
@@ -147,18 +159,16 @@ fn add_grant(
     tokens: &mut Tokens,
 ) -> Result<(), LineRefused>
     requires { are_well_made draft.old ≡ true }
-    ensures read { Becomes (added draft.old (grant line tokens.old)) result draft.new }
+    ensures read { Becomes (with_grant draft.old line tokens.old) result draft.new }
     ensures well_made { OnOk result (are_well_made draft.new ≡ true) }
+    ensures kept { OnErr result (draft.new ≡ draft.old) }
 {
-    if !draft.is_headed() {
-        return Err(LineRefused::Fault(TextKind::NoHeading));
-    }
+    check_heading(draft)?;
     let rules = grant(alloc, line, tokens)?;
     draft.add_rules(rules)
 }
 
-// Adds a rule to the last policy.
-#[tactic(auto, using(crate::proofs::Added::added_refused, crate::proofs::Added::added_headless))]
+// Adds a rule to the last policy. After an error the policies are as they were.
 fn add_rule(
     alloc: Global,
     draft: &mut Draft,
@@ -167,17 +177,16 @@ fn add_rule(
     tokens: &mut Tokens,
 ) -> Result<(), LineRefused>
     requires { are_well_made draft.old ≡ true }
-    ensures read { Becomes (added draft.old (rule line action tokens.old)) result draft.new }
+    ensures read { Becomes (with_rule draft.old line action tokens.old) result draft.new }
     ensures well_made { OnOk result (are_well_made draft.new ≡ true) }
+    ensures kept { OnErr result (draft.new ≡ draft.old) }
 {
-    if !draft.is_headed() {
-        return Err(LineRefused::Fault(TextKind::NoHeading));
-    }
+    check_heading(draft)?;
     let rules = rule(alloc, line, action, tokens)?;
     draft.add_rules(rules)
 }
 
-/// What a line adds to the policies so far. They stay well made.
+/// What a line adds to the policies so far. They stay well made, and after an error they are as they were.
 #[tactic(auto, unfolding(crate::specs::Lines::line_of))]
 pub(crate) fn line_of(
     alloc: Global,
@@ -188,9 +197,10 @@ pub(crate) fn line_of(
     requires { are_well_made draft.old ≡ true }
     ensures read { Becomes (line_of version draft.old line.now.number (tokens_of line.now.text.now)) result draft.new }
     ensures well_made { OnOk result (are_well_made draft.new ≡ true) }
+    ensures kept { OnErr result (draft.new ≡ draft.old) }
 {
     let mut tokens = line.tokens();
-    let word = word_at(UnknownWord, UnknownWord, UnknownWord, &mut tokens)?;
+    let word = word_or(UnknownWord, &mut tokens)?;
     if word == b"policy".as_slice() {
         return heading(alloc, draft, &mut tokens);
     }

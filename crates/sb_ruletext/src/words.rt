@@ -1,10 +1,11 @@
-// The words of policy texts: the names of actions and parameters.
+// The words of policy texts: actions and parameters by their names.
 ghost use Rattle.std.specs.Prelude.{◌≡◌, ◌≤◌, ◌<◌, length, map, IfSome};
 ghost use Rattle.sb_call.specs.Tags.{shape_of};
-ghost use Rattle.sb_ruletext.specs.Words.{actions_of, action_of, place_of, parameter_words, parameter_of};
+ghost use Rattle.sb_ruletext.specs.Words.{actions_of, action_of, place_of, parameter_of};
 
 use sb_call::CallTag;
 use sb_rule::Action;
+use sb_ruleprint::parameter_words;
 
 /// The version of policy texts from which on `readonly` is an action.
 const READ_ONLY_VERSION: u32 = 2;
@@ -51,32 +52,6 @@ fn place_of(names: &[&[u8]], word: &[u8]) -> Option<u32>
         place += 1;
     }
     None
-}
-
-/// The names of a call's parameters, in order.
-pub(crate) fn parameter_words(tag: CallTag) -> &'static [&'static [u8]]
-    ensures words { map (λ word. word.now) result.now ≡ parameter_words tag }
-    ensures many { length result.now ≡ length (shape_of tag) }
-    ensures few { length result.now ≤ 6 }
-{
-    match tag {
-        CallTag::Ping => &[b"cookie", b"text"],
-        CallTag::FileCreate => &[
-            b"name",
-            b"attributes",
-            b"access",
-            b"sharing",
-            b"disposition",
-            b"options",
-        ],
-        CallTag::FileOpen => &[b"name", b"access", b"sharing", b"options"],
-        CallTag::FileQuery => &[b"name"],
-        CallTag::FileRename => &[b"name", b"to"],
-        CallTag::PipeCreate => &[b"name", b"mode", b"form", b"instances"],
-        CallTag::KeyCreate | CallTag::KeyOpen | CallTag::EventOpen => &[b"name", b"access"],
-        CallTag::EventCreate => &[b"name", b"kind", b"initial"],
-        CallTag::HandleClose => &[b"handle"],
-    }
 }
 
 /// The number of a call's parameter, from 0, by its name.

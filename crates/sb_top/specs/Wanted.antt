@@ -6,7 +6,7 @@ use Rattle.sb_compile.specs.Compiling.{program_of}
 use Rattle.sb_compile.specs.Listing.{listing_of}
 use Rattle.sb_rule.specs.declared.policies.Policy.{Policy}
 use Rattle.sb_ruletext.specs.PolicyTexts.{TextFault, reading}
-use Rattle.sb_ruletext.specs.Printing.{printed}
+use Rattle.sb_ruleprint.specs.Printing.{printed}
 use Rattle.sb_core.specs.Runs.{ran}
 use Rattle.sb_core.specs.Single.{is_single_threaded}
 use Rattle.sb_core.specs.declared.runs.Ran.{Ran}

@@ -1,4 +1,4 @@
-use Rattle.std.proofs.Common.{◌≡◌, ap, subst, sym, ◌∙◌, [], List, Err, Result}
+use Rattle.std.proofs.Common.{ap, subst, sym, ◌∙◌, [], List, Err, Result}
 use Rattle.sb_rule.specs.declared.policies.Policy.{Policy}
 use Rattle.sb_ruletext.specs.PolicyTexts.{TextFault, add_line}
 use Rattle.sb_text.specs.Lines.{NumberedLine}

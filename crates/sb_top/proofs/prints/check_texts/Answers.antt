@@ -1,6 +1,6 @@
 use Rattle.std.proofs.Common.{◌≡◌, ◌∙◌, ◌++◌, ◌∷◌, [], rules}
 use Rattle.sb_outside.specs.Outside.{joined}
-use Rattle.sb_ruletext.specs.Printing.{printed}
+use Rattle.sb_ruleprint.specs.Printing.{printed}
 use Rattle.sb_top.specs.Wanted.{checked, listings}
 use Rattle.sb_top.proofs.Texts.{two_texts}
 use Rattle.sb_top.proofs.prints.check_texts.Goals as goal

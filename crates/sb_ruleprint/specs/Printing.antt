@@ -1,7 +1,7 @@
 -- How policies are written as a text.
-use Rattle.std.specs.Prelude.{ℕ, ◌+◌, Bool, true, false, List, [], ◌∷◌, ◌++◌, length, map, slice_index_or, codes, if◌then◌else◌}
+use Rattle.std.specs.Prelude.{ℕ, ◌+◌, Bool, true, false, List, [], ◌∷◌, ◌++◌, length, map, codes, if◌then◌else◌}
 use Rattle.std.specs.Char.Utf16.{utf16_lossy_chars}
-use Rattle.std.specs.Fmt.{digits}
+use Rattle.sb_wide.specs.Numbers.{hexadecimal}
 use Rattle.std.specs.List.{flat_map, list_any}
 use Rattle.std.specs.Str.{encode_utf8_all}
 use Rattle.sb_call.specs.declared.tags.CallTag.{CallTag}
@@ -18,15 +18,11 @@ use Rattle.sb_text.specs.TokenLaws.{written_token, written_line}
 use Rattle.sb_text.specs.Tokens.{Lexeme, Word, Quoted}
 use Rattle.sb_rule.specs.Actions.{action_word}
 use Rattle.sb_call.specs.CallWords.{call_word}
-use Rattle.sb_ruletext.specs.Words.{parameter_words}
-
--- the name of a parameter, and nothing where there is none
-abbrev pub parameter_word : CallTag → ℕ → List ℕ
-parameter_word tag param = slice_index_or (parameter_words tag) param []
+use Rattle.sb_ruleprint.specs.Parameters.{parameter_word}
 
 -- a number: `0x` and lower-case hexadecimal digits
 abbrev pub number_word : ℕ → List ℕ
-number_word n = 48 ∷ 120 ∷ digits 16 false n
+number_word n = 48 ∷ 120 ∷ hexadecimal n
 
 -- a range: two numbers joined by `..`
 abbrev pub range_word : ℕ → ℕ → List ℕ

@@ -4,7 +4,7 @@ ghost use Rattle.std.specs.Prelude.{◌≡◌, true};
 ghost use Rattle.std.specs.List.{list_all};
 ghost use Rattle.sb_pattern.specs.Reading.{text_of};
 ghost use Rattle.sb_wide.specs.Wide.{is_unit};
-ghost use Rattle.sb_ruletext.specs.PrintingLaws.{is_number, is_test_of_values, is_rule_of_values, is_policy_of_values};
+ghost use Rattle.sb_ruleprint.specs.Values.{is_number, is_test_of_values, is_rule_of_values, is_policy_of_values};
 
 use sb_pattern::Cell;
 use sb_rule::{Cond, Policy, Rule, Test};
@@ -67,8 +67,8 @@ fn is_policy(policy: &Policy)
     are_rules(policy.rules.as_slice());
 }
 
-/// Policies have short names, numbers of 64 bits and units of 16.
-pub(crate) fn are_policies(policies: &[Policy])
+/// Policies have short names, numbers of 64 bits and units of 16. It walks through them, and has no other effect.
+pub fn are_policies(policies: &[Policy])
     ensures { list_all is_policy_of_values policies.now ≡ true }
 {
     for policy in policies {

@@ -1,0 +1,10 @@
+// Policies printed as text: the version, and for each policy its heading and a line for each rule.
+#![tactic(auto)]
+
+mod parameters;
+mod printing;
+mod values;
+
+pub use parameters::parameter_words;
+pub use printing::print_policies;
+pub use values::are_policies;

@@ -1,0 +1,230 @@
+// Printing policies.
+ghost use Rattle.std.specs.Prelude.{◌≡◌, ◌++◌, ◌∷◌, [], map, codes, true, length, ◌<◌, ◌^◌, IfOk, OnOk};
+ghost use Rattle.std.specs.List.{flat_map, list_any};
+ghost use Rattle.sb_rule.specs.WellMade.{are_well_made};
+ghost use Rattle.sb_rule.specs.Actions.{action_word};
+ghost use Rattle.sb_call.specs.CallWords.{call_word};
+ghost use Rattle.sb_ruleprint.specs.Printing.{number_word, range_word, utf8_of, or_tokens, numbers_tokens, test_tokens, not_tokens, cond_tokens, joined_tokens, conds_tokens, rule_tokens, heading_tokens, policy_lines, is_read_only, has_read_only, version_word, version_tokens, spaced, line_text, printed};
+
+use crate::parameters::parameter_word;
+use crate::values::are_policies;
+use sb_call::{CallTag, call_word};
+use sb_rule::{Action, Cond, Policies, Policy, Rule, Test};
+use sb_wide::{NoMemory, put_hexadecimal};
+use std::alloc::Global;
+
+// Each of these appends to the text. After an error the text is of no use.
+
+fn put_word(text: &mut Vec<u8>, word: &[u8]) -> Result<(), NoMemory>
+    ensures { OnOk result (text.new.items ≡ text.old.items ++ 32 ∷ word.now) }
+{
+    text.push(b' ')?;
+    text.extend_from_slice(word)?;
+    Ok(())
+}
+
+fn put_number(text: &mut Vec<u8>, number: u64) -> Result<(), NoMemory>
+    ensures { OnOk result (text.new.items ≡ text.old.items ++ number_word number) }
+{
+    text.extend_from_slice(b"0x")?;
+    put_hexadecimal(text, number)
+}
+
+fn put_quoted(text: &mut Vec<u8>, units: &[u16]) -> Result<(), NoMemory>
+    ensures { OnOk result (text.new.items ≡ text.old.items ++ 32 ∷ 34 ∷ utf8_of units.now ++ 34 ∷ []) }
+{
+    let characters = String::from_utf16_lossy(*text.allocator(), units)?;
+    text.extend_from_slice(b" \"")?;
+    text.extend_from_slice(characters.as_bytes())?;
+    text.push(b'"')?;
+    Ok(())
+}
+
+fn put_more_numbers(text: &mut Vec<u8>, numbers: &[u64]) -> Result<(), NoMemory>
+    ensures { OnOk result (text.new.items ≡ text.old.items ++ spaced (flat_map or_tokens numbers.now)) }
+{
+    for number in numbers {
+        put_word(text, b"or")?;
+        text.push(b' ')?;
+        put_number(text, *number)?;
+    }
+    Ok(())
+}
+
+fn put_numbers(text: &mut Vec<u8>, numbers: &[u64]) -> Result<(), NoMemory>
+    ensures { OnOk result (text.new.items ≡ text.old.items ++ spaced (numbers_tokens numbers.now)) }
+{
+    let Some((first, more)) = numbers.split_first() else {
+        return Ok(());
+    };
+    text.push(b' ')?;
+    put_number(text, *first)?;
+    put_more_numbers(text, more)
+}
+
+fn put_range(text: &mut Vec<u8>, lo: u64, hi: u64) -> Result<(), NoMemory>
+    ensures { OnOk result (text.new.items ≡ text.old.items ++ range_word lo hi) }
+{
+    put_number(text, lo)?;
+    text.extend_from_slice(b"..")?;
+    put_number(text, hi)
+}
+
+fn put_test(text: &mut Vec<u8>, test: &Test) -> Result<(), NoMemory>
+    ensures { OnOk result (text.new.items ≡ text.old.items ++ spaced (test_tokens test.now)) }
+{
+    match test {
+        Test::OneOf(numbers) => {
+            put_word(text, b"is")?;
+            put_numbers(text, numbers.as_slice())
+        }
+        Test::Range { lo, hi } => {
+            text.extend_from_slice(b" in ")?;
+            put_range(text, *lo, *hi)
+        }
+        Test::Mask(mask) => {
+            text.extend_from_slice(b" has ")?;
+            put_number(text, *mask)
+        }
+        Test::Equal(string) => {
+            put_word(text, b"is")?;
+            put_quoted(text, string.as_units())
+        }
+        Test::Like(pattern) => {
+            let string = pattern.text(*text.allocator())?;
+            put_word(text, b"like")?;
+            put_quoted(text, string.as_units())
+        }
+    }
+}
+
+fn put_not(text: &mut Vec<u8>, negated: bool) -> Result<(), NoMemory>
+    ensures { OnOk result (text.new.items ≡ text.old.items ++ spaced (not_tokens negated)) }
+{
+    if negated {
+        put_word(text, b"not")?;
+    }
+    Ok(())
+}
+
+fn put_cond(text: &mut Vec<u8>, joint: &[u8], tag: CallTag, cond: &Cond) -> Result<(), NoMemory>
+    ensures { OnOk result (text.new.items ≡ text.old.items ++ spaced (joined_tokens joint.now tag cond.now)) }
+{
+    put_word(text, joint)?;
+    put_not(text, cond.negated)?;
+    put_word(text, parameter_word(tag, cond.param))?;
+    put_test(text, &cond.test)
+}
+
+fn put_more_conds(text: &mut Vec<u8>, tag: CallTag, conds: &[Cond]) -> Result<(), NoMemory>
+    ensures { OnOk result (text.new.items ≡ text.old.items ++ spaced (flat_map (joined_tokens (codes "and") tag) conds.now)) }
+{
+    for cond in conds {
+        put_cond(text, b"and", tag, cond)?;
+    }
+    Ok(())
+}
+
+fn put_conds(text: &mut Vec<u8>, tag: CallTag, conds: &[Cond]) -> Result<(), NoMemory>
+    ensures { OnOk result (text.new.items ≡ text.old.items ++ spaced (conds_tokens tag conds.now)) }
+{
+    let Some((first, more)) = conds.split_first() else {
+        return Ok(());
+    };
+    put_cond(text, b"when", tag, first)?;
+    put_more_conds(text, tag, more)
+}
+
+#[tactic(auto, using(crate::proofs::Spaces::line_in_pieces))]
+fn put_rule(text: &mut Vec<u8>, rule: &Rule) -> Result<(), NoMemory>
+    ensures { OnOk result (text.new.items ≡ text.old.items ++ line_text (rule_tokens rule.now)) }
+{
+    text.extend_from_slice(rule.action.word())?;
+    put_word(text, call_word(rule.tag))?;
+    put_conds(text, rule.tag, rule.conds.as_slice())?;
+    text.push(b'\n')?;
+    Ok(())
+}
+
+fn put_rules(text: &mut Vec<u8>, rules: &[Rule]) -> Result<(), NoMemory>
+    ensures { OnOk result (text.new.items ≡ text.old.items ++ flat_map line_text (map rule_tokens rules.now)) }
+{
+    for rule in rules {
+        put_rule(text, rule)?;
+    }
+    Ok(())
+}
+
+fn put_policy(text: &mut Vec<u8>, policy: &Policy) -> Result<(), NoMemory>
+    ensures { OnOk result (text.new.items ≡ text.old.items ++ flat_map line_text (policy_lines policy.now)) }
+{
+    text.extend_from_slice(b"policy")?;
+    put_word(text, policy.name.bytes())?;
+    text.push(b'\n')?;
+    put_rules(text, policy.rules.as_slice())
+}
+
+fn put_policies(text: &mut Vec<u8>, policies: &[Policy]) -> Result<(), NoMemory>
+    ensures { OnOk result (text.new.items ≡ text.old.items ++ flat_map line_text (flat_map policy_lines policies.now)) }
+{
+    for policy in policies {
+        put_policy(text, policy)?;
+    }
+    Ok(())
+}
+
+fn is_read_only(rule: &Rule) -> bool
+    ensures { result ≡ is_read_only rule.now.action }
+{
+    matches!(rule.action, Action::ReadOnly)
+}
+
+fn has_read_only(policy: &Policy) -> bool
+    ensures { result ≡ has_read_only policy.now }
+{
+    policy.rules.as_slice().iter().any(is_read_only)
+}
+
+fn have_read_only(policies: &[Policy]) -> bool
+    ensures { result ≡ list_any has_read_only policies.now }
+{
+    policies.iter().any(has_read_only)
+}
+
+fn version_word(policies: &[Policy]) -> &'static [u8]
+    ensures { result.now ≡ version_word policies.now }
+{
+    if have_read_only(policies) { b"2" } else { b"1" }
+}
+
+fn policies_text(alloc: Global, policies: &[Policy]) -> Result<Vec<u8>, NoMemory>
+    ensures { IfOk result (λ text. text.items ≡ printed policies.now) }
+{
+    let mut text = Vec::new(alloc);
+    text.extend_from_slice(b"sandbox-policy")?;
+    put_word(&mut text, version_word(policies))?;
+    text.push(b'\n')?;
+    put_policies(&mut text, policies)?;
+    Ok(text)
+}
+
+/// The text of policies.
+///
+/// The first line is `sandbox-policy 2` where some rule has the action `ReadOnly`, and `sandbox-policy 1` otherwise. Then
+/// each policy has its heading and one line for each rule. One space stands between each two tokens, and an LF behind each
+/// line. Numbers are `0x` and lower-case hexadecimal digits without leading zeros. Strings and patterns are their text, in
+/// UTF-8, between quotes. The text has fewer than 2^32 bytes.
+///
+/// # Errors
+/// `NoMemory` if there is none for the text.
+#[tactic(auto, using(crate::proofs::Lengths::printed_short))]
+pub fn print_policies(alloc: Global, policies: &Policies) -> Result<Vec<u8>, NoMemory>
+    requires { are_well_made policies.now.list ≡ true }
+    ensures text { IfOk result (λ text. text.items ≡ printed policies.now.list) }
+    ensures short { IfOk result (λ text. length text.items < 2 ^ 32) }
+{
+    let list = policies.list.as_slice();
+    are_policies(list);
+    let text = policies_text(alloc, list)?;
+    Ok(text)
+}

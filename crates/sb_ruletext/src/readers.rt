@@ -1,0 +1,35 @@
+// Readers of a policy text's lines: in all of them a broken or missing token is an unknown word.
+ghost use Rattle.std.specs.Prelude.{◌≡◌, true, IfOk};
+ghost use Rattle.std.specs.List.{list_all};
+ghost use Rattle.sb_ruletext.specs.Steps.{word_or, quoted_or, line_end};
+ghost use Rattle.sb_text.specs.Steps.{Gives, ReadsAs};
+ghost use Rattle.sb_text.specs.TokenLaws.{is_quoted_byte};
+
+use crate::faults::LineRefused;
+use crate::faults::TextKind::{self, UnknownWord};
+use sb_text::{Tokens, end_at, quoted_at, word_at};
+
+/// A word: its bytes. A quoted token in its place has this fault; a broken one, or none, is `UnknownWord`.
+pub(crate) fn word_or<'a>(
+    quoted: TextKind,
+    tokens: &mut Tokens<'a>,
+) -> Result<&'a [u8], LineRefused>
+    ensures { ReadsAs (λ word. word.now) (word_or quoted tokens.old) result tokens.new }
+{
+    word_at(quoted, UnknownWord, UnknownWord, tokens)
+}
+
+/// What stands between quotes. A word in its place has this fault; a broken token, or none, is `UnknownWord`.
+pub(crate) fn quoted_or<'a>(word: TextKind, tokens: &mut Tokens<'a>) -> Result<&'a str, LineRefused>
+    ensures read { ReadsAs (λ quoted. quoted.now) (quoted_or word tokens.old) result tokens.new }
+    ensures quotable { IfOk result (λ quoted. list_all is_quoted_byte quoted.now ≡ true) }
+{
+    quoted_at(word, UnknownWord, UnknownWord, tokens)
+}
+
+/// The line is to end here. Any further token is `UnknownWord`.
+pub(crate) fn line_end(tokens: &Tokens) -> Result<(), LineRefused>
+    ensures { Gives (line_end tokens.now) result }
+{
+    end_at(UnknownWord, UnknownWord, tokens)
+}
