@@ -8,13 +8,13 @@ use Rattle.sb_call.specs.declared.tags.CallTag.TheVariants.{Ping, FileCreate, Fi
 use Rattle.sb_opcode.specs.Faults.{fault_of}
 use Rattle.sb_opcode.specs.declared.faults.CodeFault.{CodeFault}
 use Rattle.sb_opcode.specs.declared.opcodes.Opcode.{Opcode}
-use Rattle.sb_opcode.specs.declared.verified.Verified.{Verified}
+use Rattle.sb_opcode.specs.Verified.{VerifiedCode}
 use Rattle.sb_call.specs.CallWords.{every_tag}
 use Rattle.sb_compile.specs.Programs.{code_in_call, is_for_tag, are_for}
 use Rattle.sb_compile.proofs.Members.{both}
 
 -- one call more
-pub pushed_for : (tags : List CallTag) (calls : List (Option Verified)) (tag : CallTag) (call : Option Verified) → are_for tags calls ≡ true
+pub pushed_for : (tags : List CallTag) (calls : List (Option VerifiedCode)) (tag : CallTag) (call : Option VerifiedCode) → are_for tags calls ≡ true
     → is_for_tag tag call ≡ true → are_for (tags ++ tag ∷ []) (calls ++ call ∷ []) ≡ true
 pushed_for [] [] tag call h k = both k refl
 pushed_for [] (c ∷ calls) tag call h k = absurd (false≢true h)
@@ -23,7 +23,7 @@ pushed_for (t ∷ tags) (c ∷ calls) tag call h k =
     let p = and_parts (is_for_tag t c) (are_for tags calls) h in
     both p.0 (pushed_for tags calls tag call p.1 k)
 
-for_at : (tags : List CallTag) (calls : List (Option Verified)) (i : ℕ) → are_for tags calls ≡ true
+for_at : (tags : List CallTag) (calls : List (Option VerifiedCode)) (i : ℕ) → are_for tags calls ≡ true
     → is_for_tag (slice_index_or tags i Ping) (slice_index_or calls i None) ≡ true
 for_at [] [] i h = refl
 for_at [] (c ∷ calls) i h = absurd (false≢true h)
@@ -32,7 +32,7 @@ for_at (t ∷ tags) (c ∷ calls) zero h = (and_parts (is_for_tag t c) (are_for 
 for_at (t ∷ tags) (c ∷ calls) (suc i) h = for_at tags calls i (and_parts (is_for_tag t c) (are_for tags calls) h).1
 
 -- what stands at the number of a call is for it
-pub call_for : (calls : List (Option Verified)) (tag : CallTag) → are_for every_tag calls ≡ true → is_for_tag tag (slice_index_or calls (number_of tag - 1) None) ≡ true
+pub call_for : (calls : List (Option VerifiedCode)) (tag : CallTag) → are_for every_tag calls ≡ true → is_for_tag tag (slice_index_or calls (number_of tag - 1) None) ≡ true
 call_for calls Ping h = for_at every_tag calls 0 h
 call_for calls FileCreate h = for_at every_tag calls 1 h
 call_for calls FileOpen h = for_at every_tag calls 2 h
@@ -46,7 +46,7 @@ call_for calls EventOpen h = for_at every_tag calls 9 h
 call_for calls HandleClose h = for_at every_tag calls 10 h
 
 -- the code at a place is that of the call there
-pub code_at : (calls : List (Option Verified)) (i : ℕ) → slice_index_or (map code_in_call calls) i [] ≡ code_in_call (slice_index_or calls i None)
+pub code_at : (calls : List (Option VerifiedCode)) (i : ℕ) → slice_index_or (map code_in_call calls) i [] ≡ code_in_call (slice_index_or calls i None)
 code_at [] i = refl
 code_at (c ∷ calls) zero = refl
 code_at (c ∷ calls) (suc i) = code_at calls i

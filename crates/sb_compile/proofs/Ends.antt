@@ -1,17 +1,18 @@
 -- What the last opcode of a group gains: its options say where the group ends, and whether it is negated.
-use Rattle.std.specs.Prelude.{Option, None, Some, option_and_then, is_some, bit_or}
+use Rattle.std.specs.Prelude.{Option, None, Some, option_map, option_and_then, is_some, bit_or}
 use Rattle.std.specs.List.{list_all}
 use Rattle.std.proofs.Common.{◌≡◌, ℕ, Bool, true, false, cond, List, [], ◌∷◌, ◌||◌, eqb, refl, ap, sym, subst}
 use Rattle.std.proofs.lemmas.Bool.{and_parts, eqb-true, false≢true}
 use Rattle.sb_call.specs.Arguments.{arg_at}
 use Rattle.sb_call.specs.declared.arguments.Arg.{Arg}
-use Rattle.sb_opcode.specs.Options.{options_of, negates, clears, is_choice, folds, is_exact}
+use Rattle.sb_call.specs.declared.arguments.Arg.TheVariants as arg
+use Rattle.sb_opcode.specs.Options.{options_of, has, NEGATE, CLEAR, OR, FOLD, EXACT}
 use Rattle.sb_opcode.specs.declared.opcodes.Opcode.{Opcode}
 use Rattle.sb_opcode.specs.declared.opcodes.OpKind.{OpKind}
 use Rattle.sb_opcode.specs.declared.opcodes.OpKind.TheVariants as op
 use Rattle.sb_opcode.specs.declared.options.Options.{Options}
 use Rattle.sb_eval.specs.Fragments.{after_seek, at_end}
-use Rattle.sb_eval.specs.Meaning.{after_kind, after_opcode, after_all, all_hold, one_holds, is_negated, turned, group_holds, units_in, number_in}
+use Rattle.sb_eval.specs.Meaning.{units_left, after_opcode, after_all, all_hold, one_holds, is_negated, turned, group_holds}
 use Rattle.sb_compile.specs.Compiling.{closed, end_bits, with_options}
 
 -- the options of opcodes that do not end a group
@@ -33,13 +34,13 @@ by_bits P p q r s n h = by (eqb n 0) (eqb n 4) (eqb n 8) (eqb n 24) refl refl re
 
 -- what the options that end a group leave as it is, and what they say
 pub record Kept (negated : Bool) (n : ℕ) : Type 0 where
-  pub folds_kept : folds (options_of (bit_or n (end_bits negated))) ≡ folds (options_of n)
-  pub exact_kept : is_exact (options_of (bit_or n (end_bits negated))) ≡ is_exact (options_of n)
-  pub choice_kept : is_choice (options_of (bit_or n (end_bits negated))) ≡ is_choice (options_of n)
-  pub negates_so : negates (options_of (bit_or n (end_bits negated))) ≡ negated
-  pub clears_now : clears (options_of (bit_or n (end_bits negated))) ≡ true
-  pub clears_not : clears (options_of n) ≡ false
-  pub negates_not : negates (options_of n) ≡ false
+  pub folds_kept : has (options_of (bit_or n (end_bits negated))) FOLD ≡ has (options_of n) FOLD
+  pub exact_kept : has (options_of (bit_or n (end_bits negated))) EXACT ≡ has (options_of n) EXACT
+  pub choice_kept : has (options_of (bit_or n (end_bits negated))) OR ≡ has (options_of n) OR
+  pub negates_so : has (options_of (bit_or n (end_bits negated))) NEGATE ≡ negated
+  pub clears_now : has (options_of (bit_or n (end_bits negated))) CLEAR ≡ true
+  pub clears_not : has (options_of n) CLEAR ≡ false
+  pub negates_not : has (options_of n) NEGATE ≡ false
 
 same_all : (negated : Bool) → Kept negated 0 × Kept negated 4 × Kept negated 8 × Kept negated 24
 same_all true = (
@@ -58,46 +59,46 @@ same_all false = (
 pub kept : (negated : Bool) (n : ℕ) → is_plain_bits n ≡ true → Kept negated n
 kept negated n h = let all = same_all negated in by_bits (Kept negated) all.0 all.1 all.2 all.3 n h
 
--- what an opcode does depends on FOLD and EXACT alone
-kind_kept : (kind : OpKind) (a b : Options) (value : ℕ) (us : List ℕ) → folds a ≡ folds b → is_exact a ≡ is_exact b → after_kind kind a value us ≡ after_kind kind b value us
-kind_kept op.False a b value us f x = refl
-kind_kept op.True a b value us f x = refl
-kind_kept (op.Num n) a b value us f x = refl
-kind_kept (op.Range lo hi) a b value us f x = refl
-kind_kept (op.Mask mask) a b value us f x = refl
-kind_kept (op.Act action line) a b value us f x = refl
-kind_kept (op.Text cells seek) a b value us f x =
+-- what an opcode leaves of a string depends on FOLD and EXACT alone
+units_kept : (kind : OpKind) (a b : Options) (us : List ℕ) → has a FOLD ≡ has b FOLD → has a EXACT ≡ has b EXACT → units_left kind a us ≡ units_left kind b us
+units_kept op.False a b us f x = refl
+units_kept op.True a b us f x = refl
+units_kept (op.Num n) a b us f x = refl
+units_kept (op.Range lo hi) a b us f x = refl
+units_kept (op.Mask mask) a b us f x = refl
+units_kept (op.Act action line) a b us f x = refl
+units_kept (op.Text cells seek) a b us f x =
     λ i. cond (x i) (at_end (after_seek seek (f i) cells us)) (after_seek seek (f i) cells us)
 
 -- the last opcode of a group does as it did
-end_kept : (negated : Bool) (op : Opcode) (arg : Arg) (us : List ℕ) → is_plain op ≡ true
-    → after_opcode (with_options (end_bits negated) op) arg us ≡ after_opcode op arg us
-end_kept negated op arg us h =
+end_kept : (negated : Bool) (op : Opcode) (arg : Arg) → is_plain op ≡ true → after_opcode (with_options (end_bits negated) op) arg ≡ after_opcode op arg
+end_kept negated op (arg.Num value) h = refl
+end_kept negated op (arg.Str us) h =
     let k = kept negated op.options.0 h in
-    kind_kept op.kind (options_of (bit_or op.options.0 (end_bits negated))) op.options (number_in arg) us k.folds_kept k.exact_kept
+    ap (option_map arg.Str) (units_kept op.kind (options_of (bit_or op.options.0 (end_bits negated))) op.options us k.folds_kept k.exact_kept)
 
-then_equal : (f g : List ℕ → Option (List ℕ)) → ((us : List ℕ) → f us ≡ g us) → (left : Option (List ℕ)) → option_and_then f left ≡ option_and_then g left
+then_equal : (f g : Arg → Option Arg) → ((arg : Arg) → f arg ≡ g arg) → (left : Option Arg) → option_and_then f left ≡ option_and_then g left
 then_equal f g h None = refl
-then_equal f g h (Some us) = h us
+then_equal f g h (Some arg) = h arg
 
 abbrev pub are_plain : List Opcode → Bool
 are_plain ops = list_all is_plain ops
 
-closed_after : (negated : Bool) (ops : List Opcode) (arg : Arg) (us : List ℕ) → are_plain ops ≡ true → after_all (closed negated ops) arg us ≡ after_all ops arg us
-closed_after negated [] arg us h = refl
-closed_after negated (op ∷ []) arg us h =
-    ap (λ left. option_and_then Some left) (end_kept negated op arg us (and_parts (is_plain op) true h).0)
-closed_after negated (op ∷ next ∷ ops) arg us h =
+closed_after : (negated : Bool) (ops : List Opcode) (arg : Arg) → are_plain ops ≡ true → after_all (closed negated ops) arg ≡ after_all ops arg
+closed_after negated [] arg h = refl
+closed_after negated (op ∷ []) arg h =
+    ap (λ left. option_and_then (after_all []) left) (end_kept negated op arg (and_parts (is_plain op) true h).0)
+closed_after negated (op ∷ next ∷ ops) arg h =
     let p = and_parts (is_plain op) (are_plain (next ∷ ops)) h in
-    then_equal (after_all (closed negated (next ∷ ops)) arg) (after_all (next ∷ ops) arg) (λ rest. closed_after negated (next ∷ ops) arg rest p.1) (after_opcode op arg us)
+    then_equal (after_all (closed negated (next ∷ ops))) (after_all (next ∷ ops)) (λ left. closed_after negated (next ∷ ops) left p.1) (after_opcode op arg)
 
 closed_one : (negated : Bool) (ops : List Opcode) (arg : Arg) → are_plain ops ≡ true → one_holds (closed negated ops) arg ≡ one_holds ops arg
 closed_one negated [] arg h = refl
 closed_one negated (op ∷ []) arg h =
-    ap (λ left. is_some left || false) (end_kept negated op arg (units_in arg) (and_parts (is_plain op) true h).0)
+    ap (λ left. is_some left || false) (end_kept negated op arg (and_parts (is_plain op) true h).0)
 closed_one negated (op ∷ next ∷ ops) arg h =
     let p = and_parts (is_plain op) (are_plain (next ∷ ops)) h in
-    ap (λ b. is_some (after_opcode op arg (units_in arg)) || b) (closed_one negated (next ∷ ops) arg p.1)
+    ap (λ b. is_some (after_opcode op arg) || b) (closed_one negated (next ∷ ops) arg p.1)
 
 closed_negated : (negated : Bool) (op : Opcode) (ops : List Opcode) → are_plain (op ∷ ops) ≡ true → is_negated (closed negated (op ∷ ops)) ≡ negated
 closed_negated negated op [] h = (kept negated op.options.0 (and_parts (is_plain op) true h).0).negates_so
@@ -106,7 +107,7 @@ closed_negated negated op (next ∷ third ∷ ops) h = closed_negated negated ne
 
 -- a group, by its opcodes before the last was told that it is the last
 abbrev pub plain_holds : List Arg → Opcode → List Opcode → Bool
-plain_holds args op ops = cond (is_choice op.options) (one_holds (op ∷ ops) (arg_at args op.param)) (all_hold (op ∷ ops) (arg_at args op.param))
+plain_holds args op ops = cond (has op.options OR) (one_holds (op ∷ ops) (arg_at args op.param)) (all_hold (op ∷ ops) (arg_at args op.param))
 
 pub group_closed : (negated : Bool) (args : List Arg) (op : Opcode) (ops : List Opcode) → are_plain (op ∷ ops) ≡ true
     → group_holds args (closed negated (op ∷ ops)) ≡ turned negated (plain_holds args op ops)
@@ -114,8 +115,8 @@ group_closed negated args op [] h =
     let arg = arg_at args op.param in
     λ i. turned (closed_negated negated op [] h i)
     (cond ((kept negated op.options.0 (and_parts (is_plain op) true h).0).choice_kept i) (closed_one negated (op ∷ []) arg h i)
-    (is_some (closed_after negated (op ∷ []) arg (units_in arg) h i)))
+    (is_some (closed_after negated (op ∷ []) arg h i)))
 group_closed negated args op (next ∷ ops) h =
     let arg = arg_at args op.param in
     λ i. turned (closed_negated negated op (next ∷ ops) h i)
-    (cond (is_choice op.options) (closed_one negated (op ∷ next ∷ ops) arg h i) (is_some (closed_after negated (op ∷ next ∷ ops) arg (units_in arg) h i)))
+    (cond (has op.options OR) (closed_one negated (op ∷ next ∷ ops) arg h i) (is_some (closed_after negated (op ∷ next ∷ ops) arg h i)))

@@ -15,7 +15,7 @@ use Rattle.sb_rule.specs.declared.conditions.Cond.{Cond}
 use Rattle.sb_rule.specs.declared.policies.Rule.{Rule}
 use Rattle.sb_opcode.specs.Faults.{ends_with_act, is_text_kind, goes_on, differs, is_unfit, is_open, with_before, is_misplaced}
 use Rattle.sb_opcode.specs.Groups.{is_act}
-use Rattle.sb_opcode.specs.Options.{negates, clears, is_choice, folds, is_exact, has_options}
+use Rattle.sb_opcode.specs.Options.{has, NEGATE, CLEAR, OR, FOLD, EXACT, has_options}
 use Rattle.sb_opcode.specs.declared.faults.CodeFault.TheVariants.{NoAction, OpenGroup, BadParam}
 use Rattle.sb_opcode.specs.declared.opcodes.Opcode.{Opcode}
 use Rattle.sb_compile.specs.Compiling.{closed, cond_code, rule_code, code_of, end_bits, is_for, with_options}
@@ -31,7 +31,7 @@ none_open before ops = list_all (λ pair. not (is_open pair)) (with_before befor
 
 -- what may stand before an opcode of this parameter and this OR
 abbrev Follows : Option Opcode → ℕ → Bool → Type 0
-Follows before param choice = (op : Opcode) → op.param ≡ param → is_choice op.options ≡ choice → (goes_on before && differs before op) ≡ false
+Follows before param choice = (op : Opcode) → op.param ≡ param → has op.options OR ≡ choice → (goes_on before && differs before op) ≡ false
 
 follows_end : (before : Option Opcode) (param : ℕ) (choice : Bool) → goes_on before ≡ false → Follows before param choice
 follows_end before param choice h op p c = ap (λ b. b && differs before op) h
@@ -44,7 +44,7 @@ chosen_same : (b : Bool) → beq b b ≡ true
 chosen_same true = refl
 chosen_same false = refl
 
-follows_member : (before : Opcode) (param : ℕ) (choice : Bool) → before.param ≡ param → is_choice before.options ≡ choice → Follows (Some before) param choice
+follows_member : (before : Opcode) (param : ℕ) (choice : Bool) → before.param ≡ param → has before.options OR ≡ choice → Follows (Some before) param choice
 follows_member before param choice p c op q d =
     (λ i. goes_on (Some before) && (not (eqb (p i) (q i)) || not (beq (c i) (d i))))
     ∙ (λ i. goes_on (Some before) && (not (same param i) || not (chosen_same choice i)))
@@ -60,17 +60,17 @@ end_fits negated op plain no_act fit =
     let k = kept negated op.options.0 plain in
     let text = is_text_kind op.kind in
     let w = with_options (end_bits negated) op in
-    let cut = negates op.options && not (clears op.options) in
-    let chosen = text && is_choice op.options in
+    let cut = has op.options NEGATE && not (has op.options CLEAR) in
+    let chosen = text && has op.options OR in
     let acts = is_act op && has_options op.options in
-    let others = not text && (folds op.options || is_exact op.options) in
+    let others = not text && (has op.options FOLD || has op.options EXACT) in
     let p = or_parts ((cut || chosen) || acts) others fit in
     let q = or_parts (cut || chosen) acts p.0 in
     let r = or_parts cut chosen q.0 in
-    let first : (negates w.options && not (clears w.options)) ≡ false = (λ i. negates w.options && not (k.clears_now i)) ∙ never (negates w.options) in
-    let second : (text && is_choice w.options) ≡ false = ap (λ b. text && b) k.choice_kept ∙ r.1 in
+    let first : (has w.options NEGATE && not (has w.options CLEAR)) ≡ false = (λ i. has w.options NEGATE && not (k.clears_now i)) ∙ never (has w.options NEGATE) in
+    let second : (text && has w.options OR) ≡ false = ap (λ b. text && b) k.choice_kept ∙ r.1 in
     let third : (is_act op && has_options w.options) ≡ false = ap (λ b. b && has_options w.options) no_act in
-    let fourth : (not text && (folds w.options || is_exact w.options)) ≡ false = (λ i. not text && (k.folds_kept i || k.exact_kept i)) ∙ p.1 in
+    let fourth : (not text && (has w.options FOLD || has w.options EXACT)) ≡ false = (λ i. not text && (k.folds_kept i || k.exact_kept i)) ∙ p.1 in
     λ i. ((first i || second i) || third i) || fourth i
 
 not_open : (before : Option Opcode) (op : Opcode) → (goes_on before && differs before op) ≡ false → is_act op ≡ false → is_unfit op ≡ false → not (is_open (before, op)) ≡ true

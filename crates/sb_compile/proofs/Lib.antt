@@ -11,3 +11,4 @@ pub mod Stars
 pub mod Calls
 pub mod LetterCase
 pub mod Standing
+pub mod Lines

@@ -1,6 +1,6 @@
 -- The opcodes of one condition: they look at one parameter that they suit, and all have OR or none has.
 use Rattle.std.specs.Bool.{beq}
-use Rattle.std.specs.Prelude.{nat_lt}
+use Rattle.std.specs.Prelude.{nat_lt, bit_or}
 use Rattle.std.specs.List.{list_all}
 use Rattle.std.proofs.Common.{◌≡◌, ◌∙◌, ℕ, Bool, true, false, not, cond, List, [], ◌∷◌, ◌++◌, ◌&&◌, eqb, length, map, refl, sym, subst}
 use Rattle.std.proofs.lemmas.Bool.{and_parts, eqb-true, false≢true}
@@ -17,17 +17,17 @@ use Rattle.sb_rule.specs.declared.conditions.Test.{Test}
 use Rattle.sb_rule.specs.declared.conditions.Test.TheVariants as test
 use Rattle.sb_opcode.specs.Faults.{is_unfit, is_number_at, is_string_at, suits}
 use Rattle.sb_opcode.specs.Groups.{is_act}
-use Rattle.sb_opcode.specs.Options.{is_choice}
+use Rattle.sb_opcode.specs.Options.{has, OR, FOLD, EXACT}
 use Rattle.sb_opcode.specs.declared.opcodes.Opcode.{Opcode}
 use Rattle.sb_opcode.specs.declared.opcodes.OpKind.TheVariants as op
 use Rattle.sb_opcode.specs.declared.opcodes.Seek.TheVariants.{Skip}
-use Rattle.sb_compile.specs.Compiling.{opcode, choice, here, fold_and_exact, test_code, first_code, later_code, or_true, runs_code}
+use Rattle.sb_compile.specs.Compiling.{opcode, here, test_code, first_code, later_code, or_true, runs_code}
 use Rattle.sb_compile.proofs.Ends.{is_plain, are_plain}
 use Rattle.sb_compile.proofs.Runs.{runs_of}
 
 abbrev pub is_member : CallTag → ℕ → Bool → Opcode → Bool
 is_member tag param choice op =
-    eqb op.param param && (beq (is_choice op.options) choice && (is_plain op && (not (is_act op) && (suits tag op.kind op.param && not (is_unfit op)))))
+    eqb op.param param && (beq (has op.options OR) choice && (is_plain op && (not (is_act op) && (suits tag op.kind op.param && not (is_unfit op)))))
 
 abbrev pub are_members : CallTag → ℕ → Bool → List Opcode → Bool
 are_members tag param choice ops = list_all (is_member tag param choice) ops
@@ -47,7 +47,7 @@ same n = (Decides-eqb n n).1 refl
 abbrev pub both : {a b : Bool} → a ≡ true → b ≡ true → (a && b) ≡ true
 both p q = λ i. p i && q i
 
-choices : (tag : CallTag) (param : ℕ) (ns : List ℕ) → is_number_at tag param ≡ true → are_members tag param true (map (λ k. opcode param choice (op.Num k)) ns) ≡ true
+choices : (tag : CallTag) (param : ℕ) (ns : List ℕ) → is_number_at tag param ≡ true → are_members tag param true (map (λ k. opcode param OR (op.Num k)) ns) ≡ true
 choices tag param [] h = refl
 choices tag param (n ∷ ns) h = both (both (same param) (both h refl)) (choices tag param ns h)
 
@@ -76,7 +76,7 @@ here_members tag param run h = both (both (same param) (both h refl)) refl
 
 pub runs_group : (tag : CallTag) (param : ℕ) (run : List Cell) (runs : List (List Cell)) → is_string_at tag param ≡ true → Group tag (runs_code param (run ∷ runs))
 runs_group tag param run [] h = record {
-  first = here param fold_and_exact run;
+  first = here param (bit_or FOLD EXACT) run;
   others = [];
   are = refl;
   param = param;
@@ -98,8 +98,8 @@ pub test_group : (tag : CallTag) (param : ℕ) (test : Test) → is_placed tag p
 test_group tag param (test.OneOf []) h s = absurd (false≢true s)
 test_group tag param (test.OneOf (n ∷ [])) h s = alone tag param (opcode param 0 (op.Num n)) (both (same param) (both h refl))
 test_group tag param (test.OneOf (n ∷ m ∷ ns)) h s = record {
-  first = opcode param choice (op.Num n);
-  others = map (λ k. opcode param choice (op.Num k)) (m ∷ ns);
+  first = opcode param OR (op.Num n);
+  others = map (λ k. opcode param OR (op.Num k)) (m ∷ ns);
   are = refl;
   param = param;
   choice = true;
@@ -108,7 +108,7 @@ test_group tag param (test.OneOf (n ∷ m ∷ ns)) h s = record {
 test_group tag param (test.Range lo hi) h s = alone tag param (opcode param 0 (op.Range lo hi)) (both (same param) (both h refl))
 test_group tag param (test.Mask mask) h s = alone tag param (opcode param 0 (op.Mask mask)) (both (same param) (both h refl))
 test_group tag param (test.Equal text) h s =
-    alone tag param (opcode param fold_and_exact (op.Text (map Lit text) (Skip 0))) (both (same param) (both h refl))
+    alone tag param (opcode param (bit_or FOLD EXACT) (op.Text (map Lit text) (Skip 0))) (both (same param) (both h refl))
 test_group tag param (test.Like cells) h s =
     let r = runs_of cells in
     subst (λ runs. Group tag (runs_code param runs)) (sym r.are) (runs_group tag param r.first r.others h)
@@ -132,7 +132,7 @@ is_placed_well tag c h =
 -- the parameter, the lack of OR, and the options of opcodes of strings
 pub record Member (tag : CallTag) (param : ℕ) (choice : Bool) (op : Opcode) : Type 0 where
   pub param_is : op.param ≡ param
-  pub choice_is : is_choice op.options ≡ choice
+  pub choice_is : has op.options OR ≡ choice
   pub plain : is_plain op ≡ true
   pub no_act : is_act op ≡ false
   pub suited : suits tag op.kind op.param ≡ true
@@ -150,7 +150,7 @@ is_not false h = refl
 
 pub member : (tag : CallTag) (param : ℕ) (choice : Bool) (op : Opcode) → is_member tag param choice op ≡ true → Member tag param choice op
 member tag param choice op h =
-    let chosen = beq (is_choice op.options) choice in
+    let chosen = beq (has op.options OR) choice in
     let suited = suits tag op.kind op.param in
     let a = and_parts (eqb op.param param) (chosen && (is_plain op && (not (is_act op) && (suited && not (is_unfit op))))) h in
     let b = and_parts chosen (is_plain op && (not (is_act op) && (suited && not (is_unfit op)))) a.1 in
@@ -159,7 +159,7 @@ member tag param choice op h =
     let e = and_parts suited (not (is_unfit op)) d.1 in
     record {
       param_is = eqb-true op.param param a.0;
-      choice_is = equal_tests (is_choice op.options) choice b.0;
+      choice_is = equal_tests (has op.options OR) choice b.0;
       plain = c.0;
       no_act = is_not (is_act op) d.0;
       suited = e.0;

@@ -1,9 +1,10 @@
 -- The opcodes of a pattern hold where the pattern matches.
-use Rattle.std.specs.Prelude.{Option, None, Some, option_and_then, is_some}
+use Rattle.std.specs.Prelude.{Option, None, Some, option_map, option_and_then, is_some}
 use Rattle.std.specs.List.{slice_split, onto_first, list_all}
 use Rattle.std.proofs.Common.{◌≡◌, ◌∙◌, ℕ, Bool, true, false, not, List, [], ◌∷◌, ◌++◌, ◌&&◌, refl, ap, sym}
 use Rattle.std.proofs.lemmas.Bool.{and_parts}
 use Rattle.sb_call.specs.declared.arguments.Arg.{Arg}
+use Rattle.sb_call.specs.declared.arguments.Arg.TheVariants as arg
 use Rattle.sb_pattern.specs.Chunks.{is_any}
 use Rattle.sb_pattern.specs.Matching.{matches}
 use Rattle.sb_pattern.specs.declared.cells.Cell.{Cell}
@@ -12,6 +13,7 @@ use Rattle.sb_opcode.specs.declared.opcodes.Opcode.{Opcode}
 use Rattle.sb_eval.specs.Fragments.{after_fragment, after_first, after_end, at_end}
 use Rattle.sb_eval.specs.Meaning.{after_all}
 use Rattle.sb_compile.specs.Compiling.{first_code, later_code, or_true, runs_code}
+use Rattle.sb_compile.specs.Laws.{PatternOpcodesHoldWhereItMatches}
 use Rattle.sb_compile.proofs.Seeking.{is_free, holds_of, free_first, first_place, skip_free, free_alone, at_the_end, star_matches_all}
 
 -- runs with a `*` between each two
@@ -53,53 +55,52 @@ runs_of (Any ∷ cells) =
 runs_of (One ∷ cells) = onto One cells refl refl (runs_of cells)
 runs_of (Lit u ∷ cells) = onto (Lit u) cells refl refl (runs_of cells)
 
-last_alone : (left : Option (List ℕ)) → is_some (option_and_then Some left) ≡ is_some left
+last_alone : (left : Option (List ℕ)) → is_some (option_and_then (after_all []) (option_map arg.Str left)) ≡ is_some left
 last_alone None = refl
 last_alone (Some us) = refl
 
-then_same : (f : List ℕ → Option (List ℕ)) (test : List ℕ → Bool) → ((us : List ℕ) → is_some (f us) ≡ test us) → (left : Option (List ℕ))
-    → is_some (option_and_then f left) ≡ holds_of test left
+then_same : (f : Arg → Option Arg) (test : List ℕ → Bool) → ((us : List ℕ) → is_some (f (arg.Str us)) ≡ test us) → (left : Option (List ℕ))
+    → is_some (option_and_then f (option_map arg.Str left)) ≡ holds_of test left
 then_same f test h None = refl
 then_same f test h (Some us) = h us
 
 -- what follows a `*`
-later_holds : (param : ℕ) (arg : Arg) (next : List Cell) (runs : List (List Cell)) (us : List ℕ) → are_free (next ∷ runs) ≡ true
-    → is_some (after_all (later_code param (next ∷ runs)) arg us) ≡ matches (Any ∷ joined next runs) us
-later_holds param arg [] [] us free = sym (star_matches_all us)
-later_holds param arg (c ∷ cells) [] us free =
+later_holds : (param : ℕ) (next : List Cell) (runs : List (List Cell)) (us : List ℕ) → are_free (next ∷ runs) ≡ true
+    → is_some (after_all (later_code param (next ∷ runs)) (arg.Str us)) ≡ matches (Any ∷ joined next runs) us
+later_holds param [] [] us free = sym (star_matches_all us)
+later_holds param (c ∷ cells) [] us free =
     let p = and_parts (is_free (c ∷ cells)) true free in
     last_alone (after_end true (c ∷ cells) us) ∙ sym (at_the_end (c ∷ cells) us p.0)
-later_holds param arg run (next ∷ runs) us free =
+later_holds param run (next ∷ runs) us free =
     let p = and_parts (is_free run) (are_free (next ∷ runs)) free in
-    then_same (after_all (later_code param (next ∷ runs)) arg) (matches (Any ∷ joined next runs)) (λ rest. later_holds param arg next runs rest p.1) (after_first true run us)
+    then_same (after_all (later_code param (next ∷ runs))) (matches (Any ∷ joined next runs)) (λ rest. later_holds param next runs rest p.1) (after_first true run us)
     ∙ sym (first_place run (joined next runs) us p.0)
 
-true_alone : (ops : List Opcode) (arg : Arg) (us : List ℕ) → is_some (after_all (or_true ops) arg us) ≡ is_some (after_all ops arg us)
-true_alone [] arg us = refl
-true_alone (op ∷ ops) arg us = refl
+true_alone : (ops : List Opcode) (us : List ℕ) → is_some (after_all (or_true ops) (arg.Str us)) ≡ is_some (after_all ops (arg.Str us))
+true_alone [] us = refl
+true_alone (op ∷ ops) us = refl
 
-first_holds : (param : ℕ) (arg : Arg) (run next : List Cell) (runs : List (List Cell)) (us : List ℕ) → is_free run ≡ true → are_free (next ∷ runs) ≡ true
-    → is_some (after_all (first_code param run ++ later_code param (next ∷ runs)) arg us) ≡ matches (run ++ Any ∷ joined next runs) us
-first_holds param arg [] next runs us free others = later_holds param arg next runs us others
-first_holds param arg (c ∷ cells) next runs us free others =
-    ap (λ left. is_some (option_and_then (after_all (later_code param (next ∷ runs)) arg) left)) (skip_free (c ∷ cells) us)
-    ∙ then_same (after_all (later_code param (next ∷ runs)) arg) (matches (Any ∷ joined next runs)) (λ rest. later_holds param arg next runs rest others)
+first_holds : (param : ℕ) (run next : List Cell) (runs : List (List Cell)) (us : List ℕ) → is_free run ≡ true → are_free (next ∷ runs) ≡ true
+    → is_some (after_all (first_code param run ++ later_code param (next ∷ runs)) (arg.Str us)) ≡ matches (run ++ Any ∷ joined next runs) us
+first_holds param [] next runs us free others = later_holds param next runs us others
+first_holds param (c ∷ cells) next runs us free others =
+    ap (λ left. is_some (option_and_then (after_all (later_code param (next ∷ runs))) (option_map arg.Str left))) (skip_free (c ∷ cells) us)
+    ∙ then_same (after_all (later_code param (next ∷ runs))) (matches (Any ∷ joined next runs)) (λ rest. later_holds param next runs rest others)
     (after_fragment true (c ∷ cells) us)
     ∙ sym (free_first (c ∷ cells) (Any ∷ joined next runs) us free)
 
-runs_hold : (param : ℕ) (arg : Arg) (run : List Cell) (runs : List (List Cell)) (us : List ℕ) → is_free run ≡ true → are_free runs ≡ true
-    → is_some (after_all (runs_code param (run ∷ runs)) arg us) ≡ matches (joined run runs) us
-runs_hold param arg run [] us free others =
-    ap (λ left. is_some (option_and_then Some (at_end left))) (skip_free run us)
+runs_hold : (param : ℕ) (run : List Cell) (runs : List (List Cell)) (us : List ℕ) → is_free run ≡ true → are_free runs ≡ true
+    → is_some (after_all (runs_code param (run ∷ runs)) (arg.Str us)) ≡ matches (joined run runs) us
+runs_hold param run [] us free others =
+    ap (λ left. is_some (option_and_then (after_all []) (option_map arg.Str (at_end left)))) (skip_free run us)
     ∙ last_alone (at_end (after_fragment true run us)) ∙ sym (free_alone run us free)
-runs_hold param arg run (next ∷ runs) us free others =
-    true_alone (first_code param run ++ later_code param (next ∷ runs)) arg us ∙ first_holds param arg run next runs us free others
+runs_hold param run (next ∷ runs) us free others =
+    true_alone (first_code param run ++ later_code param (next ∷ runs)) us ∙ first_holds param run next runs us free others
 
 -- the opcodes of a pattern hold, one after the other, where it matches
-pub pattern_holds : (param : ℕ) (arg : Arg) (cells : List Cell) (us : List ℕ)
-    → is_some (after_all (runs_code param (slice_split is_any cells)) arg us) ≡ matches cells us
-pattern_holds param arg cells us =
+pub pattern_holds : PatternOpcodesHoldWhereItMatches
+pattern_holds param cells us =
     let r = runs_of cells in
-    ap (λ runs. is_some (after_all (runs_code param runs) arg us)) r.are
-    ∙ runs_hold param arg r.first r.others us r.first_free r.others_free
+    ap (λ runs. is_some (after_all (runs_code param runs) (arg.Str us))) r.are
+    ∙ runs_hold param r.first r.others us r.first_free r.others_free
     ∙ ap (λ l. matches l us) r.join

@@ -3,6 +3,7 @@ use Rattle.std.specs.Prelude.{nat_le, slice_index_or}
 use Rattle.std.specs.List.{list_all}
 use Rattle.std.proofs.Common.{◌≡◌, ◌∙◌, ◌<◌, ℕ, zero, suc, Bool, true, false, List, [], ◌∷◌, ◌&&◌, length, map, refl, ap, sym, arith}
 use Rattle.std.proofs.lemmas.Bool.{and_parts}
+use Rattle.std.proofs.lemmas.List.{length-map}
 use Rattle.sb_statements.specs.declared.scripts.TargetScript.{TargetScript}
 use Rattle.sb_rule.specs.Verdicts.{policy_at}
 use Rattle.sb_rule.specs.WellMade.{is_well_made, are_well_made, are_named_apart}
@@ -33,6 +34,10 @@ pub number_at : (policies : List Policy) (numbers : List ℕ) (target : ℕ) →
 number_at policies [] target h = absurd (omega (arith, h))
 number_at policies (n ∷ numbers) zero h = refl
 number_at policies (n ∷ numbers) (suc target) h = number_at policies numbers target (grind (arith, h))
+
+-- each target has a number
+pub as_many : (policies : List Policy) (numbers : List ℕ) → length (policies_in policies numbers) ≡ length numbers
+as_many policies numbers = length-map numbers (λ number. policy_at policies number)
 
 pub numbered : (policies : List Policy) (targets : List TargetScript)
     → policies_in policies (map (λ target. target.policy) targets) ≡ policies_of_targets policies targets

@@ -1,6 +1,6 @@
 -- Groups are written opcode by opcode.
 use Rattle.std.specs.List.{flat_map, list_all, slice_split, onto_first}
-use Rattle.std.proofs.Common.{◌≡◌, ◌∙◌, ℕ, ◌+◌, Bool, true, false, cond, List, [], ◌∷◌, ◌++◌, eqb, filter, length, map, refl, ap, sym}
+use Rattle.std.proofs.Common.{◌≡◌, ◌≢◌, ◌∙◌, ℕ, ◌+◌, Bool, true, false, cond, List, [], ◌∷◌, ◌++◌, eqb, filter, length, map, refl, ap, sym, arith}
 use Rattle.std.proofs.lemmas.Bool.{and_parts, false≢true}
 use Rattle.std.proofs.lemmas.List.{append_assoc, length-append}
 use Rattle.sb_call.specs.Tags.{number_of}
@@ -14,7 +14,8 @@ use Rattle.sb_pattern.specs.declared.cells.Cell.TheVariants.{Lit, One, Any}
 use Rattle.sb_opcode.specs.declared.opcodes.Opcode.{Opcode}
 use Rattle.sb_opcode.specs.declared.opcodes.OpKind.TheVariants as op
 use Rattle.sb_opcode.specs.declared.opcodes.Seek.TheVariants.{Forward}
-use Rattle.sb_compile.specs.Compiling.{opcode, choice, fold, closed, code_of, here, is_for, later_code, rule_code, or_true, runs_code}
+use Rattle.sb_opcode.specs.Options.{OR, FOLD}
+use Rattle.sb_compile.specs.Compiling.{opcode, closed, cond_code, code_of, here, is_for, later_code, rule_code, or_true, runs_code}
 use Rattle.sb_compile.specs.Steps.{last_if, is_none}
 use Rattle.sb_compile.proofs.Members.{both, is_placed_well}
 use Rattle.sb_compile.proofs.Runs.{runs_of}
@@ -25,8 +26,8 @@ closed_step negated op [] = refl
 closed_step negated op (next ∷ ops) = refl
 
 pub choices_step : (negated : Bool) (param n : ℕ) (ns : List ℕ)
-    → closed negated (map (λ k. opcode param choice (op.Num k)) (n ∷ ns))
-    ≡ last_if (is_none ns) negated (opcode param choice (op.Num n)) ∷ closed negated (map (λ k. opcode param choice (op.Num k)) ns)
+    → closed negated (map (λ k. opcode param OR (op.Num k)) (n ∷ ns))
+    ≡ last_if (is_none ns) negated (opcode param OR (op.Num n)) ∷ closed negated (map (λ k. opcode param OR (op.Num k)) ns)
 choices_step negated param n [] = refl
 choices_step negated param n (m ∷ ns) = refl
 
@@ -46,10 +47,10 @@ later_none param (Lit u ∷ cells) = onto_later param (Lit u) cells
 
 pub later_step : (negated : Bool) (param : ℕ) (run later : List Cell)
     → closed negated (later_code param (run ∷ slice_split is_any later))
-    ≡ last_if (is_none later) negated (opcode param fold (op.Text run Forward)) ∷ closed negated (later_code param (slice_split is_any later))
+    ≡ last_if (is_none later) negated (opcode param FOLD (op.Text run Forward)) ∷ closed negated (later_code param (slice_split is_any later))
 later_step negated param run later =
     let r = runs_of later in
-    let first = opcode param fold (op.Text run Forward) in
+    let first = opcode param FOLD (op.Text run Forward) in
     ap (λ runs. closed negated (later_code param (run ∷ runs))) r.are
     ∙ ap (λ runs. closed negated (first ∷ later_code param runs)) (sym r.are)
     ∙ closed_step negated first (later_code param (slice_split is_any later))
@@ -58,14 +59,14 @@ later_step negated param run later =
 -- a fragment after a star is pushed, and what follows it is left
 pub later_pushed : (negated is_last : Bool) (param : ℕ) (run later rest : List Cell) (before middle whole : List Opcode)
     → slice_split is_any rest ≡ run ∷ slice_split is_any later → is_last ≡ is_none later
-    → middle ≡ before ++ last_if is_last negated (opcode param fold (op.Text run Forward)) ∷ []
+    → middle ≡ before ++ last_if is_last negated (opcode param FOLD (op.Text run Forward)) ∷ []
     → before ++ closed negated (later_code param (slice_split is_any rest)) ≡ whole
     → middle ++ closed negated (later_code param (slice_split is_any later)) ≡ whole
 later_pushed negated is_last param run later rest before middle whole cut last pushed e =
-    let next = last_if (is_none later) negated (opcode param fold (op.Text run Forward)) in
+    let next = last_if (is_none later) negated (opcode param FOLD (op.Text run Forward)) in
     let left = closed negated (later_code param (slice_split is_any later)) in
     ap (λ l. l ++ left) pushed
-    ∙ ap (λ b. (before ++ last_if b negated (opcode param fold (op.Text run Forward)) ∷ []) ++ left) last
+    ∙ ap (λ b. (before ++ last_if b negated (opcode param FOLD (op.Text run Forward)) ∷ []) ++ left) last
     ∙ append_assoc before (next ∷ []) left
     ∙ ap (λ l. before ++ l) (sym (later_step negated param run later))
     ∙ ap (λ runs. before ++ closed negated (later_code param runs)) (sym cut)
@@ -73,13 +74,13 @@ later_pushed negated is_last param run later rest before middle whole cut last p
 
 -- the cells before the first star are pushed, and what follows it is left
 pub parts_pushed : (negated is_last : Bool) (param : ℕ) (run later : List Cell) (before middle after : List Opcode) → is_none run ≡ false
-    → is_last ≡ is_none later → middle ≡ before ++ last_if is_last negated (here param fold run) ∷ []
+    → is_last ≡ is_none later → middle ≡ before ++ last_if is_last negated (here param FOLD run) ∷ []
     → after ≡ middle ++ closed negated (later_code param (slice_split is_any later))
     → after ≡ before ++ closed negated (runs_code param (run ∷ slice_split is_any later))
 parts_pushed negated is_last param [] later before middle after some last pushed e = absurd (false≢true (sym some))
 parts_pushed negated is_last param (c ∷ cells) later before middle after some last pushed e =
     let r = runs_of later in
-    let first = here param fold (c ∷ cells) in
+    let first = here param FOLD (c ∷ cells) in
     let left = later_code param (slice_split is_any later) in
     e
     ∙ ap (λ l. l ++ closed negated left) pushed
@@ -113,6 +114,16 @@ rule_pushed tag rule later rest before middle whole mine cut pushed e =
     ∙ ap (λ b. before ++ flat_map rule_code (cond b (rule ∷ filter (is_for tag) later) (filter (is_for tag) later))) (sym mine)
     ∙ ap (λ l. before ++ code_of l tag) (sym cut)
     ∙ e
+
+-- what is left of some code begins with a rule, so it is some
+pub some_code : (tag : CallTag) (rule : Rule) (later rest : List Rule) (before whole : List Opcode) → eqb (number_of rule.tag) (number_of tag) ≡ true
+    → rest ≡ rule ∷ later → before ++ code_of rest tag ≡ whole → whole ≢ []
+some_code tag rule later rest before whole mine cut e none =
+    let code : code_of rest tag ≡ rule_code rule ++ code_of later tag =
+    ap (λ l. code_of l tag) cut ∙ ap (λ b. flat_map rule_code (cond b (rule ∷ filter (is_for tag) later) (filter (is_for tag) later))) mine
+    in
+    let size : length (before ++ (rule_code rule ++ code_of later tag)) ≡ 0 = ap length (ap (λ l. before ++ l) (sym code) ∙ e ∙ none) in
+    absurd (omega (arith, size, length-append before (rule_code rule ++ code_of later tag), length-append (rule_code rule) (code_of later tag), length-append (flat_map cond_code rule.conds) (opcode 0 0 (op.Act rule.action rule.line) ∷ [])))
 
 -- well-formed conditions have sensible tests
 pub formed_sensible : (tag : CallTag) (cs : List Cond) → list_all (is_well_formed tag) cs ≡ true → list_all (λ c. is_sensible c.test) cs ≡ true

@@ -17,7 +17,7 @@ use Rattle.sb_rule.specs.declared.policies.Policy.{Policy}
 use Rattle.sb_rule.specs.declared.policies.Rule.{Rule}
 use Rattle.sb_rule.specs.declared.verdicts.Verdict.{Verdict}
 use Rattle.sb_rule.specs.declared.verdicts.Verdict.TheVariants as verdict
-use Rattle.sb_opcode.specs.Options.{options_of}
+use Rattle.sb_opcode.specs.Options.{options_of, NEGATE, CLEAR, OR, FOLD, EXACT}
 use Rattle.sb_opcode.specs.declared.opcodes.Opcode.{Opcode}
 use Rattle.sb_opcode.specs.declared.opcodes.OpKind.{OpKind}
 use Rattle.sb_opcode.specs.declared.opcodes.OpKind.TheVariants as op
@@ -25,22 +25,6 @@ use Rattle.sb_opcode.specs.declared.opcodes.Seek.TheVariants.{Skip, Forward, ToE
 use Rattle.sb_eval.specs.Meaning.{meaning}
 use Rattle.sb_eval.specs.declared.judged.Judged.{Judged}
 use Rattle.sb_eval.specs.declared.judged.Judged.TheVariants as judged
-
--- the options by their bits
-abbrev pub negate : ℕ
-negate = 1
-
-abbrev pub clear : ℕ
-clear = 2
-
-abbrev pub choice : ℕ
-choice = 4
-
-abbrev pub fold : ℕ
-fold = 8
-
-abbrev pub fold_and_exact : ℕ
-fold_and_exact = 24
 
 -- an opcode on a parameter, with these options
 abbrev pub opcode : ℕ → ℕ → OpKind → Opcode
@@ -50,7 +34,7 @@ opcode param bits kind = record { kind = kind; param = param; options = options_
 abbrev pub numbers_code : ℕ → List ℕ → List Opcode
 numbers_code param [] = []
 numbers_code param (n ∷ []) = opcode param 0 (op.Num n) ∷ []
-numbers_code param (n ∷ m ∷ ns) = map (λ k. opcode param choice (op.Num k)) (n ∷ m ∷ ns)
+numbers_code param (n ∷ m ∷ ns) = map (λ k. opcode param OR (op.Num k)) (n ∷ m ∷ ns)
 
 -- a `?`
 abbrev pub is_one : Cell → Bool
@@ -65,18 +49,18 @@ here param bits cells = opcode param bits (op.Text (drop (prefix_len is_one cell
 -- the cells before the first `*`, where there are any
 abbrev pub first_code : ℕ → List Cell → List Opcode
 first_code param [] = []
-first_code param (cell ∷ cells) = here param fold (cell ∷ cells) ∷ []
+first_code param (cell ∷ cells) = here param FOLD (cell ∷ cells) ∷ []
 
 -- the cells after the last `*`, where there are any
 abbrev pub last_code : ℕ → List Cell → List Opcode
 last_code param [] = []
-last_code param (cell ∷ cells) = opcode param fold (op.Text (cell ∷ cells) ToEnd) ∷ []
+last_code param (cell ∷ cells) = opcode param FOLD (op.Text (cell ∷ cells) ToEnd) ∷ []
 
 -- the runs of cells after the first `*`
 abbrev pub later_code : ℕ → List (List Cell) → List Opcode
 later_code param [] = []
 later_code param (run ∷ []) = last_code param run
-later_code param (run ∷ next ∷ runs) = opcode param fold (op.Text run Forward) ∷ later_code param (next ∷ runs)
+later_code param (run ∷ next ∷ runs) = opcode param FOLD (op.Text run Forward) ∷ later_code param (next ∷ runs)
 
 -- opcodes, and True where there are none
 abbrev pub or_true : List Opcode → List Opcode
@@ -86,7 +70,7 @@ or_true (first ∷ later) = first ∷ later
 -- the runs of cells between the `*` of a pattern; one without `*` is a single run
 abbrev pub runs_code : ℕ → List (List Cell) → List Opcode
 runs_code param [] = []
-runs_code param (run ∷ []) = here param fold_and_exact run ∷ []
+runs_code param (run ∷ []) = here param (bit_or FOLD EXACT) run ∷ []
 runs_code param (run ∷ next ∷ runs) = or_true (first_code param run ++ later_code param (next ∷ runs))
 
 -- the opcodes of a test
@@ -94,7 +78,7 @@ abbrev pub test_code : ℕ → Test → List Opcode
 test_code param (test.OneOf numbers) = numbers_code param numbers
 test_code param (test.Range lo hi) = opcode param 0 (op.Range lo hi) ∷ []
 test_code param (test.Mask mask) = opcode param 0 (op.Mask mask) ∷ []
-test_code param (test.Equal text) = opcode param fold_and_exact (op.Text (map Lit text) (Skip 0)) ∷ []
+test_code param (test.Equal text) = opcode param (bit_or FOLD EXACT) (op.Text (map Lit text) (Skip 0)) ∷ []
 test_code param (test.Like cells) = runs_code param (slice_split is_any cells)
 
 -- an opcode with more options
@@ -103,7 +87,7 @@ with_options bits op = record op { options = options_of (bit_or op.options.0 bit
 
 -- the options of the last opcode of a group
 abbrev pub end_bits : Bool → ℕ
-end_bits negated = if negated then bit_or clear negate else clear
+end_bits negated = if negated then bit_or CLEAR NEGATE else CLEAR
 
 -- a group: its last opcode has CLEAR, and NEGATE where the condition is negated
 abbrev pub closed : Bool → List Opcode → List Opcode

@@ -1,5 +1,6 @@
 pub mod Compiling
 pub mod Listing
+pub mod ListingLines
 pub mod Laws
 pub mod Steps
 pub mod Programs

@@ -1,19 +1,21 @@
 -- The listing of a program.
 use Rattle.std.specs.Prelude.{ℕ, ◌+◌, Bool, false, List, [], ◌∷◌, ◌++◌, codes, if◌then◌else◌}
-use Rattle.std.specs.Fmt.{decimal, digits}
+use Rattle.std.specs.List.{flat_map}
+use Rattle.std.specs.Fmt.{decimal}
+use Rattle.sb_wide.specs.Numbers.{hexadecimal}
 use Rattle.sb_wide.specs.Quoting.{quoted}
 use Rattle.sb_call.specs.CallWords.{call_word, every_tag}
 use Rattle.sb_call.specs.declared.tags.CallTag.{CallTag}
 use Rattle.sb_pattern.specs.Reading.{text_of}
 use Rattle.sb_rule.specs.Actions.{action_word}
-use Rattle.sb_opcode.specs.Options.{negates, clears, is_choice, folds, is_exact}
+use Rattle.sb_opcode.specs.Options.{has, NEGATE, CLEAR, OR, FOLD, EXACT}
 use Rattle.sb_opcode.specs.declared.opcodes.Opcode.{Opcode}
 use Rattle.sb_opcode.specs.declared.opcodes.OpKind.{OpKind}
 use Rattle.sb_opcode.specs.declared.opcodes.OpKind.TheVariants.{False, True, Num, Range, Mask, Text, Act}
 use Rattle.sb_opcode.specs.declared.opcodes.Seek.{Seek}
 use Rattle.sb_opcode.specs.declared.opcodes.Seek.TheVariants.{Skip, Forward, ToEnd}
 use Rattle.sb_opcode.specs.declared.options.Options.{Options}
-use Rattle.sb_compile.specs.Compiling.{Compiled}
+use Rattle.sb_compile.specs.Compiling.{Compiled, code_in}
 
 abbrev pub seek_text : Seek → List ℕ
 seek_text (Skip n) = codes "skip " ++ decimal n
@@ -22,7 +24,7 @@ seek_text ToEnd = codes "end"
 
 -- a blank, and a number in lower-case hexadecimal
 abbrev pub number_text : ℕ → List ℕ
-number_text n = codes " 0x" ++ digits 16 false n
+number_text n = codes " 0x" ++ hexadecimal n
 
 -- what an opcode does, and the parameter at which it looks
 abbrev pub kind_text : OpKind → ℕ → List ℕ
@@ -40,8 +42,8 @@ word_if has word = if has then word else []
 
 abbrev pub options_text : Options → List ℕ
 options_text options =
-    word_if (folds options) (codes " fold") ++ word_if (is_exact options) (codes " exact") ++ word_if (negates options) (codes " negate")
-    ++ word_if (clears options) (codes " clear") ++ word_if (is_choice options) (codes " or")
+    word_if (has options FOLD) (codes " fold") ++ word_if (has options EXACT) (codes " exact") ++ word_if (has options NEGATE) (codes " negate")
+    ++ word_if (has options CLEAR) (codes " clear") ++ word_if (has options OR) (codes " or")
 
 -- the line of the opcode at a place
 abbrev pub opcode_line : ℕ → Opcode → List ℕ
@@ -57,12 +59,6 @@ abbrev pub code_lines : List ℕ → CallTag → List Opcode → List ℕ
 code_lines name tag [] = []
 code_lines name tag (op ∷ ops) = codes "code " ++ name ++ codes " " ++ call_word tag ++ 10 ∷ opcode_lines 0 (op ∷ ops)
 
--- the listings of calls in the order of these tags
-abbrev pub listing_from : List ℕ → List CallTag → List (List Opcode) → List ℕ
-listing_from name [] calls = []
-listing_from name (tag ∷ tags) [] = []
-listing_from name (tag ∷ tags) (code ∷ calls) = code_lines name tag code ++ listing_from name tags calls
-
--- the listing of a program
+-- the listing of a program: the calls in the order of their numbers
 abbrev pub listing_of : Compiled → List ℕ
-listing_of program = listing_from program.name every_tag program.codes
+listing_of program = flat_map (λ tag. code_lines program.name tag (code_in program tag)) every_tag

@@ -1,5 +1,6 @@
 // Groups of opcodes: what one condition becomes.
-ghost use Rattle.std.specs.Prelude.{◌≡◌, ◌+◌, ◌<◌, ◌^◌, ◌++◌, ◌∷◌, [], true, length, OnOk};
+ghost use Rattle.std.specs.Prelude.{◌≡◌, ◌+◌, ◌<◌, ◌^◌, ◌++◌, ◌∷◌, [], bit_or, length, OnOk};
+ghost use Rattle.sb_opcode.specs.Options.{FOLD, EXACT};
 ghost use Rattle.sb_compile.specs.Compiling.{opcode, end_bits, with_options};
 ghost use Rattle.sb_compile.specs.Steps.{last_if};
 
@@ -15,35 +16,38 @@ pub(crate) struct Group {
     pub negated: bool,
 }
 
-// No options.
-pub(crate) const PLAIN: u8 = 0;
-// One opcode of the group is enough.
-pub(crate) const CHOICE: u8 = 4;
-// Units are compared folded.
-pub(crate) const FOLD: u8 = 8;
-// Units are compared folded, and the string ends with the fragment.
-pub(crate) const FOLD_AND_EXACT: u8 = 24;
+// The options of an opcode whose string ends with its fragment.
+pub(crate) fn whole_string() -> Options
+    ensures { result.0 ≡ bit_or FOLD EXACT }
+{
+    Options::FOLD.union(Options::EXACT)
+}
 
 // The options that the last opcode of a group has besides.
-fn end_bits(negated: bool) -> u8
-    ensures { result ≡ end_bits negated }
+fn end_options(negated: bool) -> Options
+    ensures { result.0 ≡ end_bits negated }
 {
     if negated {
-        Options::CLEAR.bits() | Options::NEGATE.bits()
+        Options::CLEAR.union(Options::NEGATE)
     } else {
-        Options::CLEAR.bits()
+        Options::CLEAR
     }
 }
 
 // Appends an opcode.
-pub(crate) fn push(code: &mut Code, param: u32, bits: u8, kind: OpKind) -> Result<(), NoMemory>
+pub(crate) fn push(
+    code: &mut Code,
+    param: u32,
+    options: Options,
+    kind: OpKind,
+) -> Result<(), NoMemory>
     requires { length code.old + 1 < 2 ^ 32 }
-    ensures { OnOk result (code.new ≡ code.old ++ opcode param bits kind ∷ []) }
+    ensures { OnOk result (code.new ≡ code.old ++ opcode param options.0 kind ∷ []) }
 {
     code.push(Opcode {
         kind,
         param,
-        options: Options::from_bits_retain(bits),
+        options,
     })
 }
 
@@ -52,17 +56,22 @@ impl Group {
     pub fn push(
         self,
         code: &mut Code,
-        bits: u8,
+        options: Options,
         kind: OpKind,
         is_last: bool,
     ) -> Result<(), NoMemory>
         requires { length code.old + 1 < 2 ^ 32 }
-        ensures { OnOk result (code.new ≡ code.old ++ last_if is_last self.negated (opcode self.param bits kind) ∷ []) }
+        ensures { OnOk result (code.new ≡ code.old ++ last_if is_last self.negated (opcode self.param options.0 kind) ∷ []) }
     {
         if is_last {
-            push(code, self.param, bits | end_bits(self.negated), kind)
+            push(
+                code,
+                self.param,
+                options.union(end_options(self.negated)),
+                kind,
+            )
         } else {
-            push(code, self.param, bits, kind)
+            push(code, self.param, options, kind)
         }
     }
 }

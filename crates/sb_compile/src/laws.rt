@@ -1,5 +1,6 @@
 // Laws of compiling. None of these functions does anything: each contract is a law.
-ghost use Rattle.sb_compile.specs.Laws.{CompilingKeepsVerdicts, CompiledCodeIsFaultless, LetterCaseDoesNotMatter};
+ghost use Rattle.sb_compile.specs.Laws.{CompilingKeepsVerdicts, CompiledCodeIsFaultless, GroupsHoldWhereConditionsDo, LetterCaseDoesNotMatter, PatternOpcodesHoldWhereItMatches};
+ghost use Rattle.sb_compile.specs.ListingLines.{ListingsAreLines};
 
 use sb_call::{fitting_args, tags_and_numbers};
 use sb_pattern::matching_folds;
@@ -19,6 +20,15 @@ pub fn compiled_code_is_faultless()
     tags_and_numbers();
 }
 
+/// The opcodes of a pattern hold of a string, one after the other, exactly where the pattern matches it. So taking each run of
+/// cells between two stars at its first place loses nothing. The group of a condition holds exactly where the condition does.
+pub fn groups_hold_where_conditions_do()
+    ensures pattern { PatternOpcodesHoldWhereItMatches }
+    ensures condition { GroupsHoldWhereConditionsDo }
+{
+    fitting_args();
+}
+
 /// Where two well-made policies differ in the letter case of strings and patterns alone, their programs say the same.
 pub fn letter_case_does_not_matter()
     ensures { LetterCaseDoesNotMatter }
@@ -26,3 +36,9 @@ pub fn letter_case_does_not_matter()
     compiling_keeps_verdicts();
     matching_folds();
 }
+
+/// A listing is a line for each call that has code and a line for each opcode, in their order, and each ends with the one LF
+/// that it holds.
+pub fn listings_are_lines()
+    ensures { ListingsAreLines }
+{}

@@ -10,6 +10,9 @@ mod programs;
 mod rules;
 mod targets;
 
-pub use laws::{compiled_code_is_faultless, compiling_keeps_verdicts, letter_case_does_not_matter};
+pub use laws::{
+    compiled_code_is_faultless, compiling_keeps_verdicts, groups_hold_where_conditions_do,
+    letter_case_does_not_matter, listings_are_lines,
+};
 pub use programs::{Program, compile};
 pub use targets::{PolicyNumbers, ProgramList, Programs};

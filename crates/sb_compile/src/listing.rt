@@ -5,33 +5,22 @@ ghost use Rattle.sb_wide.specs.Quoting.{quoted};
 ghost use Rattle.sb_pattern.specs.Reading.{cell_text, text_of};
 ghost use Rattle.sb_call.specs.CallWords.{call_word};
 ghost use Rattle.sb_rule.specs.Actions.{action_word};
-ghost use Rattle.sb_opcode.specs.Packing.{cell_of};
+ghost use Rattle.sb_opcode.specs.Unpacking.{cell_of};
 ghost use Rattle.sb_opcode.specs.Records.{kind_of, opcode_of};
-ghost use Rattle.sb_compile.specs.Listing.{seek_text, number_text, kind_text, word_if, options_text, opcode_line, opcode_lines, code_lines, listing_from};
-ghost use Rattle.sb_compile.specs.Programs.{code_in_call};
+ghost use Rattle.sb_compile.specs.Listing.{seek_text, number_text, kind_text, word_if, options_text, opcode_line, opcode_lines, code_lines};
 
 use bitflags::Flags;
 use sb_call::{CallTag, call_word};
-use sb_opcode::{Code, Options, Record, RecordKind, Records, Seek, Verified};
+use sb_opcode::{Code, Options, Record, RecordKind, Records, Seek};
 use sb_rule::Action;
-use sb_wide::{NoMemory, quote_into};
-
-fn put_decimal(out: &mut Vec<u8>, number: u64) -> Result<(), NoMemory>
-    ensures { OnOk result (out.new.items ≡ out.old.items ++ decimal number) }
-{
-    let text = number.to_string(*out.allocator())?;
-    out.extend_from_slice(text.as_bytes())?;
-    Ok(())
-}
+use sb_wide::{NoMemory, put_decimal, put_hexadecimal, quote_into};
 
 // A blank, and a number in hexadecimal.
 fn put_number(out: &mut Vec<u8>, number: u64) -> Result<(), NoMemory>
     ensures { OnOk result (out.new.items ≡ out.old.items ++ number_text number) }
 {
-    let digits = format!(in *out.allocator(); "{number:x}")?;
     out.extend_from_slice(b" 0x")?;
-    out.extend_from_slice(digits.as_bytes())?;
-    Ok(())
+    put_hexadecimal(out, number)
 }
 
 // A word and the number of a parameter.
@@ -184,7 +173,12 @@ fn put_heading(out: &mut Vec<u8>, name: &[u8], tag: CallTag) -> Result<(), NoMem
 }
 
 // The heading of a code and its lines, and nothing where there are no opcodes.
-fn put_code(out: &mut Vec<u8>, name: &[u8], tag: CallTag, code: &Code) -> Result<(), NoMemory>
+pub(crate) fn put_code(
+    out: &mut Vec<u8>,
+    name: &[u8],
+    tag: CallTag,
+    code: &Code,
+) -> Result<(), NoMemory>
     ensures { OnOk result (out.new.items ≡ out.old.items ++ code_lines name.now tag code.now) }
 {
     let mut records = code.records();
@@ -194,40 +188,4 @@ fn put_code(out: &mut Vec<u8>, name: &[u8], tag: CallTag, code: &Code) -> Result
     put_heading(out, name, tag)?;
     put_opcode(out, 0, &first)?;
     put_later(out, &mut records)
-}
-
-fn put_call(
-    out: &mut Vec<u8>,
-    name: &[u8],
-    tag: CallTag,
-    call: &Option<Verified>,
-) -> Result<(), NoMemory>
-    ensures { OnOk result (out.new.items ≡ out.old.items ++ code_lines name.now tag (code_in_call call.now)) }
-{
-    match call {
-        Some(verified) => put_code(out, name, tag, verified.code()),
-        None => Ok(()),
-    }
-}
-
-// Appends the listings of calls, which have these tags.
-pub(crate) fn put_calls(
-    out: &mut Vec<u8>,
-    name: &[u8],
-    tags: &[CallTag],
-    calls: &[Option<Verified>],
-) -> Result<(), NoMemory>
-    ensures { OnOk result (out.new.items ≡ out.old.items ++ listing_from name.now tags.now (map code_in_call calls.now)) }
-{
-    let mut tags = tags;
-    let mut calls = calls;
-    while let Some((tag, later_tags)) = tags.split_first() {
-        let Some((call, later_calls)) = calls.split_first() else {
-            return Ok(());
-        };
-        put_call(out, name, *tag, call)?;
-        tags = later_tags;
-        calls = later_calls;
-    }
-    Ok(())
 }

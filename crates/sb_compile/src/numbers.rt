@@ -1,11 +1,13 @@
 // The opcodes of tests of numbers.
 ghost use Rattle.std.specs.Prelude.{◌≡◌, ◌+◌, ◌<◌, ◌≤◌, ◌^◌, ◌++◌, map, length, OnOk};
 ghost use Rattle.sb_opcode.specs.declared.opcodes.OpKind.TheVariants as op;
-ghost use Rattle.sb_compile.specs.Compiling.{opcode, choice, closed, numbers_code};
+ghost use Rattle.sb_opcode.specs.Options.{OR};
+ghost use Rattle.sb_compile.specs.Compiling.{opcode, closed, numbers_code};
 ghost use Rattle.sb_compile.specs.Steps.{is_none};
 
-use crate::groups::{CHOICE, Group, PLAIN};
-use sb_opcode::{Code, OpKind};
+use crate::groups::Group;
+use bitflags::Flags;
+use sb_opcode::{Code, OpKind, Options};
 use sb_wide::NoMemory;
 
 fn is_none(numbers: &[u64]) -> bool
@@ -21,12 +23,12 @@ fn is_none(numbers: &[u64]) -> bool
 #[tactic(auto, using(crate::proofs::Steps::choices_step))]
 fn push_choices(code: &mut Code, group: Group, numbers: &[u64]) -> Result<(), NoMemory>
     requires { length code.old + length numbers.now + 1 < 2 ^ 32 }
-    ensures ok { OnOk result (code.new ≡ code.old ++ closed group.negated (map (λ k. opcode group.param choice (op.Num k)) numbers.now)) }
+    ensures ok { OnOk result (code.new ≡ code.old ++ closed group.negated (map (λ k. opcode group.param OR (op.Num k)) numbers.now)) }
     ensures few { OnOk result (length code.new ≤ length code.old + length numbers.now) }
 {
     let mut rest = numbers;
     while let Some((number, later)) = rest.split_first() {
-        group.push(code, CHOICE, OpKind::Num(*number), is_none(later))?;
+        group.push(code, Options::OR, OpKind::Num(*number), is_none(later))?;
         rest = later;
     }
     Ok(())
@@ -40,7 +42,7 @@ pub(crate) fn push_numbers(code: &mut Code, group: Group, numbers: &[u64]) -> Re
 {
     match numbers {
         [] => Ok(()),
-        [number] => group.push(code, PLAIN, OpKind::Num(*number), true),
+        [number] => group.push(code, Options::empty(), OpKind::Num(*number), true),
         _ => push_choices(code, group, numbers),
     }
 }

@@ -4,11 +4,13 @@ ghost use Rattle.std.specs.List.{slice_split, prefix_len};
 ghost use Rattle.sb_pattern.specs.Chunks.{is_any};
 ghost use Rattle.sb_pattern.specs.Limits.{most_units};
 ghost use Rattle.sb_opcode.specs.declared.opcodes.OpKind.TheVariants as op;
+ghost use Rattle.sb_opcode.specs.Options.{FOLD};
 ghost use Rattle.sb_compile.specs.Compiling.{opcode, closed, is_one, here, later_code, runs_code};
 ghost use Rattle.sb_compile.specs.Steps.{last_if, is_none};
 
-use crate::groups::{FOLD, FOLD_AND_EXACT, Group, PLAIN};
-use sb_opcode::{Cells, Code, OpKind, Seek};
+use crate::groups::{Group, whole_string};
+use bitflags::Flags;
+use sb_opcode::{Cells, Code, OpKind, Options, Seek};
 use sb_pattern::Cell;
 use sb_wide::NoMemory;
 use std::alloc::Global;
@@ -75,10 +77,10 @@ fn push_run(
     is_last: bool,
 ) -> Result<(), NoMemory>
     requires { length code.old + 1 < 2 ^ 32 }
-    ensures { OnOk result (code.new ≡ code.old ++ last_if is_last group.negated (opcode group.param 8 (op.Text cells.now seek)) ∷ []) }
+    ensures { OnOk result (code.new ≡ code.old ++ last_if is_last group.negated (opcode group.param FOLD (op.Text cells.now seek)) ∷ []) }
 {
     let cells = cells_of(alloc, cells)?;
-    group.push(code, FOLD, OpKind::Text { cells, seek }, is_last)
+    group.push(code, Options::FOLD, OpKind::Text { cells, seek }, is_last)
 }
 
 // How many `?` the cells begin with.
@@ -98,19 +100,19 @@ fn push_here(
     alloc: Global,
     code: &mut Code,
     group: Group,
-    bits: u8,
+    options: Options,
     cells: &[Cell],
     is_last: bool,
 ) -> Result<(), NoMemory>
     requires room { length code.old + 1 < 2 ^ 32 }
     requires short { length cells.now ≤ most_units }
-    ensures { OnOk result (code.new ≡ code.old ++ last_if is_last group.negated (here group.param bits cells.now) ∷ []) }
+    ensures { OnOk result (code.new ≡ code.old ++ last_if is_last group.negated (here group.param options.0 cells.now) ∷ []) }
 {
     let skip = questions(cells);
     let (_, cells) = cells.split_at(skip);
     let cells = cells_of(alloc, cells)?;
     let seek = Seek::Skip(skip as u16);
-    group.push(code, bits, OpKind::Text { cells, seek }, is_last)
+    group.push(code, options, OpKind::Text { cells, seek }, is_last)
 }
 
 // Appends the opcodes of what follows the first star.
@@ -142,7 +144,7 @@ fn push_star(alloc: Global, code: &mut Code, group: Group, later: &[Cell]) -> Re
             param: 0,
             negated: group.negated,
         };
-        return all.push(code, PLAIN, OpKind::True, true);
+        return all.push(code, Options::empty(), OpKind::True, true);
     }
     push_later(alloc, code, group, later)
 }
@@ -164,7 +166,7 @@ fn push_parts(
     if is_none(run) {
         return push_star(alloc, code, group, later);
     }
-    push_here(alloc, code, group, FOLD, run, is_none(later))?;
+    push_here(alloc, code, group, Options::FOLD, run, is_none(later))?;
     push_later(alloc, code, group, later)?;
     Ok(())
 }
@@ -183,6 +185,6 @@ pub(crate) fn push_pattern(
 {
     match cut_at_star(cells) {
         Some((run, later)) => push_parts(alloc, code, group, run, later),
-        None => push_here(alloc, code, group, FOLD_AND_EXACT, cells, true),
+        None => push_here(alloc, code, group, whole_string(), cells, true),
     }
 }

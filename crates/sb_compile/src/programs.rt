@@ -1,15 +1,15 @@
 // Programs: the verified codes of a policy, one for each call.
-ghost use Rattle.std.specs.Prelude.{◌≡◌, [], true, IfOk, MatchOption};
+ghost use Rattle.std.specs.Prelude.{◌≡◌, ◌≢◌, ◌++◌, [], true, IfOk, OnOk, OnErr, MatchOption};
 ghost use Rattle.sb_call.specs.Arguments.{fits};
 ghost use Rattle.sb_rule.specs.Verdicts.{verdict_of};
 ghost use Rattle.sb_rule.specs.WellMade.{is_well_made};
 ghost use Rattle.sb_rule.specs.declared.policies.Policy.{Policy};
 ghost use Rattle.sb_compile.specs.Compiling.{code_of, code_in, program_of, program_verdict, verdict_by_code};
-ghost use Rattle.sb_compile.specs.Listing.{listing_of};
+ghost use Rattle.sb_compile.specs.Listing.{code_lines, listing_of};
 ghost use Rattle.sb_compile.specs.Programs.{code_in_call, is_for_tag};
 
 use crate::laws::{compiled_code_is_faultless, compiling_keeps_verdicts};
-use crate::listing::put_calls;
+use crate::listing::put_code;
 use crate::rules::code_of;
 use sb_call::{Arg, CallTag, ShortName, every_tag, number_of, tags_and_numbers};
 use sb_eval::{Judged, eval};
@@ -45,6 +45,7 @@ fn compile_call(alloc: Global, policy: &Policy, tag: CallTag) -> Result<Option<V
     requires { is_well_made policy.now ≡ true }
     ensures code { IfOk result (λ call. code_in_call call ≡ code_of policy.now.rules tag) }
     ensures tag { IfOk result (λ call. is_for_tag tag call ≡ true) }
+    ensures memory { OnErr result (code_of policy.now.rules tag ≢ []) }
 {
     compiled_code_is_faultless();
     let code = code_of(alloc, policy.rules.as_slice(), tag)?;
@@ -108,6 +109,19 @@ impl Program {
         }
     }
 
+    // Appends the listing of a call.
+    fn put_call(&self, text: &mut Vec<u8>, tag: CallTag) -> Result<(), NoMemory>
+        ensures { OnOk result (text.new.items ≡ text.old.items ++ code_lines self.now.name tag (code_in self.now tag)) }
+    {
+        match self.code(tag) {
+            Some(code) => {
+                put_code(text, self.name.bytes(), tag, code.code())?;
+                Ok(())
+            }
+            None => Ok(()),
+        }
+    }
+
     /// The listing: for each call that has rules, in the order of their numbers, the line `code POLICY CALL` and a line for
     /// each opcode, with its place, what it does and its options.
     ///
@@ -117,7 +131,17 @@ impl Program {
         ensures { IfOk result (λ text. text.items ≡ listing_of self.now) }
     {
         let mut text = Vec::new(alloc);
-        put_calls(&mut text, self.name.bytes(), every_tag(), &self.calls)?;
+        put_calls(&mut text, self)?;
         Ok(text)
     }
+}
+
+// Appends the listings of all calls of a program.
+fn put_calls(text: &mut Vec<u8>, program: &Program) -> Result<(), NoMemory>
+    ensures { OnOk result (text.new.items ≡ text.old.items ++ listing_of program.now) }
+{
+    for tag in every_tag() {
+        program.put_call(text, *tag)?;
+    }
+    Ok(())
 }

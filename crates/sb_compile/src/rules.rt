@@ -1,18 +1,20 @@
 // The code of rules.
-ghost use Rattle.std.specs.Prelude.{◌≡◌, ◌+◌, ◌*◌, ◌<◌, ◌≤◌, ◌^◌, ◌++◌, ◌∷◌, [], true, length, map, OnOk, IfOk};
+ghost use Rattle.std.specs.Prelude.{◌≡◌, ◌≢◌, ◌+◌, ◌*◌, ◌<◌, ◌≤◌, ◌^◌, ◌++◌, ◌∷◌, [], true, bit_or, length, map, OnOk, OnErr, IfOk};
 ghost use Rattle.std.specs.List.{flat_map, list_all};
 ghost use Rattle.sb_pattern.specs.declared.cells.Cell.TheVariants.{Lit};
 ghost use Rattle.sb_rule.specs.Limits.{most_rules};
 ghost use Rattle.sb_rule.specs.WellMade.{is_sensible, is_well_made_rule};
 ghost use Rattle.sb_opcode.specs.declared.opcodes.OpKind.TheVariants as op;
 ghost use Rattle.sb_opcode.specs.declared.opcodes.Seek.TheVariants.{Skip};
+ghost use Rattle.sb_opcode.specs.Options.{FOLD, EXACT};
 ghost use Rattle.sb_compile.specs.Compiling.{opcode, closed, test_code, cond_code, rule_code, code_of};
 
-use crate::groups::{FOLD_AND_EXACT, Group, PLAIN, push};
+use crate::groups::{Group, push, whole_string};
 use crate::numbers::push_numbers;
 use crate::patterns::push_pattern;
+use bitflags::Flags;
 use sb_call::{CallTag, number_of};
-use sb_opcode::{Cells, Code, OpKind, Seek};
+use sb_opcode::{Cells, Code, OpKind, Options, Seek};
 use sb_pattern::Cell;
 use sb_rule::{Cond, Rule, Test};
 use sb_wide::NoMemory;
@@ -32,11 +34,11 @@ fn literals(alloc: Global, units: &[u16]) -> Result<Cells, NoMemory>
 // Appends the opcode of a string that is to be the same.
 fn push_equal(alloc: Global, code: &mut Code, group: Group, units: &[u16]) -> Result<(), NoMemory>
     requires { length code.old + 1 < 2 ^ 32 }
-    ensures { OnOk result (code.new ≡ code.old ++ closed group.negated (opcode group.param 24 (op.Text (map Lit units.now) (Skip 0)) ∷ [])) }
+    ensures { OnOk result (code.new ≡ code.old ++ closed group.negated (opcode group.param (bit_or FOLD EXACT) (op.Text (map Lit units.now) (Skip 0)) ∷ [])) }
 {
     let cells = literals(alloc, units)?;
     let seek = Seek::Skip(0);
-    group.push(code, FOLD_AND_EXACT, OpKind::Text { cells, seek }, true)
+    group.push(code, whole_string(), OpKind::Text { cells, seek }, true)
 }
 
 // Appends the opcodes of a test.
@@ -50,9 +52,9 @@ fn push_test(alloc: Global, code: &mut Code, group: Group, test: &Test) -> Resul
         Test::OneOf(numbers) => push_numbers(code, group, numbers.as_slice()),
         Test::Range { lo, hi } => {
             let (lo, hi) = (*lo, *hi);
-            group.push(code, PLAIN, OpKind::Range { lo, hi }, true)
+            group.push(code, Options::empty(), OpKind::Range { lo, hi }, true)
         }
-        Test::Mask(mask) => group.push(code, PLAIN, OpKind::Mask(*mask), true),
+        Test::Mask(mask) => group.push(code, Options::empty(), OpKind::Mask(*mask), true),
         Test::Equal(text) => push_equal(alloc, code, group, text.as_units()),
         Test::Like(pattern) => push_pattern(alloc, code, group, pattern.cells()),
     }
@@ -97,14 +99,16 @@ fn push_rule(alloc: Global, code: &mut Code, rule: &Rule) -> Result<(), NoMemory
 {
     push_conds(alloc, code, rule.conds.as_slice())?;
     let (action, line) = (rule.action, rule.line);
-    push(code, 0, PLAIN, OpKind::Act { action, line })
+    push(code, 0, Options::empty(), OpKind::Act { action, line })
 }
 
-// The code of the rules that are for a call.
+// The code of the rules that are for a call. Where no rule is, it takes no memory.
+#[tactic(auto, using(crate::proofs::Steps::some_code))]
 pub(crate) fn code_of(alloc: Global, rules: &[Rule], tag: CallTag) -> Result<Code, NoMemory>
     requires few { length rules.now ≤ most_rules }
     requires made { list_all is_well_made_rule rules.now ≡ true }
-    ensures { IfOk result (λ code. code ≡ code_of rules.now tag) }
+    ensures code { IfOk result (λ code. code ≡ code_of rules.now tag) }
+    ensures memory { OnErr result (code_of rules.now tag ≢ []) }
 {
     let mut code = Code::new(alloc);
     let mut rest = rules;

@@ -8,10 +8,11 @@ ghost use Rattle.sb_compile.specs.Targets.{nothing, policies_in};
 
 use crate::programs::{Program, compile};
 use sb_call::{Arg, CallTag};
-use sb_items::{Copies, Items, NoMemory};
-use sb_rule::{Judge, Policies, Policy, PolicyList, Verdict};
+use sb_items::{Items, NoMemory};
+use sb_rule::{Judge, Policies, Policy, Verdict};
 use sb_statements::{Script, TargetScript};
 use std::alloc::Global;
+use std::marker::Model;
 
 /// Programs, in order.
 pub type ProgramList = Items<Program>;
@@ -19,17 +20,26 @@ pub type ProgramList = Items<Program>;
 /// The numbers of policies, in order.
 pub type PolicyNumbers = Items<u32>;
 
-/// Judges the calls of targets by the programs of their policies, each compiled once.
+/// Judges the calls of targets by the programs of their policies, each compiled once. Contracts see the policies of the
+/// targets, which are well made.
 #[derive(Debug, Drop)]
-pub struct Programs {
-    /// The policies.
-    pub policies: PolicyList,
-    /// Their programs, in the same order.
+pub struct Programs<'a> {
+    // The policies that were compiled.
+    policies: &'a Policies,
+    // Their programs, in the same order.
     programs: ProgramList,
-    /// For each target the number of its policy.
-    pub numbers: PolicyNumbers,
-    ghost well_made: { list_all is_well_made (policies_in policies numbers) ≡ true },
-    ghost compiled: { programs ≡ map program_of policies },
+    // For each target the number of its policy.
+    numbers: PolicyNumbers,
+    ghost well_made: { list_all is_well_made (policies_in policies.now.list numbers) ≡ true },
+    ghost compiled: { programs ≡ map program_of policies.now.list },
+}
+
+impl<'a> Model for Programs<'a> {
+    ghost use Rattle.sb_compile.specs.Targets.{policies_in, TargetPolicies};
+
+    ghost Value = { TargetPolicies };
+
+    ghost view = { λ p. record { policies = policies_in p.policies.now.list p.numbers; well_made = p.well_made } };
 }
 
 // The programs of policies.
@@ -57,20 +67,23 @@ fn numbers_of(alloc: Global, targets: &[TargetScript]) -> Result<PolicyNumbers, 
     Ok(PolicyNumbers::new(items))
 }
 
-impl Programs {
+impl<'a> Programs<'a> {
     #[tactic(auto, using(crate::proofs::Standing::each_made, crate::proofs::Standing::targets_made, crate::proofs::Standing::numbered))]
     /// The programs of well-made policies, for the targets of a script, each of which names its policy by its number. A
     /// target that names no policy is judged by one without rules.
     ///
     /// # Errors
-    /// `NoMemory` where there was none for the programs and a copy of the policies.
-    pub fn new(alloc: Global, policies: &Policies, script: &Script) -> Result<Programs, NoMemory>
+    /// `NoMemory` if there is none for the programs.
+    pub fn new(
+        alloc: Global,
+        policies: &'a Policies,
+        script: &Script,
+    ) -> Result<Programs<'a>, NoMemory>
         requires { are_well_made policies.now.list ≡ true }
-        ensures { IfOk result (λ programs. policies_in programs.policies programs.numbers ≡ policies_of_targets policies.now.list script.now.targets) }
+        ensures { IfOk result (λ programs. programs.policies ≡ policies_of_targets policies.now.list script.now.targets) }
     {
         let programs = compile_all(alloc, policies.list.as_slice())?;
         let numbers = numbers_of(alloc, script.targets.as_slice())?;
-        let policies = policies.list.copy(alloc)?;
         Ok(Programs {
             policies,
             programs,
@@ -78,23 +91,23 @@ impl Programs {
         })
     }
 
+    #[tactic(auto, using(crate::proofs::Standing::as_many, crate::proofs::Standing::number_at, crate::proofs::Standing::program_at))]
     // The program of a target.
     fn program(&self, target: u32) -> Option<&Program>
-        requires { target < length self.now.numbers }
-        ensures { MatchOption result (policy_at (policies_in self.now.policies self.now.numbers) target ≡ nothing)
-            (λ program. program.now ≡ program_of (policy_at (policies_in self.now.policies self.now.numbers) target)) }
+        requires { target < length self.now.policies }
+        ensures { MatchOption result (policy_at self.now.policies target ≡ nothing)
+            (λ program. program.now ≡ program_of (policy_at self.now.policies target)) }
     {
         let number = self.numbers.as_slice().get(target as usize)?;
         self.programs.as_slice().get(*number as usize)
     }
 }
 
-impl Judge for Programs {
-    ghost policies = { λ p. policies_in p.policies p.numbers };
+impl<'a> Judge for Programs<'a> {
+    ghost policies = { λ p. p.policies };
 
     ghost well_made = { λ p. p.well_made };
 
-    #[tactic(auto, using(crate::proofs::Standing::number_at))]
     fn judge(&self, target: u32, tag: CallTag, args: &[Arg]) -> Verdict {
         match self.program(target) {
             Some(program) => program.judge(tag, args),

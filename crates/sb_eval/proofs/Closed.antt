@@ -5,7 +5,8 @@ use Rattle.std.proofs.Common.{◌≡◌, ◌∙◌, cond, refl, ap, sym}
 use Rattle.std.proofs.lemmas.Bool.{and_parts, and_from, not-true, false≢true}
 use Rattle.sb_opcode.specs.Faults.{ends_with_act}
 use Rattle.sb_opcode.specs.Groups.{rules_of, groups_of, is_act, is_last}
-use Rattle.sb_opcode.specs.WholeGroups.{ends_with_clear, are_alike, is_fit, is_whole_group, is_whole_rule}
+use Rattle.sb_opcode.specs.Options.{has_options}
+use Rattle.sb_opcode.specs.WholeGroups.{ends_with_clear, are_alike, is_fit, is_whole_group, acts_at_end, is_whole_rule}
 use Rattle.sb_opcode.specs.declared.opcodes.Opcode.{Opcode}
 
 -- no action stands within a group, where these opcodes begin within one, or do not
@@ -40,13 +41,18 @@ groups_closed (group ∷ groups) h =
     let r = and_parts (ends_with_clear group) (are_alike group) q.0 in
     and_from (ends_with_clear group) (list_all ends_with_clear groups) r.0 (groups_closed groups p.1)
 
+act_at_end : (rule : List Opcode) → acts_at_end rule ≡ true → ends_with_act rule ≡ true
+act_at_end [] h = h
+act_at_end (op ∷ []) h = (and_parts (is_act op) (not (has_options op.options)) h).0
+act_at_end (op ∷ next ∷ rule) h = act_at_end (next ∷ rule) (and_parts (not (is_act op)) (acts_at_end (next ∷ rule)) h).1
+
 pub rules_closed : (rules : List (List Opcode)) → list_all is_whole_rule rules ≡ true → list_all is_closed_rule rules ≡ true
 rules_closed [] h = refl
 rules_closed (rule ∷ rules) h =
     let p = and_parts (is_whole_rule rule) (list_all is_whole_rule rules) h in
-    let q = and_parts (ends_with_act rule) (list_all is_whole_group (groups_of rule)) p.0 in
+    let q = and_parts (acts_at_end rule) (list_all is_whole_group (groups_of rule)) p.0 in
     let closed : is_closed_rule rule ≡ true =
-    and_from (ends_with_act rule) (list_all ends_with_clear (groups_of rule)) q.0 (groups_closed (groups_of rule) q.1)
+    and_from (ends_with_act rule) (list_all ends_with_clear (groups_of rule)) (act_at_end rule q.0) (groups_closed (groups_of rule) q.1)
     in
     and_from (is_closed_rule rule) (list_all is_closed_rule rules) closed (rules_closed rules p.1)
 

@@ -1,2 +1,4 @@
 pub mod Closed
+pub mod PassLemmas
+pub mod PlaceLemmas
 pub mod WalkLemmas

@@ -7,36 +7,25 @@ use Rattle.sb_call.specs.Arguments.{arg_at}
 use Rattle.sb_call.specs.declared.arguments.Arg.{Arg}
 use Rattle.sb_call.specs.declared.tags.CallTag.{CallTag}
 use Rattle.sb_opcode.specs.Faults.{fault_of}
-use Rattle.sb_opcode.specs.WholeGroups.{FaultlessRulesAreWhole}
-use Rattle.sb_opcode.specs.Groups.{rules_of, groups_of, is_act, is_last, is_act_kind}
-use Rattle.sb_opcode.specs.Options.{negates, is_choice}
+use Rattle.sb_opcode.specs.WholeGroups.{FaultlessCodesAreWhole}
+use Rattle.sb_opcode.specs.Groups.{rules_of, groups_of, is_act, is_last, is_act_kind, after_action}
+use Rattle.sb_opcode.specs.Options.{has, NEGATE, OR}
 use Rattle.sb_opcode.specs.declared.opcodes.Opcode.{Opcode}
 use Rattle.sb_opcode.specs.declared.opcodes.OpKind.{OpKind}
 use Rattle.sb_opcode.specs.declared.opcodes.OpKind.TheVariants.{False, True, Num, Range, Mask, Text, Act}
 use Rattle.sb_eval.proofs.Closed.{closed_from, has_group, goes_into_group, groups_from, rules_closed, closed_by_rules}
-use Rattle.sb_eval.specs.Meaning.{number_in, units_in, after_kind, after_all, all_hold, one_holds, is_negated, turned, group_holds, action_from, judged_from, meaning}
+use Rattle.sb_eval.specs.Meaning.{after_opcode, after_all, all_hold, one_holds, is_negated, turned, group_holds, action_from, judged_from, meaning}
 use Rattle.sb_eval.specs.Walking.{Standing, Between, All, One, Decided, Failed, begun, entered, all_so_far, one_so_far, looked_at, passed, closed, step, walk}
 use Rattle.sb_eval.specs.declared.judged.Judged.{Judged}
 use Rattle.sb_eval.specs.declared.judged.Judged.TheVariants.{Action, NoMatch}
 
--- what is left after opcodes one after the other, where they look at this number or at what is left of the string
-abbrev pub left_after : ℕ → List Opcode → List ℕ → Option (List ℕ)
-left_after number [] us = Some us
-left_after number (op ∷ ops) us = option_and_then (left_after number ops) (after_kind op.kind op.options number us)
-
--- one of the opcodes holds
-abbrev pub one_of : ℕ → List ℕ → List Opcode → Bool
-one_of number us ops = list_any (λ op. is_some (after_kind op.kind op.options number us)) ops
-
 -- what is left of the present rule holds: the groups begin with what is left of the present group
 abbrev pub rest_holds : List Arg → Standing → List (List Opcode) → Bool
 rest_holds args Between groups = list_all (group_holds args) groups
-rest_holds args (All number left) [] = false
-rest_holds args (All number left) (group ∷ groups) =
-    turned (is_negated group) (is_some (left_after number group left)) && list_all (group_holds args) groups
-rest_holds args (One number units) [] = false
-rest_holds args (One number units) (group ∷ groups) =
-    turned (is_negated group) (one_of number units group) && list_all (group_holds args) groups
+rest_holds args (All left) [] = false
+rest_holds args (All left) (group ∷ groups) = turned (is_negated group) (all_hold group left) && list_all (group_holds args) groups
+rest_holds args (One whole) [] = false
+rest_holds args (One whole) (group ∷ groups) = turned (is_negated group) (one_holds group whole) && list_all (group_holds args) groups
 rest_holds args (Decided holds) [] = false
 rest_holds args (Decided holds) (group ∷ groups) = turned (is_negated group) holds && list_all (group_holds args) groups
 rest_holds args Failed groups = false
@@ -50,80 +39,67 @@ rest_means args at s (rule ∷ rules) =
 -- a group has begun, and has not ended
 abbrev pub is_within : Standing → Bool
 is_within Between = false
-is_within (All number left) = true
-is_within (One number units) = true
+is_within (All left) = true
+is_within (One whole) = true
 is_within (Decided holds) = true
 is_within Failed = false
 
--- of an argument only its number counts, once its string is at hand
-number_alone : (ops : List Opcode) (arg : Arg) (us : List ℕ) → after_all ops arg us ≡ left_after (number_in arg) ops us
-number_alone [] arg us = refl
-number_alone (op ∷ ops) arg us = by (after_kind op.kind op.options (number_in arg) us) (number_alone ops arg)
-  where
-    by : (o : Option (List ℕ)) → ((left : List ℕ) → after_all ops arg left ≡ left_after (number_in arg) ops left)
-        → option_and_then (after_all ops arg) o ≡ option_and_then (left_after (number_in arg) ops) o
-    by None h = refl
-    by (Some left) h = h left
-
 -- a group that begins is the rest of that group
 begins : (args : List Arg) (arg : Arg) (op : Opcode) (ops : List Opcode) (groups : List (List Opcode)) (b : Bool)
-    → rest_holds args (cond b (One (number_in arg) (units_in arg)) (All (number_in arg) (units_in arg))) ((op ∷ ops) ∷ groups)
+    → rest_holds args (cond b (One arg) (All arg)) ((op ∷ ops) ∷ groups)
     ≡ (turned (is_negated (op ∷ ops)) (cond b (one_holds (op ∷ ops) arg) (all_hold (op ∷ ops) arg)) && list_all (group_holds args) groups)
 begins args arg op ops groups true = refl
-begins args arg op ops groups false =
-    ap (λ o. turned (is_negated (op ∷ ops)) (is_some o) && list_all (group_holds args) groups)
-    (sym (number_alone (op ∷ ops) arg (units_in arg)))
+begins args arg op ops groups false = refl
 
 enters : (args : List Arg) (op : Opcode) (ops : List Opcode) (groups : List (List Opcode))
     → rest_holds args (begun args op) ((op ∷ ops) ∷ groups) ≡ rest_holds args Between ((op ∷ ops) ∷ groups)
-enters args op ops groups = begins args (arg_at args op.param) op ops groups (is_choice op.options)
+enters args op ops groups = begins args (arg_at args op.param) op ops groups (has op.options OR)
 
 entered_holds : (args : List Arg) (s : Standing) (op : Opcode) (ops : List Opcode) (groups : List (List Opcode))
     → rest_holds args (entered args s op) ((op ∷ ops) ∷ groups) ≡ rest_holds args s ((op ∷ ops) ∷ groups)
 entered_holds args Between op ops groups = enters args op ops groups
-entered_holds args (All number left) op ops groups = refl
-entered_holds args (One number units) op ops groups = refl
+entered_holds args (All left) op ops groups = refl
+entered_holds args (One whole) op ops groups = refl
 entered_holds args (Decided holds) op ops groups = refl
 entered_holds args Failed op ops groups = refl
 
 -- an opcode is entered within a group, or in a rule that does not hold
 abbrev is_inside : Standing → Bool
 is_inside Between = false
-is_inside (All number left) = true
-is_inside (One number units) = true
+is_inside (All left) = true
+is_inside (One whole) = true
 is_inside (Decided holds) = true
 is_inside Failed = true
 
-begun_inside : (number : ℕ) (units : List ℕ) (b : Bool) → is_inside (cond b (One number units) (All number units)) ≡ true
-begun_inside number units true = refl
-begun_inside number units false = refl
+begun_inside : (arg : Arg) (b : Bool) → is_inside (cond b (One arg) (All arg)) ≡ true
+begun_inside arg true = refl
+begun_inside arg false = refl
 
 entered_inside : (args : List Arg) (s : Standing) (op : Opcode) → is_inside (entered args s op) ≡ true
-entered_inside args Between op = begun_inside (number_in (arg_at args op.param)) (units_in (arg_at args op.param)) (is_choice op.options)
-entered_inside args (All number left) op = refl
-entered_inside args (One number units) op = refl
+entered_inside args Between op = begun_inside (arg_at args op.param) (has op.options OR)
+entered_inside args (All left) op = refl
+entered_inside args (One whole) op = refl
 entered_inside args (Decided holds) op = refl
 entered_inside args Failed op = refl
 
 -- within a group, what is left of it after an opcode that is not its last
-all_goes_on : (args : List Arg) (number : ℕ) (next : Opcode) (ops : List Opcode) (groups : List (List Opcode)) (o : Option (List ℕ))
-    → rest_holds args (all_so_far number o) ((next ∷ ops) ∷ groups)
-    ≡ (turned (is_negated (next ∷ ops)) (is_some (option_and_then (left_after number (next ∷ ops)) o)) && list_all (group_holds args) groups)
-all_goes_on args number next ops groups None = refl
-all_goes_on args number next ops groups (Some us) = refl
+all_goes_on : (args : List Arg) (next : Opcode) (ops : List Opcode) (groups : List (List Opcode)) (o : Option Arg)
+    → rest_holds args (all_so_far o) ((next ∷ ops) ∷ groups)
+    ≡ (turned (is_negated (next ∷ ops)) (is_some (option_and_then (after_all (next ∷ ops)) o)) && list_all (group_holds args) groups)
+all_goes_on args next ops groups None = refl
+all_goes_on args next ops groups (Some left) = refl
 
-one_goes_on : (args : List Arg) (number : ℕ) (units : List ℕ) (next : Opcode) (ops : List Opcode) (groups : List (List Opcode)) (o : Option (List ℕ))
-    → rest_holds args (one_so_far number units o) ((next ∷ ops) ∷ groups)
-    ≡ (turned (is_negated (next ∷ ops)) (is_some o || one_of number units (next ∷ ops)) && list_all (group_holds args) groups)
-one_goes_on args number units next ops groups None = refl
-one_goes_on args number units next ops groups (Some us) = refl
+one_goes_on : (args : List Arg) (whole : Arg) (next : Opcode) (ops : List Opcode) (groups : List (List Opcode)) (o : Option Arg)
+    → rest_holds args (one_so_far whole o) ((next ∷ ops) ∷ groups)
+    ≡ (turned (is_negated (next ∷ ops)) (is_some o || one_holds (next ∷ ops) whole) && list_all (group_holds args) groups)
+one_goes_on args whole next ops groups None = refl
+one_goes_on args whole next ops groups (Some left) = refl
 
 looked_at_holds : (args : List Arg) (s : Standing) (op next : Opcode) (ops : List Opcode) (groups : List (List Opcode)) → is_inside s ≡ true
     → rest_holds args (looked_at s op) ((next ∷ ops) ∷ groups) ≡ rest_holds args s ((op ∷ next ∷ ops) ∷ groups)
 looked_at_holds args Between op next ops groups h = absurd (false≢true h)
-looked_at_holds args (All number left) op next ops groups h = all_goes_on args number next ops groups (after_kind op.kind op.options number left)
-looked_at_holds args (One number units) op next ops groups h =
-    one_goes_on args number units next ops groups (after_kind op.kind op.options number units)
+looked_at_holds args (All left) op next ops groups h = all_goes_on args next ops groups (after_opcode op left)
+looked_at_holds args (One whole) op next ops groups h = one_goes_on args whole next ops groups (after_opcode op whole)
 looked_at_holds args (Decided holds) op next ops groups h = refl
 looked_at_holds args Failed op next ops groups h = refl
 
@@ -132,25 +108,24 @@ passed_holds args true groups = refl
 passed_holds args false groups = refl
 
 -- within a group, what is left of the rule after the last opcode of that group
-all_ends : (args : List Arg) (number : ℕ) (negated : Bool) (groups : List (List Opcode)) (o : Option (List ℕ))
-    → rest_holds args (closed negated (all_so_far number o)) groups
-    ≡ (turned negated (is_some (option_and_then (left_after number []) o)) && list_all (group_holds args) groups)
-all_ends args number negated groups None = passed_holds args (turned negated false) groups
-all_ends args number negated groups (Some us) = passed_holds args (turned negated true) groups
+all_ends : (args : List Arg) (negated : Bool) (groups : List (List Opcode)) (o : Option Arg)
+    → rest_holds args (closed negated (all_so_far o)) groups
+    ≡ (turned negated (is_some (option_and_then (after_all []) o)) && list_all (group_holds args) groups)
+all_ends args negated groups None = passed_holds args (turned negated false) groups
+all_ends args negated groups (Some left) = passed_holds args (turned negated true) groups
 
-one_ends : (args : List Arg) (number : ℕ) (units : List ℕ) (negated : Bool) (groups : List (List Opcode)) (o : Option (List ℕ))
-    → rest_holds args (closed negated (one_so_far number units o)) groups
-    ≡ (turned negated (is_some o || one_of number units []) && list_all (group_holds args) groups)
-one_ends args number units negated groups None = passed_holds args (turned negated false) groups
-one_ends args number units negated groups (Some us) = passed_holds args (turned negated true) groups
+one_ends : (args : List Arg) (whole : Arg) (negated : Bool) (groups : List (List Opcode)) (o : Option Arg)
+    → rest_holds args (closed negated (one_so_far whole o)) groups
+    ≡ (turned negated (is_some o || one_holds [] whole) && list_all (group_holds args) groups)
+one_ends args whole negated groups None = passed_holds args (turned negated false) groups
+one_ends args whole negated groups (Some left) = passed_holds args (turned negated true) groups
 
 closed_holds : (args : List Arg) (s : Standing) (op : Opcode) (groups : List (List Opcode)) → is_inside s ≡ true
-    → rest_holds args (closed (negates op.options) (looked_at s op)) groups ≡ rest_holds args s ((op ∷ []) ∷ groups)
+    → rest_holds args (closed (has op.options NEGATE) (looked_at s op)) groups ≡ rest_holds args s ((op ∷ []) ∷ groups)
 closed_holds args Between op groups h = absurd (false≢true h)
-closed_holds args (All number left) op groups h = all_ends args number (negates op.options) groups (after_kind op.kind op.options number left)
-closed_holds args (One number units) op groups h =
-    one_ends args number units (negates op.options) groups (after_kind op.kind op.options number units)
-closed_holds args (Decided holds) op groups h = passed_holds args (turned (negates op.options) holds) groups
+closed_holds args (All left) op groups h = all_ends args (has op.options NEGATE) groups (after_opcode op left)
+closed_holds args (One whole) op groups h = one_ends args whole (has op.options NEGATE) groups (after_opcode op whole)
+closed_holds args (Decided holds) op groups h = passed_holds args (turned (has op.options NEGATE) holds) groups
 closed_holds args Failed op groups h = refl
 
 -- one step: what is left of the rule holds before an opcode exactly where what is left after it does
@@ -167,7 +142,7 @@ step_holds args s op groups h = by (is_last op) h
         looked_at_holds args (entered args s op) op next ops later (entered_inside args s op) ∙ entered_holds args s op (next ∷ ops) later
 
     by : (b : Bool) → (b ≡ false → has_group groups ≡ true)
-        → rest_holds args (cond b (closed (negates op.options) (looked_at (entered args s op) op)) (looked_at (entered args s op) op)) groups
+        → rest_holds args (cond b (closed (has op.options NEGATE) (looked_at (entered args s op) op)) (looked_at (entered args s op) op)) groups
         ≡ rest_holds args s (cond b ((op ∷ []) ∷ groups) (onto_first op groups))
     by true k = closed_holds args (entered args s op) op groups (entered_inside args s op) ∙ entered_holds args s op [] groups
     by false k = within groups (k refl)
@@ -248,8 +223,8 @@ action_means args at Between op ops a w later =
     ap (λ groups. cond (list_all (group_holds args) groups) (action_from at (op ∷ [])) (judged_from (at + length (op ∷ [])) args (rules_of ops))) (sym none)
     in
     walked ∙ held ∙ ap (rest_means args at Between) (sym cut)
-action_means args at (All number left) op ops a w later = absurd (false≢true (sym w))
-action_means args at (One number units) op ops a w later = absurd (false≢true (sym w))
+action_means args at (All left) op ops a w later = absurd (false≢true (sym w))
+action_means args at (One whole) op ops a w later = absurd (false≢true (sym w))
 action_means args at (Decided holds) op ops a w later = absurd (false≢true (sym w))
 action_means args at Failed op ops a w later = rw a later
 
@@ -260,17 +235,17 @@ passed_outside false = refl
 
 closed_outside : (negated : Bool) (s : Standing) → is_within (closed negated s) ≡ false
 closed_outside negated Between = passed_outside (turned negated true)
-closed_outside negated (All number left) = passed_outside (turned negated true)
-closed_outside negated (One number units) = passed_outside (turned negated false)
+closed_outside negated (All left) = passed_outside (turned negated true)
+closed_outside negated (One whole) = passed_outside (turned negated false)
 closed_outside negated (Decided holds) = passed_outside (turned negated holds)
 closed_outside negated Failed = refl
 
 step_within : (args : List Arg) (s : Standing) (op : Opcode) → is_within (step args s op) ≡ true → not (is_last op) ≡ true
 step_within args s op h = by (is_last op) h
   where
-    by : (b : Bool) → is_within (cond b (closed (negates op.options) (looked_at (entered args s op) op)) (looked_at (entered args s op) op)) ≡ true
+    by : (b : Bool) → is_within (cond b (closed (has op.options NEGATE) (looked_at (entered args s op) op)) (looked_at (entered args s op) op)) ≡ true
         → not b ≡ true
-    by true h = sym (closed_outside (negates op.options) (looked_at (entered args s op) op)) ∙ h
+    by true h = sym (closed_outside (has op.options NEGATE) (looked_at (entered args s op) op)) ∙ h
     by false h = refl
 
 outside : (s : Standing) (inside : Bool) → (is_within s ≡ true → inside ≡ true) → not inside ≡ true → is_within s ≡ false
@@ -316,10 +291,24 @@ walk_means args at s inside (op ∷ ops) c w =
     by false a c after_act after_step = plain_means args at s op ops a c after_step
 
 -- the walk over a code without a fault gives what the code means
-pub walk_of_faultless : FaultlessRulesAreWhole → (tag : CallTag) (ops : List Opcode) (args : List Arg) → fault_of tag ops ≡ None
+pub walk_of_faultless : FaultlessCodesAreWhole → (tag : CallTag) (ops : List Opcode) (args : List Arg) → fault_of tag ops ≡ None
     → walk args 0 Between ops ≡ meaning ops args
 walk_of_faultless whole tag ops args e =
     let closed : closed_from false ops ≡ true =
-    closed_by_rules false ops (rules_closed (rules_of ops) (whole tag ops e)) (λ h. absurd (false≢true h))
+    closed_by_rules false ops (rules_closed (rules_of ops) ((whole tag ops).0 e).1) (λ h. absurd (false≢true h))
     in
     walk_means args 0 Between false ops closed (λ h. h) ∙ between_means args 0 (rules_of ops)
+
+-- a rule that does not hold is passed over, its action included
+pub rule_passed : (args : List Arg) (at next : ℕ) (ops : List Opcode) → next + length (after_action ops) ≡ at + length ops
+    → walk args at Failed ops ≡ walk args next Between (after_action ops)
+rule_passed args at next [] e = refl
+rule_passed args at next (op ∷ ops) e = by (is_act op) (is_last op) e (rule_passed args (at + 1) next ops)
+  where
+    by : (a l : Bool) → next + length (cond a ops (after_action ops)) ≡ at + length (op ∷ ops)
+        → (next + length (after_action ops) ≡ at + 1 + length ops → walk args (at + 1) Failed ops ≡ walk args next Between (after_action ops))
+        → cond (a && false) (action_from at (op ∷ [])) (walk args (at + 1) (cond a Between (cond l (closed (has op.options NEGATE) Failed) Failed)) ops)
+        ≡ walk args next Between (cond a ops (after_action ops))
+    by true l e later = let same : at + 1 ≡ next = omega (arith, e) in ap (λ n. walk args n Between ops) same
+    by false true e later = later (omega (arith, e))
+    by false false e later = later (omega (arith, e))

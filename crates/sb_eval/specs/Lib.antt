@@ -1,3 +1,4 @@
 pub mod Fragments
 pub mod Meaning
+pub mod Places
 pub mod Walking

@@ -3,60 +3,66 @@
 use Rattle.std.specs.Prelude.{ℕ, ◌+◌, Bool, true, false, not, ◌&&◌, List, [], ◌∷◌, Option, None, Some, if◌then◌else◌}
 use Rattle.sb_call.specs.Arguments.{arg_at}
 use Rattle.sb_call.specs.declared.arguments.Arg.{Arg}
+use Rattle.sb_call.specs.declared.arguments.Arg.TheVariants as arg
 use Rattle.sb_opcode.specs.Groups.{is_act, is_last}
-use Rattle.sb_opcode.specs.Options.{negates, is_choice}
+use Rattle.sb_opcode.specs.Options.{has, NEGATE, OR}
 use Rattle.sb_opcode.specs.declared.opcodes.Opcode.{Opcode}
-use Rattle.sb_eval.specs.Meaning.{number_in, units_in, after_kind, turned, action_from}
+use Rattle.sb_eval.specs.Meaning.{after_opcode, turned, action_from}
 use Rattle.sb_eval.specs.declared.judged.Judged.{Judged}
 use Rattle.sb_eval.specs.declared.judged.Judged.TheVariants.{NoMatch}
+use Rattle.sb_eval.specs.declared.opcodes.Place.{Place}
+use Rattle.sb_eval.specs.declared.opcodes.Place.TheVariants as place
 use Rattle.sb_eval.specs.declared.states.State.{State}
 use Rattle.sb_eval.specs.declared.states.State.TheVariants as state
 
--- between groups that all hold; within a group all of whose opcodes are to hold, with what is left of the string; within
+-- what an argument is from a place on: a number, or what is left of a string
+abbrev pub arg_from : Place → Arg
+arg_from (place.Number n) = arg.Num n
+arg_from (place.Units us) = arg.Str us.now
+
+-- between groups that all hold; within a group all of whose opcodes are to hold, with what is left of the argument; within
 -- one of which none holds so far; within one that is decided; within a rule that does not hold
 pub data Standing : Type 0 where
   Between : Standing
-  All : ℕ → List ℕ → Standing
-  One : ℕ → List ℕ → Standing
+  All : Arg → Standing
+  One : Arg → Standing
   Decided : Bool → Standing
   Failed : Standing
 
 abbrev pub standing_of : State → Standing
 standing_of state.Between = Between
-standing_of (state.All number left) = All number left.now
-standing_of (state.One number units) = One number units.now
+standing_of (state.All left) = All (arg_from left)
+standing_of (state.One whole) = One (arg_from whole)
 standing_of (state.Decided holds) = Decided holds
 standing_of state.Failed = Failed
 
 -- before the first opcode of a group
 abbrev pub begun : List Arg → Opcode → Standing
-begun args op =
-    if is_choice op.options then One (number_in (arg_at args op.param)) (units_in (arg_at args op.param))
-    else All (number_in (arg_at args op.param)) (units_in (arg_at args op.param))
+begun args op = if has op.options OR then One (arg_at args op.param) else All (arg_at args op.param)
 
 -- before an opcode, within its group
 abbrev pub entered : List Arg → Standing → Opcode → Standing
 entered args Between op = begun args op
-entered args (All number left) op = All number left
-entered args (One number units) op = One number units
+entered args (All left) op = All left
+entered args (One whole) op = One whole
 entered args (Decided holds) op = Decided holds
 entered args Failed op = Failed
 
 -- within a group of which all are to hold, by what is left after an opcode
-abbrev pub all_so_far : ℕ → Option (List ℕ) → Standing
-all_so_far number None = Decided false
-all_so_far number (Some left) = All number left
+abbrev pub all_so_far : Option Arg → Standing
+all_so_far None = Decided false
+all_so_far (Some left) = All left
 
 -- within a group of which one is to hold, by what is left after an opcode
-abbrev pub one_so_far : ℕ → List ℕ → Option (List ℕ) → Standing
-one_so_far number units None = One number units
-one_so_far number units (Some left) = Decided true
+abbrev pub one_so_far : Arg → Option Arg → Standing
+one_so_far whole None = One whole
+one_so_far whole (Some left) = Decided true
 
 -- after an opcode, within its group
 abbrev pub looked_at : Standing → Opcode → Standing
 looked_at Between op = Between
-looked_at (All number left) op = all_so_far number (after_kind op.kind op.options number left)
-looked_at (One number units) op = one_so_far number units (after_kind op.kind op.options number units)
+looked_at (All left) op = all_so_far (after_opcode op left)
+looked_at (One whole) op = one_so_far whole (after_opcode op whole)
 looked_at (Decided holds) op = Decided holds
 looked_at Failed op = Failed
 
@@ -67,15 +73,15 @@ passed holds = if holds then Between else Failed
 -- after the last opcode of a group
 abbrev pub closed : Bool → Standing → Standing
 closed negated Between = passed (turned negated true)
-closed negated (All number left) = passed (turned negated true)
-closed negated (One number units) = passed (turned negated false)
+closed negated (All left) = passed (turned negated true)
+closed negated (One whole) = passed (turned negated false)
 closed negated (Decided holds) = passed (turned negated holds)
 closed negated Failed = Failed
 
 -- after an opcode that is no action
 abbrev pub step : List Arg → Standing → Opcode → Standing
 step args s op =
-    if is_last op then closed (negates op.options) (looked_at (entered args s op) op) else looked_at (entered args s op) op
+    if is_last op then closed (has op.options NEGATE) (looked_at (entered args s op) op) else looked_at (entered args s op) op
 
 -- after an opcode; an action ends its rule
 abbrev pub moved : List Arg → Standing → Opcode → Standing
@@ -83,8 +89,8 @@ moved args s op = if is_act op then Between else step args s op
 
 abbrev pub is_failed : Standing → Bool
 is_failed Between = false
-is_failed (All number left) = false
-is_failed (One number units) = false
+is_failed (All left) = false
+is_failed (One whole) = false
 is_failed (Decided holds) = false
 is_failed Failed = true
 

@@ -1,7 +1,7 @@
 // Where a fragment stands in a string. The fragment's cells are packed words, and a position is what is left of the
 // string from there on.
 ghost use Rattle.std.specs.Prelude.{◌≡◌, map, option_map, Some};
-ghost use Rattle.sb_opcode.specs.Packing.{cell_of};
+ghost use Rattle.sb_opcode.specs.Unpacking.{cell_of};
 ghost use Rattle.sb_eval.specs.Fragments.{unit_fits, after_fragment, after_units, after_first, after_end, after_seek, at_end};
 
 use sb_opcode::Seek;

@@ -4,9 +4,11 @@
 
 mod fragments;
 mod judged;
+mod laws;
 mod opcodes;
 mod states;
 mod walks;
 
 pub use judged::Judged;
+pub use laws::fragments_stand_where_they_fit;
 pub use walks::eval;

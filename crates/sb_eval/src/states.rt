@@ -2,46 +2,37 @@
 ghost use Rattle.std.specs.Prelude.{◌≡◌};
 ghost use Rattle.sb_call.specs.Arguments.{arg_at};
 ghost use Rattle.sb_opcode.specs.Records.{opcode_of};
-ghost use Rattle.sb_eval.specs.Meaning.{number_in, units_in, turned};
-ghost use Rattle.sb_eval.specs.Walking.{standing_of, begun, entered, looked_at, passed, closed, step, moved, is_failed};
+ghost use Rattle.sb_eval.specs.Meaning.{turned};
+ghost use Rattle.sb_eval.specs.Walking.{arg_from, standing_of, begun, entered, looked_at, passed, closed, step, is_failed};
 
-use crate::opcodes::after_opcode;
+use crate::opcodes::{Place, after_opcode};
 use bitflags::Flags;
 use sb_call::Arg;
-use sb_opcode::{Options, Record, RecordKind};
+use sb_opcode::{Options, Record};
 
 // Where the walk stands within a rule.
 #[derive(Clone, Copy)]
 pub(crate) enum State<'a> {
     // All groups so far hold, and the next one has not begun.
     Between,
-    // All opcodes of this group so far hold of the number or the string, of which this is left.
-    All { number: u64, left: &'a [u16] },
-    // None of the opcodes of this group so far holds, and one is enough.
-    One { number: u64, units: &'a [u16] },
-    // This group holds, or does not, but for NEGATE, whatever comes in it.
+    // All opcodes of this group so far hold of the argument, of which this is left.
+    All(Place<'a>),
+    // None of the opcodes of this group so far holds of this argument, and one is enough.
+    One(Place<'a>),
+    // This group holds, or does not, except for NEGATE, whatever comes in it.
     Decided(bool),
     // The rule does not hold.
     Failed,
 }
 
-// The number at which a parameter's opcodes look: 0 of a string, and where there is no argument.
-fn number_at(args: &[Arg], param: u32) -> u64
-    ensures { result ≡ number_in (arg_at args.now param) }
+// The argument of a parameter, from its beginning on.
+fn place_at(args: &[Arg], param: u32) -> Place<'_>
+    ensures { arg_from result ≡ arg_at args.now param }
 {
     match args.get(param as usize) {
-        Some(Arg::Num(number)) => *number,
-        Some(Arg::Str(_)) | None => 0,
-    }
-}
-
-// The string at which a parameter's opcodes look: none of a number, and where there is no argument.
-fn units_at(args: &[Arg], param: u32) -> &[u16]
-    ensures { result.now ≡ units_in (arg_at args.now param) }
-{
-    match args.get(param as usize) {
-        Some(Arg::Str(text)) => text.as_units(),
-        Some(Arg::Num(_)) | None => &[],
+        Some(Arg::Num(number)) => Place::Number(*number),
+        Some(Arg::Str(text)) => Place::Units(text.as_units()),
+        None => Place::Number(0),
     }
 }
 
@@ -49,15 +40,11 @@ fn units_at(args: &[Arg], param: u32) -> &[u16]
 fn begun<'a>(opcode: &Record<'_>, args: &'a [Arg]) -> State<'a>
     ensures { standing_of result ≡ begun args.now (opcode_of opcode.now) }
 {
-    let number = number_at(args, opcode.param);
-    let units = units_at(args, opcode.param);
+    let place = place_at(args, opcode.param);
     if opcode.options.contains(Options::OR) {
-        State::One { number, units }
+        State::One(place)
     } else {
-        State::All {
-            number,
-            left: units,
-        }
+        State::All(place)
     }
 }
 
@@ -67,7 +54,7 @@ fn entered<'a>(state: State<'a>, opcode: &Record<'_>, args: &'a [Arg]) -> State<
 {
     match state {
         State::Between => begun(opcode, args),
-        State::All { .. } | State::One { .. } | State::Decided(_) | State::Failed => state,
+        State::All(_) | State::One(_) | State::Decided(_) | State::Failed => state,
     }
 }
 
@@ -76,13 +63,13 @@ fn looked_at<'a>(state: State<'a>, opcode: &Record<'_>) -> State<'a>
     ensures { standing_of result ≡ looked_at (standing_of state.entry) (opcode_of opcode.now) }
 {
     match state {
-        State::All { number, left } => match after_opcode(opcode, number, left) {
-            Some(left) => State::All { number, left },
+        State::All(left) => match after_opcode(opcode, left) {
+            Some(left) => State::All(left),
             None => State::Decided(false),
         },
-        State::One { number, units } => match after_opcode(opcode, number, units) {
+        State::One(whole) => match after_opcode(opcode, whole) {
             Some(_) => State::Decided(true),
-            None => State::One { number, units },
+            None => State::One(whole),
         },
         State::Between | State::Decided(_) | State::Failed => state,
     }
@@ -106,15 +93,15 @@ fn closed<'a>(state: State<'a>, negated: bool) -> State<'a>
     ensures { standing_of result ≡ closed negated (standing_of state.entry) }
 {
     match state {
-        State::Between | State::All { .. } => passed(turned(negated, true)),
-        State::One { .. } => passed(turned(negated, false)),
+        State::Between | State::All(_) => passed(turned(negated, true)),
+        State::One(_) => passed(turned(negated, false)),
         State::Decided(holds) => passed(turned(negated, holds)),
         State::Failed => State::Failed,
     }
 }
 
 // After an opcode that is no action.
-fn step<'a>(state: State<'a>, opcode: &Record<'_>, args: &'a [Arg]) -> State<'a>
+pub(crate) fn step<'a>(state: State<'a>, opcode: &Record<'_>, args: &'a [Arg]) -> State<'a>
     ensures { standing_of result ≡ step args.now (standing_of state.entry) (opcode_of opcode.now) }
 {
     let state = looked_at(entered(state, opcode, args), opcode);
@@ -122,16 +109,6 @@ fn step<'a>(state: State<'a>, opcode: &Record<'_>, args: &'a [Arg]) -> State<'a>
         closed(state, opcode.options.contains(Options::NEGATE))
     } else {
         state
-    }
-}
-
-// After an opcode; an action ends its rule.
-pub(crate) fn moved<'a>(state: State<'a>, opcode: &Record<'_>, args: &'a [Arg]) -> State<'a>
-    ensures { standing_of result ≡ moved args.now (standing_of state.entry) (opcode_of opcode.now) }
-{
-    match opcode.kind {
-        RecordKind::Act { .. } => State::Between,
-        _ => step(state, opcode, args),
     }
 }
 

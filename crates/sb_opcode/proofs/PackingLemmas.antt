@@ -1,11 +1,12 @@
 -- What unpacking gives: it is packing the other way round, and it goes record by record.
 use Rattle.std.specs.Prelude.{◌==◌, Option, None, Some, option_map, option_and_then, is_some, unwrap_or}
-use Rattle.std.proofs.Common.{◌≡◌, ◌∙◌, ◌≤◌, ◌<◌, ◌+◌, ℕ, zero, suc, Bool, true, false, List, [], ◌∷◌, ◌++◌, ◌&&◌, length, refl, ap, sym, subst, arith}
+use Rattle.std.proofs.Common.{◌≡◌, ◌≢◌, ◌∙◌, ◌≤◌, ◌<◌, ◌+◌, ℕ, zero, suc, Bool, true, false, List, [], ◌∷◌, ◌++◌, ◌&&◌, length, refl, ap, sym, subst, arith}
 use Rattle.std.specs.List.{list_all, flat_map}
 use Rattle.std.proofs.lemmas.Bool.{and_parts, false≢true}
 use Rattle.std.proofs.lemmas.Bool.Decides.{nat_tests}
 use Rattle.std.proofs.lemmas.List.{length-append, append-nil, append_assoc}
-use Rattle.sb_opcode.specs.Packing.{first_record, record_of, head_of, kind_words, packed, unpacked, unpacked_within, is_packed, opcodes_of, is_sized, PackingComesBack, PackingIsOneToOne}
+use Rattle.sb_opcode.specs.Packing.{record_of, head_of, kind_words, packed, is_sized, PackingIsOneToOne}
+use Rattle.sb_opcode.specs.Unpacking.{first_record, unpacked, unpacked_within, is_packed, opcodes_of, PackingComesBack}
 use Rattle.sb_opcode.specs.declared.opcodes.Opcode.{Opcode}
 use Rattle.sb_opcode.proofs.RecordLemmas.{none_is_not_some, same_some, unmapped, records_come_back, record_split}
 
@@ -142,10 +143,6 @@ pub first_opcode : (words later : List ℕ) (op : Opcode) → Some (op, later) �
     → opcodes_of words ≡ op ∷ opcodes_of later
 first_opcode words later op e h = opcodes_after words (op, later) (sym e) (later_packed words later op e h)
 
-pub no_opcode : (words : List ℕ) → None ≡ first_record words → is_packed words ≡ true → opcodes_of words ≡ []
-no_opcode [] e h = refl
-no_opcode (word ∷ words) e h = absurd (false≢true (sym (not_packed word words (sym e)) ∙ h))
-
 -- words are the packing of their opcodes, and there are no more opcodes than words
 pub packing_of_opcodes : (words : List ℕ) → is_packed words ≡ true → packed (opcodes_of words) ≡ words
 packing_of_opcodes words h = (opcodes_pack words h).0
@@ -170,8 +167,33 @@ pub pushed_opcodes : (words : List ℕ) (op : Opcode) → is_packed words ≡ tr
 pushed_opcodes words op h k = ap (λ o. unwrap_or o []) (packed_with words op h k)
 
 -- words that begin with no record are packed where there are none
-pub no_record : (words : List ℕ) → None ≡ first_record words → is_packed words ≡ (length words == 0)
+later_of : (words later : List ℕ) → Some later ≡ option_map (λ r. r.1) (first_record words) → (r : Opcode × List ℕ) × (first_record words ≡ Some r) × (r.1 ≡ later)
+later_of words later e = unmapped (λ r. r.1) (first_record words) later (sym e)
+
+pub packed_later : (words later : List ℕ) → Some later ≡ option_map (λ r. r.1) (first_record words) → is_packed words ≡ is_packed later
+packed_later words later e =
+    let p = later_of words later e in
+    packed_after words p.0 p.1 ∙ ap is_packed p.2
+
+pub later_shorter : (words later : List ℕ) → Some later ≡ option_map (λ r. r.1) (first_record words) → length later < length words
+later_shorter words later e =
+    let p = later_of words later e in
+    subst (λ w. length w < length words) p.2 (record_shorter words p.0 p.1)
+
+no_first : (o : Option (Opcode × List ℕ)) → None ≡ option_map (λ r. r.1) o → o ≡ None
+no_first None e = refl
+no_first (Some r) e = none_is_not_some r.1 e
+
+pub no_record : (words : List ℕ) → None ≡ option_map (λ r. r.1) (first_record words) → is_packed words ≡ (length words == 0)
 no_record [] e = refl
 no_record (word ∷ words) e =
     let some : (length (word ∷ words) == 0) ≡ false = grind (arith, nat_tests) in
-    not_packed word words (sym e) ∙ sym some
+    not_packed word words (no_first (first_record (word ∷ words)) e) ∙ sym some
+
+-- words that are not packed are the packing of no opcodes
+pub not_packing : (words : List ℕ) → is_packed words ≡ false → (ops : List Opcode) → list_all is_sized ops ≡ true → packed ops ≢ words
+not_packing words h ops sized e =
+    false≢true (sym h ∙ ap is_packed (sym e) ∙ ap is_some (packed_back ops sized))
+
+pub opcodes_sized : (words : List ℕ) → is_packed words ≡ true → list_all is_sized (opcodes_of words) ≡ true
+opcodes_sized words h = (opcodes_pack words h).1

@@ -12,7 +12,8 @@ use Rattle.sb_rule.specs.Actions.{action_number}
 use Rattle.sb_rule.specs.declared.actions.Action.{Action}
 use Rattle.sb_rule.specs.declared.actions.Action.TheVariants.{Allow, Deny, Alarm, Fake, ReadOnly}
 use Rattle.sb_opcode.specs.Options.{options_of}
-use Rattle.sb_opcode.specs.Packing.{cell_word, cell_of, is_cell_word, is_sized_cell, action_of, plain_kind, plain_record, text_record, first_record, record_of, seek_in, seek_part, skip_part, kind_part, options_part, kind_number, kind_words, seek_bits, seek_number, skip_number, opcode_in, is_sized, is_sized_kind, RecordsComeBack}
+use Rattle.sb_opcode.specs.Packing.{cell_word, is_sized_cell, record_of, kind_number, kind_words, seek_bits, seek_number, skip_number, is_sized, is_sized_kind}
+use Rattle.sb_opcode.specs.Unpacking.{cell_of, is_cell_word, action_of, plain_kind, plain_record, text_record, first_record, seek_in, seek_part, skip_part, kind_part, options_part, opcode_in, RecordsComeBack}
 use Rattle.sb_opcode.specs.declared.opcodes.Opcode.{Opcode}
 use Rattle.sb_opcode.specs.declared.opcodes.OpKind.{OpKind}
 use Rattle.sb_opcode.specs.declared.opcodes.OpKind.TheVariants.{False, True, Num, Range, Mask, Text, Act}
@@ -57,7 +58,7 @@ word_fits w h = by (ltb w 65536) (eqb w 65536) refl
     by false true e = refl
     by false false e = refl
 
-cells_back : (cs : List Cell) → list_all is_sized_cell cs ≡ true → map cell_of (map cell_word cs) ≡ cs
+pub cells_back : (cs : List Cell) → list_all is_sized_cell cs ≡ true → map cell_of (map cell_word cs) ≡ cs
 cells_back [] h = refl
 cells_back (c ∷ cs) h =
     let p = and_parts (is_sized_cell c) (list_all is_sized_cell cs) h in
@@ -82,16 +83,16 @@ words_fit (w ∷ ws) h =
     rw (word_fits w p.0, words_fit ws p.1) refl
 
 -- the parts of a first word
-head_kind : (k o s t : ℕ) → k < 256 → o < 256 → s < 65536 → kind_part (k + o * 2 ^ 8 + (s * 2 ^ 16 + t * 2 ^ 32)) ≡ k
+pub head_kind : (k o s t : ℕ) → k < 256 → o < 256 → s < 65536 → kind_part (k + o * 2 ^ 8 + (s * 2 ^ 16 + t * 2 ^ 32)) ≡ k
 head_kind k o s t hk ho hs = omega arith
 
-head_options : (k o s t : ℕ) → k < 256 → o < 256 → s < 65536 → options_part (k + o * 2 ^ 8 + (s * 2 ^ 16 + t * 2 ^ 32)) ≡ o
+pub head_options : (k o s t : ℕ) → k < 256 → o < 256 → s < 65536 → options_part (k + o * 2 ^ 8 + (s * 2 ^ 16 + t * 2 ^ 32)) ≡ o
 head_options k o s t hk ho hs = omega arith
 
-head_seek : (k o s t : ℕ) → k < 256 → o < 256 → s < 65536 → seek_part (k + o * 2 ^ 8 + (s * 2 ^ 16 + t * 2 ^ 32)) ≡ s
+pub head_seek : (k o s t : ℕ) → k < 256 → o < 256 → s < 65536 → seek_part (k + o * 2 ^ 8 + (s * 2 ^ 16 + t * 2 ^ 32)) ≡ s
 head_seek k o s t hk ho hs = omega arith
 
-head_skip : (k o s t : ℕ) → k < 256 → o < 256 → s < 65536 → skip_part (k + o * 2 ^ 8 + (s * 2 ^ 16 + t * 2 ^ 32)) ≡ t
+pub head_skip : (k o s t : ℕ) → k < 256 → o < 256 → s < 65536 → skip_part (k + o * 2 ^ 8 + (s * 2 ^ 16 + t * 2 ^ 32)) ≡ t
 head_skip k o s t hk ho hs = omega arith
 
 head_whole : (h : ℕ) → kind_part h + options_part h * 2 ^ 8 + (seek_part h * 2 ^ 16 + skip_part h * 2 ^ 32) ≡ h
@@ -129,7 +130,7 @@ seek_back (Skip n) h small s t = rw (s, t, small) refl
 seek_back Forward h small s t = rw (s, t) refl
 seek_back ToEnd h small s t = rw (s, t) refl
 
-few_seeks : (seek : Seek) → seek_number seek < 65536
+pub few_seeks : (seek : Seek) → seek_number seek < 65536
 few_seeks (Skip n) = omega arith
 few_seeks Forward = omega arith
 few_seeks ToEnd = omega arith

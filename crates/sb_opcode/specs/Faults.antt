@@ -7,15 +7,12 @@ use Rattle.sb_call.specs.Tags.{shape_of}
 use Rattle.sb_call.specs.declared.tags.CallTag.{CallTag}
 use Rattle.sb_rule.specs.WellMade.{is_number_kind}
 use Rattle.sb_opcode.specs.Groups.{is_act, is_last}
-use Rattle.sb_opcode.specs.Options.{negates, clears, is_choice, folds, is_exact, has_options}
-use Rattle.sb_opcode.specs.Packing.{unpacked}
+use Rattle.sb_opcode.specs.Options.{has, NEGATE, CLEAR, OR, FOLD, EXACT, has_options}
 use Rattle.sb_opcode.specs.declared.opcodes.Opcode.{Opcode}
 use Rattle.sb_opcode.specs.declared.opcodes.OpKind.{OpKind}
 use Rattle.sb_opcode.specs.declared.opcodes.OpKind.TheVariants.{False, True, Num, Range, Mask, Text, Act}
 use Rattle.sb_opcode.specs.declared.faults.CodeFault.{CodeFault}
 use Rattle.sb_opcode.specs.declared.faults.CodeFault.TheVariants.{NoAction, OpenGroup, BadParam}
-use Rattle.sb_opcode.specs.declared.faults.WordsFault.{WordsFault}
-use Rattle.sb_opcode.specs.declared.faults.WordsFault.TheVariants as words_fault
 
 -- the last opcode is an action
 abbrev pub ends_with_act : List Opcode → Bool
@@ -40,13 +37,13 @@ goes_on (Some op) = not (is_act op) && not (is_last op)
 -- the opcode before differs in parameter or in OR
 abbrev pub differs : Option Opcode → Opcode → Bool
 differs None op = false
-differs (Some before) op = not (before.param == op.param) || not (beq (is_choice before.options) (is_choice op.options))
+differs (Some before) op = not (before.param == op.param) || not (beq (has before.options OR) (has op.options OR))
 
 -- the options are none that such an opcode may have
 abbrev pub is_unfit : Opcode → Bool
 is_unfit op =
-    (negates op.options && not (clears op.options)) || (is_text_kind op.kind && is_choice op.options) || (is_act op && has_options op.options)
-    || (not (is_text_kind op.kind) && (folds op.options || is_exact op.options))
+    (has op.options NEGATE && not (has op.options CLEAR)) || (is_text_kind op.kind && has op.options OR) || (is_act op && has_options op.options)
+    || (not (is_text_kind op.kind) && (has op.options FOLD || has op.options EXACT))
 
 -- an opcode, with the one before it where there is one, leaves a group open: an action within a group, an opcode that
 -- differs from the one before it in the group, or options that do not fit
@@ -85,12 +82,3 @@ fault_of tag ops =
     if not (ends_with_act ops) then Some NoAction
     else option_or (option_map OpenGroup (position is_open (with_before None ops)))
     (option_map BadParam (position (is_misplaced tag) ops))
-
--- the fault of words that are the packing of these opcodes, or of none
-abbrev pub packed_fault : CallTag → Option (List Opcode) → Option WordsFault
-packed_fault tag None = Some words_fault.NotPacked
-packed_fault tag (Some ops) = option_map words_fault.Code (fault_of tag ops)
-
--- the first fault of words for a call
-abbrev pub words_fault_of : CallTag → List ℕ → Option WordsFault
-words_fault_of tag words = packed_fault tag (unpacked words)

@@ -1,7 +1,7 @@
 -- The rules of a code, and the groups of a rule.
 use Rattle.std.specs.Prelude.{Bool, true, false, not, List, [], ◌∷◌, if◌then◌else◌, filter}
 use Rattle.std.specs.List.{onto_first}
-use Rattle.sb_opcode.specs.Options.{clears}
+use Rattle.sb_opcode.specs.Options.{has, CLEAR}
 use Rattle.sb_opcode.specs.declared.opcodes.Opcode.{Opcode}
 use Rattle.sb_opcode.specs.declared.opcodes.OpKind.{OpKind}
 use Rattle.sb_opcode.specs.declared.opcodes.OpKind.TheVariants.{False, True, Num, Range, Mask, Text, Act}
@@ -21,7 +21,7 @@ is_act op = is_act_kind op.kind
 
 -- the opcode has CLEAR
 abbrev pub is_last : Opcode → Bool
-is_last op = clears op.options
+is_last op = has op.options CLEAR
 
 -- a list cut after each opcode that passes the test; what follows the last of them is a part too
 abbrev pub cut_after : (Opcode → Bool) → List Opcode → List (List Opcode)
@@ -35,3 +35,8 @@ rules_of ops = cut_after is_act ops
 -- the groups of a rule: what stands before its action, cut after each CLEAR
 abbrev pub groups_of : List Opcode → List (List Opcode)
 groups_of rule = cut_after is_last (filter (λ op. not (is_act op)) rule)
+
+-- what follows the first action, and nothing where there is none
+abbrev pub after_action : List Opcode → List Opcode
+after_action [] = []
+after_action (op ∷ ops) = if is_act op then ops else after_action ops

@@ -1,6 +1,9 @@
 pub mod Options
 pub mod Packing
+pub mod Unpacking
 pub mod Records
 pub mod Groups
 pub mod Faults
+pub mod WordFaults
 pub mod WholeGroups
+pub mod Verified

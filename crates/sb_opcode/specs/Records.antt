@@ -1,6 +1,7 @@
 -- The opcodes that records are.
-use Rattle.std.specs.Prelude.{map}
-use Rattle.sb_opcode.specs.Packing.{cell_of}
+use Rattle.std.specs.Prelude.{◌≡◌, Bool, List, ◌∷◌, map}
+use Rattle.sb_opcode.specs.Groups.{is_act}
+use Rattle.sb_opcode.specs.Unpacking.{cell_of}
 use Rattle.sb_opcode.specs.declared.opcodes.Opcode.{Opcode}
 use Rattle.sb_opcode.specs.declared.opcodes.OpKind.{OpKind}
 use Rattle.sb_opcode.specs.declared.opcodes.OpKind.TheVariants.{False, True, Num, Range, Mask, Text, Act}
@@ -21,3 +22,7 @@ kind_of (record_kind.Act action line) = Act action line
 -- the opcode of a record
 abbrev pub opcode_of : Record → Opcode
 opcode_of r = record { kind = kind_of r.kind; param = r.param; options = r.options }
+
+-- one opcode was passed over, which is an action, or is none
+abbrev pub IsPassed : Bool → List Opcode → List Opcode → Type 0
+IsPassed acts before after = (op : Opcode) × (before ≡ op ∷ after) × (acts ≡ is_act op)

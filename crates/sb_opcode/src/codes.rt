@@ -1,10 +1,11 @@
 // Codes: opcodes packed in words.
 ghost use Rattle.std.specs.Prelude.{◌≡◌, ◌+◌, ◌*◌, ◌<◌, ◌^◌, ◌++◌, ◌∷◌, [], true, length, map, take, vec_len, nat_lt, OnOk, OnErr};
 ghost use Rattle.std.specs.List.{list_all};
-ghost use Rattle.sb_opcode.specs.Packing.{cell_word, kind_number, seek_number, skip_number, kind_words, head_of, record_of, packed, is_packed, opcodes_of, is_sized, is_sized_kind, is_sized_cell};
+ghost use Rattle.sb_opcode.specs.Packing.{cell_word, kind_number, seek_number, skip_number, kind_words, head_of, record_of, packed, is_sized, is_sized_kind, is_sized_cell};
+ghost use Rattle.sb_opcode.specs.Unpacking.{is_packed, opcodes_of};
 
 use crate::opcodes::{OpKind, Opcode, Seek};
-use crate::records::{Records, first_record};
+use crate::records::{Records, after_record};
 use bitflags::Flags;
 use sb_pattern::Cell;
 use sb_wide::NoMemory;
@@ -26,7 +27,7 @@ pub struct Code {
 
 impl Model for Code {
     ghost use Rattle.std.specs.Prelude.{◌≡◌, ◌<◌, ◌^◌, List, true, length};
-    ghost use Rattle.sb_opcode.specs.Packing.{is_packed, opcodes_of};
+    ghost use Rattle.sb_opcode.specs.Unpacking.{is_packed, opcodes_of};
     ghost use Rattle.sb_opcode.specs.declared.opcodes.Opcode.{Opcode};
 
     ghost Value = { List Opcode };
@@ -171,7 +172,7 @@ pub(crate) fn is_packed(words: &[u64]) -> bool
     ensures { result ≡ is_packed words.now }
 {
     let mut rest = words;
-    while let Some((_, later)) = first_record(rest) {
+    while let Some(later) = after_record(rest) {
         rest = later;
     }
     rest.is_empty()

@@ -1,6 +1,7 @@
 // Laws of codes. None of these functions does anything: each contract is a law.
-ghost use Rattle.sb_opcode.specs.Packing.{PackingComesBack, PackingIsOneToOne, RecordsComeBack};
-ghost use Rattle.sb_opcode.specs.WholeGroups.{PartsAreTheList, FaultlessRulesAreWhole, FaultlessOpcodesSuit};
+ghost use Rattle.sb_opcode.specs.Packing.{PackingIsOneToOne};
+ghost use Rattle.sb_opcode.specs.Unpacking.{PackingComesBack, RecordsComeBack};
+ghost use Rattle.sb_opcode.specs.WholeGroups.{PartsAreTheList, FaultlessCodesAreWhole};
 
 /// Words unpack to opcodes exactly where they are the packing of these, different opcodes are packed differently, and a
 /// record is known from its own words.
@@ -10,11 +11,11 @@ pub fn packing_comes_back()
     ensures records { RecordsComeBack }
 {}
 
-/// The rules of a code, and the groups of a rule, are cut out of it without loss. A code without a fault has whole rules:
-/// each ends with its action, and each of its groups has CLEAR on its last opcode alone, looks at one parameter, and has
-/// OR on all its opcodes or on none. Each opcode suits its parameter.
+/// The rules of a code, and the groups of a rule, are cut out of it without loss. A code has no fault exactly where it ends
+/// with an action, each rule is whole, and each opcode suits its parameter. A whole rule has an action at its end alone,
+/// without options, and each of its groups has CLEAR on its last opcode alone, looks at one parameter, and has OR on all its
+/// opcodes or on none.
 pub fn faultless_codes_are_whole()
     ensures parts { PartsAreTheList }
-    ensures rules { FaultlessRulesAreWhole }
-    ensures opcodes { FaultlessOpcodesSuit }
+    ensures whole { FaultlessCodesAreWhole }
 {}

@@ -1,9 +1,8 @@
 // The records of opcodes in words.
-ghost use Rattle.std.specs.Prelude.{◌≡◌, ◌<◌, ◌^◌, ◌∷◌, [], true, length, nat_le, option_map, None, Some, MatchOption};
+ghost use Rattle.std.specs.Prelude.{◌≡◌, ◌≤◌, ◌==◌, ◌∷◌, [], true, length, option_map, is_some, None, Some, MatchOption};
 ghost use Rattle.std.specs.List.{list_all};
-ghost use Rattle.sb_opcode.specs.Packing.{seek_in, action_of, plain_kind, plain_record, text_record, opcode_in, first_record, is_cell_word, is_packed, opcodes_of};
-ghost use Rattle.sb_opcode.specs.declared.opcodes.OpKind.TheVariants.{Act};
-ghost use Rattle.sb_opcode.specs.Records.{kind_of, opcode_of};
+ghost use Rattle.sb_opcode.specs.Unpacking.{kind_part, seek_in, plain_kind, plain_record, text_record, first_record, is_cell_word, is_packed, opcodes_of, seek_known, action_known, kind_known, after_known, does_known, first_known, passed_known};
+ghost use Rattle.sb_opcode.specs.Records.{kind_of, opcode_of, IsPassed};
 
 use crate::opcodes::Seek;
 use crate::options::Options;
@@ -11,7 +10,7 @@ use bitflags::Flags;
 use sb_rule::Action;
 use std::marker::Model;
 
-// The number of the kind of text opcodes.
+// The number of the kind of text opcodes. That of actions is the only one above it.
 const TEXT: u64 = 5;
 
 // The highest word of a cell, that of `*`.
@@ -47,54 +46,27 @@ pub struct Record<'a> {
     pub options: Options,
 }
 
-fn seek_in(head: u64) -> Option<Seek>
-    ensures { result ≡ seek_in head }
+fn is_seek(head: u64) -> bool
+    ensures { result ≡ is_some (seek_in head) }
 {
     let skip = head >> 32;
     match (head >> 16) & 0xffff {
-        0 if skip < 1 << 16 => Some(Seek::Skip(skip as u16)),
-        1 if skip == 0 => Some(Seek::Forward),
-        2 if skip == 0 => Some(Seek::ToEnd),
-        _ => None,
+        0 => skip < 1 << 16,
+        1 | 2 => skip == 0,
+        _ => false,
     }
 }
 
-fn action_of(number: u64) -> Option<Action>
-    ensures { result ≡ action_of number }
+// Whether these are the kind of a record without cells, its third word and its fourth.
+fn is_plain_kind(kind: u64, first: u64, second: u64) -> bool
+    ensures { result ≡ is_some (plain_kind kind first second) }
 {
-    match number {
-        0 => Some(Action::Allow),
-        1 => Some(Action::Deny),
-        2 => Some(Action::Alarm),
-        3 => Some(Action::Fake),
-        4 => Some(Action::ReadOnly),
-        _ => None,
-    }
-}
-
-fn act_kind<'a>(action: u64, line: u64) -> Option<RecordKind<'a>>
-    requires { line < 2 ^ 32 }
-    ensures { option_map kind_of result ≡ option_map (λ action. Act action line) (action_of action) }
-{
-    let action = action_of(action)?;
-    Some(RecordKind::Act {
-        action,
-        line: line as u32,
-    })
-}
-
-// What a record without cells does.
-fn plain_kind<'a>(kind: u64, first: u64, second: u64) -> Option<RecordKind<'a>>
-    ensures { option_map kind_of result ≡ plain_kind kind first second }
-{
-    match (kind, first, second) {
-        (0, 0, 0) => Some(RecordKind::False),
-        (1, 0, 0) => Some(RecordKind::True),
-        (2, number, 0) => Some(RecordKind::Num(number)),
-        (3, lo, hi) => Some(RecordKind::Range { lo, hi }),
-        (4, mask, 0) => Some(RecordKind::Mask(mask)),
-        (6, action, line) if line < 1 << 32 => act_kind(action, line),
-        _ => None,
+    match kind {
+        0 | 1 => first == 0 && second == 0,
+        2 | 4 => second == 0,
+        3 => true,
+        6 => first < 5 && second < 1 << 32,
+        _ => false,
     }
 }
 
@@ -104,62 +76,33 @@ fn are_cells(words: &[u64]) -> bool
     words.iter().all(|word| *word <= LAST_CELL)
 }
 
-// The record of a first word, a parameter and what it does.
-fn record_in<'a>(head: u64, param: u64, kind: RecordKind<'a>) -> Record<'a>
-    requires { param < 2 ^ 32 }
-    ensures { opcode_of result ≡ opcode_in head param (kind_of kind.entry) }
+fn after_plain(head: u64, param: u64, first: u64, second: u64, later: &[u64]) -> Option<&[u64]>
+    ensures { option_map (λ w. w.now) result ≡ option_map (λ r. r.1) (plain_record head param first second later.now) }
 {
-    Record {
-        kind,
-        param: param as u32,
-        options: Options::from_bits_retain((head >> 8 & 0xff) as u8),
+    if head >> 16 == 0 && is_plain_kind(head & 0xff, first, second) {
+        Some(later)
+    } else {
+        None
     }
 }
 
-fn plain_record<'a>(
-    head: u64,
-    param: u64,
-    first: u64,
-    second: u64,
-    later: &'a [u64],
-) -> Option<(Record<'a>, &'a [u64])>
-    requires { param < 2 ^ 32 }
-    ensures { option_map (λ r. (opcode_of r.0, r.1.now)) result ≡ plain_record head param first second later.now }
-{
-    if head >> 16 != 0 {
-        return None;
-    }
-    let kind = plain_kind(head & 0xff, first, second)?;
-    Some((record_in(head, param, kind), later))
-}
-
-fn text_record<'a>(
-    head: u64,
-    param: u64,
-    count: u64,
-    second: u64,
-    later: &'a [u64],
-) -> Option<(Record<'a>, &'a [u64])>
-    requires { param < 2 ^ 32 }
-    ensures { option_map (λ r. (opcode_of r.0, r.1.now)) result ≡ text_record head param count second later.now }
+fn after_text(head: u64, param: u64, count: u64, second: u64, later: &[u64]) -> Option<&[u64]>
+    ensures { option_map (λ w. w.now) result ≡ option_map (λ r. r.1) (text_record head param count second later.now) }
 {
     if second != 0 || count > later.len() as u64 {
         return None;
     }
     let (cells, later) = later.split_at(count as usize);
-    if !are_cells(cells) {
-        return None;
+    if are_cells(cells) && is_seek(head) {
+        Some(later)
+    } else {
+        None
     }
-    let seek = seek_in(head)?;
-    Some((
-        record_in(head, param, RecordKind::Text { cells, seek }),
-        later,
-    ))
 }
 
-// The first record of the words, and the words after it. None where they begin with no record.
-pub(crate) fn first_record<'a>(words: &'a [u64]) -> Option<(Record<'a>, &'a [u64])>
-    ensures { option_map (λ r. (opcode_of r.0, r.1.now)) result ≡ first_record words.now }
+// The words after the first record. None where the words begin with no record.
+pub(crate) fn after_record(words: &[u64]) -> Option<&[u64]>
+    ensures { option_map (λ w. w.now) result ≡ option_map (λ r. r.1) (first_record words.now) }
 {
     match words {
         [head, param, first, second, later @ ..] => {
@@ -167,10 +110,111 @@ pub(crate) fn first_record<'a>(words: &'a [u64]) -> Option<(Record<'a>, &'a [u64
                 return None;
             }
             if *head & 0xff == TEXT {
-                text_record(*head, *param, *first, *second, later)
+                after_text(*head, *param, *first, *second, later)
             } else {
-                plain_record(*head, *param, *first, *second, later)
+                after_plain(*head, *param, *first, *second, later)
             }
+        }
+        _ => None,
+    }
+}
+
+fn seek_known(head: u64) -> Seek
+    ensures { result ≡ seek_known head }
+{
+    match (head >> 16) & 0xffff {
+        0 => Seek::Skip((head >> 32 & 0xffff) as u16),
+        1 => Seek::Forward,
+        _ => Seek::ToEnd,
+    }
+}
+
+fn action_known(number: u64) -> Action
+    ensures { result ≡ action_known number }
+{
+    match number {
+        0 => Action::Allow,
+        1 => Action::Deny,
+        2 => Action::Alarm,
+        3 => Action::Fake,
+        _ => Action::ReadOnly,
+    }
+}
+
+fn kind_known<'a>(kind: u64, first: u64, second: u64) -> RecordKind<'a>
+    ensures { kind_of result ≡ kind_known kind first second }
+{
+    match kind {
+        0 => RecordKind::False,
+        1 => RecordKind::True,
+        2 => RecordKind::Num(first),
+        3 => RecordKind::Range {
+            lo: first,
+            hi: second,
+        },
+        4 => RecordKind::Mask(first),
+        _ => RecordKind::Act {
+            action: action_known(first),
+            line: (second & 0xffff_ffff) as u32,
+        },
+    }
+}
+
+// The words after a record of packed words: past its cells, where it has some.
+fn after_known(head: u64, first: u64, later: &[u64]) -> &[u64]
+    requires { (kind_part head == 5) ≡ true → first ≤ length later.now }
+    ensures { result.now ≡ after_known head first later.now }
+{
+    if head & 0xff == TEXT {
+        let (_, later) = later.split_at(first as usize);
+        later
+    } else {
+        later
+    }
+}
+
+// What the first opcode of packed words does.
+fn does_known<'a>(head: u64, first: u64, second: u64, later: &'a [u64]) -> RecordKind<'a>
+    requires { (kind_part head == 5) ≡ true → first ≤ length later.now }
+    ensures { kind_of result ≡ does_known head first second later.now }
+{
+    if head & 0xff == TEXT {
+        let (cells, _) = later.split_at(first as usize);
+        let seek = seek_known(head);
+        RecordKind::Text { cells, seek }
+    } else {
+        kind_known(head & 0xff, first, second)
+    }
+}
+
+// The first record of packed words, and the words after it. The words are not tested again.
+#[tactic(auto, using(crate::proofs::KnownLemmas::cells_there))]
+fn first_known<'a>(words: &'a [u64]) -> Option<(Record<'a>, &'a [u64])>
+    requires { is_packed words.now ≡ true }
+    ensures { option_map (λ r. (opcode_of r.0, r.1.now)) result ≡ first_known words.now }
+{
+    match words {
+        [head, param, first, second, later @ ..] => {
+            let record = Record {
+                kind: does_known(*head, *first, *second, later),
+                param: (*param & 0xffff_ffff) as u32,
+                options: Options::from_bits_retain((*head >> 8 & 0xff) as u8),
+            };
+            Some((record, after_known(*head, *first, later)))
+        }
+        _ => None,
+    }
+}
+
+// Whether the first opcode of packed words is an action, and the words after it.
+#[tactic(auto, using(crate::proofs::KnownLemmas::cells_there))]
+fn passed_known(words: &[u64]) -> Option<(bool, &[u64])>
+    requires { is_packed words.now ≡ true }
+    ensures { option_map (λ r. (r.0, r.1.now)) result ≡ passed_known words.now }
+{
+    match words {
+        [head, _, first, _, later @ ..] => {
+            Some((*head & 0xff > TEXT, after_known(*head, *first, later)))
         }
         _ => None,
     }
@@ -184,7 +228,7 @@ pub struct Records<'a> {
 
 impl<'a> Model for Records<'a> {
     ghost use Rattle.std.specs.Prelude.{◌≡◌, List, true};
-    ghost use Rattle.sb_opcode.specs.Packing.{is_packed, opcodes_of};
+    ghost use Rattle.sb_opcode.specs.Unpacking.{is_packed, opcodes_of};
     ghost use Rattle.sb_opcode.specs.declared.opcodes.Opcode.{Opcode};
 
     ghost Value = { List Opcode };
@@ -203,13 +247,24 @@ impl<'a> Records<'a> {
         Records { rest: words }
     }
 
-    #[tactic(auto, using(crate::proofs::PackingLemmas::later_packed, crate::proofs::PackingLemmas::first_opcode, crate::proofs::PackingLemmas::no_opcode))]
-    /// The next opcode.
+    #[tactic(auto, using(crate::proofs::KnownLemmas::no_opcode))]
+    /// The next opcode. Nothing of its words is tested again.
     pub fn next_record(&mut self) -> Option<Record<'a>>
         ensures { MatchOption result ((self.old ≡ []) × (self.new ≡ [])) (λ r. self.old ≡ opcode_of r ∷ self.new) }
     {
-        let (record, later) = first_record(self.rest)?;
+        let (record, later) = first_known(self.rest)?;
         self.rest = later;
         Some(record)
+    }
+
+    #[tactic(auto, using(crate::proofs::KnownLemmas::no_passed))]
+    /// Passes over the next opcode, and over its cells by their number. Returns whether it is an action, and None where
+    /// there is no opcode.
+    pub fn pass_record(&mut self) -> Option<bool>
+        ensures { MatchOption result ((self.old ≡ []) × (self.new ≡ [])) (λ acts. IsPassed acts self.old self.new) }
+    {
+        let (acts, later) = passed_known(self.rest)?;
+        self.rest = later;
+        Some(acts)
     }
 }

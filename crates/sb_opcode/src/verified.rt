@@ -1,20 +1,34 @@
 // Codes that are sound for a call.
-ghost use Rattle.std.specs.Prelude.{◌≡◌, ◌<◌, ◌^◌, Option, None, Some, length, MatchResult};
-ghost use Rattle.sb_opcode.specs.Faults.{fault_of, words_fault_of};
-ghost use Rattle.sb_opcode.specs.Packing.{unpacked};
+ghost use Rattle.std.specs.Prelude.{◌≡◌, ◌<◌, ◌^◌, true, Option, None, Some, length, MatchResult};
+ghost use Rattle.std.specs.List.{list_all};
+ghost use Rattle.sb_opcode.specs.Faults.{fault_of};
+ghost use Rattle.sb_opcode.specs.WordFaults.{IsWordsFault};
+ghost use Rattle.sb_opcode.specs.Packing.{packed, is_sized};
 
 use crate::checks::fault_of;
 use crate::codes::{Code, code_of, is_packed};
 use crate::faults::{CodeFault, WordsFault};
 use crate::words::WordList;
 use sb_call::CallTag;
+use std::marker::Model;
 
 /// A code without a fault for the calls of one tag.
 #[derive(Debug, Drop)]
 pub struct Verified {
     tag: CallTag,
     code: Code,
-    ghost sound: { fault_of tag code ≡ None },
+}
+
+impl Model for Verified {
+    ghost use Rattle.std.specs.Prelude.{◌≡◌, None};
+    ghost use Rattle.sb_opcode.specs.Faults.{fault_of};
+    ghost use Rattle.sb_opcode.specs.Verified.{VerifiedCode};
+
+    ghost Value = { VerifiedCode };
+
+    ghost view = { λ v. record { tag = v.tag; code = v.code } };
+
+    ghost invariant = { λ v. fault_of v.tag v.code ≡ None };
 }
 
 impl Verified {
@@ -67,15 +81,16 @@ pub struct WordsRefused {
     pub fault: WordsFault,
 }
 
-/// Verifies packed words for the calls of a tag. There are fewer than 2^32 words. It takes no memory.
+/// Verifies packed words for the calls of a tag. There are fewer than 2^32 words. The words of the code are those that were
+/// given. It takes no memory.
 ///
 /// # Errors
 /// `NotPacked` exactly where the words are the packing of no opcodes, and `Code` exactly where they are the packing of
 /// opcodes that `verify` refuses, with the same fault. The words are given back.
 pub fn verify_words(tag: CallTag, words: Vec<u64>) -> Result<Verified, WordsRefused>
     requires { length words.items < 2 ^ 32 }
-    ensures { MatchResult result (λ verified. (words_fault_of tag words.items ≡ None) × (unpacked words.items ≡ Some verified.code) × (verified.tag ≡ tag))
-        (λ refused. (words_fault_of tag words.items ≡ Some refused.fault) × (refused.words ≡ words.items)) }
+    ensures { MatchResult result (λ verified. (packed verified.code ≡ words.items) × (list_all is_sized verified.code ≡ true) × (fault_of tag verified.code ≡ None) × (verified.tag ≡ tag))
+        (λ refused. IsWordsFault tag words.items refused.fault × (refused.words ≡ words.items)) }
 {
     if !is_packed(&words) {
         return Err(WordsRefused {

@@ -1,6 +1,6 @@
 use Rattle.std.proofs.Common.{◌≡◌, map, take}
 use Rattle.sb_pattern.specs.Reading.{text_of}
-use Rattle.sb_opcode.specs.Packing.{cell_of}
+use Rattle.sb_opcode.specs.Unpacking.{cell_of}
 use Rattle.sb_compile.proofs.listing.put_cells.Given as goal
 
 abbrev pub invariant-loop-word : goal.invariant-loop-word

@@ -1,5 +1,5 @@
 use Rattle.std.proofs.Common.{◌≡◌, map, length}
-use Rattle.sb_opcode.specs.Packing.{cell_of}
+use Rattle.sb_opcode.specs.Unpacking.{cell_of}
 use Rattle.sb_eval.specs.Fragments.{after_fragment}
 use Rattle.sb_eval.proofs.fragments.after_fragment.Given as goal
 

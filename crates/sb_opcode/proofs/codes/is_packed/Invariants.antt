@@ -1,5 +1,5 @@
 use Rattle.std.proofs.Common.{◌≡◌, length}
-use Rattle.sb_opcode.specs.Packing.{is_packed}
+use Rattle.sb_opcode.specs.Unpacking.{is_packed}
 use Rattle.sb_opcode.proofs.codes.is_packed.Given as goal
 
 abbrev pub invariant-loop-later : goal.invariant-loop-later

@@ -1,6 +1,7 @@
 use Rattle.std.proofs.Common.{◌≡◌, ◌++◌, ◌+◌, ◌<◌, ◌^◌, List, ℕ, sym, ap, ◌∙◌, length, true, subst, arith}
 use Rattle.std.proofs.lemmas.List.{length_push}
-use Rattle.sb_opcode.specs.Packing.{is_packed, opcodes_of, record_of}
+use Rattle.sb_opcode.specs.Packing.{record_of}
+use Rattle.sb_opcode.specs.Unpacking.{is_packed, opcodes_of}
 use Rattle.sb_opcode.proofs.PackingLemmas.{pushed_packed, pushed_opcodes}
 use Rattle.sb_opcode.proofs.codes.Code.push.Goals as goal
 
