@@ -61,6 +61,10 @@ ancestor rows (suc k) (Some n) = ancestor rows k (row_at rows n).parent
 abbrev pub IsRooted : List Row → Type 0
 IsRooted rows = (n : ℕ) → (k : ℕ) × (ancestor rows k (Some n) ≡ None)
 
+-- a path to the root has no more nodes than there are numbers
+abbrev pub IsShallow : List Row → Type 0
+IsShallow rows = (n : ℕ) → ancestor rows (suc (length rows)) (Some n) ≡ None
+
 -- the next sibling of a node, where it has a parent
 abbrev pub next_below : List Row → ℕ → Option ℕ → Option ℕ
 next_below rows n None = None

@@ -1,6 +1,6 @@
 // An arena: nodes that are linked as trees, each known by its number.
 ghost use Rattle.std.specs.Prelude.{◌≡◌, [], Some, None, IfOk, IfErr, OnOk, OnErr, IsSome, is_some, option_map, length};
-ghost use Rattle.sb_arena.specs.Forests.{no_nodes, with_node, with_child, row_at, value_at, IsLive, parent_of, children_of, next_of, without_parent, node_number, without_node, with_value, IsRooted, IsSound, Agrees, HasLiveLinks, HasSingleChildren, first_of, IsAbove};
+ghost use Rattle.sb_arena.specs.Forests.{no_nodes, with_node, with_child, row_at, value_at, IsLive, parent_of, children_of, next_of, without_parent, node_number, without_node, with_value, IsRooted, IsShallow, IsSound, Agrees, HasLiveLinks, HasSingleChildren, first_of, IsAbove};
 
 use crate::links::{Link, fresh, link_last, link_of, next_linked, unlink_from};
 use std::alloc::Global;
@@ -73,8 +73,20 @@ impl<T> Arena<T> {
         ensures live { HasLiveLinks self.now }
         ensures single { HasSingleChildren self.now }
         ensures sound { IsSound self.now }
+        ensures shallow { IsShallow self.now.rows }
+        ensures even { length self.now.rows ≡ length self.now.values }
     {
         let _count = self.links.len();
+    }
+
+    /// The number of the node that is added next.
+    pub fn vacant(&self) -> NodeId
+        ensures { result.0 ≡ node_number self.now }
+    {
+        match self.free.as_slice() {
+            [.., number] => NodeId(*number),
+            [] => NodeId(self.links.as_slice().len() as u64),
+        }
     }
 
     /// Whether the node is live: it was added, and not freed since.

@@ -4,6 +4,8 @@
 #![tactic(auto)]
 
 mod arena;
+mod laws;
 mod links;
 
 pub use arena::{AddRefused, Arena, NodeId};
+pub use laws::{calls_change_one_value, links_change_one_parent};

@@ -2,3 +2,5 @@ pub mod IndexLemmas
 pub mod ShareLemmas
 pub mod SlotLemmas
 pub mod TableLaws
+pub mod ConflictLaws
+pub mod HistoryLaws

@@ -1,9 +1,11 @@
 -- Laws of handles and shares.
-use Rattle.std.specs.Prelude.{◌≡◌, ◌+◌, ◌-◌, ℕ, true, false, List, [], ◌∷◌, Option, None, Some, ◌==◌, ◌&&◌, if◌then◌else◌}
+use Rattle.std.specs.Prelude.{◌≡◌, ◌<◌, ◌+◌, ◌-◌, ℕ, true, false, List, [], ◌∷◌, Option, None, Some, is_some, ◌==◌, ◌&&◌, if◌then◌else◌}
+use Rattle.std.specs.List.{find}
 use Rattle.sb_handles.specs.Agreements.{is_file, is_pipe, AgreesOnFiles, pipe_handles}
-use Rattle.sb_handles.specs.Shares.{Shares, opened, left}
+use Rattle.sb_handles.specs.Shares.{Shares, SharesRise, conflicts, conflict_of, opened, left, share_on}
 use Rattle.sb_handles.specs.Tables.{Table, IsTable, held_by, with_handle, without_handle}
 use Rattle.sb_handles.specs.declared.objects.Held.{Held}
+use Rattle.sb_handles.specs.declared.objects.OpenHandle.{OpenHandle}
 use Rattle.sb_handles.specs.declared.objects.Share.{Share}
 
 -- the number of a new handle is none that an open handle has
@@ -55,3 +57,36 @@ abbrev pub ClosesCount : Type 0
 ClosesCount = (table : Table) (target number pipe : ℕ) (held : Held) → IsTable table → held_by table target number ≡ Some held
     → pipe_handles (without_handle table target number) pipe + (if is_pipe held.object.service && held.object.number == pipe then 1 else 0)
     ≡ pipe_handles table pipe
+
+-- what conflicts is an open handle of the object
+abbrev pub ConflictsAreOpen : Type 0
+ConflictsAreOpen = (shares : Shares) (object access sharing handle : ℕ) → SharesRise shares → conflict_of shares object access sharing ≡ Some handle
+    → (share : Share) × (share_on shares object handle ≡ Some share) × (conflicts access sharing share ≡ true)
+
+-- no lower handle of the object conflicts
+abbrev pub ConflictsAreLowest : Type 0
+ConflictsAreLowest = (shares : Shares) (object access sharing handle lower : ℕ) (share : Share) → SharesRise shares
+    → conflict_of shares object access sharing ≡ Some handle → lower < handle → share_on shares object lower ≡ Some share
+    → conflicts access sharing share ≡ false
+
+-- and where none is given, no handle of the object conflicts
+abbrev pub NoConflictMeansNone : Type 0
+NoConflictMeansNone = (shares : Shares) (object access sharing handle : ℕ) (share : Share) → conflict_of shares object access sharing ≡ None
+    → share_on shares object handle ≡ Some share → conflicts access sharing share ≡ false
+
+-- a handle on a file or directory conflicts with a new access to it
+abbrev pub IsConflicting : Table → ℕ → ℕ → ℕ → ℕ → OpenHandle → Type 0
+IsConflicting table object access sharing number handle =
+    (find (λ handle. handle.number == number) table.handles ≡ Some handle) × (is_file handle.held.object.service ≡ true)
+    × (handle.held.object.number ≡ object)
+    × (conflicts access sharing (record { access = handle.held.access; sharing = handle.held.sharing }) ≡ true)
+
+-- where shares and table agree, a conflict is with a handle that some target holds
+abbrev pub ConflictsAreHeld : Type 0
+ConflictsAreHeld = (shares : Shares) (table : Table) (object access sharing number : ℕ) → SharesRise shares → AgreesOnFiles shares table
+    → conflict_of shares object access sharing ≡ Some number → (handle : OpenHandle) × IsConflicting table object access sharing number handle
+
+-- and where some target holds such a handle, there is a conflict
+abbrev pub HeldHandlesConflict : Type 0
+HeldHandlesConflict = (shares : Shares) (table : Table) (object access sharing number : ℕ) (handle : OpenHandle) → AgreesOnFiles shares table
+    → IsConflicting table object access sharing number handle → is_some (conflict_of shares object access sharing) ≡ true

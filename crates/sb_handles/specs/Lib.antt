@@ -1,5 +1,6 @@
 pub mod Agreements
 pub mod Effects
+pub mod Histories
 pub mod Indexes
 pub mod Laws
 pub mod Shares

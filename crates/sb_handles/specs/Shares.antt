@@ -3,7 +3,8 @@ use Rattle.std.specs.Prelude.{◌≡◌, ℕ, Bool, ◌&&◌, ◌||◌, not, ◌
 use Rattle.std.specs.BTreeMap.{insert_entry}
 use Rattle.std.specs.declared.cmp.Ordering.{Ordering}
 use Rattle.std.specs.List.{filter, find}
-use Rattle.std.specs.Map.{lookup}
+use Rattle.std.specs.List.Sorted.{IsStrictlySortedBy}
+use Rattle.std.specs.Map.{keys_of, lookup}
 use Rattle.std.specs.Ordering.{nat_cmp, ordering_then}
 use Rattle.sb_call.specs.Statuses.{meets}
 use Rattle.sb_handles.specs.declared.objects.Share.{Share}
@@ -54,6 +55,10 @@ Shares = List ((ℕ × ℕ) × Share)
 -- by object, and then by handle
 abbrev pub by_object : ℕ × ℕ → ℕ × ℕ → Ordering
 by_object a b = ordering_then (nat_cmp a.0 b.0) (nat_cmp a.1 b.1)
+
+-- objects and handles rise strictly
+abbrev pub SharesRise : Shares → Type 0
+SharesRise shares = IsStrictlySortedBy by_object (keys_of shares)
 
 -- an open handle of this object conflicts
 abbrev pub is_conflict : ℕ → ℕ → ℕ → (ℕ × ℕ) × Share → Bool

@@ -1,5 +1,6 @@
 // Laws of handles and shares. None of these functions changes anything: each contract is a law.
-ghost use Rattle.sb_handles.specs.Laws.{NumbersAreNew, GrantsAreHeld, ClosedAreGone, GrantsKeepFiles, GrantsLeaveFiles, ClosesKeepFiles, OpensComeBack, GrantsCount, ClosesCount};
+ghost use Rattle.sb_handles.specs.Laws.{NumbersAreNew, GrantsAreHeld, ClosedAreGone, GrantsKeepFiles, GrantsLeaveFiles, ClosesKeepFiles, OpensComeBack, GrantsCount, ClosesCount, ConflictsAreOpen, ConflictsAreLowest, NoConflictMeansNone, ConflictsAreHeld, HeldHandlesConflict};
+ghost use Rattle.sb_handles.specs.Histories.{GrantedNeverFalls, NumbersAreCounted, NumbersRise};
 
 /// The number of a new handle is none that an open handle has.
 #[tactic(auto, using(crate::proofs::TableLaws::numbers_are_new))]
@@ -39,4 +40,28 @@ pub fn opens_come_back()
 pub fn pipe_handles_are_counted()
     ensures grants { GrantsCount }
     ensures closes { ClosesCount }
+{}
+
+/// No number is granted twice in a history of grants and closes: the numbers rise, from the count of handles granted before
+/// to the count after, which never falls.
+#[tactic(auto, using(crate::proofs::HistoryLaws::numbers_rise, crate::proofs::HistoryLaws::numbers_are_counted, crate::proofs::HistoryLaws::granted_never_falls))]
+pub fn numbers_are_granted_once()
+    ensures rise { NumbersRise }
+    ensures counted { NumbersAreCounted }
+    ensures granted { GrantedNeverFalls }
+{}
+
+/// The handle that a conflict names is open on the object, and is the lowest that conflicts; where none is named, none conflicts.
+#[tactic(auto, using(crate::proofs::ConflictLaws::conflicts_are_open, crate::proofs::ConflictLaws::conflicts_are_lowest, crate::proofs::ConflictLaws::no_conflict_means_none))]
+pub fn conflicts_are_lowest()
+    ensures there { ConflictsAreOpen }
+    ensures lowest { ConflictsAreLowest }
+    ensures none { NoConflictMeansNone }
+{}
+
+/// Where shares and a handle table agree, a new access conflicts exactly where some target holds a handle that conflicts.
+#[tactic(auto, using(crate::proofs::ConflictLaws::conflicts_are_held, crate::proofs::ConflictLaws::held_handles_conflict))]
+pub fn conflicts_are_held()
+    ensures held { ConflictsAreHeld }
+    ensures conflicting { HeldHandlesConflict }
 {}

@@ -3,7 +3,7 @@ ghost use Rattle.std.specs.Prelude.{◌≡◌, ◌<◌, ◌^◌, ℕ, is_some, M
 ghost use Rattle.sb_call.specs.Statuses.{meets};
 ghost use Rattle.std.specs.BTreeMap.{get};
 ghost use Rattle.sb_handles.specs.Indexes.{IsIndexed};
-ghost use Rattle.sb_handles.specs.Shares.{by_object, takes_part, exceeds, conflicts, conflict_of, opened, left, IsRefusal};
+ghost use Rattle.sb_handles.specs.Shares.{SharesRise, by_object, takes_part, exceeds, conflicts, conflict_of, opened, left, IsRefusal};
 
 use crate::objects::{Share, ShareRefused};
 use std::alloc::Global;
@@ -173,5 +173,11 @@ impl ShareTable {
         ensures { self.new ≡ left self.old handle }
     {
         take_out(&mut self.shares, &mut self.handles, handle);
+    }
+    /// The shares rise strictly, by object and then by handle. It changes nothing.
+    pub fn shares_rise(&self)
+        ensures { SharesRise self.now }
+    {
+        let _count = self.shares.len();
     }
 }

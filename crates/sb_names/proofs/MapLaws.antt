@@ -16,10 +16,10 @@ use Rattle.sb_names.specs.Laws.{PutsComeBack, PutsAreFound, OutIsOut}
 use Rattle.sb_names.specs.Maps.{Rows, Rises, is_key}
 use Rattle.sb_names.proofs.RisingLemmas.{by_unit, other_way, own_key, key_test, equal_keys}
 
-own_test : (key : List ℕ) → is_key key key ≡ true
+pub own_test : (key : List ℕ) → is_key key key ≡ true
 own_test key = key_test key key ∙ ap is_eq (own_key key)
 
-is_key_eq : (a b : List ℕ) → is_key a b ≡ true → a ≡ b
+pub is_key_eq : (a b : List ℕ) → is_key a b ≡ true → a ≡ b
 is_key_eq a b h = (bytes_decides a b).0 h
 
 module _ {V : Type 0} (key : List ℕ) (value : V) where

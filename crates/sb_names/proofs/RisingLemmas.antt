@@ -49,7 +49,7 @@ below_all a b [] l h = tt
 below_all a b (k ∷ keys) l h = (nat_list_cmp_total.trans a b k l h.0, below_all a b keys l h.1)
 
 module _ {V : Type 0} where
-  all_put : (P : List ℕ → Type 0) (key : List ℕ) (value : V) (rows : Rows V) → AllByRecursion P (keys_of rows) → P key
+  pub all_put : (P : List ℕ → Type 0) (key : List ℕ) (value : V) (rows : Rows V) → AllByRecursion P (keys_of rows) → P key
       → AllByRecursion P (keys_of (insert_entry by_unit rows key value))
   all_put P key value [] h k = (k, tt)
   all_put P key value (row ∷ rows) h k = by (by_unit key row.0) (all_put P key value rows h.1 k)

@@ -1,6 +1,10 @@
+pub mod Hashes
 pub mod Keys
 pub mod Laws
 pub mod Maps
 pub mod Moves
+pub mod Nodes
+pub mod Orders
 pub mod Places
+pub mod Renames
 pub mod Trees

@@ -35,7 +35,7 @@ pub(crate) fn compare(key: &[u16], name: &[u16]) -> Ordering
 
 // How many units stand before the last `\`.
 #[tactic(auto, using(crate::proofs::KeyLemmas::last_later))]
-fn parent_len(name: &[u16]) -> usize
+pub(crate) fn parent_len(name: &[u16]) -> usize
     ensures { result ≡ length (parent_of name.now) }
 {
     let mut last = 0;

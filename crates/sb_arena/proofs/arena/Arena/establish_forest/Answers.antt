@@ -1,7 +1,8 @@
-use Rattle.std.proofs.Common.{subst, ◌∙◌}
+use Rattle.std.proofs.Common.{◌≡◌, length, subst, ◌∙◌}
 use Rattle.std.proofs.lemmas.List.{length-map}
-use Rattle.sb_arena.specs.Forests.{IsRooted, Agrees, HasLiveLinks, HasSingleChildren}
+use Rattle.sb_arena.specs.Forests.{IsRooted, IsShallow, Agrees, HasLiveLinks, HasSingleChildren}
 use Rattle.sb_arena.specs.Links.{rows_of, row_of}
+use Rattle.sb_arena.proofs.Depths.{shallow}
 use Rattle.sb_arena.proofs.Agreeing.{agrees, single_children, live_links}
 use Rattle.sb_arena.proofs.arena.Arena.establish_forest.Goals as goal
 
@@ -25,3 +26,11 @@ returns-clause-live g c =
     subst (λ f. HasLiveLinks f) c.self.view_is
     (live_links (record { rows = rows_of links; values = values; free = free }) c.self.invariant.3
     (length-map links (row_of links) ∙ c.self.invariant.0) (agrees links values free c.self.invariant.1))
+
+pub returns-clause-shallow : goal.returns-clause-shallow
+returns-clause-shallow g c = subst (λ f. IsShallow f.rows) c.self.view_is (shallow (rows_of c.self.inside.links.items) c.self.invariant.4)
+
+pub returns-clause-even : goal.returns-clause-even
+returns-clause-even g c =
+    let links = c.self.inside.links.items in
+    subst (λ f. length f.rows ≡ length f.values) c.self.view_is (length-map links (row_of links) ∙ c.self.invariant.0)

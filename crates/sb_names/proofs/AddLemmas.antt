@@ -1,0 +1,68 @@
+-- What an added name meets: its directory is missing, it is there, or it is new.
+use Rattle.std.proofs.Common.{◌≡◌, ℕ, Bool, true, false, refl, sym, subst, ◌∙◌, ap, List, [], ◌∷◌, ◌++◌, length}
+use Rattle.std.proofs.lemmas.Bool.{false≢true}
+use Rattle.std.specs.Prelude.{Option, Some, None, is_some, Result, Ok, Err}
+use Rattle.std.specs.BTreeMap.{insert_entry}
+use Rattle.std.specs.List.{list_any}
+use Rattle.std.specs.Map.{lookup}
+use Rattle.sb_arena.specs.Forests.{IsLive, IsShallow, HasLiveLinks, value_at}
+use Rattle.sb_wide.specs.Names.{is_component}
+use Rattle.sb_names.specs.Keys.{key_of, parent_of, is_backslash}
+use Rattle.sb_names.specs.Maps.{Rows, found, is_key, is_there}
+use Rattle.sb_names.specs.Nodes.{Nodes, HasNames, HasNoChild, IsAt, IsChild, IsThere, IsUnnamed, name_of, rows_of}
+use Rattle.sb_names.specs.Trees.{added, has_parent, is_directory_there}
+use Rattle.sb_names.specs.declared.faults.TreeFault.TheVariants as fault
+use Rattle.sb_names.specs.declared.nodes.NameNode.{NameNode}
+use Rattle.sb_names.proofs.NameLemmas.{component_plain, folded_join}
+use Rattle.sb_names.proofs.NodeLemmas.{child_name, found_node, found_none, is_the_child, name_root}
+use Rattle.sb_names.proofs.PathLemmas.{directory_gone, directory_there}
+use Rattle.sb_names.proofs.RisingLemmas.{by_unit}
+
+pub name_key : (name path part : List ℕ) → name ≡ path ++ 92 ∷ part → key_of name ≡ key_of path ++ 92 ∷ key_of part
+name_key name path part e = ap key_of e ∙ folded_join path (92 ∷ part)
+
+module _ (f : Nodes) where
+  pub at_name : (o : Option ℕ) (key : List ℕ) → IsAt f o key → name_of f o ≡ key
+  at_name None key at = name_root f ∙ sym at
+  at_name (Some n) key at = at.1
+
+  pub at_there : (o : Option ℕ) (key : List ℕ) → IsAt f o key → IsThere f o
+  at_there None key at = tt
+  at_there (Some n) key at = at.0
+
+  pub at_itself : (o : Option ℕ) (key : List ℕ) → IsAt f o key → IsAt f o (name_of f o)
+  at_itself None key at = name_root f
+  at_itself (Some n) key at = (at.0, refl)
+
+  pub add_gone : (name path : List ℕ) (object : ℕ) → path ≡ parent_of name → IsUnnamed f (key_of path) → (path ≡ [] → ⊥)
+      → added (rows_of f) name object ≡ Err fault.NoParent
+  add_gone name path object e none some =
+      let gone : has_parent (rows_of f) name ≡ false = ap (is_directory_there (rows_of f)) (sym e) ∙ directory_gone f path none some in
+      rw gone refl
+
+  module _ (names : HasNames f) (shallow : IsShallow f.rows) (live_links : HasLiveLinks f) (name path part : List ℕ) (object : ℕ) (d : Option ℕ)
+      (is_path : path ≡ parent_of name) (whole : name ≡ path ++ 92 ∷ part) (at : IsAt f d (key_of path)) where
+    parent_there : has_parent (rows_of f) name ≡ true
+    parent_there = ap (is_directory_there (rows_of f)) (sym is_path) ∙ directory_there f names shallow live_links d path at
+
+    pub whole_key : key_of name ≡ name_of f d ++ 92 ∷ key_of part
+    whole_key = name_key name path part whole ∙ ap (λ us. us ++ 92 ∷ key_of part) (sym (at_name d (key_of path) at))
+
+    pub add_there : (n : ℕ) → IsChild f d (key_of part) n → added (rows_of f) name object ≡ Err fault.Exists
+    add_there n child =
+        let there : is_there (rows_of f) name ≡ true = by (value_at f n) refl child.0 in
+        rw (parent_there, there) refl
+      where
+        by : (o : Option NameNode) → value_at f n ≡ o → is_some o ≡ true → is_there (rows_of f) name ≡ true
+        by None e live = absurd (false≢true live)
+        by (Some w) e live =
+            ap is_some (ap (λ key. lookup (is_key key) (rows_of f)) (whole_key ∙ sym (child_name f names shallow live_links d (key_of part) n child))
+            ∙ found_node f names shallow live_links n w e)
+
+    pub add_new : is_component part ≡ true → HasNoChild f d (key_of part) → (rows' : Rows ℕ)
+        → rows' ≡ insert_entry by_unit (rows_of f) (name_of f d ++ 92 ∷ key_of part) object → added (rows_of f) name object ≡ Ok rows'
+    add_new is_part none rows' e =
+        let unnamed : IsUnnamed f (key_of name) =
+        λ n live same. none n (is_the_child f names shallow live_links d (key_of part) n (at_itself d (key_of path) at) (component_plain part is_part) live (same ∙ whole_key)) in
+        let gone : is_there (rows_of f) name ≡ false = ap is_some (found_none f (key_of name) unnamed) in
+        rw (parent_there, gone) (ap (λ rows. Ok rows) (ap (λ key. insert_entry by_unit (rows_of f) key object) whole_key ∙ sym e))

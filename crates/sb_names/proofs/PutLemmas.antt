@@ -1,0 +1,77 @@
+-- A node that is added: components stay different, the index has it, and its row is among the rows.
+use Rattle.std.proofs.Common.{◌≡◌, ◌≢◌, ◌<◌, ◌^◌, ◌==◌, ℕ, Bool, true, false, cond, refl, sym, ◌∙◌, ap, subst, arith, List, [], ◌∷◌, ◌++◌, length, if◌then◌else◌}
+use Rattle.std.proofs.lemmas.Bool.{false≢true}
+use Rattle.std.proofs.lemmas.Bool.Decides.{nat_tests}
+use Rattle.std.specs.Prelude.{Option, Some, None, is_some, ◌&&◌}
+use Rattle.std.specs.BTreeMap.{insert_entry, is_at}
+use Rattle.sb_arena.specs.Forests.{HasLiveLinks, IsLive, IsShallow, IsSound, node_number, parent_of as node_parent, value_at}
+use Rattle.sb_arena.specs.Laws.{NumbersAreFree}
+use Rattle.sb_wide.specs.Names.{is_component}
+use Rattle.sb_names.specs.Hashes.{hash_of}
+use Rattle.sb_names.specs.Keys.{key_of}
+use Rattle.sb_names.specs.Nodes.{Nodes, HasNames, HasNoChild, IsChanged, IsIndexed, IsThere, KeepsNodes, key_at, name_of, rows_of}
+use Rattle.sb_names.specs.Orders.{by_pair}
+use Rattle.sb_names.specs.declared.nodes.NameNode.{NameNode}
+use Rattle.sb_names.proofs.Changes.{indexed_changed, keeps_nodes, names_changed, rows_added}
+use Rattle.sb_names.proofs.IndexLemmas.{same_pair}
+use Rattle.sb_names.proofs.RisingLemmas.{by_unit}
+
+abbrev part_by : Option NameNode → List ℕ
+part_by None = []
+part_by (Some node) = node.part
+
+own_pair : (h n : ℕ) → is_at (by_pair (h, n)) (h, n) ≡ true
+own_pair h n = same_pair h n h n ∙ grind (arith, nat_tests)
+
+pub other_pair : (h n : ℕ) (q : ℕ × ℕ) → q.1 ≢ n → is_at (by_pair (h, n)) q ≡ false
+other_pair h n (g, m) ne = same_pair h n g m ∙ by (h == g) (n == m) refl
+  where
+    by : (s t : Bool) → t ≡ (n == m) → (s && t) ≡ false
+    by true false e = refl
+    by false t e = refl
+    by true true e =
+        let same : m ≡ n = grind (arith, nat_tests, e) in
+        absurd (ne same)
+
+some_still : {V : Type 0} (b : Bool) (u : V) (o : Option V) → is_some o ≡ true → is_some (cond b (Some u) o) ≡ true
+some_still true u o h = refl
+some_still false u o h = h
+
+module _ (f f' : Nodes) (a : ℕ) (w : NameNode) (d : Option ℕ) (part : List ℕ) (changed : IsChanged f f' a (Some w) d) (is_part : w.part ≡ part) where
+  pub put_names : HasNames f → is_component part ≡ true → HasNoChild f d (key_of part) → HasNames f'
+  put_names names component none =
+      names_changed f f' a (Some w) d changed names (λ node e.
+      let same : node.part ≡ part = sym (ap part_by e) ∙ is_part in
+      (ap is_component same ∙ component, subst (λ us. HasNoChild f d (key_of us)) (sym same) none))
+
+  pub put_index : {V : Type 0} (index index' : ℕ × ℕ → Option V) (u : V) (hash number : ℕ) → IsIndexed index f
+      → ((q : ℕ × ℕ) → index' q ≡ cond (is_at (by_pair (hash, number)) q) (Some u) (index q))
+      → hash ≡ hash_of d (key_of part) → number ≡ a → number < 2 ^ 64 → IsIndexed index' f'
+  put_index index index' u hash number indexed updates hashed numbered fits =
+      indexed_changed f f' a (Some w) d changed index index' indexed
+      (λ q ne there. ap is_some (updates q) ∙ some_still (is_at (by_pair (hash, number)) q) u (index q) there)
+      (λ live. (
+        (λ i. is_some (index' (sym (hashed ∙ ap (λ us. hash_of d (key_of us)) (sym is_part)) i, sym numbered i)))
+            ∙ ap is_some (updates (hash, number)) ∙ ap (λ b. is_some (cond b (Some u) (index (hash, number)))) (own_pair hash number),
+        subst (λ n. n < 2 ^ 64) numbered fits,
+      ))
+
+  module _ (names : HasNames f) (names' : HasNames f') (shallow : IsShallow f.rows) (shallow' : IsShallow f'.rows) (live : HasLiveLinks f) (live' : HasLiveLinks f')
+      (new : value_at f a ≡ None) where
+    pub put_rows : (object : ℕ) → w.object ≡ object → IsThere f d
+        → rows_of f' ≡ insert_entry by_unit (rows_of f) (name_of f d ++ 92 ∷ key_of part) object
+    put_rows object is_object there =
+        rows_added f f' a (Some w) d changed shallow shallow' live names names' live' new w refl there
+        ∙ (λ i. insert_entry by_unit (rows_of f) (name_of f d ++ 92 ∷ key_of (is_part i)) (is_object i))
+
+-- the entry of a node that is not there may go
+pub unput_index : {V : Type 0} (f : Nodes) (a : ℕ) (index index' index'' : ℕ × ℕ → Option V) (u : V) (hash number : ℕ) → IsIndexed index f → value_at f a ≡ None
+    → ((q : ℕ × ℕ) → index' q ≡ cond (is_at (by_pair (hash, number)) q) (Some u) (index q))
+    → ((q : ℕ × ℕ) → index'' q ≡ cond (is_at (by_pair (hash, number)) q) None (index' q)) → number ≡ a → IsIndexed index'' f
+unput_index f a index index' index'' u hash number indexed new updates removes numbered n live =
+    let q : ℕ × ℕ = (hash_of (node_parent f n) (key_at f n), n) in
+    let ne : n ≢ number = λ same. false≢true (ap is_some (sym new) ∙ subst (λ m. IsLive f m) (same ∙ numbered) live) in
+    let out : is_at (by_pair (hash, number)) q ≡ false = other_pair hash number q ne in
+    let same : index'' q ≡ index q =
+    removes q ∙ ap (λ b. cond b None (index' q)) out ∙ updates q ∙ ap (λ b. cond b (Some u) (index q)) out in
+    (ap is_some same ∙ (indexed n live).0, (indexed n live).1)

@@ -1,0 +1,81 @@
+-- What the calls on an arena change: one node alone.
+use Rattle.std.proofs.Common.{◌≡◌, ◌≢◌, ◌<◌, ◌≤◌, ◌+◌, ◌==◌, ◌||◌, ℕ, Bool, true, false, cond, refl, sym, ◌∙◌, ap, subst, arith, zero, suc, List, [], ◌∷◌, length, if◌then◌else◌}
+use Rattle.std.proofs.lemmas.Bool.{false≢true}
+use Rattle.std.proofs.lemmas.Bool.Decides.{nat_tests}
+use Rattle.std.specs.Prelude.{Option, Some, None, is_some}
+use Rattle.sb_arena.specs.Forests.{Forest, Agrees, HasLiveLinks, IsAbove, IsLive, IsShallow, ancestor, children_of, first_of, has, parent_of as node_parent, row_at, value_at, with_child, with_value, without_node, without_parent}
+use Rattle.sb_arena.specs.Laws.{FreesClearValues, LinksSetParents, SetsSetValues, UnlinksClearParents}
+use Rattle.sb_names.specs.Nodes.{Nodes, IsChanged}
+use Rattle.sb_names.specs.declared.nodes.NameNode.{NameNode}
+use Rattle.sb_names.proofs.Changes.{is_same, same_of, other_of}
+use Rattle.sb_names.proofs.NodeLemmas.{live_below}
+
+nothing_in : (xs : List ℕ) → ((x : ℕ) → has x xs ≡ true → ⊥) → xs ≡ []
+nothing_in [] none = refl
+nothing_in (x ∷ xs) none = absurd (none x (rw (is_same x) refl))
+
+-- a node without a first child is nobody's parent
+pub no_first : (f : Nodes) (a : ℕ) → Agrees f → first_of (children_of f a) ≡ None → (x : ℕ) → node_parent f x ≡ Some a → ⊥
+no_first f a agrees none x e = by (children_of f a) none ((agrees x a).1 e)
+  where
+    by : (xs : List ℕ) → first_of xs ≡ None → has x xs ≡ true → ⊥
+    by [] s t = false≢true t
+    by (y ∷ ys) s t = absurd (cc)
+
+-- a parent has a row
+pub parent_in_rows : (f : Nodes) → HasLiveLinks f → length f.rows ≡ length f.values → (c p : ℕ) → node_parent f c ≡ Some p → p < length f.rows
+parent_in_rows f live_links even c p e = subst (λ k. p < k) (sym even) (live_below f p (live_links c p e).1)
+
+pub live_in_rows : (f : Nodes) → length f.rows ≡ length f.values → (c : ℕ) → IsLive f c → c < length f.rows
+live_in_rows f even c live = subst (λ k. c < k) (sym even) (live_below f c live)
+
+module _ (unlinks : UnlinksClearParents NameNode) (f : Nodes) (live_links : HasLiveLinks f) (even : length f.rows ≡ length f.values)
+    (c : ℕ) (live : IsLive f c) where
+  parent_after : (n : ℕ) → node_parent (without_parent f c) n ≡ (if n == c then None else node_parent f n)
+  parent_after n = unlinks f c n (live_in_rows f even c live) (parent_in_rows f live_links even c)
+
+  -- a node that is unlinked has no parent
+  pub unlinked_root : node_parent (without_parent f c) c ≡ None
+  unlinked_root = parent_after c ∙ ap (λ b. if b then None else node_parent f c) (is_same c)
+
+  -- and no children where it had none
+  pub unlinked_childless : ((x : ℕ) → node_parent f x ≡ Some c → ⊥) → Agrees (without_parent f c) → children_of (without_parent f c) c ≡ []
+  unlinked_childless none agrees = nothing_in (children_of (without_parent f c) c) (λ x h. by x (x == c) (sym (parent_after x) ∙ (agrees x c).0 h))
+    where
+      by : (x : ℕ) (b : Bool) → (if b then None else node_parent f x) ≡ Some c → ⊥
+      by x true e = absurd (cc)
+      by x false e = none x e
+
+  -- a node that is unlinked and freed is all that changed
+  pub taken_changes : FreesClearValues NameNode → IsChanged f (without_node (without_parent f c) c) c None None
+  taken_changes frees = record {
+    values = λ n. frees (without_parent f c) c n live;
+    parents = λ n. parent_after n;
+  }
+
+  -- a node that is unlinked and set is all that changed
+  pub reset_changes : SetsSetValues NameNode → (w : NameNode) → IsChanged f (with_value (without_parent f c) c w) c (Some w) None
+  reset_changes sets w = record {
+    values = λ n. sets (without_parent f c) c n w live;
+    parents = λ n. parent_after n;
+  }
+
+  -- a node that is unlinked is above those that it was above before
+  above_before : (k p : ℕ) → ancestor (without_parent f c).rows k (Some p) ≡ Some c → IsAbove f c p
+  above_before zero p e = (0, e)
+  above_before (suc k) p e = by (p == c) refl (parent_after p) (above_before k)
+    where
+      higher : (o : Option ℕ) → node_parent f p ≡ o → ancestor (without_parent f c).rows k o ≡ Some c
+          → ((q : ℕ) → ancestor (without_parent f c).rows k (Some q) ≡ Some c → IsAbove f c q) → IsAbove f c p
+      higher None s h again = absurd (cc)
+      higher (Some q) s h again =
+          let top = again q h in
+          (suc top.0, ap (ancestor f.rows top.0) s ∙ top.1)
+
+      by : (b : Bool) → b ≡ (p == c) → node_parent (without_parent f c) p ≡ (if b then None else node_parent f p)
+          → ((q : ℕ) → ancestor (without_parent f c).rows k (Some q) ≡ Some c → IsAbove f c q) → IsAbove f c p
+      by true t s again = (0, ap (λ x. Some x) (same_of p c t))
+      by false t s again = higher (node_parent f p) refl (sym (ap (ancestor (without_parent f c).rows k) s) ∙ e) again
+
+  pub still_apart : (p : ℕ) → (IsAbove f c p → ⊥) → (w : NameNode) → IsAbove (with_value (without_parent f c) c w) c p → ⊥
+  still_apart p apart w above = apart (above_before above.0 p above.1)

@@ -1,0 +1,34 @@
+// A number for a directory and a component, by which an index finds the node.
+ghost use Rattle.std.specs.Prelude.{◌≡◌};
+ghost use Rattle.sb_names.specs.Keys.{key_of};
+ghost use Rattle.sb_names.specs.Hashes.{hash_in, hash_of};
+ghost use Rattle.sb_names.specs.Nodes.{number_of};
+
+use sb_arena::NodeId;
+use sb_wide::fold;
+
+// The factor of the FNV hash of 64 bits.
+const FACTOR: u64 = 0x100_0000_01B3;
+
+// The hash with which a directory begins.
+fn hash_in(directory: Option<NodeId>) -> u64
+    ensures { result ≡ hash_in (number_of directory) }
+{
+    match directory {
+        Some(node) => node.0.wrapping_add(1),
+        None => 0,
+    }
+}
+
+// The hash of a component in a directory, in any letter case.
+pub(crate) fn hash_of(directory: Option<NodeId>, part: &[u16]) -> u64
+    ensures { result ≡ hash_of (number_of directory) (key_of part.now) }
+{
+    let mut hash = hash_in(directory);
+    for unit in part {
+        hash = hash
+            .wrapping_mul(FACTOR)
+            .wrapping_add(u64::from(fold(*unit)));
+    }
+    hash
+}

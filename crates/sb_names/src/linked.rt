@@ -1,0 +1,212 @@
+// A tree of names kept as linked nodes: each keeps one component, and its name is the path from the root.
+ghost use Rattle.std.specs.Prelude.{◌≡◌, ◌≤◌, not, [], ◌++◌, ◌∷◌, true, false, Some, IfSome, IfNone, length};
+ghost use Rattle.std.specs.List.{list_any, prefix_len};
+ghost use Rattle.sb_arena.specs.Forests.{Agrees, HasLiveLinks, IsShallow, IsSound, no_nodes};
+ghost use Rattle.sb_wide.specs.Names.{is_component, is_name_of};
+ghost use Rattle.sb_names.specs.Keys.{key_of, parent_of, is_backslash};
+ghost use Rattle.sb_names.specs.Maps.{found};
+ghost use Rattle.sb_names.specs.Trees.{has_parent};
+ghost use Rattle.sb_names.specs.Nodes.{HasNames, HasNoChild, IsAt, IsChild, IsUnnamed, is_child, is_path, is_same_node, number_of, rows_of};
+
+use crate::hashes::hash_of;
+use crate::keys::parent_len;
+use crate::nodes::NameNode;
+use sb_arena::{Arena, NodeId};
+use sb_wide::{names_are_paths, same};
+use std::alloc::Global;
+use std::collections::BTreeMap;
+use std::marker::Model;
+
+const BACKSLASH: u16 = 92;
+
+/// The names of objects, each in a directory that is there; the root is there always, and is no name of its own.
+///
+/// Names are compared folded. Each call walks the components of a name from the root, and finds each by an index.
+#[derive(Debug, Drop)]
+pub struct LinkedTree {
+    pub(crate) nodes: Arena<NameNode>,
+    // Each node under the hash of its directory and component.
+    pub(crate) index: BTreeMap<(u64, u64), ()>,
+    pub(crate) alloc: Global,
+}
+
+impl Model for LinkedTree {
+    ghost use Rattle.std.specs.BTreeMap.{get};
+    ghost use Rattle.sb_names.specs.Nodes.{Nodes, HasNames, IsIndexed};
+    ghost use Rattle.sb_names.specs.Orders.{by_pair};
+
+    ghost Value = { Nodes };
+
+    ghost view = { λ t. t.nodes };
+
+    ghost invariant = { λ t. HasNames t.nodes × IsIndexed (get by_pair t.index) t.nodes };
+}
+
+// Whether two directories are the same.
+fn is_same_node(a: Option<NodeId>, b: Option<NodeId>) -> bool
+    ensures { result ≡ is_same_node (number_of a) (number_of b) }
+{
+    match (a, b) {
+        (None, None) => true,
+        (Some(a), Some(b)) => a.0 == b.0,
+        _ => false,
+    }
+}
+
+// Whether a node is that of a component in a directory.
+fn is_child(nodes: &Arena<NameNode>, directory: Option<NodeId>, part: &[u16], node: NodeId) -> bool
+    ensures { result ≡ is_child nodes.now (number_of directory) (key_of part.now) node.0 }
+{
+    if !nodes.is_live(node) {
+        return false;
+    }
+    if !is_same_node(nodes.parent(node), directory) {
+        return false;
+    }
+    same(nodes.value(node).part.as_units(), part)
+}
+
+// How many units stand before the first `\`.
+fn component_len(units: &[u16]) -> usize
+    ensures len { result ≡ prefix_len (λ u. not (is_backslash u)) units.now }
+    ensures short { result ≤ length units.now }
+{
+    let mut len = 0;
+    while len < units.len() && units[len] != BACKSLASH {
+        len += 1;
+    }
+    len
+}
+
+#[tactic(auto, using(crate::proofs::NameLemmas::first_part, crate::proofs::NameLemmas::first_rest, crate::proofs::NameLemmas::parts_join))]
+// The first component, and the path that follows.
+fn first_component(units: &[u16]) -> (&[u16], &[u16])
+    ensures whole { units.now ≡ result.0.now ++ result.1.now }
+    ensures part { list_any is_backslash result.0.now ≡ false }
+    ensures path { is_path result.1.now ≡ true }
+{
+    units.split_at(component_len(units))
+}
+
+#[tactic(auto, using(crate::proofs::PathLemmas::last_cut, crate::proofs::PathLemmas::last_parent, crate::proofs::KeyLemmas::parent_start, crate::proofs::KeyLemmas::parent_short))]
+// The directory of a name, and its last component.
+pub(crate) fn last_component(name: &[u16]) -> (&[u16], &[u16])
+    requires { is_name_of name.now ≡ true }
+    ensures directory { result.0.now ≡ parent_of name.now }
+    ensures whole { name.now ≡ parent_of name.now ++ 92 ∷ result.1.now }
+    ensures part { is_component result.1.now ≡ true }
+    ensures path { is_path (parent_of name.now) ≡ true }
+{
+    names_are_paths();
+    let (directory, rest) = name.split_at(parent_len(name));
+    match rest.split_first() {
+        Some((_, part)) => (directory, part),
+        None => (directory, rest),
+    }
+}
+
+impl LinkedTree {
+    #[tactic(auto, using(crate::proofs::NodeLemmas::no_names))]
+    /// No name is there.
+    pub fn new(alloc: Global) -> LinkedTree
+        ensures nodes { result ≡ no_nodes }
+        ensures rows { rows_of result ≡ [] }
+    {
+        LinkedTree {
+            nodes: Arena::new(alloc),
+            index: BTreeMap::new(alloc),
+            alloc,
+        }
+    }
+
+    /// The nodes, for readers.
+    pub fn arena(&self) -> &Arena<NameNode>
+        ensures { result.now ≡ self.now }
+    {
+        &self.nodes
+    }
+
+    /// Establishes for a proof what holds of every tree. It does nothing.
+    pub fn establish_names(&self)
+        ensures names { HasNames self.now }
+        ensures shallow { IsShallow self.now.rows }
+        ensures live { HasLiveLinks self.now }
+        ensures agree { Agrees self.now }
+        ensures sound { IsSound self.now }
+        ensures even { length self.now.rows ≡ length self.now.values }
+    {
+        self.nodes.establish_forest();
+    }
+
+    // The node of a component in a directory.
+    pub(crate) fn child(&self, directory: Option<NodeId>, part: &[u16]) -> Option<NodeId>
+        ensures found { IfSome result (λ node. IsChild self.now (number_of directory) (key_of part.now) node.0) }
+        ensures absent { IfNone result (HasNoChild self.now (number_of directory) (key_of part.now)) }
+    {
+        let hash = hash_of(directory, part);
+        for ((_, number), _) in self.index.range((hash, 0)..=(hash, u64::MAX)) {
+            let node = NodeId(*number);
+            if is_child(&self.nodes, directory, part, node) {
+                return Some(node);
+            }
+        }
+        None
+    }
+
+    #[tactic(auto, using(crate::proofs::NodeLemmas::walked_on, crate::proofs::NodeLemmas::walk_ends))]
+    // The directory of this name, the root of an empty one: None where it is not there.
+    pub(crate) fn directory(&self, path: &[u16]) -> Option<Option<NodeId>>
+        requires { is_path path.now ≡ true }
+        ensures found { IfSome result (λ d. IsAt self.now (number_of d) (key_of path.now)) }
+        ensures absent { IfNone result (IsUnnamed self.now (key_of path.now)) }
+        ensures root { IfNone result (path.now ≡ [] → ⊥) }
+    {
+        self.establish_names();
+        let mut here = None;
+        let mut rest = path;
+        while let Some((_, later)) = rest.split_first() {
+            let (part, after) = first_component(later);
+            let Some(node) = self.child(here, part) else {
+                return None;
+            };
+            here = Some(node);
+            rest = after;
+        }
+        Some(here)
+    }
+
+    /// The node of a name, or None where the name is not there.
+    pub fn node(&self, name: &[u16]) -> Option<NodeId>
+        requires { is_name_of name.now ≡ true }
+        ensures found { IfSome result (λ node. IsAt self.now (Some node.0) (key_of name.now)) }
+        ensures absent { IfNone result (IsUnnamed self.now (key_of name.now)) }
+    {
+        match self.directory(name) {
+            Some(Some(node)) => Some(node),
+            _ => None,
+        }
+    }
+
+    /// The object of a name.
+    pub fn find(&self, name: &[u16]) -> Option<u64>
+        requires { is_name_of name.now ≡ true }
+        ensures { result ≡ found (rows_of self.now) name.now }
+    {
+        self.establish_names();
+        match self.node(name) {
+            Some(node) => Some(self.nodes.value(node).object),
+            None => None,
+        }
+    }
+
+    #[tactic(auto, using(crate::proofs::PathLemmas::directory_there, crate::proofs::PathLemmas::directory_gone))]
+    /// Whether the directory in which a name stands is there; the root always is.
+    pub fn has_parent(&self, name: &[u16]) -> bool
+        requires { is_name_of name.now ≡ true }
+        ensures { result ≡ has_parent (rows_of self.now) name.now }
+    {
+        self.establish_names();
+        let (directory, _) = last_component(name);
+        self.directory(directory).is_some()
+    }
+}
