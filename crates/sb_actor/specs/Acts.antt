@@ -1,0 +1,54 @@
+-- What steps find, and the words that they name.
+use Rattle.std.specs.Prelude.{ℕ, ◌+◌, Bool, true, false, []}
+use Rattle.sb_call.specs.declared.replies.Reply.{Reply}
+use Rattle.sb_actor.specs.declared.acts.Seen.{Seen}
+use Rattle.sb_actor.specs.declared.acts.Seen.TheVariants as seen
+use Rattle.sb_statements.specs.declared.statements.Word.{Word}
+
+-- the value that a step found
+abbrev pub value_in : Seen → ℕ
+value_in (seen.Value n) = n
+value_in seen.Done = 0
+value_in (seen.Turn got) = 0
+value_in (seen.Answered reply) = 0
+
+-- whether a step took the turn
+abbrev pub turn_in : Seen → Bool
+turn_in (seen.Turn got) = got
+turn_in (seen.Value n) = false
+turn_in seen.Done = false
+turn_in (seen.Answered reply) = false
+
+abbrev pub no_reply : Reply
+no_reply = record { mark = 0; outcome = 0; status = 0; handle = 0; ext = [] }
+
+-- the reply that the book gave
+abbrev pub reply_in : Seen → Reply
+reply_in (seen.Answered reply) = reply
+reply_in (seen.Value n) = no_reply
+reply_in seen.Done = no_reply
+reply_in (seen.Turn got) = no_reply
+
+-- the state of a channel
+abbrev pub state_word : ℕ → Word
+state_word channel = record { channel = channel; at = 0 }
+
+-- word i of a channel's block
+abbrev pub block_word : ℕ → ℕ → Word
+block_word channel i = record { channel = channel; at = 1 + i }
+
+-- the states of a channel: nobody uses it, a thread fills it, its block is whole, it holds a reply, its thread waits no more
+abbrev pub free : ℕ
+free = 1
+
+abbrev pub busy : ℕ
+busy = 2
+
+abbrev pub ready : ℕ
+ready = 3
+
+abbrev pub acknowledged : ℕ
+acknowledged = 4
+
+abbrev pub abandoned : ℕ
+abandoned = 5

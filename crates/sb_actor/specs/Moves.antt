@@ -1,0 +1,238 @@
+-- What a step does to its word and to the view of its seat, for each kind of step. These are the rows of the two tables, as a word
+-- and a view see them.
+use Rattle.std.specs.Prelude.{◌≡◌, ◌≢◌, ℕ, ◌+◌, ◌*◌, ◌/◌, ◌<◌, ◌≤◌, Bool, true, false, not, ◌==◌, ◌&&◌, nat_lt, List, [], ◌∷◌, ◌++◌, length, slice_index, slice_index_or, if◌then◌else◌}
+use Rattle.sb_block.specs.Copies.{Copied, copied, is_end, mark_of}
+use Rattle.sb_block.specs.Packing.{offset_of}
+use Rattle.sb_actor.specs.declared.views.Served.{Served}
+use Rattle.sb_actor.specs.declared.views.Had.{Had}
+use Rattle.sb_actor.specs.declared.views.Shown.{Shown}
+use Rattle.sb_actor.specs.declared.views.Notes.{Notes}
+use Rattle.sb_actor.specs.declared.views.ThreadPlace.{ThreadPlace}
+use Rattle.sb_actor.specs.declared.views.ThreadPlace.TheVariants.{Try, Fill, Wait, Fetch}
+use Rattle.sb_actor.specs.declared.views.WorkerPlace.{WorkerPlace}
+use Rattle.sb_actor.specs.declared.views.WorkerPlace.TheVariants.{Look, Count, End, Copy, Copied as Whole, Reply}
+use Rattle.sb_actor.specs.declared.views.ThreadView.{ThreadView}
+use Rattle.sb_actor.specs.declared.views.WorkerView.{WorkerView}
+use Rattle.sb_actor.specs.declared.views.StrayView.{StrayView}
+
+-- the kinds of step: a thread's, the worker's, and those by hand
+pub data Deed : Type 0 where
+  take_it : Deed
+  fill : ℕ → Deed
+  send : Deed
+  wait : Deed
+  fetch : Deed
+  free : Deed
+  abandon : Deed
+  look : Deed
+  load_count : Deed
+  load_end : Deed
+  copy : Deed
+  answer : ℕ → Deed
+  acknowledge : Deed
+  stray_store : ℕ → Deed
+  stray_exchange : ℕ → ℕ → Deed
+  stray_load : Deed
+  stray_wait : Deed
+
+-- whether an exchange, or a load that looks for a value, met what it found
+abbrev pub met : Deed → ℕ → Bool
+met take_it n = n == 1
+met send n = n == 2
+met wait n = n == 4
+met look n = n == 3
+met acknowledge n = n == 3
+met (stray_exchange from to) n = n == from
+met d n = true
+
+-- the word after a step that found n
+abbrev pub wrote : Deed → Bool → ℕ → ℕ
+wrote take_it b n = if b then 2 else n
+wrote (fill x) b n = x
+wrote send b n = if b then 3 else n
+wrote free b n = 1
+wrote abandon b n = 5
+wrote (answer x) b n = x
+wrote acknowledge b n = if b then 4 else n
+wrote (stray_store x) b n = x
+wrote (stray_exchange from to) b n = if b then to else n
+wrote d b n = n
+
+-- what a step notes as stored
+abbrev pub noted : Deed → Bool → ℕ → List (ℕ × ℕ)
+noted take_it b w = if b then (w, 2) ∷ [] else []
+noted (fill x) b w = (w, x) ∷ []
+noted send b w = if b then (w, 3) ∷ [] else []
+noted free b w = (w, 1) ∷ []
+noted abandon b w = (w, 5) ∷ []
+noted (answer x) b w = (w, x) ∷ []
+noted acknowledge b w = if b then (w, 4) ∷ [] else []
+noted (stray_store x) b w = (w, x) ∷ []
+noted (stray_exchange from to) b w = if b then (w, to) ∷ [] else []
+noted d b w = []
+
+-- a value that a step shows, behind so many stores of its own seat
+abbrev pub shown : ℕ → ℕ → ℕ → List Shown
+shown w n before = record { word = w; value = n; before = before } ∷ []
+
+-- what a step shows: what copies and fetches load, and what results name
+abbrev pub shows_of : Deed → Bool → ℕ → ℕ → ℕ → List Shown
+shows_of send b w n before = if b then [] else shown w n before
+shows_of fetch b w n before = shown w n before
+shows_of load_count b w n before = shown w n before
+shows_of load_end b w n before = shown w n before
+shows_of copy b w n before = shown w n before
+shows_of (stray_exchange from to) b w n before = shown w n before
+shows_of stray_load b w n before = shown w n before
+shows_of d b w n before = []
+
+-- the notes after a step on word w that found n
+abbrev pub notes_after : Notes → ℕ → Deed → Bool → ℕ → Notes
+notes_after notes w d b n = record { stores = notes.stores ++ noted d b w; shows = notes.shows ++ shows_of d b w n (length notes.stores) }
+
+-- word j of channel c: 0 is its state, and 1 + i is block word i
+abbrev pub at : ℕ → ℕ → ℕ
+at c j = c * 65 + j
+
+-- a channel that is there and clean
+abbrev pub is_clean : List Bool → ℕ → Bool
+is_clean clean c = slice_index_or clean c false
+
+-- the next channel, or channel 0 behind the last
+abbrev pub next : List Bool → ℕ → ℕ
+next clean c = if nat_lt (c + 1) (length clean) then c + 1 else 0
+
+-- where a thread stands outside a call
+abbrev pub no_call : ThreadPlace
+no_call = Try 0 true
+
+-- behind the last channel the next round begins with nothing but 5
+abbrev pub try_next : List Bool → ℕ → Bool → ThreadPlace
+try_next clean c fives = if nat_lt (c + 1) (length clean) then Try (c + 1) fives else no_call
+
+-- where a thread stands after a step that found n
+abbrev pub thread_place : List Bool → ThreadPlace → Deed → Bool → ℕ → ThreadPlace
+thread_place clean (Try c fives) take_it b n = if b then Fill c [] else try_next clean c (fives && n == 5)
+thread_place clean (Fill c words) (fill x) b n = Fill c (words ++ x ∷ [])
+thread_place clean (Fill c words) send b n = if b then Wait c words else no_call
+thread_place clean (Wait c block) wait b n = if b then Fetch c block [] else Wait c block
+thread_place clean (Wait c block) abandon b n = no_call
+thread_place clean (Fetch c block words) fetch b n = Fetch c block (words ++ n ∷ [])
+thread_place clean (Fetch c block words) free b n = no_call
+thread_place clean p d b n = p
+
+-- the call on a clean channel that ended with the step
+abbrev pub ended : List Bool → ThreadPlace → Deed → List Had
+ended clean (Fetch c block words) free = if is_clean clean c then record { channel = c; block = block; reply = words } ∷ [] else []
+ended clean p d = []
+
+abbrev pub thread_result : ThreadView → ℕ → Deed → Bool → ℕ → ThreadView
+thread_result v w d b n = record v {
+  place = thread_place v.clean v.place d b n;
+  had = v.had ++ ended v.clean v.place d;
+  notes = notes_after v.notes w d b n;
+  steps = v.steps + 1;
+  found = n;
+}
+
+-- a thread's view after a step on word w that found n
+abbrev pub thread_view : ThreadView → ℕ → Deed → ℕ → ThreadView
+thread_view v w d n = thread_result v w d (met d n) n
+
+-- a whole block of the thread with this number: its count and its end say what it is, and its mark bears the number
+pub record IsBlock (number : ℕ) (block : List ℕ) : Type 0 where
+  pub few : slice_index block 2 ≤ 9
+  pub low : 16 + slice_index block 2 ≤ length block
+  pub high : length block ≤ 64
+  pub end : offset_of (slice_index block (15 + slice_index block 2)) ≡ length block
+  pub mark : slice_index block 1 / 65536 ≡ number + 1
+
+-- the step that a thread's seat may make, on word w
+abbrev pub ThreadMay : ThreadView → ThreadPlace → ℕ → Deed → Type 0
+ThreadMay v (Try c fives) w take_it = (c < length v.clean) × (w ≡ at c 0)
+ThreadMay v (Fill c words) w (fill x) = (c < length v.clean) × (w ≡ at c (1 + length words)) × (length words < 64)
+ThreadMay v (Fill c words) w send = (c < length v.clean) × (w ≡ at c 0) × IsBlock v.number words
+ThreadMay v (Wait c block) w wait = (c < length v.clean) × (w ≡ at c 0)
+ThreadMay v (Wait c block) w abandon = (c < length v.clean) × (w ≡ at c 0) × (is_clean v.clean c ≡ false)
+ThreadMay v (Fetch c block words) w fetch = (c < length v.clean) × (w ≡ at c (4 + length words)) × (length words < 12)
+ThreadMay v (Fetch c block words) w free = (c < length v.clean) × (w ≡ at c 0) × (length words ≡ 12)
+ThreadMay v p w d = ⊥
+
+-- behind the count, the end and each word of the copy
+abbrev pub counted : ℕ → WorkerPlace
+counted n = if nat_lt 9 n then Whole (copied n 0 []) else End n
+
+abbrev pub ended_at : ℕ → ℕ → WorkerPlace
+ended_at c n = if is_end c n then Copy c n [] else Whole (copied c n [])
+
+abbrev pub copied_to : ℕ → ℕ → List ℕ → WorkerPlace
+copied_to c e words = if length words == e then Whole (copied c e words) else Copy c e words
+
+-- where the worker stands after a step that found n
+abbrev pub worker_place : WorkerPlace → Deed → Bool → ℕ → WorkerPlace
+worker_place Look look b n = if b then Count else Look
+worker_place Count load_count b n = counted n
+worker_place (End c) load_end b n = ended_at c (offset_of n)
+worker_place (Copy c e words) copy b n = copied_to c e (words ++ n ∷ [])
+worker_place (Whole taken) (answer x) b n = Reply taken (x ∷ [])
+worker_place (Reply taken reply) (answer x) b n = Reply taken (reply ++ x ∷ [])
+worker_place (Reply taken reply) acknowledge b n = Look
+worker_place p d b n = p
+
+abbrev pub worker_channel : List Bool → ℕ → Deed → Bool → ℕ
+worker_channel clean c look b = if b then c else next clean c
+worker_channel clean c acknowledge b = next clean c
+worker_channel clean c d b = c
+
+-- the call that was served with the step
+abbrev pub served_by : ℕ → WorkerPlace → Deed → List Served
+served_by c (Reply taken reply) acknowledge = record { channel = c; taken = taken; reply = reply } ∷ []
+served_by c p d = []
+
+abbrev pub worker_result : WorkerView → ℕ → Deed → Bool → ℕ → WorkerView
+worker_result v w d b n = record v {
+  channel = worker_channel v.clean v.channel d b;
+  place = worker_place v.place d b n;
+  served = v.served ++ served_by v.channel v.place d;
+  notes = notes_after v.notes w d b n;
+  steps = v.steps + 1;
+  found = n;
+}
+
+-- the worker's view after a step on word w that found n
+abbrev pub worker_view : WorkerView → ℕ → Deed → ℕ → WorkerView
+worker_view v w d n = worker_result v w d (met d n) n
+
+-- the step that the worker's seat may make, on word w. The first word of a reply is the mark of the copy
+abbrev pub WorkerMay : WorkerView → WorkerPlace → ℕ → Deed → Type 0
+WorkerMay v Look w look = (v.channel < length v.clean) × (w ≡ at v.channel 0)
+WorkerMay v Count w load_count = (v.channel < length v.clean) × (w ≡ at v.channel 3)
+WorkerMay v (End c) w load_end = (v.channel < length v.clean) × (w ≡ at v.channel (16 + c)) × (c ≤ 9)
+WorkerMay v (Copy c e words) w copy = (v.channel < length v.clean) × (w ≡ at v.channel (1 + length words)) × (length words < e) × (e ≤ 64)
+WorkerMay v (Whole taken) w (answer x) = (v.channel < length v.clean) × (w ≡ at v.channel 4) × (x ≡ mark_of taken)
+WorkerMay v (Reply taken reply) w (answer x) = (v.channel < length v.clean) × (w ≡ at v.channel (4 + length reply)) × (length reply < 12)
+WorkerMay v (Reply taken reply) w acknowledge = (v.channel < length v.clean) × (w ≡ at v.channel 0) × (length reply ≡ 12)
+WorkerMay v p w d = ⊥
+
+abbrev pub stray_result : StrayView → ℕ → Deed → Bool → ℕ → StrayView
+stray_result v w d b n = record v { notes = notes_after v.notes w d b n; steps = v.steps + 1; found = n }
+
+-- a stray seat's view after a step on word w that found n
+abbrev pub stray_view : StrayView → ℕ → Deed → ℕ → StrayView
+stray_view v w d n = stray_result v w d (met d n) n
+
+-- word w is one of a channel that is there and not clean
+abbrev pub IsUnclean : List Bool → ℕ → Type 0
+IsUnclean clean w = (c j : ℕ) → w ≡ at c j → j < 65 → (c < length clean) × (is_clean clean c ≡ false)
+
+-- word w is one of a channel that is there
+abbrev pub IsWord : List Bool → ℕ → Type 0
+IsWord clean w = w < length clean * 65
+
+-- the step that a stray seat may make, on word w: it never stores into a clean channel
+abbrev pub StrayMay : StrayView → ℕ → Deed → Type 0
+StrayMay v w (stray_store x) = IsWord v.clean w × IsUnclean v.clean w
+StrayMay v w (stray_exchange from to) = IsWord v.clean w × IsUnclean v.clean w
+StrayMay v w stray_load = IsWord v.clean w
+StrayMay v w stray_wait = IsWord v.clean w
+StrayMay v w d = ⊥

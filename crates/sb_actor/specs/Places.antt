@@ -1,0 +1,95 @@
+-- The statements of a thread, and where a thread begins with each.
+use Rattle.std.specs.Prelude.{ℕ, zero, suc, ◌+◌, ◌*◌, Bool, true, false, nat_le, List, [], ◌∷◌, ◌++◌, length, slice_get, Option, None, Some}
+use Rattle.sb_block.specs.Blocks.{block}
+use Rattle.sb_statements.specs.Scripts.{is_clean}
+use Rattle.sb_statements.specs.Soundness.{channels_of}
+use Rattle.sb_statements.specs.declared.scripts.Script.{Script}
+use Rattle.sb_statements.specs.declared.scripts.TargetScript.{TargetScript}
+use Rattle.sb_statements.specs.declared.statements.Statement.{Statement}
+use Rattle.sb_statements.specs.declared.statements.Statement.TheVariants.{Call, Store, Exchange, Load, Wait}
+use Rattle.sb_actor.specs.ThreadStages.{ThreadStage, Try, Stray, Over, ThreadAt}
+
+-- the threads of a target; one that is not there has none
+abbrev pub threads_of : Option TargetScript → List (List Statement)
+threads_of None = []
+threads_of (Some target) = target.threads
+
+-- the statements of a thread; one that is not there has none
+abbrev pub or_none : Option (List Statement) → List Statement
+or_none None = []
+or_none (Some statements) = statements
+
+abbrev pub statements_of : Script → ℕ → ℕ → List Statement
+statements_of script target thread = or_none (slice_get (threads_of (slice_get script.targets target)) thread)
+
+-- the statement at a place
+abbrev pub statement_at : Script → ℕ → ℕ → ℕ → Option Statement
+statement_at script target thread place = slice_get (statements_of script target thread) place
+
+-- the mark of a call
+abbrev pub mark_at : ℕ → ℕ → ℕ
+mark_at thread place = (thread + 1) * 65536 + place
+
+-- the block of a call with this mark; other statements have none
+abbrev pub block_of : ℕ → Option Statement → List ℕ
+block_of mark (Some (Call tag args)) = block tag args mark
+block_of mark (Some (Store target word value)) = []
+block_of mark (Some (Exchange target word from to)) = []
+block_of mark (Some (Load target word)) = []
+block_of mark (Some (Wait target word value most)) = []
+block_of mark None = []
+
+-- where a thread stands at the beginning of a statement
+abbrev pub first_stage : Option Statement → ThreadStage
+first_stage (Some (Call tag args)) = Try 0 0 true
+first_stage (Some (Store target word value)) = Stray 0 1
+first_stage (Some (Exchange target word from to)) = Stray 0 1
+first_stage (Some (Load target word)) = Stray 0 1
+first_stage (Some (Wait target word value most)) = Stray 0 most
+first_stage None = Over
+
+-- the thread at the beginning of the statement at a place
+abbrev pub begins : Script → ThreadAt → ℕ → ThreadAt
+begins script x place = record x {
+  place = place;
+  block = block_of (mark_at x.thread place) (statement_at script x.target x.thread place);
+  stage = first_stage (statement_at script x.target x.thread place);
+}
+
+-- for each of the first channels of a target whether it is clean
+abbrev pub clean_upto : Script → ℕ → ℕ → List Bool
+clean_upto script target zero = []
+clean_upto script target (suc n) = clean_upto script target n ++ is_clean script target n ∷ []
+
+-- for each channel of a target whether it is clean
+abbrev pub clean_channels : Script → ℕ → List Bool
+clean_channels script target = clean_upto script target (channels_of (slice_get script.targets target))
+
+-- the thread before its first step
+abbrev pub begun : Script → ℕ → ℕ → ThreadAt
+begun script target thread = begins script (record {
+  target = target;
+  thread = thread;
+  patience = script.patience;
+  clean = clean_channels script target;
+  place = 0;
+  block = [];
+  stage = Over;
+}) 0
+
+-- each statement has ended
+abbrev pub is_finished : Script → ThreadAt → Bool
+is_finished script x = nat_le (length (statements_of script x.target x.thread)) x.place
+
+-- the statement is a call
+abbrev pub is_call : Option Statement → Bool
+is_call (Some (Call tag args)) = true
+is_call (Some (Store target word value)) = false
+is_call (Some (Exchange target word from to)) = false
+is_call (Some (Load target word)) = false
+is_call (Some (Wait target word value most)) = false
+is_call None = false
+
+-- the thread is not finished, and its present statement is a call
+abbrev pub is_in_call : Script → ThreadAt → Bool
+is_in_call script x = is_call (statement_at script x.target x.thread x.place)

@@ -1,0 +1,35 @@
+-- What holds of each stage of an actor. Of a worker: its numbers are in their ranges, and its reply has twelve words and bears the mark of its copy.
+use Rattle.std.specs.Prelude.{◌≡◌, ℕ, ◌+◌, ◌<◌, ◌≤◌, List, length, slice_index}
+use Rattle.sb_block.specs.Copies.{Copied, mark_of}
+use Rattle.sb_actor.specs.ThreadStages.{ThreadStage}
+use Rattle.sb_actor.specs.ThreadStages as thread
+use Rattle.sb_actor.specs.WorkerStages.{WorkerStage, Look, Count, End, Copy, Take, Mark, Give, Reply, Ack}
+
+-- a reply of twelve words, the first of which is the mark of the copy
+pub record IsReplyTo (taken : Copied) (reply : List ℕ) : Type 0 where
+  pub size : length reply ≡ 12
+  pub mark : slice_index reply 0 ≡ mark_of taken
+
+abbrev pub IsSoundStage : WorkerStage → Type 0
+IsSoundStage Look = Unit {0}
+IsSoundStage Count = Unit {0}
+IsSoundStage (End count) = count ≤ 9
+IsSoundStage (Copy count end words) = (count ≤ 9) × (16 + count ≤ end) × (end ≤ 64) × (length words < end)
+IsSoundStage (Take taken) = Unit {0}
+IsSoundStage (Mark taken) = Unit {0}
+IsSoundStage (Give taken reply) = IsReplyTo taken reply
+IsSoundStage (Reply taken reply at) = (at < 12) × IsReplyTo taken reply
+IsSoundStage (Ack taken reply) = IsReplyTo taken reply
+
+-- and of a thread with this patience and this block, on so many channels: it is at one of them, its rounds and loads are fewer than the
+-- patience, and what it fills and fetches lies within the block and the reply
+abbrev pub IsSoundThreadStage : ℕ → ℕ → List ℕ → ThreadStage → Type 0
+IsSoundThreadStage channels patience block (thread.Try c rounds fives) = (c < channels) × (rounds < patience) × (0 < length block)
+IsSoundThreadStage channels patience block (thread.Fill c i) = (c < channels) × (i < length block)
+IsSoundThreadStage channels patience block (thread.Send c) = c < channels
+IsSoundThreadStage channels patience block (thread.Wait c loads) = (c < channels) × (loads < patience)
+IsSoundThreadStage channels patience block (thread.Fetch c words) = (c < channels) × (length words < 12)
+IsSoundThreadStage channels patience block (thread.Free c words) = (c < channels) × (length words ≡ 12)
+IsSoundThreadStage channels patience block (thread.Abandon c) = c < channels
+IsSoundThreadStage channels patience block (thread.Stray loads most) = loads < most
+IsSoundThreadStage channels patience block thread.Over = Unit {0}

@@ -1,0 +1,214 @@
+-- Rule S: what the words of a section and the views of its seats have in common at every moment. Between words and views stands what
+-- the rule knows of each clean channel (`Mid`): the words fit it, and each view fits it. Words never speak of views.
+--
+--   state   who is at the channel                what holds
+--   1       nobody (idle)                        the worker is not engaged there
+--   2       one thread, in Fill or Send          the words filled are its block's; the worker is not engaged there
+--   3       one thread, in Wait (ready)          unless the worker replies there the block stands; what it has loaded of count, end and
+--                                                copy is the block's; once it replies its copy is the whole block, and what it stored stands
+--   4       one thread, in Wait, Fetch or Free   the worker is not engaged there; the last call served there is the block whole, with a reply
+--           (acked)                              whose twelve words stand; the words fetched are the first of them
+use Rattle.std.specs.Prelude.{◌≡◌, ◌≢◌, ◌⊎◌, ℕ, ◌+◌, ◌*◌, ◌/◌, ◌<◌, ◌≤◌, Bool, true, false, cond, ◌==◌, ◌&&◌, nat_lt, List, [], ◌∷◌, ◌++◌, length, slice_index, take, map}
+use Rattle.std.specs.List.{filter}
+use mathlib.Core.Option.{Option, none, some}
+use lib.ListN.{get_elem?}
+use Rattle.sb_block.specs.Copies.{Copied, whole, mark_of}
+use Rattle.sb_actor.specs.declared.views.Served.{Served}
+use Rattle.sb_actor.specs.declared.views.Had.{Had}
+use Rattle.sb_actor.specs.declared.views.ThreadRecord.{ThreadRecord}
+use Rattle.sb_actor.specs.declared.views.StrayRecord.{StrayRecord}
+use Rattle.sb_actor.specs.declared.views.ThreadPlace.{ThreadPlace}
+use Rattle.sb_actor.specs.declared.views.ThreadPlace.TheVariants.{Try, Fill, Wait, Fetch}
+use Rattle.sb_actor.specs.declared.views.ThreadView.{ThreadView}
+use Rattle.sb_actor.specs.declared.views.WorkerPlace.{WorkerPlace}
+use Rattle.sb_actor.specs.declared.views.WorkerPlace.TheVariants.{Look, Count, End, Copy, Copied as Whole, Reply}
+use Rattle.sb_actor.specs.declared.views.WorkerView.{WorkerView}
+use Rattle.sb_actor.specs.declared.views.StrayView.{StrayView}
+use Rattle.sb_actor.specs.declared.views.View.{View}
+use Rattle.sb_actor.specs.declared.views.View.TheVariants.{Worker, Thread, Stray, Spent}
+use Rattle.sb_actor.specs.Moves.{IsBlock, is_clean}
+
+-- what the rule knows of a clean channel: who is at it, by number, with what
+pub data Mid : Type 0 where
+  idle : Mid
+  filling : ℕ → List ℕ → Mid
+  ready : ℕ → List ℕ → Mid
+  acked : ℕ → List ℕ → List ℕ → Mid
+
+abbrev pub owner : Mid → Option ℕ
+owner idle = none
+owner (filling k words) = some k
+owner (ready k block) = some k
+owner (acked k block reply) = some k
+
+-- what became of a number: it was not given out, it is that of the seat i, or of record n
+pub data Stage : Type 0 where
+  unborn : Stage
+  seated : ℕ → Stage
+  joined : ℕ → Stage
+
+-- the 65 words of a channel, as a function
+abbrev pub Row : Type 0
+Row = ℕ → ℕ
+
+abbrev pub row : List ℕ → ℕ → Row
+row words c j = cond (nat_lt j 65) (slice_index words (c * 65 + j)) 0
+
+-- the first n words of a list stand in the row from word j on
+abbrev pub Stands : List ℕ → ℕ → ℕ → Row → Type 0
+Stands words n j f = (i : ℕ) → i < n → f (j + i) ≡ slice_index words i
+
+-- where channel c sees the worker: elsewhere it looks
+abbrev pub sees : ℕ → WorkerView → WorkerPlace
+sees c v = cond (c == v.channel) v.place Look
+
+-- a reply of twelve words, which bears the mark of its copy
+pub record IsReply (taken : Copied) (reply : List ℕ) : Type 0 where
+  pub size : length reply ≡ 12
+  pub mark : slice_index reply 0 ≡ mark_of taken
+
+-- what the worker has loaded and stored at a channel in state 3 with this block
+abbrev pub Reads : List ℕ → Row → WorkerPlace → Type 0
+Reads block f Look = Stands block (length block) 1 f
+Reads block f Count = Stands block (length block) 1 f
+Reads block f (End count) = Stands block (length block) 1 f × (count ≡ slice_index block 2)
+Reads block f (Copy count end words) = Stands block (length block) 1 f × (count ≡ slice_index block 2) × (end ≡ length block) × (length words < end) × (words ≡ take (length words) block)
+Reads block f (Whole taken) = Stands block (length block) 1 f × (taken ≡ whole block)
+Reads block f (Reply taken reply) = (taken ≡ whole block) × (0 < length reply) × (length reply ≤ 12) × Stands reply (length reply) 4 f × (slice_index reply 0 ≡ mark_of taken)
+
+-- a channel's words and the worker, by who is at it
+abbrev pub Chan : Mid → WorkerPlace → Row → Type 0
+Chan idle p f = (f 0 ≡ 1) × (p ≡ Look)
+Chan (filling k words) p f = (f 0 ≡ 2) × (p ≡ Look) × (length words ≤ 64) × Stands words (length words) 1 f
+Chan (ready k block) p f = (f 0 ≡ 3) × IsBlock k block × Reads block f p
+Chan (acked k block reply) p f = (f 0 ≡ 4) × IsBlock k block × (p ≡ Look) × IsReply (whole block) reply × Stands reply 12 4 f
+
+-- a served call on a clean channel whose mark bears the number k
+abbrev pub is_of : List Bool → ℕ → Served → Bool
+is_of clean k x = is_clean clean x.channel && (mark_of x.taken / 65536 == k + 1)
+
+abbrev pub calls_of : List Bool → ℕ → List Served → List Served
+calls_of clean k served = filter (is_of clean k) served
+
+-- the call as the worker served it: the copy is the block whole
+abbrev pub as_served : Had → Served
+as_served x = record { channel = x.channel; taken = whole x.block; reply = x.reply }
+
+-- the channel at which a thread is
+abbrev pub place : ThreadPlace → Option ℕ
+place (Try c fives) = none
+place (Fill c words) = some c
+place (Wait c block) = some c
+place (Fetch c block words) = some c
+
+-- the call at a channel that is served and not yet ended
+abbrev pub served_at : ℕ → Mid → List Had
+served_at c idle = []
+served_at c (filling k words) = []
+served_at c (ready k block) = []
+served_at c (acked k block reply) = record { channel = c; block = block; reply = reply } ∷ []
+
+abbrev pub waiting : List Bool → (ℕ → Mid) → Option ℕ → List Had
+waiting clean mids none = []
+waiting clean mids (some c) = cond (is_clean clean c) (served_at c (mids c)) []
+
+-- where the thread of number k stands at a clean channel
+abbrev pub Agrees : ℕ → ThreadPlace → Mid → Type 0
+Agrees k (Try c fives) m = Unit {0}
+Agrees k (Fill c words) m = m ≡ filling k words
+Agrees k (Wait c block) m = (m ≡ ready k block) ⊎ ((reply : List ℕ) × (m ≡ acked k block reply))
+Agrees k (Fetch c block words) m = (reply : List ℕ) × (m ≡ acked k block reply) × (length words ≤ 12) × (words ≡ take (length words) reply)
+
+-- where a thread found nothing but 5 in this round, no channel below is clean
+abbrev pub Fives : List Bool → ThreadPlace → Type 0
+Fives clean (Try c fives) = fives ≡ true → (d : ℕ) → d < c → is_clean clean d ≡ false
+Fives clean (Fill c words) = Unit {0}
+Fives clean (Wait c block) = Unit {0}
+Fives clean (Fetch c block words) = Unit {0}
+
+-- the block that a thread handed over bears its number, also on a channel that is not clean
+abbrev pub Bears : ℕ → ThreadPlace → Type 0
+Bears k (Try c fives) = Unit {0}
+Bears k (Fill c words) = Unit {0}
+Bears k (Wait c block) = IsBlock k block
+Bears k (Fetch c block words) = IsBlock k block
+
+-- the reply that the worker stores bears the mark of its copy
+abbrev pub Replies : WorkerPlace → Type 0
+Replies Look = Unit {0}
+Replies Count = Unit {0}
+Replies (End count) = Unit {0}
+Replies (Copy count end words) = Unit {0}
+Replies (Whole taken) = Unit {0}
+Replies (Reply taken reply) = (0 < length reply) × (length reply ≤ 12) × (slice_index reply 0 ≡ mark_of taken)
+
+-- what holds of the seats, by what the rule knows of the channels, of the numbers of threads, and of the calls served
+module _ (clean : List Bool) (mids : ℕ → Mid) (stage : ℕ → Stage) (served : List Served) where
+  -- of the seat of a thread
+  pub record FitsThread (i : ℕ) (v : ThreadView) : Type 0 where
+    pub marks : v.clean ≡ clean
+    pub seat : stage v.number ≡ seated i
+    pub agrees : (c : ℕ) → place v.place ≡ some c → is_clean clean c ≡ true → Agrees v.number v.place (mids c)
+    pub only : (c : ℕ) → is_clean clean c ≡ true → owner (mids c) ≡ some v.number → place v.place ≡ some c
+    pub calls : calls_of clean v.number served ≡ map as_served (v.had ++ waiting clean mids (place v.place))
+    pub fives : Fives clean v.place
+    pub bears : Bears v.number v.place
+
+  -- of the record of a thread
+  pub record FitsRecord (n : ℕ) (r : ThreadRecord) : Type 0 where
+    pub seat : stage r.number ≡ joined n
+    pub away : (c : ℕ) → is_clean clean c ≡ true → owner (mids c) ≢ some r.number
+    pub calls : calls_of clean r.number served ≡ map as_served r.had
+
+-- of the worker's own seat
+module _ (clean : List Bool) (mids : ℕ → Mid) (stage strays : ℕ → Stage) where
+  pub record FitsWorker (v : WorkerView) : Type 0 where
+    pub marks : v.clean ≡ clean
+    pub records : (n : ℕ) (r : ThreadRecord) → get_elem? v.thread_records n ≡ some r → FitsRecord clean mids stage v.served n r
+    pub stray_records : (n : ℕ) (r : StrayRecord) → get_elem? v.stray_records n ≡ some r → strays r.number ≡ joined n
+    pub unborn_from : (k : ℕ) → v.threads ≤ k → stage k ≡ unborn
+    pub strays_from : (k : ℕ) → v.strays ≤ k → strays k ≡ unborn
+    pub owners : (c k : ℕ) → is_clean clean c ≡ true → owner (mids c) ≡ some k → k < v.threads
+    pub bearers : (k : ℕ) → v.threads ≤ k → calls_of clean k v.served ≡ []
+    pub borne : (n : ℕ) (x : Served) → get_elem? v.served n ≡ some x → is_clean clean x.channel ≡ true → (k : ℕ) × (k < v.threads) × (mark_of x.taken / 65536 ≡ k + 1)
+    pub replied : (n : ℕ) (x : Served) → get_elem? v.served n ≡ some x → IsReply x.taken x.reply
+    pub replies : Replies v.place
+
+-- of a stray seat
+pub record FitsStray (clean : List Bool) (strays : ℕ → Stage) (i : ℕ) (v : StrayView) : Type 0 where
+  pub marks : v.clean ≡ clean
+  pub seat : strays v.number ≡ seated i
+
+-- of seat i
+module _ (clean : List Bool) (mids : ℕ → Mid) (stage strays : ℕ → Stage) (desk : ℕ) (worker : WorkerView) where
+  abbrev pub FitsSeat : ℕ → View → Type 0
+  FitsSeat i (Worker v) = (i ≡ desk) × (v ≡ worker)
+  FitsSeat i (Thread v) = FitsThread clean mids stage worker.served i v
+  FitsSeat i (Stray v) = FitsStray clean strays i v
+  FitsSeat i Spent = Unit {0}
+
+-- a call served on channel c
+abbrev pub is_on : ℕ → Served → Bool
+is_on c x = x.channel == c
+
+-- the last call served on a channel in state 4 is the one whose reply stands there
+abbrev pub Last : List Served → ℕ → Mid → Type 0
+Last served c idle = Unit {0}
+Last served c (filling k words) = Unit {0}
+Last served c (ready k block) = Unit {0}
+Last served c (acked k block reply) = (before : List Served) × (filter (is_on c) served ≡ before ++ as_served (record { channel = c; block = block; reply = reply }) ∷ [])
+
+-- the rule, where the worker's seat is number `desk` and its view is known
+pub record RuleAt (clean : List Bool) (words : List ℕ) (views : List View) (desk : ℕ) (worker : WorkerView) : Type 0 where
+  pub mids : ℕ → Mid
+  pub stage : ℕ → Stage
+  pub strays : ℕ → Stage
+  pub sized : length words ≡ length clean * 65
+  pub chans : (c : ℕ) → is_clean clean c ≡ true → Chan (mids c) (sees c worker) (row words c)
+  pub lasts : (c : ℕ) → is_clean clean c ≡ true → Last worker.served c (mids c)
+  pub fits_worker : FitsWorker clean mids stage strays worker
+  pub seats : (i : ℕ) (v : View) → get_elem? views i ≡ some v → FitsSeat clean mids stage strays desk worker i v
+
+-- the rule
+abbrev pub Rule : List Bool → List ℕ → List View → Type 0
+Rule clean words views = (desk : ℕ) × (worker : WorkerView) × RuleAt clean words views desk worker

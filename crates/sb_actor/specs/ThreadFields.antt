@@ -1,0 +1,41 @@
+-- How the fields of a thread are read.
+use Rattle.std.specs.Prelude.{ℕ, Bool, true, ◌&&◌, ◌==◌, nat_lt, nat_le, List, length, take}
+use Rattle.sb_statements.specs.Limits.{most_statements}
+use Rattle.sb_actor.specs.ThreadStages.{ThreadStage, Try, Fill, Send, Wait, Fetch, Free, Abandon, Stray, Over}
+use Rattle.sb_actor.specs.declared.phases.ThreadPhase.{ThreadPhase}
+use Rattle.sb_actor.specs.declared.phases.ThreadPhase.TheVariants as phase
+
+abbrev pub thread_stage : ThreadPhase → ℕ → ℕ → Bool → ℕ → ℕ → List ℕ → ThreadStage
+thread_stage phase.Try c count fives at most reply = Try c count fives
+thread_stage phase.Fill c count fives at most reply = Fill c at
+thread_stage phase.Send c count fives at most reply = Send c
+thread_stage phase.Wait c count fives at most reply = Wait c count
+thread_stage phase.Fetch c count fives at most reply = Fetch c (take at reply)
+thread_stage phase.Free c count fives at most reply = Free c (take at reply)
+thread_stage phase.Abandon c count fives at most reply = Abandon c
+thread_stage phase.Stray c count fives at most reply = Stray count most
+thread_stage phase.Over c count fives at most reply = Over
+
+-- the numbers of a phase are in their ranges: a call has a block, and its rounds and loads are fewer than the patience
+abbrev pub is_thread_sound : ThreadPhase → ℕ → ℕ → ℕ → ℕ → List ℕ → Bool
+is_thread_sound phase.Try count at most patience block = nat_lt 0 (length block) && nat_lt count patience
+is_thread_sound phase.Fill count at most patience block = nat_lt at (length block)
+is_thread_sound phase.Send count at most patience block = true
+is_thread_sound phase.Wait count at most patience block = nat_lt count patience
+is_thread_sound phase.Fetch count at most patience block = nat_lt at 12
+is_thread_sound phase.Free count at most patience block = at == 12
+is_thread_sound phase.Abandon count at most patience block = true
+is_thread_sound phase.Stray count at most patience block = nat_lt count most
+is_thread_sound phase.Over count at most patience block = true
+
+-- a thread that is not finished is at one of at most 4,096 places
+abbrev pub is_placed : ThreadPhase → ℕ → Bool
+is_placed phase.Over place = true
+is_placed phase.Try place = nat_lt place most_statements
+is_placed phase.Fill place = nat_lt place most_statements
+is_placed phase.Send place = nat_lt place most_statements
+is_placed phase.Wait place = nat_lt place most_statements
+is_placed phase.Fetch place = nat_lt place most_statements
+is_placed phase.Free place = nat_lt place most_statements
+is_placed phase.Abandon place = nat_lt place most_statements
+is_placed phase.Stray place = nat_lt place most_statements

@@ -1,0 +1,83 @@
+-- How a view shows where an actor stands, and which kind of step its plan is.
+use Rattle.std.specs.Prelude.{◌≡◌, ℕ, ◌==◌, Bool, List, [], length, slice_index, take, Option, None, Some, if◌then◌else◌}
+use Rattle.sb_statements.specs.declared.statements.Statement.{Statement}
+use Rattle.sb_statements.specs.declared.statements.Statement.TheVariants as statement
+use Rattle.sb_actor.specs.WorkerStages.{WorkerStage, WorkerAt}
+use Rattle.sb_actor.specs.WorkerStages as worker
+use Rattle.sb_actor.specs.ThreadStages.{ThreadStage, ThreadAt}
+use Rattle.sb_actor.specs.ThreadStages as thread
+use Rattle.sb_actor.specs.declared.views.ThreadPlace.{ThreadPlace}
+use Rattle.sb_actor.specs.declared.views.ThreadPlace.TheVariants.{Try, Fill, Wait, Fetch}
+use Rattle.sb_actor.specs.declared.views.WorkerPlace.{WorkerPlace}
+use Rattle.sb_actor.specs.declared.views.WorkerPlace.TheVariants.{Look, Count, End, Copy, Copied as Whole, Reply}
+use Rattle.sb_actor.specs.declared.views.ThreadView.{ThreadView}
+use Rattle.sb_actor.specs.declared.views.WorkerView.{WorkerView}
+use Rattle.sb_actor.specs.Moves.{Deed, take_it, fill, send, wait, fetch, free, abandon, look, load_count, load_end, copy, answer, acknowledge, stray_store, stray_exchange, stray_load, stray_wait, no_call}
+
+-- Take, Mark and Give leave the view at the whole copy
+abbrev pub worker_place_of : WorkerStage → WorkerPlace
+worker_place_of worker.Look = Look
+worker_place_of worker.Count = Count
+worker_place_of (worker.End c) = End c
+worker_place_of (worker.Copy c e words) = Copy c e words
+worker_place_of (worker.Take taken) = Whole taken
+worker_place_of (worker.Mark taken) = Whole taken
+worker_place_of (worker.Give taken reply) = Whole taken
+worker_place_of (worker.Reply taken reply at) = if at == 0 then Whole taken else Reply taken (take at reply)
+worker_place_of (worker.Ack taken reply) = Reply taken reply
+
+-- the kind of the worker's step on a word; steps on the turn have none
+abbrev pub worker_deed : WorkerStage → Option Deed
+worker_deed worker.Look = Some look
+worker_deed worker.Count = Some load_count
+worker_deed (worker.End c) = Some load_end
+worker_deed (worker.Copy c e words) = Some copy
+worker_deed (worker.Take taken) = None
+worker_deed (worker.Mark taken) = None
+worker_deed (worker.Give taken reply) = None
+worker_deed (worker.Reply taken reply at) = Some (answer (slice_index reply at))
+worker_deed (worker.Ack taken reply) = Some acknowledge
+
+-- the worker's seat holds where the worker stands
+pub record HoldsWorker (v : WorkerView) (w : WorkerAt) : Type 0 where
+  pub channels : length v.clean ≡ w.channels
+  pub channel : v.channel ≡ w.channel
+  pub place : v.place ≡ worker_place_of w.stage
+
+-- a thread that is in no call, or not yet at a channel
+abbrev pub thread_place_of : List ℕ → ThreadStage → ThreadPlace
+thread_place_of block (thread.Try c rounds fives) = Try c fives
+thread_place_of block (thread.Fill c i) = Fill c (take i block)
+thread_place_of block (thread.Send c) = Fill c block
+thread_place_of block (thread.Wait c loads) = Wait c block
+thread_place_of block (thread.Fetch c words) = Fetch c block words
+thread_place_of block (thread.Free c words) = Fetch c block words
+thread_place_of block (thread.Abandon c) = Wait c block
+thread_place_of block (thread.Stray loads most) = no_call
+thread_place_of block thread.Over = no_call
+
+-- the kind of a thread's step in a call
+abbrev pub thread_deed : List ℕ → ThreadStage → Option Deed
+thread_deed block (thread.Try c rounds fives) = Some take_it
+thread_deed block (thread.Fill c i) = Some (fill (slice_index block i))
+thread_deed block (thread.Send c) = Some send
+thread_deed block (thread.Wait c loads) = Some wait
+thread_deed block (thread.Fetch c words) = Some fetch
+thread_deed block (thread.Free c words) = Some free
+thread_deed block (thread.Abandon c) = Some abandon
+thread_deed block (thread.Stray loads most) = None
+thread_deed block thread.Over = None
+
+-- the thread's seat holds where the thread stands
+pub record HoldsThread (v : ThreadView) (x : ThreadAt) : Type 0 where
+  pub number : v.number ≡ x.thread
+  pub clean : v.clean ≡ x.clean
+  pub place : v.place ≡ thread_place_of x.block x.stage
+
+-- the kind of step of a statement that names a word
+abbrev pub stray_deed : Statement → Option Deed
+stray_deed (statement.Call tag args) = None
+stray_deed (statement.Store target word value) = Some (stray_store value)
+stray_deed (statement.Exchange target word from to) = Some (stray_exchange from to)
+stray_deed (statement.Load target word) = Some stray_load
+stray_deed (statement.Wait target word value most) = Some stray_wait

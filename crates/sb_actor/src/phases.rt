@@ -1,0 +1,29 @@
+// Where actors stand, as numbers. What belongs to a phase lies in the fields of the actor.
+
+/// Where a worker stands, named by its next step.
+#[derive(Clone, Copy, Debug, PartialEq, Eq)]
+pub(crate) enum WorkerPhase {
+    Look,
+    Count,
+    End,
+    Copy,
+    Take,
+    Mark,
+    Give,
+    Reply,
+    Ack,
+}
+
+/// Where a thread stands within its statement, named by its next step.
+#[derive(Clone, Copy, Debug, PartialEq, Eq)]
+pub(crate) enum ThreadPhase {
+    Try,
+    Fill,
+    Send,
+    Wait,
+    Fetch,
+    Free,
+    Abandon,
+    Stray,
+    Over,
+}

@@ -1,0 +1,93 @@
+// The statements of a thread.
+ghost use Rattle.std.specs.Prelude.{◌≡◌, ◌<◌, ◌≤◌, length, true, option_map, IfSome};
+ghost use Rattle.sb_statements.specs.Limits.{most_statements};
+ghost use Rattle.sb_statements.specs.Soundness.{is_sound, is_statement};
+ghost use Rattle.sb_actor.specs.Places.{statements_of, statement_at, mark_at, clean_upto};
+ghost use Rattle.sb_block.specs.Blocks.{block, encodes};
+ghost use Rattle.sb_statements.specs.CleanMarks.{AreCleanMarks};
+
+use arrayvec::ArrayVec;
+use sb_block::{Words, encode};
+use sb_call::{Arg, CallTag};
+use sb_statements::{CleanMarks, Script, Statement, sound_parts};
+
+/// The mark of the call at a place of a thread.
+pub fn mark_at(thread: u32, place: u32) -> u64
+    ensures { result ≡ mark_at thread place }
+{
+    (u64::from(thread) + 1) * 65536 + u64::from(place)
+}
+
+/// The statements of a thread, none where it is not there.
+pub(crate) fn statements_of(script: &Script, target: u32, thread: u32) -> &[Statement]
+    ensures { result.now ≡ statements_of script.now target thread }
+{
+    let Some(target) = script.targets.as_slice().get(target as usize) else {
+        return &[];
+    };
+    match target.threads.as_slice().get(thread as usize) {
+        Some(statements) => statements.as_slice(),
+        None => &[],
+    }
+}
+
+/// The statement at a place.
+pub(crate) fn statement_at(
+    script: &Script,
+    target: u32,
+    thread: u32,
+    place: u32,
+) -> Option<&Statement>
+    ensures { option_map (λ s. s.now) result ≡ statement_at script.now target thread place }
+{
+    statements_of(script, target, thread).get(place as usize)
+}
+
+/// The statement at a place of a sound script, which is sound, and at one of at most 4,096 places.
+pub(crate) fn sound_statement_at(
+    script: &Script,
+    target: u32,
+    thread: u32,
+    place: u32,
+) -> Option<&Statement>
+    requires { is_sound script.now ≡ true }
+    ensures value { option_map (λ s. s.now) result ≡ statement_at script.now target thread place }
+    ensures statement { IfSome result (λ s. is_statement script.now.targets s.now ≡ true) }
+    ensures place { IfSome result (λ s. place < most_statements) }
+{
+    sound_parts();
+    statement_at(script, target, thread, place)
+}
+
+/// The block of a call.
+pub(crate) fn block_of(tag: CallTag, args: &[Arg], mark: u64) -> Words
+    requires { encodes tag args.now ≡ true }
+    ensures block { result ≡ block tag args.now mark }
+    ensures some { 0 < length result }
+{
+    match encode(tag, args, mark) {
+        Ok(block) => block,
+        Err(_) => unreachable!(),
+    }
+}
+
+/// Of the channels of a target, in order, whether each is clean. There are at most 8.
+#[tactic(auto, using(crate::proofs::Channels::clean_length, crate::proofs::Channels::clean_more))]
+pub(crate) fn clean_upto(
+    marks: &CleanMarks,
+    script: &Script,
+    target: u32,
+    channels: u32,
+) -> ArrayVec<bool, 8>
+    requires marks { AreCleanMarks script.now marks.now }
+    requires target { target < 8 }
+    requires few { channels ≤ 8 }
+    ensures { result.items ≡ clean_upto script.now target channels }
+{
+    let _script = script;
+    let mut clean = ArrayVec::new();
+    for channel in 0..channels {
+        clean.push(marks.is_clean(target, channel));
+    }
+    clean
+}

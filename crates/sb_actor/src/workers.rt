@@ -1,0 +1,241 @@
+// The worker of a target.
+ghost use Rattle.std.specs.Prelude.{◌≡◌, ◌+◌, ◌%◌, ◌<◌, ◌≤◌, [], length, true, option_map};
+ghost use Rattle.sb_block.specs.Copies.{copied, is_copy};
+ghost use Rattle.sb_actor.specs.Ranges.{IsSoundStage};
+ghost use Rattle.sb_actor.specs.WorkerStages.{Look};
+ghost use Rattle.sb_actor.specs.WorkerTable.{worker_plan, worker_after, IsAnswer, taken_in, is_looking, IsWithin};
+
+use crate::acts::{ACKNOWLEDGED, Act, READY, Seen, block_word, exchange, load, state_word, store};
+use crate::phases::WorkerPhase;
+use sb_block::{Taken, Words, reply_words};
+use std::marker::Model;
+use std::mem;
+
+/// The worker of a target, which serves its channels in turn: it looks for one whose block is whole, copies the block word by
+/// word, has the book answer the copy, and stores the reply. Contracts see where it stands with what belongs to that.
+#[derive(Debug, Drop)]
+pub struct WorkerState {
+    target: u32,
+    channels: u32,
+    channel: u32,
+    phase: WorkerPhase,
+    at: u32,
+    count: u64,
+    end: u64,
+    words: Words,
+    taken: Taken,
+    reply: [u64; 12],
+}
+
+impl Model for WorkerState {
+    ghost use Rattle.std.specs.Prelude.{◌≡◌, ◌<◌, ◌≤◌, length, true};
+    ghost use Rattle.sb_actor.specs.WorkerStages.{WorkerAt};
+    ghost use Rattle.sb_actor.specs.WorkerFields.{worker_stage, is_worker_sound};
+
+    ghost Value = { WorkerAt };
+
+    ghost view = { λ w. record {
+      target = w.target;
+      channels = w.channels;
+      channel = w.channel;
+      stage = worker_stage w.phase w.at w.count w.end w.words w.taken w.reply;
+    } };
+
+    ghost invariant = { λ w. (w.channel < w.channels) × (w.channels ≤ 8) × (length w.words ≤ 64) × (length w.reply ≡ 12)
+        × (is_worker_sound w.phase w.at w.count w.end w.words w.taken w.reply ≡ true) };
+}
+
+// The channel behind this one, in turn.
+#[inline]
+pub(crate) fn next_channel(channel: u32, channels: u32) -> u32
+    requires within { channel < channels }
+    requires few { channels ≤ 8 }
+    ensures next { result ≡ (channel + 1) % channels }
+    ensures within { result < channels }
+{
+    let next = channel + 1;
+    if next == channels { 0 } else { next }
+}
+
+// A copy that keeps the rule of copies.
+fn taken_of(count: u64, end: u64, words: Words) -> Taken
+    requires { is_copy (copied count end words) ≡ true }
+    ensures { result ≡ copied count end words }
+{
+    Taken::of(count, end, words).unwrap()
+}
+
+// A copy that ended before its first word.
+fn no_words(count: u64, end: u64) -> Taken
+    requires { is_copy (copied count end []) ≡ true }
+    ensures { result ≡ copied count end [] }
+{
+    taken_of(count, end, Words::empty())
+}
+
+impl WorkerState {
+    /// A worker of a target that has 1 to 8 channels. It begins with a look at channel 0.
+    pub fn new(target: u32, channels: u32) -> WorkerState
+        requires some { 0 < channels }
+        requires few { channels ≤ 8 }
+        ensures { result ≡ record { target = target; channels = channels; channel = 0; stage = Look } }
+    {
+        WorkerState {
+            target,
+            channels,
+            channel: 0,
+            phase: WorkerPhase::Look,
+            at: 0,
+            count: 0,
+            end: 0,
+            words: Words::empty(),
+            taken: no_words(10, 0),
+            reply: [0; 12],
+        }
+    }
+
+    /// Its one next step.
+    #[inline]
+    pub fn plan(&self) -> Act
+        ensures plan { result ≡ worker_plan self.now }
+        ensures within { IsWithin self.now.channels result }
+    {
+        let target = self.target;
+        let channel = self.channel;
+        match self.phase {
+            WorkerPhase::Look => load(target, state_word(channel)),
+            WorkerPhase::Count => load(target, block_word(channel, 2)),
+            WorkerPhase::End => load(target, block_word(channel, 15 + self.count as u32)),
+            WorkerPhase::Copy => load(target, block_word(channel, self.words.len() as u32)),
+            WorkerPhase::Take => Act::Take,
+            WorkerPhase::Mark => Act::Mark,
+            WorkerPhase::Give => Act::Give,
+            WorkerPhase::Reply => {
+                let value = self.reply[self.at as usize];
+                store(target, block_word(channel, 3 + self.at), value)
+            }
+            WorkerPhase::Ack => exchange(target, state_word(channel), READY, ACKNOWLEDGED),
+        }
+    }
+
+    /// Goes on by what the step found. At Mark it is a reply that bears the mark of the copy.
+    #[inline]
+    pub fn after(&mut self, seen: Seen)
+        requires answer { IsAnswer self.old.stage seen }
+        ensures { self.new ≡ worker_after self.old seen }
+    {
+        match self.phase {
+            WorkerPhase::Look => {
+                if seen.value() == READY {
+                    self.phase = WorkerPhase::Count;
+                } else {
+                    self.channel = next_channel(self.channel, self.channels);
+                }
+            }
+            WorkerPhase::Count => {
+                let count = seen.value();
+                if count > 9 {
+                    self.taken = no_words(count, 0);
+                    self.phase = WorkerPhase::Take;
+                } else {
+                    self.count = count;
+                    self.phase = WorkerPhase::End;
+                }
+            }
+            WorkerPhase::End => {
+                let end = (seen.value() >> 16) & 0xffff;
+                if end < 16 + self.count || end > 64 {
+                    self.taken = no_words(self.count, end);
+                    self.phase = WorkerPhase::Take;
+                } else {
+                    self.end = end;
+                    self.words = Words::empty();
+                    self.phase = WorkerPhase::Copy;
+                }
+            }
+            WorkerPhase::Copy => {
+                self.words.push(seen.value());
+                if self.words.len() as u64 == self.end {
+                    let words = mem::replace(&mut self.words, Words::empty());
+                    self.taken = taken_of(self.count, self.end, words);
+                    self.phase = WorkerPhase::Take;
+                }
+            }
+            WorkerPhase::Take => {
+                if seen.turn() {
+                    self.phase = WorkerPhase::Mark;
+                }
+            }
+            WorkerPhase::Mark => {
+                self.reply = reply_words(&seen.into_reply());
+                self.phase = WorkerPhase::Give;
+            }
+            WorkerPhase::Give => {
+                self.at = 0;
+                self.phase = WorkerPhase::Reply;
+            }
+            WorkerPhase::Reply => {
+                if self.at == 11 {
+                    self.phase = WorkerPhase::Ack;
+                } else {
+                    self.at += 1;
+                }
+            }
+            WorkerPhase::Ack => {
+                self.channel = next_channel(self.channel, self.channels);
+                self.phase = WorkerPhase::Look;
+            }
+        }
+    }
+
+    /// The copy, exactly from its end until the turn is given back.
+    pub fn taken(&self) -> Option<&Taken>
+        ensures { option_map (λ t. t.now) result ≡ taken_in self.now.stage }
+    {
+        match self.phase {
+            WorkerPhase::Take | WorkerPhase::Mark | WorkerPhase::Give => Some(&self.taken),
+            _ => None,
+        }
+    }
+
+    /// What holds of every worker: it stands at one of its 1 to 8 channels, the numbers of its stage are in their ranges, and its
+    /// reply has twelve words, the first of which is the mark of its copy. It does nothing: its contract is the facts.
+    pub fn establish_sound(&self)
+        ensures within { self.now.channel < self.now.channels }
+        ensures few { self.now.channels ≤ 8 }
+        ensures stage { IsSoundStage self.now.stage }
+    {
+        let _channels = self.channels;
+    }
+
+    /// The target, from 0.
+    pub fn target(&self) -> u32
+        ensures { result ≡ self.now.target }
+    {
+        self.target
+    }
+
+    /// How many channels the target has, from 1 to 8.
+    pub fn channels(&self) -> u32
+        ensures channels { result ≡ self.now.channels }
+        ensures some { 0 < result }
+        ensures few { result ≤ 8 }
+    {
+        self.channels
+    }
+
+    /// The channel at which it stands, from 0.
+    pub fn channel(&self) -> u32
+        ensures channel { result ≡ self.now.channel }
+        ensures within { result < self.now.channels }
+    {
+        self.channel
+    }
+
+    /// Whether its next step is a look at the state of a channel.
+    pub fn looking(&self) -> bool
+        ensures { result ≡ is_looking self.now.stage }
+    {
+        matches!(self.phase, WorkerPhase::Look)
+    }
+}
