@@ -1,0 +1,5 @@
+pub mod Laws
+pub mod Pools
+pub mod Rooms
+pub mod Rule
+pub mod Views

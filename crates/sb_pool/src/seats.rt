@@ -1,0 +1,130 @@
+// The seats of a pool. A thread draws and hands back works with a seat of its own.
+ghost use Rattle.std.specs.Prelude.{◌≡◌, ◌<◌, ◌≤◌, ℕ, true, Some, None, [], length, map, slice_get, IfSome, IfNone};
+ghost use Rattle.crossbeam_queue.specs.Fifo.{Held};
+ghost use Rattle.crossbeam_queue.specs.Passes.{view, IsPassOf, ruled_capacity};
+ghost use Rattle.sb_pool.specs.Rule.{Drawn, IsMoment};
+ghost use Rattle.sb_pool.specs.Views.{first_view, fresh_view, times, with_home, with_out, with_back, with_taken, counted, newcomer, IsLast};
+ghost use Rattle.sb_pool.specs.Pools.{seen, IsSeatOf, AreNumbered};
+
+use crate::pool::Pool;
+use crate::protocol::{Draws, Founds, Numbered, OnceEach, PoolView, Returns, Seats};
+use crossbeam_queue::{Pass, RuledArrayQueue};
+use std::sync::Wait;
+
+/// The queue of a pool.
+pub(crate) type Queue<W> = RuledArrayQueue<W, PoolView<<W as Numbered>::Home>, OnceEach<W>>;
+
+/// A seat of a pool, for one thread at a time.
+#[derive(Drop)]
+pub struct PoolSeat<W: Numbered> {
+    pub(crate) pass: Pass<W, PoolView<W::Home>>,
+}
+
+impl<W: Numbered> PoolSeat<W> {
+    // Puts the next work into the queue, while this is the only seat.
+    pub(crate) fn found<R: Wait>(&mut self, rt: &R, queue: &Queue<W>, work: W)
+        requires own { IsPassOf queue.now self.old.pass }
+        requires alone { ((view self.old.pass).count ≡ Some 1) × ((view self.old.pass).live ≡ true) }
+        requires none { (view self.old.pass).out ≡ [] }
+        requires number { W.number work ≡ length (view self.old.pass).homes }
+        requires room { length (view self.old.pass).homes < ruled_capacity queue.now }
+        ensures own { IsPassOf queue.now self.new.pass }
+        ensures view { view self.new.pass ≡ with_home (view self.old.pass) (W.home work) }
+    {
+        let pushed = queue.push_as::<Founds<W>, R>(rt, &mut self.pass, work);
+        let Ok(()) = pushed else { unreachable!() };
+    }
+
+    // Puts all works into the queue, while this is the only seat.
+    pub(crate) fn found_all<R: Wait>(&mut self, rt: &R, queue: &Queue<W>, works: Vec<W>)
+        requires own { IsPassOf queue.now self.old.pass }
+        requires first { view self.old.pass ≡ first_view }
+        requires numbered { AreNumbered W.number works.items }
+        requires room { length works.items ≤ ruled_capacity queue.now }
+        ensures own { IsPassOf queue.now self.new.pass }
+        ensures view { view self.new.pass ≡ fresh_view 0 (map W.home works.items) (Some 1) }
+    {
+        for work in works {
+            self.found(rt, queue, work);
+        }
+    }
+
+    // Makes another seat of the one that keeps count.
+    pub(crate) fn another(&mut self, queue: &Queue<W>) -> PoolSeat<W>
+        requires own { IsPassOf queue.now self.old.pass }
+        requires live { (view self.old.pass).live ≡ true }
+        requires count { (c : ℕ) × ((view self.old.pass).count ≡ Some c) }
+        ensures own { IsPassOf queue.now self.new.pass × IsPassOf queue.now result.pass }
+        ensures old { view self.new.pass ≡ counted (view self.old.pass) }
+        ensures new { view result.pass ≡ newcomer (view self.old.pass) }
+    {
+        PoolSeat {
+            pass: queue.another::<Seats>(&mut self.pass),
+        }
+    }
+
+    // Takes a work from the queue.
+    pub(crate) fn take<R: Wait>(&mut self, rt: &R, queue: &Queue<W>) -> Option<W>
+        requires own { IsPassOf queue.now self.old.pass }
+        requires live { (view self.old.pass).live ≡ true }
+        ensures own { IsPassOf queue.now self.new.pass }
+        ensures drawn { IfSome result (λ work. Drawn W.number W.home (view self.old.pass) work (view self.new.pass)) }
+        ensures none { IfNone result ((view self.new.pass ≡ view self.old.pass) × Held 0 (IsMoment W.number W.home (view self.old.pass))) }
+    {
+        queue.pop_as::<Draws<W>, R>(rt, &mut self.pass)
+    }
+
+    // Establishes that each number is out with this seat, which is the last one and has as many out as there are works.
+    pub(crate) fn establish_all_out(&mut self, queue: &Queue<W>)
+        requires own { IsPassOf queue.now self.old.pass }
+        requires last { ((view self.old.pass).live ≡ true) × IsLast (view self.old.pass) }
+        requires all { length (view self.old.pass).out ≡ length (view self.old.pass).homes }
+        ensures all { (n : ℕ) → n < length (view self.old.pass).homes → 0 < times n (view self.old.pass).out }
+    {
+        queue.learn_as::<Draws<W>>(&mut self.pass);
+    }
+
+    /// A work from the queue with its number, which is then out with this seat, or `None` where the queue was empty at one
+    /// moment of the call. The work has the home that the work of this number had at `Pool::new`. It takes no memory. It may
+    /// spin while another seat is within its step.
+    pub fn draw<R: Wait>(&mut self, rt: &R, pool: &Pool<W>) -> Option<(u32, W)>
+        requires own { IsSeatOf pool.now self.old }
+        ensures own { IsSeatOf pool.now self.new }
+        ensures number { IfSome result (λ drawn. W.number drawn.1 ≡ drawn.0) }
+        ensures home { IfSome result (λ drawn. slice_get (seen self.old).homes drawn.0 ≡ Some (W.home drawn.1)) }
+        ensures out { IfSome result (λ drawn. (times drawn.0 (seen self.old).out ≡ 0) × (seen self.new ≡ with_out (seen self.old) drawn.0)) }
+        ensures empty { IfNone result ((seen self.new ≡ seen self.old) × Held 0 (IsMoment W.number W.home (seen self.old))) }
+    {
+        let work = self.take(rt, &pool.queue)?;
+        Some((work.number(), work))
+    }
+
+    /// Puts a work whose number is out with this seat back into the queue. It takes no memory, since the queue has room for
+    /// all works. It may spin while another seat is within its step.
+    pub fn hand_back<R: Wait>(&mut self, rt: &R, pool: &Pool<W>, number: u32, work: W)
+        requires own { IsSeatOf pool.now self.old }
+        requires number { W.number work ≡ number }
+        requires out { 0 < times number (seen self.old).out }
+        requires home { slice_get (seen self.old).homes number ≡ Some (W.home work) }
+        ensures own { IsSeatOf pool.now self.new }
+        ensures back { seen self.new ≡ with_back (seen self.old) number }
+    {
+        let pushed = pool
+            .queue
+            .push_as::<Returns<W>, R>(rt, &mut self.pass, work);
+        let Ok(()) = pushed else { unreachable!() };
+    }
+
+    /// Takes in another seat of the same pool, which has no number out, with all seats that it took in. It takes no memory and
+    /// waits for nobody.
+    pub fn join(&mut self, pool: &Pool<W>, other: PoolSeat<W>)
+        requires own { IsSeatOf pool.now self.old }
+        requires other { IsSeatOf pool.now other }
+        requires none { (seen other).out ≡ [] }
+        ensures own { IsSeatOf pool.now self.new }
+        ensures taken { seen self.new ≡ with_taken (seen self.old) (seen other) }
+    {
+        let PoolSeat { pass } = other;
+        pool.queue.absorb::<Seats>(&mut self.pass, pass);
+    }
+}

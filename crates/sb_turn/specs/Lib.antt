@@ -1,0 +1,4 @@
+pub mod Plays
+pub mod Rule
+pub mod Turns
+pub mod Views
