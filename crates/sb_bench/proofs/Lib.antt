@@ -1,2 +1,1 @@
-pub mod Faultless
 pub mod Ready

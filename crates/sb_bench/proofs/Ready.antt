@@ -4,9 +4,9 @@ use Rattle.std.specs.Prelude.{nat_le, is_ok}
 use Rattle.std.specs.List.{list_all}
 use Rattle.std.proofs.lemmas.Bool.{and_parts}
 use Rattle.std.proofs.lemmas.Bool.Decides.{nat_tests}
-use Rattle.sb_block.specs.Soundness.{is_sound}
+use Rattle.sb_statements.specs.Soundness.{is_sound}
 use Rattle.sb_book.specs.Readiness.{is_ready}
-use Rattle.sb_call.specs.declared.scripts.Script.{Script}
+use Rattle.sb_statements.specs.declared.scripts.Script.{Script}
 use Rattle.sb_kernel.specs.Openings.{opened}
 use Rattle.sb_rule.specs.WellMade.{is_well_made, are_well_made, are_named_apart}
 use Rattle.sb_rule.specs.declared.policies.Policy.{Policy}

@@ -1,10 +1,11 @@
 // A book that answers copies of mixed calls.
-ghost use Rattle.std.specs.Prelude.{◌≡◌, ◌≤◌, ◌+◌, length, IfOk, OnOk};
+ghost use Rattle.std.specs.Prelude.{OnOk};
 ghost use Rattle.sb_bench.specs.Answering.{CanAnswer};
 
-use crate::ends::End;
+use crate::failures::Failure;
+use crate::inputs::{Inputs, statements_of};
+use crate::outcomes::told_outcomes;
 use crate::steps::{Step, copy_of_call, steps};
-use crate::texts::{Prepared, prepare};
 use sb_block::Taken;
 use sb_book::{Book, decide};
 use sb_call::{Arg, CallTag};
@@ -13,23 +14,53 @@ use sb_rule::Judge;
 use sb_wide::NoMemory;
 use std::alloc::Global;
 
-// How many steps there are.
-const MANY: u64 = 32;
+/// Answers so many copies by a new book: those of the first thread's calls, and of the first of them with one of four
+/// faults, in turn and again from the first. A close of handle 0, which is never granted, stands for one of the handle that
+/// was granted last.
+pub fn answers(alloc: Global, inputs: &Inputs, count: u64) -> Result<String, Failure> {
+    let steps = steps(alloc, statements_of(&inputs.script, 0))?;
+    let book = answered(alloc, inputs, &steps, count)?;
+    told_outcomes(alloc, book.entries())
+}
 
-// Answers a copy by the first channel of the first target, and gives the handle that was granted, or 0.
-fn answer<J: Judge>(
+#[tactic(auto, using(crate::proofs::Ready::ready_made))]
+// A new book after so many copies were answered.
+fn answered(alloc: Global, inputs: &Inputs, steps: &[Step], count: u64) -> Result<Book, Failure> {
+    let [target, ..] = inputs.script.targets.as_slice() else {
+        return Err(Failure::BadInput);
+    };
+    if target.channels == 0 {
+        return Err(Failure::BadInput);
+    }
+    let judge = Programs::new(alloc, &inputs.policies, &inputs.script)?;
+    let mut book = Book::new(alloc, &inputs.policies, &inputs.script)?;
+    answer_steps(alloc, &judge, &mut book, steps, count)?;
+    Ok(book)
+}
+
+// Answers so many copies: those of the steps in turn, and again from the first.
+fn answer_steps<J: Judge>(
     alloc: Global,
     judge: &J,
     book: &mut Book,
-    taken: &Taken,
-) -> Result<u64, NoMemory>
+    steps: &[Step],
+    count: u64,
+) -> Result<(), Failure>
     requires { CanAnswer (J.policies judge.now) book.old }
-    ensures can { OnOk result (CanAnswer (J.policies judge.now) book.new) }
-    ensures entries { OnOk result (length book.new.entries ≡ length book.old.entries + 1) }
 {
-    let decision = decide(alloc, judge, 0, taken)?;
-    let reply = book.answer(0, 0, taken, decision)?;
-    Ok(reply.handle)
+    let mut left = steps;
+    let mut last = 0;
+    for _number in 0..count {
+        if left.is_empty() {
+            left = steps;
+        }
+        let Some((step, later)) = left.split_first() else {
+            return Err(Failure::BadInput);
+        };
+        last = answer_step(alloc, judge, book, step, last)?;
+        left = later;
+    }
+    Ok(())
 }
 
 // Answers the copy of a step, where the handle was granted last, and gives the handle that is now granted last.
@@ -39,10 +70,9 @@ fn answer_step<J: Judge>(
     book: &mut Book,
     step: &Step,
     last: u64,
-) -> Result<u64, End>
+) -> Result<u64, Failure>
     requires { CanAnswer (J.policies judge.now) book.old }
-    ensures can { OnOk result (CanAnswer (J.policies judge.now) book.new) }
-    ensures entries { OnOk result (length book.new.entries ≡ length book.old.entries + 1) }
+    ensures { OnOk result (CanAnswer (J.policies judge.now) book.new) }
 {
     let granted = match step {
         Step::Copy(taken) => answer(alloc, judge, book, taken)?,
@@ -59,49 +89,17 @@ fn latest(granted: u64, last: u64) -> u64 {
     if granted == 0 { last } else { granted }
 }
 
-// Answers so many copies: those of the steps in turn, and again from the first.
-fn answer_steps<J: Judge>(
+// Answers a copy by the first channel of the first target, and gives the handle that was granted, or 0.
+fn answer<J: Judge>(
     alloc: Global,
     judge: &J,
     book: &mut Book,
-    steps: &[Step],
-    count: u64,
-) -> Result<(), End>
+    taken: &Taken,
+) -> Result<u64, NoMemory>
     requires { CanAnswer (J.policies judge.now) book.old }
-    ensures { OnOk result (length book.new.entries ≡ length book.old.entries + count) }
+    ensures { OnOk result (CanAnswer (J.policies judge.now) book.new) }
 {
-    let mut last = 0;
-    for number in 0..count {
-        let Some(step) = steps.get((number % MANY) as usize) else {
-            return Err(End::BadInput);
-        };
-        last = answer_step(alloc, judge, book, step, last)?;
-    }
-    Ok(())
-}
-
-#[tactic(auto, using(crate::proofs::Ready::ready_made))]
-// A new book after so many copies were answered.
-fn answered(alloc: Global, prepared: &Prepared, steps: &[Step], count: u64) -> Result<Book, End>
-    ensures { IfOk result (λ book. length book.entries ≡ count) }
-{
-    let [target, ..] = prepared.script.targets.as_slice() else {
-        return Err(End::BadInput);
-    };
-    if target.channels == 0 {
-        return Err(End::BadInput);
-    }
-    let judge = Programs::new(alloc, &prepared.policies, &prepared.script)?;
-    let mut book = Book::new(alloc, &prepared.policies, &prepared.script)?;
-    answer_steps(alloc, &judge, &mut book, steps, count)?;
-    Ok(book)
-}
-
-/// A new book after so many copies were answered: those of the 32 steps in turn, and again from the first.
-pub fn answered_book(alloc: Global, count: u64) -> Result<Book, End>
-    ensures { IfOk result (λ book. length book.entries ≡ count) }
-{
-    let prepared = prepare(alloc)?;
-    let steps = steps(alloc, &prepared.script)?;
-    answered(alloc, &prepared, &steps, count)
+    let decision = decide(alloc, judge, 0, taken)?;
+    let reply = book.answer(0, 0, taken, decision)?;
+    Ok(reply.handle)
 }

@@ -1,100 +1,81 @@
 // Copies of blocks, half of them with a fault, and their decoding.
-ghost use Rattle.std.specs.Prelude.{◌≡◌, ◌≤◌, ◌*◌, length, vec_len, IfOk};
-ghost use Rattle.sb_bench.specs.Counts.{has_call, calls_in};
+ghost use Rattle.std.specs.Prelude.{◌≤◌, length};
 
-use crate::ends::End;
+use crate::failures::Failure;
+use crate::inputs::{Inputs, statements_of};
 use sb_block::{BlockRefused, Taken, Words, decode, encode, fault_of};
 use sb_call::{Arg, CallTag, fits};
-use sb_wide::{NoMemory, units};
+use sb_statements::Statement;
+use sb_wide::NoMemory;
 use std::alloc::Global;
 
-// How many copies there are.
-const MANY: u64 = 1000;
+// The mark of the first call of a thread.
+const FIRST_MARK: u64 = 65536;
 
-/// 1,000 copies of blocks, of four calls in turn. Every second copy has one word changed, which makes it faulty.
-pub fn copies(alloc: Global) -> Result<Vec<Taken>, End>
-    ensures { IfOk result (λ copies. vec_len copies ≡ 1000) }
-{
+/// Looks for the fault of each copy and decodes it, in these rounds. The copies are those of the blocks of the first
+/// thread's calls, of which every second one has one word changed, which makes it faulty.
+pub fn decodings(alloc: Global, inputs: &Inputs, rounds: u64) -> Result<String, Failure> {
+    let copies = copies_of(alloc, statements_of(&inputs.script, 0))?;
+    let mut faultless: u64 = 0;
+    let mut calls: u64 = 0;
+    for _round in 0..rounds {
+        faultless = faultless.saturating_add(faultless_copies(&copies));
+        calls = calls.saturating_add(decoded_copies(alloc, &copies)?);
+    }
+    let many = copies.len();
+    Ok(format!(in alloc; "copies {many} faultless {faultless} calls {calls}")?)
+}
+
+fn copies_of(alloc: Global, statements: &[Statement]) -> Result<Vec<Taken>, Failure> {
     let mut copies = Vec::new(alloc);
-    for number in 0..MANY {
-        let copy = copy_numbered(alloc, number)?;
-        if copies.push(copy).is_err() {
-            return Err(End::NoMemory);
-        }
+    for (statement, number) in statements.iter().zip(0..u64::MAX) {
+        copies.push(copy_numbered(statement, number)?)?;
     }
     Ok(copies)
 }
 
-fn copy_numbered(alloc: Global, number: u64) -> Result<Taken, End>
-    requires { number ≤ 1000 }
-{
-    let block = block(alloc, number)?;
-    let words = if number % 2 == 0 {
-        Some(block.copy())
-    } else {
-        spoiled(block.as_slice(), number)
+fn copy_numbered(statement: &Statement, number: u64) -> Result<Taken, Failure> {
+    let Statement::Call { tag, args } = statement else {
+        return Err(Failure::BadInput);
     };
-    match words {
-        Some(words) => copy_of(block.as_slice(), words).ok_or(End::BadInput),
-        None => Err(End::BadInput),
+    let block = block_of(*tag, args.as_slice(), FIRST_MARK.saturating_add(number))?;
+    match number % 2 {
+        0 => copy_of(block.as_slice(), block.copy()),
+        _ => spoiled(block.as_slice(), number / 8),
     }
 }
 
-// The block of the call of this number.
-fn block(alloc: Global, number: u64) -> Result<Words, End>
-    requires { number ≤ 1000 }
-{
-    let (tag, args) = call(alloc, number)?;
-    if !fits(tag, &args) {
-        return Err(End::BadInput);
-    }
-    encode(tag, &args, 65536 + number).map_err(|_| End::BadInput)
-}
-
-fn call(alloc: Global, number: u64) -> Result<(CallTag, Vec<Arg>), NoMemory> {
-    let name = format!(in alloc; "\\Sessions\\7\\Windows\\event{number}")?;
-    let name = Arg::Str(units(alloc, name.as_str())?);
-    let mut args = Vec::new(alloc);
-    let tag = match number / 2 % 4 {
-        0 => {
-            args.push(name)?;
-            args.push(Arg::Num(0))?;
-            args.push(Arg::Num(1))?;
-            CallTag::EventCreate
-        }
-        1 => {
-            args.push(name)?;
-            args.push(Arg::Num(0x8000_0000))?;
-            args.push(Arg::Num(7))?;
-            args.push(Arg::Num(0x40))?;
-            CallTag::FileOpen
-        }
-        2 => {
-            args.push(Arg::Num(number))?;
-            args.push(name)?;
-            CallTag::Ping
-        }
-        _ => {
-            args.push(Arg::Num(number))?;
-            CallTag::HandleClose
-        }
-    };
-    Ok((tag, args))
-}
-
-// The words of a block with one word changed: the tag, the count, or the first parameter.
-fn spoiled(block: &[u64], number: u64) -> Option<Words>
+// The copy of a block with one word changed: in turn the tag, the count and the first parameter.
+fn spoiled(block: &[u64], number: u64) -> Result<Taken, Failure>
     requires { length block.now ≤ 64 }
 {
-    match number / 8 % 3 {
-        0 => changed(block, 0, 99),
-        1 => changed(block, 2, 9),
-        _ => changed(block, 15, u64::MAX),
+    match number % 3 {
+        0 => changed_copy(block, 0, 99),
+        1 => changed_copy(block, 2, 9),
+        _ => changed_copy(block, 15, u64::MAX),
     }
 }
 
-/// The words with another one at a place, where there is that place.
-pub fn changed(block: &[u64], place: usize, word: u64) -> Option<Words>
+/// The block of a call with a mark.
+pub fn block_of(tag: CallTag, args: &[Arg], mark: u64) -> Result<Words, Failure> {
+    if !fits(tag, args) {
+        return Err(Failure::BadInput);
+    }
+    encode(tag, args, mark).map_err(|_| Failure::BadInput)
+}
+
+/// The copy of a block with another word at a place.
+pub fn changed_copy(block: &[u64], place: usize, word: u64) -> Result<Taken, Failure>
+    requires { length block.now ≤ 64 }
+{
+    match changed(block, place, word) {
+        Some(words) => copy_of(block, words),
+        None => Err(Failure::BadInput),
+    }
+}
+
+// The words with another one at a place, where there is that place.
+fn changed(block: &[u64], place: usize, word: u64) -> Option<Words>
     requires { length block.now ≤ 64 }
 {
     if place >= block.len() {
@@ -110,73 +91,33 @@ pub fn changed(block: &[u64], place: usize, word: u64) -> Option<Words>
 }
 
 /// The copy of these words, where the count of the block was seen before.
-pub fn copy_of(block: &[u64], words: Words) -> Option<Taken> {
-    let count = *block.get(2)?;
+pub fn copy_of(block: &[u64], words: Words) -> Result<Taken, Failure> {
+    let Some(count) = block.get(2) else {
+        return Err(Failure::BadInput);
+    };
     let end = words.len() as u64;
-    Taken::of(count, end, words)
+    Taken::of(*count, end, words).ok_or(Failure::BadInput)
 }
 
-/// What was found in copies.
-#[derive(Clone, Copy, Debug, PartialEq, Eq)]
-pub struct Tally {
-    /// How many had no fault.
-    pub faultless: u64,
-    /// How many gave a call.
-    pub calls: u64,
-}
-
-/// Looks for the fault of each copy and decodes it, in so many rounds.
-///
-/// # Errors
-/// `NoMemory` where there was none for the arguments of a call.
-pub fn decode_rounds(alloc: Global, copies: &[Taken], rounds: u64) -> Result<Tally, NoMemory>
-    requires copies { length copies.now ≤ 1000 }
-    requires rounds { rounds ≤ 1_000_000 }
-    ensures faultless { IfOk result (λ tally. tally.faultless ≡ rounds * calls_in copies.now) }
-    ensures calls { IfOk result (λ tally. tally.calls ≡ rounds * calls_in copies.now) }
-{
-    let mut faultless = 0;
-    let mut calls = 0;
-    for round in 0..rounds {
-        faultless += faultless_copies(copies) as u64;
-        calls += decoded_copies(alloc, copies)?;
-    }
-    Ok(Tally { faultless, calls })
-}
-
-// How many copies have no fault.
-fn faultless_copies(copies: &[Taken]) -> usize
-    ensures value { result ≡ calls_in copies.now }
-    ensures most { result ≤ length copies.now }
-{
-    copies.iter().filter(|copy| has_call(copy)).count()
-}
-
-#[tactic(auto, using(crate::proofs::Faultless::faultless_calls))]
-fn has_call(copy: &Taken) -> bool
-    ensures { result ≡ has_call copy.now }
-{
-    fault_of(copy).is_none()
+fn faultless_copies(copies: &[Taken]) -> u64 {
+    copies
+        .iter()
+        .filter(|copy| fault_of(copy).is_none())
+        .count() as u64
 }
 
 // How many copies give a call.
-fn decoded_copies(alloc: Global, copies: &[Taken]) -> Result<u64, NoMemory>
-    requires { length copies.now ≤ 1000 }
-    ensures value { IfOk result (λ calls. calls ≡ calls_in copies.now) }
-    ensures most { IfOk result (λ calls. calls ≤ 1000) }
-{
-    let mut calls = 0;
+fn decoded_copies(alloc: Global, copies: &[Taken]) -> Result<u64, NoMemory> {
+    let mut calls: u64 = 0;
     for copy in copies {
         if gives_call(alloc, copy)? {
-            calls += 1;
+            calls = calls.saturating_add(1);
         }
     }
     Ok(calls)
 }
 
-fn gives_call(alloc: Global, copy: &Taken) -> Result<bool, NoMemory>
-    ensures { IfOk result (λ gives. gives ≡ has_call copy.now) }
-{
+fn gives_call(alloc: Global, copy: &Taken) -> Result<bool, NoMemory> {
     match decode(alloc, copy) {
         Ok(_) => Ok(true),
         Err(BlockRefused::Fault(_)) => Ok(false),

@@ -1,7 +1,7 @@
 // A table with 100,000 open handles: granting, looking up and closing them.
-ghost use Rattle.std.specs.Prelude.{◌≡◌, ◌≤◌, ◌*◌, length, vec_len, IfOk};
-ghost use Rattle.sb_bench.specs.Holding.{closes_in, held_handles};
+ghost use Rattle.std.specs.Prelude.{◌≤◌};
 
+use crate::failures::Failure;
 use sb_handles::{HandleTable, Held, Object, Service};
 use sb_wide::NoMemory;
 use std::alloc::Global;
@@ -9,13 +9,42 @@ use std::alloc::Global;
 // How many handles there are.
 const MANY: u64 = 100_000;
 
-/// A handle by its target and its number.
-pub type Handle = (u32, u64);
+// A handle by its target and its number.
+type Handle = (u32, u64);
 
-/// A table with 100,000 open handles, of four targets in turn.
-pub fn table(alloc: Global) -> Result<HandleTable, NoMemory>
-    ensures { IfOk result (λ table. table.granted ≡ 100_000) }
-{
+/// Makes the table, in these rounds.
+pub fn grants(alloc: Global, rounds: u64) -> Result<String, Failure> {
+    let mut granted: u64 = 0;
+    for _round in 0..rounds {
+        granted = granted.saturating_add(table(alloc)?.granted());
+    }
+    Ok(format!(in alloc; "granted {granted}")?)
+}
+
+/// Looks each handle of the table up, in these rounds.
+pub fn lookups(alloc: Global, rounds: u64) -> Result<String, Failure> {
+    let table = table(alloc)?;
+    let handles = handles(alloc)?;
+    let mut held: u64 = 0;
+    for _round in 0..rounds {
+        held = held.saturating_add(held_handles(&table, &handles));
+    }
+    Ok(format!(in alloc; "held {held}")?)
+}
+
+/// Makes the table and closes each of its handles, in these rounds.
+pub fn closes(alloc: Global, rounds: u64) -> Result<String, Failure> {
+    let handles = handles(alloc)?;
+    let mut closed: u64 = 0;
+    for _round in 0..rounds {
+        let mut table = table(alloc)?;
+        closed = closed.saturating_add(close_all(&mut table, &handles));
+    }
+    Ok(format!(in alloc; "closed {closed}")?)
+}
+
+// A table with 100,000 open handles, of four targets in turn.
+fn table(alloc: Global) -> Result<HandleTable, NoMemory> {
     let mut handles = HandleTable::new(alloc);
     for number in 0..MANY {
         handles.grant(target_at(number), held_at(number))?;
@@ -23,7 +52,6 @@ pub fn table(alloc: Global) -> Result<HandleTable, NoMemory>
     Ok(handles)
 }
 
-// The target of a number: four in turn.
 fn target_at(number: u64) -> u32 {
     (number % 4) as u32
 }
@@ -39,10 +67,8 @@ fn held_at(number: u64) -> Held {
     }
 }
 
-/// All 100,000 handles of that table, each 7,919 further on than the one before it, and round again.
-pub fn handles(alloc: Global) -> Result<Vec<Handle>, NoMemory>
-    ensures { IfOk result (λ handles. vec_len handles ≡ 100_000) }
-{
+// All handles of that table, each 7,919 further on than the one before it, and round again.
+fn handles(alloc: Global) -> Result<Vec<Handle>, NoMemory> {
     let mut handles = Vec::new(alloc);
     for number in 0..MANY {
         handles.push(handle_at(number * 7919 % MANY))?;
@@ -56,66 +82,20 @@ fn handle_at(number: u64) -> Handle
     (target_at(number), number + 1)
 }
 
-/// Makes the table, in so many rounds, and gives how many handles were granted in all.
-pub fn grant_rounds(alloc: Global, rounds: u64) -> Result<u64, NoMemory>
-    requires { rounds ≤ 1_000_000 }
-    ensures { IfOk result (λ granted. granted ≡ rounds * 100_000) }
-{
-    let mut granted = 0;
-    for round in 0..rounds {
-        granted += table(alloc)?.granted();
-    }
-    Ok(granted)
-}
-
-// How many of the handles are held.
-fn held_handles(table: &HandleTable, handles: &[Handle]) -> usize
-    ensures value { result ≡ held_handles table.now handles.now }
-    ensures most { result ≤ length handles.now }
-{
+fn held_handles(table: &HandleTable, handles: &[Handle]) -> u64 {
     handles
         .iter()
         .filter(|handle| table.lookup(handle.0, handle.1).is_some())
-        .count()
-}
-
-/// Looks each of the handles up, in so many rounds, and gives how often one was held.
-pub fn lookup_rounds(table: &HandleTable, handles: &[Handle], rounds: u64) -> u64
-    requires handles { length handles.now ≤ 100_000 }
-    requires rounds { rounds ≤ 1_000_000 }
-    ensures { result ≡ rounds * held_handles table.now handles.now }
-{
-    let mut held = 0;
-    for round in 0..rounds {
-        held += held_handles(table, handles) as u64;
-    }
-    held
+        .count() as u64
 }
 
 // Closes each of the handles that is held, and gives how many these were.
-fn close_all(table: &mut HandleTable, handles: &[Handle]) -> u64
-    ensures value { result ≡ closes_in table.old handles.now }
-    ensures most { result ≤ length handles.now }
-{
-    let mut closed = 0;
+fn close_all(table: &mut HandleTable, handles: &[Handle]) -> u64 {
+    let mut closed: u64 = 0;
     for handle in handles {
         if table.close(handle.0, handle.1).is_ok() {
-            closed += 1;
+            closed = closed.saturating_add(1);
         }
     }
     closed
-}
-
-/// Makes the table and closes each of the handles, in so many rounds, and gives how many were closed.
-pub fn close_rounds(alloc: Global, handles: &[Handle], rounds: u64) -> Result<u64, NoMemory>
-    requires handles { length handles.now ≤ 100_000 }
-    requires rounds { rounds ≤ 1_000_000 }
-    ensures { IfOk result (λ closed. closed ≤ rounds * 100_000) }
-{
-    let mut closed = 0;
-    for round in 0..rounds {
-        let mut table = table(alloc)?;
-        closed += close_all(&mut table, handles);
-    }
-    Ok(closed)
 }

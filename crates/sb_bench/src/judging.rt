@@ -1,75 +1,100 @@
-// Calls judged by the program of a policy and by its rules.
-ghost use Rattle.std.specs.Prelude.{◌≡◌, ◌≤◌, ◌*◌, length};
-ghost use Rattle.sb_bench.specs.Judging.{is_allowed, is_allowed_call, allowed_calls};
+// Calls judged by the program of a policy, and by its rules.
+ghost use Rattle.std.specs.Prelude.{◌≡◌, true};
+ghost use Rattle.sb_call.specs.Arguments.{fits};
 
-use crate::calls::{Compiled, FitCall};
-use sb_rule::{Action, Verdict, verdict_plain};
+use crate::failures::Failure;
+use crate::inputs::{Inputs, statements_of};
+use sb_call::{Args, CallTag, fits};
+use sb_compile::{Program, compile};
+use sb_items::Copies;
+use sb_rule::{Action, Policy, Verdict, verdict_plain, well_made};
+use sb_statements::Statement;
+use std::alloc::Global;
 
-fn is_allowed(verdict: Verdict) -> bool
-    ensures { result ≡ is_allowed verdict }
-{
+// A call whose arguments fit it.
+#[derive(Debug, Drop)]
+struct FitCall {
+    tag: CallTag,
+    args: Args,
+    ghost fitting: { fits tag args ≡ true },
+}
+
+/// Judges the calls of the first thread by the program of the first policy, in these rounds.
+pub fn verdicts_by_code(alloc: Global, inputs: &Inputs, rounds: u64) -> Result<String, Failure> {
+    let calls = calls_of(alloc, statements_of(&inputs.script, 0))?;
+    let [policy, ..] = inputs.policies.list.as_slice() else {
+        return Err(Failure::BadInput);
+    };
+    if !well_made(policy) {
+        return Err(Failure::BadInput);
+    }
+    let program = compile(alloc, policy)?;
+    let mut allowed: u64 = 0;
+    for _round in 0..rounds {
+        allowed = allowed.saturating_add(allowed_by_code(&program, &calls));
+    }
+    told(alloc, &calls, allowed)
+}
+
+/// Judges the calls of the first thread by the rules of the first policy, in these rounds.
+pub fn verdicts_by_rules(alloc: Global, inputs: &Inputs, rounds: u64) -> Result<String, Failure> {
+    let calls = calls_of(alloc, statements_of(&inputs.script, 0))?;
+    let [policy, ..] = inputs.policies.list.as_slice() else {
+        return Err(Failure::BadInput);
+    };
+    let mut allowed: u64 = 0;
+    for _round in 0..rounds {
+        allowed = allowed.saturating_add(allowed_by_rules(policy, &calls));
+    }
+    told(alloc, &calls, allowed)
+}
+
+fn told(alloc: Global, calls: &[FitCall], allowed: u64) -> Result<String, Failure> {
+    let many = calls.len();
+    Ok(format!(in alloc; "calls {many} allowed {allowed}")?)
+}
+
+fn calls_of(alloc: Global, statements: &[Statement]) -> Result<Vec<FitCall>, Failure> {
+    let mut calls = Vec::new(alloc);
+    for statement in statements {
+        calls.push(fit_call(alloc, statement)?)?;
+    }
+    Ok(calls)
+}
+
+fn fit_call(alloc: Global, statement: &Statement) -> Result<FitCall, Failure> {
+    let Statement::Call { tag, args } = statement else {
+        return Err(Failure::BadInput);
+    };
+    let tag = *tag;
+    let args = args.copy(alloc)?;
+    if !fits(tag, args.as_slice()) {
+        return Err(Failure::BadInput);
+    }
+    Ok(FitCall { tag, args })
+}
+
+fn allowed_by_code(program: &Program, calls: &[FitCall]) -> u64 {
+    calls
+        .iter()
+        .filter(|call| is_allowed_by_code(program, call))
+        .count() as u64
+}
+
+fn is_allowed_by_code(program: &Program, call: &FitCall) -> bool {
+    is_allowed(program.judge(call.tag, call.args.as_slice()))
+}
+
+fn allowed_by_rules(policy: &Policy, calls: &[FitCall]) -> u64 {
+    calls
+        .iter()
+        .filter(|call| is_allowed(verdict_plain(policy, call.tag, call.args.as_slice())))
+        .count() as u64
+}
+
+fn is_allowed(verdict: Verdict) -> bool {
     match verdict {
         Verdict::Rule { action, .. } => matches!(action, Action::Allow),
         Verdict::NoRule => false,
     }
-}
-
-fn allows_by_code(compiled: &Compiled, call: &FitCall) -> bool
-    ensures { result ≡ is_allowed_call compiled.now.policy call.now }
-{
-    is_allowed(compiled.program.judge(call.tag, call.args.as_slice()))
-}
-
-fn allows_by_rules(compiled: &Compiled, call: &FitCall) -> bool
-    ensures { result ≡ is_allowed_call compiled.now.policy call.now }
-{
-    is_allowed(verdict_plain(&compiled.policy, call.tag, call.args.as_slice()))
-}
-
-// How many of the calls the program allows.
-fn allowed_by_code(compiled: &Compiled, calls: &[FitCall]) -> usize
-    ensures value { result ≡ allowed_calls compiled.now.policy calls.now }
-    ensures most { result ≤ length calls.now }
-{
-    calls
-        .iter()
-        .filter(|call| allows_by_code(compiled, call))
-        .count()
-}
-
-// How many of the calls the rules allow.
-fn allowed_by_rules(compiled: &Compiled, calls: &[FitCall]) -> usize
-    ensures value { result ≡ allowed_calls compiled.now.policy calls.now }
-    ensures most { result ≤ length calls.now }
-{
-    calls
-        .iter()
-        .filter(|call| allows_by_rules(compiled, call))
-        .count()
-}
-
-/// Judges each call by the program of the policy, in so many rounds, and gives how many of these verdicts allowed.
-pub fn judge_rounds(compiled: &Compiled, calls: &[FitCall], rounds: u64) -> u64
-    requires calls { length calls.now ≤ 1000 }
-    requires rounds { rounds ≤ 1_000_000 }
-    ensures { result ≡ rounds * allowed_calls compiled.now.policy calls.now }
-{
-    let mut allowed = 0;
-    for round in 0..rounds {
-        allowed += allowed_by_code(compiled, calls) as u64;
-    }
-    allowed
-}
-
-/// Judges each call by the rules of the policy, in so many rounds, and gives how many of these verdicts allowed.
-pub fn judge_plain_rounds(compiled: &Compiled, calls: &[FitCall], rounds: u64) -> u64
-    requires calls { length calls.now ≤ 1000 }
-    requires rounds { rounds ≤ 1_000_000 }
-    ensures { result ≡ rounds * allowed_calls compiled.now.policy calls.now }
-{
-    let mut allowed = 0;
-    for round in 0..rounds {
-        allowed += allowed_by_rules(compiled, calls) as u64;
-    }
-    allowed
 }

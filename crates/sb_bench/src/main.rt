@@ -1,66 +1,70 @@
-// A program that runs functions which no command of the sandbox reaches, by name and count, so that bench/run can take
-// their time. It has no clock.
+// A program that does one work of the sandbox many times, so that bench/run can take the time: works that no command does
+// alone. It has no clock. Of its own functions it is proved only that they keep the premises of what they call.
 #![tactic(auto)]
 
-ghost use Rattle.std.specs.Prelude.{◌≡◌};
-ghost use Rattle.std.specs.Process.{exit_status};
-ghost use Rattle.sb_bench.specs.Ends.{code_of};
-
 mod answering;
-mod calls;
 mod decoding;
-mod ends;
+mod failures;
 mod holding;
+mod inputs;
 mod judging;
 mod matching;
 mod naming;
-mod orders;
 mod outcomes;
-mod rules;
 mod steps;
-mod telling;
-#[cfg(test)]
-mod tests;
-mod texts;
+mod works;
 
-use ends::{End, exit_code};
-use orders::order_of;
+use failures::Failure;
+use inputs::read_inputs;
+use sb_text::decimal_of;
 use std::env;
 use std::process::ExitCode;
-use std::rt::Env;
-use telling::tell;
+use std::rt::{Env, Files};
+use works::{work_alone, work_on};
 
 fn main(rt: HostRuntime) -> ExitCode {
-    code(run(&rt))
-}
-
-fn code(end: End) -> ExitCode
-    ensures { exit_status result ≡ code_of end }
-{
-    ExitCode::from(exit_code(end))
+    match run(&rt) {
+        Ok(()) => ExitCode::SUCCESS,
+        Err(failure) => {
+            let _ = rt.eprintln(failure);
+            ExitCode::FAILURE
+        }
+    }
 }
 
 // Gathers the words after the program's name and does what they ask. Without words nothing is done.
-fn run<R: Env + Print + AllocGlobal>(rt: &R) -> End {
+fn run<R: Env + Files + Print + AllocGlobal>(rt: &R) -> Result<(), Failure> {
     let Ok(arguments) = env::args(rt) else {
-        return End::Usage;
+        return Err(Failure::Usage);
     };
     let all: Result<Vec<String>, _> = arguments.collect(rt.alloc());
     let Ok(all) = all else {
-        return End::NoMemory;
+        return Err(Failure::NoMemory);
     };
     match all.as_slice() {
-        [] | [_] => End::Done,
-        [_, words @ ..] => answer(rt, words),
+        [] | [_] => Ok(()),
+        [_, words @ ..] => put_work(rt, words),
     }
 }
 
-fn answer<R: Print + AllocGlobal>(rt: &R, words: &[String]) -> End {
-    let Some(order) = order_of(words) else {
-        return End::Usage;
+// Does the work of the words `WORK ROUNDS`, or `WORK ROUNDS POLICY SCRIPT` with the names of two files, and puts a line of
+// what came of it.
+fn put_work<R: Files + Print + AllocGlobal>(rt: &R, words: &[String]) -> Result<(), Failure> {
+    let (work, told) = match words {
+        [work, rounds] => (work, work_alone(rt.alloc(), work.as_str(), count(rounds)?)?),
+        [work, rounds, policy, script] => {
+            let inputs = read_inputs(rt, policy.as_str(), script.as_str())?;
+            let told = work_on(rt.alloc(), work.as_str(), count(rounds)?, &inputs)?;
+            (work, told)
+        }
+        _ => return Err(Failure::Usage),
     };
-    match tell(rt, order) {
-        Ok(()) => End::Done,
-        Err(end) => end,
+    match println!(rt; "{work}: {told}") {
+        Ok(()) => Ok(()),
+        Err(_) => Err(Failure::WriteFault),
     }
+}
+
+fn count(word: &String) -> Result<u64, Failure> {
+    decimal_of(word.as_str().as_bytes()).ok_or(Failure::Usage)
 }

@@ -1,207 +1,114 @@
-// A tree of 4,096 names below one directory: adding, finding and renaming them.
-ghost use Rattle.std.specs.Prelude.{◌≡◌, ◌≤◌, ◌*◌, [], length, vec_len, IfOk, OnOk};
-ghost use Rattle.sb_names.specs.Trees.{added};
-ghost use Rattle.sb_bench.specs.Naming.{adds_in, can_add, found_names, made_of};
+// A tree of names: adding, finding and renaming them.
 
-use crate::ends::End;
+use crate::failures::Failure;
+use crate::inputs::{Inputs, names_of, statements_of};
+use sb_call::Arg;
 use sb_names::{NameTree, TreeFault};
-use sb_wide::{NoMemory, Wide, units};
+use sb_statements::Statement;
+use sb_wide::NoMemory;
 use std::alloc::Global;
 
-// How many names there are.
-const MANY: u64 = 4096;
-
-// How many renames there are in a round.
-const MOVES: u64 = 128;
-
-/// 4,096 names in the order in which they can be added: a directory, 63 directories in it, and 64 files in each of these,
-/// where one file after the other is of another directory.
-pub fn names(alloc: Global) -> Result<Vec<Wide>, NoMemory>
-    ensures { IfOk result (λ names. vec_len names ≡ 4096) }
-{
-    let mut names = Vec::new(alloc);
-    for number in 0..MANY {
-        let text = name_text(alloc, number)?;
-        names.push(units(alloc, text.as_str())?)?;
+/// Makes a tree of the names of the first thread's calls, in their order, in these rounds.
+pub fn adds(alloc: Global, inputs: &Inputs, rounds: u64) -> Result<String, Failure> {
+    let names = names_of(alloc, statements_of(&inputs.script, 0))?;
+    let mut added: u64 = 0;
+    for _round in 0..rounds {
+        let mut tree = NameTree::new(alloc);
+        added = added.saturating_add(add_all(&mut tree, &names)?);
     }
-    Ok(names)
+    let many = names.len();
+    Ok(format!(in alloc; "names {many} added {added}")?)
 }
 
-fn name_text(alloc: Global, number: u64) -> Result<String, NoMemory> {
-    match number.checked_sub(64) {
-        Some(file) => file_text(alloc, file),
-        None => directory_text(alloc, number),
+/// Looks for the names of the second thread's calls in the tree of those of the first thread's, in these rounds.
+pub fn finds(alloc: Global, inputs: &Inputs, rounds: u64) -> Result<String, Failure> {
+    let tree = tree_of(alloc, inputs)?;
+    let names = names_of(alloc, statements_of(&inputs.script, 1))?;
+    let mut found: u64 = 0;
+    for _round in 0..rounds {
+        found = found.saturating_add(found_names(&tree, &names));
+    }
+    let many = names.len();
+    Ok(format!(in alloc; "names {many} found {found}")?)
+}
+
+/// Makes the renames of the third thread's calls in the tree of the names of the first thread's, in these rounds.
+pub fn renames(alloc: Global, inputs: &Inputs, rounds: u64) -> Result<String, Failure> {
+    let mut tree = tree_of(alloc, inputs)?;
+    let moves = moves_of(alloc, statements_of(&inputs.script, 2))?;
+    let mut renamed: u64 = 0;
+    for _round in 0..rounds {
+        renamed = renamed.saturating_add(rename_all(&mut tree, &moves)?);
+    }
+    let many = moves.len();
+    Ok(format!(in alloc; "renames {many} renamed {renamed}")?)
+}
+
+// The tree of the names of the first thread's calls.
+fn tree_of(alloc: Global, inputs: &Inputs) -> Result<NameTree, Failure> {
+    let names = names_of(alloc, statements_of(&inputs.script, 0))?;
+    let mut tree = NameTree::new(alloc);
+    add_all(&mut tree, &names)?;
+    Ok(tree)
+}
+
+// Adds each name that can be added, and gives how many these were.
+fn add_all(tree: &mut NameTree, names: &[&[u16]]) -> Result<u64, NoMemory> {
+    let mut added: u64 = 0;
+    for name in names {
+        if is_made(tree.add(name, 1))? {
+            added = added.saturating_add(1);
+        }
+    }
+    Ok(added)
+}
+
+fn is_made(outcome: Result<(), TreeFault>) -> Result<bool, NoMemory> {
+    match outcome {
+        Ok(()) => Ok(true),
+        Err(TreeFault::NoMemory) => Err(NoMemory),
+        Err(_) => Ok(false),
     }
 }
 
-fn directory_text(alloc: Global, number: u64) -> Result<String, NoMemory> {
-    Ok(match number {
-        0 => format!(in alloc; "\\all")?,
-        _ => format!(in alloc; "\\all\\d{number}")?,
-    })
+fn found_names(tree: &NameTree, names: &[&[u16]]) -> u64 {
+    names
+        .iter()
+        .filter(|name| tree.find(name).is_some())
+        .count() as u64
 }
 
-fn file_text(alloc: Global, file: u64) -> Result<String, NoMemory> {
-    let directory = file % 63 + 1;
-    let place = file / 63;
-    Ok(format!(in alloc; "\\all\\d{directory}\\f{place}")?)
-}
-
-/// 4,096 names in capital letters, of which 64 are below a directory that is not there, and the others are the files.
-pub fn sought_names(alloc: Global) -> Result<Vec<Wide>, NoMemory>
-    ensures { IfOk result (λ names. vec_len names ≡ 4096) }
-{
-    let mut names = Vec::new(alloc);
-    for number in 0..MANY {
-        let text = sought_text(alloc, number)?;
-        names.push(units(alloc, text.as_str())?)?;
-    }
-    Ok(names)
-}
-
-fn sought_text(alloc: Global, number: u64) -> Result<String, NoMemory> {
-    let directory = number % 64;
-    let place = number / 64;
-    Ok(format!(in alloc; "\\ALL\\D{directory}\\F{place}")?)
-}
-
-/// 128 renames, of which each second one takes back the one before it: of the directory with all names in it, and of one
-/// file in each of the 63 directories.
-pub fn moves(alloc: Global) -> Result<Vec<(Wide, Wide)>, NoMemory>
-    ensures { IfOk result (λ moves. vec_len moves ≡ 128) }
-{
+// The old names and the new ones of these calls of file.rename.
+fn moves_of<'a>(
+    alloc: Global,
+    statements: &'a [Statement],
+) -> Result<Vec<(&'a [u16], &'a [u16])>, NoMemory> {
     let mut moves = Vec::new(alloc);
-    for number in 0..MOVES {
-        let (old, new) = places(alloc, number / 2)?;
-        match number % 2 {
-            0 => moves.push((old, new))?,
-            _ => moves.push((new, old))?,
+    for statement in statements {
+        if let Some(names) = move_of(statement) {
+            moves.push(names)?;
         }
     }
     Ok(moves)
 }
 
-// The old name and the new one.
-fn places(alloc: Global, number: u64) -> Result<(Wide, Wide), NoMemory> {
-    let old = old_text(alloc, number)?;
-    let new = new_text(alloc, number)?;
-    Ok((units(alloc, old.as_str())?, units(alloc, new.as_str())?))
-}
-
-fn old_text(alloc: Global, number: u64) -> Result<String, NoMemory> {
-    Ok(match number {
-        0 => format!(in alloc; "\\all")?,
-        _ => format!(in alloc; "\\all\\d{number}\\f0")?,
-    })
-}
-
-fn new_text(alloc: Global, number: u64) -> Result<String, NoMemory> {
-    Ok(match number {
-        0 => format!(in alloc; "\\any")?,
-        _ => format!(in alloc; "\\all\\d{number}\\moved")?,
-    })
-}
-
-/// The tree of these names, and how many of them could be added.
-pub fn tree_of(alloc: Global, names: &[Wide]) -> Result<(NameTree, u64), NoMemory>
-    ensures value { IfOk result (λ made. made.1 ≡ adds_in [] names.now) }
-    ensures most { IfOk result (λ made. made.1 ≤ length names.now) }
-{
-    let mut tree = NameTree::new(alloc);
-    let mut added = 0;
-    for name in names {
-        if is_added(&mut tree, name)? {
-            added += 1;
-        }
-    }
-    Ok((tree, added))
-}
-
-// Adds a name where that can be.
-fn is_added(tree: &mut NameTree, name: &Wide) -> Result<bool, NoMemory>
-    ensures value { IfOk result (λ is_added. is_added ≡ can_add tree.old name.now) }
-    ensures tree { OnOk result (tree.new ≡ made_of tree.old (added tree.old name.now 1)) }
-{
-    match tree.add(name.as_units(), 1) {
-        Ok(()) => Ok(true),
-        Err(TreeFault::NoMemory) => Err(NoMemory),
-        Err(_) => Ok(false),
+fn move_of(statement: &Statement) -> Option<(&[u16], &[u16])> {
+    let Statement::Call { args, .. } = statement else {
+        return None;
+    };
+    match args.as_slice() {
+        [Arg::Str(old), Arg::Str(new)] => Some((old.as_units(), new.as_units())),
+        _ => None,
     }
 }
 
-/// Makes the tree of these names, in so many rounds, and gives how many names were added in all.
-pub fn add_rounds(alloc: Global, names: &[Wide], rounds: u64) -> Result<u64, NoMemory>
-    requires names { length names.now ≤ 4096 }
-    requires rounds { rounds ≤ 1_000_000 }
-    ensures { IfOk result (λ added. added ≡ rounds * adds_in [] names.now) }
-{
-    let mut added = 0;
-    for round in 0..rounds {
-        let (_, more) = tree_of(alloc, names)?;
-        added += more;
-    }
-    Ok(added)
-}
-
-// How many of the names are there.
-fn found_names(tree: &NameTree, names: &[Wide]) -> usize
-    ensures value { result ≡ found_names tree.now names.now }
-    ensures most { result ≤ length names.now }
-{
-    names
-        .iter()
-        .filter(|name| tree.find(name.as_units()).is_some())
-        .count()
-}
-
-/// Looks for each of the names, in so many rounds, and gives how often one was there.
-pub fn find_rounds(tree: &NameTree, names: &[Wide], rounds: u64) -> u64
-    requires names { length names.now ≤ 4096 }
-    requires rounds { rounds ≤ 1_000_000 }
-    ensures { result ≡ rounds * found_names tree.now names.now }
-{
-    let mut found = 0;
-    for round in 0..rounds {
-        found += found_names(tree, names) as u64;
-    }
-    found
-}
-
-// Renames where that can be.
-fn is_renamed(tree: &mut NameTree, old: &Wide, new: &Wide) -> Result<bool, NoMemory> {
-    match tree.rename(old.as_units(), new.as_units()) {
-        Ok(()) => Ok(true),
-        Err(TreeFault::NoMemory) => Err(NoMemory),
-        Err(_) => Ok(false),
-    }
-}
-
-// Makes each of the renames that can be made, and gives how many these were.
-fn rename_all(tree: &mut NameTree, moves: &[(Wide, Wide)]) -> Result<u64, NoMemory>
-    ensures { IfOk result (λ renamed. renamed ≤ length moves.now) }
-{
-    let mut renamed = 0;
+// Makes each rename that can be made, and gives how many these were.
+fn rename_all(tree: &mut NameTree, moves: &[(&[u16], &[u16])]) -> Result<u64, NoMemory> {
+    let mut renamed: u64 = 0;
     for names in moves {
-        if is_renamed(tree, &names.0, &names.1)? {
-            renamed += 1;
+        if is_made(tree.rename(names.0, names.1))? {
+            renamed = renamed.saturating_add(1);
         }
-    }
-    Ok(renamed)
-}
-
-/// Makes the renames, in so many rounds, and gives how many could be made.
-pub fn rename_rounds(
-    tree: &mut NameTree,
-    moves: &[(Wide, Wide)],
-    rounds: u64,
-) -> Result<u64, NoMemory>
-    requires moves { length moves.now ≤ 128 }
-    requires rounds { rounds ≤ 1_000_000 }
-    ensures { IfOk result (λ renamed. renamed ≤ rounds * 128) }
-{
-    let mut renamed = 0;
-    for round in 0..rounds {
-        renamed += rename_all(tree, moves)?;
     }
     Ok(renamed)
 }

@@ -1,4 +1,6 @@
 // What the broker decided: decisions, the namespace that they lead to, and the book that keeps both as one history.
+// It stands where the dispatchers of Chromium's Windows sandbox stand (top_level_dispatcher.cc and those
+// of the services).
 #![tactic(auto)]
 
 mod books;

@@ -1,5 +1,6 @@
 // The values that calls are made of: tags with their numbers and shapes, arguments, names of policies and targets, answers
 // and replies. Nothing here decides or performs a call; the crates above pass these values among them.
+// The calls are modelled on the IPC tags of Chromium's Windows sandbox (ipc_tags.h); statuses are those of Windows NT (ntstatus.h).
 #![tactic(auto)]
 
 mod arguments;
@@ -19,6 +20,6 @@ pub use short_names::ShortName;
 pub use statuses::{
     ACCESS_DENIED, FILE_IS_A_DIRECTORY, INSTANCE_NOT_AVAILABLE, INVALID_HANDLE, INVALID_PARAMETER,
     NAME_COLLISION, NAME_EXISTS, NAME_NOT_FOUND, NOT_A_DIRECTORY, PATH_NOT_FOUND,
-    SHARING_VIOLATION, SUCCESS, TYPE_MISMATCH,
+    SHARING_VIOLATION, SUCCESS, TYPE_MISMATCH, meets,
 };
 pub use tags::{CallTag, ParamKind, number_of, shape, tag_of};

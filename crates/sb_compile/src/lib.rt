@@ -1,4 +1,5 @@
 // Policies as code: each call's rules are compiled to opcodes, which are verified, judged by and listed.
+// It does what the low level policy of Chromium's Windows sandbox does (policy_low_level.cc).
 #![tactic(auto)]
 
 mod groups;

@@ -1,4 +1,5 @@
 // The core: at most one thread and one broker worker over one channel of shared words, one atomic step at a time.
+// The states of a channel are those of Chromium's Windows sandbox (sharedmem_ipc_client.h, sharedmem_ipc_server.cc).
 #![tactic(auto)]
 
 mod channels;

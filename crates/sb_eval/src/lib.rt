@@ -1,5 +1,6 @@
 // What opcodes mean: a code judges a call by its rules, each a list of groups of opcodes. It is judged over the records of
 // its words, with no memory.
+// The walk is modelled on the policy processor of Chromium's Windows sandbox (policy_engine_processor.cc).
 #![tactic(auto)]
 
 mod fragments;

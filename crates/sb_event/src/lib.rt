@@ -1,4 +1,5 @@
 // Events: made, opened, and kept for good. Their names have no parents.
+// The calls are modelled on NtCreateEvent and NtOpenEvent in their documentation.
 #![tactic(auto)]
 
 mod events;

@@ -13,7 +13,7 @@ use crate::files::{FileService, add_object, set_attributes};
 use crate::objects::{FileKind, FileObject};
 use sb_call::{
     Answer, FILE_IS_A_DIRECTORY, INVALID_PARAMETER, NAME_COLLISION, NAME_NOT_FOUND,
-    NOT_A_DIRECTORY, PATH_NOT_FOUND, SHARING_VIOLATION, SUCCESS,
+    NOT_A_DIRECTORY, PATH_NOT_FOUND, SHARING_VIOLATION, SUCCESS, meets,
 };
 use sb_handles::{
     HandleTable, Held, Object, Service, ShareTable, agreement_is_kept, opens_come_back,
@@ -58,12 +58,6 @@ struct Request {
     sharing: u64,
     disposition: u64,
     options: u64,
-}
-
-fn meets(bits: u64, mask: u64) -> bool
-    ensures { result ≡ meets bits mask }
-{
-    bits & mask != 0
 }
 
 // Whether the content of a file that is there would go, which no directory allows.

@@ -1,4 +1,5 @@
 // Files and directories: a tree of names, the objects that they lead to, and who has them open with what sharing.
+// Dispositions, options and statuses are those of NtCreateFile and NtSetInformationFile in their documentation.
 #![tactic(auto)]
 
 mod creation;

@@ -1,4 +1,5 @@
 // Handles: who holds which on what object, and which accesses to one object may stand beside one another.
+// Accesses and sharing are those of CreateFile and NtCreateFile (the tables of share modes in their documentation).
 #![tactic(auto)]
 
 mod laws;

@@ -1,11 +1,11 @@
 // Which accesses to one object may stand beside one another.
 ghost use Rattle.std.specs.Prelude.{◌≡◌, ◌<◌, ◌^◌, ℕ, is_some, MatchOption, Bool, true, false, Some, None, [], IfErr, OnOk, OnErr, IfSome, IfNone, option_map};
-ghost use Rattle.sb_call.specs.Statuses.{meets};
 ghost use Rattle.std.specs.BTreeMap.{get};
 ghost use Rattle.sb_handles.specs.Indexes.{IsIndexed};
 ghost use Rattle.sb_handles.specs.Shares.{SharesRise, by_object, takes_part, exceeds, conflicts, conflict_of, opened, left, IsRefusal};
 
 use crate::objects::{Share, ShareRefused};
+use sb_call::meets;
 use std::alloc::Global;
 use std::collections::BTreeMap;
 use std::marker::Model;
@@ -24,12 +24,6 @@ const SHARE_READ: u64 = 1;
 const SHARE_WRITE: u64 = 2;
 
 const SHARE_DELETE: u64 = 4;
-
-fn meets(bits: u64, mask: u64) -> bool
-    ensures { result ≡ meets bits mask }
-{
-    bits & mask != 0
-}
 
 // Whether an access reads, writes or deletes: no other takes part in sharing.
 fn takes_part(access: u64) -> bool

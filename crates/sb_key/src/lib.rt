@@ -1,4 +1,5 @@
 // Keys of the registry: a tree in which each key stands below one that is there, or below the root. Keys stay.
+// The calls are modelled on NtCreateKey and NtOpenKey in their documentation.
 #![tactic(auto)]
 
 mod laws;

@@ -1,3 +1,3 @@
-pub mod Exits
+pub mod Gathering
 pub mod OwnWords
 pub mod Hosts

@@ -5,20 +5,19 @@ ghost use Rattle.std.specs.Prelude.{◌≡◌, ◌⊎◌};
 ghost use Rattle.sb_outside.specs.Outside.{Rose};
 ghost use Rattle.sb_top.specs.Commands.{texts};
 ghost use Rattle.std.specs.Process.{exit_status};
-ghost use Rattle.sb_main.specs.Exits.{code_of, gathering_status};
+ghost use Rattle.sb_top.specs.Exits.{code_of};
+ghost use Rattle.sb_main.specs.Gathering.{gathering_status};
 ghost use Rattle.sb_main.specs.OwnWords.{IsFaulty};
 
-mod exits;
 mod hosts;
 mod own_words;
 #[cfg(test)]
 mod tests;
 
-use exits::{Complaint, exit_code};
 use hosts::{HostFiles, HostSink};
 use own_words::{OwnWord, own_text, own_word};
 use sb_outside::Sink;
-use sb_top::{Status, plain_top};
+use sb_top::{Complaint, Status, exit_code, plain_top};
 use std::io::ErrorKind;
 use std::process::ExitCode;
 use std::rt::{Env, Files};

@@ -1,5 +1,6 @@
 // Names and what stands under them: a flat map, and a tree in which each name stands in a directory. Names are compared
 // folded, and how a name was spelled is kept nowhere.
+// Names and their parents are those of the object namespace of Windows NT, with ASCII folding alone.
 #![tactic(auto)]
 
 mod adding;

@@ -1,6 +1,5 @@
 // The tests by which a code is verified. Each goes once through the records.
 ghost use Rattle.std.specs.Prelude.{◌≡◌, ◌<◌, ◌^◌, None, option_map, length, position};
-ghost use Rattle.sb_rule.specs.WellMade.{is_number_kind};
 ghost use Rattle.sb_opcode.specs.Groups.{is_act, is_last};
 ghost use Rattle.sb_opcode.specs.Faults.{is_text_kind, ends_with_act, goes_on, differs, is_unfit, is_open, with_before, is_number_at, is_string_at, suits, is_misplaced, fault_of};
 ghost use Rattle.sb_opcode.specs.Records.{kind_of, opcode_of};
@@ -11,6 +10,7 @@ use crate::options::Options;
 use crate::records::{Record, RecordKind};
 use bitflags::Flags;
 use sb_call::{CallTag, ParamKind, shape};
+use sb_rule::is_number_kind;
 
 fn is_act(opcode: &Record<'_>) -> bool
     ensures { result ≡ is_act (opcode_of opcode.now) }
@@ -90,15 +90,6 @@ fn first_open(code: &Code) -> Option<u32>
         at += 1;
     }
     None
-}
-
-fn is_number_kind(kind: ParamKind) -> bool
-    ensures { result ≡ is_number_kind kind }
-{
-    match kind {
-        ParamKind::Num | ParamKind::Handle => true,
-        ParamKind::Text | ParamKind::Name => false,
-    }
 }
 
 fn is_number_at(tag: CallTag, param: u32) -> bool

@@ -1,5 +1,6 @@
 // Opcodes: what rules are compiled to. A code is one list of words, seen as the list of opcodes whose packing the words
 // are. Code that was verified for a call has opcodes in groups, each with parameters that the call has.
+// They are modelled on the opcodes of Chromium's Windows sandbox (policy_engine_opcodes.h).
 #![tactic(auto)]
 
 mod checks;

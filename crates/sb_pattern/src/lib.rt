@@ -1,5 +1,6 @@
 // Patterns over wide strings, with `*` for any run of units and `?` for one unit: reading and writing their text, and
 // matching as its definition says it.
+// The syntax is that of patterns in the policies of Chromium's Windows sandbox (sandbox_policy.h).
 #![tactic(auto)]
 
 mod cells;

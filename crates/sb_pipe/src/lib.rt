@@ -1,4 +1,5 @@
 // Pipes: made with a number of instances, and gone with their last handle. Their names have no parents.
+// The call is modelled on CreateNamedPipe in its documentation.
 #![tactic(auto)]
 
 mod laws;

@@ -135,7 +135,8 @@ fn is_number_test(test: &Test) -> bool
     }
 }
 
-fn is_number_kind(kind: ParamKind) -> bool
+/// Whether a parameter of this kind is a number.
+pub fn is_number_kind(kind: ParamKind) -> bool
     ensures { result ≡ is_number_kind kind }
 {
     match kind {
@@ -160,7 +161,8 @@ fn are_well_formed(tag: CallTag, conds: &[Cond]) -> bool
     conds.iter().all(|cond| is_well_formed(tag, cond))
 }
 
-fn is_for_readers(action: Action, tag: CallTag) -> bool
+/// Whether a rule for this call may have this action: `readonly` is for calls that open alone.
+pub fn is_for_readers(action: Action, tag: CallTag) -> bool
     ensures { result ≡ is_for_readers action tag }
 {
     match (action, tag) {

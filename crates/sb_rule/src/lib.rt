@@ -1,5 +1,7 @@
 // Policies: lists of rules over the calls of a target, the verdict of a policy by its definition, which policies are
 // well made, and what it means to judge by policies.
+// Rules, their tests and actions follow the policies of Chromium's Windows sandbox (sandbox_policy.h,
+// policy_low_level.h).
 #![tactic(auto)]
 
 mod actions;
@@ -13,7 +15,7 @@ mod policies;
 mod verdicts;
 
 pub use actions::Action;
-pub use checks::{all_well_made, well_made};
+pub use checks::{all_well_made, is_for_readers, is_number_kind, well_made};
 pub use conditions::{Cond, Conds, Numbers, Test};
 pub use judges::{Judge, PlainJudge};
 pub use laws::{

@@ -1,7 +1,7 @@
 // Reading the lines below the version line.
 ghost use Rattle.std.specs.Prelude.{◌≡◌, ◌≤◌, length, true, false, IfOk, OnOk, OnErr};
 ghost use Rattle.std.specs.List.{list_all, list_any};
-ghost use Rattle.sb_rule.specs.WellMade.{is_for_readers, is_like_text, is_well_formed, is_well_made_rule, are_well_made, is_named};
+ghost use Rattle.sb_rule.specs.WellMade.{is_like_text, is_well_formed, is_well_made_rule, are_well_made, is_named};
 ghost use Rattle.sb_ruletext.specs.Lines.{new_name, name_at, heading, call_at, check_action, when_of, rule, grant_at, granted_at, grant, check_heading, with_grant, with_rule, line_of};
 ghost use Rattle.sb_text.specs.Steps.{Gives, Reads, Becomes};
 ghost use Rattle.sb_text.specs.Tokens.{tokens_of};
@@ -15,7 +15,7 @@ use crate::readers::{line_end, quoted_or, word_or};
 use crate::words::action_of;
 use sb_call::{CallTag, ShortName, tag_of_word};
 use sb_pattern::Pattern;
-use sb_rule::{Action, Conds, Rule, Rules};
+use sb_rule::{Action, Conds, Rule, Rules, is_for_readers};
 use sb_text::{Line, Tokens, or_fault};
 use std::alloc::Global;
 
@@ -61,17 +61,6 @@ fn call_at(tokens: &mut Tokens) -> Result<CallTag, LineRefused>
 {
     let word = word_or(UnknownCall, tokens)?;
     or_fault(UnknownCall, tag_of_word(word))
-}
-
-// Whether a call may have an action.
-fn is_for_readers(action: Action, tag: CallTag) -> bool
-    ensures { result ≡ is_for_readers action tag }
-{
-    match (action, tag) {
-        (Action::ReadOnly, CallTag::FileOpen | CallTag::KeyOpen | CallTag::EventOpen) => true,
-        (Action::ReadOnly, _) => false,
-        _ => true,
-    }
 }
 
 // Nothing, or `when` and conditions, up to the line's end.

@@ -1,0 +1,94 @@
+"""The two programs that are measured, `sandbox` and `sb_bench`: building and running them."""
+import fcntl
+import os
+import subprocess
+import sys
+import time
+
+TOP = os.path.dirname(os.path.dirname(os.path.realpath(__file__)))
+SANDBOX = os.path.join(TOP, "out", "sandbox")
+BENCH = os.path.join(TOP, "crates", "sb_bench")
+
+
+def fail(message):
+    sys.exit("bench: " + message)
+
+
+def build():
+    """Proves and builds both programs where that is not done."""
+    subprocess.run([os.path.join(TOP, "sandbox"), "--version"], check=True, stdout=subprocess.DEVNULL)
+    built = subprocess.run(["rt", "run"], cwd=BENCH, stdin=subprocess.DEVNULL, capture_output=True, text=True)
+    if built.returncode != 0:
+        fail("crates/sb_bench was not built\n" + built.stdout + built.stderr)
+
+
+def replay(folder):
+    """Replays `policy` and `script` of a folder into its `transcript`: the seconds that it took and the bytes of its peak."""
+    with open(os.path.join(folder, "transcript"), "wb") as out:
+        start = time.perf_counter()
+        child = subprocess.Popen([SANDBOX, "replay", "policy", "script"], cwd=folder, stdout=out)
+        _, status, usage = os.wait4(child.pid, 0)
+        seconds = time.perf_counter() - start
+    child.returncode = os.waitstatus_to_exitcode(status)
+    if child.returncode != 0:
+        fail("the program ended with status %d" % child.returncode)
+    return seconds, usage.ru_maxrss * 1024
+
+
+def told_by_sandbox(folder, words):
+    """Runs `sandbox` in a folder: the seconds that it took, its exit status, and what it wrote to both outputs."""
+    start = time.perf_counter()
+    ended = subprocess.run([SANDBOX] + words, cwd=folder, capture_output=True, text=True)
+    return time.perf_counter() - start, (ended.returncode, ended.stdout, ended.stderr)
+
+
+def bench_words(work, rounds, folder):
+    """The words of a run of `sb_bench`, on `policy` and `script` of a folder where there is one."""
+    files = [os.path.join(folder, name) for name in ("policy", "script")] if folder else []
+    return [os.path.join(BENCH, "out", "sb_bench"), work, str(rounds)] + files
+
+
+def check_told(work, rounds, line, told):
+    if line != "%s: %s\n" % (work, told):
+        fail("%s in %d rounds put %r, not %r" % (work, rounds, line, told))
+
+
+def seconds_of(runs, work, rounds, told, folder):
+    """The seconds in which `sb_bench` does a work in so many rounds, in the best run. What it tells of it is `told`."""
+    seconds = []
+    for _ in range(runs):
+        start = time.perf_counter()
+        line = subprocess.run(bench_words(work, rounds, folder), check=True, stdout=subprocess.PIPE, text=True).stdout
+        seconds.append(time.perf_counter() - start)
+        check_told(work, rounds, line, told)
+    return min(seconds)
+
+
+def seconds_spent(runs, work, rounds, told, told_of_none, folder=None):
+    """The same, without the time of a run of no rounds, which makes what the work needs and tells `told_of_none`."""
+    return seconds_of(runs, work, rounds, told, folder) - seconds_of(runs, work, 0, told_of_none, folder)
+
+
+def peak(work, rounds, told, folder):
+    """The bytes of `sb_bench`'s peak of memory at its one write, at which it is held by a pipe that is full.
+
+    What the system tells of a program that has ended is at least the peak of this one, from which it was started.
+    """
+    out, into = os.pipe()
+    fcntl.fcntl(into, fcntl.F_SETPIPE_SZ, 4096)
+    filled = os.write(into, bytes(fcntl.fcntl(into, fcntl.F_GETPIPE_SZ)))
+    child = subprocess.Popen(bench_words(work, rounds, folder), stdout=into)
+    os.close(into)
+    state = ""
+    while state != "S":
+        time.sleep(0.001)
+        with open("/proc/%d/status" % child.pid) as file:
+            status = dict(line.split(":", 1) for line in file)
+        state = status["State"].split()[0]
+        if state == "Z":
+            fail("%s in %d rounds put nothing" % (work, rounds))
+    with open(out, "rb") as file:
+        line = file.read()[filled:].decode()
+    child.wait()
+    check_told(work, rounds, line, told)
+    return int(status["VmHWM"].split()[0]) * 1024

@@ -1,0 +1,89 @@
+// The policies and the script that a work is done on.
+ghost use Rattle.std.specs.Prelude.{◌≡◌, true};
+ghost use Rattle.sb_book.specs.Readiness.{is_ready};
+
+use crate::failures::Failure;
+use sb_call::Arg;
+use sb_rule::Policies;
+use sb_ruletext::read_policies;
+use sb_script::{placing_is_opening, read_script};
+use sb_statements::{Script, Statement};
+use sb_wide::NoMemory;
+use std::alloc::Global;
+use std::fs;
+use std::rt::Files;
+
+// As many bytes as the sandbox reads of a policy or a script.
+const MOST_BYTES: usize = 4_194_304;
+
+/// Policies and a script that is ready for them.
+#[derive(Debug, Drop)]
+pub struct Inputs {
+    /// The policies.
+    pub policies: Policies,
+    /// The script.
+    pub script: Script,
+    ghost ready: { is_ready policies.list script ≡ true },
+}
+
+/// The policies and the script in the files of these names.
+pub fn read_inputs<R: Files + AllocGlobal>(
+    rt: &R,
+    policy: &str,
+    script: &str,
+) -> Result<Inputs, Failure> {
+    let Ok(policy) = fs::read(rt, policy) else {
+        return Err(Failure::ReadFault);
+    };
+    let Ok(script) = fs::read(rt, script) else {
+        return Err(Failure::ReadFault);
+    };
+    inputs_by(rt.alloc(), &policy, &script)
+}
+
+// Policies and a script by their texts.
+#[tactic(auto, using(crate::proofs::Ready::few_made, crate::proofs::Ready::ready_of))]
+fn inputs_by(alloc: Global, policy: &[u8], script: &[u8]) -> Result<Inputs, Failure> {
+    if policy.len() > MOST_BYTES || script.len() > MOST_BYTES {
+        return Err(Failure::BadInput);
+    }
+    placing_is_opening();
+    let policies = read_policies(alloc, policy)?;
+    let script = read_script(alloc, script, &policies)?;
+    Ok(Inputs { policies, script })
+}
+
+/// The statements of a thread of the first target, or none where it has no such thread.
+pub fn statements_of(script: &Script, thread: usize) -> &[Statement] {
+    let [target, ..] = script.targets.as_slice() else {
+        return &[];
+    };
+    match target.threads.as_slice().get(thread) {
+        Some(statements) => statements.as_slice(),
+        None => &[],
+    }
+}
+
+/// The name that each of these calls begins with. A call of a number or of a handle has none.
+pub fn names_of<'a>(
+    alloc: Global,
+    statements: &'a [Statement],
+) -> Result<Vec<&'a [u16]>, NoMemory> {
+    let mut names = Vec::new(alloc);
+    for statement in statements {
+        if let Some(name) = name_of(statement) {
+            names.push(name)?;
+        }
+    }
+    Ok(names)
+}
+
+fn name_of(statement: &Statement) -> Option<&[u16]> {
+    let Statement::Call { args, .. } = statement else {
+        return None;
+    };
+    match args.as_slice() {
+        [Arg::Str(name), ..] => Some(name.as_units()),
+        _ => None,
+    }
+}

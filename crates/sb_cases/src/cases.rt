@@ -1,0 +1,191 @@
+// A case: the words of a command line, files and an output in memory, and what goes wrong there.
+
+use crate::faults::RowFault;
+use crate::pages::{Ends, Page};
+use crate::shows::{Shown, put_outcome};
+use crate::texts::put_row;
+use sb_items::Copies;
+use sb_outside::{Bytes, FileList, MemFiles, MemSink, Numbers, StoredFile, Text};
+use sb_top::plain_top;
+use std::alloc::Global;
+
+// The output takes so many bytes where no row says otherwise.
+const ROOM: u64 = 2_000_000;
+
+/// What the rows of a case refer to.
+#[derive(Clone, Copy, Debug)]
+pub struct Setting<'a> {
+    /// The files of the case before.
+    pub before: &'a [StoredFile],
+    /// The row that is tried.
+    pub tried: Option<&'a str>,
+}
+
+// A file whose rows are still read.
+#[derive(Debug, Drop)]
+struct Begun {
+    name: String,
+    bytes: Vec<u8>,
+}
+
+/// A case, as far as its rows were taken in.
+#[derive(Debug, Drop)]
+pub struct Case {
+    words: Vec<String>,
+    files: Vec<StoredFile>,
+    begun: Option<Begun>,
+    reads: Vec<u64>,
+    puts: Vec<u64>,
+    room: u64,
+    shown: Shown,
+    counted: Vec<String>,
+}
+
+impl Case {
+    /// A case with nothing in it yet.
+    pub fn new(alloc: Global) -> Case {
+        Case {
+            words: Vec::new(alloc),
+            files: Vec::new(alloc),
+            begun: None,
+            reads: Vec::new(alloc),
+            puts: Vec::new(alloc),
+            room: ROOM,
+            shown: Shown::ALL,
+            counted: Vec::new(alloc),
+        }
+    }
+
+    /// Takes in a row.
+    pub fn take_row(&mut self, alloc: Global, setting: Setting, row: &str) -> Result<(), RowFault> {
+        let (head, rest) = row.split_once(' ').unwrap_or((row, ""));
+        match head {
+            "case" | "try" => Ok(()),
+            "words" => self.take_words(alloc, rest),
+            "word" => self.take_word(alloc, rest),
+            "file" => self.take_file(alloc, rest),
+            "same" => self.take_same(alloc, setting, rest),
+            "|" | "%" => self.take_times(1, row),
+            "*" => self.take_repeated(rest),
+            "$" => self.take_tried(setting),
+            "counts" => Ok(self.counted.push(String::from_str(alloc, rest)?)?),
+            _ => self.take_setting(head, rest),
+        }
+    }
+
+    // Takes in a row on what goes wrong outside, or on what is printed.
+    fn take_setting(&mut self, head: &str, rest: &str) -> Result<(), RowFault> {
+        match head {
+            "fails-read" => self.reads.push(number(rest)?)?,
+            "fails-put" => self.puts.push(number(rest)?)?,
+            "room" => self.room = number(rest)?,
+            "ends" => self.shown.ends = ends(rest)?,
+            "status" => self.shown.status = true,
+            _ => return Err(RowFault::Unknown),
+        }
+        Ok(())
+    }
+
+    fn take_words(&mut self, alloc: Global, rest: &str) -> Result<(), RowFault> {
+        for word in rest.split(' ') {
+            self.take_word(alloc, word)?;
+        }
+        Ok(())
+    }
+
+    fn take_word(&mut self, alloc: Global, word: &str) -> Result<(), RowFault> {
+        self.words.push(String::from_str(alloc, word)?)?;
+        Ok(())
+    }
+
+    fn take_file(&mut self, alloc: Global, name: &str) -> Result<(), RowFault> {
+        self.end_file()?;
+        self.begun = Some(Begun {
+            name: String::from_str(alloc, name)?,
+            bytes: Vec::new(alloc),
+        });
+        Ok(())
+    }
+
+    // Takes over a file of the case before.
+    fn take_same(&mut self, alloc: Global, setting: Setting, name: &str) -> Result<(), RowFault> {
+        self.end_file()?;
+        for file in setting.before {
+            if file.name.as_str() == name {
+                self.files.push(StoredFile {
+                    name: Text::new(String::from_str(alloc, name)?),
+                    content: file.content.copy(alloc)?,
+                })?;
+                return Ok(());
+            }
+        }
+        Err(RowFault::NoSuchFile)
+    }
+
+    fn take_repeated(&mut self, rest: &str) -> Result<(), RowFault> {
+        let Some((times, row)) = rest.split_once(' ') else {
+            return Err(RowFault::Unknown);
+        };
+        self.take_times(number(times)?, row)
+    }
+
+    fn take_tried(&mut self, setting: Setting) -> Result<(), RowFault> {
+        match setting.tried {
+            Some(row) => self.take_times(1, row),
+            None => Err(RowFault::NoTry),
+        }
+    }
+
+    // Appends the bytes of a row so many times.
+    fn take_times(&mut self, times: u64, row: &str) -> Result<(), RowFault> {
+        let Some(begun) = &mut self.begun else {
+            return Err(RowFault::NoFile);
+        };
+        for _ in 0..times {
+            put_row(row, &mut begun.bytes)?;
+        }
+        Ok(())
+    }
+
+    fn end_file(&mut self) -> Result<(), RowFault> {
+        if let Some(Begun { name, bytes }) = self.begun.take() {
+            self.files.push(StoredFile {
+                name: Text::new(name),
+                content: Bytes::new(bytes),
+            })?;
+        }
+        Ok(())
+    }
+
+    /// Runs the case, and puts how it ended and what it wrote. Gives its files back.
+    pub fn show(mut self, alloc: Global, page: &mut Page) -> Result<Vec<StoredFile>, RowFault> {
+        self.end_file()?;
+        let mut files = MemFiles {
+            files: FileList::new(self.files),
+            fails: Numbers::new(self.reads),
+            calls: 0,
+            faults: 0,
+        };
+        let mut out = MemSink::with_room(alloc, self.room, self.puts)?;
+        let outcome = plain_top(alloc, &self.words, &mut files, &mut out).unwrap();
+        put_outcome(alloc, &outcome, files.calls, self.shown, page)?;
+        for end in &self.counted {
+            page.put_count(alloc, out.written(), end.as_str())?;
+        }
+        page.put_quoted(alloc, out.written(), self.shown.ends)?;
+        Ok(files.files.into_items())
+    }
+}
+
+// Two numbers, with a blank between them.
+fn ends(text: &str) -> Result<Ends, RowFault> {
+    let (first, last) = text.split_once(' ').unwrap_or((text, ""));
+    Ok(Ends {
+        first: number(first)?,
+        last: number(last)?,
+    })
+}
+
+fn number(text: &str) -> Result<u64, RowFault> {
+    text.parse().map_err(|_| RowFault::BadNumber)
+}

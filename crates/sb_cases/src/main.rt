@@ -1,0 +1,73 @@
+// Runs worked cases of the top call over files and an output in memory, and prints what came of each. The cases stand in
+// files of rows, which the arguments name. What is printed is compared with the file `stdout` of this crate, which holds what
+// is right: it comes from the rules of the texts and from cases that were worked out, and never from a run.
+//
+// A case is written in one of the files of `data`, and what it must print at the same place of `stdout`:
+//
+//     case NAME                    to the end of the line; `#` and blank lines stand between cases alone
+//     words replay policy script   the words of the command line; `word TEXT` is one word, with its blanks, or empty
+//     file policy                  a file, of the rows below it
+//     | TEXT                       a line as it stands, with a line feed
+//     % TEXT                       bytes without a line feed: `\n` is one, `\\` a backslash, `\xHH` the byte of this number
+//     * N | TEXT                   a row of one of both forms, N times
+//     same policy                  the file of this name of the case before
+//     fails-read N, fails-put N    this read or put fails, from 1; `room N`: the output takes N bytes
+//     try | TEXT                   the case is run once for each such row, with its bytes where the row `$` stands
+//     ends M N                     only the first M and the last N of the lines that were written are printed
+//     counts TEXT                  so many of the lines that were written end with this
+//     status                       the status is printed with all that it says
+//     end
+//
+// It prints the name of the case and, once for each row that is tried: the exit code, the count of reads and what a report
+// counts; what is said on standard error, where the command is not done; and the lines that were written, each behind a bar.
+#![tactic(auto)]
+
+mod cases;
+mod faults;
+mod pages;
+mod rows;
+mod shows;
+mod texts;
+
+use faults::RowFault;
+use pages::Page;
+use rows::Rows;
+use std::alloc::Global;
+use std::io::Write;
+use std::{env, fs, io};
+
+fn main(rt: HostRuntime) -> io::Result<()> {
+    let alloc = rt.alloc();
+    let mut page = Page::new(alloc);
+    for name in env::args(&rt)?.skip(1) {
+        let text = fs::read_to_string(&rt, name.as_str())?;
+        let count = run_text(alloc, text.as_str(), &mut page)?;
+        page.put_line(format!(in alloc; "{name} cases {count}")?.as_str())?;
+    }
+    io::writer(&rt).write_all(page.as_slice())
+}
+
+// Runs the cases of a text, and tells how many there were.
+fn run_text(alloc: Global, text: &str, page: &mut Page) -> io::Result<usize> {
+    let mut rows = Rows::new(alloc);
+    for (at, line) in text.lines().enumerate() {
+        let taken = rows.take_line(alloc, at.saturating_add(1), line, page);
+        put_fault(alloc, taken, rows.line(), page)?;
+    }
+    let ended = rows.end_text(alloc);
+    put_fault(alloc, ended, rows.line(), page)?;
+    Ok(rows.count())
+}
+
+// Puts a fault of the text as a line of its own, so that it is seen where the page is compared.
+fn put_fault(
+    alloc: Global,
+    taken: Result<(), RowFault>,
+    line: usize,
+    page: &mut Page,
+) -> io::Result<()> {
+    if let Err(fault) = taken {
+        page.put_line(format!(in alloc; "FAULT line {line}: {fault}")?.as_str())?;
+    }
+    Ok(())
+}

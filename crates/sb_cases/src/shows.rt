@@ -1,0 +1,68 @@
+// What is printed of how a case ended.
+
+use crate::faults::RowFault;
+use crate::pages::{Ends, Page};
+use sb_book::Report;
+use sb_top::{Complaint, Outcome, Status, exit_code};
+use std::alloc::Global;
+
+/// What is printed besides.
+#[derive(Clone, Copy, Debug)]
+pub struct Shown {
+    /// Whether the status is, with all that it says.
+    pub status: bool,
+    /// Which of the lines that were written are.
+    pub ends: Ends,
+}
+
+impl Shown {
+    /// All that was written.
+    pub const ALL: Shown = Shown {
+        status: false,
+        ends: Ends::ALL,
+    };
+}
+
+/// Puts how a case ended: the exit code, the count of reads and the counts of the report, where there is one, and then the line
+/// that the program would put on standard error.
+pub fn put_outcome(
+    alloc: Global,
+    outcome: &Outcome,
+    reads: u64,
+    shown: Shown,
+    page: &mut Page,
+) -> Result<(), RowFault> {
+    let status = outcome.status;
+    let code = exit_code(status);
+    let counts = counts(alloc, &outcome.report)?;
+    page.put_line(format!(in alloc; "exit {code} reads {reads}{counts}")?.as_str())?;
+    if status != Status::Done {
+        let complaint = Complaint { status };
+        page.put_line(format!(in alloc; "{complaint}")?.as_str())?;
+    }
+    if shown.status {
+        page.put_line(format!(in alloc; "status {status:?}")?.as_str())?;
+    }
+    Ok(())
+}
+
+// How many targets, entries and results a report has.
+fn counts(alloc: Global, report: &Option<Report>) -> Result<String, RowFault> {
+    let Some(report) = report else {
+        return Ok(String::new(alloc));
+    };
+    let targets = report.results.as_slice().len();
+    let entries = report.entries.as_slice().len();
+    let results = result_count(report);
+    Ok(format!(in alloc; " targets {targets} entries {entries} results {results}")?)
+}
+
+fn result_count(report: &Report) -> usize {
+    let mut count = 0_usize;
+    for threads in report.results.as_slice() {
+        for results in threads.as_slice() {
+            count = count.saturating_add(results.as_slice().len());
+        }
+    }
+    count
+}

@@ -1,0 +1,246 @@
+// Rows of files and outputs in memory.
+
+use crate::bytes::{bytes, put_shown, shown};
+use crate::readers_units::{displayed, numbers, put_between};
+use sb_items::Copies;
+use sb_outside::{
+    Bytes, FileFault, FileList, Files, MemFiles, MemSink, Numbers, Sink, SinkFault, StoredFile,
+    Text, put_lines,
+};
+use sb_rows::{RowFault, number, told};
+use std::alloc::Global;
+
+/// What a function of files and outputs gives.
+pub fn value_of(alloc: Global, name: &str, parts: &[&str]) -> Result<String, RowFault> {
+    match (name, parts) {
+        ("MemFiles::read", [files, fails, reads]) => reads_of(alloc, files, fails, reads),
+        ("FileList::find", [files, name]) => found(alloc, files, name),
+        ("FileList::into_items", [files]) => listed(alloc, files),
+        ("StoredFile::eq", [a, b]) => files_equal(alloc, a, b),
+        ("MemSink::put", [room, fails, puts]) => puts_of(alloc, room, fails, puts),
+        ("put_lines", [room, fails, lines]) => lines_put(alloc, room, fails, lines),
+        ("message", [kind, fault]) => message(alloc, kind, fault),
+        _ => list_value(alloc, name, parts),
+    }
+}
+
+fn list_value(alloc: Global, name: &str, parts: &[&str]) -> Result<String, RowFault> {
+    match (name, parts) {
+        ("Bytes::copy", [list]) => bytes_copied(alloc, list),
+        ("Bytes::len", [list]) => bytes_counted(alloc, list),
+        ("Bytes::eq", [a, b]) => bytes_equal(alloc, a, b),
+        ("Bytes::into_items", [list]) => bytes_back(alloc, list),
+        ("Text::eq", [a, b]) => texts_equal(alloc, a, b),
+        ("Text::into_string", [text]) => text_back(alloc, text),
+        ("Numbers::contains", [list, item]) => is_among(alloc, list, item),
+        ("Numbers::into_items", [list]) => numbers_back(alloc, list),
+        _ => Err(RowFault::Unknown),
+    }
+}
+
+fn bytes_copied(alloc: Global, text: &str) -> Result<String, RowFault> {
+    let copy = byte_list(alloc, text)?.copy(alloc)?;
+    shown(alloc, copy.as_slice())
+}
+
+fn bytes_counted(alloc: Global, text: &str) -> Result<String, RowFault> {
+    told(alloc, &byte_list(alloc, text)?.len())
+}
+
+fn bytes_equal(alloc: Global, a: &str, b: &str) -> Result<String, RowFault> {
+    let a = byte_list(alloc, a)?;
+    let b = byte_list(alloc, b)?;
+    told(alloc, &(a == b))
+}
+
+fn bytes_back(alloc: Global, text: &str) -> Result<String, RowFault> {
+    let items = byte_list(alloc, text)?.into_items();
+    shown(alloc, &items)
+}
+
+fn texts_equal(alloc: Global, a: &str, b: &str) -> Result<String, RowFault> {
+    let a = owned(alloc, a)?;
+    let b = owned(alloc, b)?;
+    told(alloc, &(a == b))
+}
+
+fn files_equal(alloc: Global, a: &str, b: &str) -> Result<String, RowFault> {
+    let a = stored_file(alloc, a)?;
+    let b = stored_file(alloc, b)?;
+    told(alloc, &(a == b))
+}
+
+fn text_back(alloc: Global, text: &str) -> Result<String, RowFault> {
+    Ok(owned(alloc, text)?.into_string())
+}
+
+fn is_among(alloc: Global, text: &str, item: &str) -> Result<String, RowFault> {
+    let item = number(item)?;
+    let list = Numbers::new(numbers(alloc, text)?);
+    told(alloc, &list.as_slice().contains(&item))
+}
+
+fn numbers_back(alloc: Global, text: &str) -> Result<String, RowFault> {
+    let list = Numbers::new(numbers(alloc, text)?);
+    told(alloc, &list.into_items())
+}
+
+fn byte_list(alloc: Global, text: &str) -> Result<Bytes, RowFault> {
+    Ok(Bytes::new(bytes(alloc, text)?))
+}
+
+fn owned(alloc: Global, text: &str) -> Result<Text, RowFault> {
+    Ok(Text::new(String::from_str(alloc, text)?))
+}
+
+// A file, as `NAME=CONTENT`.
+fn stored_file(alloc: Global, text: &str) -> Result<StoredFile, RowFault> {
+    let Some((name, content)) = text.split_once('=') else {
+        return Err(RowFault::BadWords);
+    };
+    Ok(StoredFile {
+        name: owned(alloc, name)?,
+        content: byte_list(alloc, content)?,
+    })
+}
+
+// Files, separated by blanks.
+fn file_list(alloc: Global, text: &str) -> Result<FileList, RowFault> {
+    let mut files = Vec::new(alloc);
+    for file in text.split_whitespace() {
+        files.push(stored_file(alloc, file)?)?;
+    }
+    Ok(FileList::new(files))
+}
+
+fn mem_files(alloc: Global, files: &str, fails: &str) -> Result<MemFiles, RowFault> {
+    Ok(MemFiles {
+        files: file_list(alloc, files)?,
+        fails: Numbers::new(numbers(alloc, fails)?),
+        calls: 0,
+        faults: 0,
+    })
+}
+
+fn mem_sink(alloc: Global, room: &str, fails: &str) -> Result<MemSink, RowFault> {
+    let room = number(room)?;
+    let fails = numbers(alloc, fails)?;
+    Ok(MemSink::with_room(alloc, room, fails)?)
+}
+
+// What each read, `NAME MOST`, returns, and then the counts of calls and faults.
+fn reads_of(alloc: Global, files: &str, fails: &str, reads: &str) -> Result<String, RowFault> {
+    let mut files = mem_files(alloc, files, fails)?;
+    let mut out = String::new(alloc);
+    for read in reads.split(';') {
+        put_read(alloc, &mut files, read.trim_ascii(), &mut out)?;
+    }
+    write!(out, "calls {} faults {}", files.calls, files.faults)?;
+    Ok(out)
+}
+
+fn put_read(
+    alloc: Global,
+    files: &mut MemFiles,
+    read: &str,
+    out: &mut String,
+) -> Result<(), RowFault> {
+    let Some((name, most)) = read.split_once(' ') else {
+        return Err(RowFault::BadWords);
+    };
+    let most = number(most)?;
+    put_content(out, files.read(alloc, name, most))
+}
+
+fn put_content(out: &mut String, content: Result<Vec<u8>, FileFault>) -> Result<(), RowFault> {
+    match content {
+        Ok(content) => put_shown(out, &content)?,
+        Err(fault) => write!(out, "{fault:?}")?,
+    }
+    Ok(out.push_str("; ")?)
+}
+
+// The content of the first file of a name.
+fn found(alloc: Global, files: &str, name: &str) -> Result<String, RowFault> {
+    let files = file_list(alloc, files)?;
+    match files
+        .as_slice()
+        .iter()
+        .find(|file| file.name.as_str() == name)
+    {
+        Some(file) => shown(alloc, file.content.as_slice()),
+        None => Ok(String::from_str(alloc, "None")?),
+    }
+}
+
+fn listed(alloc: Global, files: &str) -> Result<String, RowFault> {
+    let files = file_list(alloc, files)?.into_items();
+    let mut out = String::new(alloc);
+    for file in &files {
+        put_file(&mut out, file)?;
+    }
+    Ok(out)
+}
+
+fn put_file(out: &mut String, file: &StoredFile) -> Result<(), RowFault> {
+    put_between(out, "; ")?;
+    out.push_str(file.name.as_str())?;
+    out.push(' ')?;
+    put_shown(out, file.content.as_slice())
+}
+
+// The outcome of each put, and all that was written so far.
+fn puts_of(alloc: Global, room: &str, fails: &str, puts: &str) -> Result<String, RowFault> {
+    let mut sink = mem_sink(alloc, room, fails)?;
+    let mut out = String::new(alloc);
+    for text in puts.split(';') {
+        let put = bytes(alloc, text.trim_ascii())?;
+        put_between(&mut out, "; ")?;
+        put_text(&mut sink, &put, &mut out)?;
+    }
+    Ok(out)
+}
+
+fn put_text(sink: &mut MemSink, text: &[u8], out: &mut String) -> Result<(), RowFault> {
+    put_outcome(out, sink.put(text))?;
+    put_shown(out, sink.written())
+}
+
+fn lines_put(alloc: Global, room: &str, fails: &str, lines: &str) -> Result<String, RowFault> {
+    let lines = lines_of(alloc, lines)?;
+    let mut sink = mem_sink(alloc, room, fails)?;
+    let mut out = String::new(alloc);
+    put_all(&mut sink, &lines, &mut out)?;
+    Ok(out)
+}
+
+fn put_all(sink: &mut MemSink, lines: &[Bytes], out: &mut String) -> Result<(), RowFault> {
+    put_outcome(out, put_lines(sink, lines))?;
+    put_shown(out, sink.written())
+}
+
+fn lines_of(alloc: Global, texts: &str) -> Result<Vec<Bytes>, RowFault> {
+    let mut lines = Vec::new(alloc);
+    for text in texts.split(';') {
+        lines.push(byte_list(alloc, text.trim_ascii())?)?;
+    }
+    Ok(lines)
+}
+
+fn put_outcome(out: &mut String, outcome: Result<(), SinkFault>) -> Result<(), RowFault> {
+    match outcome {
+        Ok(()) => Ok(out.push_str("ok ")?),
+        Err(fault) => Ok(write!(out, "{fault:?} ")?),
+    }
+}
+
+fn message(alloc: Global, kind: &str, fault: &str) -> Result<String, RowFault> {
+    match (kind, fault) {
+        ("FileFault", "Missing") => displayed(alloc, &FileFault::Missing),
+        ("FileFault", "TooLong") => displayed(alloc, &FileFault::TooLong),
+        ("FileFault", "Failed") => displayed(alloc, &FileFault::Failed),
+        ("FileFault", "NoMemory") => displayed(alloc, &FileFault::NoMemory),
+        ("SinkFault", "Failed") => displayed(alloc, &SinkFault::Failed),
+        _ => Err(RowFault::Unknown),
+    }
+}

@@ -1,0 +1,192 @@
+// Readers of calls, their arguments and what is replied to them.
+
+use crate::readers_units::{quoted, small, unquoted, words_in};
+use sb_call::{Answer, Arg, Args, CallTag, Extended, Reply, tag_of_word};
+use sb_rows::{RowFault, number};
+use sb_statements::{CallResult, StmtResult};
+use std::alloc::Global;
+
+/// The call that a word names, as `file.open`.
+pub fn tag(word: &str) -> Result<CallTag, RowFault> {
+    tag_of_word(word.as_bytes()).ok_or(RowFault::BadWords)
+}
+
+/// An argument: a number, or a string between quotes.
+pub fn arg(alloc: Global, word: &str) -> Result<Arg, RowFault> {
+    match unquoted(word) {
+        Some(_) => Ok(Arg::Str(quoted(alloc, word)?)),
+        None => Ok(Arg::Num(number(word)?)),
+    }
+}
+
+/// Arguments, a word each.
+pub fn args(alloc: Global, words: &[&str]) -> Result<Args, RowFault> {
+    let mut found = Args::new(Vec::new(alloc));
+    for word in words {
+        found.push(arg(alloc, word)?)?;
+    }
+    Ok(found)
+}
+
+/// Arguments, separated by blanks.
+pub fn args_in(alloc: Global, text: &str) -> Result<Args, RowFault> {
+    args(alloc, words_in(alloc, text)?.as_slice())
+}
+
+/// A call as scripts write it: its word and its arguments, separated by blanks. The arguments need not fit the call.
+pub fn call(alloc: Global, text: &str) -> Result<(CallTag, Args), RowFault> {
+    call_of(alloc, words_in(alloc, text)?.as_slice())
+}
+
+fn call_of(alloc: Global, words: &[&str]) -> Result<(CallTag, Args), RowFault> {
+    let [name, rest @ ..] = words else {
+        return Err(RowFault::BadWords);
+    };
+    let tag = tag(name)?;
+    Ok((tag, args(alloc, rest)?))
+}
+
+/// A status: hexadecimal digits.
+fn status(text: &str) -> Result<u64, RowFault> {
+    u64::from_str_radix(text, 16).map_err(|_| RowFault::BadNumber)
+}
+
+/// A status of 32 bits.
+pub fn small_status(text: &str) -> Result<u32, RowFault> {
+    u32::from_str_radix(text, 16).map_err(|_| RowFault::BadNumber)
+}
+
+/// Extended words, as `[3,2,5]`.
+pub fn extended(text: &str) -> Result<Extended, RowFault> {
+    let mut found = Extended::none();
+    let Some(list) = text
+        .strip_prefix('[')
+        .and_then(|rest| rest.strip_suffix(']'))
+    else {
+        return Err(RowFault::BadWords);
+    };
+    for word in list.split(',') {
+        if found.len() >= 7 {
+            return Err(RowFault::TooMany);
+        }
+        if !word.is_empty() {
+            found.push(number(word)?);
+        }
+    }
+    Ok(found)
+}
+
+/// An answer: status, handle and extended words, as `c0000035 0 []`.
+pub fn answer(alloc: Global, text: &str) -> Result<Answer, RowFault> {
+    answer_of(words_in(alloc, text)?.as_slice())
+}
+
+fn answer_of(words: &[&str]) -> Result<Answer, RowFault> {
+    let [status, handle, list] = words else {
+        return Err(RowFault::BadWords);
+    };
+    let (status, handle) = (small_status(status)?, number(handle)?);
+    let ext = extended(list)?;
+    Ok(Answer {
+        status,
+        handle,
+        ext,
+    })
+}
+
+/// A reply: mark, outcome, status, handle and extended words.
+pub fn reply(alloc: Global, text: &str) -> Result<Reply, RowFault> {
+    reply_of(words_in(alloc, text)?.as_slice())
+}
+
+fn reply_of(words: &[&str]) -> Result<Reply, RowFault> {
+    let [mark, outcome, rest @ ..] = words else {
+        return Err(RowFault::BadWords);
+    };
+    replied(number(mark)?, number(outcome)?, rest)
+}
+
+// A reply with this mark and outcome, and a status of 64 bits.
+fn replied(mark: u64, outcome: u64, words: &[&str]) -> Result<Reply, RowFault> {
+    let [code, handle, list] = words else {
+        return Err(RowFault::BadWords);
+    };
+    let (status, handle) = (status(code)?, number(handle)?);
+    let ext = extended(list)?;
+    Ok(Reply {
+        mark,
+        outcome,
+        status,
+        handle,
+        ext,
+    })
+}
+
+/// What became of a statement.
+pub fn result(alloc: Global, text: &str) -> Result<StmtResult, RowFault> {
+    result_of(words_in(alloc, text)?.as_slice())
+}
+
+fn result_of(words: &[&str]) -> Result<StmtResult, RowFault> {
+    let [name, rest @ ..] = words else {
+        return Err(RowFault::BadWords);
+    };
+    match (*name, rest) {
+        ("stored", []) => Ok(StmtResult::Stored),
+        ("found", [value]) => found(value),
+        ("met", [loads]) => met(loads),
+        ("unmet", [loads]) => unmet(loads),
+        _ => called(words),
+    }
+}
+
+fn found(value: &str) -> Result<StmtResult, RowFault> {
+    Ok(StmtResult::Found(number(value)?))
+}
+
+fn called(words: &[&str]) -> Result<StmtResult, RowFault> {
+    Ok(StmtResult::Call(call_result(words)?))
+}
+
+fn met(loads: &str) -> Result<StmtResult, RowFault> {
+    let loads = small(loads)?;
+    Ok(StmtResult::Met { loads })
+}
+
+fn unmet(loads: &str) -> Result<StmtResult, RowFault> {
+    let loads = small(loads)?;
+    Ok(StmtResult::Unmet { loads })
+}
+
+fn call_result(words: &[&str]) -> Result<CallResult, RowFault> {
+    match words {
+        ["no-channel"] => Ok(CallResult::NoChannel),
+        [name, channel, rest @ ..] => on_channel(name, small(channel)?, rest),
+        _ => Err(RowFault::BadWords),
+    }
+}
+
+fn on_channel(name: &str, channel: u32, words: &[&str]) -> Result<CallResult, RowFault> {
+    match (name, words) {
+        ("reply", words) => replied_on(channel, words),
+        ("send-lost", [found]) => send_lost(channel, found),
+        ("foreign", [mark]) => foreign(channel, mark),
+        ("timed-out", []) => Ok(CallResult::TimedOut { channel }),
+        _ => Err(RowFault::BadWords),
+    }
+}
+
+fn replied_on(channel: u32, words: &[&str]) -> Result<CallResult, RowFault> {
+    let reply = reply_of(words)?;
+    Ok(CallResult::Reply { channel, reply })
+}
+
+fn send_lost(channel: u32, found: &str) -> Result<CallResult, RowFault> {
+    let found = number(found)?;
+    Ok(CallResult::SendLost { channel, found })
+}
+
+fn foreign(channel: u32, mark: &str) -> Result<CallResult, RowFault> {
+    let mark = number(mark)?;
+    Ok(CallResult::Foreign { channel, mark })
+}

@@ -1,0 +1,364 @@
+// Rows of decisions: a row `book` begins a book, and each copy is answered after those of the rows before.
+ghost use Rattle.std.specs.Prelude.{◌≡◌, ◌<◌, ◌≤◌, true, length, slice_index, is_ok, IfOk, IsTrue};
+ghost use Rattle.std.specs.List.{list_all};
+ghost use Rattle.sb_book.specs.Histories.{setting_of};
+ghost use Rattle.sb_book.specs.Readiness.{is_judged, is_ready};
+ghost use Rattle.sb_kernel.specs.Openings.{is_named, opened};
+
+use crate::namespace::{are_named, put_line};
+use crate::readers_namespace::{Called, blanks, call, plain, short_number, tag, told_line};
+use sb_block::{Taken, Words, encode};
+use sb_book::{Book, decide};
+use sb_call::{ShortName, fits};
+use sb_items::Copies;
+use sb_kernel::{Kernel, StartRefused};
+use sb_rows::{RowFault, number};
+use sb_rule::{
+    Action, Conds, PlainJudge, Policies, Policy, PolicyList, Rule, Rules, all_well_made,
+};
+use sb_statements::{Script, StartLine, StartLines, TargetScript, Targets, Threads, sound};
+use sb_transcript::entry_line;
+use sb_wide::NoMemory;
+use std::alloc::Global;
+
+/// The book that answers copies: one, or none.
+#[derive(Drop)]
+pub struct Decisions {
+    answering: Vec<Answering>,
+}
+
+// A book with the judge of its one target, which has one channel.
+#[derive(Drop)]
+struct Answering {
+    judge: PlainJudge,
+    script: Script,
+    book: Book,
+    ghost judged: { book.setting.policies ≡ judge.targets },
+    ghost target: { 0 < length judge.targets },
+    ghost channel: { 0 < slice_index book.setting.channels 0 },
+}
+
+impl Decisions {
+    /// There is no book.
+    pub fn new(alloc: Global) -> Decisions {
+        Decisions {
+            answering: Vec::new(alloc),
+        }
+    }
+}
+
+/// What a function of decisions gives.
+pub fn value_of(
+    alloc: Global,
+    decisions: &mut Decisions,
+    name: &str,
+    parts: &[&str],
+) -> Result<String, RowFault> {
+    match (name, parts) {
+        ("book", parts) => begin(alloc, decisions, parts),
+        ("answer", [mark, text]) => answer_whole(alloc, decisions, mark, text),
+        ("answer_seen", [mark, text, count, end, place, word]) => {
+            let words = changed_block(alloc, (mark, text), (place, word))?;
+            answer_seen(alloc, decisions, (count, end), words)
+        }
+        _ => Err(RowFault::Unknown),
+    }
+}
+
+// Begins a book, and tells whether there is one now.
+fn begin(alloc: Global, decisions: &mut Decisions, parts: &[&str]) -> Result<String, RowFault> {
+    decisions.answering.clear();
+    match begun(alloc, parts)? {
+        Some(answering) => keep(alloc, decisions, answering),
+        None => plain(alloc, "not ready"),
+    }
+}
+
+fn keep(
+    alloc: Global,
+    decisions: &mut Decisions,
+    answering: Answering,
+) -> Result<String, RowFault> {
+    decisions.answering.push(answering)?;
+    plain(alloc, "ready")
+}
+
+fn answer_whole(
+    alloc: Global,
+    decisions: &mut Decisions,
+    mark: &str,
+    text: &str,
+) -> Result<String, RowFault> {
+    let words = block(alloc, mark, text)?;
+    answer(alloc, decisions, whole_copy(words))
+}
+
+// Answers the copy of these words for which this count and this end were seen.
+fn answer_seen(
+    alloc: Global,
+    decisions: &mut Decisions,
+    seen: (&str, &str),
+    words: Words,
+) -> Result<String, RowFault> {
+    let (count, end) = (number(seen.0)?, number(seen.1)?);
+    answer(alloc, decisions, copy_seen(count, end, words))
+}
+
+// The copy of a block that is not changed while it is copied.
+fn whole_copy(words: Words) -> Option<Taken> {
+    let (count, end) = (word_at(&words, 2), words.len() as u64);
+    Taken::of(count, end, words)
+}
+
+// The block of a call with a mark, and with another value at a place.
+fn changed_block(
+    alloc: Global,
+    call: (&str, &str),
+    change: (&str, &str),
+) -> Result<Words, RowFault> {
+    let (place, word) = (number(change.0)?, number(change.1)?);
+    let words = block(alloc, call.0, call.1)?;
+    Ok(changed(&words, place, word))
+}
+
+// The block of a call with a mark.
+fn block(alloc: Global, mark: &str, text: &str) -> Result<Words, RowFault> {
+    let mark = number(mark)?;
+    let Called { tag, args } = call(alloc, text)?;
+    if !fits(tag, &args) {
+        return Err(RowFault::NotInRange);
+    }
+    encode(tag, &args, mark).map_err(|_| RowFault::TooMany)
+}
+
+fn word_at(words: &Words, place: usize) -> u64 {
+    match words.as_slice().get(place) {
+        Some(word) => *word,
+        None => 0,
+    }
+}
+
+// The words with another value at a place.
+fn changed(words: &Words, place: u64, word: u64) -> Words {
+    let mut items = words.copy().into_items();
+    if let Some(item) = items.as_mut_slice().get_mut(place as usize) {
+        *item = word;
+    }
+    Words::new(items)
+}
+
+// The copy for which this count and this end were seen. Where one of them ends the copying, the copy has no words.
+fn copy_seen(count: u64, end: u64, words: Words) -> Option<Taken> {
+    if count > 9 || end < 16 + count {
+        return Taken::of(count, end, Words::empty());
+    }
+    Taken::of(count, end, words)
+}
+
+// The line of the entry by which a copy is answered.
+fn answer(
+    alloc: Global,
+    decisions: &mut Decisions,
+    taken: Option<Taken>,
+) -> Result<String, RowFault> {
+    let (Some(answering), Some(taken)) = (decisions.answering.last_mut(), taken) else {
+        return Err(RowFault::NotInRange);
+    };
+    answering.answer(alloc, &taken)?;
+    answering.told_last(alloc)
+}
+
+impl Answering {
+    // The book of one policy and of a script with one target, where the script is ready for the policy.
+    fn new(
+        alloc: Global,
+        policies: &Policies,
+        script: Script,
+    ) -> Result<Option<Answering>, NoMemory> {
+        if !is_for_one(policies, &script) || !are_ready(alloc, policies, &script)? {
+            return Ok(None);
+        }
+        let Some(judge) = PlainJudge::new(policies.list.copy(alloc)?) else {
+            return Ok(None);
+        };
+        let book = Book::new(alloc, policies, &script)?;
+        Ok(Some(Answering {
+            judge,
+            script,
+            book,
+        }))
+    }
+
+    fn answer(&mut self, alloc: Global, taken: &Taken) -> Result<(), NoMemory> {
+        let decision = decide(alloc, &self.judge, 0, taken)?;
+        self.book.answer(0, 0, taken, decision)?;
+        Ok(())
+    }
+
+    // The line of the last entry.
+    fn told_last(&self, alloc: Global) -> Result<String, RowFault> {
+        let entries = self.book.entries();
+        let [before @ .., last] = entries else {
+            return Err(RowFault::NotInRange);
+        };
+        let line = entry_line(alloc, &self.script, before.len() as u64, last)?;
+        told_line(alloc, &line)
+    }
+}
+
+// Whether there is one policy and one target, which has that policy and a channel.
+fn is_for_one(policies: &Policies, script: &Script) -> bool
+    ensures target { IsTrue result → 0 < length policies.now.list }
+    ensures policy { IsTrue result → (setting_of policies.now.list script.now).policies ≡ policies.now.list }
+    ensures channel { IsTrue result → 0 < slice_index (setting_of policies.now.list script.now).channels 0 }
+{
+    match (policies.list.as_slice(), script.targets.as_slice()) {
+        ([_], [target]) => target.policy == 0 && target.channels > 0,
+        _ => false,
+    }
+}
+
+// A book with these rules and objects of the opening. None where its script is not ready.
+fn begun(alloc: Global, parts: &[&str]) -> Result<Option<Answering>, RowFault> {
+    let mut opening = Opening {
+        rules: Vec::new(alloc),
+        lines: Vec::new(alloc),
+    };
+    for part in parts {
+        put_part(alloc, part, &mut opening)?;
+    }
+    begun_with(alloc, opening)
+}
+
+// What a book begins with.
+#[derive(Drop)]
+struct Opening {
+    rules: Vec<Rule>,
+    lines: Vec<StartLine>,
+}
+
+fn put_part(alloc: Global, part: &str, opening: &mut Opening) -> Result<(), RowFault> {
+    match rule(alloc, part)? {
+        Some(rule) => Ok(opening.rules.push(rule)?),
+        None => put_line(alloc, part, &mut opening.lines),
+    }
+}
+
+fn begun_with(alloc: Global, opening: Opening) -> Result<Option<Answering>, RowFault> {
+    let Opening { rules, lines } = opening;
+    let script = script_of(alloc, &["tab"], lines)?;
+    let policies = policies_of(alloc, rules)?;
+    Ok(Answering::new(alloc, &policies, script)?)
+}
+
+// A rule without conditions: its action, its call and its line. None where the text does not begin with an action.
+fn rule(alloc: Global, text: &str) -> Result<Option<Rule>, RowFault> {
+    let words = blanks(alloc, text)?;
+    let [word, name, line] = words.as_slice() else {
+        return Ok(None);
+    };
+    let Some(action) = action(word) else {
+        return Ok(None);
+    };
+    Ok(Some(plain_rule(alloc, action, name, line)?))
+}
+
+fn plain_rule(alloc: Global, action: Action, name: &str, line: &str) -> Result<Rule, RowFault> {
+    let (tag, line) = (tag(name)?, short_number(line)?);
+    Ok(Rule {
+        tag,
+        conds: Conds::none(alloc),
+        action,
+        line,
+    })
+}
+
+/// The action of a word, as `allow`.
+pub fn action(word: &str) -> Option<Action> {
+    Some(match word {
+        "allow" => Action::Allow,
+        "deny" => Action::Deny,
+        "alarm" => Action::Alarm,
+        "fake" => Action::Fake,
+        "readonly" => Action::ReadOnly,
+        _ => return None,
+    })
+}
+
+// One policy of these rules.
+fn policies_of(alloc: Global, rules: Vec<Rule>) -> Result<Policies, RowFault> {
+    let Some(name) = ShortName::new(b"web") else {
+        return Err(RowFault::BadWords);
+    };
+    let rules = Rules::new(rules);
+    let list = vec![in alloc; Policy { name, rules }]?;
+    Ok(Policies {
+        list: PolicyList::new(list),
+    })
+}
+
+/// A script of targets with these names, each with one channel and no thread, and these objects at the start.
+pub fn script_of(alloc: Global, names: &[&str], lines: Vec<StartLine>) -> Result<Script, RowFault> {
+    let targets = targets_of(alloc, names)?;
+    Ok(Script {
+        patience: 1000,
+        start: StartLines::new(lines),
+        targets,
+    })
+}
+
+fn targets_of(alloc: Global, names: &[&str]) -> Result<Targets, RowFault> {
+    let mut targets = Targets::none(alloc);
+    for name in names {
+        targets.push(target_of(alloc, name)?)?;
+    }
+    Ok(targets)
+}
+
+fn target_of(alloc: Global, name: &str) -> Result<TargetScript, RowFault> {
+    let name = ShortName::new(name.as_bytes()).ok_or(RowFault::BadWords)?;
+    Ok(TargetScript {
+        name,
+        policy: 0,
+        channels: 1,
+        threads: Threads::none(alloc),
+    })
+}
+
+// Whether each target names one of so many policies.
+fn are_judged(targets: &[TargetScript], count: usize) -> bool
+    ensures { result ≡ list_all (is_judged count) targets.now }
+{
+    targets
+        .iter()
+        .all(|target| (target.policy as usize) < count)
+}
+
+// Whether all objects can be placed in turn.
+fn are_placed(alloc: Global, start: &[StartLine]) -> Result<bool, NoMemory>
+    requires few { length start.now ≤ 4096 }
+    requires names { list_all is_named start.now ≡ true }
+    ensures { IfOk result (λ placed. placed ≡ is_ok (opened start.now)) }
+{
+    match Kernel::start(alloc, start) {
+        Ok(_) => Ok(true),
+        Err(StartRefused::BadStart { .. }) => Ok(false),
+        Err(StartRefused::NoMemory) => Err(NoMemory),
+    }
+}
+
+// Whether a script is ready for policies.
+fn are_ready(alloc: Global, policies: &Policies, script: &Script) -> Result<bool, NoMemory>
+    ensures { IfOk result (λ ready. IsTrue ready → is_ready policies.now.list script.now ≡ true) }
+{
+    let start = script.start.as_slice();
+    if !sound(script)
+        || !all_well_made(policies)
+        || !are_judged(script.targets.as_slice(), policies.list.len())
+        || start.len() > 4096
+        || !are_named(start)
+    {
+        return Ok(false);
+    }
+    are_placed(alloc, start)
+}

@@ -1,0 +1,239 @@
+// Rows of handles: who holds which, and which accesses share an object. Each row continues from the one before.
+
+use crate::readers_namespace::{blanks, plain, refusal, short_number};
+use sb_handles::{HandleTable, Held, Object, Service, ShareTable};
+use sb_rows::{RowFault, number, told};
+use std::alloc::Global;
+
+/// The tables that rows change.
+#[derive(Drop)]
+pub struct Tables {
+    handles: HandleTable,
+    shares: ShareTable,
+}
+
+impl Tables {
+    /// Nothing was granted, and nothing is open.
+    pub fn new(alloc: Global) -> Tables {
+        Tables {
+            handles: HandleTable::new(alloc),
+            shares: ShareTable::new(alloc),
+        }
+    }
+}
+
+/// What a function of handles and shares gives.
+pub fn value_of(
+    alloc: Global,
+    tables: &mut Tables,
+    name: &str,
+    parts: &[&str],
+) -> Result<String, RowFault> {
+    match (name, parts) {
+        ("handles", [""]) => {
+            tables.handles = HandleTable::new(alloc);
+            plain(alloc, "empty")
+        }
+        ("shares", [""]) => {
+            tables.shares = ShareTable::new(alloc);
+            plain(alloc, "empty")
+        }
+        ("conflicts", [held, new]) => conflicts(alloc, held, new),
+        _ => table_value(alloc, tables, name, parts),
+    }
+}
+
+fn table_value(
+    alloc: Global,
+    tables: &mut Tables,
+    name: &str,
+    parts: &[&str],
+) -> Result<String, RowFault> {
+    match handle_value(alloc, &mut tables.handles, name, parts) {
+        Err(RowFault::Unknown) => share_value(alloc, &mut tables.shares, name, parts),
+        value => value,
+    }
+}
+
+// What a call on the handles gives.
+fn handle_value(
+    alloc: Global,
+    handles: &mut HandleTable,
+    name: &str,
+    parts: &[&str],
+) -> Result<String, RowFault> {
+    match (name, parts) {
+        ("handles.grant", [target, on]) => grant(alloc, handles, target, on),
+        ("handles.lookup", [target, handle]) => lookup(alloc, handles, target, handle),
+        ("handles.close", [target, handle]) => close(alloc, handles, target, handle),
+        ("handles.granted", [""]) => told(alloc, &handles.granted()),
+        _ => Err(RowFault::Unknown),
+    }
+}
+
+fn grant(
+    alloc: Global,
+    handles: &mut HandleTable,
+    target: &str,
+    on: &str,
+) -> Result<String, RowFault> {
+    let target = short_number(target)?;
+    let held = held(alloc, on)?;
+    told_granted(alloc, handles, target, held)
+}
+
+fn told_granted(
+    alloc: Global,
+    handles: &mut HandleTable,
+    target: u32,
+    held: Held,
+) -> Result<String, RowFault> {
+    let _granted = handles.granted();
+    let handle = handles.grant(target, held)?;
+    told(alloc, &handle)
+}
+
+fn lookup(
+    alloc: Global,
+    handles: &HandleTable,
+    target: &str,
+    handle: &str,
+) -> Result<String, RowFault> {
+    let (target, handle) = (short_number(target)?, number(handle)?);
+    told_held(alloc, handles.lookup(target, handle))
+}
+
+fn close(
+    alloc: Global,
+    handles: &mut HandleTable,
+    target: &str,
+    handle: &str,
+) -> Result<String, RowFault> {
+    let (target, handle) = (short_number(target)?, number(handle)?);
+    match handles.close(target, handle) {
+        Ok(held) => told_held(alloc, Some(held)),
+        Err(fault) => refusal(alloc, fault),
+    }
+}
+
+// What a handle stands for: a service, the number of its object, the access and the sharing.
+fn held(alloc: Global, text: &str) -> Result<Held, RowFault> {
+    held_of(blanks(alloc, text)?.as_slice())
+}
+
+fn held_of(words: &[&str]) -> Result<Held, RowFault> {
+    let [service, number, access, sharing] = words else {
+        return Err(RowFault::BadWords);
+    };
+    let object = object_of(service, number)?;
+    let (access, sharing) = (self::number(access)?, self::number(sharing)?);
+    Ok(Held {
+        object,
+        access,
+        sharing,
+    })
+}
+
+fn object_of(service: &str, object: &str) -> Result<Object, RowFault> {
+    Ok(Object {
+        service: service_of(service)?,
+        number: number(object)?,
+    })
+}
+
+fn service_of(word: &str) -> Result<Service, RowFault> {
+    Ok(match word {
+        "file" => Service::File,
+        "pipe" => Service::Pipe,
+        "key" => Service::Key,
+        "event" => Service::Event,
+        _ => return Err(RowFault::BadWords),
+    })
+}
+
+fn service_word(service: Service) -> &'static str {
+    match service {
+        Service::File => "file",
+        Service::Pipe => "pipe",
+        Service::Key => "key",
+        Service::Event => "event",
+    }
+}
+
+/// What a handle stands for, in the form in which rows give it.
+pub fn told_held(alloc: Global, held: Option<Held>) -> Result<String, RowFault> {
+    let Some(held) = held else {
+        return plain(alloc, "none");
+    };
+    let service = service_word(held.object.service);
+    let number = held.object.number;
+    let access = held.access;
+    let sharing = held.sharing;
+    Ok(format!(in alloc; "{service} {number} {access:#x} {sharing}")?)
+}
+
+// What a call on the shares gives.
+fn share_value(
+    alloc: Global,
+    shares: &mut ShareTable,
+    name: &str,
+    parts: &[&str],
+) -> Result<String, RowFault> {
+    match (name, parts) {
+        ("shares.try_open", [object, handle, access, sharing]) => {
+            let asked = numbers_of(access, sharing)?;
+            try_open(alloc, shares, (object, handle), asked)
+        }
+        ("shares.check", [object, access, sharing]) => {
+            let asked = numbers_of(access, sharing)?;
+            told(alloc, &shares.check(number(object)?, asked.0, asked.1))
+        }
+        ("shares.leave", [handle]) => leave(alloc, shares, handle),
+        _ => Err(RowFault::Unknown),
+    }
+}
+
+// Two numbers, as an access and a sharing.
+fn numbers_of(first: &str, second: &str) -> Result<(u64, u64), RowFault> {
+    Ok((number(first)?, number(second)?))
+}
+
+fn try_open(
+    alloc: Global,
+    shares: &mut ShareTable,
+    place: (&str, &str),
+    asked: (u64, u64),
+) -> Result<String, RowFault> {
+    let (object, handle) = numbers_of(place.0, place.1)?;
+    match shares.try_open(object, handle, asked.0, asked.1) {
+        Ok(()) => plain(alloc, "done"),
+        Err(refused) => refusal(alloc, refused),
+    }
+}
+
+fn leave(alloc: Global, shares: &mut ShareTable, handle: &str) -> Result<String, RowFault> {
+    shares.leave(number(handle)?);
+    plain(alloc, "done")
+}
+
+// Whether a new access with its sharing conflicts with an open handle of this access and sharing.
+fn conflicts(alloc: Global, held: &str, new: &str) -> Result<String, RowFault> {
+    let held = access_and_sharing(alloc, held)?;
+    let new = access_and_sharing(alloc, new)?;
+    are_in_conflict(alloc, held, new)
+}
+
+fn are_in_conflict(alloc: Global, held: (u64, u64), new: (u64, u64)) -> Result<String, RowFault> {
+    let mut shares = ShareTable::new(alloc);
+    match shares.try_open(1, 5, held.0, held.1) {
+        Ok(()) => told(alloc, &shares.check(1, new.0, new.1).is_some()),
+        Err(refused) => refusal(alloc, refused),
+    }
+}
+
+fn access_and_sharing(alloc: Global, text: &str) -> Result<(u64, u64), RowFault> {
+    match blanks(alloc, text)?.as_slice() {
+        [access, sharing] => numbers_of(access, sharing),
+        _ => Err(RowFault::BadWords),
+    }
+}

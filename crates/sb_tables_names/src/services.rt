@@ -1,0 +1,359 @@
+// Rows of the services by themselves: how many objects each made, and what its handles stand for, which no answer of the
+// namespace shows. Each row continues from the one before.
+ghost use Rattle.sb_file.specs.Files as files;
+ghost use Rattle.sb_pipe.specs.Pipes as pipes;
+
+use crate::handles::told_held;
+use crate::namespace::start_lines;
+use crate::readers_namespace::{Called, call, plain, short_number, told_answer};
+use sb_call::{Answer, Arg, CallTag};
+use sb_event::EventService;
+use sb_file::FileService;
+use sb_handles::HandleTable;
+use sb_key::KeyService;
+use sb_pipe::PipeService;
+use sb_rows::{RowFault, number, told};
+use sb_statements::StartLine;
+use sb_wide::is_name;
+use std::alloc::Global;
+
+// No rows make so many objects.
+const MANY: u64 = 1 << 32;
+
+/// The services that rows change, each with handles of its own.
+#[derive(Drop)]
+pub struct Services {
+    files: Files,
+    pipes: Pipes,
+    keys: Keys,
+    events: Events,
+}
+
+#[derive(Drop)]
+struct Files {
+    service: FileService,
+    handles: HandleTable,
+    ghost agree: { files.Agrees service handles },
+}
+
+#[derive(Drop)]
+struct Pipes {
+    service: PipeService,
+    handles: HandleTable,
+    ghost agree: { pipes.Agrees service handles },
+}
+
+#[derive(Drop)]
+struct Keys {
+    service: KeyService,
+    handles: HandleTable,
+}
+
+#[derive(Drop)]
+struct Events {
+    service: EventService,
+    handles: HandleTable,
+}
+
+impl Services {
+    /// Nothing was made.
+    pub fn new(alloc: Global) -> Services {
+        Services {
+            files: Files {
+                service: FileService::new(alloc),
+                handles: HandleTable::new(alloc),
+            },
+            pipes: Pipes {
+                service: PipeService::new(alloc),
+                handles: HandleTable::new(alloc),
+            },
+            keys: Keys {
+                service: KeyService::new(alloc),
+                handles: HandleTable::new(alloc),
+            },
+            events: Events {
+                service: EventService::new(alloc),
+                handles: HandleTable::new(alloc),
+            },
+        }
+    }
+}
+
+/// What a function of the services gives.
+pub fn value_of(
+    alloc: Global,
+    services: &mut Services,
+    name: &str,
+    parts: &[&str],
+) -> Result<String, RowFault> {
+    match (name, parts) {
+        ("services", [""]) => emptied(alloc, services),
+        ("service.start", lines) => started(alloc, services, lines),
+        ("service.perform", [target, text]) => performed(alloc, services, target, text),
+        ("service.made", [service]) => told_made(alloc, services, service),
+        ("service.held", [service, target, handle]) => {
+            told_handle(alloc, handles(services, service)?, target, handle)
+        }
+        _ => Err(RowFault::Unknown),
+    }
+}
+
+fn emptied(alloc: Global, services: &mut Services) -> Result<String, RowFault> {
+    *services = Services::new(alloc);
+    plain(alloc, "empty")
+}
+
+fn started(alloc: Global, services: &mut Services, lines: &[&str]) -> Result<String, RowFault> {
+    let lines = start_lines(alloc, lines)?;
+    start(alloc, services, &lines)
+}
+
+fn performed(
+    alloc: Global,
+    services: &mut Services,
+    target: &str,
+    text: &str,
+) -> Result<String, RowFault> {
+    let target = short_number(target)?;
+    let called = call(alloc, text)?;
+    answered(alloc, services, target, &called)
+}
+
+fn answered(
+    alloc: Global,
+    services: &mut Services,
+    target: u32,
+    called: &Called,
+) -> Result<String, RowFault> {
+    match perform(services, target, called.tag, &called.args) {
+        Ok(answer) => told_answer(alloc, &answer),
+        Err(fault) => Err(fault),
+    }
+}
+
+fn told_made(alloc: Global, services: &Services, service: &str) -> Result<String, RowFault> {
+    told(alloc, &made(services, service)?)
+}
+
+fn told_handle(
+    alloc: Global,
+    handles: &HandleTable,
+    target: &str,
+    handle: &str,
+) -> Result<String, RowFault> {
+    let (target, handle) = (short_number(target)?, number(handle)?);
+    told_held(alloc, handles.lookup(target, handle))
+}
+
+fn made(services: &Services, service: &str) -> Result<u64, RowFault> {
+    Ok(match service {
+        "file" => services.files.service.made(),
+        "pipe" => services.pipes.service.made(),
+        "key" => services.keys.service.made(),
+        "event" => services.events.service.made(),
+        _ => return Err(RowFault::BadWords),
+    })
+}
+
+fn handles<'a>(services: &'a Services, service: &str) -> Result<&'a HandleTable, RowFault> {
+    Ok(match service {
+        "file" => &services.files.handles,
+        "pipe" => &services.pipes.handles,
+        "key" => &services.keys.handles,
+        "event" => &services.events.handles,
+        _ => return Err(RowFault::BadWords),
+    })
+}
+
+// Which of these objects of the opening were placed.
+fn start(alloc: Global, services: &mut Services, lines: &[StartLine]) -> Result<String, RowFault> {
+    let mut placed = Vec::new(alloc);
+    for line in lines {
+        placed.push(place(services, line)?)?;
+    }
+    told(alloc, &placed)
+}
+
+fn place(services: &mut Services, line: &StartLine) -> Result<bool, RowFault> {
+    match line {
+        StartLine::Dir { name } => services.files.place(name.as_units(), true, 0),
+        StartLine::File { name, attributes } => {
+            services.files.place(name.as_units(), false, *attributes)
+        }
+        StartLine::Key { name } => services.keys.place(name.as_units()),
+        StartLine::Event {
+            name,
+            kind,
+            initial,
+        } => services.events.place(name.as_units(), *kind, *initial),
+    }
+}
+
+fn perform(
+    services: &mut Services,
+    target: u32,
+    tag: CallTag,
+    args: &[Arg],
+) -> Result<Answer, RowFault> {
+    match tag {
+        CallTag::FileCreate => services.files.create(target, args),
+        CallTag::PipeCreate => services.pipes.create(target, args),
+        CallTag::KeyCreate | CallTag::KeyOpen => services.keys.perform(target, tag, args),
+        CallTag::EventCreate | CallTag::EventOpen => services.events.perform(target, tag, args),
+        _ => Err(RowFault::Unknown),
+    }
+}
+
+impl Files {
+    fn place(&mut self, name: &[u16], dir: bool, attributes: u64) -> Result<bool, RowFault> {
+        if !is_name(name) || self.service.made() > MANY {
+            return Err(RowFault::NotInRange);
+        }
+        Ok(self.service.start(name, dir, attributes)?)
+    }
+
+    fn create(&mut self, target: u32, args: &[Arg]) -> Result<Answer, RowFault> {
+        let [
+            Arg::Str(name),
+            Arg::Num(attributes),
+            Arg::Num(access),
+            Arg::Num(sharing),
+            Arg::Num(disposition),
+            Arg::Num(options),
+        ] = args
+        else {
+            return Err(RowFault::NotInRange);
+        };
+        if !is_name(name.as_units()) || self.service.made() > MANY {
+            return Err(RowFault::NotInRange);
+        }
+        let _granted = self.handles.granted();
+        Ok(
+            self.service.create(
+                &mut self.handles,
+                target,
+                name.as_units(),
+                *attributes,
+                *access,
+                *sharing,
+                *disposition,
+                *options,
+            )?,
+        )
+    }
+}
+
+impl Pipes {
+    fn create(&mut self, target: u32, args: &[Arg]) -> Result<Answer, RowFault> {
+        let [
+            Arg::Str(name),
+            Arg::Num(mode),
+            Arg::Num(form),
+            Arg::Num(instances),
+        ] = args
+        else {
+            return Err(RowFault::NotInRange);
+        };
+        if !is_name(name.as_units()) || self.service.made() > MANY {
+            return Err(RowFault::NotInRange);
+        }
+        let _granted = self.handles.granted();
+        let handles = &mut self.handles;
+        Ok(
+            self.service
+                .create(handles, target, name.as_units(), *mode, *form, *instances)?,
+        )
+    }
+}
+
+impl Keys {
+    fn perform(&mut self, target: u32, tag: CallTag, args: &[Arg]) -> Result<Answer, RowFault> {
+        match tag {
+            CallTag::KeyCreate => self.create(target, args),
+            _ => self.open(target, args),
+        }
+    }
+
+    fn place(&mut self, name: &[u16]) -> Result<bool, RowFault> {
+        if !is_name(name) || self.service.made() > MANY {
+            return Err(RowFault::NotInRange);
+        }
+        Ok(self.service.start(name)?)
+    }
+
+    fn create(&mut self, target: u32, args: &[Arg]) -> Result<Answer, RowFault> {
+        let [Arg::Str(name), Arg::Num(access)] = args else {
+            return Err(RowFault::NotInRange);
+        };
+        if !is_name(name.as_units()) || self.service.made() > MANY {
+            return Err(RowFault::NotInRange);
+        }
+        let _granted = self.handles.granted();
+        let handles = &mut self.handles;
+        Ok(
+            self.service
+                .create(handles, target, name.as_units(), *access)?,
+        )
+    }
+
+    fn open(&mut self, target: u32, args: &[Arg]) -> Result<Answer, RowFault> {
+        let [Arg::Str(name), Arg::Num(access)] = args else {
+            return Err(RowFault::NotInRange);
+        };
+        if !is_name(name.as_units()) {
+            return Err(RowFault::NotInRange);
+        }
+        let _granted = self.handles.granted();
+        let handles = &mut self.handles;
+        Ok(
+            self.service
+                .open_key(handles, target, name.as_units(), *access)?,
+        )
+    }
+}
+
+impl Events {
+    fn perform(&mut self, target: u32, tag: CallTag, args: &[Arg]) -> Result<Answer, RowFault> {
+        match tag {
+            CallTag::EventCreate => self.create(target, args),
+            _ => self.open(target, args),
+        }
+    }
+
+    fn place(&mut self, name: &[u16], kind: u64, initial: u64) -> Result<bool, RowFault> {
+        if !is_name(name) || self.service.made() > MANY {
+            return Err(RowFault::NotInRange);
+        }
+        Ok(self.service.start(name, kind, initial)?)
+    }
+
+    fn create(&mut self, target: u32, args: &[Arg]) -> Result<Answer, RowFault> {
+        let [Arg::Str(name), Arg::Num(kind), Arg::Num(initial)] = args else {
+            return Err(RowFault::NotInRange);
+        };
+        if !is_name(name.as_units()) || self.service.made() > MANY {
+            return Err(RowFault::NotInRange);
+        }
+        let _granted = self.handles.granted();
+        let handles = &mut self.handles;
+        Ok(
+            self.service
+                .create(handles, target, name.as_units(), *kind, *initial)?,
+        )
+    }
+
+    fn open(&mut self, target: u32, args: &[Arg]) -> Result<Answer, RowFault> {
+        let [Arg::Str(name), Arg::Num(access)] = args else {
+            return Err(RowFault::NotInRange);
+        };
+        if !is_name(name.as_units()) {
+            return Err(RowFault::NotInRange);
+        }
+        let _granted = self.handles.granted();
+        let handles = &mut self.handles;
+        Ok(
+            self.service
+                .open_event(handles, target, name.as_units(), *access)?,
+        )
+    }
+}

@@ -1,0 +1,40 @@
+// The state that rows change, kept from one row to the next.
+
+use crate::decisions::Decisions;
+use crate::handles::Tables;
+use crate::names::Names;
+use crate::services::Services;
+use crate::transcripts::Transcript;
+use sb_kernel::Kernel;
+use std::alloc::Global;
+
+/// The state that rows change. Each part begins empty, and a row of its own empties it again.
+#[derive(Drop)]
+pub struct State {
+    /// A tree of names, and a map from names.
+    pub names: Names,
+    /// Handles, and shares.
+    pub tables: Tables,
+    /// The namespace.
+    pub kernel: Kernel,
+    /// The services, apart from a namespace.
+    pub services: Services,
+    /// The book.
+    pub decisions: Decisions,
+    /// The report of which lines are made.
+    pub transcript: Transcript,
+}
+
+impl State {
+    /// Nothing is there.
+    pub fn new(alloc: Global) -> State {
+        State {
+            names: Names::new(alloc),
+            tables: Tables::new(alloc),
+            kernel: Kernel::new(alloc),
+            services: Services::new(alloc),
+            decisions: Decisions::new(alloc),
+            transcript: Transcript::new(alloc),
+        }
+    }
+}

@@ -1,0 +1,248 @@
+// Rows of transcripts: the lines of entries and results by themselves, and those of a report, which rows make.
+ghost use Rattle.std.specs.Prelude.{◌≤◌, IsTrue};
+ghost use Rattle.sb_book.specs.Reports.{result_count};
+
+use crate::decisions::script_of;
+use crate::readers_namespace::{blanks, plain, short_number, told_line};
+use crate::readers_transcripts::{entry, statement_result};
+use sb_book::{Entries, Entry, Report, Results, TargetResults, ThreadResults};
+use sb_outside::Bytes;
+use sb_rows::{RowFault, number, told};
+use sb_statements::{Script, StmtResult};
+use sb_transcript::{entry_line, line, line_count, result_line, totals, transcript_lines};
+use std::alloc::Global;
+use std::mem;
+
+// The names of the targets, whose numbers rows give.
+const TARGETS: [&str; 5] = ["tab", "two_b", "c", "d", "e"];
+
+/// What rows put into the next report, and the report that they made last.
+#[derive(Drop)]
+pub struct Transcript {
+    entries: Vec<Entry>,
+    results: Vec<TargetResults>,
+    report: Option<SmallReport>,
+}
+
+// A report with at most 100 results.
+#[derive(Drop)]
+struct SmallReport {
+    report: Report,
+    ghost few: { result_count report.results ≤ 100 },
+}
+
+impl Transcript {
+    /// Nothing was put, and there is no report.
+    pub fn new(alloc: Global) -> Transcript {
+        Transcript {
+            entries: Vec::new(alloc),
+            results: Vec::new(alloc),
+            report: None,
+        }
+    }
+}
+
+/// What a function of transcripts gives.
+pub fn value_of(
+    alloc: Global,
+    transcript: &mut Transcript,
+    name: &str,
+    parts: &[&str],
+) -> Result<String, RowFault> {
+    match (name, parts) {
+        ("entry_line", [n, place, decision, reply]) => {
+            told_entry(alloc, n, (place, decision, reply))
+        }
+        ("result_line", [place, text]) => told_result(alloc, place, text),
+        ("put_entry", [place, decision, reply]) => {
+            put_entry(alloc, transcript, (place, decision, reply))
+        }
+        ("put_target", threads) => put_target(alloc, transcript, threads),
+        ("report", [""]) => made(alloc, transcript),
+        (name, parts) => match &transcript.report {
+            Some(report) => report.value_of(alloc, name, parts),
+            None => Err(RowFault::Unknown),
+        },
+    }
+}
+
+// The line of the entry of this number.
+fn told_entry(alloc: Global, n: &str, texts: (&str, &str, &str)) -> Result<String, RowFault> {
+    let n = number(n)?;
+    let entry = entry(alloc, texts.0, texts.1, texts.2)?;
+    told_entry_of(alloc, n, &entry)
+}
+
+fn told_entry_of(alloc: Global, n: u64, entry: &Entry) -> Result<String, RowFault> {
+    let targets = targets(alloc)?;
+    let line = entry_line(alloc, &targets, n, entry)?;
+    told_line(alloc, &line)
+}
+
+fn put_entry(
+    alloc: Global,
+    transcript: &mut Transcript,
+    texts: (&str, &str, &str),
+) -> Result<String, RowFault> {
+    let entry = entry(alloc, texts.0, texts.1, texts.2)?;
+    transcript.entries.push(entry)?;
+    plain(alloc, "done")
+}
+
+fn put_target(
+    alloc: Global,
+    transcript: &mut Transcript,
+    threads: &[&str],
+) -> Result<String, RowFault> {
+    let results = found_by(alloc, threads)?;
+    transcript.results.push(results)?;
+    plain(alloc, "done")
+}
+
+// The script of the targets.
+fn targets(alloc: Global) -> Result<Script, RowFault> {
+    script_of(alloc, &TARGETS, Vec::new(alloc))
+}
+
+// The line of what became of a statement: target, thread and place.
+fn told_result(alloc: Global, place: &str, text: &str) -> Result<String, RowFault> {
+    let place = place_of(alloc, place)?;
+    let result_ = statement_result(alloc, text)?;
+    told_result_at(alloc, place, &result_)
+}
+
+// The place of a statement.
+#[derive(Clone, Copy)]
+struct Place {
+    target: u32,
+    thread: u32,
+    at: u32,
+}
+
+fn place_of(alloc: Global, text: &str) -> Result<Place, RowFault> {
+    place_in(blanks(alloc, text)?.as_slice())
+}
+
+fn place_in(words: &[&str]) -> Result<Place, RowFault> {
+    let [target, thread, at] = words else {
+        return Err(RowFault::BadWords);
+    };
+    Ok(Place {
+        target: short_number(target)?,
+        thread: short_number(thread)?,
+        at: short_number(at)?,
+    })
+}
+
+fn told_result_at(alloc: Global, place: Place, result_: &StmtResult) -> Result<String, RowFault> {
+    let targets = targets(alloc)?;
+    let Place { target, thread, at } = place;
+    let line = result_line(alloc, &targets, target, thread, at, result_)?;
+    told_line(alloc, &line)
+}
+
+// The results of a target: of each thread the values that its statements found, or `none`. No thread where there is no text.
+fn found_by(alloc: Global, threads: &[&str]) -> Result<TargetResults, RowFault> {
+    match threads {
+        [""] => Ok(TargetResults::none(alloc)),
+        threads => found_in_each(alloc, threads),
+    }
+}
+
+fn found_in_each(alloc: Global, threads: &[&str]) -> Result<TargetResults, RowFault> {
+    let mut results = TargetResults::none(alloc);
+    for thread in threads {
+        results.push(found_in(alloc, thread)?)?;
+    }
+    Ok(results)
+}
+
+fn found_in(alloc: Global, thread: &str) -> Result<ThreadResults, RowFault> {
+    let mut results = ThreadResults::new(Vec::new(alloc));
+    if thread == "none" {
+        return Ok(results);
+    }
+    for value in thread.split_whitespace() {
+        results.push(StmtResult::Found(number(value)?))?;
+    }
+    Ok(results)
+}
+
+// Makes the report of what was put.
+fn made(alloc: Global, transcript: &mut Transcript) -> Result<String, RowFault> {
+    let entries = mem::replace(&mut transcript.entries, Vec::new(alloc));
+    let results = mem::replace(&mut transcript.results, Vec::new(alloc));
+    if !is_small(&results) {
+        return Err(RowFault::TooMany);
+    }
+    let (entry_count, target_count) = (entries.len(), results.len());
+    let report = Report {
+        entries: Entries::new(entries),
+        results: Results::new(results),
+    };
+    transcript.report = Some(SmallReport { report });
+    Ok(format!(in alloc; "{entry_count} entries, {target_count} targets")?)
+}
+
+// Whether there are at most 100 results.
+fn is_small(targets: &[TargetResults]) -> bool
+    ensures { IsTrue result → result_count targets.now ≤ 100 }
+{
+    let mut left: usize = 100;
+    for threads in targets {
+        for results in threads.as_slice() {
+            let Some(less) = left.checked_sub(results.as_slice().len()) else {
+                return false;
+            };
+            left = less;
+        }
+    }
+    true
+}
+
+impl SmallReport {
+    // What a function of the report gives.
+    fn value_of(&self, alloc: Global, name: &str, parts: &[&str]) -> Result<String, RowFault> {
+        match (name, parts) {
+            ("line_count", [""]) => told(alloc, &line_count(&self.report)),
+            ("line", [n]) => self.told_line(alloc, n),
+            ("totals", [""]) => self.told_totals(alloc),
+            ("transcript_lines", [""]) => self.told_lines(alloc),
+            _ => Err(RowFault::Unknown),
+        }
+    }
+
+    // The line of this number.
+    fn told_line(&self, alloc: Global, n: &str) -> Result<String, RowFault> {
+        let n = number(n)?;
+        if n >= line_count(&self.report) {
+            return Err(RowFault::NotInRange);
+        }
+        let targets = targets(alloc)?;
+        told_line(alloc, &line(alloc, &targets, &self.report, n)?)
+    }
+
+    fn told_totals(&self, alloc: Global) -> Result<String, RowFault> {
+        told_line(alloc, &totals(alloc, &self.report)?)
+    }
+
+    fn told_lines(&self, alloc: Global) -> Result<String, RowFault> {
+        let targets = targets(alloc)?;
+        let lines = transcript_lines(alloc, &targets, &self.report)?;
+        joined(alloc, &lines)
+    }
+}
+
+// Lines, one behind the other.
+fn joined(alloc: Global, lines: &[Bytes]) -> Result<String, RowFault> {
+    let mut whole = String::new(alloc);
+    for line in lines {
+        put_line(alloc, line.as_slice(), &mut whole)?;
+    }
+    Ok(whole)
+}
+
+fn put_line(alloc: Global, line: &[u8], whole: &mut String) -> Result<(), RowFault> {
+    let line = told_line(alloc, line)?;
+    Ok(whole.push_str(&line)?)
+}

@@ -1,0 +1,183 @@
+// Rows of compiled policies: their listings, and what they say of calls.
+
+use crate::call_readers::{call_of, tag_named};
+use crate::opcode_readers::{short, told_words};
+use crate::policies::policies_of;
+use crate::row_texts::{text_of, told_lines};
+use sb_call::{Arg, CallTag, ShortName, fits};
+use sb_compile::{Program, Programs, compile};
+use sb_items::Copies;
+use sb_rows::RowFault;
+use sb_rule::{Judge, Policies, Policy, Verdict, all_well_made, verdict_plain, well_made};
+use sb_statements::{Script, StartLines, TargetScript, Targets, Threads};
+use std::alloc::Global;
+
+/// What a function of compiled policies gives. A policy is named `web` and has these rules, the first on line 3.
+pub fn value_of(alloc: Global, name: &str, parts: &[&str]) -> Result<String, RowFault> {
+    match (name, parts) {
+        ("listing", rules) => rules_listed(alloc, rules),
+        ("program_code", [call, rules @ ..]) => rules_code(alloc, call, rules),
+        ("judge", [call, rules @ ..]) => rules_judged(alloc, call, rules),
+        ("judge_targets", [target, numbers, call, lines @ ..]) => {
+            target_judged(alloc, target, numbers, call, lines)
+        }
+        _ => Err(RowFault::Unknown),
+    }
+}
+
+fn rules_listed(alloc: Global, rules: &[&str]) -> Result<String, RowFault> {
+    listing(alloc, &policy_of(alloc, rules)?)
+}
+
+fn rules_code(alloc: Global, call: &str, rules: &[&str]) -> Result<String, RowFault> {
+    code(alloc, call, &policy_of(alloc, rules)?)
+}
+
+fn rules_judged(alloc: Global, call: &str, rules: &[&str]) -> Result<String, RowFault> {
+    judged(alloc, call, &policy_of(alloc, rules)?)
+}
+
+fn read(alloc: Global, text: &[u8]) -> Result<Policies, RowFault> {
+    match policies_of(alloc, text)? {
+        Ok(policies) => Ok(policies),
+        Err(_) => Err(RowFault::BadPolicy),
+    }
+}
+
+// A policy with these rules.
+fn policy_of(alloc: Global, rules: &[&str]) -> Result<Policy, RowFault> {
+    first_policy(alloc, &web_text(alloc, &text_of(alloc, rules)?)?)
+}
+
+// The text of a policy `web` with these lines.
+fn web_text(alloc: Global, lines: &[u8]) -> Result<Vec<u8>, RowFault> {
+    let mut text = Vec::from_slice(alloc, b"sandbox-policy 2\npolicy web\n")?;
+    text.extend_from_slice(lines)?;
+    Ok(text)
+}
+
+fn first_policy(alloc: Global, text: &[u8]) -> Result<Policy, RowFault> {
+    match read(alloc, text)?.list.as_slice() {
+        [policy] => Ok(policy.copy(alloc)?),
+        _ => Err(RowFault::BadPolicy),
+    }
+}
+
+fn listing(alloc: Global, policy: &Policy) -> Result<String, RowFault> {
+    if !well_made(policy) {
+        return Err(RowFault::BadPolicy);
+    }
+    let program = compile(alloc, policy)?;
+    listed(alloc, &program)
+}
+
+fn listed(alloc: Global, program: &Program) -> Result<String, RowFault> {
+    told_lines(alloc, &program.listing(alloc)?)
+}
+
+fn code(alloc: Global, call: &str, policy: &Policy) -> Result<String, RowFault> {
+    if !well_made(policy) {
+        return Err(RowFault::BadPolicy);
+    }
+    let tag = tag_named(call)?;
+    let program = compile(alloc, policy)?;
+    told_code(alloc, &program, tag)
+}
+
+fn told_code(alloc: Global, program: &Program, tag: CallTag) -> Result<String, RowFault> {
+    match program.code(tag) {
+        Some(code) => told_words(alloc, code.code().words()),
+        None => Ok(String::from_str(alloc, "no code")?),
+    }
+}
+
+fn told_verdict(alloc: Global, verdict: Verdict) -> Result<String, RowFault> {
+    Ok(match verdict {
+        Verdict::Rule { line, action } => format!(in alloc; "{action:?} of line {line}")?,
+        Verdict::NoRule => String::from_str(alloc, "no rule")?,
+    })
+}
+
+// The verdict of the program of a policy. That of the policy's own rules is to be the same.
+fn judged(alloc: Global, call: &str, policy: &Policy) -> Result<String, RowFault> {
+    let (tag, args) = call_of(alloc, call)?;
+    told_verdict(alloc, verdict_of(alloc, policy, tag, &args)?)
+}
+
+fn verdict_of(
+    alloc: Global,
+    policy: &Policy,
+    tag: CallTag,
+    args: &[Arg],
+) -> Result<Verdict, RowFault> {
+    if !well_made(policy) {
+        return Err(RowFault::BadPolicy);
+    }
+    if !fits(tag, args) {
+        return Err(RowFault::Misfit);
+    }
+    let verdict = compile(alloc, policy)?.judge(tag, args);
+    if verdict != verdict_plain(policy, tag, args) {
+        return Err(RowFault::Differs);
+    }
+    Ok(verdict)
+}
+
+// A script whose targets have these numbers of policies.
+fn script_of(alloc: Global, numbers: &str) -> Result<Script, RowFault> {
+    let mut targets = Targets::none(alloc);
+    for policy in numbers.split_whitespace() {
+        targets.push(target_of(alloc, short(policy)?)?)?;
+    }
+    Ok(Script {
+        patience: 1,
+        start: StartLines::none(alloc),
+        targets,
+    })
+}
+
+fn target_of(alloc: Global, policy: u32) -> Result<TargetScript, RowFault> {
+    let name = ShortName::new(b"tab").ok_or(RowFault::Unknown)?;
+    Ok(TargetScript {
+        name,
+        policy,
+        channels: 1,
+        threads: Threads::none(alloc),
+    })
+}
+
+// What the programs of the policies of a text say of a call of a target, where the targets have policies of these numbers.
+fn target_judged(
+    alloc: Global,
+    target: &str,
+    numbers: &str,
+    call: &str,
+    lines: &[&str],
+) -> Result<String, RowFault> {
+    let target = short(target)?;
+    let policies = policies_in(alloc, lines)?;
+    let script = script_of(alloc, numbers)?;
+    judged_by(alloc, &policies, &script, target, call)
+}
+
+fn policies_in(alloc: Global, lines: &[&str]) -> Result<Policies, RowFault> {
+    read(alloc, &text_of(alloc, lines)?)
+}
+
+fn judged_by(
+    alloc: Global,
+    policies: &Policies,
+    script: &Script,
+    target: u32,
+    call: &str,
+) -> Result<String, RowFault> {
+    let (tag, args) = call_of(alloc, call)?;
+    if !all_well_made(policies) {
+        return Err(RowFault::BadPolicy);
+    }
+    if target as usize >= script.targets.len() || !fits(tag, &args) {
+        return Err(RowFault::Misfit);
+    }
+    let programs = Programs::new(alloc, policies, script)?;
+    told_verdict(alloc, programs.judge(target, tag, &args))
+}

@@ -1,0 +1,29 @@
+// The value of a row.
+
+use crate::{evaluation, listings, opcodes, policies, scripts};
+use sb_rows::{RowFault, arguments};
+use std::alloc::Global;
+
+/// What the function of a row gives for its arguments. The function is the first word, and the arguments stand behind it,
+/// divided by bars.
+pub fn value_of(alloc: Global, row: &str) -> Result<String, RowFault> {
+    let (name, rest) = row.split_once(' ').unwrap_or((row, ""));
+    let parts = arguments(alloc, rest)?;
+    match opcodes::value_of(alloc, name, &parts) {
+        Err(RowFault::Unknown) => {}
+        value => return value,
+    }
+    match evaluation::value_of(alloc, name, &parts) {
+        Err(RowFault::Unknown) => {}
+        value => return value,
+    }
+    match listings::value_of(alloc, name, &parts) {
+        Err(RowFault::Unknown) => {}
+        value => return value,
+    }
+    match policies::value_of(alloc, name, &parts) {
+        Err(RowFault::Unknown) => {}
+        value => return value,
+    }
+    scripts::value_of(alloc, name, &parts)
+}
