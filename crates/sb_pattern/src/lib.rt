@@ -17,8 +17,8 @@ pub use cells::Cell;
 pub use chunks::Chunks;
 pub use faults::{PatternFault, PatternRefused};
 pub use laws::{
-    chunks_are_the_runs, faults_are_leftmost, literals_match_the_same, matching_folds, star_matches_all,
-    texts_and_patterns,
+    chunks_are_the_runs, faults_are_leftmost, literals_match_the_same, matching_folds,
+    star_matches_all, texts_and_patterns,
 };
 pub use limits::MOST_UNITS;
 pub use patterns::Pattern;

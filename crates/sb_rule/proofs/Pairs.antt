@@ -84,7 +84,7 @@ pair u v us h l spelled =
       c ∷ spelled.0,
       (λ i. character i && spelled.1 i),
       (λ i. cond (large i) (c ∷ []) ((0xD800 + (c - 0x1_0000) / 0x400) ∷ (0xDC00 + (c - 0x1_0000) % 0x400) ∷ []) ++ spelled.2 i)
-      ∙ (λ i. first i ∷ second i ∷ us),
+          ∙ (λ i. first i ∷ second i ∷ us),
     )
 
 untrue : (b : Bool) → not b ≡ true → b ≡ false
