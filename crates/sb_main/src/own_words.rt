@@ -78,7 +78,7 @@ faults of a policy:
    3  unknown, missing or further word
    4  unknown call
    5  unknown parameter
-   6  wrong kind of test or value
+   6  wrong kind of condition or value
    7  bad number
    8  empty range
    9  bad pattern

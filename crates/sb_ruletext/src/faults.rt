@@ -25,7 +25,7 @@ pub enum TextKind {
     #[error("unknown parameter")]
     UnknownParam,
     /// The test or its value does not fit the parameter.
-    #[error("wrong kind of test or value")]
+    #[error("wrong kind of condition or value")]
     WrongKind,
     /// No number below 2^64, or no two numbers joined by `..`.
     #[error("bad number")]
