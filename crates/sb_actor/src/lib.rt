@@ -23,7 +23,7 @@ pub use acts::{ABANDONED, ACKNOWLEDGED, Act, BUSY, FREE, READY, Seen};
 pub use laws::{
     blocks_are_whole, clean_channels_are_kept, splits_and_joins_keep_rule, starts_in_rule,
     steps_keep_counts, steps_keep_origins, stray_keeps_rule, thread_follows, thread_keeps_rule,
-    worker_keeps_rule,
+    worker_follows, worker_keeps_rule,
 };
 pub use places::mark_at;
 pub use threads::ThreadState;
