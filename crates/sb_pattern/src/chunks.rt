@@ -1,6 +1,7 @@
 // The runs of cells between the stars of a pattern.
 ghost use Rattle.std.specs.Prelude.{◌≡◌, ◌≤◌, length, IfOk};
 ghost use Rattle.sb_pattern.specs.Chunks.{chunks_of};
+ghost use Rattle.sb_pattern.specs.Limits.{most_units};
 
 use crate::cells::Cell;
 use sb_items::{Items, NoMemory};
@@ -11,7 +12,7 @@ pub type Chunks = Items<(u32, u32)>;
 
 // The runs of these cells.
 pub(crate) fn chunks_of(alloc: Global, cells: &[Cell]) -> Result<Chunks, NoMemory>
-    requires { length cells.now ≤ 256 }
+    requires { length cells.now ≤ most_units }
     ensures { IfOk result (λ c. c ≡ chunks_of cells.now) }
 {
     let mut chunks = Chunks::none(alloc);

@@ -1,6 +1,7 @@
 // Matching by rows. A row tells for each place in a pattern whether the cells from that place on match a string; the rows
 // are those of the string's ends, from the empty one to the whole string.
 ghost use Rattle.std.specs.Prelude.{◌≡◌, ◌≤◌, ◌∷◌, [], ℕ, List, length};
+ghost use Rattle.sb_pattern.specs.Limits.{most_units};
 ghost use Rattle.sb_pattern.specs.Matching.{matches};
 ghost use Rattle.sb_pattern.specs.Rows.{IsRow};
 ghost use Rattle.sb_pattern.specs.declared.cells.Cell.{Cell};
@@ -23,7 +24,7 @@ fn matches_nothing(cell: Cell, after: bool) -> bool
 
 // The row of the empty string.
 fn empty_row(cells: &[Cell]) -> [bool; PLACES]
-    requires { length cells.now ≤ 256 }
+    requires { length cells.now ≤ most_units }
     ensures { IsRow cells.now [] result }
 {
     let mut row = [false; PLACES];
@@ -58,7 +59,7 @@ fn matches_from(
 
 // Puts a unit before a string: makes the row of the longer string out of that of the shorter one.
 fn put_unit(cells: &[Cell], unit: u16, row: &mut [bool; PLACES])
-    requires { length cells.now ≤ 256 }
+    requires { length cells.now ≤ most_units }
     ensures { (units : List ℕ) → IsRow cells.now units row.old → IsRow cells.now (unit ∷ units) row.new }
 {
     let mut at = cells.len();
@@ -75,7 +76,7 @@ fn put_unit(cells: &[Cell], unit: u16, row: &mut [bool; PLACES])
 
 // Whether the cells match the units.
 pub(crate) fn matches(cells: &[Cell], units: &[u16]) -> bool
-    requires { length cells.now ≤ 256 }
+    requires { length cells.now ≤ most_units }
     ensures { result ≡ matches cells.now units.now }
 {
     let mut row = empty_row(cells);

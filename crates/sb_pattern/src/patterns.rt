@@ -1,6 +1,7 @@
 // Patterns: read from a text, written as one, and matched.
 ghost use Rattle.std.specs.Prelude.{◌≡◌, ◌≤◌, length, true, IfOk, Ok};
 ghost use Rattle.sb_pattern.specs.Chunks.{chunks_of};
+ghost use Rattle.sb_pattern.specs.Limits.{most_units};
 ghost use Rattle.sb_pattern.specs.Matching.{matches};
 ghost use Rattle.sb_pattern.specs.Reading.{reading, text_of, is_pattern, IsReading};
 
@@ -70,7 +71,7 @@ impl Pattern {
     pub fn cells(&self) -> &[Cell]
         ensures cells { result.now ≡ self.now }
         ensures pattern { is_pattern self.now ≡ true }
-        ensures most { length self.now ≤ 256 }
+        ensures most { length self.now ≤ most_units }
     {
         &self.cells
     }

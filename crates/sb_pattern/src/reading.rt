@@ -1,5 +1,6 @@
 // The cells of a text, and what makes a text no pattern.
 ghost use Rattle.std.specs.Prelude.{◌≡◌, ◌<◌, ◌≤◌, ◌∷◌, [], length, IfOk, MatchOption};
+ghost use Rattle.sb_pattern.specs.Limits.{most_units};
 ghost use Rattle.sb_pattern.specs.Reading.{cells_of, fault_of, star_fault, text_of};
 
 use crate::cells::Cell;
@@ -15,7 +16,7 @@ const SLASH: u16 = 47;
 const QUESTION: u16 = 63;
 
 fn star_fault(text: &[u16]) -> Option<PatternFault>
-    requires { length text.now ≤ 256 }
+    requires { length text.now ≤ most_units }
     ensures { result ≡ star_fault 0 text.now }
 {
     let mut at = 0;

@@ -41,9 +41,9 @@ is_paired [] = true
 is_paired (u ∷ []) = not (is_surrogate u)
 is_paired (u ∷ v ∷ us) = if is_high u && is_low v then is_paired us else not (is_surrogate u) && is_paired (v ∷ us)
 
--- neither a control unit nor `"`
+-- a unit of 16 bits that is neither a control unit nor `"`
 abbrev pub is_text_unit : ℕ → Bool
-is_text_unit u = nat_le 32 u && not (u == 34)
+is_text_unit u = nat_le 32 u && is_unit u && not (u == 34)
 
 -- a string that can stand between quotes: at most 256 units, all of them text, and no surrogate alone
 abbrev pub is_policy_text : List ℕ → Bool

@@ -3,8 +3,6 @@
 
 mod parameters;
 mod printing;
-mod values;
 
 pub use parameters::parameter_words;
 pub use printing::print_policies;
-pub use values::are_policies;

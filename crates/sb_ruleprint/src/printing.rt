@@ -1,19 +1,20 @@
 // Printing policies.
 ghost use Rattle.std.specs.Prelude.{◌≡◌, ◌++◌, ◌∷◌, [], map, codes, true, length, ◌<◌, ◌^◌, IfOk, OnOk};
-ghost use Rattle.std.specs.List.{flat_map, list_any};
+ghost use Rattle.std.specs.List.{flat_map, list_all, list_any};
 ghost use Rattle.sb_rule.specs.WellMade.{are_well_made};
 ghost use Rattle.sb_rule.specs.Actions.{action_word};
 ghost use Rattle.sb_call.specs.CallWords.{call_word};
 ghost use Rattle.sb_ruleprint.specs.Printing.{number_word, range_word, utf8_of, or_tokens, numbers_tokens, test_tokens, not_tokens, cond_tokens, joined_tokens, conds_tokens, rule_tokens, heading_tokens, policy_lines, is_read_only, has_read_only, version_word, version_tokens, spaced, line_text, printed};
+ghost use Rattle.sb_ruleprint.specs.Values.{is_number, is_test_of_values, is_rule_of_values, is_policy_of_values};
 
 use crate::parameters::parameter_word;
-use crate::values::are_policies;
 use sb_call::{CallTag, call_word};
 use sb_rule::{Action, Cond, Policies, Policy, Rule, Test};
 use sb_wide::{NoMemory, put_hexadecimal};
 use std::alloc::Global;
 
-// Each of these appends to the text. After an error the text is of no use.
+// Each of these appends to the text, and what it has read of the policies is in the ranges of its types. After an error the text
+// is of no use.
 
 fn put_word(text: &mut Vec<u8>, word: &[u8]) -> Result<(), NoMemory>
     ensures { OnOk result (text.new.items ≡ text.old.items ++ 32 ∷ word.now) }
@@ -41,7 +42,8 @@ fn put_quoted(text: &mut Vec<u8>, units: &[u16]) -> Result<(), NoMemory>
 }
 
 fn put_more_numbers(text: &mut Vec<u8>, numbers: &[u64]) -> Result<(), NoMemory>
-    ensures { OnOk result (text.new.items ≡ text.old.items ++ spaced (flat_map or_tokens numbers.now)) }
+    ensures text { OnOk result (text.new.items ≡ text.old.items ++ spaced (flat_map or_tokens numbers.now)) }
+    ensures values { OnOk result (list_all is_number numbers.now ≡ true) }
 {
     for number in numbers {
         put_word(text, b"or")?;
@@ -52,7 +54,8 @@ fn put_more_numbers(text: &mut Vec<u8>, numbers: &[u64]) -> Result<(), NoMemory>
 }
 
 fn put_numbers(text: &mut Vec<u8>, numbers: &[u64]) -> Result<(), NoMemory>
-    ensures { OnOk result (text.new.items ≡ text.old.items ++ spaced (numbers_tokens numbers.now)) }
+    ensures text { OnOk result (text.new.items ≡ text.old.items ++ spaced (numbers_tokens numbers.now)) }
+    ensures values { OnOk result (list_all is_number numbers.now ≡ true) }
 {
     let Some((first, more)) = numbers.split_first() else {
         return Ok(());
@@ -71,7 +74,8 @@ fn put_range(text: &mut Vec<u8>, lo: u64, hi: u64) -> Result<(), NoMemory>
 }
 
 fn put_test(text: &mut Vec<u8>, test: &Test) -> Result<(), NoMemory>
-    ensures { OnOk result (text.new.items ≡ text.old.items ++ spaced (test_tokens test.now)) }
+    ensures text { OnOk result (text.new.items ≡ text.old.items ++ spaced (test_tokens test.now)) }
+    ensures values { OnOk result (is_test_of_values test.now ≡ true) }
 {
     match test {
         Test::OneOf(numbers) => {
@@ -108,7 +112,8 @@ fn put_not(text: &mut Vec<u8>, negated: bool) -> Result<(), NoMemory>
 }
 
 fn put_cond(text: &mut Vec<u8>, joint: &[u8], tag: CallTag, cond: &Cond) -> Result<(), NoMemory>
-    ensures { OnOk result (text.new.items ≡ text.old.items ++ spaced (joined_tokens joint.now tag cond.now)) }
+    ensures text { OnOk result (text.new.items ≡ text.old.items ++ spaced (joined_tokens joint.now tag cond.now)) }
+    ensures values { OnOk result (is_test_of_values cond.now.test ≡ true) }
 {
     put_word(text, joint)?;
     put_not(text, cond.negated)?;
@@ -117,7 +122,8 @@ fn put_cond(text: &mut Vec<u8>, joint: &[u8], tag: CallTag, cond: &Cond) -> Resu
 }
 
 fn put_more_conds(text: &mut Vec<u8>, tag: CallTag, conds: &[Cond]) -> Result<(), NoMemory>
-    ensures { OnOk result (text.new.items ≡ text.old.items ++ spaced (flat_map (joined_tokens (codes "and") tag) conds.now)) }
+    ensures text { OnOk result (text.new.items ≡ text.old.items ++ spaced (flat_map (joined_tokens (codes "and") tag) conds.now)) }
+    ensures values { OnOk result (list_all (λ cond. is_test_of_values cond.test) conds.now ≡ true) }
 {
     for cond in conds {
         put_cond(text, b"and", tag, cond)?;
@@ -126,7 +132,8 @@ fn put_more_conds(text: &mut Vec<u8>, tag: CallTag, conds: &[Cond]) -> Result<()
 }
 
 fn put_conds(text: &mut Vec<u8>, tag: CallTag, conds: &[Cond]) -> Result<(), NoMemory>
-    ensures { OnOk result (text.new.items ≡ text.old.items ++ spaced (conds_tokens tag conds.now)) }
+    ensures text { OnOk result (text.new.items ≡ text.old.items ++ spaced (conds_tokens tag conds.now)) }
+    ensures values { OnOk result (list_all (λ cond. is_test_of_values cond.test) conds.now ≡ true) }
 {
     let Some((first, more)) = conds.split_first() else {
         return Ok(());
@@ -137,7 +144,8 @@ fn put_conds(text: &mut Vec<u8>, tag: CallTag, conds: &[Cond]) -> Result<(), NoM
 
 #[tactic(auto, using(crate::proofs::Spaces::line_in_pieces))]
 fn put_rule(text: &mut Vec<u8>, rule: &Rule) -> Result<(), NoMemory>
-    ensures { OnOk result (text.new.items ≡ text.old.items ++ line_text (rule_tokens rule.now)) }
+    ensures text { OnOk result (text.new.items ≡ text.old.items ++ line_text (rule_tokens rule.now)) }
+    ensures values { OnOk result (is_rule_of_values rule.now ≡ true) }
 {
     text.extend_from_slice(rule.action.word())?;
     put_word(text, call_word(rule.tag))?;
@@ -147,7 +155,8 @@ fn put_rule(text: &mut Vec<u8>, rule: &Rule) -> Result<(), NoMemory>
 }
 
 fn put_rules(text: &mut Vec<u8>, rules: &[Rule]) -> Result<(), NoMemory>
-    ensures { OnOk result (text.new.items ≡ text.old.items ++ flat_map line_text (map rule_tokens rules.now)) }
+    ensures text { OnOk result (text.new.items ≡ text.old.items ++ flat_map line_text (map rule_tokens rules.now)) }
+    ensures values { OnOk result (list_all is_rule_of_values rules.now ≡ true) }
 {
     for rule in rules {
         put_rule(text, rule)?;
@@ -156,7 +165,8 @@ fn put_rules(text: &mut Vec<u8>, rules: &[Rule]) -> Result<(), NoMemory>
 }
 
 fn put_policy(text: &mut Vec<u8>, policy: &Policy) -> Result<(), NoMemory>
-    ensures { OnOk result (text.new.items ≡ text.old.items ++ flat_map line_text (policy_lines policy.now)) }
+    ensures text { OnOk result (text.new.items ≡ text.old.items ++ flat_map line_text (policy_lines policy.now)) }
+    ensures values { OnOk result (is_policy_of_values policy.now ≡ true) }
 {
     text.extend_from_slice(b"policy")?;
     put_word(text, policy.name.bytes())?;
@@ -165,7 +175,8 @@ fn put_policy(text: &mut Vec<u8>, policy: &Policy) -> Result<(), NoMemory>
 }
 
 fn put_policies(text: &mut Vec<u8>, policies: &[Policy]) -> Result<(), NoMemory>
-    ensures { OnOk result (text.new.items ≡ text.old.items ++ flat_map line_text (flat_map policy_lines policies.now)) }
+    ensures text { OnOk result (text.new.items ≡ text.old.items ++ flat_map line_text (flat_map policy_lines policies.now)) }
+    ensures values { OnOk result (list_all is_policy_of_values policies.now ≡ true) }
 {
     for policy in policies {
         put_policy(text, policy)?;
@@ -198,7 +209,8 @@ fn version_word(policies: &[Policy]) -> &'static [u8]
 }
 
 fn policies_text(alloc: Global, policies: &[Policy]) -> Result<Vec<u8>, NoMemory>
-    ensures { IfOk result (λ text. text.items ≡ printed policies.now) }
+    ensures text { IfOk result (λ text. text.items ≡ printed policies.now) }
+    ensures values { OnOk result (list_all is_policy_of_values policies.now ≡ true) }
 {
     let mut text = Vec::new(alloc);
     text.extend_from_slice(b"sandbox-policy")?;
@@ -213,7 +225,7 @@ fn policies_text(alloc: Global, policies: &[Policy]) -> Result<Vec<u8>, NoMemory
 /// The first line is `sandbox-policy 2` where some rule has the action `ReadOnly`, and `sandbox-policy 1` otherwise. Then
 /// each policy has its heading and one line for each rule. One space stands between each two tokens, and an LF behind each
 /// line. Numbers are `0x` and lower-case hexadecimal digits without leading zeros. Strings and patterns are their text, in
-/// UTF-8, between quotes. The text has fewer than 2^32 bytes.
+/// UTF-8, between quotes. The text has fewer than 2^32 bytes. The names that it has are short, and its numbers have 64 bits.
 ///
 /// # Errors
 /// `NoMemory` if there is none for the text.
@@ -222,9 +234,8 @@ pub fn print_policies(alloc: Global, policies: &Policies) -> Result<Vec<u8>, NoM
     requires { are_well_made policies.now.list ≡ true }
     ensures text { IfOk result (λ text. text.items ≡ printed policies.now.list) }
     ensures short { IfOk result (λ text. length text.items < 2 ^ 32) }
+    ensures values { OnOk result (list_all is_policy_of_values policies.now.list ≡ true) }
 {
-    let list = policies.list.as_slice();
-    are_policies(list);
-    let text = policies_text(alloc, list)?;
+    let text = policies_text(alloc, policies.list.as_slice())?;
     Ok(text)
 }

@@ -29,7 +29,7 @@ alone true last = refl
 alone false last = refl
 
 -- rules are added to the last policy, where it has room for them
-last_rules : (before : List Policy) (last : Policy) (rules : List Rule)
+pub last_rules : (before : List Policy) (last : Policy) (rules : List Rule)
     → with_last_rules (before ++ last ∷ []) rules
     ≡ cond (nat_le (length last.rules + length rules) 256) (Ok (before ++ longer last rules ∷ [])) (Err TooMany)
 unfolding with_last_rules
@@ -147,7 +147,7 @@ room_more before last =
     let shifted : nat_lt (length before) 7 ≡ nat_lt (length before + 1) 8 = grind (arith, nat_tests) in
     shifted ∙ ap (λ n. nat_lt n 8) (sym (length-append before (last ∷ [])))
 
-chosen : (b : Bool) (policies new : List Policy) → cond b (Ok policies) (Err TooMany) ≡ Ok new → (b ≡ true) × (policies ≡ new)
+pub chosen : (b : Bool) (policies new : List Policy) → cond b (Ok policies) (Err TooMany) ≡ Ok new → (b ≡ true) × (policies ≡ new)
 chosen true policies new h = (refl, search h)
 chosen false policies new h = search h
 

@@ -14,3 +14,4 @@ pub mod WellMade
 pub mod Added
 pub mod Prefixes
 pub mod Renumbered
+pub mod ReadWellMade

@@ -16,7 +16,6 @@ use Rattle.sb_rule.specs.declared.conditions.Test.{Test}
 use Rattle.sb_rule.specs.declared.conditions.Test.TheVariants.{OneOf, Range, Mask, Equal, Like}
 use Rattle.sb_text.specs.NumberLaws.{HexadecimalsAreRead}
 use Rattle.sb_text.specs.Tokens.{Lexeme, Word}
-use Rattle.sb_wide.specs.Wide.{is_unit}
 use Rattle.sb_pattern.specs.Limits.{most_units}
 use Rattle.sb_ruletext.specs.Conditions.{number_at, string, cells, pattern, test_at, is_number_at, plain_condition_at, condition_at, conditions_of}
 use Rattle.sb_ruleprint.specs.Parameters.{parameter_word, parameter_words}
@@ -63,9 +62,9 @@ numbers_read law (suc m) n (next ∷ more) rest k h e =
 
 -- strings and patterns
 
-string_read : (us : List ℕ) → is_policy_text us ≡ true → list_all is_unit us ≡ true → string (utf8_of us) ≡ Ok us
-string_read us h b =
-    let back = (string_back us h b).string in
+string_read : (us : List ℕ) → is_policy_text us ≡ true → string (utf8_of us) ≡ Ok us
+string_read us h =
+    let back = (string_back us h).string in
     let few : nat_le (length us) most_units ≡ true = (both _ _ (both _ _ h).0).0 in
     ap (λ us. cond (nat_le (length us) most_units) (Ok us) (Err (BadPattern TooLong))) back ∙ ap (λ t. cond t (Ok us) (Err (BadPattern TooLong))) few
 
@@ -73,9 +72,9 @@ string_read us h b =
 abbrev pub PatternsComeBack : Type 0
 PatternsComeBack = (cells : List Cell) → is_pattern cells ≡ true → reading (text_of cells) ≡ Ok cells
 
-pattern_read : PatternsComeBack → (cs : List Cell) → is_like_text cs ≡ true → list_all is_unit (text_of cs) ≡ true → pattern (utf8_of (text_of cs)) ≡ Ok cs
-pattern_read law cs h b =
-    ap (λ us. cells (reading us)) (string_back (text_of cs) (both _ _ h).1 b).string ∙ ap cells (law cs (both _ _ h).0)
+pattern_read : PatternsComeBack → (cs : List Cell) → is_like_text cs ≡ true → pattern (utf8_of (text_of cs)) ≡ Ok cs
+pattern_read law cs h =
+    ap (λ us. cells (reading us)) (string_back (text_of cs) (both _ _ h).1).string ∙ ap cells (law cs (both _ _ h).0)
 
 -- tests
 
@@ -91,8 +90,8 @@ test_read law back (OneOf (n ∷ more)) rest s v e =
 test_read law back (Range lo hi) rest s v e =
     ap (λ r. r >>= λ test. Ok (test, rest)) (range_back law lo hi (number_small lo (both _ _ v).0) (number_small hi (both _ _ v).1) s)
 test_read law back (Mask mask) rest s v e = ap (λ r. r >>= λ mask. Ok (Mask mask.0, mask.1)) (number_read law mask rest v)
-test_read law back (Equal text) rest s v e = ap (λ r. r >>= λ text. Ok (Equal text, rest)) (string_read text s v)
-test_read law back (Like pattern) rest s v e = ap (λ r. r >>= λ cells. Ok (Like cells, rest)) (pattern_read back pattern s v)
+test_read law back (Equal text) rest s v e = ap (λ r. r >>= λ text. Ok (Equal text, rest)) (string_read text s)
+test_read law back (Like pattern) rest s v e = ap (λ r. r >>= λ cells. Ok (Like cells, rest)) (pattern_read back pattern s)
 
 -- conditions
 

@@ -1,5 +1,5 @@
 -- The string of the text that is printed between quotes is the string that was printed.
-use Rattle.std.proofs.Common.{◌≡◌, ◌∙◌, ℕ, ◌<◌, ◌≤◌, Bool, true, false, not, cond, ◌&&◌, ◌||◌, List, [], ◌∷◌, ◌++◌, map, Some, ap, refl, sym, ⊎_elim, arith}
+use Rattle.std.proofs.Common.{◌≡◌, ◌∙◌, ℕ, ◌<◌, ◌≤◌, ◌==◌, nat_le, Bool, true, false, not, cond, ◌&&◌, ◌||◌, List, [], ◌∷◌, ◌++◌, map, Some, ap, refl, sym, ⊎_elim, arith}
 use Rattle.std.proofs.Math.Utf8.{scalar, scalars, encode, encodes}
 use Rattle.std.proofs.lemmas.Bool.{false≢true, cases_lt}
 use Rattle.std.proofs.lemmas.Bool.Decides.{nat_tests}
@@ -135,9 +135,17 @@ pub record ComesBack (us : List ℕ) : Type 0 where
   pub utf8 : IsUtf8 (utf8_of us)
   pub quoted : list_all is_quoted_byte (utf8_of us) ≡ true
 
-pub string_back : (us : List ℕ) → is_policy_text us ≡ true → list_all is_unit us ≡ true → ComesBack us
-string_back us h b =
-    let s = spells us (both _ _ h).1 (both _ _ (both _ _ h).0).1 b in
+text_is_units : (us : List ℕ) → list_all is_text_unit us ≡ true → list_all is_unit us ≡ true
+text_is_units [] t = refl
+text_is_units (u ∷ us) t =
+    let first = (both (is_text_unit u) (list_all is_text_unit us) t).0 in
+    and_true _ _ (both (nat_le 32 u) (is_unit u) (both (nat_le 32 u && is_unit u) (not (u == 34)) first).0).1
+    (text_is_units us (both (is_text_unit u) (list_all is_text_unit us) t).1)
+
+pub string_back : (us : List ℕ) → is_policy_text us ≡ true → ComesBack us
+string_back us h =
+    let t = (both _ _ (both _ _ h).0).1 in
+    let s = spells us (both _ _ h).1 t (text_is_units us t) in
     record {
       string = ap utf16_of (chars-encodes (utf16_lossy_chars us) s.scalar) ∙ s.units;
       utf8 = (utf16_lossy_chars us, (s.scalar, refl));

@@ -21,7 +21,6 @@ use Rattle.sb_rule.specs.declared.policies.Policy.{Policy}
 use Rattle.sb_rule.specs.declared.policies.Rule.{Rule}
 use Rattle.sb_text.specs.NumberLaws.{HexadecimalsAreRead}
 use Rattle.sb_text.specs.Tokens.{Word, Quoted}
-use Rattle.sb_wide.specs.Wide.{is_unit}
 use Rattle.sb_ruleprint.specs.Parameters.{parameter_word, parameter_words}
 use Rattle.sb_ruleprint.specs.Printing.{utf8_of, numbers_tokens, test_tokens, not_tokens, cond_tokens, joined_tokens, conds_tokens, rule_tokens, heading_tokens, policy_lines, has_read_only, version_tokens, printed_lines}
 use Rattle.sb_ruleprint.specs.Values.{is_number, is_test_of_values, is_rule_of_values, is_policy_of_values}
@@ -82,16 +81,16 @@ numbers_plain : HexadecimalsAreRead → (n : ℕ) (more : List ℕ) → list_all
 numbers_plain law n [] h = and_true _ _ (number_plain law n (number_small n (both _ _ h).0)) refl
 numbers_plain law n (next ∷ more) h = and_true _ _ (number_plain law n (number_small n (both _ _ h).0)) (numbers_plain law next more (both _ _ h).1)
 
-string_plain : (us : List ℕ) → is_policy_text us ≡ true → list_all is_unit us ≡ true → is_plain (Quoted (utf8_of us)) ≡ true
-string_plain us h b = let s = string_back us h b in and_true _ _ s.quoted (is_utf8-from_IsUtf8 (utf8_of us) s.utf8)
+string_plain : (us : List ℕ) → is_policy_text us ≡ true → is_plain (Quoted (utf8_of us)) ≡ true
+string_plain us h = let s = string_back us h in and_true _ _ s.quoted (is_utf8-from_IsUtf8 (utf8_of us) s.utf8)
 
 test_plain : HexadecimalsAreRead → (test : Test) → is_sensible test ≡ true → is_test_of_values test ≡ true → list_all is_plain (test_tokens test) ≡ true
 test_plain law (OneOf []) s v = absurd (false≢true s)
 test_plain law (OneOf (n ∷ more)) s v = numbers_plain law n more v
 test_plain law (Range lo hi) s v = and_true _ _ (range_plain law lo hi (number_small lo (both _ _ v).0) (number_small hi (both _ _ v).1)) refl
 test_plain law (Mask mask) s v = and_true _ _ (number_plain law mask (number_small mask v)) refl
-test_plain law (Equal text) s v = and_true _ _ (string_plain text s v) refl
-test_plain law (Like pattern) s v = and_true _ _ (string_plain (text_of pattern) (both _ _ s).1 v) refl
+test_plain law (Equal text) s v = and_true _ _ (string_plain text s) refl
+test_plain law (Like pattern) s v = and_true _ _ (string_plain (text_of pattern) (both _ _ s).1) refl
 
 -- conditions
 

@@ -99,7 +99,7 @@ words_apart EventCreate = refl
 words_apart EventOpen = refl
 words_apart HandleClose = refl
 
-as_many : (tag : CallTag) → length (shape_of tag) ≡ length (parameter_words tag)
+pub as_many : (tag : CallTag) → length (shape_of tag) ≡ length (parameter_words tag)
 as_many Ping = refl
 as_many FileCreate = refl
 as_many FileOpen = refl

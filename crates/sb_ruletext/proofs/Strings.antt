@@ -20,23 +20,29 @@ one_unit c h = let t : nat_lt c 65536 ≡ true = grind (arith, nat_tests) in rw 
 two_units : (c : ℕ) → 65536 ≤ c → encode_utf16 c ≡ (0xD800 + (c - 65536) / 0x400) ∷ (0xDC00 + (c - 65536) % 0x400) ∷ []
 two_units c h = let t : nat_lt c 65536 ≡ false = grind (arith, nat_tests) in rw (t) refl
 
-ascii_text : (c : ℕ) → list_all is_quoted_byte (c ∷ []) ≡ true → list_all is_text_unit (c ∷ []) ≡ true
-ascii_text c h = grind (arith, nat_tests)
+ascii_text : (c : ℕ) → c < 128 → list_all is_quoted_byte (c ∷ []) ≡ true → list_all is_text_unit (c ∷ []) ≡ true
+ascii_text c a h = grind (arith, nat_tests)
 
-high_text : (c : ℕ) → 128 ≤ c → is_text_unit c ≡ true
-high_text c h = grind (arith, nat_tests)
+high_text : (c : ℕ) → 128 ≤ c → c < 65536 → is_text_unit c ≡ true
+high_text c h b = grind (arith, nat_tests)
 
-one_text : (c : ℕ) → 128 ≤ c → list_all is_text_unit (c ∷ []) ≡ true
-one_text c h = and_true (is_text_unit c) true (high_text c h) refl
+one_text : (c : ℕ) → 128 ≤ c → c < 65536 → list_all is_text_unit (c ∷ []) ≡ true
+one_text c h b = and_true (is_text_unit c) true (high_text c h b) refl
 
-two_text : (c d : ℕ) → 128 ≤ c → 128 ≤ d → list_all is_text_unit (c ∷ d ∷ []) ≡ true
-two_text c d h k = and_true (is_text_unit c) (list_all is_text_unit (d ∷ [])) (high_text c h) (one_text d k)
+two_text : (c d : ℕ) → 128 ≤ c → c < 65536 → 128 ≤ d → d < 65536 → list_all is_text_unit (c ∷ d ∷ []) ≡ true
+two_text c d h b k e = and_true (is_text_unit c) (list_all is_text_unit (d ∷ [])) (high_text c h b) (one_text d k e)
 
-char_text : (c : ℕ) → list_all is_quoted_byte (encode c) ≡ true → list_all is_text_unit (encode_utf16 c) ≡ true
-char_text c h = ⊎_elim
-    (λ a. subst (λ l. list_all is_text_unit l ≡ true) (sym (one_unit c (omega (arith, a)))) (ascii_text c (subst (λ l. list_all is_quoted_byte l ≡ true) (encode_ascii c a) h)))
-    (λ a. ⊎_elim (λ b. subst (λ l. list_all is_text_unit l ≡ true) (sym (one_unit c b)) (one_text c a))
-    (λ b. subst (λ l. list_all is_text_unit l ≡ true) (sym (two_units c b)) (two_text (0xD800 + (c - 65536) / 0x400) (0xDC00 + (c - 65536) % 0x400) (omega arith) (omega arith)))
+-- the first half of a pair
+first_half : (c : ℕ) → (c < 55296) ⊎ ((57344 ≤ c) × (c < 1114112)) → 0xD800 + (c - 65536) / 0x400 ≤ 0xDBFF
+first_half c s = ⊎_elim (λ a. omega (arith, a)) (λ a. omega (arith, a.1)) s
+
+char_text : (c : ℕ) → scalar c ≡ true → list_all is_quoted_byte (encode c) ≡ true → list_all is_text_unit (encode_utf16 c) ≡ true
+char_text c s h = ⊎_elim
+    (λ a. subst (λ l. list_all is_text_unit l ≡ true) (sym (one_unit c (omega (arith, a)))) (ascii_text c a (subst (λ l. list_all is_quoted_byte l ≡ true) (encode_ascii c a) h)))
+    (λ a. ⊎_elim (λ b. subst (λ l. list_all is_text_unit l ≡ true) (sym (one_unit c b)) (one_text c a b))
+    (λ b. subst (λ l. list_all is_text_unit l ≡ true) (sym (two_units c b))
+    (let high = first_half c (scalar_cases c s) in
+    two_text (0xD800 + (c - 65536) / 0x400) (0xDC00 + (c - 65536) % 0x400) (omega arith) (omega (arith, high)) (omega arith) (omega arith)))
     (cases_lt c 65536))
     (cases_lt c 128)
 
@@ -59,11 +65,8 @@ paired : (c : ℕ) (us : List ℕ) → scalar c ≡ true → is_paired us ≡ tr
 paired c us s k = ⊎_elim
     (λ b. subst (λ l. is_paired (l ++ us) ≡ true) (sym (one_unit c b)) (paired_one c us (scalar_cases c s) k))
     (λ b. subst (λ l. is_paired (l ++ us) ≡ true) (sym (two_units c b))
-    (paired_two (0xD800 + (c - 65536) / 0x400) (0xDC00 + (c - 65536) % 0x400) us (omega arith) (within c (scalar_cases c s)) (omega arith) (omega arith) k))
+    (paired_two (0xD800 + (c - 65536) / 0x400) (0xDC00 + (c - 65536) % 0x400) us (omega arith) (first_half c (scalar_cases c s)) (omega arith) (omega arith) k))
     (cases_lt c 65536)
-  where
-    within : (c : ℕ) → (c < 55296) ⊎ ((57344 ≤ c) × (c < 1114112)) → 0xD800 + (c - 65536) / 0x400 ≤ 0xDBFF
-    within c s = ⊎_elim (λ a. omega (arith, a)) (λ a. omega (arith, a.1)) s
 
 text : (cs : List ℕ) → scalars cs ≡ true → list_all is_quoted_byte (encodes cs) ≡ true
     → (list_all is_text_unit (utf16_of cs) ≡ true) × (is_paired (utf16_of cs) ≡ true)
@@ -71,7 +74,7 @@ text [] s h = (refl, refl)
 text (c ∷ cs) s h =
     let split : (list_all is_quoted_byte (encode c) && list_all is_quoted_byte (encodes cs)) ≡ true = sym (list_all-append is_quoted_byte (encode c) (encodes cs)) ∙ h in
     let later = text cs (both (scalar c) (scalars cs) s).1 (both _ _ split).1 in (
-      list_all-append is_text_unit (encode_utf16 c) (utf16_of cs) ∙ and_true _ _ (char_text c (both _ _ split).0) later.0,
+      list_all-append is_text_unit (encode_utf16 c) (utf16_of cs) ∙ and_true _ _ (char_text c (both (scalar c) (scalars cs) s).0 (both _ _ split).0) later.0,
       paired c (utf16_of cs) (both (scalar c) (scalars cs) s).0 later.1,
     )
 

@@ -1,5 +1,6 @@
 -- What is true of all policy texts: what one line can do to the lines after it.
 use Rattle.std.specs.Prelude.{◌≡◌, ℕ, map, ◌≤◌, ◌<◌, true, false, List, ◌++◌, length, None, Ok, Err}
+use Rattle.sb_rule.specs.WellMade.{are_well_made}
 use Rattle.sb_rule.specs.declared.policies.Policy.{Policy}
 use Rattle.sb_rule.specs.declared.policies.Rule.{Rule}
 use Rattle.sb_ruletext.specs.PolicyTexts.{TextFault, reading}
@@ -27,6 +28,10 @@ LinesBeforeAreRead = (front rest : List ℕ) (fault : TextFault)
 abbrev pub SilentTextsLackAVersion : Type 0
 SilentTextsLackAVersion = (text : List ℕ) → not_utf8_line text ≡ None → is_some_line (lines_of text) ≡ false
     → reading text ≡ Err (record { line = 1; kind = BadVersion })
+
+-- the policies that a text is read as are well made
+abbrev pub ReadPoliciesAreWellMade : Type 0
+ReadPoliciesAreWellMade = (text : List ℕ) (policies : List Policy) → reading text ≡ Ok policies → are_well_made policies ≡ true
 
 -- a rule, and a policy, with other numbers of lines
 abbrev pub renumbered_rule : (ℕ → ℕ) → Rule → Rule

@@ -2,6 +2,7 @@
 ghost use Rattle.std.specs.Prelude.{◌≡◌, ◌≤◌, ◌<◌, length, true, false, None, Some, IfOk, MatchOption};
 ghost use Rattle.std.specs.List.{list_all};
 ghost use Rattle.sb_call.specs.Tags.{shape_of};
+ghost use Rattle.sb_rule.specs.Limits.{most_conditions, most_numbers};
 ghost use Rattle.sb_rule.specs.WellMade.{is_policy_text, is_like_text, is_sensible, is_number_test, is_well_formed};
 ghost use Rattle.sb_ruletext.specs.Conditions.{number_at, numbers_at, after_dots, around_dots, range_of, range_at, pattern, string, string_at, pattern_at, is_at, in_at, has_at, like_at, test_at, parameter_at, is_number_at, plain_condition_at, condition_at, conditions_at, conditions_of};
 ghost use Rattle.sb_ruletext.specs.Steps.{excess};
@@ -42,7 +43,7 @@ fn excess(tokens: &Tokens) -> TextKind
 fn numbers_at(alloc: Global, tokens: &mut Tokens) -> Result<Numbers, LineRefused>
     ensures read { Reads (numbers_at tokens.old) result tokens.new }
     ensures some { IfOk result (λ numbers. 0 < length numbers) }
-    ensures few { IfOk result (λ numbers. length numbers ≤ 16) }
+    ensures few { IfOk result (λ numbers. length numbers ≤ most_numbers) }
 {
     let mut numbers = Numbers::new(Vec::new(alloc));
     while numbers.len() < MOST_NUMBERS {
@@ -106,7 +107,7 @@ fn range_at(tokens: &mut Tokens) -> Result<Test, LineRefused>
 }
 
 // What stands between quotes, as a string of a policy.
-#[tactic(auto, using(crate::proofs::Strings::quoted_is_text, crate::proofs::Patterns::short_text))]
+#[tactic(auto, using(crate::proofs::Patterns::string_text))]
 fn string(alloc: Global, quoted: &str) -> Result<Wide, LineRefused>
     requires { list_all is_quoted_byte quoted.now ≡ true }
     ensures string { Gives (string quoted.now) result }
@@ -280,7 +281,7 @@ fn condition_at(alloc: Global, tag: CallTag, tokens: &mut Tokens) -> Result<Cond
 #[tactic(auto, using(crate::proofs::Joined::joined_bad, crate::proofs::Joined::joined_last, crate::proofs::Joined::joined_more, crate::proofs::Joined::joined_full))]
 fn conditions_at(alloc: Global, tag: CallTag, tokens: &mut Tokens) -> Result<Conds, LineRefused>
     ensures read { Reads (conditions_at tag tokens.old) result tokens.new }
-    ensures few { IfOk result (λ conds. length conds ≤ 8) }
+    ensures few { IfOk result (λ conds. length conds ≤ most_conditions) }
     ensures well_formed { IfOk result (λ conds. list_all (is_well_formed tag) conds ≡ true) }
 {
     let mut conds = Conds::new(Vec::new(alloc));
@@ -300,7 +301,7 @@ pub(crate) fn conditions_of(
     tokens: &mut Tokens,
 ) -> Result<Conds, LineRefused>
     ensures read { Gives (conditions_of tag tokens.old) result }
-    ensures few { IfOk result (λ conds. length conds ≤ 8) }
+    ensures few { IfOk result (λ conds. length conds ≤ most_conditions) }
     ensures well_formed { IfOk result (λ conds. list_all (is_well_formed tag) conds ≡ true) }
 {
     let conds = conditions_at(alloc, tag, tokens)?;

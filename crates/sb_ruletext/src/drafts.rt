@@ -1,6 +1,7 @@
 // The policies so far, while a text is read.
 ghost use Rattle.std.specs.Prelude.{◌≡◌, ◌<◌, [], true, false, nat_lt, length, vec_len, vec_capacity, OnOk, OnErr, IfOk};
 ghost use Rattle.std.specs.List.{list_all, list_any};
+ghost use Rattle.sb_rule.specs.Limits.{most_policies};
 ghost use Rattle.sb_rule.specs.WellMade.{is_named, is_well_made_rule, are_well_made};
 ghost use Rattle.sb_ruletext.specs.Drafts.{is_headed};
 ghost use Rattle.sb_ruletext.specs.Lines.{with_policy, with_last_rules};
@@ -67,7 +68,7 @@ impl Draft {
     // Whether there is room for one more policy.
     #[tactic(auto, using(crate::proofs::Added::room_more))]
     fn has_room(&self) -> bool
-        ensures { result ≡ nat_lt (length self.now) 8 }
+        ensures { result ≡ nat_lt (length self.now) most_policies }
     {
         match &self.last_name {
             Some(_) => self.before.len() < MOST_POLICIES - 1,

@@ -1,8 +1,10 @@
 // Laws of policy texts. None of these functions does anything: each contract is a law.
-ghost use Rattle.sb_ruletext.specs.Laws.{FirstFaultsStay, LinesBeforeAreRead, SilentTextsLackAVersion, SkippedLinesCountAlone};
+ghost use Rattle.sb_ruletext.specs.Laws.{FirstFaultsStay, LinesBeforeAreRead, ReadPoliciesAreWellMade, SilentTextsLackAVersion, SkippedLinesCountAlone};
 
 use crate::faults::TextKind;
+use sb_pattern::texts_and_patterns;
 use sb_rule::PolicyList;
+use sb_text::quoted_tokens_are_text;
 
 /// A fault on one of the first lines of a text, some of which say something, is that of each text that begins with these
 /// lines: a fault depends on its line and on those before it alone.
@@ -29,4 +31,12 @@ pub fn skipped_lines_count_alone()
     ensures { SkippedLinesCountAlone }
 {
     sb_text::skipped_lines_count_alone::<PolicyList, TextKind>();
+}
+
+/// The policies that a text is read as are well made. This is a law of the grammar, for every list of bytes.
+pub fn read_policies_are_well_made()
+    ensures { ReadPoliciesAreWellMade }
+{
+    texts_and_patterns();
+    quoted_tokens_are_text();
 }

@@ -16,8 +16,8 @@ mod words;
 
 pub use faults::{TextFault, TextKind, TextRefused};
 pub use laws::{
-    first_faults_stay, lines_before_are_read, silent_texts_lack_a_version,
-    skipped_lines_count_alone,
+    first_faults_stay, lines_before_are_read, read_policies_are_well_made,
+    silent_texts_lack_a_version, skipped_lines_count_alone,
 };
 pub use policy_texts::read_policies;
 pub use printing::print_policies;

@@ -1,6 +1,7 @@
 // Reading the lines below the version line.
 ghost use Rattle.std.specs.Prelude.{◌≡◌, ◌≤◌, length, true, false, IfOk, OnOk, OnErr};
 ghost use Rattle.std.specs.List.{list_all, list_any};
+ghost use Rattle.sb_rule.specs.Limits.{most_conditions};
 ghost use Rattle.sb_rule.specs.WellMade.{is_like_text, is_well_formed, is_well_made_rule, are_well_made, is_named};
 ghost use Rattle.sb_ruletext.specs.Lines.{new_name, name_at, heading, call_at, check_action, when_of, rule, grant_at, granted_at, grant, check_heading, with_grant, with_rule, line_of};
 ghost use Rattle.sb_text.specs.Steps.{Gives, Reads, Becomes};
@@ -66,7 +67,7 @@ fn call_at(tokens: &mut Tokens) -> Result<CallTag, LineRefused>
 // Nothing, or `when` and conditions, up to the line's end.
 fn when_of(alloc: Global, tag: CallTag, tokens: &mut Tokens) -> Result<Conds, LineRefused>
     ensures read { Gives (when_of tag tokens.old) result }
-    ensures few { IfOk result (λ conds. length conds ≤ 8) }
+    ensures few { IfOk result (λ conds. length conds ≤ most_conditions) }
     ensures well_formed { IfOk result (λ conds. list_all (is_well_formed tag) conds ≡ true) }
 {
     if tokens.is_end() {

@@ -6,7 +6,6 @@ ghost use Rattle.sb_ruletext.specs.PolicyTexts.{reading};
 
 use crate::printing_laws::printed_policies_are_read;
 use sb_rule::Policies;
-use sb_ruleprint::are_policies;
 use sb_wide::NoMemory;
 use std::alloc::Global;
 
@@ -21,8 +20,6 @@ pub fn print_policies(alloc: Global, policies: &Policies) -> Result<Vec<u8>, NoM
     ensures short { IfOk result (λ text. length text.items < 2 ^ 32) }
     ensures read_again { IfOk result (λ text. reading text.items ≡ Ok (relined policies.now.list)) }
 {
-    let list = policies.list.as_slice();
-    are_policies(list);
     printed_policies_are_read();
     let text = sb_ruleprint::print_policies(alloc, policies)?;
     Ok(text)

@@ -4,6 +4,7 @@ pub mod NumberLaws
 pub mod Scans
 pub mod Conjunctions
 pub mod TokenLaws
+pub mod QuotedText
 pub mod Utf8Laws
 pub mod Values
 pub mod WordLemmas

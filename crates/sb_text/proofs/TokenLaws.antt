@@ -133,7 +133,7 @@ is_sound (InWord w) = is_writable (Word w)
 is_sound (InQuote q) = is_writable (Quoted q)
 is_sound (AfterQuote q) = is_writable (Quoted q)
 
-all_more : (p : ℕ → Bool) (w : List ℕ) (b : ℕ) → list_all p w ≡ true → p b ≡ true → list_all p (w ++ b ∷ []) ≡ true
+pub all_more : (p : ℕ → Bool) (w : List ℕ) (b : ℕ) → list_all p w ≡ true → p b ≡ true → list_all p (w ++ b ∷ []) ≡ true
 all_more p [] b h k = and_true _ _ k refl
 all_more p (c ∷ w) b h k = and_true _ _ (both _ _ h).0 (all_more p w b (both _ _ h).1 k)
 
@@ -144,7 +144,7 @@ some_more (c ∷ w) b = refl
 word_byte : (b : ℕ) → is_blank b ≡ false → (b == 34) ≡ false → is_word_byte b ≡ true
 word_byte b k l = rw (k, l) refl
 
-quoted_byte : (b : ℕ) → (b == 34) ≡ false → nat_lt b 32 ≡ false → is_quoted_byte b ≡ true
+pub quoted_byte : (b : ℕ) → (b == 34) ≡ false → nat_lt b 32 ≡ false → is_quoted_byte b ≡ true
 quoted_byte b k l = rw (k, l) refl
 
 found_from : (p : Place) (line : List ℕ) → is_sound p ≡ true → are_found (scan p line) ≡ true

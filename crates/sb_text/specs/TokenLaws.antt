@@ -1,8 +1,10 @@
 -- What is true of the tokens of each line.
-use Rattle.std.specs.Prelude.{◌≡◌, ℕ, Bool, true, false, not, ◌&&◌, ◌<◌, nat_lt, ◌==◌, List, [], ◌∷◌, ◌++◌, length, map, slice_index, if◌then◌else◌}
+use Rattle.std.specs.Prelude.{◌≡◌, ℕ, Bool, true, false, not, ◌&&◌, ◌<◌, nat_lt, ◌==◌, List, [], ◌∷◌, ◌++◌, length, map, slice_index, None, if◌then◌else◌}
 use Rattle.std.specs.List.{list_all}
-use Rattle.sb_text.specs.Lines.{is_blank, is_skipped}
+use Rattle.std.specs.Str.{is_utf8}
+use Rattle.sb_text.specs.Lines.{NumberedLine, is_blank, is_skipped, lines_of}
 use Rattle.sb_text.specs.Tokens.{Lexeme, Word, Quoted, Bad, tokens_of}
+use Rattle.sb_text.specs.Utf8.{not_utf8_line}
 use Rattle.sb_text.specs.Words.{is_some_word, words_of}
 
 -- neither a blank nor `"`
@@ -42,6 +44,16 @@ abbrev pub is_quotable : Lexeme → Bool
 is_quotable (Quoted q) = list_all is_quoted_byte q
 is_quotable (Word w) = true
 is_quotable Bad = true
+
+-- what a quoted token holds is UTF-8, and can stand between quotes
+abbrev pub is_quoted_text : Lexeme → Bool
+is_quoted_text (Quoted q) = is_utf8 q && list_all is_quoted_byte q
+is_quoted_text (Word w) = true
+is_quoted_text Bad = true
+
+-- so does each quoted token of a line
+abbrev pub has_quoted_text : NumberedLine → Bool
+has_quoted_text line = list_all is_quoted_text (tokens_of line.text)
 
 -- the first byte that is no blank, and 0 where there is none
 abbrev pub first_byte : List ℕ → ℕ
@@ -88,3 +100,7 @@ FirstTokenSkips =
     × ((line : List ℕ) (token : Lexeme) (tokens : List Lexeme) → tokens_of line ≡ token ∷ tokens → is_skipped line ≡ (first_byte line == 35))
     × ((line q : List ℕ) (tokens : List Lexeme) → tokens_of line ≡ Quoted q ∷ tokens → is_skipped line ≡ false)
     × ((line w : List ℕ) (tokens : List Lexeme) → tokens_of line ≡ Word w ∷ tokens → is_skipped line ≡ (slice_index w 0 == 35))
+
+-- in a text that is UTF-8 each quoted token holds UTF-8, which can stand between quotes
+abbrev pub QuotedTokensAreText : Type 0
+QuotedTokensAreText = (text : List ℕ) → not_utf8_line text ≡ None → list_all has_quoted_text (lines_of text) ≡ true

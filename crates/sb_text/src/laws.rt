@@ -2,7 +2,7 @@
 ghost use Rattle.sb_text.specs.ReadingLaws.{NoLineAddsNothing, FirstLineAdds, FirstLineIsRefused, FirstFaultsStay, LinesBeforeAreRead, SkippedLinesCountAlone};
 ghost use Rattle.sb_text.specs.LineLaws.{WrittenRawLinesAreRead, RawLinesAreLines, WrittenLinesAreRead, LinesHoldNoLf, RawLinesJoin, LinesAreCounted, LinesAppend, SayingLinesAppend, NumbersAreWithin, OneCrIsDropped, OtherEndsAreKept};
 ghost use Rattle.sb_text.specs.Utf8Laws.{NotUtf8LineTells};
-ghost use Rattle.sb_text.specs.TokenLaws.{TokenIsReadBeforeBlank, BrokenTokensAreBad, WrittenTokensAreRead, TokensAreFound, BlanksAreNothing, PlainLinesHaveWords, SayingLinesHaveTokens, FirstTokenSkips};
+ghost use Rattle.sb_text.specs.TokenLaws.{TokenIsReadBeforeBlank, BrokenTokensAreBad, WrittenTokensAreRead, TokensAreFound, BlanksAreNothing, PlainLinesHaveWords, SayingLinesHaveTokens, FirstTokenSkips, QuotedTokensAreText};
 ghost use Rattle.sb_text.specs.NumberLaws.{DecimalsAreRead, HexadecimalsAreRead};
 
 /// Lines written one after another, each with an LF, are read back.
@@ -74,6 +74,11 @@ pub fn written_tokens_are_read()
 /// Each token of a line can be written, but that the last may be bytes that break the rules.
 pub fn tokens_are_found()
     ensures { TokensAreFound }
+{}
+
+/// In a text that is UTF-8, what each quoted token holds is UTF-8, with no `"` and no character below 32.
+pub fn quoted_tokens_are_text()
+    ensures { QuotedTokensAreText }
 {}
 
 /// A line that is not skipped has a token.

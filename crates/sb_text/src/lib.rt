@@ -24,9 +24,9 @@ pub use laws::{
     first_token_skips, hexadecimals_are_read, lines_append, lines_are_counted,
     lines_are_read_in_turn, lines_before_are_read, lines_hold_no_lf, not_utf8_line_tells,
     numbers_are_within, one_cr_is_dropped, other_ends_are_kept, plain_lines_have_words,
-    raw_lines_are_lines, raw_lines_join, saying_lines_append, saying_lines_have_tokens,
-    skipped_lines_count_alone, token_is_read_before_blank, tokens_are_found,
-    written_lines_are_read, written_raw_lines_are_read, written_tokens_are_read,
+    quoted_tokens_are_text, raw_lines_are_lines, raw_lines_join, saying_lines_append,
+    saying_lines_have_tokens, skipped_lines_count_alone, token_is_read_before_blank,
+    tokens_are_found, written_lines_are_read, written_raw_lines_are_read, written_tokens_are_read,
 };
 pub use lines::{Line, Lines};
 pub use numbers::{decimal_of, number_of};

@@ -1,7 +1,5 @@
 // Laws of folding, names and quoting. None of these functions changes anything: each contract is a law.
-ghost use Rattle.std.specs.Prelude.{◌≡◌, true};
-ghost use Rattle.std.specs.List.{list_all};
-ghost use Rattle.sb_wide.specs.Wide.{is_unit, FoldsOnce, TestsSame, SameIsEquivalence, SameAtEachPlace, SameAsFolded};
+ghost use Rattle.sb_wide.specs.Wide.{FoldsOnce, TestsSame, SameIsEquivalence, SameAtEachPlace, SameAsFolded};
 ghost use Rattle.sb_wide.specs.Names.{PathsAreNames, PathsHaveTheirComponents, NamesArePaths, DotsAreNoComponents};
 ghost use Rattle.sb_wide.specs.Quoting.{QuotesArePrintable, QuotesDiffer};
 
@@ -55,12 +53,3 @@ pub fn quotes_are_printable()
 pub fn quotes_differ()
     ensures { QuotesDiffer }
 {}
-
-/// Each unit of a slice is below 65,536. It walks through the slice, and has no other effect.
-pub fn are_units(units: &[u16])
-    ensures { list_all is_unit units.now ≡ true }
-{
-    for unit in units {
-        let _unit = *unit;
-    }
-}

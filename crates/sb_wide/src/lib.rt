@@ -9,9 +9,8 @@ mod quoting;
 mod strings;
 
 pub use laws::{
-    are_units, dots_are_no_components, folds_once, names_are_paths, paths_are_names,
-    quotes_are_printable, quotes_differ, same_as_folded, same_at_each_place, same_is_equivalence,
-    tests_same,
+    dots_are_no_components, folds_once, names_are_paths, paths_are_names, quotes_are_printable,
+    quotes_differ, same_as_folded, same_at_each_place, same_is_equivalence, tests_same,
 };
 pub use names::{fold, is_component, is_name, same};
 pub use numbers::{put_decimal, put_eight_digits, put_hexadecimal};

@@ -1,0 +1,5 @@
+use Rattle.sb_ruletext.proofs.ReadWellMade.{read_well_made}
+use Rattle.sb_ruletext.proofs.laws.read_policies_are_well_made.Goals as goal
+
+pub returns : goal.returns
+returns c = read_well_made c.texts_and_patterns.ensures.texts c.texts_and_patterns.ensures.read c.quoted_tokens_are_text.ensures
