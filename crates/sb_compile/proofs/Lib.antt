@@ -12,3 +12,9 @@ pub mod Calls
 pub mod LetterCase
 pub mod Standing
 pub mod Lines
+pub mod Splits
+pub mod ToldOptions
+pub mod ToldCells
+pub mod ToldOpcodes
+pub mod ToldCodes
+pub mod ListableCode

@@ -1,14 +1,14 @@
 -- The policies of targets, each with its program.
 use Rattle.std.specs.Prelude.{nat_le, slice_index_or}
 use Rattle.std.specs.List.{list_all}
-use Rattle.std.proofs.Common.{◌≡◌, ◌∙◌, ◌<◌, ℕ, zero, suc, Bool, true, false, List, [], ◌∷◌, ◌&&◌, length, map, refl, ap, sym, arith}
+use Rattle.std.proofs.Common.{◌≡◌, ◌<◌, ℕ, zero, suc, true, List, [], ◌∷◌, ◌&&◌, length, map, refl, ap, arith}
 use Rattle.std.proofs.lemmas.Bool.{and_parts}
 use Rattle.std.proofs.lemmas.List.{length-map}
 use Rattle.sb_statements.specs.declared.scripts.TargetScript.{TargetScript}
 use Rattle.sb_rule.specs.Verdicts.{policy_at}
 use Rattle.sb_rule.specs.WellMade.{is_well_made, are_well_made, are_named_apart}
 use Rattle.sb_rule.specs.declared.policies.Policy.{Policy}
-use Rattle.sb_compile.specs.Compiling.{Compiled, program_of, policies_of_targets}
+use Rattle.sb_compile.specs.Compiling.{program_of, policies_of_targets}
 use Rattle.sb_compile.specs.Targets.{nothing, policies_in}
 use Rattle.sb_compile.proofs.Members.{both}
 

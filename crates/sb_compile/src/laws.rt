@@ -1,9 +1,11 @@
 // Laws of compiling. None of these functions does anything: each contract is a law.
 ghost use Rattle.sb_compile.specs.Laws.{CompilingKeepsVerdicts, CompiledCodeIsFaultless, GroupsHoldWhereConditionsDo, LetterCaseDoesNotMatter, PatternOpcodesHoldWhereItMatches};
+ghost use Rattle.sb_compile.specs.ListingLaws.{DifferentCodeIsListedDifferently, ListingsDiffer};
 ghost use Rattle.sb_compile.specs.ListingLines.{ListingsAreLines};
 
 use sb_call::{fitting_args, tags_and_numbers};
 use sb_pattern::matching_folds;
+use sb_wide::quotes_differ;
 
 /// The program of a well-made policy says of each call whose arguments fit what the policy says.
 pub fn compiling_keeps_verdicts()
@@ -42,3 +44,13 @@ pub fn letter_case_does_not_matter()
 pub fn listings_are_lines()
     ensures { ListingsAreLines }
 {}
+
+/// Programs of one name whose code differs for a call are listed differently, where the opcodes are as compiling makes them. So
+/// two well-made policies of one name, whose values have the sizes of their types, are listed alike only where their programs are
+/// the same.
+pub fn listings_differ()
+    ensures codes { ListingsDiffer }
+    ensures policies { DifferentCodeIsListedDifferently }
+{
+    quotes_differ();
+}

@@ -13,7 +13,7 @@ mod targets;
 
 pub use laws::{
     compiled_code_is_faultless, compiling_keeps_verdicts, groups_hold_where_conditions_do,
-    letter_case_does_not_matter, listings_are_lines,
+    letter_case_does_not_matter, listings_are_lines, listings_differ,
 };
 pub use programs::{Program, compile};
 pub use targets::{PolicyNumbers, ProgramList, Programs};
