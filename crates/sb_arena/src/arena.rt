@@ -1,5 +1,5 @@
 // An arena: nodes that are linked as trees, each known by its number.
-ghost use Rattle.std.specs.Prelude.{◌≡◌, [], Some, None, IfOk, IfErr, OnOk, OnErr, IsSome, is_some, option_map, length};
+ghost use Rattle.std.specs.Prelude.{◌≡◌, ◌<◌, ◌^◌, [], Some, None, IfOk, IfErr, OnOk, OnErr, IsSome, is_some, option_map, length};
 ghost use Rattle.sb_arena.specs.Forests.{no_nodes, with_node, with_child, row_at, value_at, IsLive, parent_of, children_of, next_of, without_parent, node_number, without_node, with_value, IsRooted, IsShallow, IsSound, Agrees, HasLiveLinks, HasSingleChildren, first_of, IsAbove};
 
 use crate::links::{Link, fresh, link_last, link_of, next_linked, unlink_from};
@@ -75,8 +75,9 @@ impl<T> Arena<T> {
         ensures sound { IsSound self.now }
         ensures shallow { IsShallow self.now.rows }
         ensures even { length self.now.rows ≡ length self.now.values }
+        ensures small { length self.now.rows < 2 ^ 64 }
     {
-        let _count = self.links.len();
+        let _count = self.links.as_slice().len();
     }
 
     /// The number of the node that is added next.

@@ -1,11 +1,12 @@
 -- Laws of events.
-use Rattle.std.specs.Prelude.{◌≡◌, ◌+◌, ℕ, Bool, false, ◌&&◌, ◌||◌, ◌==◌, List, Some, if◌then◌else◌}
+use Rattle.std.specs.Prelude.{◌≡◌, ◌+◌, ℕ, Bool, true, false, ◌&&◌, ◌||◌, ◌==◌, List, Some, if◌then◌else◌}
 use Rattle.sb_call.specs.Statuses.{success, name_exists}
 use Rattle.sb_handles.specs.Effects.{Effect}
-use Rattle.sb_handles.specs.Tables.{Table}
+use Rattle.sb_handles.specs.Tables.{Table, with_handle}
 use Rattle.sb_names.specs.Keys.{key_of}
 use Rattle.sb_names.specs.Maps.{is_key, found}
-use Rattle.sb_event.specs.Events.{Events, create, open_event}
+use Rattle.sb_event.specs.Events.{Events, create, on_event, open_event}
+use Rattle.sb_event.specs.declared.rows.EventRow.{EventRow}
 
 -- something was made or opened
 abbrev pub is_granted : ℕ → Bool
@@ -36,3 +37,18 @@ CreatesAreFound = (events : Events) (handles : Table) (target : ℕ) (name other
 abbrev pub OpensLeaveEvents : Type 0
 OpensLeaveEvents = (events : Events) (handles : Table) (target : ℕ) (name : List ℕ) (access : ℕ)
     → (open_event events handles target name access).service ≡ events
+
+-- a call that makes or opens an event grants one handle, on the event that is found under the name after it
+abbrev pub IsGrantedOn : Effect Events → Table → ℕ → List ℕ → ℕ → Type 0
+IsGrantedOn effect handles target name access =
+    (row : EventRow) × (found effect.service.rows name ≡ Some row) × (effect.handles ≡ with_handle handles target (on_event row.number access))
+
+abbrev pub CreatesGrantTheirEvent : Type 0
+CreatesGrantTheirEvent = (events : Events) (handles : Table) (target : ℕ) (name : List ℕ) (kind initial : ℕ)
+    → is_granted (create events handles target name kind initial).answer.status ≡ true
+    → IsGrantedOn (create events handles target name kind initial) handles target name 0
+
+abbrev pub OpensGrantTheirEvent : Type 0
+OpensGrantTheirEvent = (events : Events) (handles : Table) (target : ℕ) (name : List ℕ) (access : ℕ)
+    → is_granted (open_event events handles target name access).answer.status ≡ true
+    → IsGrantedOn (open_event events handles target name access) handles target name access

@@ -1,5 +1,5 @@
 // Laws of events. None of these functions changes anything: each contract is a law.
-ghost use Rattle.sb_event.specs.Laws.{RefusedCreatesChangeNothing, RefusedOpensChangeNothing, CreatesAreFound, OpensLeaveEvents};
+ghost use Rattle.sb_event.specs.Laws.{RefusedCreatesChangeNothing, RefusedOpensChangeNothing, CreatesAreFound, CreatesGrantTheirEvent, OpensGrantTheirEvent, OpensLeaveEvents};
 
 use crate::rows::EventRow;
 use sb_names::puts_are_found;
@@ -15,6 +15,15 @@ pub fn refused_calls_change_nothing()
 pub fn events_are_found_where_made()
     ensures creates { CreatesAreFound }
     ensures opens { OpensLeaveEvents }
+{
+    puts_are_found::<EventRow>();
+}
+
+/// A call that makes or opens an event grants its handle on the event that is found under the name.
+#[tactic(auto, using(crate::proofs::GrantLaws::creates_grant_their_event, crate::proofs::GrantLaws::opens_grant_their_event))]
+pub fn calls_grant_their_event()
+    ensures creates { CreatesGrantTheirEvent }
+    ensures opens { OpensGrantTheirEvent }
 {
     puts_are_found::<EventRow>();
 }

@@ -7,5 +7,7 @@ mod laws;
 mod rows;
 
 pub use events::EventService;
-pub use laws::{events_are_found_where_made, refused_calls_change_nothing};
+pub use laws::{
+    calls_grant_their_event, events_are_found_where_made, refused_calls_change_nothing,
+};
 pub use rows::EventRow;

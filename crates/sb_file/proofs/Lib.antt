@@ -1,6 +1,7 @@
 pub mod AgreementLaws
 pub mod CreationLaws
 pub mod FileLemmas
-pub mod MoveLemmas
+pub mod ParentLemmas
 pub mod RenameLaws
+pub mod RowLemmas
 mod WorkedCases

@@ -1,5 +1,5 @@
 -- The files and directories, and what each call but file.create does.
-use Rattle.std.specs.Prelude.{◌≡◌, ◌+◌, ◌-◌, ℕ, Bool, true, false, ◌&&◌, not, nat_le, List, [], ◌∷◌, ◌++◌, length, Option, None, Some, is_some, slice_index_or, slice_set, if◌then◌else◌}
+use Rattle.std.specs.Prelude.{◌≡◌, ◌+◌, ◌-◌, ℕ, Bool, true, false, ◌&&◌, not, List, [], ◌∷◌, ◌++◌, length, Option, None, Some, is_some, slice_index_or, slice_set, if◌then◌else◌}
 use Rattle.std.specs.List.{list_all}
 use Rattle.sb_call.specs.Statuses.{refusal, showing, success, invalid_parameter, name_not_found, name_collision, path_not_found, sharing_violation}
 use Rattle.sb_call.specs.declared.replies.Answer.{Answer}
@@ -7,8 +7,10 @@ use Rattle.sb_handles.specs.Agreements.{AgreesOnFiles}
 use Rattle.sb_handles.specs.Shares.{Shares, conflict_of, left}
 use Rattle.sb_handles.specs.Tables.{Table}
 use Rattle.sb_names.specs.Keys.{key_of, parent_of, is_below}
-use Rattle.sb_names.specs.Maps.{Rows, found, is_key, is_there, put}
-use Rattle.sb_names.specs.Moves.{moved}
+use Rattle.sb_names.specs.Maps.{Rows, Rises, found, is_there, put}
+use Rattle.sb_names.specs.Numbers.{AreNumbered, is_given}
+use Rattle.sb_names.specs.Renames.{renamed_rows}
+use Rattle.sb_names.specs.Trees.{AreFolded, AreNamed, IsTree}
 use Rattle.sb_file.specs.declared.objects.FileKind.{FileKind}
 use Rattle.sb_file.specs.declared.objects.FileKind.TheVariants as kind
 use Rattle.sb_file.specs.declared.objects.FileObject.{FileObject}
@@ -94,7 +96,7 @@ rename_by (Some number) files name to =
     else (if not (has_parent files to) then rename_is_refused files path_not_found
     else (if is_there files.names to then rename_is_refused files name_collision
     else (if is_shared_out files number rename_access rename_sharing then rename_is_refused files sharing_violation
-    else (record files { names = moved files.names name to }, refusal success))))
+    else (record files { names = renamed_rows files.names name to }, refusal success))))
 
 -- file.rename: the first case that applies
 abbrev pub rename : Files → List ℕ → List ℕ → Files × Answer
@@ -123,13 +125,16 @@ closed files handle = record files { shares = left files.shares handle }
 abbrev pub Agrees : Files → Table → Type 0
 Agrees files handles = AgreesOnFiles files.shares handles
 
--- a number is that of an object that was made
-abbrev pub is_made : ℕ → ℕ → Bool
-is_made made number = nat_le 1 number && nat_le number made
+-- each name leads to an object that was made, no two to one, and stands in a directory; each open handle is on an object that was made
+pub record AreObjects (files : Files) : Type 0 where
+  pub made : AreNumbered (λ n. n) (length files.objects) files.names
+  pub parents : list_all (λ row. has_parent files row.0) files.names ≡ true
+  pub shared : list_all (λ row. is_given (length files.objects) row.0.0) files.shares ≡ true
 
--- each name leads to an object that was made, each open handle is on one, and names are kept folded
-abbrev pub AreFiles : Files → Type 0
-AreFiles files =
-    (list_all (λ row. is_made (length files.objects) row.1) files.names ≡ true)
-    × (list_all (λ row. is_made (length files.objects) row.0.0) files.shares ≡ true)
-    × (list_all (λ row. is_key (key_of row.0) row.0) files.names ≡ true)
+-- and each name is one. Names are kept folded, in rising order
+pub record AreFiles (files : Files) : Type 0 where
+  pub objects : AreObjects files
+  pub tree : IsTree files.names
+  pub named : AreNamed files.names
+  pub folded : AreFolded files.names
+  pub rise : Rises files.names

@@ -1,13 +1,16 @@
 -- Laws of files and directories.
-use Rattle.std.specs.Prelude.{◌≡◌, ◌≤◌, ◌+◌, ◌⊎◌, ℕ, Bool, true, false, ◌&&◌, ◌||◌, ◌==◌, nat_eq, List, [], ◌∷◌, ◌++◌, drop, length, Option, None, Some, if◌then◌else◌}
+use Rattle.std.specs.Prelude.{◌≡◌, ◌≤◌, ◌+◌, ◌⊎◌, ℕ, Bool, true, false, ◌&&◌, ◌||◌, ◌==◌, nat_eq, List, [], ◌∷◌, length, Option, None, Some, is_some, if◌then◌else◌}
 use Rattle.std.specs.Cmp.Lexicographic.{pointwise}
+use Rattle.std.specs.Map.{lookup}
+use Rattle.sb_wide.specs.Names.{is_name_of}
 use Rattle.sb_call.specs.Statuses.{success}
 use Rattle.sb_handles.specs.Agreements.{is_file}
 use Rattle.sb_handles.specs.Tables.{Table, IsTable, held_by, with_handle, without_handle}
 use Rattle.sb_handles.specs.declared.objects.Held.{Held}
 use Rattle.sb_names.specs.Keys.{key_of, is_below}
-use Rattle.sb_names.specs.Maps.{Rows, Rises, found, is_key, is_there}
-use Rattle.sb_file.specs.Creation.{create, open_file, was_created}
+use Rattle.sb_names.specs.Maps.{found, is_key, is_there}
+use Rattle.sb_names.specs.Renames.{renamed_key}
+use Rattle.sb_file.specs.Creation.{create, on_file, open_file, was_created}
 use Rattle.sb_file.specs.Files.{Files, AreFiles, Agrees, rename, closed}
 
 -- a file.create that answers a status other than success leaves files and handles as they are; so does file.open, which is
@@ -28,6 +31,14 @@ CreatesGrantFiles = (files : Files) (handles : Table) (target : ℕ) (name : Lis
     → ((create files handles target name attributes access sharing disposition options).handles ≡ handles)
     ⊎ ((held : Held) × (is_file held.object.service ≡ true)
     × ((create files handles target name attributes access sharing disposition options).handles ≡ with_handle handles target held))
+
+-- one that answers success grants one handle, on what is found under the name after it, with the access and the sharing that
+-- were asked for
+abbrev pub CreatesGrantTheirFile : Type 0
+CreatesGrantTheirFile = (files : Files) (handles : Table) (target : ℕ) (name : List ℕ) (attributes access sharing disposition options : ℕ)
+    → (create files handles target name attributes access sharing disposition options).answer.status ≡ success
+    → (number : ℕ) × (found (create files handles target name attributes access sharing disposition options).service.names name ≡ Some number)
+    × ((create files handles target name attributes access sharing disposition options).handles ≡ with_handle handles target (on_file number access sharing))
 
 -- it makes one object at most
 abbrev pub CreatesMakeOne : Type 0
@@ -60,41 +71,27 @@ RenamesKeepObjects = (files : Files) (name to : List ℕ)
 abbrev pub is_at : List ℕ → List ℕ → Bool
 is_at name other = is_key (key_of name) (key_of other) || is_below (key_of name) (key_of other)
 
--- nothing, or a `\` and what follows
-abbrev pub is_rest : List ℕ → Bool
-is_rest [] = true
-is_rest (u ∷ us) = u == 92
-
--- the first, or else the second
-abbrev pub or_else : Option ℕ → Option ℕ → Option ℕ
-or_else None other = other
-or_else (Some object) other = Some object
-
--- what is found under a name after FROM and all below it were moved to TO: what stood at its place below FROM, and else what
--- was found there before and was not moved
-abbrev pub found_after : Rows ℕ → List ℕ → List ℕ → List ℕ → Option ℕ
-found_after rows from to other =
-    or_else (if is_at to other then found rows (from ++ drop (length to) other) else None) (if is_at from other then None else found rows other)
-
-abbrev pub RenamesAreExact : Type 0
-RenamesAreExact = (files : Files) (name to other : List ℕ) → AreFiles files → Rises files.names → (rename files name to).1.status ≡ success
-    → found (rename files name to).0.names other ≡ found_after files.names name to other
-
--- each name below FROM, and FROM itself, is found at its new place, with its object
+-- each name that is there is found after a rename that succeeded under its new one, with its object
 abbrev pub RenamesMove : Type 0
-RenamesMove = (files : Files) (name to rest : List ℕ) → AreFiles files → Rises files.names → (rename files name to).1.status ≡ success
-    → is_rest rest ≡ true → is_there files.names (name ++ rest) ≡ true
-    → found (rename files name to).0.names (to ++ rest) ≡ found files.names (name ++ rest)
+RenamesMove = (files : Files) (name to key : List ℕ) → AreFiles files → is_name_of to ≡ true → (rename files name to).1.status ≡ success
+    → is_some (lookup (is_key key) files.names) ≡ true
+    → lookup (is_key (renamed_key (key_of name) (key_of to) key)) (rename files name to).0.names ≡ lookup (is_key key) files.names
 
--- and nowhere else: under FROM nothing is found any more
-abbrev pub RenamesLeaveNothing : Type 0
-RenamesLeaveNothing = (files : Files) (name to other : List ℕ) → AreFiles files → Rises files.names → (rename files name to).1.status ≡ success
-    → is_at name other ≡ true → is_at to other ≡ false → found (rename files name to).0.names other ≡ None
-
--- every other name is found as before
+-- so each that is neither FROM nor below it is found as before
 abbrev pub RenamesLeaveOthers : Type 0
-RenamesLeaveOthers = (files : Files) (name to other : List ℕ) → AreFiles files → Rises files.names → (rename files name to).1.status ≡ success
-    → is_at name other ≡ false → is_at to other ≡ false → found (rename files name to).0.names other ≡ found files.names other
+RenamesLeaveOthers = (files : Files) (name to other : List ℕ) → AreFiles files → is_name_of to ≡ true → (rename files name to).1.status ≡ success
+    → is_at name other ≡ false → is_there files.names other ≡ true → found (rename files name to).0.names other ≡ found files.names other
+
+-- under FROM nothing is found any more
+abbrev pub RenamesLeaveNothing : Type 0
+RenamesLeaveNothing = (files : Files) (name to other : List ℕ) → AreFiles files → is_name_of to ≡ true → (rename files name to).1.status ≡ success
+    → is_at name other ≡ true → found (rename files name to).0.names other ≡ None
+
+-- and nothing is found that is not under the new name of one that was there
+abbrev pub RenamesAddNothing : Type 0
+RenamesAddNothing = (files : Files) (name to other : List ℕ) → (rename files name to).1.status ≡ success
+    → is_there (rename files name to).0.names other ≡ true
+    → (key : List ℕ) × (is_some (lookup (is_key key) files.names) ≡ true) × (renamed_key (key_of name) (key_of to) key ≡ key_of other)
 
 -- after a handle was closed, `closed` makes files and handles agree again
 abbrev pub ClosesKeepFiles : Type 0

@@ -18,7 +18,7 @@ use sb_call::{
 use sb_handles::{
     HandleTable, Held, Object, Service, ShareTable, agreement_is_kept, opens_come_back,
 };
-use sb_names::puts_come_back;
+use sb_names::{numbers_are_kept, parents_are_kept, puts_come_back};
 use sb_wide::NoMemory;
 
 // What to do where the name is there, and where it is not: its file is replaced whole, it is opened, it is made, opened or
@@ -136,6 +136,7 @@ impl FileService {
         access: u64,
         sharing: u64,
     ) -> Result<u64, NoMemory>
+        requires name { is_name_of name.now ≡ true }
         requires parent { has_parent self.old name.now ≡ true }
         requires absent { found self.old.names name.now ≡ None }
         requires granted { handles.old.granted < 2 ^ 63 }
@@ -147,6 +148,8 @@ impl FileService {
         ensures agree { Agrees self.new handles.new }
         ensures err { OnErr result ((self.new ≡ self.old) × (handles.new ≡ handles.old)) }
     {
+        numbers_are_kept::<u64>();
+        parents_are_kept();
         puts_come_back::<u64>();
         let number = add_object(&mut self.names, &mut self.objects, name, object)?;
         match open(
@@ -172,6 +175,7 @@ impl FileService {
         name: &[u16],
         request: Request,
     ) -> Result<Answer, NoMemory>
+        requires name { is_name_of name.now ≡ true }
         requires parent { has_parent self.old name.now ≡ true }
         requires absent { found self.old.names name.now ≡ None }
         requires granted { handles.old.granted < 2 ^ 63 }

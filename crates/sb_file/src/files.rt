@@ -1,9 +1,10 @@
 // The files and directories, and what each call but file.create does.
 ghost use Rattle.std.specs.Prelude.{◌≡◌, ◌<◌, ◌≤◌, ◌+◌, ◌-◌, ◌^◌, ◌++◌, ◌∷◌, [], true, None, IfOk, IfSome, OnOk, OnErr, length, slice_set};
 ghost use Rattle.sb_wide.specs.Names.{is_name_of};
-ghost use Rattle.sb_names.specs.Maps.{Rises, found, put};
+ghost use Rattle.sb_names.specs.Maps.{count_in, found, put};
+ghost use Rattle.sb_names.specs.Nodes.{rows_of};
 ghost use Rattle.sb_names.specs.Trees.{has_parent as has_tree_parent};
-ghost use Rattle.sb_file.specs.Files.{AreFiles, no_files, object_at, object_of, is_directory_there, has_parent, query, rename, can_start, started, closed};
+ghost use Rattle.sb_file.specs.Files.{AreFiles, no_files, object_at, object_of, has_parent, query, rename, can_start, started, closed};
 
 use crate::objects::{FileKind, FileObject};
 use sb_call::{
@@ -11,7 +12,7 @@ use sb_call::{
     SUCCESS,
 };
 use sb_handles::ShareTable;
-use sb_names::{NameTree, is_below, parent};
+use sb_names::{NameTree, is_below, numbers_are_kept, parents_are_kept, renames_keep_numbers};
 use sb_wide::NoMemory;
 use std::alloc::Global;
 use std::marker::Model;
@@ -36,13 +37,14 @@ pub struct FileService {
 }
 
 impl Model for FileService {
-    ghost use Rattle.sb_file.specs.Files.{Files, AreFiles};
+    ghost use Rattle.sb_names.specs.Nodes.{rows_of};
+    ghost use Rattle.sb_file.specs.Files.{Files, AreObjects};
 
     ghost Value = { Files };
 
-    ghost view = { λ s. record { names = s.names; objects = s.objects.items; shares = s.shares } };
+    ghost view = { λ s. record { names = rows_of s.names; objects = s.objects.items; shares = s.shares } };
 
-    ghost invariant = { λ s. AreFiles (record { names = s.names; objects = s.objects.items; shares = s.shares }) };
+    ghost invariant = { λ s. AreObjects (record { names = rows_of s.names; objects = s.objects.items; shares = s.shares }) };
 }
 
 // The object of a number.
@@ -71,11 +73,13 @@ pub(crate) fn add_object(
     name: &[u16],
     object: FileObject,
 ) -> Result<u64, NoMemory>
-    requires parent { has_tree_parent names.old name.now ≡ true }
-    requires absent { found names.old name.now ≡ None }
+    requires name { is_name_of name.now ≡ true }
+    requires parent { has_tree_parent (rows_of names.old) name.now ≡ true }
+    requires absent { found (rows_of names.old) name.now ≡ None }
     requires made { length objects.old.items < 2 ^ 63 }
     ensures number { IfOk result (λ number. number ≡ length objects.old.items + 1) }
-    ensures names { OnOk result (names.new ≡ put names.old name.now (length objects.old.items + 1)) }
+    ensures names { OnOk result (rows_of names.new ≡ put (rows_of names.old) name.now (length objects.old.items + 1)) }
+    ensures below { OnOk result (count_in (rows_of names.new) name.now ≡ 0) }
     ensures objects { OnOk result (objects.new.items ≡ objects.old.items ++ object ∷ []) }
     ensures err { OnErr result ((names.new ≡ names.old) × (objects.new.items ≡ objects.old.items)) }
 {
@@ -108,18 +112,18 @@ impl FileService {
         self.objects.len() as u64
     }
 
-    /// Each name leads to an object that was made, each open handle is on one, and the names are kept folded and in rising
-    /// order. It changes nothing.
+    /// Each name leads to an object that was made, no two to one, and stands in a directory or in the root; each open handle is
+    /// on an object that was made; and the names are kept folded and in rising order. It changes nothing.
     pub fn files_are_made(&self)
-        ensures made { AreFiles self.now }
-        ensures names { Rises self.now.names }
+        ensures { AreFiles self.now }
     {
-        self.names.rows_rise();
+        self.names.establish_tree();
     }
 
     #[tactic(auto, using(crate::proofs::FileLemmas::found_made))]
     // The number of the object under a name.
     pub(crate) fn number_of(&self, name: &[u16]) -> Option<u64>
+        requires { is_name_of name.now ≡ true }
         ensures found { result ≡ found self.now.names name.now }
         ensures made { IfSome result (λ number. (1 ≤ number) × (number ≤ length self.now.objects)) }
     {
@@ -135,24 +139,17 @@ impl FileService {
         object_at(&self.objects, number)
     }
 
-    // Whether a directory of this name is there; the root always is.
-    fn is_directory_there(&self, name: &[u16]) -> bool
-        ensures { result ≡ is_directory_there self.now name.now }
-    {
-        let Some(_) = name.split_first() else {
-            return true;
-        };
-        match self.number_of(name) {
-            Some(number) => self.object_of(number).kind.is_directory(),
-            None => false,
-        }
-    }
-
+    #[tactic(auto, using(crate::proofs::FileLemmas::parent_is_root, crate::proofs::FileLemmas::parent_is_gone))]
     // Whether the parent of a name is there, and is a directory.
     pub(crate) fn has_parent(&self, name: &[u16]) -> bool
+        requires { is_name_of name.now ≡ true }
         ensures { result ≡ has_parent self.now name.now }
     {
-        self.is_directory_there(parent(name))
+        match self.names.parent_object(name) {
+            Some(Some(number)) => self.object_of(number).kind.is_directory(),
+            Some(None) => true,
+            None => false,
+        }
     }
 
     /// Shows the attributes and the kind of what stands under a name. Statuses, the first that applies: path not found
@@ -174,7 +171,7 @@ impl FileService {
         }
     }
 
-    #[tactic(auto, using(crate::proofs::FileLemmas::renamed_to, crate::proofs::FileLemmas::moved_made))]
+    #[tactic(auto, using(crate::proofs::FileLemmas::renamed_to))]
     /// Gives a file or directory, and all below it, a new name: each name begins with `to` in the place of `name`. The
     /// handles stay with their objects. Statuses, the first that applies: path not found where the parent of `name` is not
     /// there or is a file; name not found; invalid parameter where `to` lies below `name`; path not found where the parent
@@ -191,6 +188,9 @@ impl FileService {
         ensures shares { self.new.shares ≡ self.old.shares }
         ensures err { OnErr result (self.new ≡ self.old) }
     {
+        renames_keep_numbers();
+        parents_are_kept();
+        self.names.establish_tree();
         if !self.has_parent(name) {
             return Ok(Answer::refusal(PATH_NOT_FOUND));
         }
@@ -233,6 +233,8 @@ impl FileService {
         ensures shares { self.new.shares ≡ self.old.shares }
         ensures err { OnErr result (self.new ≡ self.old) }
     {
+        numbers_are_kept::<u64>();
+        parents_are_kept();
         if !self.has_parent(name) {
             return Ok(false);
         }

@@ -1,8 +1,8 @@
 // Laws of files and directories. None of these functions changes anything: each contract is a law.
-ghost use Rattle.sb_file.specs.Laws.{CreatesAreFound, CreatesGrantFiles, CreatesMakeOne, OpensLeaveNames, RefusalsChangeNothing, RefusedRenamesChangeNothing, RenamesAreExact, RenamesKeepObjects, RenamesMove, RenamesLeaveNothing, RenamesLeaveOthers, ClosesKeepFiles, ClosesLeaveFiles, GrantsLeaveFiles};
+ghost use Rattle.sb_file.specs.Laws.{CreatesAreFound, CreatesGrantFiles, CreatesGrantTheirFile, CreatesMakeOne, OpensLeaveNames, RefusalsChangeNothing, RefusedRenamesChangeNothing, RenamesAddNothing, RenamesKeepObjects, RenamesMove, RenamesLeaveNothing, RenamesLeaveOthers, ClosesKeepFiles, ClosesLeaveFiles, GrantsLeaveFiles};
 
 use sb_handles::agreement_is_kept as shares_are_kept;
-use sb_names::puts_are_found;
+use sb_names::{puts_are_found, renames_are_found};
 
 /// A call that answers a status other than success leaves files and handles as they are.
 #[tactic(auto, using(crate::proofs::AgreementLaws::refusals_change_nothing, crate::proofs::RenameLaws::refused_renames_change_nothing))]
@@ -27,17 +27,25 @@ pub fn files_are_found_where_made()
     puts_are_found::<u64>();
 }
 
-/// After a rename each name below the old one is found at its new place, with the same object, and nowhere else. All other
-/// names are found as before.
-#[tactic(auto, using(crate::proofs::RenameLaws::renames_keep_objects, crate::proofs::RenameLaws::renames_are_exact, crate::proofs::RenameLaws::renames_move, crate::proofs::RenameLaws::renames_leave_nothing, crate::proofs::RenameLaws::renames_leave_others))]
+/// A file.create that succeeds grants its handle on what is found under the name, with the access and sharing asked for.
+#[tactic(auto, using(crate::proofs::CreationLaws::creates_grant_their_file))]
+pub fn creates_grant_their_file()
+    ensures { CreatesGrantTheirFile }
+{
+    puts_are_found::<u64>();
+}
+
+/// After a rename the old name and each below it are found at their new places, with the same objects, and nowhere else. All
+/// other names are found as before.
+#[tactic(auto, using(crate::proofs::RenameLaws::renames_keep_objects, crate::proofs::RenameLaws::renames_move, crate::proofs::RenameLaws::renames_leave_nothing, crate::proofs::RenameLaws::renames_leave_others, crate::proofs::RenameLaws::renames_add_nothing))]
 pub fn renames_move_names()
     ensures objects { RenamesKeepObjects }
-    ensures found { RenamesAreExact }
     ensures moved { RenamesMove }
     ensures gone { RenamesLeaveNothing }
     ensures others { RenamesLeaveOthers }
+    ensures nothing { RenamesAddNothing }
 {
-    puts_are_found::<u64>();
+    renames_are_found();
 }
 
 /// Files that agree with a handle table agree after a handle was closed in both, and after one on any other object was

@@ -9,7 +9,7 @@ mod objects;
 
 pub use files::FileService;
 pub use laws::{
-    agreement_is_kept, creates_grant_files, files_are_found_where_made, refusals_change_nothing,
-    renames_move_names,
+    agreement_is_kept, creates_grant_files, creates_grant_their_file, files_are_found_where_made,
+    refusals_change_nothing, renames_move_names,
 };
 pub use objects::{FileKind, FileObject};

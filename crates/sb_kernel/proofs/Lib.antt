@@ -3,4 +3,5 @@ pub mod Kept
 pub mod Misfits
 pub mod Placing
 pub mod Refusals
+pub mod Shortness
 pub mod Steps

@@ -1,5 +1,5 @@
 -- Laws of the namespace.
-use Rattle.std.specs.Prelude.{◌≡◌, ℕ, Bool, false, ◌||◌, ◌==◌, List, [], ◌∷◌, None}
+use Rattle.std.specs.Prelude.{◌≡◌, ◌≤◌, ℕ, length, Bool, false, ◌||◌, ◌==◌, List, [], ◌∷◌, None}
 use Rattle.sb_call.specs.Statuses.{success, name_exists, invalid_handle, refusal}
 use Rattle.sb_call.specs.declared.arguments.Arg.{Arg}
 use Rattle.sb_call.specs.declared.arguments.Arg.TheVariants.{Num}
@@ -21,3 +21,7 @@ RefusedCallsChangeNothing = (ns : Space) (target : ℕ) (tag : CallTag) (args : 
 abbrev pub UnheldClosesChangeNothing : Type 0
 UnheldClosesChangeNothing = (ns : Space) (target handle : ℕ) → held_by ns.handles target handle ≡ None
     → perform ns target tag.HandleClose (Num handle ∷ []) ≡ answered_with ns (refusal invalid_handle)
+
+-- no answer has more than seven extended words
+abbrev pub AnswersAreShort : Type 0
+AnswersAreShort = (ns : Space) (target : ℕ) (tag : CallTag) (args : List Arg) → length (perform ns target tag args).answer.ext ≤ 7

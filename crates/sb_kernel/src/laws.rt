@@ -1,5 +1,5 @@
 // Laws of the namespace. None of these functions changes anything: each contract is a law.
-ghost use Rattle.sb_kernel.specs.Laws.{RefusedCallsChangeNothing, UnheldClosesChangeNothing};
+ghost use Rattle.sb_kernel.specs.Laws.{AnswersAreShort, RefusedCallsChangeNothing, UnheldClosesChangeNothing};
 
 use sb_event::refused_calls_change_nothing as refused_events_change_nothing;
 use sb_file::refusals_change_nothing as refused_files_change_nothing;
@@ -21,4 +21,10 @@ pub fn refused_calls_change_nothing()
 #[tactic(auto, using(crate::proofs::Refusals::unheld_closes_change_nothing))]
 pub fn unheld_closes_change_nothing()
     ensures { UnheldClosesChangeNothing }
+{}
+
+/// No answer of a call has more than seven extended words, so a reply carries them all.
+#[tactic(auto, using(crate::proofs::Shortness::answers_are_short))]
+pub fn answers_are_short()
+    ensures { AnswersAreShort }
 {}

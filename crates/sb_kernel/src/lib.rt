@@ -6,5 +6,5 @@ mod laws;
 mod openings;
 
 pub use kernels::Kernel;
-pub use laws::{refused_calls_change_nothing, unheld_closes_change_nothing};
+pub use laws::{answers_are_short, refused_calls_change_nothing, unheld_closes_change_nothing};
 pub use openings::StartRefused;

@@ -1,2 +1,4 @@
+pub mod GrantLaws
 pub mod KeyLaws
+pub mod Numbering
 mod WorkedCases

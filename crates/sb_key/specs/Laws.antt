@@ -3,11 +3,11 @@ use Rattle.std.specs.Prelude.{◌≡◌, ◌+◌, ℕ, Bool, false, ◌&&◌, �
 use Rattle.std.specs.Cmp.Lexicographic.{pointwise}
 use Rattle.sb_call.specs.Statuses.{success}
 use Rattle.sb_handles.specs.Effects.{Effect}
-use Rattle.sb_handles.specs.Tables.{Table}
+use Rattle.sb_handles.specs.Tables.{Table, with_handle}
 use Rattle.sb_names.specs.Keys.{key_of}
 use Rattle.sb_names.specs.Maps.{is_key, found}
 use Rattle.sb_names.specs.Trees.{IsTree}
-use Rattle.sb_key.specs.Registry.{Keys, create, open_key, created_new_key}
+use Rattle.sb_key.specs.Registry.{Keys, create, open_key, created_new_key, on_key}
 
 -- a call leaves all as it was
 abbrev pub ChangesNothing : Keys → Table → Effect Keys → Type 0
@@ -43,3 +43,19 @@ OpensLeaveKeys = (keys : Keys) (handles : Table) (target : ℕ) (name : List ℕ
 abbrev pub CreatesKeepTrees : Type 0
 CreatesKeepTrees = (keys : Keys) (handles : Table) (target : ℕ) (name : List ℕ) (access : ℕ)
     → IsTree keys.names → IsTree (create keys handles target name access).service.names
+
+-- a call that answers success grants one handle, on the key that is found under the name after it, with the access that was
+-- asked for
+abbrev pub IsGrantedOn : Effect Keys → Table → ℕ → List ℕ → ℕ → Type 0
+IsGrantedOn effect handles target name access =
+    (number : ℕ) × (found effect.service.names name ≡ Some number) × (effect.handles ≡ with_handle handles target (on_key number access))
+
+abbrev pub CreatesGrantTheirKey : Type 0
+CreatesGrantTheirKey = (keys : Keys) (handles : Table) (target : ℕ) (name : List ℕ) (access : ℕ)
+    → (create keys handles target name access).answer.status ≡ success
+    → IsGrantedOn (create keys handles target name access) handles target name access
+
+abbrev pub OpensGrantTheirKey : Type 0
+OpensGrantTheirKey = (keys : Keys) (handles : Table) (target : ℕ) (name : List ℕ) (access : ℕ)
+    → (open_key keys handles target name access).answer.status ≡ success
+    → IsGrantedOn (open_key keys handles target name access) handles target name access

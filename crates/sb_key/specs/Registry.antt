@@ -5,8 +5,9 @@ use Rattle.sb_handles.specs.Effects.{Effect, refused, grants}
 use Rattle.sb_handles.specs.Tables.{Table}
 use Rattle.sb_handles.specs.declared.objects.Held.{Held}
 use Rattle.sb_handles.specs.declared.objects.Service.TheVariants as service
-use Rattle.sb_names.specs.Maps.{Rows, found, is_there, put}
-use Rattle.sb_names.specs.Trees.{has_parent}
+use Rattle.sb_names.specs.Maps.{Rows, Rises, found, is_there, put}
+use Rattle.sb_names.specs.Numbers.{AreNumbered}
+use Rattle.sb_names.specs.Trees.{AreFolded, AreNamed, IsTree, has_parent}
 
 -- the number of the key under each name, and how many were ever made
 pub record Keys : Type 0 where
@@ -15,6 +16,18 @@ pub record Keys : Type 0 where
 
 abbrev pub no_keys : Keys
 no_keys = record { names = []; made = 0 }
+
+-- each name leads to a key that was made, and no two to one
+abbrev pub AreMade : Keys → Type 0
+AreMade keys = AreNumbered (λ n. n) keys.made keys.names
+
+-- and each is a name, below a key that is there or below the root. Names are kept folded, in rising order
+pub record AreKeys (keys : Keys) : Type 0 where
+  pub made : AreMade keys
+  pub tree : IsTree keys.names
+  pub named : AreNamed keys.names
+  pub folded : AreFolded keys.names
+  pub rise : Rises keys.names
 
 -- the extended word of a key that was made
 abbrev pub created_new_key : ℕ

@@ -1,5 +1,5 @@
 // Laws of keys. None of these functions changes anything: each contract is a law.
-ghost use Rattle.sb_key.specs.Laws.{RefusedCreatesChangeNothing, RefusedOpensChangeNothing, CreatesAreFound, OpensLeaveKeys, CreatesKeepTrees};
+ghost use Rattle.sb_key.specs.Laws.{RefusedCreatesChangeNothing, RefusedOpensChangeNothing, CreatesAreFound, CreatesGrantTheirKey, OpensGrantTheirKey, OpensLeaveKeys, CreatesKeepTrees};
 
 use sb_names::{puts_are_found, puts_keep_trees};
 
@@ -24,4 +24,13 @@ pub fn keys_stand_below_keys()
     ensures { CreatesKeepTrees }
 {
     puts_keep_trees();
+}
+
+/// A call that succeeds grants its handle on the key that is found under the name, with the access that was asked for.
+#[tactic(auto, using(crate::proofs::GrantLaws::creates_grant_their_key, crate::proofs::GrantLaws::opens_grant_their_key))]
+pub fn calls_grant_their_key()
+    ensures creates { CreatesGrantTheirKey }
+    ensures opens { OpensGrantTheirKey }
+{
+    puts_are_found::<u64>();
 }

@@ -5,5 +5,8 @@
 mod laws;
 mod registry;
 
-pub use laws::{keys_are_found_where_made, keys_stand_below_keys, refused_calls_change_nothing};
+pub use laws::{
+    calls_grant_their_key, keys_are_found_where_made, keys_stand_below_keys,
+    refused_calls_change_nothing,
+};
 pub use registry::KeyService;

@@ -1,13 +1,13 @@
 // The keys by their names, and the calls on them.
 ghost use Rattle.std.specs.Prelude.{◌≡◌, ◌+◌, ◌<◌, ◌^◌, true, None, IfOk, OnOk, OnErr};
 ghost use Rattle.sb_wide.specs.Names.{is_name_of};
-ghost use Rattle.sb_names.specs.Maps.{found};
+ghost use Rattle.sb_names.specs.Maps.{count_in, found};
 ghost use Rattle.sb_names.specs.Trees.{has_parent};
-ghost use Rattle.sb_key.specs.Registry.{no_keys, with_key, on_key, create, create_by, open_key, can_start, started};
+ghost use Rattle.sb_key.specs.Registry.{AreKeys, no_keys, with_key, on_key, create, create_by, open_key, can_start, started};
 
 use sb_call::{Answer, Extended, NAME_NOT_FOUND, PATH_NOT_FOUND, SUCCESS};
 use sb_handles::{HandleTable, Held, Object, Service};
-use sb_names::{NameTree, puts_come_back};
+use sb_names::{NameTree, numbers_are_kept, puts_come_back};
 use sb_wide::NoMemory;
 use std::alloc::Global;
 use std::marker::Model;
@@ -27,11 +27,14 @@ pub struct KeyService {
 }
 
 impl Model for KeyService {
-    ghost use Rattle.sb_key.specs.Registry.{Keys};
+    ghost use Rattle.sb_names.specs.Nodes.{rows_of};
+    ghost use Rattle.sb_key.specs.Registry.{Keys, AreMade};
 
     ghost Value = { Keys };
 
-    ghost view = { λ s. record { names = s.names; made = s.made } };
+    ghost view = { λ s. record { names = rows_of s.names; made = s.made } };
+
+    ghost invariant = { λ s. AreMade (record { names = rows_of s.names; made = s.made }) };
 }
 
 // A handle on the key of this number, with this access.
@@ -66,19 +69,32 @@ impl KeyService {
         self.made
     }
 
-    // Puts a key under a name that is free and has its parent, with the next number. It does not count as made yet.
+    /// Each name leads to a key that was made, no two to one, and stands below a key that is there or below the root; the
+    /// names are kept folded and in rising order. It changes nothing.
+    pub fn keys_are_made(&self)
+        ensures { AreKeys self.now }
+    {
+        self.names.establish_tree();
+    }
+
+    // Makes a key under a name that is free and has its parent, with the next number.
     fn add_next(&mut self, name: &[u16]) -> Result<u64, NoMemory>
+        requires name { is_name_of name.now ≡ true }
         requires parent { has_parent self.old.names name.now ≡ true }
         requires absent { found self.old.names name.now ≡ None }
         requires made { self.old.made < 2 ^ 63 }
         ensures number { IfOk result (λ number. number ≡ self.old.made + 1) }
-        ensures names { OnOk result (self.new.names ≡ (with_key self.old name.now).names) }
-        ensures made { self.new.made ≡ self.old.made }
+        ensures service { OnOk result (self.new ≡ with_key self.old name.now) }
+        ensures below { OnOk result (count_in self.new.names name.now ≡ 0) }
         ensures err { OnErr result (self.new ≡ self.old) }
     {
+        numbers_are_kept::<u64>();
         let number = self.made + 1;
         match self.names.add(name, number) {
-            Ok(()) => Ok(number),
+            Ok(()) => {
+                self.made = number;
+                Ok(number)
+            }
             Err(_) => Err(NoMemory),
         }
     }
@@ -91,6 +107,7 @@ impl KeyService {
         name: &[u16],
         access: u64,
     ) -> Result<Answer, NoMemory>
+        requires name { is_name_of name.now ≡ true }
         requires parent { has_parent self.old.names name.now ≡ true }
         requires absent { found self.old.names name.now ≡ None }
         requires granted { handles.old.granted < 2 ^ 63 }
@@ -101,14 +118,13 @@ impl KeyService {
         ensures err { OnErr result ((self.new ≡ self.old) × (handles.new ≡ handles.old)) }
     {
         puts_come_back::<u64>();
+        self.keys_are_made();
         let number = self.add_next(name)?;
         match handles.grant(target, on_key(number, access)) {
-            Ok(handle) => {
-                self.made = number;
-                Ok(Answer::with_word(SUCCESS, handle, CREATED_NEW_KEY))
-            }
+            Ok(handle) => Ok(Answer::with_word(SUCCESS, handle, CREATED_NEW_KEY)),
             Err(error) => {
                 self.names.take_back(name);
+                self.made = number - 1;
                 Err(error)
             }
         }
@@ -200,7 +216,7 @@ impl KeyService {
         if !self.names.has_parent(name) || self.names.find(name).is_some() {
             return Ok(false);
         }
-        self.made = self.add_next(name)?;
+        self.add_next(name)?;
         Ok(true)
     }
 }

@@ -8,8 +8,8 @@ use Rattle.std.specs.Map.{lookup}
 use Rattle.sb_arena.specs.Forests.{IsLive, IsShallow, HasLiveLinks, value_at}
 use Rattle.sb_wide.specs.Names.{is_component}
 use Rattle.sb_names.specs.Keys.{key_of, parent_of, is_backslash}
-use Rattle.sb_names.specs.Maps.{Rows, found, is_key, is_there}
-use Rattle.sb_names.specs.Nodes.{Nodes, HasNames, HasNoChild, IsAt, IsChild, IsThere, IsUnnamed, name_of, rows_of}
+use Rattle.sb_names.specs.Maps.{Rows, count_in, found, is_key, is_there}
+use Rattle.sb_names.specs.Nodes.{Nodes, HasNames, HasNoChild, HasNoneBelow, IsAt, IsChild, IsThere, IsUnnamed, name_of, rows_of}
 use Rattle.sb_names.specs.Trees.{added, has_parent, is_directory_there}
 use Rattle.sb_names.specs.declared.faults.TreeFault.TheVariants as fault
 use Rattle.sb_names.specs.declared.nodes.NameNode.{NameNode}
@@ -40,18 +40,17 @@ module _ (f : Nodes) where
       let gone : has_parent (rows_of f) name ≡ false = ap (is_directory_there (rows_of f)) (sym e) ∙ directory_gone f path none some in
       rw gone refl
 
-  module _ (names : HasNames f) (shallow : IsShallow f.rows) (live_links : HasLiveLinks f) (name path part : List ℕ) (object : ℕ) (d : Option ℕ)
+  module _ (names : HasNames f) (shallow : IsShallow f.rows) (live_links : HasLiveLinks f) (name path part : List ℕ) (d : Option ℕ)
       (is_path : path ≡ parent_of name) (whole : name ≡ path ++ 92 ∷ part) (at : IsAt f d (key_of path)) where
-    parent_there : has_parent (rows_of f) name ≡ true
+    pub parent_there : has_parent (rows_of f) name ≡ true
     parent_there = ap (is_directory_there (rows_of f)) (sym is_path) ∙ directory_there f names shallow live_links d path at
 
     pub whole_key : key_of name ≡ name_of f d ++ 92 ∷ key_of part
     whole_key = name_key name path part whole ∙ ap (λ us. us ++ 92 ∷ key_of part) (sym (at_name d (key_of path) at))
 
-    pub add_there : (n : ℕ) → IsChild f d (key_of part) n → added (rows_of f) name object ≡ Err fault.Exists
-    add_there n child =
-        let there : is_there (rows_of f) name ≡ true = by (value_at f n) refl child.0 in
-        rw (parent_there, there) refl
+    -- a name whose component is in the directory is there
+    pub name_there : (n : ℕ) → IsChild f d (key_of part) n → is_there (rows_of f) name ≡ true
+    name_there n child = by (value_at f n) refl child.0
       where
         by : (o : Option NameNode) → value_at f n ≡ o → is_some o ≡ true → is_there (rows_of f) name ≡ true
         by None e live = absurd (false≢true live)
@@ -59,10 +58,21 @@ module _ (f : Nodes) where
             ap is_some (ap (λ key. lookup (is_key key) (rows_of f)) (whole_key ∙ sym (child_name f names shallow live_links d (key_of part) n child))
             ∙ found_node f names shallow live_links n w e)
 
-    pub add_new : is_component part ≡ true → HasNoChild f d (key_of part) → (rows' : Rows ℕ)
-        → rows' ≡ insert_entry by_unit (rows_of f) (name_of f d ++ 92 ∷ key_of part) object → added (rows_of f) name object ≡ Ok rows'
-    add_new is_part none rows' e =
+    -- and one whose component is not there is not
+    pub name_gone : is_component part ≡ true → HasNoChild f d (key_of part) → is_there (rows_of f) name ≡ false
+    name_gone is_part none =
         let unnamed : IsUnnamed f (key_of name) =
         λ n live same. none n (is_the_child f names shallow live_links d (key_of part) n (at_itself d (key_of path) at) (component_plain part is_part) live (same ∙ whole_key)) in
-        let gone : is_there (rows_of f) name ≡ false = ap is_some (found_none f (key_of name) unnamed) in
-        rw (parent_there, gone) (ap (λ rows. Ok rows) (ap (λ key. insert_entry by_unit (rows_of f) key object) whole_key ∙ sym e))
+        ap is_some (found_none f (key_of name) unnamed)
+
+    -- no name stands below one that was added
+    pub add_alone : (f' : Nodes) → HasNoneBelow f' (name_of f d ++ 92 ∷ key_of part) → count_in (rows_of f') name ≡ 0
+    add_alone f' none = none name whole_key
+
+    pub add_there : (object n : ℕ) → IsChild f d (key_of part) n → added (rows_of f) name object ≡ Err fault.Exists
+    add_there object n child = rw (parent_there, name_there n child) refl
+
+    pub add_new : (object : ℕ) → is_component part ≡ true → HasNoChild f d (key_of part) → (rows' : Rows ℕ)
+        → rows' ≡ insert_entry by_unit (rows_of f) (name_of f d ++ 92 ∷ key_of part) object → added (rows_of f) name object ≡ Ok rows'
+    add_new object is_part none rows' e =
+        rw (parent_there, name_gone is_part none) (ap (λ rows. Ok rows) (ap (λ key. insert_entry by_unit (rows_of f) key object) whole_key ∙ sym e))

@@ -2,7 +2,7 @@
 use Rattle.std.proofs.Common.{◌≡◌, ◌≢◌, ◌<◌, ◌≤◌, ◌+◌, ◌^◌, ◌==◌, ◌⊎◌, inl, inr, ℕ, Bool, true, false, cond, refl, sym, ◌∙◌, ap, subst, arith, zero, suc, List, [], ◌∷◌, ◌++◌, length, if◌then◌else◌}
 use Rattle.std.proofs.lemmas.Bool.{false≢true}
 use Rattle.std.proofs.lemmas.Bool.Decides.{nat_tests}
-use Rattle.std.specs.Prelude.{Option, Some, None, is_some}
+use Rattle.std.specs.Prelude.{Option, Some, None, is_some, ◌&&◌}
 use Rattle.std.specs.BTreeMap.{insert_entry}
 use Rattle.std.specs.Map.{lookup, remove_entry}
 use Rattle.std.specs.List.{list_any}
@@ -12,7 +12,7 @@ use Rattle.sb_wide.specs.Names.{is_component}
 use Rattle.sb_names.specs.Hashes.{hash_of}
 use Rattle.sb_names.specs.Keys.{key_of, is_backslash}
 use Rattle.sb_names.specs.Maps.{Rows, Rises, is_key}
-use Rattle.sb_names.specs.Nodes.{Nodes, HasNames, HasNoChild, IsChanged, IsChild, IsIndexed, IsThere, IsUnnamed, KeepsNodes, key_at, key_by, name_of, rows_of}
+use Rattle.sb_names.specs.Nodes.{Nodes, HasNames, HasNoChild, IsChanged, IsChild, IsIndexed, IsThere, IsUnnamed, KeepsNodes, is_entry, key_at, key_by, name_of, rows_of}
 use Rattle.sb_names.specs.declared.nodes.NameNode.{NameNode}
 use Rattle.sb_names.proofs.Extent.{same_rows}
 use Rattle.sb_names.proofs.MapLaws.{is_found, own_test, is_key_eq}
@@ -131,23 +131,23 @@ module _ (f f' : Nodes) (a : ℕ) (v : Option NameNode) (d : Option ℕ) (change
 
   -- the index stays that of all nodes
   pub indexed_changed : {V W : Type 0} (index : ℕ × ℕ → Option V) (index' : ℕ × ℕ → Option W) → IsIndexed index f
-      → ((q : ℕ × ℕ) → q.1 ≢ a → is_some (index q) ≡ true → is_some (index' q) ≡ true)
-      → (IsLive f' a → (is_some (index' (hash_of d (key_by v), a)) ≡ true) × (a < 2 ^ 64)) → IsIndexed index' f'
-  indexed_changed index index' indexed others here n live = by (n == a) refl
+      → ((q : ℕ × ℕ) → q.1 ≢ a → is_some (index' q) ≡ is_some (index q))
+      → ((h : ℕ) → is_some (index' (h, a)) ≡ (is_some v && (h == hash_of d (key_by v))))
+      → (IsLive f' a → a < 2 ^ 64) → IsIndexed index' f'
+  indexed_changed index index' indexed others here fits = (λ q. entry q.0 q.1 (q.1 == a) refl, λ n live. small n live (n == a) refl)
     where
-      by : (b : Bool) → b ≡ (n == a) → (is_some (index' (hash_of (node_parent f' n) (key_at f' n), n)) ≡ true) × (n < 2 ^ 64)
-      by true t =
-          let same : n ≡ a = same_of n a t in
-          let got = here (subst (λ m. IsLive f' m) same live) in
-          subst (λ m. (is_some (index' (hash_of (node_parent f' m) (key_at f' m), m)) ≡ true) × (m < 2 ^ 64)) (sym same)
-          ((λ i. is_some (index' (hash_of (parent_here i) (key_by (value_here i)), a))) ∙ got.0, got.1)
-      by false t =
+      entry : (h n : ℕ) (b : Bool) → b ≡ (n == a) → is_some (index' (h, n)) ≡ is_entry f' (h, n)
+      entry h n true t =
+          subst (λ m. is_some (index' (h, m)) ≡ is_entry f' (h, m)) (sym (same_of n a t))
+          (here h ∙ sym (λ i. is_some (value_here i) && (h == hash_of (parent_here i) (key_by (value_here i)))))
+      entry h n false t =
           let ne : n ≢ a = other_of n a t in
-          let got = indexed n (live_other n ne live) in (
-            (λ i. is_some (index' (hash_of (parent_other n ne i) (key_by (value_other n ne i)), n)))
-                ∙ others (hash_of (node_parent f n) (key_at f n), n) ne got.0,
-            got.1,
-          )
+          others (h, n) ne ∙ indexed.0 (h, n)
+          ∙ sym (λ i. is_some (value_other n ne i) && (h == hash_of (parent_other n ne i) (key_by (value_other n ne i))))
+
+      small : (n : ℕ) → IsLive f' n → (b : Bool) → b ≡ (n == a) → n < 2 ^ 64
+      small n live true t = subst (λ m. m < 2 ^ 64) (sym (same_of n a t)) (fits (subst (λ m. IsLive f' m) (same_of n a t) live))
+      small n live false t = indexed.1 n (live_other n (other_of n a t) live)
 
   module _ (shallow : IsShallow f.rows) (shallow' : IsShallow f'.rows) where
     -- a node whose path does not meet the one that changed keeps its name

@@ -81,6 +81,14 @@ pub child_passes : (f : Nodes) (d : Option ℕ) (key : List ℕ) (n : ℕ) → I
 child_passes f d key n child =
     all_three _ _ _ child.0 (ap (λ o. is_same_node o d) child.1 ∙ own_node d) (ap (λ us. is_key us key) child.2 ∙ own_test key)
 
+-- a live node is in the index
+pub entry_there : {V : Type 0} (f : Nodes) (index : ℕ × ℕ → Option V) → IsIndexed index f → (n : ℕ) → IsLive f n
+    → is_some (index (hash_of (node_parent f n) (key_at f n), n)) ≡ true
+entry_there f index indexed n live =
+    let hash : ℕ = hash_of (node_parent f n) (key_at f n) in
+    let same : (hash == hash) ≡ true = grind (arith, nat_tests) in
+    indexed.0 (hash, n) ∙ (λ i. live i && same i)
+
 -- where no node with the hash is the child, no node is
 pub no_child : {X : Type 0} (f : Nodes) (m : BTreeMap (ℕ × ℕ) X) (d : Option ℕ) (key : List ℕ) (hash : ℕ) (rest range : List ((ℕ × ℕ) × X))
     → IsIndexed (get by_pair m) f → hash ≡ hash_of d key
@@ -89,6 +97,6 @@ pub no_child : {X : Type 0} (f : Nodes) (m : BTreeMap (ℕ × ℕ) X) (d : Optio
     → rest ≡ [] → HasNoChild f d key
 no_child f m d key hash rest range indexed hashed between same none n child =
     let there : is_some (get by_pair m (hash, n)) ≡ true =
-    (λ i. is_some (get by_pair m ((hashed ∙ (λ k. hash_of (sym child.1 k) (sym child.2 k))) i, n))) ∙ (indexed n child.0).0 in
-    met hash n (indexed n child.0).1 (is_child f d key) (child_passes f d key n child) m.entries there
+    (λ i. is_some (get by_pair m ((hashed ∙ (λ k. hash_of (sym child.1 k) (sym child.2 k))) i, n))) ∙ entry_there f (get by_pair m) indexed n child.0 in
+    met hash n (indexed.1 n child.0) (is_child f d key) (child_passes f d key n child) m.entries there
     (ap (find (λ row. is_child f d key row.0.1)) (sym between) ∙ sym same ∙ none_passes (λ row. is_child f d key row.0.1) rest none)

@@ -118,7 +118,7 @@ module _ (f : Nodes) where
       one_directory (Some p) None at_o at_u e = absurd (not_root p (e ∙ name_root))
       one_directory (Some p) (Some q) at_o at_u e = ap (λ x. Some x) (one_node p q at_o.0 at_u.0 e)
 
-      parent_at : (n : ℕ) → IsLive f n → IsAt f (node_parent f n) (name_of f (node_parent f n))
+      pub parent_at : (n : ℕ) → IsLive f n → IsAt f (node_parent f n) (name_of f (node_parent f n))
       parent_at n live = by (node_parent f n) refl
         where
           by : (o : Option ℕ) → node_parent f n ≡ o → IsAt f o (name_of f o)

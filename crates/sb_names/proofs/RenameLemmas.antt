@@ -113,7 +113,7 @@ rises_collected [] = rises_none ℕ
 rises_collected (row ∷ rows) = rises_put row.0 row.1 (collected rows) (rises_collected rows)
 
 -- what is found under a new key, which is that of one row alone
-found_under : (g : List ℕ → List ℕ) (key : List ℕ) (v : ℕ) (rows : Rows ℕ) → AllByRecursion (λ k. g k ≡ g key → k ≡ key) (keys_of rows)
+pub found_under : (g : List ℕ → List ℕ) (key : List ℕ) (v : ℕ) (rows : Rows ℕ) → AllByRecursion (λ k. g k ≡ g key → k ≡ key) (keys_of rows)
     → lookup (is_key key) rows ≡ Some v → lookup (is_key (g key)) (under g rows) ≡ Some v
 found_under g key v [] one e = absurd (false≢true (ap is_some e))
 found_under g key v (row ∷ rows) one e =
@@ -152,7 +152,7 @@ module _ (f f' : Nodes) (a : ℕ) (w : NameNode) (d : Option ℕ) (changed : IsC
       by None e = name_root f' ∙ sym (name_root f)
       by (Some p) e = name_apart f f' a (Some w) d changed shallow shallow' (suc (length f.rows)) p (shallow p) (apart p e)
 
-  name_here : name_of f' (Some a) ≡ to
+  pub name_here : name_of f' (Some a) ≡ to
   name_here =
       name_step f' shallow' a ∙ (λ i. name_of f' (parent_here f f' a (Some w) d changed i) ++ 92 ∷ key_by (value_here f f' a (Some w) d changed i))
       ∙ ap (λ us. us ++ 92 ∷ key_of w.part) directory_stays
@@ -185,17 +185,17 @@ module _ (f f' : Nodes) (a : ℕ) (w : NameNode) (d : Option ℕ) (changed : IsC
           ∙ sym (renamed_by_parent from to (name_of f (node_parent f n)) (key_at f n) (key_plain f names n there) other)
           ∙ ap (renamed_key from to) (sym step)
 
-  name_after : (n : ℕ) → IsLive f n → name_of f' (Some n) ≡ renamed_key from to (name_of f (Some n))
+  pub name_after : (n : ℕ) → IsLive f n → name_of f' (Some n) ≡ renamed_key from to (name_of f (Some n))
   name_after n there = name_renamed (suc (length f.rows)) n (shallow n) there
 
-  live_before : (n : ℕ) → IsLive f' n → IsLive f n
+  pub live_before : (n : ℕ) → IsLive f' n → IsLive f n
   live_before n there = by (n == a) refl
     where
       by : (b : Bool) → b ≡ (n == a) → IsLive f n
       by true t = subst (λ m. IsLive f m) (sym (same_of n a t)) live
       by false t = subst (λ o. is_some o ≡ true) (value_other f f' a (Some w) d changed n (other_of n a t)) there
 
-  live_after : (n : ℕ) → IsLive f n → IsLive f' n
+  pub live_after : (n : ℕ) → IsLive f n → IsLive f' n
   live_after n there = by (n == a) refl
     where
       by : (b : Bool) → b ≡ (n == a) → IsLive f' n

@@ -5,7 +5,7 @@ use Rattle.std.proofs.lemmas.Bool.Decides.{nat_tests}
 use Rattle.std.specs.Prelude.{Option, Some, None, is_some}
 use Rattle.sb_arena.specs.Forests.{Forest, Agrees, HasLiveLinks, IsAbove, IsLive, IsShallow, ancestor, children_of, first_of, has, parent_of as node_parent, row_at, value_at, with_child, with_value, without_node, without_parent}
 use Rattle.sb_arena.specs.Laws.{FreesClearValues, LinksSetParents, SetsSetValues, UnlinksClearParents}
-use Rattle.sb_names.specs.Nodes.{Nodes, IsChanged}
+use Rattle.sb_names.specs.Nodes.{Nodes, IsApart, IsChanged, IsThere}
 use Rattle.sb_names.specs.declared.nodes.NameNode.{NameNode}
 use Rattle.sb_names.proofs.Changes.{is_same, same_of, other_of}
 use Rattle.sb_names.proofs.NodeLemmas.{live_below}
@@ -79,3 +79,21 @@ module _ (unlinks : UnlinksClearParents NameNode) (f : Nodes) (live_links : HasL
 
   pub still_apart : (p : ℕ) → (IsAbove f c p → ⊥) → (w : NameNode) → IsAbove (with_value (without_parent f c) c w) c p → ⊥
   still_apart p apart w above = apart (above_before above.0 p above.1)
+
+  -- nor below it after it is set
+  pub reset_apart : (d : Option ℕ) → IsApart f c d → (w : NameNode) → IsApart (with_value (without_parent f c) c w) c d
+  reset_apart None apart w = tt
+  reset_apart (Some p) apart w = still_apart p apart w
+
+  -- a node that is set is live
+  pub reset_live : SetsSetValues NameNode → (w : NameNode) → IsLive (with_value (without_parent f c) c w) c
+  reset_live sets w = ap is_some (sets (without_parent f c) c c w live ∙ ap (λ b. if b then Some w else value_at f c) (is_same c))
+
+  -- and a directory that was there is there still
+  pub reset_there : SetsSetValues NameNode → (w : NameNode) (d : Option ℕ) → IsThere f d → IsThere (with_value (without_parent f c) c w) d
+  reset_there sets w None there = tt
+  reset_there sets w (Some p) there = by (p == c) (sets (without_parent f c) c p w live)
+    where
+      by : (b : Bool) → value_at (with_value (without_parent f c) c w) p ≡ (if b then Some w else value_at f p) → IsLive (with_value (without_parent f c) c w) p
+      by true e = ap is_some e
+      by false e = ap is_some e ∙ there

@@ -2,20 +2,21 @@
 use Rattle.std.proofs.Common.{◌≡◌, ◌≢◌, ◌==◌, ℕ, Bool, true, false, cond, refl, sym, ◌∙◌, ap, subst, arith, List, [], ◌∷◌, length}
 use Rattle.std.proofs.lemmas.Bool.{false≢true}
 use Rattle.std.proofs.lemmas.Bool.Decides.{nat_tests}
-use Rattle.std.specs.Prelude.{Option, Some, None, is_some, option_map, Result, Ok, Err, ◌||◌}
+use Rattle.std.specs.Prelude.{Option, Some, None, is_some, option_map, Result, Ok, Err, not, ◌&&◌, ◌||◌}
 use Rattle.std.specs.BTreeMap.{is_at}
 use Rattle.std.specs.Map.{lookup, remove_entry}
 use Rattle.sb_arena.specs.Forests.{Agrees, HasLiveLinks, IsLive, IsShallow, children_of, first_of, has, parent_of as node_parent, value_at}
+use Rattle.sb_names.specs.Hashes.{hash_of}
 use Rattle.sb_names.specs.Keys.{key_of}
 use Rattle.sb_names.specs.Maps.{Rows, count_in, is_key, is_there}
-use Rattle.sb_names.specs.Nodes.{Nodes, HasNames, IsAt, IsChanged, IsChildless, IsIndexed, IsUnnamed, KeepsOtherNodes, name_of, rows_of}
+use Rattle.sb_names.specs.Nodes.{Nodes, HasNames, IsAt, IsChanged, IsChildless, IsIndexed, IsUnnamed, KeepsAllBut, KeepsOtherNodes, key_at, name_of, rows_of}
 use Rattle.sb_names.specs.Orders.{by_pair}
 use Rattle.sb_names.specs.Trees.{removed}
 use Rattle.sb_names.specs.declared.faults.TreeFault.TheVariants as fault
 use Rattle.sb_names.specs.declared.nodes.NameNode.{NameNode}
 use Rattle.sb_names.proofs.Changes.{indexed_changed, is_same, names_changed, parent_other, value_here, value_other}
 use Rattle.sb_names.proofs.NodeLemmas.{found_node, found_none}
-use Rattle.sb_names.proofs.PutLemmas.{other_pair}
+use Rattle.sb_names.proofs.PutLemmas.{other_pair, out_entry}
 use Rattle.sb_names.proofs.Removals.{none_below, some_below}
 use Rattle.sb_names.proofs.Steps.{no_first}
 use Rattle.sb_arena.specs.declared.arena.NodeId.{NodeId}
@@ -25,11 +26,18 @@ module _ (f f' : Nodes) (a : ℕ) (changed : IsChanged f f' a None None) where
   take_names names = names_changed f f' a None None changed names (λ node e. absurd (false≢true (ap is_some e)))
 
   pub take_index : {V : Type 0} (index index' : ℕ × ℕ → Option V) (hash : ℕ) → IsIndexed index f
-      → ((q : ℕ × ℕ) → index' q ≡ cond (is_at (by_pair (hash, a)) q) None (index q)) → IsIndexed index' f'
-  take_index index index' hash indexed removes =
+      → ((q : ℕ × ℕ) → index' q ≡ cond (is_at (by_pair (hash, a)) q) None (index q)) → hash ≡ hash_of (node_parent f a) (key_at f a) → IsIndexed index' f'
+  take_index index index' hash indexed removes hashed =
       indexed_changed f f' a None None changed index index' indexed
-      (λ q ne there. ap is_some (removes q ∙ ap (λ b. cond b None (index q)) (other_pair hash a q ne)) ∙ there)
+      (λ q ne. ap is_some (removes q ∙ ap (λ b. cond b None (index q)) (other_pair hash a q ne)))
+      (λ h. ap is_some (removes (h, a)) ∙ out_entry hash a h (index (h, a)) ∙ ap (λ b. not (h == hash) && b) (indexed.0 (h, a))
+      ∙ ap (λ x. not (h == hash) && (is_some (value_at f a) && (h == x))) (sym hashed) ∙ never (h == hash) (is_some (value_at f a)))
       (λ live. absurd (false≢true (sym (ap is_some (value_here f f' a None None changed)) ∙ live)))
+    where
+      never : (b c : Bool) → (not b && (c && b)) ≡ false
+      never true c = refl
+      never false true = refl
+      never false false = refl
 
   pub take_keeps : KeepsOtherNodes f f' a
   take_keeps n ne = (value_other f f' a None None changed n ne, parent_other f f' a None None changed n ne)
@@ -41,7 +49,7 @@ module _ (f : Nodes) where
       rw gone refl
 
   module _ (names : HasNames f) (shallow : IsShallow f.rows) (live_links : HasLiveLinks f) (name : List ℕ) (a : ℕ) (at : IsAt f (Some a) (key_of name)) where
-    is_found_there : is_there (rows_of f) name ≡ true
+    pub is_found_there : is_there (rows_of f) name ≡ true
     is_found_there = by (value_at f a) refl at.0
       where
         by : (o : Option NameNode) → value_at f a ≡ o → is_some o ≡ true → is_there (rows_of f) name ≡ true
@@ -106,3 +114,29 @@ no_child_first f a agrees none = no_first f a agrees (by (first_of (children_of 
     by : (o : Option ℕ) → is_some o ≡ false → o ≡ None
     by None t = refl
     by (Some c) t = absurd (false≢true (sym t))
+
+-- the node of a name is the one that changed
+pub others_kept : (f f' : Nodes) (a : ℕ) (key : List ℕ) → name_of f (Some a) ≡ key → KeepsOtherNodes f f' a → KeepsAllBut f f' key
+others_kept f f' a key named others n ne = others n (λ same. ne (ap (λ m. name_of f (Some m)) same ∙ named))
+
+-- where no name is counted below one, its node has no child
+pub none_counted : (f : Nodes) → HasNames f → IsShallow f.rows → HasLiveLinks f → (name : List ℕ) (a : ℕ) → IsAt f (Some a) (key_of name)
+    → count_in (rows_of f) name ≡ 0 → IsChildless f a
+none_counted f names shallow live_links name a at none x e = by (value_at f x) refl (live_links x a e).0
+  where
+    by : (o : Option NameNode) → value_at f x ≡ o → is_some o ≡ true → ⊥
+    by None s live = false≢true live
+    by (Some w) s live = some_below f names shallow live_links a x w s e name at.1 none
+
+-- a key that is not there is not taken out
+out_of_none : (test : List ℕ → Bool) (rows : Rows ℕ) → lookup test rows ≡ None → remove_entry test rows ≡ rows
+out_of_none test [] h = refl
+out_of_none test (row ∷ rows) h = by (test row.0) h (out_of_none test rows)
+  where
+    by : (b : Bool) → cond b (Some row.1) (lookup test rows) ≡ None → (lookup test rows ≡ None → remove_entry test rows ≡ rows)
+        → cond b rows (row ∷ remove_entry test rows) ≡ row ∷ rows
+    by true e again = absurd (false≢true (sym (ap is_some e)))
+    by false e again = ap (λ more. row ∷ more) (again e)
+
+pub nothing_out : (f : Nodes) (name : List ℕ) → IsUnnamed f (key_of name) → rows_of f ≡ remove_entry (is_key (key_of name)) (rows_of f)
+nothing_out f name none = sym (out_of_none (is_key (key_of name)) (rows_of f) (found_none f (key_of name) none))

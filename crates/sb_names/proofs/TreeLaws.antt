@@ -23,7 +23,7 @@ fold_once u = grind (arith, nat_tests)
 backslash_folded : (u : ℕ) → is_backslash (folded u) ≡ is_backslash u
 backslash_folded u = grind (arith, nat_tests)
 
-keys_again : (us : List ℕ) → key_of (key_of us) ≡ key_of us
+pub keys_again : (us : List ℕ) → key_of (key_of us) ≡ key_of us
 keys_again [] = refl
 keys_again (u ∷ us) = rw (fold_once u, keys_again us) refl
 
@@ -31,7 +31,7 @@ any_folded : (us : List ℕ) → list_any is_backslash (key_of us) ≡ list_any 
 any_folded [] = refl
 any_folded (u ∷ us) = rw (backslash_folded u, any_folded us) refl
 
-parent_folded : (us : List ℕ) → parent_of (key_of us) ≡ key_of (parent_of us)
+pub parent_folded : (us : List ℕ) → parent_of (key_of us) ≡ key_of (parent_of us)
 parent_folded [] = refl
 parent_folded (u ∷ us) = rw (any_folded us) (by (list_any is_backslash us) (parent_folded us))
   where
@@ -57,14 +57,14 @@ still_there rows name object (u ∷ us) h =
     by true = refl
     by false = h
 
-all_weaker : (p q : List ℕ → Bool) → ((key : List ℕ) → p key ≡ true → q key ≡ true)
+pub all_weaker : (p q : List ℕ → Bool) → ((key : List ℕ) → p key ≡ true → q key ≡ true)
     → (rows : Rows ℕ) → list_all (λ row. p row.0) rows ≡ true → list_all (λ row. q row.0) rows ≡ true
 all_weaker p q f [] h = refl
 all_weaker p q f (row ∷ rows) h =
     let parts = and_parts (p row.0) (list_all (λ row. p row.0) rows) h in
     rw (f row.0 parts.0) (all_weaker p q f rows parts.1)
 
-all_put : (p : List ℕ → Bool) (key : List ℕ) (object : ℕ) (rows : Rows ℕ) → list_all (λ row. p row.0) rows ≡ true → p key ≡ true
+pub all_put : (p : List ℕ → Bool) (key : List ℕ) (object : ℕ) (rows : Rows ℕ) → list_all (λ row. p row.0) rows ≡ true → p key ≡ true
     → list_all (λ row. p row.0) (insert_entry by_unit rows key object) ≡ true
 all_put p key object [] h k = rw k refl
 all_put p key object (row ∷ rows) h k =

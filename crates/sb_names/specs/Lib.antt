@@ -4,7 +4,9 @@ pub mod Laws
 pub mod Maps
 pub mod Moves
 pub mod Nodes
+pub mod Numbers
 pub mod Orders
 pub mod Places
 pub mod Renames
 pub mod Trees
+pub mod Walks

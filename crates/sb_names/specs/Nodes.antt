@@ -1,5 +1,5 @@
 -- The names of the nodes of a forest, and the rows that they stand for. Each node has one component; its name is the path from the root.
-use Rattle.std.specs.Prelude.{◌≡◌, ◌<◌, ◌^◌, ℕ, Bool, true, false, zero, suc, List, [], ◌∷◌, ◌++◌, length, Option, None, Some, is_some, option_map, ◌==◌, ◌&&◌, ⊤, if◌then◌else◌}
+use Rattle.std.specs.Prelude.{◌≡◌, ◌≢◌, ◌<◌, ◌^◌, ℕ, Bool, true, false, zero, suc, List, [], ◌∷◌, ◌++◌, length, Option, None, Some, is_some, option_map, ◌==◌, ◌&&◌, ⊤, if◌then◌else◌}
 use Rattle.std.specs.BTreeMap.{insert_entry}
 use Rattle.std.specs.Cmp.Lexicographic.{slice_cmp}
 use Rattle.std.specs.Ordering.{nat_cmp}
@@ -7,8 +7,9 @@ use Rattle.sb_arena.specs.Forests.{Forest, IsAbove, IsLive, value_at, parent_of 
 use Rattle.sb_arena.specs.declared.arena.NodeId.{NodeId}
 use Rattle.sb_wide.specs.Names.{is_component}
 use Rattle.sb_names.specs.Keys.{key_of}
-use Rattle.sb_names.specs.Maps.{Rows, is_key}
+use Rattle.sb_names.specs.Maps.{Rows, count_in, is_key}
 use Rattle.sb_names.specs.Hashes.{hash_of}
+use Rattle.sb_names.specs.Renames.{renamed_key}
 use Rattle.sb_names.specs.declared.nodes.NameNode.{NameNode}
 
 -- the nodes of a tree of names
@@ -26,6 +27,10 @@ key_by (Some node) = key_of node.part
 
 abbrev pub key_at : Nodes → ℕ → List ℕ
 key_at f n = key_by (value_at f n)
+
+-- the object of a node
+abbrev pub object_at : Nodes → ℕ → Option ℕ
+object_at f n = option_map (λ w. w.object) (value_at f n)
 
 -- the folded components on the path from the root to a node, each after a `\`, of so many nodes at most
 abbrev pub name_up : Nodes → ℕ → Option ℕ → List ℕ
@@ -89,15 +94,30 @@ IsThere f (Some n) = IsLive f n
 abbrev pub IsUnnamed : Nodes → List ℕ → Type 0
 IsUnnamed f key = (n : ℕ) → IsLive f n → name_of f (Some n) ≡ key → ⊥
 
+-- no row stands in the directory of this folded name
+abbrev pub HasNoneBelow : Nodes → List ℕ → Type 0
+HasNoneBelow f key = (name : List ℕ) → key_of name ≡ key → count_in (rows_of f) name ≡ 0
+
 -- each node has a component, and no other node of its directory has the same
 pub record HasNames (f : Nodes) : Type 0 where
   pub parts : (n : ℕ) (node : NameNode) → value_at f n ≡ Some node → is_component node.part ≡ true
   pub apart : (m n : ℕ) → IsLive f m → IsLive f n → node_parent f m ≡ node_parent f n → key_at f m ≡ key_at f n → m ≡ n
 
--- the index has each node under the hash of its directory and component
+-- a pair is that of a live node: the hash of its directory and component, and its number
+abbrev pub is_entry : Nodes → ℕ × ℕ → Bool
+is_entry f q = is_some (value_at f q.1) && (q.0 == hash_of (node_parent f q.1) (key_at f q.1))
+
+-- the index has the pair of each live node, and no other
 abbrev pub IsIndexed : {V : Type 0} → (ℕ × ℕ → Option V) → Nodes → Type 0
-IsIndexed index f =
-    (n : ℕ) → IsLive f n → (is_some (index (hash_of (node_parent f n) (key_at f n), n)) ≡ true) × (n < 2 ^ 64)
+IsIndexed index f = ((q : ℕ × ℕ) → is_some (index q) ≡ is_entry f q) × ((n : ℕ) → IsLive f n → n < 2 ^ 64)
+
+-- an index has one entry of a node, under this hash
+abbrev pub HasOneEntry : {V : Type 0} → (ℕ × ℕ → Option V) → ℕ → ℕ → Type 0
+HasOneEntry index n hash = (h : ℕ) → is_some (index (h, n)) ≡ (h == hash)
+
+-- an index has the entries of all nodes but one as before
+abbrev pub KeepsEntries : {V : Type 0} → (ℕ × ℕ → Option V) → (ℕ × ℕ → Option V) → ℕ → Type 0
+KeepsEntries index index' a = (q : ℕ × ℕ) → q.1 ≢ a → index' q ≡ index q
 
 -- one node alone has changed: it has this value, or none, and stands in this directory
 pub record IsChanged (f f' : Nodes) (a : ℕ) (v : Option NameNode) (directory : Option ℕ) : Type 0 where
@@ -112,6 +132,18 @@ KeepsNodes f f' = (n : ℕ) → IsLive f n → (value_at f' n ≡ value_at f n) 
 abbrev pub KeepsOtherNodes : Nodes → Nodes → ℕ → Type 0
 KeepsOtherNodes f f' a = (n : ℕ) → (n ≡ a → ⊥) → (value_at f' n ≡ value_at f n) × (node_parent f' n ≡ node_parent f n)
 
+-- and so does each but that of a name
+abbrev pub KeepsAllBut : Nodes → Nodes → List ℕ → Type 0
+KeepsAllBut f f' key = (n : ℕ) → (name_of f (Some n) ≡ key → ⊥) → (value_at f' n ≡ value_at f n) × (node_parent f' n ≡ node_parent f n)
+
+-- each node is there still, under the name to which its own was renamed
+abbrev pub KeepsRows : Nodes → Nodes → List ℕ → List ℕ → Type 0
+KeepsRows f f' from to = (n : ℕ) → IsLive f n → IsLive f' n × (name_of f' (Some n) ≡ renamed_key from to (name_of f (Some n)))
+
+-- no two nodes have one name
+abbrev pub HasOneNodeEach : Nodes → Type 0
+HasOneNodeEach f = (m n : ℕ) → IsLive f m → IsLive f n → name_of f (Some m) ≡ name_of f (Some n) → m ≡ n
+
 -- a node that is linked into a directory, or stays a root
 abbrev pub hung : Nodes → ℕ → Option ℕ → Nodes
 hung f a None = f
@@ -125,11 +157,3 @@ IsApart f a (Some p) = IsAbove f a p → ⊥
 -- no node stands in the directory of this one
 abbrev pub IsChildless : Nodes → ℕ → Type 0
 IsChildless f a = (n : ℕ) → node_parent f n ≡ Some a → ⊥
-
--- the node of one name has another, and no other node changed
-abbrev pub IsRenamed : Nodes → Nodes → List ℕ → List ℕ → Type 0
-IsRenamed f f' from to = (a : ℕ) × IsLive f a × (name_of f (Some a) ≡ from) × (name_of f' (Some a) ≡ to) × KeepsOtherNodes f f' a
-
--- the node of one name is gone, and no other node changed
-abbrev pub IsLessNamed : Nodes → Nodes → List ℕ → Type 0
-IsLessNamed f f' key = (a : ℕ) × IsLive f a × (name_of f (Some a) ≡ key) × KeepsOtherNodes f f' a

@@ -6,12 +6,13 @@ ghost use Rattle.std.specs.Ordering.{nat_cmp};
 ghost use Rattle.sb_arena.specs.Forests.{IsLive, node_number, parent_of as node_parent};
 ghost use Rattle.sb_wide.specs.Names.{is_component, is_name_of};
 ghost use Rattle.sb_names.specs.Keys.{key_of};
+ghost use Rattle.sb_names.specs.Maps.{count_in};
 ghost use Rattle.sb_names.specs.Trees.{IsFault, added};
-ghost use Rattle.sb_names.specs.Nodes.{HasNoChild, IsApart, IsChanged, IsThere, KeepsNodes, hung, name_of, number_of, rows_of};
+ghost use Rattle.sb_names.specs.Nodes.{HasNoChild, HasNoneBelow, IsApart, IsChanged, IsThere, KeepsNodes, hung, name_of, number_of, rows_of};
 
 use crate::faults::TreeFault;
 use crate::hashes::hash_of;
-use crate::linked::{LinkedTree, last_component};
+use crate::linked::{NameTree, last_component};
 use crate::nodes::NameNode;
 use sb_arena::{Arena, NodeId, calls_change_one_value, links_change_one_parent};
 use sb_wide::{NoMemory, wide_of};
@@ -53,7 +54,7 @@ fn add_node(
     }
 }
 
-impl LinkedTree {
+impl NameTree {
     // Adds a node for a component that is not in the directory.
     fn put_node(
         &mut self,
@@ -65,6 +66,7 @@ impl LinkedTree {
         requires part { is_component part.now ≡ true }
         requires absent { HasNoChild self.old (number_of directory) (key_of part.now) }
         ensures rows { OnOk result (rows_of self.new ≡ insert_entry (slice_cmp nat_cmp) (rows_of self.old) (name_of self.old (number_of directory) ++ 92 ∷ key_of part.now) object) }
+        ensures below { OnOk result (HasNoneBelow self.new (name_of self.old (number_of directory) ++ 92 ∷ key_of part.now)) }
         ensures nodes { OnOk result (KeepsNodes self.old self.new) }
         ensures err { OnErr result (self.new ≡ self.old) }
     {
@@ -89,7 +91,7 @@ impl LinkedTree {
         }
     }
 
-    #[tactic(auto, using(crate::proofs::AddLemmas::add_gone, crate::proofs::AddLemmas::add_there, crate::proofs::AddLemmas::add_new, crate::proofs::AddLemmas::at_there))]
+    #[tactic(auto, using(crate::proofs::AddLemmas::add_gone, crate::proofs::AddLemmas::add_there, crate::proofs::AddLemmas::add_new, crate::proofs::AddLemmas::add_alone, crate::proofs::AddLemmas::at_there))]
     /// Adds a name with its object. Memory apart, it is refused with the first of these that applies.
     ///
     /// # Errors
@@ -98,6 +100,7 @@ impl LinkedTree {
     pub fn add(&mut self, name: &[u16], object: u64) -> Result<(), TreeFault>
         requires { is_name_of name.now ≡ true }
         ensures ok { OnOk result (added (rows_of self.old) name.now object ≡ Ok (rows_of self.new)) }
+        ensures below { OnOk result (count_in (rows_of self.new) name.now ≡ 0) }
         ensures nodes { OnOk result (KeepsNodes self.old self.new) }
         ensures fault { IfErr result (λ fault. IsFault (added (rows_of self.old) name.now object) fault) }
         ensures err { OnErr result (self.new ≡ self.old) }

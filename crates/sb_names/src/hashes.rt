@@ -2,9 +2,11 @@
 ghost use Rattle.std.specs.Prelude.{◌≡◌};
 ghost use Rattle.sb_names.specs.Keys.{key_of};
 ghost use Rattle.sb_names.specs.Hashes.{hash_in, hash_of};
-ghost use Rattle.sb_names.specs.Nodes.{number_of};
+ghost use Rattle.sb_arena.specs.Forests.{IsLive, parent_of as node_parent};
+ghost use Rattle.sb_names.specs.Nodes.{key_at, number_of};
 
-use sb_arena::NodeId;
+use crate::nodes::NameNode;
+use sb_arena::{Arena, NodeId};
 use sb_wide::fold;
 
 // The factor of the FNV hash of 64 bits.
@@ -31,4 +33,12 @@ pub(crate) fn hash_of(directory: Option<NodeId>, part: &[u16]) -> u64
             .wrapping_add(u64::from(fold(*unit)));
     }
     hash
+}
+
+// The hash of a node.
+pub(crate) fn hash_at(nodes: &Arena<NameNode>, node: NodeId) -> u64
+    requires { IsLive nodes.now node.0 }
+    ensures { result ≡ hash_of (node_parent nodes.now node.0) (key_at nodes.now node.0) }
+{
+    hash_of(nodes.parent(node), nodes.value(node).part.as_units())
 }

@@ -1,5 +1,8 @@
 // Laws of maps from names and of trees of names. None of these functions changes anything: each contract is a law.
-ghost use Rattle.sb_names.specs.Laws.{PutsComeBack, PutsAreFound, OutIsOut, PutsKeepTrees};
+ghost use Rattle.sb_names.specs.Numbers.{OutsKeepNumbers, PutsKeepNumbers, RenamesKeepNumbers};
+ghost use Rattle.sb_names.specs.Laws.{NamesFold, OutIsOut, PutsAreFound, PutsComeBack, PutsKeepParents, PutsKeepTrees, RemovesKeepTrees, RenamesAddNothing, RenamesAreFound, RenamesKeepParents, RenamesKeepTrees, RenamesLeaveNothing};
+
+use sb_wide::{names_are_paths, paths_are_names};
 
 /// What is put under a name that is not there, and taken out again, leaves the rows as they were.
 #[tactic(auto, using(crate::proofs::MapLaws::puts_come_back))]
@@ -24,3 +27,48 @@ pub fn out_is_out<V>()
 pub fn puts_keep_trees()
     ensures { PutsKeepTrees }
 {}
+
+/// A name that is taken out of a tree, or renamed in it, leaves a tree.
+#[tactic(auto, using(crate::proofs::RenameLaws::removes_keep_trees, crate::proofs::RenameLaws::renames_keep_trees))]
+pub fn changes_keep_trees()
+    ensures removed { RemovesKeepTrees }
+    ensures renamed { RenamesKeepTrees }
+{}
+
+/// Where the object of each directory passes a test, it does so after a name is put into such a directory, or renamed into one.
+#[tactic(auto, using(crate::proofs::DirectoryLaws::puts_keep_parents, crate::proofs::DirectoryLaws::renames_keep_parents))]
+pub fn parents_are_kept()
+    ensures puts { PutsKeepParents }
+    ensures renames { RenamesKeepParents }
+{}
+
+/// After a rename each name that was there is found under the one to which it was renamed, with its object, and no other is:
+/// so the old name and all below it are gone.
+#[tactic(auto, using(crate::proofs::RenameLaws::renames_are_found, crate::proofs::RenameLaws::renames_add_nothing, crate::proofs::RenameLaws::renames_leave_nothing))]
+pub fn renames_are_found()
+    ensures found { RenamesAreFound }
+    ensures nothing { RenamesAddNothing }
+    ensures gone { RenamesLeaveNothing }
+{}
+
+/// Rows that lead to different objects do so after one with the next number is put, and after one is taken out.
+#[tactic(auto, using(crate::proofs::NumberLaws::puts_keep_numbers, crate::proofs::NumberLaws::outs_keep_numbers))]
+pub fn numbers_are_kept<V>()
+    ensures puts { PutsKeepNumbers V }
+    ensures outs { OutsKeepNumbers V }
+{}
+
+/// And after a rename.
+#[tactic(auto, using(crate::proofs::NumberLaws::renames_keep_numbers))]
+pub fn renames_keep_numbers()
+    ensures { RenamesKeepNumbers }
+{}
+
+/// A name that is folded is a name.
+#[tactic(auto, using(crate::proofs::Named::names_fold))]
+pub fn names_fold()
+    ensures { NamesFold }
+{
+    names_are_paths();
+    paths_are_names();
+}

@@ -1,18 +1,18 @@
 // A tree of names kept as linked nodes: each keeps one component, and its name is the path from the root.
-ghost use Rattle.std.specs.Prelude.{◌≡◌, ◌≤◌, not, [], ◌++◌, ◌∷◌, true, false, Some, IfSome, IfNone, length};
+ghost use Rattle.std.specs.Prelude.{◌≡◌, ◌≤◌, ◌<◌, ◌^◌, not, [], ◌++◌, ◌∷◌, true, false, Some, None, IfSome, IfNone, length};
 ghost use Rattle.std.specs.List.{list_any, prefix_len};
-ghost use Rattle.sb_arena.specs.Forests.{Agrees, HasLiveLinks, IsShallow, IsSound, no_nodes};
+ghost use Rattle.sb_arena.specs.Forests.{Agrees, HasLiveLinks, HasSingleChildren, IsLive, IsShallow, IsSound, children_of, no_nodes, parent_of as node_parent};
 ghost use Rattle.sb_wide.specs.Names.{is_component, is_name_of};
 ghost use Rattle.sb_names.specs.Keys.{key_of, parent_of, is_backslash};
-ghost use Rattle.sb_names.specs.Maps.{found};
-ghost use Rattle.sb_names.specs.Trees.{has_parent};
-ghost use Rattle.sb_names.specs.Nodes.{HasNames, HasNoChild, IsAt, IsChild, IsUnnamed, is_child, is_path, is_same_node, number_of, rows_of};
+ghost use Rattle.sb_names.specs.Maps.{Rises, found};
+ghost use Rattle.sb_names.specs.Trees.{AreFolded, AreNamed, IsTree, children_of as names_in, has_parent, parent_object};
+ghost use Rattle.sb_names.specs.Nodes.{HasNames, HasNoChild, HasOneNodeEach, IsAt, IsChild, IsUnnamed, is_child, is_path, is_same_node, key_at, number_of, object_at, rows_of};
 
 use crate::hashes::hash_of;
 use crate::keys::parent_len;
 use crate::nodes::NameNode;
 use sb_arena::{Arena, NodeId};
-use sb_wide::{names_are_paths, same};
+use sb_wide::{names_are_paths, paths_are_names, same};
 use std::alloc::Global;
 use std::collections::BTreeMap;
 use std::marker::Model;
@@ -23,14 +23,14 @@ const BACKSLASH: u16 = 92;
 ///
 /// Names are compared folded. Each call walks the components of a name from the root, and finds each by an index.
 #[derive(Debug, Drop)]
-pub struct LinkedTree {
+pub struct NameTree {
     pub(crate) nodes: Arena<NameNode>,
     // Each node under the hash of its directory and component.
     pub(crate) index: BTreeMap<(u64, u64), ()>,
     pub(crate) alloc: Global,
 }
 
-impl Model for LinkedTree {
+impl Model for NameTree {
     ghost use Rattle.std.specs.BTreeMap.{get};
     ghost use Rattle.sb_names.specs.Nodes.{Nodes, HasNames, IsIndexed};
     ghost use Rattle.sb_names.specs.Orders.{by_pair};
@@ -105,14 +105,14 @@ pub(crate) fn last_component(name: &[u16]) -> (&[u16], &[u16])
     }
 }
 
-impl LinkedTree {
+impl NameTree {
     #[tactic(auto, using(crate::proofs::NodeLemmas::no_names))]
     /// No name is there.
-    pub fn new(alloc: Global) -> LinkedTree
+    pub fn new(alloc: Global) -> NameTree
         ensures nodes { result ≡ no_nodes }
         ensures rows { rows_of result ≡ [] }
     {
-        LinkedTree {
+        NameTree {
             nodes: Arena::new(alloc),
             index: BTreeMap::new(alloc),
             alloc,
@@ -134,8 +134,24 @@ impl LinkedTree {
         ensures agree { Agrees self.now }
         ensures sound { IsSound self.now }
         ensures even { length self.now.rows ≡ length self.now.values }
+        ensures single { HasSingleChildren self.now }
+        ensures small { length self.now.rows < 2 ^ 64 }
     {
         self.nodes.establish_forest();
+    }
+
+    #[tactic(auto, using(crate::proofs::TreeLemmas::rows_are_tree, crate::proofs::TreeLemmas::rows_are_folded, crate::proofs::Named::rows_are_named, crate::proofs::NodeLemmas::one_node, crate::proofs::NodeLemmas::rows_rise))]
+    /// Establishes for a proof what holds of the names of every tree: each is a name and stands in a directory that is there,
+    /// they are folded and rise, and no two nodes have one name. It does nothing.
+    pub fn establish_tree(&self)
+        ensures tree { IsTree (rows_of self.now) }
+        ensures named { AreNamed (rows_of self.now) }
+        ensures folded { AreFolded (rows_of self.now) }
+        ensures rise { Rises (rows_of self.now) }
+        ensures one { HasOneNodeEach self.now }
+    {
+        self.establish_names();
+        paths_are_names();
     }
 
     // The node of a component in a directory.
@@ -175,12 +191,19 @@ impl LinkedTree {
         Some(here)
     }
 
-    /// The node of a name, or None where the name is not there.
+    #[tactic(auto, using(crate::proofs::TreeLemmas::node_object, crate::proofs::TreeLemmas::node_directory, crate::proofs::TreeLemmas::node_part, crate::proofs::NodeLemmas::found_none))]
+    /// The node of a name, or None where the name is not there. Its value has the object of the name and its last component,
+    /// and its parent is the node of the directory in which the name stands: none where that is the root.
     pub fn node(&self, name: &[u16]) -> Option<NodeId>
         requires { is_name_of name.now ≡ true }
         ensures found { IfSome result (λ node. IsAt self.now (Some node.0) (key_of name.now)) }
+        ensures object { IfSome result (λ node. object_at self.now node.0 ≡ found (rows_of self.now) name.now) }
+        ensures part { IfSome result (λ node. key_of name.now ≡ key_of (parent_of name.now) ++ 92 ∷ key_at self.now node.0) }
+        ensures parent { IfSome result (λ node. IsAt self.now (node_parent self.now node.0) (key_of (parent_of name.now))) }
         ensures absent { IfNone result (IsUnnamed self.now (key_of name.now)) }
+        ensures row { IfNone result (found (rows_of self.now) name.now ≡ None) }
     {
+        self.establish_names();
         match self.directory(name) {
             Some(Some(node)) => Some(node),
             _ => None,
@@ -208,5 +231,49 @@ impl LinkedTree {
         self.establish_names();
         let (directory, _) = last_component(name);
         self.directory(directory).is_some()
+    }
+
+    #[tactic(auto, using(crate::proofs::TreeLemmas::object_root, crate::proofs::TreeLemmas::object_gone))]
+    /// The object of the directory in which a name stands: none of its own for the root, and None where the directory is not
+    /// there.
+    pub fn parent_object(&self, name: &[u16]) -> Option<Option<u64>>
+        requires { is_name_of name.now ≡ true }
+        ensures { result ≡ parent_object (rows_of self.now) name.now }
+    {
+        self.establish_names();
+        let (directory, _) = last_component(name);
+        match self.directory(directory) {
+            Some(Some(node)) => Some(Some(self.nodes.value(node).object)),
+            Some(None) => Some(None),
+            None => None,
+        }
+    }
+
+    #[tactic(auto, using(crate::proofs::ChildLemmas::walk_begins, crate::proofs::ChildLemmas::begins_in, crate::proofs::ChildLemmas::child_live, crate::proofs::ChildLemmas::walk_goes_on, crate::proofs::ChildLemmas::goes_on_in, crate::proofs::ChildLemmas::children_few))]
+    // How many nodes stand in the directory of one.
+    fn count_children(&self, node: NodeId) -> u64
+        requires { IsLive self.now node.0 }
+        ensures { result ≡ length (children_of self.now node.0) }
+    {
+        self.establish_names();
+        let mut count = 0;
+        let mut here = self.nodes.first_child(node);
+        while let Some(child) = here {
+            count += 1;
+            here = self.nodes.next(child);
+        }
+        count
+    }
+
+    /// How many names stand in the directory of this name, or None where the name is not there.
+    pub fn children_count(&self, name: &[u16]) -> Option<u64>
+        requires { is_name_of name.now ≡ true }
+        ensures { result ≡ names_in (rows_of self.now) name.now }
+    {
+        self.establish_names();
+        match self.node(name) {
+            Some(node) => Some(self.count_children(node)),
+            None => None,
+        }
     }
 }

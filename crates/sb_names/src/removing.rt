@@ -3,13 +3,14 @@ ghost use Rattle.std.specs.Prelude.{◌≡◌, true, Some, None, Ok, Err, IfOk, 
 ghost use Rattle.std.specs.Map.{remove_entry};
 ghost use Rattle.sb_arena.specs.Forests.{IsLive, value_at};
 ghost use Rattle.sb_wide.specs.Names.{is_name_of};
-ghost use Rattle.sb_names.specs.Maps.{found, is_key};
+ghost use Rattle.sb_names.specs.Keys.{key_of};
+ghost use Rattle.sb_names.specs.Maps.{count_in, found, is_key, without};
 ghost use Rattle.sb_names.specs.Trees.{removed};
-ghost use Rattle.sb_names.specs.Nodes.{IsChanged, IsChildless, KeepsOtherNodes, name_of, rows_of};
+ghost use Rattle.sb_names.specs.Nodes.{IsChanged, IsChildless, KeepsAllBut, KeepsOtherNodes, name_of, rows_of};
 
 use crate::faults::TreeFault;
-use crate::hashes::hash_of;
-use crate::linked::LinkedTree;
+use crate::hashes::hash_at;
+use crate::linked::NameTree;
 use crate::nodes::NameNode;
 use sb_arena::{Arena, NodeId, calls_change_one_value, links_change_one_parent};
 
@@ -28,7 +29,7 @@ fn take_node(nodes: &mut Arena<NameNode>, node: NodeId) -> NameNode
     nodes.free(node)
 }
 
-impl LinkedTree {
+impl NameTree {
     // Takes a node without children out, and gives its object.
     fn take(&mut self, node: NodeId) -> u64
         requires live { IsLive self.old node.0 }
@@ -38,14 +39,24 @@ impl LinkedTree {
         ensures nodes { KeepsOtherNodes self.old self.new node.0 }
     {
         self.establish_names();
-        let hash = hash_of(
-            self.nodes.parent(node),
-            self.nodes.value(node).part.as_units(),
-        );
+        let hash = hash_at(&self.nodes, node);
         let value = take_node(&mut self.nodes, node);
         self.index.remove(&(hash, node.0));
         self.nodes.establish_forest();
         value.object
+    }
+
+    /// Takes a name out below which no other name stands, where it is there.
+    pub fn take_back(&mut self, name: &[u16])
+        requires name { is_name_of name.now ≡ true }
+        requires childless { count_in (rows_of self.old) name.now ≡ 0 }
+        ensures { rows_of self.new ≡ without (rows_of self.old) name.now }
+    {
+        self.establish_names();
+        let Some(node) = self.node(name) else {
+            return;
+        };
+        self.take(node);
     }
 
     /// Takes a name out, and gives its object.
@@ -56,6 +67,7 @@ impl LinkedTree {
         requires { is_name_of name.now ≡ true }
         ensures object { IfOk result (λ object. found (rows_of self.old) name.now ≡ Some object) }
         ensures ok { OnOk result (removed (rows_of self.old) name.now ≡ Ok (rows_of self.new)) }
+        ensures others { OnOk result (KeepsAllBut self.old self.new (key_of name.now)) }
         ensures fault { IfErr result (λ fault. removed (rows_of self.old) name.now ≡ Err fault) }
         ensures err { OnErr result (self.new ≡ self.old) }
     {

@@ -1,4 +1,4 @@
-use Rattle.std.proofs.Common.{◌≡◌, length, subst, ◌∙◌}
+use Rattle.std.proofs.Common.{rules, ◌≡◌, ◌<◌, ◌^◌, length, subst, sym, ◌∙◌}
 use Rattle.std.proofs.lemmas.List.{length-map}
 use Rattle.sb_arena.specs.Forests.{IsRooted, IsShallow, Agrees, HasLiveLinks, HasSingleChildren}
 use Rattle.sb_arena.specs.Links.{rows_of, row_of}
@@ -34,3 +34,9 @@ pub returns-clause-even : goal.returns-clause-even
 returns-clause-even g c =
     let links = c.self.inside.links.items in
     subst (λ f. length f.rows ≡ length f.values) c.self.view_is (length-map links (row_of links) ∙ c.self.invariant.0)
+
+pub returns-clause-small : goal.returns-clause-small
+returns-clause-small g c =
+    let links = c.self.inside.links.items in
+    let few : length links < 2 ^ 64 = search rules in
+    subst (λ f. length f.rows < 2 ^ 64) c.self.view_is (subst (λ n. n < 2 ^ 64) (sym (length-map links (row_of links))) few)

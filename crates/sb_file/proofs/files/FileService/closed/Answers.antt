@@ -1,3 +1,4 @@
+use Rattle.sb_names.specs.Nodes.{rows_of}
 use Rattle.sb_file.specs.Files.{Files}
 use Rattle.sb_file.proofs.FileLemmas.{files_left}
 use Rattle.sb_file.proofs.files.FileService.closed.Goals as goal
@@ -5,5 +6,5 @@ use Rattle.sb_file.proofs.files.FileService.closed.Goals as goal
 -- src/files.rt:245:5
 pub invariant_of-self : goal.invariant_of-self
 invariant_of-self c =
-    let inside : Files = record { names = c.self.inside.names; objects = c.self.inside.objects.items; shares = c.self.inside.shares } in
+    let inside : Files = record { names = rows_of c.self.inside.names; objects = c.self.inside.objects.items; shares = c.self.inside.shares } in
     files_left inside c.leave.new.self c.args.handle c.leave.ensures c.self.invariant

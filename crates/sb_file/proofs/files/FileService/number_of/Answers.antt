@@ -1,6 +1,6 @@
 use Rattle.std.proofs.Common.{rules, ◌≡◌, subst}
 use Rattle.sb_names.specs.Maps.{found}
-use Rattle.sb_file.specs.Files.{AreFiles}
+use Rattle.sb_file.specs.Files.{AreObjects}
 use Rattle.sb_file.proofs.FileLemmas.{made_if_found}
 use Rattle.sb_file.proofs.files.FileService.number_of.Goals as goal
 
@@ -8,4 +8,4 @@ use Rattle.sb_file.proofs.files.FileService.number_of.Goals as goal
 pub returns-clause-made : goal.returns-clause-made
 returns-clause-made c =
     let f : found c.args.self.now.names c.args.name.now ≡ c.find.result = search rules in
-    made_if_found c.args.self.now c.args.name.now (subst AreFiles c.self.view_is c.self.invariant) c.find.result f
+    made_if_found c.args.self.now c.args.name.now (subst AreObjects c.self.view_is c.self.invariant) c.find.result f

@@ -1,0 +1,229 @@
+-- An answer has at most seven extended words.
+use Rattle.std.proofs.Common.{◌≤◌, ℕ, Bool, true, false, not, ◌||◌, ◌==◌, if◌then◌else◌, List, [], ◌∷◌, length, Option, None, Some, lit≤, arith}
+use Rattle.sb_call.specs.Statuses.{refusal, path_not_found}
+use Rattle.sb_call.specs.declared.arguments.Arg.{Arg}
+use Rattle.sb_call.specs.declared.arguments.Arg.TheVariants.{Num, Str}
+use Rattle.sb_call.specs.declared.replies.Answer.{Answer}
+use Rattle.sb_call.specs.declared.tags.CallTag.TheVariants as tag
+use Rattle.sb_event.specs.Events as events
+use Rattle.sb_event.specs.declared.rows.EventRow.{EventRow}
+use Rattle.sb_file.specs.Creation as creation
+use Rattle.sb_file.specs.Creation.{open_existing}
+use Rattle.sb_file.specs.Files as files
+use Rattle.sb_handles.specs.Effects.{Effect}
+use Rattle.sb_handles.specs.Tables.{Table, held_by}
+use Rattle.sb_handles.specs.declared.objects.Held.{Held}
+use Rattle.sb_key.specs.Registry as registry
+use Rattle.sb_names.specs.Maps.{found}
+use Rattle.sb_pipe.specs.Pipes as pipes
+use Rattle.sb_pipe.specs.declared.rows.PipeRow.{PipeRow}
+use Rattle.sb_kernel.specs.Laws.{AnswersAreShort}
+use Rattle.sb_kernel.specs.Namespaces.{Space, close_by, event_create, event_open, file_create, file_open, file_query, file_rename, handle_close, key_create, key_open, ping, pipe_create}
+
+-- an answer with at most seven extended words
+abbrev IsShort : Answer → Type 0
+IsShort answer = length answer.ext ≤ 7
+
+-- a choice
+either : {S : Type 0} (b : Bool) (x y : Effect S) → IsShort x.answer → IsShort y.answer → IsShort (if b then x else y).answer
+either true x y e f = e
+either false x y e f = f
+
+either_answer : (b : Bool) (x y : Answer) → IsShort x → IsShort y → IsShort (if b then x else y)
+either_answer true x y e f = e
+either_answer false x y e f = f
+
+either_renamed : (b : Bool) (x y : files.Files × Answer) → IsShort x.1 → IsShort y.1 → IsShort (if b then x else y).1
+either_renamed true x y e f = e
+either_renamed false x y e f = f
+
+-- files
+short_open_by : (fs : files.Files) (handles : Table) (target number attributes access sharing disposition : ℕ) → IsShort (creation.open_by fs handles target number attributes access sharing disposition).answer
+short_open_by fs handles target number attributes access sharing disposition =
+    either (disposition == open_existing || disposition == creation.open_or_create) (creation.opens fs handles target number access sharing creation.was_opened)
+    (if disposition == creation.supersede then creation.opens (files.with_attributes fs number attributes) handles target number access sharing creation.was_superseded
+    else creation.opens (files.with_attributes fs number attributes) handles target number access sharing creation.was_overwritten) (lit≤ tt)
+    (either (disposition == creation.supersede) (creation.opens (files.with_attributes fs number attributes) handles target number access sharing creation.was_superseded)
+    (creation.opens (files.with_attributes fs number attributes) handles target number access sharing creation.was_overwritten) (lit≤ tt) (lit≤ tt))
+
+short_create_by : (o : Option ℕ) (fs : files.Files) (handles : Table) (target : ℕ) (name : List ℕ) (attributes access sharing disposition options : ℕ)
+    → IsShort (creation.create_by o fs handles target name attributes access sharing disposition options).answer
+short_create_by None fs handles target name attributes access sharing disposition options = grind arith
+short_create_by (Some number) fs handles target name attributes access sharing disposition options =
+    grind (arith, short_open_by fs handles target number attributes access sharing disposition)
+
+short_file : (fs : files.Files) (handles : Table) (target : ℕ) (name : List ℕ) (attributes access sharing disposition options : ℕ)
+    → IsShort (creation.create fs handles target name attributes access sharing disposition options).answer
+short_file fs handles target name attributes access sharing disposition options =
+    grind (arith, short_create_by (found fs.names name) fs handles target name attributes access sharing disposition options)
+
+short_query_by : (o : Option ℕ) (fs : files.Files) → IsShort (files.query_by o fs)
+short_query_by None fs = lit≤ tt
+short_query_by (Some number) fs = lit≤ tt
+
+short_query : (fs : files.Files) (name : List ℕ) → IsShort (files.query fs name)
+short_query fs name = either_answer (not (files.has_parent fs name)) (refusal path_not_found) (files.query_by (found fs.names name) fs) (lit≤ tt) (short_query_by (found fs.names name) fs)
+
+short_rename_by : (o : Option ℕ) (fs : files.Files) (name to : List ℕ) → IsShort (files.rename_by o fs name to).1
+short_rename_by None fs name to = lit≤ tt
+short_rename_by (Some number) fs name to = grind arith
+
+short_rename : (fs : files.Files) (name to : List ℕ) → IsShort (files.rename fs name to).1
+short_rename fs name to =
+    either_renamed (not (files.has_parent fs name)) (files.rename_is_refused fs path_not_found) (files.rename_by (found fs.names name) fs name to) (lit≤ tt) (short_rename_by (found fs.names name) fs name to)
+
+-- pipes
+short_pipe_by : (o : Option PipeRow) (ps : pipes.Pipes) (handles : Table) (target : ℕ) (name : List ℕ) (mode form instances : ℕ) → IsShort (pipes.create_by o ps handles target name mode form instances).answer
+short_pipe_by None ps handles target name mode form instances = lit≤ tt
+short_pipe_by (Some row) ps handles target name mode form instances = grind arith
+
+short_pipe : (ps : pipes.Pipes) (handles : Table) (target : ℕ) (name : List ℕ) (mode form instances : ℕ) → IsShort (pipes.create ps handles target name mode form instances).answer
+short_pipe ps handles target name mode form instances = grind (arith, short_pipe_by (found ps.rows name) ps handles target name mode form instances)
+
+-- keys
+short_key_by : (o : Option ℕ) (ks : registry.Keys) (handles : Table) (target : ℕ) (name : List ℕ) (access : ℕ) → IsShort (registry.create_by o ks handles target name access).answer
+short_key_by None ks handles target name access = lit≤ tt
+short_key_by (Some number) ks handles target name access = lit≤ tt
+
+short_key : (ks : registry.Keys) (handles : Table) (target : ℕ) (name : List ℕ) (access : ℕ) → IsShort (registry.create ks handles target name access).answer
+short_key ks handles target name access = grind (arith, short_key_by (found ks.names name) ks handles target name access)
+
+short_key_open_by : (o : Option ℕ) (ks : registry.Keys) (handles : Table) (target access : ℕ) → IsShort (registry.open_by o ks handles target access).answer
+short_key_open_by None ks handles target access = lit≤ tt
+short_key_open_by (Some number) ks handles target access = lit≤ tt
+
+short_key_open : (ks : registry.Keys) (handles : Table) (target : ℕ) (name : List ℕ) (access : ℕ) → IsShort (registry.open_key ks handles target name access).answer
+short_key_open ks handles target name access = grind (arith, short_key_open_by (found ks.names name) ks handles target access)
+
+-- events
+short_event_by : (o : Option EventRow) (es : events.Events) (handles : Table) (target : ℕ) (name : List ℕ) (kind initial : ℕ) → IsShort (events.create_by o es handles target name kind initial).answer
+short_event_by None es handles target name kind initial = lit≤ tt
+short_event_by (Some row) es handles target name kind initial = grind arith
+
+short_event : (es : events.Events) (handles : Table) (target : ℕ) (name : List ℕ) (kind initial : ℕ) → IsShort (events.create es handles target name kind initial).answer
+short_event es handles target name kind initial = grind (arith, short_event_by (found es.rows name) es handles target name kind initial)
+
+short_event_open : (o : Option EventRow) (es : events.Events) (handles : Table) (target access : ℕ) → IsShort (events.open_by o es handles target access).answer
+short_event_open None es handles target access = lit≤ tt
+short_event_open (Some row) es handles target access = lit≤ tt
+
+-- handles
+short_close : (o : Option Held) (ns : Space) (target handle : ℕ) → IsShort (close_by o ns target handle).answer
+short_close None ns target handle = lit≤ tt
+short_close (Some held) ns target handle = lit≤ tt
+
+short_call_ping : (ns : Space) (args : List Arg) → IsShort (ping ns args).answer
+short_call_ping ns [] = lit≤ tt
+short_call_ping ns (Str a ∷ more) = lit≤ tt
+short_call_ping ns (Num a ∷ []) = lit≤ tt
+short_call_ping ns (Num a ∷ Num b ∷ more) = lit≤ tt
+short_call_ping ns (Num a ∷ Str b ∷ []) = lit≤ tt
+short_call_ping ns (Num a ∷ Str b ∷ other ∷ more) = lit≤ tt
+
+short_call_file_create : (ns : Space) (target : ℕ) (args : List Arg) → IsShort (file_create ns target args).answer
+short_call_file_create ns target [] = lit≤ tt
+short_call_file_create ns target (Num a ∷ more) = lit≤ tt
+short_call_file_create ns target (Str a ∷ []) = lit≤ tt
+short_call_file_create ns target (Str a ∷ Str b ∷ more) = lit≤ tt
+short_call_file_create ns target (Str a ∷ Num b ∷ []) = lit≤ tt
+short_call_file_create ns target (Str a ∷ Num b ∷ Str c ∷ more) = lit≤ tt
+short_call_file_create ns target (Str a ∷ Num b ∷ Num c ∷ []) = lit≤ tt
+short_call_file_create ns target (Str a ∷ Num b ∷ Num c ∷ Str d ∷ more) = lit≤ tt
+short_call_file_create ns target (Str a ∷ Num b ∷ Num c ∷ Num d ∷ []) = lit≤ tt
+short_call_file_create ns target (Str a ∷ Num b ∷ Num c ∷ Num d ∷ Str e ∷ more) = lit≤ tt
+short_call_file_create ns target (Str a ∷ Num b ∷ Num c ∷ Num d ∷ Num e ∷ []) = lit≤ tt
+short_call_file_create ns target (Str a ∷ Num b ∷ Num c ∷ Num d ∷ Num e ∷ Str f ∷ more) = lit≤ tt
+short_call_file_create ns target (Str a ∷ Num b ∷ Num c ∷ Num d ∷ Num e ∷ Num f ∷ []) = short_file ns.files ns.handles target a b c d e f
+short_call_file_create ns target (Str a ∷ Num b ∷ Num c ∷ Num d ∷ Num e ∷ Num f ∷ other ∷ more) = lit≤ tt
+
+short_call_file_open : (ns : Space) (target : ℕ) (args : List Arg) → IsShort (file_open ns target args).answer
+short_call_file_open ns target [] = lit≤ tt
+short_call_file_open ns target (Num a ∷ more) = lit≤ tt
+short_call_file_open ns target (Str a ∷ []) = lit≤ tt
+short_call_file_open ns target (Str a ∷ Str b ∷ more) = lit≤ tt
+short_call_file_open ns target (Str a ∷ Num b ∷ []) = lit≤ tt
+short_call_file_open ns target (Str a ∷ Num b ∷ Str c ∷ more) = lit≤ tt
+short_call_file_open ns target (Str a ∷ Num b ∷ Num c ∷ []) = lit≤ tt
+short_call_file_open ns target (Str a ∷ Num b ∷ Num c ∷ Str d ∷ more) = lit≤ tt
+short_call_file_open ns target (Str a ∷ Num b ∷ Num c ∷ Num d ∷ []) = short_file ns.files ns.handles target a 0 b c open_existing d
+short_call_file_open ns target (Str a ∷ Num b ∷ Num c ∷ Num d ∷ other ∷ more) = lit≤ tt
+
+short_call_file_query : (ns : Space) (args : List Arg) → IsShort (file_query ns args).answer
+short_call_file_query ns [] = lit≤ tt
+short_call_file_query ns (Num a ∷ more) = lit≤ tt
+short_call_file_query ns (Str a ∷ []) = short_query ns.files a
+short_call_file_query ns (Str a ∷ other ∷ more) = lit≤ tt
+
+short_call_file_rename : (ns : Space) (args : List Arg) → IsShort (file_rename ns args).answer
+short_call_file_rename ns [] = lit≤ tt
+short_call_file_rename ns (Num a ∷ more) = lit≤ tt
+short_call_file_rename ns (Str a ∷ []) = lit≤ tt
+short_call_file_rename ns (Str a ∷ Num b ∷ more) = lit≤ tt
+short_call_file_rename ns (Str a ∷ Str b ∷ []) = short_rename ns.files a b
+short_call_file_rename ns (Str a ∷ Str b ∷ other ∷ more) = lit≤ tt
+
+short_call_pipe_create : (ns : Space) (target : ℕ) (args : List Arg) → IsShort (pipe_create ns target args).answer
+short_call_pipe_create ns target [] = lit≤ tt
+short_call_pipe_create ns target (Num a ∷ more) = lit≤ tt
+short_call_pipe_create ns target (Str a ∷ []) = lit≤ tt
+short_call_pipe_create ns target (Str a ∷ Str b ∷ more) = lit≤ tt
+short_call_pipe_create ns target (Str a ∷ Num b ∷ []) = lit≤ tt
+short_call_pipe_create ns target (Str a ∷ Num b ∷ Str c ∷ more) = lit≤ tt
+short_call_pipe_create ns target (Str a ∷ Num b ∷ Num c ∷ []) = lit≤ tt
+short_call_pipe_create ns target (Str a ∷ Num b ∷ Num c ∷ Str d ∷ more) = lit≤ tt
+short_call_pipe_create ns target (Str a ∷ Num b ∷ Num c ∷ Num d ∷ []) = short_pipe ns.pipes ns.handles target a b c d
+short_call_pipe_create ns target (Str a ∷ Num b ∷ Num c ∷ Num d ∷ other ∷ more) = lit≤ tt
+
+short_call_key_create : (ns : Space) (target : ℕ) (args : List Arg) → IsShort (key_create ns target args).answer
+short_call_key_create ns target [] = lit≤ tt
+short_call_key_create ns target (Num a ∷ more) = lit≤ tt
+short_call_key_create ns target (Str a ∷ []) = lit≤ tt
+short_call_key_create ns target (Str a ∷ Str b ∷ more) = lit≤ tt
+short_call_key_create ns target (Str a ∷ Num b ∷ []) = short_key ns.keys ns.handles target a b
+short_call_key_create ns target (Str a ∷ Num b ∷ other ∷ more) = lit≤ tt
+
+short_call_key_open : (ns : Space) (target : ℕ) (args : List Arg) → IsShort (key_open ns target args).answer
+short_call_key_open ns target [] = lit≤ tt
+short_call_key_open ns target (Num a ∷ more) = lit≤ tt
+short_call_key_open ns target (Str a ∷ []) = lit≤ tt
+short_call_key_open ns target (Str a ∷ Str b ∷ more) = lit≤ tt
+short_call_key_open ns target (Str a ∷ Num b ∷ []) = short_key_open ns.keys ns.handles target a b
+short_call_key_open ns target (Str a ∷ Num b ∷ other ∷ more) = lit≤ tt
+
+short_call_event_create : (ns : Space) (target : ℕ) (args : List Arg) → IsShort (event_create ns target args).answer
+short_call_event_create ns target [] = lit≤ tt
+short_call_event_create ns target (Num a ∷ more) = lit≤ tt
+short_call_event_create ns target (Str a ∷ []) = lit≤ tt
+short_call_event_create ns target (Str a ∷ Str b ∷ more) = lit≤ tt
+short_call_event_create ns target (Str a ∷ Num b ∷ []) = lit≤ tt
+short_call_event_create ns target (Str a ∷ Num b ∷ Str c ∷ more) = lit≤ tt
+short_call_event_create ns target (Str a ∷ Num b ∷ Num c ∷ []) = short_event ns.events ns.handles target a b c
+short_call_event_create ns target (Str a ∷ Num b ∷ Num c ∷ other ∷ more) = lit≤ tt
+
+short_call_event_open : (ns : Space) (target : ℕ) (args : List Arg) → IsShort (event_open ns target args).answer
+short_call_event_open ns target [] = lit≤ tt
+short_call_event_open ns target (Num a ∷ more) = lit≤ tt
+short_call_event_open ns target (Str a ∷ []) = lit≤ tt
+short_call_event_open ns target (Str a ∷ Str b ∷ more) = lit≤ tt
+short_call_event_open ns target (Str a ∷ Num b ∷ []) = short_event_open (found ns.events.rows a) ns.events ns.handles target b
+short_call_event_open ns target (Str a ∷ Num b ∷ other ∷ more) = lit≤ tt
+
+short_handle_close : (ns : Space) (target : ℕ) (args : List Arg) → IsShort (handle_close ns target args).answer
+short_handle_close ns target [] = lit≤ tt
+short_handle_close ns target (Str a ∷ more) = lit≤ tt
+short_handle_close ns target (Num a ∷ []) = short_close (held_by ns.handles target a) ns target a
+short_handle_close ns target (Num a ∷ other ∷ more) = lit≤ tt
+
+-- each call
+pub answers_are_short : AnswersAreShort
+answers_are_short ns target tag.Ping args = short_call_ping ns args
+answers_are_short ns target tag.FileCreate args = short_call_file_create ns target args
+answers_are_short ns target tag.FileOpen args = short_call_file_open ns target args
+answers_are_short ns target tag.FileQuery args = short_call_file_query ns args
+answers_are_short ns target tag.FileRename args = short_call_file_rename ns args
+answers_are_short ns target tag.PipeCreate args = short_call_pipe_create ns target args
+answers_are_short ns target tag.KeyCreate args = short_call_key_create ns target args
+answers_are_short ns target tag.KeyOpen args = short_call_key_open ns target args
+answers_are_short ns target tag.EventCreate args = short_call_event_create ns target args
+answers_are_short ns target tag.EventOpen args = short_call_event_open ns target args
+answers_are_short ns target tag.HandleClose args = short_handle_close ns target args

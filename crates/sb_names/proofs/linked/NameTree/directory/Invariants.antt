@@ -1,0 +1,13 @@
+use Rattle.std.proofs.Common.{◌≡◌, ◌++◌, ℕ, true, length}
+use Rattle.sb_names.specs.Keys.{key_of}
+use Rattle.sb_names.specs.Nodes.{IsAt, is_path, name_of, number_of}
+use Rattle.sb_names.proofs.linked.NameTree.directory.Given as goal
+
+-- the directory so far stands at what was read of the path
+abbrev pub invariant-loop-later : goal.invariant-loop-later
+invariant-loop-later l =
+    (key_of l.path ≡ name_of l.self (number_of l.here) ++ key_of l.rest)
+    × IsAt l.self (number_of l.here) (name_of l.self (number_of l.here)) × (is_path l.rest ≡ true)
+
+abbrev pub decreases-loop-later : goal.decreases-loop-later
+decreases-loop-later l = length l.rest

@@ -1,0 +1,125 @@
+// What renames a name in a tree of linked nodes.
+ghost use Rattle.std.specs.Prelude.{◌≡◌, ◌++◌, ◌∷◌, true, Some, None, Ok, IfErr, OnOk, OnErr, map};
+ghost use Rattle.std.specs.BTreeMap.{IsUnchanged, get};
+ghost use Rattle.sb_arena.specs.Forests.{IsLive};
+ghost use Rattle.sb_wide.specs.Names.{is_component, is_name_of};
+ghost use Rattle.sb_names.specs.Keys.{key_of};
+ghost use Rattle.sb_names.specs.Orders.{by_pair};
+ghost use Rattle.sb_names.specs.Renames.{collected, renamed_key, renamed_tree};
+ghost use Rattle.sb_names.specs.Trees.{IsFault};
+ghost use Rattle.sb_names.specs.Nodes.{HasNoChild, HasOneEntry, IsApart, IsChanged, IsThere, KeepsAllBut, KeepsEntries, KeepsOtherNodes, KeepsRows, name_of, number_of, rows_of};
+
+use crate::adding::hang;
+use crate::faults::TreeFault;
+use crate::hashes::{hash_at, hash_of};
+use crate::keys::is_below;
+use crate::linked::{NameTree, last_component};
+use crate::nodes::NameNode;
+use sb_arena::{Arena, NodeId, calls_change_one_value, links_change_one_parent};
+use sb_wide::{NoMemory, wide_of};
+use std::collections::BTreeMap;
+
+// Gives a node another value and another directory.
+fn move_node(nodes: &mut Arena<NameNode>, node: NodeId, directory: Option<NodeId>, value: NameNode)
+    requires live { IsLive nodes.old node.0 }
+    requires there { IsThere nodes.old (number_of directory) }
+    requires apart { IsApart nodes.old node.0 (number_of directory) }
+    ensures { IsChanged nodes.old nodes.new node.0 (Some value) (number_of directory) }
+{
+    nodes.establish_forest();
+    links_change_one_parent::<NameNode>();
+    calls_change_one_value::<NameNode>();
+    nodes.unlink(node);
+    let _ = nodes.set(node, value);
+    nodes.establish_forest();
+    hang(nodes, node, directory);
+}
+
+// Puts a node under another hash, and takes its entry under the old one out.
+fn reindex(
+    index: &mut BTreeMap<(u64, u64), ()>,
+    node: u64,
+    old_hash: u64,
+    hash: u64,
+) -> Result<(), NoMemory>
+    requires { HasOneEntry (get by_pair index.old) node old_hash }
+    ensures here { OnOk result (HasOneEntry (get by_pair index.new) node hash) }
+    ensures others { OnOk result (KeepsEntries (get by_pair index.old) (get by_pair index.new) node) }
+    ensures err { OnErr result (IsUnchanged index.old index.new) }
+{
+    index.insert((hash, node), ())?;
+    if old_hash == hash {
+        return Ok(());
+    }
+    index.remove(&(old_hash, node));
+    Ok(())
+}
+
+impl NameTree {
+    // Gives a node another component in a directory that is neither the node nor below it.
+    fn put_elsewhere(
+        &mut self,
+        node: NodeId,
+        directory: Option<NodeId>,
+        part: &[u16],
+    ) -> Result<(), NoMemory>
+        requires live { IsLive self.old node.0 }
+        requires there { IsThere self.old (number_of directory) }
+        requires apart { IsApart self.old node.0 (number_of directory) }
+        requires part { is_component part.now ≡ true }
+        requires absent { HasNoChild self.old (number_of directory) (key_of part.now) }
+        ensures rows { OnOk result (rows_of self.new ≡ collected (map (λ row. (renamed_key (name_of self.old (Some node.0)) (name_of self.old (number_of directory) ++ 92 ∷ key_of part.now) row.0, row.1)) (rows_of self.old))) }
+        ensures kept { OnOk result (KeepsRows self.old self.new (name_of self.old (Some node.0)) (name_of self.old (number_of directory) ++ 92 ∷ key_of part.now)) }
+        ensures others { OnOk result (KeepsOtherNodes self.old self.new node.0) }
+        ensures err { OnErr result (self.new ≡ self.old) }
+    {
+        self.establish_names();
+        let old_hash = hash_at(&self.nodes, node);
+        let hash = hash_of(directory, part);
+        let renamed = NameNode {
+            part: wide_of(self.alloc, part)?,
+            object: self.nodes.value(node).object,
+        };
+        reindex(&mut self.index, node.0, old_hash, hash)?;
+        move_node(&mut self.nodes, node, directory, renamed);
+        self.nodes.establish_forest();
+        Ok(())
+    }
+
+    #[tactic(auto, using(crate::proofs::RenameCases::rename_absent, crate::proofs::RenameCases::rename_inside, crate::proofs::AddLemmas::at_there))]
+    /// Gives a name and all below it a new name: each begins with `to` in the place of `from`, and keeps its object and its
+    /// node. Memory apart, it is refused with the first of these that applies.
+    ///
+    /// # Errors
+    /// `Absent` where `from` is not there, `IntoItself` where `to` lies below `from`, `NoParent` where the directory in
+    /// which `to` would stand is not there, `Exists` where `to` is there, also as `from` itself in other letters, and
+    /// `NoMemory` where there was none for the new component; then nothing is changed.
+    pub fn rename(&mut self, from: &[u16], to: &[u16]) -> Result<(), TreeFault>
+        requires from { is_name_of from.now ≡ true }
+        requires to { is_name_of to.now ≡ true }
+        ensures ok { OnOk result (renamed_tree (rows_of self.old) from.now to.now ≡ Ok (rows_of self.new)) }
+        ensures kept { OnOk result (KeepsRows self.old self.new (key_of from.now) (key_of to.now)) }
+        ensures others { OnOk result (KeepsAllBut self.old self.new (key_of from.now)) }
+        ensures fault { IfErr result (λ fault. IsFault (renamed_tree (rows_of self.old) from.now to.now) fault) }
+        ensures err { OnErr result (self.new ≡ self.old) }
+    {
+        self.establish_names();
+        let Some(node) = self.node(from) else {
+            return Err(TreeFault::Absent);
+        };
+        if is_below(from, to) {
+            return Err(TreeFault::IntoItself);
+        }
+        let (path, part) = last_component(to);
+        let Some(directory) = self.directory(path) else {
+            return Err(TreeFault::NoParent);
+        };
+        if self.child(directory, part).is_some() {
+            return Err(TreeFault::Exists);
+        }
+        match self.put_elsewhere(node, directory, part) {
+            Ok(()) => Ok(()),
+            Err(_) => Err(TreeFault::NoMemory),
+        }
+    }
+}
