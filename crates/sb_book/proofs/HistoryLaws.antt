@@ -10,7 +10,7 @@ use Rattle.sb_block.specs.Faults.{fault}
 use Rattle.sb_block.specs.declared.faults.BlockFault.{BlockFault}
 use Rattle.sb_kernel.specs.Namespaces.{Space}
 use Rattle.sb_kernel.specs.Openings.{opening}
-use Rattle.sb_rule.specs.Verdicts.{verdict_of}
+use Rattle.sb_rule.specs.Verdicts.{DecidingRuleIsFirst, verdict_of}
 use Rattle.sb_rule.specs.declared.actions.Action.{Action}
 use Rattle.sb_rule.specs.declared.actions.Action.TheVariants.{Allow, Deny, Alarm, Fake, ReadOnly}
 use Rattle.sb_rule.specs.declared.policies.Policy.{Policy}
@@ -66,9 +66,10 @@ allowed_copy policy copy = by (fault copy)
     by None = allowed (call_of copy).tag (call_of copy).args (verdict_of policy (call_of copy).tag (call_of copy).args)
     by (Some f) = tt
 
-pub performed_calls_are_allowed : PerformedCallsAreAllowed
-performed_calls_are_allowed policy copy tag line action args e =
+pub performed_calls_are_allowed : DecidingRuleIsFirst → PerformedCallsAreAllowed
+performed_calls_are_allowed law policy copy tag line action args e =
     let asked = (call_of copy).tag in
     let found : (asked ≡ tag) × (verdict_of policy asked (call_of copy).args ≡ verdict.Rule line action) × Grants action (call_of copy).args args =
     subst (Allowed asked (call_of copy).args (verdict_of policy asked (call_of copy).args)) e (allowed_copy policy copy) in
-    (found.0, ap (λ t. verdict_of policy t (call_of copy).args) (sym found.0) ∙ found.1, found.2)
+    let by_rule = law policy.rules tag (call_of copy).args line action (ap (λ t. verdict_of policy t (call_of copy).args) (sym found.0) ∙ found.1) in
+    record { call = found.0; rule = by_rule.0; first = by_rule.1; on_line = by_rule.2; by_action = by_rule.3; given = found.2 }

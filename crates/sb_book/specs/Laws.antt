@@ -5,14 +5,14 @@ use Rattle.sb_call.specs.declared.arguments.Arg.{Arg}
 use Rattle.sb_call.specs.declared.tags.CallTag.{CallTag}
 use Rattle.sb_block.specs.Calls.{call_of}
 use Rattle.sb_block.specs.Copies.{Copied}
-use Rattle.sb_rule.specs.Verdicts.{verdict_of}
+use Rattle.sb_block.specs.declared.calls.Call.{Call}
+use Rattle.sb_rule.specs.Verdicts.{IsFirstThatHolds, policy_at}
 use Rattle.sb_rule.specs.declared.actions.Action.{Action}
 use Rattle.sb_rule.specs.declared.actions.Action.TheVariants.{Allow, Deny, Alarm, Fake, ReadOnly}
 use Rattle.sb_rule.specs.declared.policies.Policy.{Policy}
-use Rattle.sb_rule.specs.declared.verdicts.Verdict.TheVariants as verdict
+use Rattle.sb_rule.specs.declared.policies.Rule.{Rule}
 use Rattle.sb_kernel.specs.Namespaces.{Space}
 use Rattle.sb_book.specs.Decisions.{decision_of, read_only_args}
-use Rattle.sb_rule.specs.Verdicts.{policy_at}
 use Rattle.sb_book.specs.Histories.{History, IsHistory, Setting, IsLegalHistory, answered, space_from}
 use Rattle.sb_book.specs.declared.decisions.Decision.{Decision}
 use Rattle.sb_book.specs.declared.decisions.Decision.TheVariants.{Refused, Denied, Faked, Performed}
@@ -41,12 +41,20 @@ Grants Deny asked given = ⊥
 Grants Alarm asked given = ⊥
 Grants Fake asked given = ⊥
 
--- a call that is performed is the copy's, its rule on this line says so of the copy's arguments, and the arguments are those that the
--- rule's action grants
+-- a performed call is the call that was asked; one of the policy's rules is the first that holds for it, line and action are that rule's
+-- own, and the arguments are those that the action grants of those asked
+pub record IsAllowed (policy : Policy) (asked : Call) (tag : CallTag) (line : ℕ) (action : Action) (args : List Arg) : Type 0 where
+  pub call : asked.tag ≡ tag
+  pub rule : Rule
+  pub first : IsFirstThatHolds policy.rules tag asked.args rule
+  pub on_line : rule.line ≡ line
+  pub by_action : rule.action ≡ action
+  pub given : Grants action asked.args args
+
+-- behind each call that is performed stands a rule of the policy
 abbrev pub PerformedCallsAreAllowed : Type 0
 PerformedCallsAreAllowed = (policy : Policy) (copy : Copied) (tag : CallTag) (line : ℕ) (action : Action) (args : List Arg)
-    → decision_of policy copy ≡ Performed tag line action args
-    → ((call_of copy).tag ≡ tag) × (verdict_of policy tag (call_of copy).args ≡ verdict.Rule line action) × Grants action (call_of copy).args args
+    → decision_of policy copy ≡ Performed tag line action args → IsAllowed policy (call_of copy) tag line action args
 
 -- an answer to a copy, decided by the policy of its target, leaves a history
 abbrev pub AnswersKeepHistories : Type 0

@@ -16,4 +16,4 @@ pub use laws::{
     answers_keep_histories, fronts_are_legal, only_performed_calls_count,
     performed_calls_are_allowed,
 };
-pub use reports::{Report, Results, TargetResults, ThreadResults};
+pub use reports::{AllWords, Report, Results, TargetResults, ThreadResults, WordList};

@@ -2,6 +2,7 @@
 
 use crate::entries::Entries;
 use sb_items::Items;
+use sb_kernel::Kernel;
 use sb_statements::StmtResult;
 
 /// The results of a thread, by the place of their statement.
@@ -13,11 +14,22 @@ pub type TargetResults = Items<ThreadResults>;
 /// The results of all, by target and thread.
 pub type Results = Items<TargetResults>;
 
-/// What a run gives: the whole history, and one result for each statement that ended.
+/// The channel words of a target: word j of channel c at `c * 65 + j`, where word 0 is the state and 1 + i block word i.
+pub type WordList = Items<u64>;
+
+/// The channel words of each target.
+pub type AllWords = Items<WordList>;
+
+/// What a run gives: the whole history, one result for each statement that ended, the channel words at its end, and the namespace
+/// that the history led to.
 #[derive(Debug, Drop)]
 pub struct Report {
     /// The whole history.
     pub entries: Entries,
     /// The results, by target, thread and place.
     pub results: Results,
+    /// The channel words of each target: 65 for each channel.
+    pub words: AllWords,
+    /// The namespace, and the handles to it.
+    pub kernel: Kernel,
 }

@@ -6,7 +6,8 @@ use Rattle.std.proofs.lemmas.List.Folds.{list_all-append}
 use Rattle.std.specs.List.{list_all}
 use Rattle.sb_call.specs.CallWords.{is_word}
 use Rattle.sb_schedule.proofs.Counts.{one_more}
-use Rattle.sb_schedule.specs.Actors.{is_there, is_step_there, actor_named, where_there, actor_of}
+use Rattle.sb_schedule.specs.Actors.{actor_named, where_there, actor_of}
+use Rattle.sb_statements.specs.Actors.{is_there, is_step_there}
 use Rattle.sb_schedule.specs.Drafts.{Drafted, step_count, nothing, has_rounds, with_step, with_rounds, finished}
 use Rattle.sb_schedule.specs.Laws.{ActorsAreThere, StepsAreCounted, RoundsAreCounted}
 use Rattle.sb_schedule.specs.Limits.{most_steps, most_rounds}

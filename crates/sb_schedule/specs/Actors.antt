@@ -1,24 +1,11 @@
--- The names of actors, and which actors a script has.
-use Rattle.std.specs.Prelude.{ℕ, ◌^◌, Bool, ◌==◌, nat_lt, List, [], ◌∷◌, length, slice_get, Option, None, Some, if◌then◌else◌}
+-- The names of actors.
+use Rattle.std.specs.Prelude.{ℕ, ◌^◌, Bool, ◌==◌, nat_lt, List, [], ◌∷◌, Option, None, Some, if◌then◌else◌}
 use Rattle.std.specs.List.{before_first, after_first}
+use Rattle.sb_statements.specs.Actors.{is_there}
 use Rattle.sb_statements.specs.declared.schedules.Actor.{Actor}
 use Rattle.sb_statements.specs.declared.schedules.Actor.TheVariants.{Worker, Thread}
 use Rattle.sb_statements.specs.declared.scripts.TargetScript.{TargetScript}
 use Rattle.sb_text.specs.Numbers.{decimal_of}
-
--- how many threads a target has; one that is not there has none
-abbrev pub threads_of : Option TargetScript → ℕ
-threads_of None = 0
-threads_of (Some target) = length target.threads
-
--- the target is there, and so is its thread
-abbrev pub is_there : List TargetScript → Actor → Bool
-is_there targets (Worker target) = nat_lt target (length targets)
-is_there targets (Thread target thread) = nat_lt thread (threads_of (slice_get targets target))
-
--- the actor of these steps is there
-abbrev pub is_step_there : List TargetScript → Actor × ℕ → Bool
-is_step_there targets step = is_there targets step.0
 
 abbrev pub is_dot : ℕ → Bool
 is_dot b = b == 46

@@ -1,7 +1,7 @@
 -- What is true of all schedule texts.
 use Rattle.std.specs.Prelude.{◌≡◌, ◌≤◌, ℕ, Bool, true, false, List, ◌++◌, length, Result, Ok, Err}
 use Rattle.std.specs.List.{list_all}
-use Rattle.sb_schedule.specs.Actors.{is_step_there}
+use Rattle.sb_statements.specs.Actors.{is_step_there}
 use Rattle.sb_schedule.specs.Drafts.{step_count}
 use Rattle.sb_schedule.specs.Limits.{most_steps, most_rounds}
 use Rattle.sb_schedule.specs.ScheduleTexts.{ScheduleFault, reading}

@@ -1,23 +1,10 @@
-// The names of actors, and which actors a script has.
+// The names of actors.
 ghost use Rattle.std.specs.Prelude.{◌≡◌, ◌≤◌, length};
 ghost use Rattle.std.specs.List.{position_or_len, before_first, after_first};
-ghost use Rattle.sb_schedule.specs.Actors.{is_dot, number_32, thread_named, actor_named, is_there, actor_of};
+ghost use Rattle.sb_schedule.specs.Actors.{is_dot, number_32, thread_named, actor_named, actor_of};
 
-use sb_statements::{Actor, Script};
+use sb_statements::{Actor, Script, is_there};
 use sb_text::decimal_of;
-
-/// Whether a script has the actor: the target is there, and so is its thread.
-pub fn is_there(script: &Script, actor: Actor) -> bool
-    ensures { result ≡ is_there script.now.targets actor }
-{
-    match actor {
-        Actor::Worker { target } => (target as usize) < script.targets.len(),
-        Actor::Thread { target, thread } => match script.targets.as_slice().get(target as usize) {
-            Some(found) => (thread as usize) < found.threads.len(),
-            None => false,
-        },
-    }
-}
 
 // The number of a target or of a thread.
 fn number_32(word: &[u8]) -> Option<u32>

@@ -10,7 +10,6 @@ mod laws;
 mod lines;
 mod schedule_texts;
 
-pub use actors::is_there;
 pub use faults::{ScheduleFault, ScheduleKind, ScheduleRefused};
 pub use laws::{first_faults_stay, read_schedules_are_bounded, skipped_lines_count_alone};
 pub use lines::{MOST_ROUNDS, MOST_STEPS};

@@ -1,7 +1,7 @@
 // Reading schedule texts.
 ghost use Rattle.std.specs.Prelude.{◌≡◌, ◌<◌, ◌≤◌, ◌^◌, length, true, IfOk};
 ghost use Rattle.std.specs.List.{list_all};
-ghost use Rattle.sb_schedule.specs.Actors.{is_step_there};
+ghost use Rattle.sb_statements.specs.Actors.{is_step_there};
 ghost use Rattle.sb_schedule.specs.Drafts.{nothing, step_count};
 ghost use Rattle.sb_schedule.specs.Limits.{most_steps, most_rounds};
 ghost use Rattle.sb_schedule.specs.ScheduleTexts.{is_version, add_line, grammar, reading};

@@ -5,3 +5,5 @@ pub mod Prefixes
 pub mod Renumbered
 pub mod Fitting
 pub mod Opened
+pub mod QuotedUnits
+pub mod ReadUnits

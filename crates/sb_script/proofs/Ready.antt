@@ -34,7 +34,7 @@ use Rattle.sb_text.specs.Tokens.{Lexeme, Word, Quoted, Bad, tokens_of}
 use Rattle.sb_text.specs.Utf8.{not_utf8_line}
 
 -- a list whose last item became another
-abbrev behind : {A : Type 0} → List A → A → List A
+abbrev pub behind : {A : Type 0} → List A → A → List A
 behind before last = before ++ last ∷ []
 
 and_true : (b : Bool) → (b && true) ≡ b
@@ -49,11 +49,11 @@ all_behind : {A : Type 0} (p : A → Bool) (before : List A) (last : A) → list
 all_behind p before last = list_all-append p before (last ∷ []) ∙ ap (λ b. list_all p before && b) (and_true (p last))
 
 -- what holds of all holds with one more of which it holds
-all_more : {A : Type 0} (p : A → Bool) (before : List A) (last : A) → list_all p before ≡ true → p last ≡ true → list_all p (behind before last) ≡ true
+pub all_more : {A : Type 0} (p : A → Bool) (before : List A) (last : A) → list_all p before ≡ true → p last ≡ true → list_all p (behind before last) ≡ true
 all_more p before last h k = all_behind p before last ∙ both _ _ h k
 
 -- and with another last item
-all_other : {A : Type 0} (p : A → Bool) (before : List A) (last new : A) → (p last ≡ true → p new ≡ true)
+pub all_other : {A : Type 0} (p : A → Bool) (before : List A) (last new : A) → (p last ≡ true → p new ≡ true)
     → list_all p (behind before last) ≡ true → list_all p (behind before new) ≡ true
 all_other p before last new f h =
     let parts = and_parts (list_all p before) (p last) (sym (all_behind p before last) ∙ h) in
@@ -156,7 +156,7 @@ target_with all h threads c t =
     both _ _ (both _ _ c b.0) b.1
 
 -- the targets whose last has these threads
-abbrev whole : Option Heading → List TargetScript → List (List Statement) → List TargetScript
+abbrev pub whole : Option Heading → List TargetScript → List (List Statement) → List TargetScript
 whole last before threads = elim last [ None ↦ before | Some heading ↦ before ++ headed heading threads ∷ [] ]
 
 abbrev Keeps : List (List Statement) → List (List Statement) → List Named → List Named → Type 0
@@ -379,7 +379,7 @@ line_fine policies draft line (Quoted q ∷ tokens) f = λ new h. absurd cc
 line_fine policies draft line (Bad ∷ tokens) f = λ new h. absurd cc
 line_fine policies draft line [] f = λ new h. absurd cc
 
-on_this : {A : Type 0} (line : ℕ) (read : Result A ScriptKind) (x : A) → on_line line read ≡ Ok x → read ≡ Ok x
+pub on_this : {A : Type 0} (line : ℕ) (read : Result A ScriptKind) (x : A) → on_line line read ≡ Ok x → read ≡ Ok x
 on_this line (Ok y) x h = ap Ok (ok_same y x h)
 on_this line (Err kind) x h = absurd cc
 

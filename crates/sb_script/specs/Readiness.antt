@@ -1,7 +1,8 @@
--- What is true of each script that is read: it fits its policies, and its opening lines can be placed.
+-- What is true of each script that is read: it fits its policies, its opening lines can be placed, and its strings are made of units.
 use Rattle.std.specs.Prelude.{◌≡◌, ℕ, Bool, true, ◌&&◌, nat_lt, List, [], ◌∷◌, ◌++◌, length, Ok}
 use Rattle.std.specs.List.{list_all}
 use Rattle.sb_statements.specs.Soundness.{is_sound}
+use Rattle.sb_statements.specs.Units.{script_has_units}
 use Rattle.sb_statements.specs.declared.scripts.Script.{Script}
 use Rattle.sb_statements.specs.declared.scripts.StartLine.{StartLine}
 use Rattle.sb_statements.specs.declared.scripts.TargetScript.{TargetScript}
@@ -34,3 +35,7 @@ ReadScriptsAreJudged = (policies : List Policy) (text : List ℕ) (script : Scri
 -- and its opening lines can be placed one after another
 abbrev pub ReadScriptsArePlaced : Type 0
 ReadScriptsArePlaced = (policies : List Policy) (text : List ℕ) (script : Script) → reading policies text ≡ Ok script → can_follow [] script.start ≡ true
+
+-- the strings of its calls are made of units
+abbrev pub ReadScriptsHaveUnits : Type 0
+ReadScriptsHaveUnits = (policies : List Policy) (text : List ℕ) (script : Script) → reading policies text ≡ Ok script → script_has_units script ≡ true

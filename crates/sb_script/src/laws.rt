@@ -1,11 +1,12 @@
 // Laws of script texts. None of these functions does anything: each contract is a law.
 ghost use Rattle.sb_script.specs.Laws.{FirstFaultsStay, SkippedLinesCountAlone, ReadArgumentsFit, PlacingIsOpening};
-ghost use Rattle.sb_script.specs.Readiness.{ReadScriptsAreSound, ReadScriptsAreJudged, ReadScriptsArePlaced};
+ghost use Rattle.sb_script.specs.Readiness.{ReadScriptsAreSound, ReadScriptsAreJudged, ReadScriptsArePlaced, ReadScriptsHaveUnits};
 
 use crate::drafts::Draft;
 use crate::faults::ScriptKind;
 use sb_event::EventRow;
 use sb_names::puts_are_found;
+use sb_text::quoted_tokens_are_text;
 
 /// Each script that is read is sound, the policy of each of its targets is there, and its opening lines can be placed one
 /// after another.
@@ -14,6 +15,14 @@ pub fn read_scripts_are_ready()
     ensures judged { ReadScriptsAreJudged }
     ensures placed { ReadScriptsArePlaced }
 {}
+
+/// The strings of the calls of each script that is read are made of units of 16 bits: they stand between quotes in a text that is
+/// UTF-8.
+pub fn read_scripts_have_units()
+    ensures { ReadScriptsHaveUnits }
+{
+    quoted_tokens_are_text();
+}
 
 /// The arguments that are read for a call fit it, so that a call is too big only for its block.
 pub fn read_arguments_fit()

@@ -16,6 +16,6 @@ mod steps;
 pub use faults::{ScriptFault, ScriptKind, ScriptRefused};
 pub use laws::{
     first_faults_stay, placing_is_opening, read_arguments_fit, read_scripts_are_ready,
-    skipped_lines_count_alone,
+    read_scripts_have_units, skipped_lines_count_alone,
 };
 pub use script_texts::read_script;

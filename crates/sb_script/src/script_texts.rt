@@ -1,6 +1,7 @@
 // Reading script texts.
 ghost use Rattle.std.specs.Prelude.{◌≡◌, ◌<◌, ◌^◌, [], length, true, IfOk};
 ghost use Rattle.sb_statements.specs.Soundness.{is_sound};
+ghost use Rattle.sb_statements.specs.Units.{script_has_units};
 ghost use Rattle.sb_script.specs.Drafts.{nothing, targets_of};
 ghost use Rattle.sb_script.specs.Readiness.{are_judged, can_follow};
 ghost use Rattle.sb_script.specs.ScriptTexts.{add_line, grammar, absence, first_absence, finished, reading};
@@ -10,7 +11,7 @@ ghost use Rattle.sb_text.specs.Steps.{Gives};
 
 use crate::drafts::{Draft, Named};
 use crate::faults::{LineRefused, ScriptFault, ScriptKind, ScriptRefused};
-use crate::laws::read_scripts_are_ready;
+use crate::laws::{read_scripts_are_ready, read_scripts_have_units};
 use crate::lines::line_of;
 use sb_rule::{Policies, Policy};
 use sb_statements::{Script, TargetScript};
@@ -106,7 +107,8 @@ fn draft_of_text(alloc: Global, policies: &[Policy], text: &[u8]) -> Result<Draf
 }
 
 /// The script of a text, for targets of these policies, or its first fault. The text has fewer than 2^32 bytes. The script
-/// is sound, the policy of each of its targets is there, and its opening lines can be placed one after another.
+/// is sound, the policy of each of its targets is there, its opening lines can be placed one after another, and the strings of its
+/// calls are made of units.
 ///
 /// The grammar of script texts is that of this project.
 ///
@@ -123,8 +125,10 @@ pub fn read_script(alloc: Global, text: &[u8], policies: &Policies) -> Result<Sc
     ensures sound { IfOk result (λ script. is_sound script ≡ true) }
     ensures judged { IfOk result (λ script. are_judged (length policies.now.list) script.targets ≡ true) }
     ensures placed { IfOk result (λ script. can_follow [] script.start ≡ true) }
+    ensures units { IfOk result (λ script. script_has_units script ≡ true) }
 {
     read_scripts_are_ready();
+    read_scripts_have_units();
     let draft = draft_of_text(alloc, policies.list.as_slice(), text)?;
     finished(alloc, draft)
 }

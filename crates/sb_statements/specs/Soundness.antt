@@ -30,16 +30,16 @@ channels_of None = 0
 channels_of (Some target) = target.channels
 
 -- the target has the channel, and the place is the state or one of 64 block words
-abbrev pub is_word : List TargetScript → ℕ → Word → Bool
-is_word targets target word = nat_lt word.channel (channels_of (slice_get targets target)) && nat_le word.at last_place
+abbrev pub has_word : List TargetScript → ℕ → Word → Bool
+has_word targets target word = nat_lt word.channel (channels_of (slice_get targets target)) && nat_le word.at last_place
 
 -- a call encodes, another statement names a word that is there, and a wait has a count of loads
 abbrev pub is_statement : List TargetScript → Statement → Bool
 is_statement targets (Call tag args) = encodes tag args
-is_statement targets (Store target word value) = is_word targets target word
-is_statement targets (Exchange target word from to) = is_word targets target word
-is_statement targets (Load target word) = is_word targets target word
-is_statement targets (Wait target word value most) = is_word targets target word && is_patience most
+is_statement targets (Store target word value) = has_word targets target word
+is_statement targets (Exchange target word from to) = has_word targets target word
+is_statement targets (Load target word) = has_word targets target word
+is_statement targets (Wait target word value most) = has_word targets target word && is_patience most
 
 -- a thread has at most 4,096 statements, all of them sound
 abbrev pub is_thread : List TargetScript → List Statement → Bool

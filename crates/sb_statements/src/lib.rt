@@ -2,6 +2,7 @@
 // channels it leaves clean; schedules; and what became of each statement.
 #![tactic(auto)]
 
+mod actors;
 mod equalities;
 mod laws;
 mod limits;
@@ -12,6 +13,7 @@ mod scripts;
 mod soundness;
 mod statements;
 
+pub use actors::is_there;
 pub use laws::sound_parts;
 pub use limits::{
     LAST_PLACE, MOST_CHANNELS, MOST_PATIENCE, MOST_START_LINES, MOST_STATEMENTS, MOST_TARGETS,

@@ -2,7 +2,7 @@
 ghost use Rattle.std.specs.Prelude.{◌≡◌, ◌&&◌, nat_eq};
 ghost use Rattle.std.specs.List.{list_all, list_any};
 ghost use Rattle.std.specs.Cmp.Lexicographic.{pointwise};
-ghost use Rattle.sb_statements.specs.Soundness.{is_sound, is_patience, is_start, is_word, is_statement, is_thread, is_target, names_differ, are_targets};
+ghost use Rattle.sb_statements.specs.Soundness.{is_sound, is_patience, is_start, has_word, is_statement, is_thread, is_target, names_differ, are_targets};
 
 use crate::limits::{
     LAST_PLACE, MOST_CHANNELS, MOST_PATIENCE, MOST_START_LINES, MOST_STATEMENTS, MOST_TARGETS,
@@ -42,8 +42,8 @@ fn are_starts(lines: &[StartLine]) -> bool
     lines.iter().all(is_start)
 }
 
-fn is_word(targets: &[TargetScript], target: u32, word: Word) -> bool
-    ensures { result ≡ is_word targets.now target word }
+fn has_word(targets: &[TargetScript], target: u32, word: Word) -> bool
+    ensures { result ≡ has_word targets.now target word }
 {
     match targets.get(target as usize) {
         Some(target) => word.channel < target.channels && word.at <= LAST_PLACE,
@@ -58,13 +58,13 @@ fn is_statement(targets: &[TargetScript], statement: &Statement) -> bool
         Statement::Call { tag, args } => encodes(*tag, args.as_slice()),
         Statement::Store { target, word, .. }
         | Statement::Exchange { target, word, .. }
-        | Statement::Load { target, word } => is_word(targets, *target, *word),
+        | Statement::Load { target, word } => has_word(targets, *target, *word),
         Statement::Wait {
             target,
             word,
             most,
             ..
-        } => is_word(targets, *target, *word) && is_patience(*most),
+        } => has_word(targets, *target, *word) && is_patience(*most),
     }
 }
 

@@ -1,7 +1,7 @@
 use Rattle.std.proofs.Common.{rules, ◌≡◌, ◌≤◌, true}
 use Rattle.std.specs.List.{list_all}
 use Rattle.sb_schedule.proofs.Bounds.{holds_if_read}
-use Rattle.sb_schedule.specs.Actors.{is_step_there}
+use Rattle.sb_statements.specs.Actors.{is_step_there}
 use Rattle.sb_schedule.specs.Limits.{most_rounds}
 use Rattle.sb_schedule.specs.ScheduleTexts.{reading}
 use Rattle.sb_text.specs.Steps.{Gives}
