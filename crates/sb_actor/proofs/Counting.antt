@@ -1,28 +1,26 @@
 -- The counts through a step.
-use Rattle.std.proofs.Common.{◌≡◌, ◌≢◌, ◌⊎◌, ℕ, zero, suc, ◌+◌, ◌*◌, ◌<◌, ◌≤◌, Bool, true, false, cond, eqb, ltb, leb, ◌&&◌, ◌||◌, List, [], ◌∷◌, ◌++◌, length, set, get_or, refl, sym, ap, ◌∙◌, subst, inl, inr, arith, eq-eqb, ne_eqb, get_or-set_same, get_or-set_other}
+use Rattle.std.proofs.Common.{◌≡◌, ◌⊎◌, ℕ, zero, suc, ◌+◌, ◌<◌, ◌≤◌, Bool, true, false, cond, eqb, ltb, ◌&&◌, ◌||◌, List, [], ◌∷◌, ◌++◌, length, set, get_or, refl, sym, ap, ◌∙◌, subst, inl, inr, arith, eq-eqb, ne_eqb, get_or-set_same, get_or-set_other}
 use Rattle.std.proofs.lemmas.Bool.Decides.{nat_tests}
 use Rattle.std.proofs.lemmas.List.Sums.{sum_by-append, sum_by-cons}
 use Rattle.std.specs.List.{sum_by}
 use mathlib.Core.Option.{some, some-injective, some-ne-none}
 use native.Mathlib.Decide.{ℕ_discrete}
 use lib.ListN.{get_elem?}
-use Rattle.sb_block.specs.Copies.{Copied, copied, is_end}
+use Rattle.sb_block.specs.Copies.{copied, is_end}
 use Rattle.sb_block.specs.Packing.{offset_of}
 use Rattle.sb_actor.specs.declared.views.Served.{Served}
 use Rattle.sb_actor.specs.declared.views.Notes.{Notes}
 use Rattle.sb_actor.specs.declared.views.ThreadRecord.{ThreadRecord}
 use Rattle.sb_actor.specs.declared.views.StrayRecord.{StrayRecord}
-use Rattle.sb_actor.specs.declared.views.ThreadView.{ThreadView}
-use Rattle.sb_actor.specs.declared.views.StrayView.{StrayView}
 use Rattle.sb_actor.specs.declared.views.WorkerPlace.{WorkerPlace}
 use Rattle.sb_actor.specs.declared.views.WorkerPlace.TheVariants.{Look, Count, End, Copy, Copied as Whole, Reply}
 use Rattle.sb_actor.specs.declared.views.WorkerView.{WorkerView}
 use Rattle.sb_actor.specs.declared.views.View.{View}
-use Rattle.sb_actor.specs.declared.views.View.TheVariants.{Worker, Thread, Stray, Spent}
-use Rattle.sb_actor.specs.Moves.{at, Deed, met, wrote, noted, notes_after, thread_view, stray_view, worker_view, worker_result, worker_channel, worker_place, served_by, WorkerMay, take_it, fill, send, wait, fetch, free, abandon, look, load_count, load_end, copy, answer, acknowledge, stray_store, stray_exchange, stray_load, stray_wait}
+use Rattle.sb_actor.specs.declared.views.View.TheVariants.{Worker, Thread, Stray}
+use Rattle.sb_actor.specs.Moves.{at, Deed, met, wrote, noted, thread_view, stray_view, worker_view, worker_result, served_by, WorkerMay, take_it, fill, send, wait, fetch, free, abandon, look, load_count, load_end, copy, answer, acknowledge, stray_store, stray_exchange, stray_load, stray_wait}
 use Rattle.sb_actor.specs.Rule.{sees}
-use Rattle.sb_actor.specs.Counts.{threes, view_threes, served_on, is_engaged, owed, Counts}
-use Rattle.sb_actor.specs.Laws.{words_after, ThreadCounts, WorkerCounts, StrayCounts}
+use Rattle.sb_actor.specs.Counts.{view_threes, served_on, is_engaged, owed}
+use Rattle.sb_actor.specs.Laws.{ThreadCounts, WorkerCounts, StrayCounts}
 use Rattle.sb_actor.proofs.WorkerSteps.{sees_here, sees_else, sees_look, wv}
 use Rattle.sb_actor.proofs.ThreadSteps.{was_true}
 
@@ -36,7 +34,7 @@ threes_append c xs ys = sum_by-append (λ (store : ℕ × ℕ). cond {A = ℕ} (
 served_append : (c : ℕ) (xs ys : List Served) → served_on c (xs ++ ys) ≡ served_on c xs + served_on c ys
 served_append c xs ys = sum_by-append (λ (x : Served). cond {A = ℕ} (eqb x.channel c) 1 0) xs ys
 
-all_set : (c : ℕ) (views : List View) (i : ℕ) (v w : View) → get_elem? views i ≡ some v → sum_by (view_threes c) (set views i w) + view_threes c v ≡ sum_by (view_threes c) views + view_threes c w
+pub all_set : (c : ℕ) (views : List View) (i : ℕ) (v w : View) → get_elem? views i ≡ some v → sum_by (view_threes c) (set views i w) + view_threes c v ≡ sum_by (view_threes c) views + view_threes c w
 all_set c [] i v w e = absurd (some-ne-none v (sym e))
 all_set c (u ∷ us) zero v w e =
     let s = ap (view_threes c) (some-injective u v e) in

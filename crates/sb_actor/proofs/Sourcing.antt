@@ -5,19 +5,15 @@ use native.Mathlib.Decide.{ℕ_discrete}
 use lib.ListN.{get_elem?}
 use Rattle.sb_actor.specs.declared.views.Shown.{Shown}
 use Rattle.sb_actor.specs.declared.views.Notes.{Notes}
-use Rattle.sb_actor.specs.declared.views.ThreadRecord.{ThreadRecord}
-use Rattle.sb_actor.specs.declared.views.StrayRecord.{StrayRecord}
-use Rattle.sb_actor.specs.declared.views.ThreadView.{ThreadView}
-use Rattle.sb_actor.specs.declared.views.StrayView.{StrayView}
 use Rattle.sb_actor.specs.declared.views.WorkerView.{WorkerView}
 use Rattle.sb_actor.specs.declared.views.View.{View}
-use Rattle.sb_actor.specs.declared.views.View.TheVariants.{Worker, Thread, Stray, Spent}
+use Rattle.sb_actor.specs.declared.views.View.TheVariants.{Worker, Thread, Stray}
 use Rattle.sb_actor.specs.Moves.{Deed, met, wrote, noted, shown, shows_of, notes_after, thread_view, stray_view, worker_view, take_it, fill, send, wait, fetch, free, abandon, look, load_count, load_end, copy, answer, acknowledge, stray_store, stray_exchange, stray_load, stray_wait}
-use Rattle.sb_actor.specs.Sources.{Has, opening_at, SeatNotes, OtherNotes, Source, Origins}
-use Rattle.sb_actor.specs.Laws.{words_after, ThreadOrigins, WorkerOrigins, StrayOrigins}
+use Rattle.sb_actor.specs.Sources.{Has, SeatNotes, OtherNotes, Source, Origins}
+use Rattle.sb_actor.specs.Laws.{ThreadOrigins, WorkerOrigins, StrayOrigins}
 use Rattle.sb_actor.proofs.Lists.{at_set, set_here, set_else, at_longer, at_later}
 
-has_longer : {A : Type 0} (xs ys : List A) (y : A) → Has y xs → Has y (xs ++ ys)
+pub has_longer : {A : Type 0} (xs ys : List A) (y : A) → Has y xs → Has y (xs ++ ys)
 has_longer xs ys y h = (h.0, at_longer xs ys h.0 y h.1)
 
 has_later : {A : Type 0} (xs ys : List A) (y : A) → Has y ys → Has y (xs ++ ys)
@@ -29,14 +25,14 @@ parts_at [] ys y n e = inr (n, e)
 parts_at (x ∷ xs) ys y zero e = inl (0, e)
 parts_at (x ∷ xs) ys y (suc n) e = ⊎_elim (λ (t : Has y xs). inl (suc t.0, t.1)) (λ (t : Has y ys). inr t) (parts_at xs ys y n e)
 
-has_parts : {A : Type 0} (xs ys : List A) (y : A) → Has y (xs ++ ys) → Has y xs ⊎ Has y ys
+pub has_parts : {A : Type 0} (xs ys : List A) (y : A) → Has y (xs ++ ys) → Has y xs ⊎ Has y ys
 has_parts xs ys y h = parts_at xs ys y h.0 h.1
 
 one_at : {A : Type 0} (x y : A) (n : ℕ) → get_elem? (x ∷ []) n ≡ some y → x ≡ y
 one_at x y zero e = some-injective x y e
 one_at x y (suc n) e = absurd (some-ne-none y (sym e))
 
-has_one : {A : Type 0} (x y : A) → Has y (x ∷ []) → x ≡ y
+pub has_one : {A : Type 0} (x y : A) → Has y (x ∷ []) → x ≡ y
 has_one x y h = one_at x y h.0 h.1
 
 -- an item of the first n is one of the first m of a longer list

@@ -1,17 +1,15 @@
 -- The thread's seat goes on as the thread does.
-use Rattle.std.proofs.Common.{◌≡◌, refl, sym, ap, ◌∙◌, subst, ℕ, zero, suc, ◌+◌, ◌<◌, ◌≤◌, Bool, true, false, cond, eqb, ltb, ◌&&◌, List, [], ◌∷◌, ◌++◌, length, get_or, take, Option, None, Some, arith}
+use Rattle.std.proofs.Common.{◌≡◌, refl, sym, ap, ◌∙◌, subst, ℕ, ◌+◌, ◌<◌, Bool, true, false, cond, eqb, ltb, ◌&&◌, List, [], ◌∷◌, ◌++◌, length, get_or, take, Option, None, Some, arith}
 use Rattle.std.proofs.lemmas.Bool.Decides.{nat_tests}
-use Rattle.std.specs.List.{list_any}
 use Rattle.sb_block.specs.Replies.{read_reply}
-use Rattle.sb_actor.specs.Acts.{value_in}
 use Rattle.sb_actor.specs.Following.{act_word, act_wrote, Tells}
 use Rattle.sb_actor.specs.Moves.{at, is_clean, no_call, try_next, IsBlock, Deed, met, wrote, thread_place, thread_view, ThreadMay, take_it, fill, send, wait, fetch, free, abandon}
-use Rattle.sb_actor.specs.Places.{statement_at, mark_at, begins, first_stage}
+use Rattle.sb_actor.specs.Places.{statement_at, mark_at, first_stage}
 use Rattle.sb_actor.specs.Ranges.{IsSoundThreadStage}
-use Rattle.sb_actor.specs.ThreadFollowing.{GivesUp, ThreadGoes, ThreadFollows}
+use Rattle.sb_actor.specs.ThreadFollowing.{GivesUp, ThreadFollows}
 use Rattle.sb_actor.specs.ThreadStages.{ThreadStage, ThreadAt}
 use Rattle.sb_actor.specs.ThreadStages as stage
-use Rattle.sb_actor.specs.ThreadTable.{ThreadNext, thread_row, thread_plan, thread_after, goes_on, ends, after_round, after_try, after_fill, after_send, after_wait, after_fetch, reply_by, is_clean_at, has_clean}
+use Rattle.sb_actor.specs.ThreadTable.{ThreadNext, thread_row, goes_on, ends, after_round, after_try, after_fill, after_send, after_wait, after_fetch, reply_by, is_clean_at, has_clean}
 use Rattle.sb_actor.specs.Ties.{thread_place_of, thread_deed, HoldsThread}
 use Rattle.sb_actor.specs.declared.acts.Seen.{Seen}
 use Rattle.sb_actor.specs.declared.views.ThreadPlace.{ThreadPlace}
@@ -27,7 +25,7 @@ use Rattle.sb_actor.proofs.Lists.{take_snoc}
 use Rattle.sb_actor.proofs.Ties.{some_same, take_whole, take_length}
 
 -- each statement begins outside a call
-outside : (block : List ℕ) (o : Option Statement) → thread_place_of block (first_stage o) ≡ no_call
+pub outside : (block : List ℕ) (o : Option Statement) → thread_place_of block (first_stage o) ≡ no_call
 outside block (Some (statement.Call tag args)) = refl
 outside block (Some (statement.Store t w x)) = refl
 outside block (Some (statement.Exchange t w from to)) = refl

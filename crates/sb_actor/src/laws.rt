@@ -1,9 +1,15 @@
 // Laws of rule S. None of these functions does anything: each contract is a law.
 ghost use Rattle.sb_actor.specs.Following.{WorkerFollows};
 ghost use Rattle.sb_actor.specs.Laws.{ThreadKeeps, WorkerKeeps, StrayKeeps, Starts, ThreadCounts, WorkerCounts, StrayCounts, ThreadOrigins, WorkerOrigins, StrayOrigins, SplitsThread, SplitsStray, JoinsThread, JoinsStray, BlocksAreWhole};
+ghost use Rattle.sb_actor.specs.Results.{ThreadLearns, CallsSuit, StraysSuit};
+ghost use Rattle.sb_actor.specs.SeatParts.{PartsStart, ThreadsSplitParts, StraysSplitParts, ThreadsJoinParts, StraysJoinParts};
+ghost use Rattle.sb_actor.specs.StrayFollowing.{StrayFollows, StraysKeepPlace};
 ghost use Rattle.sb_actor.specs.ThreadFollowing.{ThreadFollows, GivingUpIsKept};
+ghost use Rattle.sb_actor.specs.UnderWay.{BeginsUnderWay, StaysUnderWay};
+ghost use Rattle.sb_actor.specs.WorkerNotes.{NotesBegin, NotesAreKept, NotesStayAtJoins};
 
 use sb_block::{blocks_come_back, copies_are_whole};
+use sb_statements::sound_parts;
 
 /// The opening words and the worker's seat alone meet the rule.
 pub fn starts_in_rule()
@@ -73,4 +79,48 @@ pub fn thread_follows()
 /// A thread gives up no clean channel.
 pub fn clean_channels_are_kept()
     ensures { GivingUpIsKept }
+{}
+
+/// The counts and the sources hold of the opening words, and a seat that is cut off from the worker's, or that the worker's takes in,
+/// keeps them.
+pub fn splits_and_joins_keep_parts()
+    ensures start { PartsStart }
+    ensures new_thread { ThreadsSplitParts }
+    ensures new_stray { StraysSplitParts }
+    ensures thread { ThreadsJoinParts }
+    ensures stray { StraysJoinParts }
+{}
+
+/// A thread is under way in its script before its first step, and after each.
+pub fn threads_stay_under_way()
+    ensures begins { BeginsUnderWay }
+    ensures stays { StaysUnderWay }
+{}
+
+/// What the rule tells a thread at its steps on clean channels: where it met nothing but 5 none was clean, its channel is busy until it
+/// hands the block over, and the reply is to its block.
+pub fn thread_learns()
+    ensures { ThreadLearns }
+{}
+
+/// Each result suits its statement, and the calls that a thread had on clean channels grow by the replies alone.
+pub fn results_suit()
+    ensures calls { CallsSuit }
+    ensures strays { StraysSuit }
+{}
+
+/// The step of a store, an exchange, a load or a wait statement is one that a stray seat may make: a channel that a statement of the
+/// script writes to is not clean. Meanwhile the thread's own seat stands outside a call.
+pub fn stray_follows()
+    ensures seat { StrayFollows }
+    ensures thread { StraysKeepPlace }
+{
+    sound_parts();
+}
+
+/// The worker's notes are, in order, what the steps for the calls that it served, and for the one in work, stored and showed.
+pub fn notes_are_of_calls()
+    ensures begin { NotesBegin }
+    ensures steps { NotesAreKept }
+    ensures joins { NotesStayAtJoins }
 {}

@@ -21,11 +21,12 @@ mod workers;
 
 pub use acts::{ABANDONED, ACKNOWLEDGED, Act, BUSY, FREE, READY, Seen};
 pub use laws::{
-    blocks_are_whole, clean_channels_are_kept, splits_and_joins_keep_rule, starts_in_rule,
-    steps_keep_counts, steps_keep_origins, stray_keeps_rule, thread_follows, thread_keeps_rule,
-    worker_follows, worker_keeps_rule,
+    blocks_are_whole, clean_channels_are_kept, notes_are_of_calls, results_suit,
+    splits_and_joins_keep_parts, splits_and_joins_keep_rule, starts_in_rule, steps_keep_counts,
+    steps_keep_origins, stray_follows, stray_keeps_rule, thread_follows, thread_keeps_rule,
+    thread_learns, threads_stay_under_way, worker_follows, worker_keeps_rule,
 };
-pub use places::mark_at;
+pub use places::{establish_block, mark_at};
 pub use threads::ThreadState;
 pub use views::{
     Had, Notes, Served, Shown, StrayRecord, StrayView, ThreadPlace, ThreadRecord, ThreadView, View,
