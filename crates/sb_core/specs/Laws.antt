@@ -1,33 +1,118 @@
--- What holds of every run, and which scripts are run.
-use Rattle.std.specs.Prelude.{◌≡◌, ℕ, true, ◌&&◌, nat_le, List, length}
-use Rattle.std.specs.List.{list_all}
-use Rattle.sb_statements.specs.Soundness.{is_sound}
-use Rattle.sb_statements.specs.declared.scripts.Script.{Script}
-use Rattle.sb_statements.specs.declared.statements.Statement.{Statement}
+-- What holds of every world and of every run.
+use Rattle.std.specs.Prelude.{◌≡◌, ◌⊎◌, ◌<◌, ℕ, ◌*◌, ◌==◌, true, false, List, ◌++◌, length, map, Option, None, Some}
+use Rattle.sb_actor.specs.Places.{is_finished}
+use Rattle.sb_actor.specs.WorkerStages.{WorkerStage, WorkerAt, Look, Count, End, Copy, Take, Mark, Give, Reply, Ack}
+use Rattle.sb_actor.specs.WorkerTable.{worker_plan, worker_after}
+use Rattle.sb_actor.specs.declared.acts.Seen.{Seen}
+use Rattle.sb_block.specs.Copies.{Copied}
+use Rattle.sb_book.specs.Histories.{IsHistory, answered, setting_of}
+use Rattle.sb_book.specs.Readiness.{is_ready}
 use Rattle.sb_rule.specs.declared.policies.Policy.{Policy}
-use Rattle.sb_book.specs.Histories.{setting_of, IsLegalHistory}
-use Rattle.sb_core.specs.Workers.{is_worker_sound}
-use Rattle.sb_core.specs.Worlds.{start_world, rounds, drained, is_settled}
-use Rattle.sb_core.specs.Runs.{first_policy, ran}
-use Rattle.sb_core.specs.Single.{is_single_by_count, is_single_threaded}
-use Rattle.sb_core.specs.declared.worlds.World.{World}
+use Rattle.sb_statements.specs.declared.schedules.Actor.{Actor}
+use Rattle.sb_statements.specs.declared.schedules.Actor.TheVariants.{Worker, Thread}
+use Rattle.sb_statements.specs.declared.schedules.Schedule.{Schedule}
+use Rattle.sb_statements.specs.declared.scripts.Script.{Script}
+use Rattle.sb_statements.specs.Actors.{is_there}
+use Rattle.sb_core.specs.Changes.{Changes, plan_of, is_load}
+use Rattle.sb_core.specs.Drains.{drained, is_settled}
+use Rattle.sb_core.specs.Kept.{IsWorld, IsRunning, has_turn}
+use Rattle.sb_core.specs.Results.{AreAllResults, ResultsFit}
+use Rattle.sb_core.specs.Runs.{CanRun, ran}
+use Rattle.sb_core.specs.Shared.{decided}
+use Rattle.sb_core.specs.Words.{some_ready}
+use Rattle.sb_core.specs.Worlds.{WorldAt, start_world, step, steps, rounds, run_at, threads_at, worker_at}
 
--- the entries of a run are a legal history of its script under its policies
-abbrev pub RunsAreLegal : Type 0
-RunsAreLegal = (policies : List Policy) (script : Script) (count : ℕ) → is_single_threaded script ≡ true
-    → IsLegalHistory (setting_of policies script) (ran policies script count).report.entries
+-- the world of a script that is ready for policies runs the script, and keeps what every world keeps
+abbrev pub StartsKeep : Type 0
+StartsKeep = (policies : List Policy) (script : Script) → is_ready policies script ≡ true
+    → IsWorld (start_world policies script) × IsRunning script (start_world policies script)
 
--- after the rounds of a run, whatever its thread makes and however many they are, the drain leaves the worker looking, with nothing ready
-abbrev pub RunsSettle : Type 0
-RunsSettle = (policies : List Policy) (script : Script) (statements : List Statement) (count : ℕ)
-    → is_settled (drained 100 (first_policy policies script) (rounds count (first_policy policies script) statements (start_world (setting_of policies script)))) ≡ true
+-- so does the world after a step of an actor that is there
+abbrev pub StepsKeep : Type 0
+StepsKeep = (script : Script) (w : WorldAt) (actor : Actor) → IsWorld w → IsRunning script w → is_there script.targets actor ≡ true
+    → IsWorld (step script w actor) × IsRunning script (step script w actor)
 
--- the drain leaves the worker looking, with nothing ready
+-- and the world after a drain
+abbrev pub DrainsKeep : Type 0
+DrainsKeep = (script : Script) (w : WorldAt) → IsWorld w → IsRunning script w → IsWorld (drained w) × IsRunning script (drained w)
+
+-- A step changes at most one word, which its plan names; besides, the actor that makes it, and its results by at most one; the turn at Take and
+-- Give alone; and the book at Mark alone
+abbrev pub StepsChangeLittle : Type 0
+StepsChangeLittle = (script : Script) (w : WorldAt) (actor : Actor) → IsWorld w → IsRunning script w → is_there script.targets actor ≡ true
+    → Changes actor (plan_of script w actor) w (step script w actor)
+
+-- at Mark the book has one entry more, the answer to the worker's copy on its channel
+abbrev pub MarksAnswerCopies : Type 0
+MarksAnswerCopies = (script : Script) (w : WorldAt) (target : ℕ) (taken : Copied) → (worker_at w target).stage ≡ Mark taken
+    → (step script w (Worker target)).shared.book
+    ≡ answered w.shared.book target (worker_at w target).channel taken (decided w.shared.book target taken)
+
+-- where nobody has the turn no worker is in Mark or Give, and where one has it that worker alone is: so a worker that tries to take it finds it
+-- held exactly where another worker is in Mark or Give
+abbrev pub TurnsAreHeld : Type 0
+TurnsAreHeld = (w : WorldAt) → IsWorld w
+    → (w.shared.turn ≡ None → (t : ℕ) → t < length w.workers → has_turn (worker_at w t).stage ≡ false)
+    × ((holder t : ℕ) → w.shared.turn ≡ Some holder → t < length w.workers → has_turn (worker_at w t).stage ≡ (holder == t))
+
+-- the copy that a worker took, from its end until the reply is acknowledged
+abbrev pub copy_in : WorkerStage → Option Copied
+copy_in Look = None
+copy_in Count = None
+copy_in (End count) = None
+copy_in (Copy count end words) = None
+copy_in (Take taken) = Some taken
+copy_in (Mark taken) = Some taken
+copy_in (Give taken reply) = Some taken
+copy_in (Reply taken reply at) = Some taken
+copy_in (Ack taken reply) = Some taken
+
+-- a worker judges what it copied: from the end of the copy until the reply is acknowledged it loads nothing, and it keeps the copy
+abbrev pub CopiesAreJudged : Type 0
+CopiesAreJudged = (w : WorkerAt) (seen : Seen) (taken : Copied) → copy_in w.stage ≡ Some taken
+    → (is_load (worker_plan w) ≡ false) × ((copy_in (worker_after w seen).stage ≡ Some taken) ⊎ ((worker_after w seen).stage ≡ Look))
+
+-- a step of a finished thread does nothing
+abbrev pub FinishedThreadsStay : Type 0
+FinishedThreadsStay = (script : Script) (w : WorldAt) (target thread : ℕ) → IsRunning script w → thread < length (threads_at w target)
+    → is_finished script (run_at w target thread).thread ≡ true → step script w (Thread target thread) ≡ w
+
+-- what comes first decides the world after it, and what comes later goes on from there
+abbrev pub StepsAreFolds : Type 0
+StepsAreFolds = (script : Script) (first later : List Actor) (w : WorldAt) → steps script (first ++ later) w ≡ steps script later (steps script first w)
+
+-- rounds and the drain are steps too
+abbrev pub RoundsAreSteps : Type 0
+RoundsAreSteps = (n : ℕ) (script : Script) (w : WorldAt) → (actors : List Actor) × (rounds n script w ≡ steps script actors w)
+
+abbrev pub DrainsAreSteps : Type 0
+DrainsAreSteps = (script : Script) (w : WorldAt) → (actors : List Actor) × (drained w ≡ steps script actors w)
+
+-- a drain leaves every worker looking, and no state word is 3, whatever the words hold
 abbrev pub DrainsSettle : Type 0
-DrainsSettle = (policy : Policy) (w : World) → is_worker_sound w.worker ≡ true → is_settled (drained 100 policy w) ≡ true
+DrainsSettle = (w : WorldAt) → IsWorld w → is_settled (drained w) ≡ true
 
--- a sound script is single-threaded exactly where it has at most one target, and that at most one channel, at most one thread and no
--- statement but calls
-abbrev pub CountsDecide : Type 0
-CountsDecide = (script : Script) → is_sound script ≡ true
-    → is_single_threaded script ≡ (nat_le (length script.targets) 1 && list_all is_single_by_count script.targets)
+-- the entries of a run are a legal history of its script under its policies, and the kernel of its report is the one that they led to
+abbrev pub RunsAreLegal : Type 0
+RunsAreLegal = (policies : List Policy) (script : Script) (schedule : Schedule) → CanRun policies script schedule
+    → IsHistory (record {
+      setting = setting_of policies script;
+      space = (ran policies script schedule).report.kernel;
+      entries = (ran policies script schedule).report.entries;
+    })
+
+-- each result of a run is that of the statement at its place
+abbrev pub RunsHaveResults : Type 0
+RunsHaveResults = (policies : List Policy) (script : Script) (schedule : Schedule) → CanRun policies script schedule
+    → ResultsFit script (ran policies script schedule).report.results
+
+-- where no thread is unfinished there is exactly one result for each statement, at its place, and no state word is 3
+abbrev pub FinishedRunsAreWhole : Type 0
+FinishedRunsAreWhole = (policies : List Policy) (script : Script) (schedule : Schedule) → CanRun policies script schedule
+    → (ran policies script schedule).unfinished ≡ None
+    → AreAllResults script (ran policies script schedule).report.results × (some_ready (ran policies script schedule).report.words ≡ false)
+
+-- each target has 65 words for each channel
+abbrev pub RunsKeepWords : Type 0
+RunsKeepWords = (policies : List Policy) (script : Script) (schedule : Schedule) → CanRun policies script schedule
+    → map (λ words. length words) (ran policies script schedule).report.words ≡ map (λ target. target.channels * 65) script.targets

@@ -1,42 +1,72 @@
--- A whole run of a script that has at most one thread.
-use Rattle.std.specs.Prelude.{ℕ, if◌then◌else◌, List, [], ◌∷◌, map, Option, None, Some}
-use Rattle.sb_statements.specs.declared.scripts.Script.{Script}
-use Rattle.sb_statements.specs.declared.scripts.TargetScript.{TargetScript}
-use Rattle.sb_statements.specs.declared.statements.Statement.{Statement}
+-- A whole run of a script by a schedule, and the end of a run by threads.
+use Rattle.std.specs.Prelude.{◌≡◌, ◌<◌, ℕ, ◌*◌, true, List, [], length, map, slice_get, slice_index_or, Option, None, Some}
+use Rattle.std.specs.List.{list_all}
+use Rattle.sb_actor.specs.WorkerStages.{WorkerAt, Look}
+use Rattle.sb_book.specs.Histories.{History}
+use Rattle.sb_book.specs.Readiness.{is_ready}
 use Rattle.sb_rule.specs.declared.policies.Policy.{Policy}
-use Rattle.sb_rule.specs.Verdicts.{policy_at}
-use Rattle.sb_book.specs.Histories.{setting_of}
+use Rattle.sb_statements.specs.Limits.{most_targets, most_threads, most_statements}
+use Rattle.sb_statements.specs.Soundness.{is_sound, channels_of}
+use Rattle.sb_statements.specs.declared.results.StmtResult.{StmtResult}
+use Rattle.sb_statements.specs.declared.schedules.Schedule.{Schedule}
+use Rattle.sb_statements.specs.declared.scripts.Script.{Script}
+use Rattle.sb_core.specs.Actors.{scheduled}
+use Rattle.sb_statements.specs.Actors.{is_step_there}
+use Rattle.sb_core.specs.Drains.{drained}
+use Rattle.sb_core.specs.Reports.{report_of, results_of}
+use Rattle.sb_core.specs.Results.{AreAllResults}
+use Rattle.sb_core.specs.Threads.{first_unfinished}
+use Rattle.sb_core.specs.Worlds.{WorldAt, no_worker, start_world, steps, rounds}
 use Rattle.sb_book.specs.declared.reports.Report.{Report}
-use Rattle.sb_core.specs.Single.{first_thread}
-use Rattle.sb_core.specs.Worlds.{start_world, rounds, drained, is_finished}
 use Rattle.sb_core.specs.declared.runs.Ran.{Ran}
-use Rattle.sb_core.specs.declared.worlds.World.{World}
 
--- the policy of the first target
-abbrev pub first_policy : List Policy → Script → Policy
-first_policy policies script = policy_at (setting_of policies script).policies 0
+-- the script is ready for the policies, and it has each actor of the schedule
+pub record CanRun (policies : List Policy) (script : Script) (schedule : Schedule) : Type 0 where
+  pub ready : is_ready policies script ≡ true
+  pub there : list_all (is_step_there script.targets) schedule.steps ≡ true
 
--- the entries and the results so far
-abbrev pub report_of : World → Report
-report_of w = record { entries = w.book.entries; results = (w.results ∷ []) ∷ [] }
+-- a worker that looks, of the target with this number
+pub record IsIdle (script : Script) (t : ℕ) (x : WorkerAt) : Type 0 where
+  pub its_target : x.target ≡ t
+  pub its_channels : x.channels ≡ channels_of (slice_get script.targets t)
+  pub within : x.channel < x.channels
+  pub looks : x.stage ≡ Look
 
--- a finished world is drained, which takes the worker at most 100 steps
-abbrev pub ran_from : Policy → List Statement → World → Ran
-ran_from policy statements w =
-    if is_finished statements w then record { report = report_of (drained 100 policy w); unfinished = None }
-    else record { report = report_of w; unfinished = Some (0, 0) }
+-- The parts of a world in which every thread is finished and nobody has the turn: 65 words for each channel of each target, one looking worker
+-- for each target, one result for each statement, and a book of this script
+pub record CanFinish (script : Script) (words : List (List ℕ)) (workers : List WorkerAt) (book : History) (results : List (List (List StmtResult))) : Type 0 where
+  pub sound : is_sound script ≡ true
+  pub sized : map (λ target. length target) words ≡ map (λ target. target.channels * 65) script.targets
+  pub count : length workers ≡ length script.targets
+  pub idle : (t : ℕ) → t < length workers → IsIdle script t (slice_index_or workers t no_worker)
+  pub channels : book.setting.channels ≡ map (λ target. target.channels) script.targets
+  pub policies : length book.setting.policies ≡ length script.targets
+  pub whole : AreAllResults script results
 
--- where there is no thread, nothing is decided, and each target has no results
-abbrev pub idle_report : List TargetScript → Report
-idle_report targets = record { entries = []; results = map (λ target. []) targets }
+-- the world after the steps of a schedule, and then its rounds
+abbrev pub played : List Policy → Script → Schedule → WorldAt
+played policies script schedule = rounds schedule.rounds script (steps script (scheduled schedule.steps) (start_world policies script))
 
--- the run of a thread, where there is one: at most so many rounds, and the drain where the thread is finished
-abbrev pub ran_by : Option (List Statement) → List Policy → Script → ℕ → Ran
-ran_by None policies script count = record { report = idle_report script.targets; unfinished = None }
-ran_by (Some statements) policies script count =
-    ran_from (first_policy policies script) statements
-    (rounds count (first_policy policies script) statements (start_world (setting_of policies script)))
+-- where every thread is finished the workers drain the channels, and otherwise there is no drain
+abbrev pub ended : WorldAt → Option (ℕ × ℕ) → Ran
+ended w None = record { report = report_of (drained w).shared (results_of w.threads); unfinished = None }
+ended w (Some thread) = record { report = report_of w.shared (results_of w.threads); unfinished = Some thread }
 
--- the run of a script's only thread
-abbrev pub ran : List Policy → Script → ℕ → Ran
-ran policies script count = ran_by (first_thread script.targets) policies script count
+abbrev pub ended_from : Script → WorldAt → Ran
+ended_from script w = ended w (first_unfinished script w.threads)
+
+-- the steps of the schedule, then rounds while a thread is unfinished and rounds are left, then the drain where every thread is finished
+abbrev pub ran : List Policy → Script → Schedule → Ran
+ran policies script schedule = ended_from script (played policies script schedule)
+
+-- a world of these words, workers and book, in which no thread is left and nobody has the turn
+abbrev pub world_of : List (List ℕ) → List WorkerAt → History → WorldAt
+world_of words workers book = record { shared = record { words = words; turn = None; book = book }; workers = workers; threads = [] }
+
+-- the report after the drain of it, with the results of the threads
+abbrev pub finished : List (List ℕ) → List WorkerAt → History → List (List (List StmtResult)) → Report
+finished words workers book results = report_of (drained (world_of words workers book)).shared results
+
+-- no run has more results
+abbrev pub most_results : ℕ
+most_results = most_targets * (most_threads * most_statements)

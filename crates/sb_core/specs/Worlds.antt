@@ -1,74 +1,110 @@
--- The world of one thread and one worker over one channel, and its steps.
-use Rattle.std.specs.Prelude.{◌≡◌, ℕ, zero, suc, ◌+◌, ◌<◌, Bool, true, false, ◌&&◌, not, ◌==◌, nat_lt, nat_le, if◌then◌else◌, List, [], ◌++◌, length, slice_index, Option, None, Some}
-use Rattle.std.specs.Option.{option_to_list}
-use Rattle.sb_statements.specs.declared.results.StmtResult.{StmtResult}
-use Rattle.sb_statements.specs.declared.statements.Statement.{Statement}
+-- The world: what all actors share, and where each worker and each thread stands, with the results so far. A step is one row of the
+-- worker's table or of the thread's, applied to the world.
+use Rattle.std.specs.Prelude.{ℕ, zero, suc, Bool, true, false, is_none, List, [], ◌∷◌, ◌++◌, length, map, slice_get, slice_index_or, slice_set, None}
+use Rattle.sb_actor.specs.Places.{begun}
+use Rattle.sb_actor.specs.WorkerStages.{WorkerAt, Look}
+use Rattle.sb_actor.specs.WorkerTable.{worker_plan, worker_after}
+use Rattle.sb_book.specs.Histories.{new_history, setting_of}
 use Rattle.sb_rule.specs.declared.policies.Policy.{Policy}
-use Rattle.sb_rule.specs.Verdicts.{policy_at}
-use Rattle.sb_book.specs.Histories.{History, Setting, new_history}
-use Rattle.sb_core.specs.Channels.{ready_state, free_channel, state_of}
-use Rattle.sb_core.specs.Workers.{worker_after, worker_words, worker_book, is_worker_sound, is_looking}
-use Rattle.sb_core.specs.Threads.{ThreadStep, thread_row, mark_at, block_at, is_thread_sound}
-use Rattle.sb_core.specs.declared.workers.WorkerPhase.TheVariants.{Look}
-use Rattle.sb_core.specs.declared.threads.ThreadPhase.TheVariants.{Try}
-use Rattle.sb_core.specs.declared.worlds.World.{World}
+use Rattle.sb_statements.specs.Soundness.{channels_of}
+use Rattle.sb_statements.specs.declared.schedules.Actor.{Actor}
+use Rattle.sb_statements.specs.declared.schedules.Actor.TheVariants.{Worker, Thread}
+use Rattle.sb_statements.specs.declared.scripts.Script.{Script}
+use Rattle.sb_statements.specs.declared.scripts.TargetScript.{TargetScript}
+use Rattle.sb_core.specs.Actors.{round_actors}
+use Rattle.sb_statements.specs.Actors.{thread_count}
+use Rattle.sb_core.specs.Shared.{SharedAt, Effect, on_worker}
+use Rattle.sb_core.specs.Threads.{RunAt, ThreadStep, no_run, thread_step, first_unfinished}
+use Rattle.sb_core.specs.Words.{free_channels}
 
--- nothing has happened
-abbrev pub start_world : Setting → World
-start_world setting = record { words = free_channel; worker = Look; place = 0; thread = Try; book = new_history setting; results = [] }
+-- the channel words, the holder of the turn and the book, which all share; the worker of each target; and the threads of each target
+-- with their results
+pub record WorldAt : Type 0 where
+  pub shared : SharedAt
+  pub workers : List WorkerAt
+  pub threads : List (List RunAt)
 
--- the first target of a book has a channel, and its policy is the first of these
-pub record IsJudgedBy (policies : List Policy) (h : History) : Type 0 where
-  pub target : 0 < length h.setting.policies
-  pub channel : 0 < slice_index h.setting.channels 0
-  pub policy : policy_at h.setting.policies 0 ≡ policy_at policies 0
+-- a worker that is not there
+abbrev pub no_worker : WorkerAt
+no_worker = record { target = 0; channels = 0; channel = 0; stage = Look }
 
--- one step of the worker
-abbrev pub worker_step : Policy → World → World
-worker_step policy w =
-    record w { words = worker_words w.worker w.words; worker = worker_after policy w.worker w.words w.book; book = worker_book policy w.worker w.book }
+abbrev pub worker_at : WorldAt → ℕ → WorkerAt
+worker_at w target = slice_index_or w.workers target no_worker
 
--- how many statements a step ended
-abbrev pub ended_count : Option StmtResult → ℕ
-ended_count None = 0
-ended_count (Some r) = 1
+-- the threads of a target; one that is not there has none
+abbrev pub threads_at : WorldAt → ℕ → List RunAt
+threads_at w target = slice_index_or w.threads target []
 
--- the world after a step of the thread
-abbrev pub after_thread : World → ThreadStep → World
-after_thread w s =
-    record w { words = s.words; thread = s.thread; place = w.place + ended_count s.ended; results = w.results ++ option_to_list s.ended }
+abbrev pub run_at : WorldAt → ℕ → ℕ → RunAt
+run_at w target thread = slice_index_or (threads_at w target) thread no_run
 
--- one step of the thread. That of a finished thread does nothing
-abbrev pub thread_step : List Statement → World → World
-thread_step statements w =
-    if nat_lt w.place (length statements) then after_thread w (thread_row (mark_at w.place) (block_at statements w.place) w.thread w.words) else w
+-- the worker of a target before its first step: it looks at channel 0
+abbrev pub first_worker : List TargetScript → ℕ → WorkerAt
+first_worker targets target = record { target = target; channels = channels_of (slice_get targets target); channel = 0; stage = Look }
 
--- one step of each: the worker, and then the thread
-abbrev pub round : Policy → List Statement → World → World
-round policy statements w = thread_step statements (worker_step policy w)
+-- the workers of the first n targets
+abbrev pub first_workers : List TargetScript → ℕ → List WorkerAt
+first_workers targets zero = []
+first_workers targets (suc n) = first_workers targets n ++ first_worker targets n ∷ []
 
--- each statement has ended
-abbrev pub is_finished : List Statement → World → Bool
-is_finished statements w = nat_le (length statements) w.place
+-- a thread before its first step, with no results
+abbrev pub first_run : Script → ℕ → ℕ → RunAt
+first_run script target thread = record { thread = begun script target thread; results = [] }
 
--- the worker looks, and nothing is ready
-abbrev pub is_settled : World → Bool
-is_settled w = is_looking w.worker && not (state_of w.words == ready_state)
+-- the first n threads of a target
+abbrev pub first_runs : Script → ℕ → ℕ → List RunAt
+first_runs script target zero = []
+first_runs script target (suc n) = first_runs script target n ++ first_run script target n ∷ []
 
--- the numbers of the world are in their ranges
-abbrev pub is_sound : List Statement → World → Bool
-is_sound statements w = is_worker_sound w.worker && is_thread_sound w.thread && nat_le w.place (length statements)
+-- the threads of the first n targets
+abbrev pub start_threads : Script → ℕ → List (List RunAt)
+start_threads script zero = []
+start_threads script (suc n) = start_threads script n ++ first_runs script n (thread_count (slice_get script.targets n)) ∷ []
 
--- each statement that ended has its result
-abbrev pub IsCounted : World → Type 0
-IsCounted w = length w.results ≡ w.place
+-- the channel words of targets at the start
+abbrev pub first_words : List TargetScript → List (List ℕ)
+first_words targets = map (λ target. free_channels target.channels) targets
 
--- at most n rounds, while the thread is unfinished
-abbrev pub rounds : ℕ → Policy → List Statement → World → World
-rounds zero policy statements w = w
-rounds (suc n) policy statements w = elim (is_finished statements w) [ true ↦ w | false ↦ rounds n policy statements (round policy statements w) ]
+-- the world before the first step: each channel is free, nobody has the turn, and the namespace is the one that the script opens with
+abbrev pub start_world : List Policy → Script → WorldAt
+start_world policies script = record {
+  shared = record { words = first_words script.targets; turn = None; book = new_history (setting_of policies script) };
+  workers = first_workers script.targets (length script.targets);
+  threads = start_threads script (length script.targets);
+}
 
--- at most n steps of the worker, until it is settled
-abbrev pub drained : ℕ → Policy → World → World
-drained zero policy w = w
-drained (suc n) policy w = elim (is_settled w) [ true ↦ w | false ↦ drained n policy (worker_step policy w) ]
+-- the worker of a target goes on by what its step found
+abbrev pub worker_goes : WorldAt → ℕ → WorkerAt → Effect → WorldAt
+worker_goes w target worker e = record w { shared = e.shared; workers = slice_set w.workers target (worker_after worker e.seen) }
+
+-- one step of the worker of a target
+abbrev pub worker_step : WorldAt → ℕ → WorldAt
+worker_step w target = worker_goes w target (worker_at w target) (on_worker w.shared target (worker_at w target) (worker_plan (worker_at w target)))
+
+-- a thread of a target made its step
+abbrev pub thread_goes : WorldAt → ℕ → ℕ → ThreadStep → WorldAt
+thread_goes w target thread s =
+    record w { shared = s.shared; threads = slice_set w.threads target (slice_set (threads_at w target) thread s.run) }
+
+-- one step of an actor. That of a finished thread does nothing
+abbrev pub step : Script → WorldAt → Actor → WorldAt
+step script w (Worker target) = worker_step w target
+step script w (Thread target thread) = thread_goes w target thread (thread_step script w.shared (run_at w target thread))
+
+-- the world after the steps of these actors, in turn
+abbrev pub steps : Script → List Actor → WorldAt → WorldAt
+steps script [] w = w
+steps script (actor ∷ more) w = steps script more (step script w actor)
+
+-- a round: one step of each actor
+abbrev pub round : Script → WorldAt → WorldAt
+round script w = steps script (round_actors script.targets) w
+
+-- each statement of each thread has ended
+abbrev pub all_finished : Script → WorldAt → Bool
+all_finished script w = is_none (first_unfinished script w.threads)
+
+-- at most n rounds, while a thread is unfinished. A round is made whole before the threads are looked at again
+abbrev pub rounds : ℕ → Script → WorldAt → WorldAt
+rounds zero script w = w
+rounds (suc n) script w = elim (all_finished script w) [ true ↦ w | false ↦ rounds n script (round script w) ]

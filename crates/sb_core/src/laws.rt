@@ -1,28 +1,75 @@
-// What holds of every run, and which scripts are run.
-ghost use Rattle.sb_core.specs.Laws.{CountsDecide, DrainsSettle, RunsAreLegal, RunsSettle};
+// Laws of worlds and runs. None of these functions does anything: each contract is a law.
+ghost use Rattle.sb_core.specs.Laws.{StartsKeep, StepsKeep, DrainsKeep, StepsChangeLittle, MarksAnswerCopies, TurnsAreHeld, CopiesAreJudged, FinishedThreadsStay, StepsAreFolds, RoundsAreSteps, DrainsAreSteps, DrainsSettle, RunsAreLegal, RunsHaveResults, FinishedRunsAreWhole, RunsKeepWords};
 
 use sb_book::answers_keep_histories;
+use sb_statements::sound_parts;
 
-/// The entries of a run are a legal history: each follows from its own copy, the policy and the namespace that the
-/// entries before it led to.
-pub fn runs_are_legal()
-    ensures { RunsAreLegal }
+/// The world of a script that is ready for policies runs it, and so does the world after a step of an actor that is there, and after a
+/// drain. Every such world keeps what its type says.
+pub fn worlds_keep()
+    ensures start { StartsKeep }
+    ensures step { StepsKeep }
+    ensures drain { DrainsKeep }
 {
-    answers_keep_histories();
+    sound_parts();
 }
 
-/// A sound script has one thread at most, whose calls can be sent, exactly where it has at most one target, and that at most one
-/// channel, at most one thread and calls alone.
-pub fn counts_decide()
-    ensures { CountsDecide }
+/// A step changes at most one word, which its plan names; besides, the actor that makes it, and its results by at most one; the turn
+/// at Take and Give alone; and the book at Mark alone.
+pub fn steps_change_little()
+    ensures { StepsChangeLittle }
+{
+    sound_parts();
+}
+
+/// At Mark the book has one entry more, the answer to the worker's copy on its channel.
+pub fn marks_answer_copies()
+    ensures { MarksAnswerCopies }
 {}
 
-/// The drain leaves the worker looking, with nothing ready.
+/// A worker that tries to take the turn finds it held exactly where another worker is at Mark or Give.
+pub fn turns_are_held()
+    ensures { TurnsAreHeld }
+{}
+
+/// A worker judges what it copied: from the end of the copy until the reply is acknowledged it loads nothing, and it keeps the copy.
+pub fn copies_are_judged()
+    ensures { CopiesAreJudged }
+{}
+
+/// A step of a finished thread does nothing.
+pub fn finished_threads_stay()
+    ensures { FinishedThreadsStay }
+{}
+
+/// A run is a fold of steps: what comes first decides the world after it, and rounds and the drain are steps too.
+pub fn steps_are_folds()
+    ensures steps { StepsAreFolds }
+    ensures rounds { RoundsAreSteps }
+    ensures drain { DrainsAreSteps }
+{}
+
+/// A drain leaves every worker looking and no state word at 3, whatever the words hold.
 pub fn drains_settle()
     ensures { DrainsSettle }
 {}
 
-/// After the rounds of a run, whatever its thread makes and however many they are, the drain leaves the worker looking, with nothing ready.
-pub fn runs_settle()
-    ensures { RunsSettle }
-{}
+/// The entries of a run are a legal history: each follows from its own copy, the policy of its target, and the namespace that the
+/// entries before it led to. The kernel of the report is the namespace after all of them.
+pub fn runs_are_legal()
+    ensures { RunsAreLegal }
+{
+    answers_keep_histories();
+    sound_parts();
+}
+
+/// Each result of a run is that of the statement at its place. Where no thread is unfinished, each statement has one, and no state
+/// word is 3. Each target has 65 words for each channel.
+pub fn runs_are_whole()
+    ensures results { RunsHaveResults }
+    ensures finished { FinishedRunsAreWhole }
+    ensures words { RunsKeepWords }
+{
+    answers_keep_histories();
+    sound_parts();
+}

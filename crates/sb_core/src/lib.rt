@@ -1,19 +1,35 @@
-// The core: at most one thread and one broker worker over one channel of shared words, one atomic step at a time.
-// The states of a channel are those of Chromium's Windows sandbox (sharedmem_ipc_client.h, sharedmem_ipc_server.cc).
+// The core: any number of targets, each with its channels, its threads and one broker worker, run one atomic step at a time on one
+// thread of the machine. A schedule names every step, so every interleaving can be run.
+//
+// The steps are those of sb_actor's two tables. `specs/Worlds.antt` applies one row to the world, `specs/Shared.antt` says what a step
+// finds and leaves there, `specs/Drains.antt` and `specs/Runs.antt` fold steps into whole runs, and `specs/Laws.antt` says what holds
+// of every run. `specs/Views.antt` says what the seats of a target know in a world, and `specs/Rules.antt` that rule S holds of it.
+// `specs/Fits.antt` says when a report fits its script, `specs/Origins.antt` where its words come from, and `specs/Tallies.antt` how
+// many entries a channel has at most.
 #![tactic(auto)]
 
-mod channels;
+mod actors;
+mod counts;
+mod drains;
+mod finishes;
 mod laws;
+mod lists;
+mod rounds;
+mod rules;
 mod runs;
-mod single;
+mod shared;
+mod starts;
 mod threads;
-mod workers;
+mod units;
+mod words;
 mod worlds;
 
-pub use channels::ChannelWords;
-pub use laws::{counts_decide, drains_settle, runs_are_legal, runs_settle};
+pub use finishes::finish;
+pub use laws::{
+    copies_are_judged, drains_settle, finished_threads_stay, marks_answer_copies, runs_are_legal,
+    runs_are_whole, steps_are_folds, steps_change_little, turns_are_held, worlds_keep,
+};
+pub use rules::{no_block_is_invented, replies_are_own, rule_holds, runs_fit};
 pub use runs::{Ran, run};
-pub use single::is_single_threaded;
-pub use threads::ThreadPhase;
-pub use workers::WorkerPhase;
+pub use units::units_are_placed;
 pub use worlds::World;

@@ -1,111 +1,88 @@
-// A whole run of a script that has at most one thread.
-ghost use Rattle.std.specs.Prelude.{◌≡◌, ◌<◌, ◌≤◌, [], length, map, true, IfOk};
-ghost use Rattle.std.specs.List.{list_all};
-ghost use Rattle.sb_rule.specs.Verdicts.{policy_at};
-ghost use Rattle.sb_statements.specs.Limits.{most_statements};
-ghost use Rattle.sb_core.specs.Threads.{is_sendable};
-ghost use Rattle.sb_core.specs.Single.{is_single_threaded};
-ghost use Rattle.sb_core.specs.Runs.{idle_report, ran_from, ran};
-ghost use Rattle.sb_book.specs.Reports.{result_count};
+// A whole run of a script by a schedule.
+ghost use Rattle.std.specs.Prelude.{◌≡◌, ◌≤◌, IfOk};
 ghost use Rattle.sb_book.specs.Histories.{setting_of};
-ghost use Rattle.sb_book.specs.Readiness.{is_ready};
-ghost use Rattle.sb_core.specs.Worlds.{rounds, is_sound, IsCounted, IsJudgedBy};
+ghost use Rattle.sb_book.specs.Reports.{result_count};
+ghost use Rattle.sb_core.specs.Kept.{IsRunning};
+ghost use Rattle.sb_core.specs.Reports.{report_of, results_of};
+ghost use Rattle.sb_core.specs.Runs.{CanRun, ended_from, ran, most_results};
 
-use crate::single::first_thread;
+use crate::actors::round_actors;
+use crate::lists::{results_from, words_into};
+use crate::rounds::{make_rounds, make_steps};
+use crate::shared::Shared;
 use crate::worlds::World;
-use sb_book::{Entries, Report, Results, TargetResults};
+use sb_book::{Report, Results};
+use sb_items::NoMemory;
 use sb_rule::{Judge, Policies};
-use sb_statements::{Script, Statement, TargetScript};
-use sb_wide::NoMemory;
+use sb_statements::{Schedule, Script, sound_parts};
 use std::alloc::Global;
 
 /// What a run gives.
 #[derive(Debug, Drop)]
 pub struct Ran {
-    /// The history and the results.
+    /// The history, the results, the channel words and the namespace.
     pub report: Report,
-    /// The target and the thread that used up the rounds without being finished, both numbered from 0.
+    /// The first thread that used up the rounds without being finished, as target and thread, both numbered from 0.
     pub unfinished: Option<(u32, u32)>,
 }
 
-// No results of each target.
-fn no_results(alloc: Global, targets: &[TargetScript]) -> Result<Results, NoMemory>
-    ensures { IfOk result (λ r. r ≡ map (λ target. []) targets.now) }
+/// The report of what all share, with these results.
+///
+/// # Errors
+/// `NoMemory` where there was none for a list of the words of targets.
+pub(crate) fn report_of(alloc: Global, shared: Shared, results: Results) -> Result<Report, NoMemory>
+    ensures { IfOk result (λ r. r ≡ report_of shared results) }
 {
-    let mut results = Vec::new(alloc);
-    for _target in targets {
-        results.push(TargetResults::new(Vec::new(alloc)))?;
-    }
-    Ok(Results::new(results))
-}
-
-// What a run gives where there is no thread.
-#[tactic(auto, using(crate::proofs::Idle::no_results))]
-fn idle_report(alloc: Global, targets: &[TargetScript]) -> Result<Report, NoMemory>
-    ensures value { IfOk result (λ r. r ≡ idle_report targets.now) }
-    ensures none { IfOk result (λ r. result_count r.results ≡ 0) }
-{
+    let Shared { words, book, .. } = shared;
+    let words = words_into(alloc, words)?;
+    let (entries, kernel) = book.into_parts();
     Ok(Report {
-        entries: Entries::new(Vec::new(alloc)),
-        results: no_results(alloc, targets)?,
+        entries,
+        results,
+        words,
+        kernel,
     })
 }
 
-// Drains a finished world, and reports.
-fn finish<J: Judge>(
-    alloc: Global,
-    judge: &J,
-    statements: &[Statement],
-    world: World,
-) -> Result<Ran, NoMemory>
-    requires target { 0 < length (J.policies judge.now) }
-    requires judged { IsJudgedBy (J.policies judge.now) world.book }
-    requires few { length statements.now ≤ most_statements }
-    requires sound { is_sound statements.now world ≡ true }
-    requires counted { IsCounted world }
-    ensures value { IfOk result (λ r. r ≡ ran_from (policy_at (J.policies judge.now) 0) statements.now world) }
-    ensures few { IfOk result (λ r. result_count r.report.results ≤ most_statements) }
+// The report of a world as it is.
+fn world_report(alloc: Global, world: World) -> Result<Report, NoMemory>
+    ensures { IfOk result (λ r. r ≡ report_of world.shared (results_of world.threads)) }
 {
+    let World {
+        shared,
+        threads,
+        ..
+    } = world;
+    let results = results_from(alloc, threads)?;
+    report_of(alloc, shared, results)
+}
+
+// Drains the world where every thread is finished, and reports.
+#[tactic(auto, using(crate::proofs::Draining::drained_threads, crate::proofs::Draining::few_results))]
+fn ended<J: Judge>(alloc: Global, judge: &J, script: &Script, world: World) -> Result<Ran, NoMemory>
+    requires judge { J.policies judge.now ≡ world.shared.book.setting.policies }
+    requires running { IsRunning script.now world }
+    ensures value { IfOk result (λ r. r ≡ ended_from script.now world) }
+    ensures few { IfOk result (λ r. result_count r.report.results ≤ most_results) }
+{
+    sound_parts();
     let mut world = world;
-    if !world.is_finished(statements) {
+    if let Some(thread) = world.unfinished(script) {
         return Ok(Ran {
-            report: world.into_report(alloc)?,
-            unfinished: Some((0, 0)),
+            report: world_report(alloc, world)?,
+            unfinished: Some(thread),
         });
     }
-    world.drain(alloc, judge)?;
+    world.drain(alloc, judge, script)?;
     Ok(Ran {
-        report: world.into_report(alloc)?,
+        report: world_report(alloc, world)?,
         unfinished: None,
     })
 }
 
-// Runs these statements, from this world on.
-fn run_statements<J: Judge>(
-    alloc: Global,
-    judge: &J,
-    statements: &[Statement],
-    world: World,
-    count: u32,
-) -> Result<Ran, NoMemory>
-    requires target { 0 < length (J.policies judge.now) }
-    requires judged { IsJudgedBy (J.policies judge.now) world.book }
-    requires few { length statements.now ≤ most_statements }
-    requires sendable { list_all is_sendable statements.now ≡ true }
-    requires sound { is_sound statements.now world ≡ true }
-    requires counted { IsCounted world }
-    ensures value { IfOk result (λ r. r ≡ ran_from (policy_at (J.policies judge.now) 0) statements.now (rounds count (policy_at (J.policies judge.now) 0) statements.now world)) }
-    ensures few { IfOk result (λ r. result_count r.report.results ≤ most_statements) }
-{
-    let mut world = world;
-    world.make_rounds(alloc, judge, statements, count)?;
-    finish(alloc, judge, statements, world)
-}
-
-/// Runs a script, which is ready for the policies and has at most one thread. The thread runs against one worker, in rounds
-/// of one step of the worker and one of the thread: at most so many, while the thread is unfinished. Where it is finished, the
-/// worker then serves what is still ready. Without a thread nothing is decided, and each target has no results. The judge
-/// judges the script's targets by their policies.
+/// Runs a script by a schedule: its steps in turn, then rounds while a thread is unfinished and rounds are left, and then the drain
+/// where every thread is finished. The script is ready for the policies, it has each actor of the schedule, and the judge judges its
+/// targets by their policies.
 ///
 /// # Errors
 /// `NoMemory` where there was none for the run.
@@ -114,20 +91,16 @@ pub fn run<J: Judge>(
     judge: &J,
     policies: &Policies,
     script: &Script,
-    count: u32,
+    schedule: &Schedule,
 ) -> Result<Ran, NoMemory>
-    requires ready { is_ready policies.now.list script.now ≡ true }
+    requires runs { CanRun policies.now.list script.now schedule.now }
     requires judge { J.policies judge.now ≡ (setting_of policies.now.list script.now).policies }
-    requires single { is_single_threaded script.now ≡ true }
-    ensures value { IfOk result (λ r. r ≡ ran policies.now.list script.now count) }
-    ensures few { IfOk result (λ r. result_count r.report.results ≤ most_statements) }
+    ensures value { IfOk result (λ r. r ≡ ran policies.now.list script.now schedule.now) }
+    ensures few { IfOk result (λ r. result_count r.report.results ≤ most_results) }
 {
-    let Some(statements) = first_thread(script) else {
-        return Ok(Ran {
-            report: idle_report(alloc, script.targets.as_slice())?,
-            unfinished: None,
-        });
-    };
-    let world = World::start(alloc, policies, script)?;
-    run_statements(alloc, judge, statements, world, count)
+    let mut world = World::start(alloc, policies, script)?;
+    let actors = round_actors(alloc, script)?;
+    make_steps(alloc, judge, script, &mut world, schedule.steps.as_slice())?;
+    make_rounds(alloc, judge, script, &mut world, &actors, schedule.rounds)?;
+    ended(alloc, judge, script, world)
 }

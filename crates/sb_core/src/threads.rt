@@ -1,199 +1,174 @@
-// A thread that makes calls, step by step.
-ghost use Rattle.std.specs.Prelude.{◌≡◌, ◌<◌, ◌≤◌, ◌+◌, ◌^◌, List, ℕ, Some, None, length, slice_set, true};
-ghost use Rattle.std.specs.List.{list_all};
-ghost use Rattle.sb_core.specs.Threads.{block_at, block_by, mark_at, is_sendable, thread_row, is_thread_sound, reply_by, try_by, send_by, after_fill, after_wait, after_fetch};
+// The threads of a target, each with the results of its statements that ended.
+ghost use Rattle.std.specs.Prelude.{◌≡◌, ◌<◌, length, true, map, slice_get, slice_index_or, slice_set, IfOk};
+ghost use Rattle.sb_actor.specs.ThreadTable.{thread_plan};
+ghost use Rattle.sb_statements.specs.CleanMarks.{AreCleanMarks};
+ghost use Rattle.sb_statements.specs.Soundness.{is_sound};
+ghost use Rattle.sb_statements.specs.Actors.{thread_count};
+ghost use Rattle.sb_core.specs.Shared.{IsActThere};
+ghost use Rattle.sb_core.specs.Threads.{HasRoom, no_run, thread_step, unfinished_of};
+ghost use Rattle.sb_core.specs.Worlds.{first_run, first_runs};
 
-use crate::channels::{ABANDONED, ACKNOWLEDGED, BUSY, ChannelWords, FREE, READY};
-use sb_block::{Words, encode, encodes, read_reply};
-use sb_call::Reply;
-use sb_statements::{CallResult, Statement, StmtResult};
+use crate::counts::thread_count;
+use crate::shared::Shared;
+use sb_actor::ThreadState;
+use sb_book::{TargetResults, ThreadResults};
+use sb_items::NoMemory;
+use sb_statements::{CleanMarks, MOST_STATEMENTS, Script, StmtResult};
+use std::alloc::Global;
+use std::marker::Model;
 
-/// Where a thread stands within its call, named by its next step.
+/// A thread, and the results of its statements that ended, by place.
 #[derive(Debug, Drop)]
-pub enum ThreadPhase {
-    /// It tries to take the channel.
-    Try,
-    /// It stores word `at` of its block.
-    Fill { at: u32, block: Words },
-    /// It hands the block over.
-    Send,
-    /// It loads the state until it is acknowledged.
-    Wait,
-    /// It loads reply word `at`, from 0 to 11.
-    Fetch { at: u32, words: [u64; 12] },
-    /// It frees the channel.
-    Free { words: [u64; 12] },
+pub(crate) struct ThreadRun {
+    state: ThreadState,
+    results: Vec<StmtResult>,
 }
 
-/// The mark of the statement at a place of the first thread.
-pub fn mark_at(place: u32) -> u64
-    ensures { result ≡ mark_at place }
-{
-    65536 + u64::from(place)
+impl Model for ThreadRun {
+    ghost use Rattle.std.specs.Prelude.{◌≤◌, vec_capacity};
+    ghost use Rattle.sb_statements.specs.Limits.{most_statements};
+    ghost use Rattle.sb_core.specs.Threads.{RunAt};
+
+    ghost Value = { RunAt };
+
+    ghost view = { λ x. record { thread = x.state; results = x.results.items } };
+
+    ghost invariant = { λ x. most_statements ≤ vec_capacity x.results };
 }
 
-/// Whether a statement is a call whose arguments fit and whose block has at most 64 words.
-pub fn is_sendable(statement: &Statement) -> bool
-    ensures { result ≡ is_sendable statement.now }
-{
-    match statement {
-        Statement::Call { tag, args } => encodes(*tag, args.as_slice()),
-        _ => false,
+impl ThreadRun {
+    /// A thread before its first step, with room for the results of as many statements as a thread may have.
+    ///
+    /// # Errors
+    /// `NoMemory` where there was none for the results.
+    pub(crate) fn new(
+        alloc: Global,
+        script: &Script,
+        marks: &CleanMarks,
+        target: u32,
+        thread: u32,
+    ) -> Result<ThreadRun, NoMemory>
+        requires sound { is_sound script.now ≡ true }
+        requires marks { AreCleanMarks script.now marks.now }
+        requires there { target < length script.now.targets }
+        ensures { IfOk result (λ x. x ≡ first_run script.now target thread) }
+    {
+        Ok(ThreadRun {
+            state: ThreadState::with_marks(script, marks, target, thread),
+            results: Vec::with_capacity(alloc, MOST_STATEMENTS)?,
+        })
+    }
+
+    /// One step. It takes no memory.
+    #[inline]
+    pub(crate) fn step(&mut self, script: &Script, shared: &mut Shared)
+        requires sound { is_sound script.now ≡ true }
+        requires there { IsActThere shared.old.words (thread_plan script.now self.old.thread) }
+        requires room { HasRoom script.now shared.old self.old }
+        ensures run { self.new ≡ (thread_step script.now shared.old self.old).run }
+        ensures shared { shared.new ≡ (thread_step script.now shared.old self.old).shared }
+    {
+        let seen = shared.perform(self.state.plan(script));
+        if let Some(ended) = self.state.after(script, seen) {
+            self.results.push_reserved(ended);
+        }
+    }
+
+    /// Where the thread stands.
+    pub(crate) fn state(&self) -> &ThreadState
+        ensures { result.now ≡ self.now.thread }
+    {
+        &self.state
+    }
+
+    /// The results. It takes no memory.
+    pub(crate) fn into_results(self) -> ThreadResults
+        ensures { result ≡ self.results }
+    {
+        ThreadResults::new(self.results)
     }
 }
 
-// The block of a call with this mark.
-fn block_by(mark: u64, statement: &Statement) -> Words
-    requires { is_sendable statement.now ≡ true }
-    ensures block { result ≡ block_by mark (Some statement.now) }
-    ensures some { 0 < length result }
-{
-    let Statement::Call { tag, args } = statement else {
-        unreachable!();
-    };
-    match encode(*tag, args.as_slice(), mark) {
-        Ok(block) => block,
-        Err(_) => unreachable!(),
+/// The threads of a target, numbered from 0. Contracts see them as a list.
+#[derive(Debug, Drop)]
+pub(crate) struct TargetThreads {
+    runs: Vec<ThreadRun>,
+}
+
+impl Model for TargetThreads {
+    ghost use Rattle.std.specs.Prelude.{List};
+    ghost use Rattle.sb_core.specs.Threads.{RunAt};
+
+    ghost Value = { List RunAt };
+
+    ghost view = { λ t. t.runs.items };
+}
+
+impl TargetThreads {
+    /// The threads of a target before their first step.
+    ///
+    /// # Errors
+    /// `NoMemory` where there was none for the threads and their results.
+    #[tactic(auto, using(crate::proofs::Counting::runs_more))]
+    pub(crate) fn new(
+        alloc: Global,
+        script: &Script,
+        marks: &CleanMarks,
+        target: u32,
+    ) -> Result<TargetThreads, NoMemory>
+        requires sound { is_sound script.now ≡ true }
+        requires marks { AreCleanMarks script.now marks.now }
+        requires there { target < length script.now.targets }
+        ensures { IfOk result (λ t. t ≡ first_runs script.now target (thread_count (slice_get script.now.targets target))) }
+    {
+        let mut runs = Vec::new(alloc);
+        for thread in 0..thread_count(script, target) {
+            runs.push(ThreadRun::new(alloc, script, marks, target, thread)?)?;
+        }
+        Ok(TargetThreads { runs })
     }
-}
 
-// The block of the call at a place.
-#[tactic(auto, using(crate::proofs::Places::all_at))]
-fn block_at(statements: &[Statement], place: u32) -> Words
-    requires there { place < length statements.now }
-    requires sendable { list_all is_sendable statements.now ≡ true }
-    ensures block { result ≡ block_at statements.now place }
-    ensures some { 0 < length result }
-{
-    block_by(mark_at(place), &statements[place as usize])
-}
-
-// What a fetched reply makes of the call with this mark.
-fn reply_by(mark: u64, reply: Reply) -> CallResult
-    ensures { result ≡ reply_by mark reply }
-{
-    if reply.mark == mark {
-        CallResult::Reply { channel: 0, reply }
-    } else {
-        CallResult::Foreign {
-            channel: 0,
-            mark: reply.mark,
-        }
+    /// One step of a thread that is there. It takes no memory.
+    #[inline]
+    #[tactic(auto, using(crate::proofs::Sets::at_place))]
+    pub(crate) fn step(&mut self, script: &Script, thread: u32, shared: &mut Shared)
+        requires sound { is_sound script.now ≡ true }
+        requires thread { thread < length self.old }
+        requires there { IsActThere shared.old.words (thread_plan script.now (slice_index_or self.old thread no_run).thread) }
+        requires room { HasRoom script.now shared.old (slice_index_or self.old thread no_run) }
+        ensures runs { self.new ≡ slice_set self.old thread (thread_step script.now shared.old (slice_index_or self.old thread no_run)).run }
+        ensures shared { shared.new ≡ (thread_step script.now shared.old (slice_index_or self.old thread no_run)).shared }
+    {
+        self.runs[thread as usize].step(script, shared);
     }
-}
 
-// By what the exchange from free to busy found.
-fn try_by(found: u64, statements: &[Statement], place: u32) -> (ThreadPhase, Option<StmtResult>)
-    requires there { place < length statements.now }
-    requires sendable { list_all is_sendable statements.now ≡ true }
-    ensures thread { (words : List ℕ) → result.0 ≡ (try_by found (block_at statements.now place) words).thread }
-    ensures ended { (words : List ℕ) → result.1 ≡ (try_by found (block_at statements.now place) words).ended }
-    ensures sound { is_thread_sound result.0 ≡ true }
-{
-    match found {
-        FREE => {
-            let block = block_at(statements, place);
-            (ThreadPhase::Fill { at: 0, block }, None)
+    /// The first thread with a statement that has not ended, as target and thread.
+    pub(crate) fn unfinished(&self, script: &Script) -> Option<(u32, u32)>
+        ensures { result ≡ unfinished_of script.now self.now }
+    {
+        let mut rest = self.runs.as_slice();
+        while let Some((run, later)) = rest.split_first() {
+            let state = run.state();
+            if !state.finished(script) {
+                return Some((state.target(), state.thread()));
+            }
+            rest = later;
         }
-        ABANDONED => (
-            ThreadPhase::Try,
-            Some(StmtResult::Call(CallResult::NoChannel)),
-        ),
-        _ => (ThreadPhase::Try, None),
+        None
     }
-}
 
-// By what the exchange from busy to ready found.
-fn send_by(found: u64) -> (ThreadPhase, Option<StmtResult>)
-    ensures thread { (words : List ℕ) → result.0 ≡ (send_by found words).thread }
-    ensures ended { (words : List ℕ) → result.1 ≡ (send_by found words).ended }
-    ensures sound { is_thread_sound result.0 ≡ true }
-{
-    if found == BUSY {
-        (ThreadPhase::Wait, None)
-    } else {
-        let lost = CallResult::SendLost { channel: 0, found };
-        (ThreadPhase::Try, Some(StmtResult::Call(lost)))
-    }
-}
-
-fn after_fill(at: u32, block: Words) -> ThreadPhase
-    requires { at < length block }
-    ensures value { result ≡ after_fill at block }
-    ensures sound { is_thread_sound result ≡ true }
-{
-    if at as usize + 1 == block.len() {
-        ThreadPhase::Send
-    } else {
-        ThreadPhase::Fill { at: at + 1, block }
-    }
-}
-
-fn after_wait(state: u64) -> ThreadPhase
-    ensures value { result ≡ after_wait state }
-    ensures sound { is_thread_sound result ≡ true }
-{
-    if state == ACKNOWLEDGED {
-        ThreadPhase::Fetch {
-            at: 0,
-            words: [0; 12],
+    /// The results of the threads.
+    ///
+    /// # Errors
+    /// `NoMemory` where there was none for the list.
+    pub(crate) fn into_results(self, alloc: Global) -> Result<TargetResults, NoMemory>
+        ensures { IfOk result (λ r. r ≡ map (λ x. x.results) self) }
+    {
+        let TargetThreads { runs } = self;
+        let mut results = Vec::new(alloc);
+        for run in runs {
+            results.push(run.into_results())?;
         }
-    } else {
-        ThreadPhase::Wait
-    }
-}
-
-fn after_fetch(at: u32, words: [u64; 12], word: u64) -> ThreadPhase
-    requires { at < 12 }
-    ensures value { result ≡ after_fetch at (slice_set words at word) }
-    ensures sound { is_thread_sound result ≡ true }
-{
-    let mut words = words;
-    words[at as usize] = word;
-    if at == 11 {
-        ThreadPhase::Free { words }
-    } else {
-        ThreadPhase::Fetch { at: at + 1, words }
-    }
-}
-
-/// Makes one step of the call at a place. Gives the phase after it, and the result where the step ended the call.
-pub fn thread_row(
-    statements: &[Statement],
-    place: u32,
-    phase: ThreadPhase,
-    channel: &mut ChannelWords,
-) -> (ThreadPhase, Option<StmtResult>)
-    requires there { place < length statements.now }
-    requires sendable { list_all is_sendable statements.now ≡ true }
-    requires sound { is_thread_sound phase ≡ true }
-    ensures words { channel.new ≡ (thread_row (mark_at place) (block_at statements.now place) phase channel.old).words }
-    ensures thread { result.0 ≡ (thread_row (mark_at place) (block_at statements.now place) phase channel.old).thread }
-    ensures ended { result.1 ≡ (thread_row (mark_at place) (block_at statements.now place) phase channel.old).ended }
-    ensures sound { is_thread_sound result.0 ≡ true }
-{
-    match phase {
-        ThreadPhase::Try => {
-            let found = channel.exchange(FREE, BUSY);
-            try_by(found, statements, place)
-        }
-        ThreadPhase::Fill { at, block } => {
-            channel.store(at as usize, block.as_slice()[at as usize]);
-            (after_fill(at, block), None)
-        }
-        ThreadPhase::Send => {
-            let found = channel.exchange(BUSY, READY);
-            send_by(found)
-        }
-        ThreadPhase::Wait => (after_wait(channel.state()), None),
-        ThreadPhase::Fetch { at, words } => {
-            let word = channel.load(3 + at as usize);
-            (after_fetch(at, words, word), None)
-        }
-        ThreadPhase::Free { words } => {
-            channel.set_state(FREE);
-            let result_ = reply_by(mark_at(place), read_reply(&words));
-            (ThreadPhase::Try, Some(StmtResult::Call(result_)))
-        }
+        Ok(TargetResults::new(results))
     }
 }

@@ -1,202 +1,202 @@
-// The world of one thread and one worker over one channel.
-ghost use Rattle.std.specs.Prelude.{◌≡◌, ◌<◌, ◌≤◌, ◌+◌, ◌-◌, ◌++◌, ◌^◌, length, true, IfOk, OnOk};
-ghost use Rattle.std.specs.List.{list_all};
-ghost use Rattle.sb_rule.specs.Verdicts.{policy_at};
-ghost use Rattle.sb_core.specs.Threads.{is_sendable};
-ghost use Rattle.sb_core.specs.Workers.{is_worker_sound};
-ghost use Rattle.sb_book.specs.Histories.{setting_of};
+// The world, and its steps.
+ghost use Rattle.std.specs.Prelude.{◌≡◌, ◌<◌, ◌≤◌, length, true, IfOk, OnOk, OnErr};
+ghost use Rattle.sb_actor.specs.WorkerTable.{worker_plan};
+ghost use Rattle.sb_actor.specs.declared.acts.Act.TheVariants.{Mark};
 ghost use Rattle.sb_book.specs.Readiness.{is_ready};
-ghost use Rattle.sb_core.specs.Worlds.{start_world, IsJudgedBy, worker_step, thread_step, round, is_finished, is_settled, is_sound, IsCounted, ended_count, rounds, drained};
-ghost use Rattle.sb_core.specs.Runs.{report_of};
-ghost use Rattle.std.specs.Option.{option_to_list};
+ghost use Rattle.sb_statements.specs.declared.schedules.Actor.TheVariants.{Thread};
+ghost use Rattle.sb_statements.specs.Actors.{is_there};
+ghost use Rattle.sb_core.specs.Changes.{plan_of};
+ghost use Rattle.sb_core.specs.Drains.{drained};
+ghost use Rattle.sb_core.specs.Kept.{IsReached, IsRunning, IsWorld};
+ghost use Rattle.sb_core.specs.Threads.{first_unfinished};
+ghost use Rattle.sb_core.specs.Worlds.{start_world, worker_at, worker_step, step, all_finished};
 
-use crate::channels::{ChannelWords, READY};
-use crate::threads::{ThreadPhase, thread_row};
-use crate::workers::{WorkerPhase, worker_row};
-use sb_book::{Book, Report, Results, TargetResults, ThreadResults};
+use crate::drains::settle;
+use crate::shared::Shared;
+use crate::starts::{first_threads, first_words, first_workers};
+use crate::threads::TargetThreads;
+use sb_actor::WorkerState;
+use sb_book::Book;
+use sb_items::NoMemory;
 use sb_rule::{Judge, Policies};
-use sb_statements::{Script, Statement, StmtResult};
-use sb_wide::NoMemory;
+use sb_statements::{Actor, Script, sound_parts};
 use std::alloc::Global;
-use std::mem;
+use std::marker::Model;
 
-/// One thread and one worker of a target, its one channel, and the book.
+/// The channel words, the holder of the turn and the book, which all actors share; the worker of each target; and its threads with
+/// their results. Every number in it is in its range, each thread has one result for each statement that ended, and the turn is with a
+/// worker exactly while that is at Mark or Give.
 #[derive(Debug, Drop)]
 pub struct World {
-    /// The words of the channel.
-    pub words: ChannelWords,
-    /// Where the worker stands.
-    pub worker: WorkerPhase,
-    /// The place of the thread's present statement, from 0.
-    pub place: u32,
-    /// Where the thread stands within that statement.
-    pub thread: ThreadPhase,
-    /// What was decided so far, and the namespace.
-    pub book: Book,
-    /// The results of the statements that have ended, in order.
-    pub results: ThreadResults,
+    pub(crate) shared: Shared,
+    pub(crate) workers: Vec<WorkerState>,
+    pub(crate) threads: Vec<TargetThreads>,
+}
+
+impl Model for World {
+    ghost use Rattle.sb_core.specs.Kept.{IsWorld};
+    ghost use Rattle.sb_core.specs.Worlds.{WorldAt};
+
+    ghost Value = { WorldAt };
+
+    ghost view = { λ w. record { shared = w.shared; workers = w.workers.items; threads = w.threads.items } };
+
+    ghost invariant = { λ w. IsWorld (record { shared = w.shared; workers = w.workers.items; threads = w.threads.items }) };
 }
 
 impl World {
-    /// Nothing has happened. The script is ready for the policies.
+    /// The world before the first step: each channel is free, nobody has the turn, and the namespace is the one that the script opens
+    /// with. The script is ready for the policies.
     ///
     /// # Errors
-    /// `NoMemory` where there was none for the book.
+    /// `NoMemory` where there was none for the words, the actors, the results or the book.
+    #[tactic(auto, using(crate::proofs::Starting::starts_world, crate::proofs::Starting::starts_running))]
     pub fn start(alloc: Global, policies: &Policies, script: &Script) -> Result<World, NoMemory>
         requires { is_ready policies.now.list script.now ≡ true }
-        ensures { IfOk result (λ world. world ≡ start_world (setting_of policies.now.list script.now)) }
+        ensures value { IfOk result (λ world. world ≡ start_world policies.now.list script.now) }
+        ensures running { IfOk result (λ world. IsRunning script.now world) }
     {
-        Ok(World {
-            words: ChannelWords::new(),
-            worker: WorkerPhase::Look,
-            place: 0,
-            thread: ThreadPhase::Try,
+        sound_parts();
+        let shared = Shared {
+            words: first_words(alloc, script.targets.as_slice())?,
+            turn: None,
             book: Book::new(alloc, policies, script)?,
-            results: ThreadResults::new(Vec::new(alloc)),
+        };
+        Ok(World {
+            shared,
+            workers: first_workers(alloc, script)?,
+            threads: first_threads(alloc, script)?,
         })
     }
 
-    /// Whether each statement has ended.
-    pub fn is_finished(&self, statements: &[Statement]) -> bool
-        ensures { result ≡ is_finished statements.now self.now }
+    // What holds of every world. It does nothing.
+    #[inline]
+    pub(crate) fn establish_kept(&self)
+        ensures { IsWorld self.now }
     {
-        self.place as usize >= statements.len()
+        let _count = self.workers.len();
     }
 
-    /// Whether the worker looks, and nothing is ready.
-    pub fn is_settled(&self) -> bool
-        ensures { result ≡ is_settled self.now }
-    {
-        self.worker.is_looking() && self.words.state() != READY
-    }
-
-    /// One step of the worker.
-    pub fn worker_step<J: Judge>(&mut self, alloc: Global, judge: &J) -> Result<(), NoMemory>
-        requires target { 0 < length (J.policies judge.now) }
-        requires judged { IsJudgedBy (J.policies judge.now) self.old.book }
-        requires sound { is_worker_sound self.old.worker ≡ true }
-        ensures judged { OnOk result (IsJudgedBy (J.policies judge.now) self.new.book) }
-        ensures ok { OnOk result (self.new ≡ worker_step (policy_at (J.policies judge.now) 0) self.old) }
-        ensures sound { OnOk result (is_worker_sound self.new.worker ≡ true) }
-    {
-        let phase = mem::replace(&mut self.worker, WorkerPhase::Look);
-        self.worker = worker_row(alloc, judge, phase, &mut self.words, &mut self.book)?;
-        Ok(())
-    }
-
-    // Notes the result of a statement that ended.
-    fn end(&mut self, ended: Option<StmtResult>) -> Result<(), NoMemory>
-        requires { self.old.place < 2 ^ 32 - 1 }
-        ensures ok { OnOk result (self.new ≡ record self.old { place = self.old.place + ended_count ended; results = self.old.results ++ option_to_list ended }) }
-        ensures counted { OnOk result (IsCounted self.old → IsCounted self.new) }
-    {
-        if let Some(result_) = ended {
-            self.results.push(result_)?;
-            self.place += 1;
-        }
-        Ok(())
-    }
-
-    /// One step of the thread. That of a finished thread does nothing.
-    pub fn thread_step(&mut self, statements: &[Statement]) -> Result<(), NoMemory>
-        requires few { length statements.now < 2 ^ 32 }
-        requires sendable { list_all is_sendable statements.now ≡ true }
-        requires sound { is_sound statements.now self.old ≡ true }
-        requires counted { IsCounted self.old }
-        ensures ok { OnOk result (self.new ≡ thread_step statements.now self.old) }
-        ensures book { OnOk result (self.new.book ≡ self.old.book) }
-        ensures sound { OnOk result (is_sound statements.now self.new ≡ true) }
-        ensures counted { OnOk result (IsCounted self.new) }
-    {
-        if self.is_finished(statements) {
-            return Ok(());
-        }
-        let phase = mem::replace(&mut self.thread, ThreadPhase::Try);
-        let (phase, ended) = thread_row(statements, self.place, phase, &mut self.words);
-        self.thread = phase;
-        self.end(ended)
-    }
-
-    /// One step of each: the worker, and then the thread.
-    pub fn round<J: Judge>(
+    // One step of the worker of a target.
+    #[inline]
+    #[tactic(auto, using(crate::proofs::There::worker_there, crate::proofs::There::worker_channel, crate::proofs::There::worker_policy, crate::proofs::Keeping::worker_keeps, crate::proofs::Keeping::worker_setting))]
+    pub(crate) fn worker_step<J: Judge>(
         &mut self,
         alloc: Global,
         judge: &J,
-        statements: &[Statement],
+        target: u32,
     ) -> Result<(), NoMemory>
-        requires target { 0 < length (J.policies judge.now) }
-        requires judged { IsJudgedBy (J.policies judge.now) self.old.book }
-        requires few { length statements.now < 2 ^ 32 }
-        requires sendable { list_all is_sendable statements.now ≡ true }
-        requires sound { is_sound statements.now self.old ≡ true }
-        requires counted { IsCounted self.old }
-        ensures judged { OnOk result (IsJudgedBy (J.policies judge.now) self.new.book) }
-        ensures ok { OnOk result (self.new ≡ round (policy_at (J.policies judge.now) 0) statements.now self.old) }
-        ensures sound { OnOk result (is_sound statements.now self.new ≡ true) }
-        ensures counted { OnOk result (IsCounted self.new) }
+        requires judge { J.policies judge.now ≡ self.old.shared.book.setting.policies }
+        requires target { target < length self.old.workers }
+        ensures ok { OnOk result (self.new ≡ worker_step self.old target) }
+        ensures err { OnErr result (self.new ≡ self.old) }
+        ensures cause { OnErr result (worker_plan (worker_at self.old target) ≡ Mark) }
+        ensures setting { self.new.shared.book.setting ≡ self.old.shared.book.setting }
+        ensures workers { length self.new.workers ≡ length self.old.workers }
     {
-        self.worker_step(alloc, judge)?;
-        self.thread_step(statements)
+        let at = target as usize;
+        let seen = self.shared.work(alloc, judge, target, &self.workers[at])?;
+        self.workers[at].after(seen);
+        Ok(())
     }
 
-    /// At most so many rounds, while the thread is unfinished.
-    #[tactic(auto, using(crate::proofs::Rounds::rounds_done, crate::proofs::Rounds::rounds_more))]
-    pub fn make_rounds<J: Judge>(
+    // One step of a thread of a target. It takes no memory.
+    #[inline]
+    #[tactic(auto, using(crate::proofs::There::thread_there, crate::proofs::ThreadKeeping::thread_keeps))]
+    fn thread_step(&mut self, script: &Script, target: u32, thread: u32)
+        requires running { IsRunning script.now self.old }
+        requires there { is_there script.now.targets (Thread target thread) ≡ true }
+        ensures value { self.new ≡ step script.now self.old (Thread target thread) }
+        ensures book { self.new.shared.book ≡ self.old.shared.book }
+    {
+        sound_parts();
+        self.threads[target as usize].step(script, thread, &mut self.shared);
+    }
+
+    /// One step of an actor that is there, which is one row of its table. That of a finished thread does nothing. The script is the
+    /// one with which the world was started, and the judge judges its targets by their policies. After an error the world is as it was.
+    ///
+    /// # Errors
+    /// `NoMemory` where a worker is at Mark and there was none for the call's strings, for the entry, or for what the call makes.
+    #[inline]
+    #[tactic(auto, using(crate::proofs::Running::step_keeps))]
+    pub fn step<J: Judge>(
         &mut self,
         alloc: Global,
         judge: &J,
-        statements: &[Statement],
-        count: u32,
+        script: &Script,
+        actor: Actor,
     ) -> Result<(), NoMemory>
-        requires target { 0 < length (J.policies judge.now) }
-        requires judged { IsJudgedBy (J.policies judge.now) self.old.book }
-        requires few { length statements.now < 2 ^ 32 }
-        requires sendable { list_all is_sendable statements.now ≡ true }
-        requires sound { is_sound statements.now self.old ≡ true }
-        requires counted { IsCounted self.old }
-        ensures judged { OnOk result (IsJudgedBy (J.policies judge.now) self.new.book) }
-        ensures ok { OnOk result (self.new ≡ rounds count (policy_at (J.policies judge.now) 0) statements.now self.old) }
-        ensures sound { OnOk result (is_sound statements.now self.new ≡ true) }
-        ensures counted { OnOk result (IsCounted self.new) }
+        requires judge { J.policies judge.now ≡ self.old.shared.book.setting.policies }
+        requires running { IsRunning script.now self.old }
+        requires there { is_there script.now.targets actor ≡ true }
+        ensures ok { OnOk result (self.new ≡ step script.now self.old actor) }
+        ensures err { OnErr result (self.new ≡ self.old) }
+        ensures cause { OnErr result (plan_of script.now self.old actor ≡ Mark) }
+        ensures running { IsRunning script.now self.new }
+        ensures setting { self.new.shared.book.setting ≡ self.old.shared.book.setting }
     {
-        let mut left = count;
-        while left > 0 && !self.is_finished(statements) {
-            self.round(alloc, judge, statements)?;
-            left -= 1;
+        sound_parts();
+        self.establish_kept();
+        match actor {
+            Actor::Worker { target } => self.worker_step(alloc, judge, target)?,
+            Actor::Thread { target, thread } => self.thread_step(script, target, thread),
         }
         Ok(())
     }
 
-    /// At most 100 steps of the worker, until it is settled.
-    #[tactic(auto, using(crate::proofs::Rounds::drained_done, crate::proofs::Rounds::drained_more))]
-    pub fn drain<J: Judge>(&mut self, alloc: Global, judge: &J) -> Result<(), NoMemory>
-        requires target { 0 < length (J.policies judge.now) }
-        requires judged { IsJudgedBy (J.policies judge.now) self.old.book }
-        requires sound { is_worker_sound self.old.worker ≡ true }
-        ensures ok { OnOk result (self.new ≡ drained 100 (policy_at (J.policies judge.now) 0) self.old) }
-        ensures results { OnOk result (self.new.results ≡ self.old.results) }
+    /// The first thread with a statement that has not ended, as target and thread, numbered from 0.
+    pub(crate) fn unfinished(&self, script: &Script) -> Option<(u32, u32)>
+        ensures { result ≡ first_unfinished script.now self.now.threads }
     {
-        let mut left = 100u32;
-        while left > 0 && !self.is_settled() {
-            self.worker_step(alloc, judge)?;
-            left -= 1;
+        let mut rest = self.threads.as_slice();
+        while let Some((threads, others)) = rest.split_first() {
+            if let Some(found) = threads.unfinished(script) {
+                return Some(found);
+            }
+            rest = others;
         }
-        Ok(())
+        None
     }
 
-    /// The entries and the results so far.
-    pub fn into_report(self, alloc: Global) -> Result<Report, NoMemory>
-        ensures { IfOk result (λ r. r ≡ report_of self) }
+    /// Whether each statement of each thread has ended.
+    pub(crate) fn all_finished(&self, script: &Script) -> bool
+        ensures { result ≡ all_finished script.now self.now }
     {
-        let World { book, results, .. } = self;
-        let (entries, _) = book.into_parts();
-        let mut threads = Vec::new(alloc);
-        threads.push(results)?;
-        let mut targets = Vec::new(alloc);
-        targets.push(TargetResults::new(threads))?;
-        Ok(Report {
-            entries,
-            results: Results::new(targets),
-        })
+        self.unfinished(script).is_none()
+    }
+
+    // How many workers there are: one for each target, at most 8.
+    pub(crate) fn worker_count(&self) -> u32
+        ensures count { result ≡ length self.now.workers }
+        ensures few { result ≤ 8 }
+    {
+        self.workers.len() as u32
+    }
+
+    /// One step of each worker in target order, again and again, until each is looking and no state word is 3. The script is the one
+    /// with which the world was started, and the judge judges its targets by their policies. After an error the world is that of the
+    /// steps so far.
+    ///
+    /// # Errors
+    /// `NoMemory` where there was none for a step.
+    #[tactic(auto, using(crate::proofs::Draining::drains_keep))]
+    pub fn drain<J: Judge>(
+        &mut self,
+        alloc: Global,
+        judge: &J,
+        script: &Script,
+    ) -> Result<(), NoMemory>
+        requires judge { J.policies judge.now ≡ self.old.shared.book.setting.policies }
+        requires running { IsRunning script.now self.old }
+        ensures ok { OnOk result (self.new ≡ drained self.old) }
+        ensures running { OnOk result (IsRunning script.now self.new) }
+        ensures reached { IsReached script.now self.old self.new }
+        ensures setting { self.new.shared.book.setting ≡ self.old.shared.book.setting }
+    {
+        let _script = script;
+        self.establish_kept();
+        settle(alloc, judge, self)?;
+        Ok(())
     }
 }

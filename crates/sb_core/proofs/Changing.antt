@@ -1,0 +1,209 @@
+-- What a step changes.
+use Rattle.std.proofs.Common.{◌≡◌, ◌≢◌, ◌∙◌, refl, ap, subst, sym, ℕ, ◌<◌, ◌≤◌, Bool, true, false, ltb, ◌==◌, ◌&&◌, if◌then◌else◌, ◌++◌, List, [], length, set, get_or, get_or-set_same, get_or-set_other, None, arith}
+use Rattle.std.proofs.lemmas.Bool.Decides.{nat_tests}
+use Rattle.std.proofs.lemmas.List.{append-nil, set_past}
+use Rattle.std.specs.Option.{option_to_list}
+use Rattle.std.specs.Prelude.{slice_index}
+use native.Mathlib.Decide.{ℕ_discrete}
+use Rattle.sb_actor.specs.ThreadTable.{thread_after, thread_plan}
+use Rattle.sb_actor.specs.WorkerStages.{WorkerStage, WorkerAt, Look, Count, End, Copy, Take, Mark, Give, Reply, Ack}
+use Rattle.sb_actor.specs.WorkerTable.{worker_plan}
+use Rattle.sb_actor.specs.declared.acts.Act.{Act}
+use Rattle.sb_actor.specs.declared.acts.Act.TheVariants as act
+use Rattle.sb_statements.specs.Soundness.{SoundStatements}
+use Rattle.sb_statements.specs.declared.results.StmtResult.{StmtResult}
+use Rattle.sb_statements.specs.declared.schedules.Actor.TheVariants.{Thread, Worker}
+use Rattle.sb_statements.specs.declared.scripts.Script.{Script}
+use Rattle.sb_statements.specs.declared.statements.Word.{Word}
+use Rattle.sb_core.specs.Changes.{IsOneMore, is_mark, moves_turn, writes}
+use Rattle.sb_core.specs.Laws.{StepsChangeLittle}
+use Rattle.sb_core.specs.Shared.{IsActThere, SharedAt, on_word, on_worker}
+use Rattle.sb_core.specs.Threads.{RunAt, no_run}
+use Rattle.sb_core.specs.Words.{exchanged, loaded, place_of, stored, words_of}
+use Rattle.sb_core.specs.Worlds.{WorldAt, no_worker, run_at, threads_at, worker_at}
+use Rattle.sb_core.proofs.Running.{thread_is_there, worker_is_there}
+use Rattle.sb_core.proofs.There.{listed, thread_there, worker_there}
+use Rattle.sb_core.proofs.ThreadKeeping.{word_keeps}
+
+-- a word that is not written
+module _ (words : List (List ℕ)) (t : ℕ) (word : Word) (there : t < length words) where
+  unwritten : (new : List ℕ) → ((i : ℕ) → place_of word ≢ i → slice_index new i ≡ slice_index (words_of words t) i)
+      → (u i : ℕ) → (t == u && place_of word == i) ≡ false → slice_index (words_of (set words t new) u) i ≡ slice_index (words_of words u) i
+  unwritten new same u i e = by_place (ℕ_discrete u t)
+    where
+      by_place : Dec (u ≡ t) → slice_index (words_of (set words t new) u) i ≡ slice_index (words_of words u) i
+      by_place (yes s) =
+          let apart : place_of word ≢ i = grind (arith, nat_tests, e, s) in
+          subst (λ z. slice_index (words_of (set words t new) z) i ≡ slice_index (words_of words z) i) (sym s)
+          (ap (λ (ws : List ℕ). slice_index ws i) (get_or-set_same words t new [] there) ∙ same i apart)
+      by_place (no n) = ap (λ (ws : List ℕ). slice_index ws i) (get_or-set_other words t u new [] n)
+
+  store_else : (value i : ℕ) → place_of word ≢ i → slice_index (stored (words_of words t) word value) i ≡ slice_index (words_of words t) i
+  store_else value i n = get_or-set_other (words_of words t) (place_of word) i value 0 (λ e. n (sym e))
+
+  chosen_else : (b : Bool) (to i : ℕ) → place_of word ≢ i
+      → slice_index (if b then stored (words_of words t) word to else words_of words t) i ≡ slice_index (words_of words t) i
+  chosen_else true to i n = store_else to i n
+  chosen_else false to i n = refl
+
+-- a step on words
+word_else : (s : SharedAt) (a : Act) → IsActThere s.words a → (t i : ℕ) → writes a t i ≡ false
+    → slice_index (words_of (on_word s a).shared.words t) i ≡ slice_index (words_of s.words t) i
+word_else s (act.Load target word) h t i e = refl
+word_else s (act.Store target word value) h t i e =
+    unwritten s.words target word h.0 (stored (words_of s.words target) word value) (store_else s.words target word h.0 value) t i e
+word_else s (act.Exchange target word from to) h t i e =
+    unwritten s.words target word h.0 (exchanged (words_of s.words target) word from to)
+    (chosen_else s.words target word h.0 (loaded (words_of s.words target) word == from) to) t i e
+word_else s act.Take h t i e = refl
+word_else s act.Mark h t i e = refl
+word_else s act.Give h t i e = refl
+word_else s act.Idle h t i e = refl
+
+-- no result more
+as_it_was : (xs : List StmtResult) → IsOneMore xs xs
+as_it_was xs = (None, sym (append-nil xs))
+
+-- a step of a worker, stage by stage
+module _ (script : Script) (w : WorldAt) (t : ℕ) (x : WorkerAt) where
+  abbrev at_this : WorkerStage → WorkerAt
+  at_this stage = record x { stage = stage }
+
+  abbrev shared_after : WorkerStage → SharedAt
+  shared_after stage = (on_worker w.shared t (at_this stage) (worker_plan (at_this stage))).shared
+
+  worker_words : (stage : WorkerStage) → IsActThere w.shared.words (worker_plan (at_this stage)) → (u i : ℕ) → writes (worker_plan (at_this stage)) u i ≡ false
+      → slice_index (words_of (shared_after stage).words u) i ≡ slice_index (words_of w.shared.words u) i
+  worker_words Look h u i e = refl
+  worker_words Count h u i e = refl
+  worker_words (End count) h u i e = refl
+  worker_words (Copy count end words) h u i e = refl
+  worker_words (Take taken) h u i e = refl
+  worker_words (Mark taken) h u i e = refl
+  worker_words (Give taken reply) h u i e = refl
+  worker_words (Reply taken reply at) h u i e = word_else w.shared (worker_plan (at_this (Reply taken reply at))) h u i e
+  worker_words (Ack taken reply) h u i e = word_else w.shared (worker_plan (at_this (Ack taken reply))) h u i e
+
+  worker_sizes : (stage : WorkerStage) → IsActThere w.shared.words (worker_plan (at_this stage)) → (u : ℕ)
+      → length (words_of (shared_after stage).words u) ≡ length (words_of w.shared.words u)
+  worker_sizes Look h u = refl
+  worker_sizes Count h u = refl
+  worker_sizes (End count) h u = refl
+  worker_sizes (Copy count end words) h u = refl
+  worker_sizes (Take taken) h u = refl
+  worker_sizes (Mark taken) h u = refl
+  worker_sizes (Give taken reply) h u = refl
+  worker_sizes (Reply taken reply at) h u = (word_keeps w.shared (worker_plan (at_this (Reply taken reply at))) h).sizes u
+  worker_sizes (Ack taken reply) h u = (word_keeps w.shared (worker_plan (at_this (Ack taken reply))) h).sizes u
+
+  worker_turn : (stage : WorkerStage) → moves_turn (worker_plan (at_this stage)) ≡ false → (shared_after stage).turn ≡ w.shared.turn
+  worker_turn Look e = refl
+  worker_turn Count e = refl
+  worker_turn (End count) e = refl
+  worker_turn (Copy count end words) e = refl
+  worker_turn (Take taken) e = absurd (cc)
+  worker_turn (Mark taken) e = refl
+  worker_turn (Give taken reply) e = absurd (cc)
+  worker_turn (Reply taken reply at) e = refl
+  worker_turn (Ack taken reply) e = refl
+
+  worker_book : (stage : WorkerStage) → is_mark (worker_plan (at_this stage)) ≡ false → (shared_after stage).book ≡ w.shared.book
+  worker_book Look e = refl
+  worker_book Count e = refl
+  worker_book (End count) e = refl
+  worker_book (Copy count end words) e = refl
+  worker_book (Take taken) e = refl
+  worker_book (Mark taken) e = absurd (cc)
+  worker_book (Give taken reply) e = refl
+  worker_book (Reply taken reply at) e = refl
+  worker_book (Ack taken reply) e = refl
+
+  worker_book_setting : (stage : WorkerStage) → (shared_after stage).book.setting ≡ w.shared.book.setting
+  worker_book_setting Look = refl
+  worker_book_setting Count = refl
+  worker_book_setting (End count) = refl
+  worker_book_setting (Copy count end words) = refl
+  worker_book_setting (Take taken) = refl
+  worker_book_setting (Mark taken) = refl
+  worker_book_setting (Give taken reply) = refl
+  worker_book_setting (Reply taken reply at) = refl
+  worker_book_setting (Ack taken reply) = refl
+
+-- two threads that are not the same have another target or another number
+other_run : (w : WorldAt) (t k : ℕ) (y : RunAt) (u j : ℕ) → Thread t k ≢ Thread u j
+    → get_or (get_or (set w.threads t (set (threads_at w t) k y)) u []) j no_run ≡ run_at w u j
+other_run w t k y u j n = by_target (ℕ_discrete u t)
+  where
+    by_target : Dec (u ≡ t) → get_or (get_or (set w.threads t (set (threads_at w t) k y)) u []) j no_run ≡ run_at w u j
+    by_target (no ne) = ap (λ (row : List RunAt). get_or row j no_run) (get_or-set_other w.threads t u (set (threads_at w t) k y) [] ne)
+    by_target (yes s) =
+        let apart : j ≢ k = λ e. n (ap (λ (z : ℕ × ℕ). Thread z.0 z.1) (λ q. (sym s q, sym e q))) in
+        by_row (ltb t (length w.threads)) refl apart
+      where
+        by_row : (b : Bool) → ltb t (length w.threads) ≡ b → j ≢ k → get_or (get_or (set w.threads t (set (threads_at w t) k y)) u []) j no_run ≡ run_at w u j
+        by_row true e apart =
+            let there : t < length w.threads = grind (arith, nat_tests) in
+            subst (λ z. get_or (get_or (set w.threads t (set (threads_at w t) k y)) z []) j no_run ≡ run_at w z j) (sym s)
+            (ap (λ (row : List RunAt). get_or row j no_run) (get_or-set_same w.threads t (set (threads_at w t) k y) [] there)
+            ∙ get_or-set_other (threads_at w t) k j y no_run apart)
+        by_row false e apart =
+            let past : length w.threads ≤ t = grind (arith, nat_tests) in
+            ap (λ (rows : List (List RunAt)). get_or (get_or rows u []) j no_run) (set_past w.threads t (set (threads_at w t) k y) past)
+
+-- the results of a thread after the step of one
+results_more : (w : WorldAt) (t k : ℕ) (y : RunAt) → t < length w.threads → k < length (threads_at w t) → IsOneMore (run_at w t k).results y.results
+    → (u j : ℕ) → IsOneMore (run_at w u j).results (get_or (get_or (set w.threads t (set (threads_at w t) k y)) u []) j no_run).results
+results_more w t k y here there more u j = by_target (ℕ_discrete u t) (ℕ_discrete j k)
+  where
+    same : Thread t k ≢ Thread u j → IsOneMore (run_at w u j).results (get_or (get_or (set w.threads t (set (threads_at w t) k y)) u []) j no_run).results
+    same n = subst (λ (x : RunAt). IsOneMore (run_at w u j).results x.results) (sym (other_run w t k y u j n)) (as_it_was (run_at w u j).results)
+
+    by_target : Dec (u ≡ t) → Dec (j ≡ k) → IsOneMore (run_at w u j).results (get_or (get_or (set w.threads t (set (threads_at w t) k y)) u []) j no_run).results
+    by_target (yes s) (yes r) =
+        subst (λ (z : ℕ × ℕ). IsOneMore (run_at w z.0 z.1).results (get_or (get_or (set w.threads t (set (threads_at w t) k y)) z.0 []) z.1 no_run).results)
+        (λ q. (sym s q, sym r q))
+        (subst (λ (row : List RunAt). IsOneMore (run_at w t k).results (get_or row k no_run).results)
+        (sym (get_or-set_same w.threads t (set (threads_at w t) k y) [] here))
+        (subst (λ (x : RunAt). IsOneMore (run_at w t k).results x.results) (sym (get_or-set_same (threads_at w t) k y no_run there)) more))
+    by_target (no n) d = same (λ e. n (sym (target_is t k u j e)))
+      where
+        target_is : (t k u j : ℕ) → Thread t k ≡ Thread u j → t ≡ u
+        target_is t k u j e = cc
+    by_target (yes s) (no n) = same (λ e. n (sym (thread_is t k u j e)))
+      where
+        thread_is : (t k u j : ℕ) → Thread t k ≡ Thread u j → k ≡ j
+        thread_is t k u j e = cc
+
+pub steps_change_little : SoundStatements → StepsChangeLittle
+steps_change_little law script w (Worker t) kept runs e =
+    let there = worker_is_there script w t kept runs e in
+    let h = worker_there w t kept there in
+    let x = worker_at w t in
+    record {
+      words = worker_words script w t x x.stage h;
+      sizes = worker_sizes script w t x x.stage h;
+      turn = worker_turn script w t x x.stage;
+      book = worker_book script w t x x.stage;
+      setting = worker_book_setting script w t x x.stage;
+      workers = λ u n. get_or-set_other w.workers t u _ no_worker (λ s. n (ap Worker (sym s)));
+      threads = λ u j n. refl;
+      results = λ u j. as_it_was (run_at w u j).results;
+    }
+steps_change_little law script w (Thread t k) kept runs e =
+    let there = thread_is_there script w t k runs e in
+    let x = run_at w t k in
+    let a = thread_plan script x.thread in
+    let h = thread_there script w kept runs t k there law in
+    let keeps = word_keeps w.shared a h in
+    let next = thread_after script x.thread (on_word w.shared a).seen in
+    let y : RunAt = record { thread = next.thread; results = x.results ++ option_to_list next.ended } in
+    record {
+      words = word_else w.shared a h;
+      sizes = keeps.sizes;
+      turn = λ f. keeps.turn;
+      book = λ f. keeps.book;
+      setting = ap (λ book. book.setting) keeps.book;
+      workers = λ u n. refl;
+      threads = λ u j n. other_run w t k y u j n;
+      results = results_more w t k y (listed w.threads t k there) there (next.ended, refl);
+    }

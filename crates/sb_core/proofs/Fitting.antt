@@ -1,0 +1,329 @@
+-- A run without an unfinished thread fits.
+use Rattle.std.proofs.Common.{◌≡◌, ◌∙◌, refl, ap, subst, sym, ℕ, zero, suc, ◌+◌, ◌*◌, ◌/◌, ◌<◌, ◌≤◌, Bool, true, false, cond, not, ltb, ◌&&◌, ◌==◌, List, [], ◌∷◌, ◌++◌, length, map, get_or, Option, None, Some, slice_get, arith}
+use Rattle.std.proofs.Math.ListN.{get_or-map}
+use Rattle.std.proofs.lemmas.Bool.{and_parts}
+use Rattle.std.proofs.lemmas.Bool.Decides.{nat_tests}
+use Rattle.std.proofs.lemmas.List.{append-nil}
+use Rattle.std.specs.List.{filter, list_all}
+use Rattle.std.specs.Prelude.{slice_index}
+use mathlib.Core.Option.{some, some-ne-none}
+use lib.ListN.{get_elem?}
+use Rattle.sb_actor.specs.Fitting.{Suits}
+use Rattle.sb_actor.specs.Moves.{at, is_clean, no_call}
+use Rattle.sb_actor.specs.Places.{clean_channels, mark_at, statement_at, statements_of}
+use Rattle.sb_actor.specs.Rule.{Chan, FitsThread, Mid, acked, as_served, calls_of, filling, idle, is_of, owner, place, ready, row, sees, waiting}
+use Rattle.sb_actor.specs.Ties.{thread_place_of}
+use Rattle.sb_actor.specs.WorkerStages.{WorkerStage, WorkerAt, Look, Count, End, Copy, Take, Mark, Give, Reply, Ack}
+use Rattle.sb_actor.specs.WorkerTable.{is_looking}
+use Rattle.sb_actor.specs.declared.views.Had.{Had}
+use Rattle.sb_actor.specs.declared.views.Served.{Served}
+use Rattle.sb_actor.specs.declared.views.ThreadPlace.{ThreadPlace}
+use Rattle.sb_actor.specs.declared.views.View.{View}
+use Rattle.sb_actor.specs.declared.views.View.TheVariants as view
+use Rattle.sb_actor.specs.declared.views.WorkerView.{WorkerView}
+use Rattle.sb_block.specs.Copies.{mark_of}
+use Rattle.sb_block.specs.Replies.{RepliesComeBack, read_reply}
+use Rattle.sb_book.specs.Histories.{IsHistory, setting_of}
+use Rattle.sb_book.specs.Laws.{AnswersKeepHistories}
+use Rattle.sb_book.specs.declared.entries.Entry.{Entry}
+use Rattle.sb_call.specs.declared.replies.Reply.{Reply as ReplyOf}
+use Rattle.sb_kernel.specs.Laws.{AnswersAreShort}
+use Rattle.sb_kernel.specs.Openings.{opening}
+use Rattle.sb_rule.specs.declared.policies.Policy.{Policy}
+use Rattle.sb_statements.specs.Actors.{thread_count}
+use Rattle.sb_statements.specs.Soundness.{SoundStatements, SoundTargets, channels_of}
+use Rattle.sb_statements.specs.declared.results.StmtResult.{StmtResult}
+use Rattle.sb_statements.specs.declared.schedules.Schedule.{Schedule}
+use Rattle.sb_statements.specs.declared.scripts.Script.{Script}
+use Rattle.sb_statements.specs.declared.scripts.TargetScript.{TargetScript}
+use Rattle.sb_statements.specs.declared.statements.Statement.{Statement}
+use Rattle.sb_core.specs.Drains.{drained, is_settled}
+use Rattle.sb_core.specs.Fits.{Answered, Fits, OwnReplies, ResultsSuit, RunsFit, by_entry, by_result, is_entry_of}
+use Rattle.sb_core.specs.Fits.{results_at as results_in}
+use Rattle.sb_core.specs.Laws.{DrainsSettle}
+use Rattle.sb_core.specs.Reports.{results_of}
+use Rattle.sb_core.specs.Results.{AreAllResults}
+use Rattle.sb_core.specs.Runs.{CanRun, ended, played}
+use Rattle.sb_core.specs.Threads.{RunAt, first_unfinished, no_run}
+use Rattle.sb_core.specs.Views.{AreViews, HasUnits, OwnCall, as_call, as_own, calls_at, in_work, is_of_target, own_calls}
+use Rattle.sb_core.specs.Words.{some_ready, words_of}
+use Rattle.sb_core.specs.Worlds.{WorldAt, no_worker, run_at, threads_at, worker_at}
+use Rattle.sb_core.proofs.Draining.{drained_threads}
+use Rattle.sb_core.proofs.Judging.{none_behind, over_is}
+use Rattle.sb_core.proofs.RunLaws.{each_finished, finished_runs_are_whole, good_end, no_run_past, results_at, runs_are_legal, runs_keep_words}
+use Rattle.sb_core.proofs.Ruling.{Ruled, ruled_end, ruled_played}
+use Rattle.sb_core.proofs.Seating.{SeatLaws}
+use Rattle.sb_core.proofs.Short.{AreShort, legal_short}
+use Rattle.sb_core.proofs.Starting.{clean_length}
+use Rattle.sb_core.proofs.There.{as_many}
+
+-- a served call, its reply read
+abbrev pub read : Served → Answered
+read x = record { channel = x.channel; taken = x.taken; reply = read_reply x.reply }
+
+-- the served calls of a thread by the entries
+pub served_entries : (come : RepliesComeBack) (script : Script) (t k : ℕ) (entries : List Entry) → AreShort entries
+    → map read (calls_of (clean_channels script t) k (calls_at t entries)) ≡ map by_entry (filter (is_entry_of script t k) entries)
+served_entries come script t k [] short = refl
+served_entries come script t k (e ∷ entries) short = by_target (e.target == t) refl (served_entries come script t k entries short.1)
+  where
+    same : read (as_call e) ≡ by_entry e
+    same = ap (λ (r : ReplyOf). record { channel = e.channel; taken = e.taken; reply = r }) (come e.reply short.0)
+
+    by_mark : (b : Bool) → is_of (clean_channels script t) k (as_call e) ≡ b → (e.target == t) ≡ true
+        → map read (calls_of (clean_channels script t) k (calls_at t entries)) ≡ map by_entry (filter (is_entry_of script t k) entries)
+        → map read (cond b (as_call e ∷ calls_of (clean_channels script t) k (calls_at t entries)) (calls_of (clean_channels script t) k (calls_at t entries)))
+        ≡ map by_entry (cond b (e ∷ filter (is_entry_of script t k) entries) (filter (is_entry_of script t k) entries))
+    by_mark true f g rest = ap (λ (z : Answered × List Answered). z.0 ∷ z.1) (λ j. (same j, rest j))
+    by_mark false f g rest = rest
+
+    by_target : (b : Bool) → (e.target == t) ≡ b
+        → map read (calls_of (clean_channels script t) k (calls_at t entries)) ≡ map by_entry (filter (is_entry_of script t k) entries)
+        → map read (calls_of (clean_channels script t) k (calls_at t (e ∷ entries))) ≡ map by_entry (filter (is_entry_of script t k) (e ∷ entries))
+    by_target true f rest =
+        ap (λ b. map read (calls_of (clean_channels script t) k (map as_call (cond b (e ∷ filter (is_of_target t) entries) (filter (is_of_target t) entries))))) f
+        ∙ (by_mark (is_of (clean_channels script t) k (as_call e)) refl f rest
+        ∙ ap (λ b. map by_entry (cond (b && is_of (clean_channels script t) k (as_call e)) (e ∷ filter (is_entry_of script t k) entries) (filter (is_entry_of script t k) entries))) (sym f))
+    by_target false f rest =
+        ap (λ b. map read (calls_of (clean_channels script t) k (map as_call (cond b (e ∷ filter (is_of_target t) entries) (filter (is_of_target t) entries))))) f
+        ∙ (rest
+        ∙ ap (λ b. map by_entry (cond (b && is_of (clean_channels script t) k (as_call e)) (e ∷ filter (is_entry_of script t k) entries) (filter (is_entry_of script t k) entries))) (sym f))
+
+-- and by what the thread had
+pub had_results : (had : List Had) → map read (map as_served had) ≡ map by_result (map as_own had)
+had_results [] = refl
+had_results (x ∷ had) = ap (λ (z : List Answered). by_result (as_own x) ∷ z) (had_results had)
+
+-- an entry is among the calls of its target
+entry_listed : (t : ℕ) (entries : List Entry) (i : ℕ) (e : Entry) → slice_get entries i ≡ Some e → (e.target == t) ≡ true → (n : ℕ) × (get_elem? (calls_at t entries) n ≡ some (as_call e))
+entry_listed t [] i e q f = absurd (cc)
+entry_listed t (x ∷ entries) zero e q f =
+    let same : x ≡ e = cc in (
+      0,
+      subst (λ b. get_elem? (map as_call (cond b (x ∷ filter (is_of_target t) entries) (filter (is_of_target t) entries))) 0 ≡ some (as_call e)) (sym (ap (λ (z : Entry). z.target == t) same ∙ f))
+          (ap (λ (z : Entry). some (as_call z)) same),
+    )
+entry_listed t (x ∷ entries) (suc i) e q f = by_test (x.target == t) refl (entry_listed t entries i e q f)
+  where
+    by_test : (b : Bool) → (x.target == t) ≡ b → (n : ℕ) × (get_elem? (calls_at t entries) n ≡ some (as_call e)) → (n : ℕ) × (get_elem? (calls_at t (x ∷ entries)) n ≡ some (as_call e))
+    by_test true g rest =
+        (suc rest.0, subst (λ b. get_elem? (map as_call (cond b (x ∷ filter (is_of_target t) entries) (filter (is_of_target t) entries))) (suc rest.0) ≡ some (as_call e)) (sym g) rest.1)
+    by_test false g rest =
+        (rest.0, subst (λ b. get_elem? (map as_call (cond b (x ∷ filter (is_of_target t) entries) (filter (is_of_target t) entries))) rest.0 ≡ some (as_call e)) (sym g) rest.1)
+
+-- a worker that looks has no call in work
+none_in_work : (c : ℕ) (stage : WorkerStage) → is_looking stage ≡ true → in_work c stage ≡ []
+none_in_work c Look e = refl
+none_in_work c Count e = absurd (cc)
+none_in_work c (End count) e = absurd (cc)
+none_in_work c (Copy count end words) e = absurd (cc)
+none_in_work c (Take taken) e = absurd (cc)
+none_in_work c (Mark taken) e = absurd (cc)
+none_in_work c (Give taken reply) e = absurd (cc)
+none_in_work c (Reply taken reply i) e = absurd (cc)
+none_in_work c (Ack taken reply) e = absurd (cc)
+
+-- what holds of each holds at each place
+each_of : {X : Type 0} (p : X → Bool) (xs : List X) (d : X) → list_all p xs ≡ true → (i : ℕ) → i < length xs → p (get_or xs i d) ≡ true
+each_of p [] d e i l = absurd (omega (arith, l))
+each_of p (x ∷ xs) d e zero l = (and_parts (p x) (list_all p xs) e).0
+each_of p (x ∷ xs) d e (suc i) l = each_of p xs d (and_parts (p x) (list_all p xs) e).1 i (omega (arith, l))
+
+-- a target whose worker looks and whose threads are outside calls
+module _ (script : Script) (t : ℕ) (words : List ℕ) (entries : List Entry) (x : WorkerAt) (runs : List RunAt) (views : List View)
+    (h : AreViews script t words (calls_at t entries) x runs views) (come : RepliesComeBack) (short : AreShort entries) (looks : is_looking x.stage ≡ true)
+    (numbers : (k : ℕ) → k < length runs → (get_or runs k no_run).thread.thread ≡ k)
+    (outside : (k : ℕ) → k < length runs → thread_place_of (get_or runs k no_run).thread.block (get_or runs k no_run).thread.stage ≡ no_call) where
+  abbrev clean : List Bool
+  clean = clean_channels script t
+
+  -- all entries of the target are served
+  all_served : h.rule.1.served ≡ calls_at t entries
+  all_served =
+      let own = h.worker in
+      let seat = h.rule.2.seats own.0 (view.Worker own.1) own.2 in
+      ap (λ (v : WorkerView). v.served) (sym seat.1)
+      ∙ sym (own.3.serves ∙ (ap (λ (z : List Served). own.1.served ++ z) (none_in_work x.channel x.stage looks) ∙ append-nil own.1.served))
+
+  many_threads : h.rule.1.threads ≡ length runs
+  many_threads =
+      let own = h.worker in
+      let seat = h.rule.2.seats own.0 (view.Worker own.1) own.2 in
+      ap (λ (v : WorkerView). v.threads) (sym seat.1) ∙ own.3.counts
+
+  -- the calls of a thread are its results
+  pub own_results : (k : ℕ) → k < length runs → map by_entry (filter (is_entry_of script t k) entries) ≡ map by_result (own_calls script t k (get_or runs k no_run).results)
+  own_results k l =
+      let seat = h.threads k l in
+      let v = seat.1 in
+      let fits : FitsThread clean h.rule.2.mids h.rule.2.stage h.rule.1.served seat.0 v = h.rule.2.seats seat.0 (view.Thread v) seat.2 in
+      let away : v.place ≡ no_call = seat.3.holds.place ∙ outside k l in
+      let number : v.number ≡ k = seat.3.holds.number ∙ numbers k l in
+      let calls : calls_of clean k (calls_at t entries) ≡ map as_served v.had =
+      ap (λ (z : ℕ × List Served). calls_of clean z.0 z.1) (λ j. (sym number j, sym all_served j))
+      ∙ (fits.calls ∙ ap (λ (z : List Had). map as_served z) (ap (λ (p : ThreadPlace). v.had ++ waiting clean h.rule.2.mids (place p)) away ∙ append-nil v.had)) in
+      sym (served_entries come script t k entries short) ∙ (ap (λ (z : List Served). map read z) calls ∙ (had_results v.had ∙ ap (λ (z : List OwnCall). map by_result z) seat.3.has))
+
+  -- each entry on a clean channel is one of a thread
+  pub one_of_thread : (i : ℕ) (e : Entry) → slice_get entries i ≡ Some e → (e.target == t) ≡ true → is_clean clean e.channel ≡ true
+      → (k : ℕ) × (k < length runs) × (mark_of e.taken / 65536 ≡ k + 1)
+  one_of_thread i e q f cl =
+      let listed = entry_listed t entries i e q f in
+      let borne = h.rule.2.fits_worker.borne listed.0 (as_call e) (subst (λ (z : List Served). get_elem? z listed.0 ≡ some (as_call e)) (sym all_served) listed.1) cl in
+      (borne.0, subst (λ n. borne.0 < n) many_threads borne.1, borne.2)
+
+  -- each clean channel is free
+  pub freed : (c : ℕ) → is_clean clean c ≡ true → slice_index words (at c 0) ≡ 1
+  freed c cl = by_mid (h.rule.2.mids c) refl (h.rule.2.chans c cl)
+    where
+      nobody : (k : ℕ) → owner (h.rule.2.mids c) ≡ some k → ⊥
+      nobody k e =
+          let low : k < length runs = subst (λ n. k < n) many_threads (h.rule.2.fits_worker.owners c k cl e) in
+          let seat = h.threads k low in
+          let v = seat.1 in
+          let fits : FitsThread clean h.rule.2.mids h.rule.2.stage h.rule.1.served seat.0 v = h.rule.2.seats seat.0 (view.Thread v) seat.2 in
+          let number : v.number ≡ k = seat.3.holds.number ∙ numbers k low in
+          let there = fits.only c cl (e ∙ ap (λ z. some z) (sym number)) in
+          some-ne-none c (sym there ∙ ap (λ (p : ThreadPlace). place p) (seat.3.holds.place ∙ outside k low))
+
+      by_mid : (m : Mid) → h.rule.2.mids c ≡ m → Chan (h.rule.2.mids c) (sees c h.rule.1) (row words c) → slice_index words (at c 0) ≡ 1
+      by_mid idle e q = (subst (λ z. Chan z (sees c h.rule.1) (row words c)) e q).0
+      by_mid (filling k ws) e q = absurd (nobody k (ap (λ z. owner z) e))
+      by_mid (ready k block) e q = absurd (nobody k (ap (λ z. owner z) e))
+      by_mid (acked k block reply) e q = absurd (nobody k (ap (λ z. owner z) e))
+
+-- the world at the end of a run without an unfinished thread
+module _ (laws : SeatLaws) (targets : SoundTargets) (statements : SoundStatements) (answers : AnswersKeepHistories) (settles : DrainsSettle) (come : RepliesComeBack) (answered : AnswersAreShort) (policies : List Policy) (script : Script)
+    (schedule : Schedule) (can : CanRun policies script schedule) (units : HasUnits script) (finished : first_unfinished script (played policies script schedule).threads ≡ None) where
+  abbrev before : WorldAt
+  before = played policies script schedule
+
+  abbrev w : WorldAt
+  w = drained before
+
+  was : Ruled script before
+  was = ruled_played laws targets statements script units policies schedule can
+
+  is : Ruled script w
+  is = ruled_end laws targets statements script units policies schedule can
+
+  same_threads : w.threads ≡ before.threads
+  same_threads = drained_threads before
+
+  each_over : (t k : ℕ) → k < length (threads_at w t) → thread_place_of (run_at w t k).thread.block (run_at w t k).thread.stage ≡ no_call
+  each_over t k l =
+      let over = each_finished script w.threads (ap (λ threads. first_unfinished script threads) same_threads ∙ finished) t k l in
+      let x = (run_at w t k).thread in
+      let last = (is.runs.stands t k l).over ∙ none_behind (statements_of script x.target x.thread) x.place over in
+      ap (λ s. thread_place_of x.block s) (over_is x.stage last)
+
+  short : AreShort w.shared.book.entries
+  short =
+      legal_short answered w.shared.book.setting (opening w.shared.book.setting.start) w.shared.book.entries
+      (good_end targets statements answers policies script schedule can).history.legal
+
+  settled : is_settled w ≡ true
+  settled = settles before was.kept
+
+  looking : (t : ℕ) → t < length w.workers → is_looking (worker_at w t).stage ≡ true
+  looking t l =
+      each_of (λ worker. is_looking worker.stage) w.workers no_worker
+      (and_parts (list_all (λ worker. is_looking worker.stage) w.workers) (not (some_ready w.shared.words)) settled).0 t l
+
+  there : (t : ℕ) → t < length script.targets → t < length w.workers
+  there t l = subst (λ n. t < n) (sym (as_many script w is.kept is.runs)) l
+
+  -- a thread of the script is one of a target that is there
+  of_target : (t k : ℕ) → k < thread_count (slice_get script.targets t) → t < length script.targets
+  of_target t k l = some_target script.targets t l
+    where
+      some_target : (targets : List TargetScript) (t : ℕ) → k < thread_count (slice_get targets t) → t < length targets
+      some_target [] t l = absurd (omega (arith, l))
+      some_target (target ∷ targets) zero l = omega arith
+      some_target (target ∷ targets) (suc t) l = let m = some_target targets t l in omega (arith, m)
+
+  -- and so is a clean channel
+  of_channel : (t c : ℕ) → is_clean (clean_channels script t) c ≡ true → t < length script.targets
+  of_channel t c e = some_target script.targets t (positive (clean_channels script t) c e (clean_length script t (channels_of (slice_get script.targets t))))
+    where
+      positive : (clean : List Bool) (c : ℕ) → is_clean clean c ≡ true → length clean ≡ channels_of (slice_get script.targets t) → 0 < channels_of (slice_get script.targets t)
+      positive [] c e f = absurd (cc)
+      positive (b ∷ clean) c e f = omega (arith, f)
+
+      some_target : (targets : List TargetScript) (t : ℕ) → 0 < channels_of (slice_get targets t) → t < length targets
+      some_target [] t l = absurd (omega (arith, l))
+      some_target (target ∷ targets) zero l = omega arith
+      some_target (target ∷ targets) (suc t) l = let m = some_target targets t l in omega (arith, m)
+
+  results_same : (t k : ℕ) → (run_at w t k).results ≡ results_in (results_of before.threads) t k
+  results_same t k =
+      ap (λ (threads : List (List RunAt)). (get_or (get_or threads t []) k no_run).results) same_threads
+      ∙ sym (ap (λ (rows : List (List StmtResult)). get_or rows k []) (get_or-map (λ (runs : List RunAt). map (λ (x : RunAt). x.results) runs) before.threads t [])
+      ∙ get_or-map (λ (x : RunAt). x.results) (get_or before.threads t []) k no_run)
+
+  own_replies : OwnReplies script w.shared.book.entries (results_of before.threads)
+  own_replies = record {
+    own = λ t k l.
+        let low = there t (of_target t k l) in
+        let v = is.rule t low in
+        let m : k < length (threads_at w t) = subst (λ n. k < n) (sym (is.runs.threads t)) l in
+        own_results script t (words_of w.shared.words t) w.shared.book.entries (worker_at w t) (threads_at w t) v.0 v.1 come short (looking t low)
+        (λ j q. (is.kept.threads t j q).its_number) (λ j q. each_over t j q) k m
+        ∙ ap (λ (z : List StmtResult). map by_result (own_calls script t k z)) (results_same t k);
+    others = λ i e q cl.
+        let low = there e.target (of_channel e.target e.channel cl) in
+        let v = is.rule e.target low in
+        let one = one_of_thread script e.target (words_of w.shared.words e.target) w.shared.book.entries (worker_at w e.target) (threads_at w e.target) v.0 v.1 come short (looking e.target low)
+        (λ j q. (is.kept.threads e.target j q).its_number) (λ j q. each_over e.target j q) i e q (self_same e.target) cl in
+        (one.0, subst (λ n. one.0 < n) (is.runs.threads e.target) one.1, one.2);
+  }
+    where
+      self_same : (t : ℕ) → (t == t) ≡ true
+      self_same t = grind (arith, nat_tests)
+
+  suit : ResultsSuit script (results_of before.threads)
+  suit t k i r e = by_test (ltb k (length (threads_at before t))) refl
+    where
+      found : slice_get (run_at before t k).results i ≡ Some r
+      found = sym (results_at before.threads t k i) ∙ e
+
+      none_of : (i : ℕ) (r : StmtResult) → ◌≡◌ {A = Option StmtResult} (slice_get [] i) (Some r) → ⊥
+      none_of i r e = cc
+
+      by_test : (b : Bool) → ltb k (length (threads_at before t)) ≡ b
+          → (s : Statement) × (statement_at script t k i ≡ Some s) × Suits (clean_channels script t) (mark_at k i) s r
+      by_test true f = let low : k < length (threads_at before t) = grind (arith, nat_tests) in was.suits t k low i r found
+      by_test false f =
+          let past : length (threads_at before t) ≤ k = grind (arith, nat_tests) in
+          absurd (none_of i r (ap (λ (x : RunAt). slice_get x.results i) (sym (no_run_past (threads_at before t) k past)) ∙ found))
+
+  freed_channels : (t c : ℕ) → t < length script.targets → is_clean (clean_channels script t) c ≡ true → slice_index (words_of w.shared.words t) (at c 0) ≡ 1
+  freed_channels t c l cl =
+      let low = there t l in
+      let v = is.rule t low in
+      freed script t (words_of w.shared.words t) w.shared.book.entries (worker_at w t) (threads_at w t) v.0 v.1 come short (looking t low)
+      (λ j q. (is.kept.threads t j q).its_number) (λ j q. each_over t j q) c cl
+
+pub runs_fit : SeatLaws → SoundTargets → SoundStatements → AnswersKeepHistories → DrainsSettle → RepliesComeBack → AnswersAreShort → RunsFit
+runs_fit laws targets statements answers settles come answered policies script schedule can units all_ended =
+    by_finish (first_unfinished script (played policies script schedule).threads) refl all_ended
+    (finished_runs_are_whole targets statements answers settles policies script schedule can all_ended) (runs_are_legal targets statements answers policies script schedule can)
+    (runs_keep_words targets statements answers policies script schedule can)
+  where
+    by_finish : (o : Option (ℕ × ℕ)) → first_unfinished script (played policies script schedule).threads ≡ o → (ended (played policies script schedule) o).unfinished ≡ None
+        → AreAllResults script (ended (played policies script schedule) o).report.results × (some_ready (ended (played policies script schedule) o).report.words ≡ false)
+        → IsHistory (record { setting = setting_of policies script; space = (ended (played policies script schedule) o).report.kernel; entries = (ended (played policies script schedule) o).report.entries })
+        → map (λ words. length words) (ended (played policies script schedule) o).report.words ≡ map (λ target. target.channels * 65) script.targets
+        → Fits policies script (ended (played policies script schedule) o).report
+    by_finish None e u whole legal sizes = record {
+      history = legal;
+      whole_results = whole.0;
+      own_replies = own_replies laws targets statements answers settles come answered policies script schedule can units e;
+      suit = suit laws targets statements answers settles come answered policies script schedule can units e;
+      final_words = record {
+        sizes = sizes;
+        served = whole.1;
+        freed = freed_channels laws targets statements answers settles come answered policies script schedule can units e;
+      };
+    }
+    by_finish (Some thread) e u whole legal sizes = absurd (cc)

@@ -1,0 +1,88 @@
+-- Folds of steps, one step at a time.
+use Rattle.std.proofs.Common.{◌≡◌, ℕ, zero, suc, ◌+◌, Bool, true, false, length, ◌++◌, List, [], ◌∷◌, replicate, refl, sym, subst, ◌∙◌, ◌-◌, ◌<◌, arith, ap}
+use native.Mathlib.Numerals.{unary_clauses}
+use Rattle.sb_statements.specs.declared.schedules.Actor.{Actor}
+use Rattle.sb_statements.specs.declared.schedules.Actor.TheVariants.{Worker}
+use Rattle.sb_statements.specs.declared.scripts.Script.{Script}
+use Rattle.sb_core.specs.Actors.{round_actors, scheduled}
+use Rattle.sb_core.specs.Drains.{is_settled, pass_below, one_pass, drained_by, most_passes}
+use Rattle.sb_core.specs.Kept.{IsReached}
+use Rattle.sb_core.specs.Laws.{DrainsAreSteps, RoundsAreSteps, StepsAreFolds}
+use Rattle.sb_core.specs.Worlds.{WorldAt, all_finished, round, rounds, step, steps, worker_step}
+
+pub steps_append : StepsAreFolds
+steps_append script [] later w = refl
+steps_append script (actor ∷ first) later w = steps_append script first later (step script w actor)
+
+pub scheduled_more : (script : Script) (entry : Actor × ℕ) (later : List (Actor × ℕ)) (w : WorldAt)
+    → steps script (scheduled (entry ∷ later)) w ≡ steps script (scheduled later) (steps script (replicate entry.1 entry.0) w)
+scheduled_more script entry later w = steps_append script (replicate entry.1 entry.0) (scheduled later) w
+
+-- finished threads make no more rounds
+pub rounds_done : (n : ℕ) (script : Script) (w : WorldAt) → all_finished script w ≡ true → rounds n script w ≡ w
+rounds_done zero script w h = refl
+rounds_done (suc n) script w h = rw (h, rounds) refl
+
+-- others make one round, and then the others
+pub rounds_more : (n m : ℕ) (script : Script) (w : WorldAt) → n ≡ suc m → all_finished script w ≡ false
+    → rounds n script w ≡ rounds m script (round script w)
+rounds_more n m script w e h = rw e (rw (h, rounds) refl)
+
+-- a settled world makes no more passes
+pub drained_done : (n : ℕ) (w : WorldAt) → is_settled w ≡ true → drained_by n w ≡ w
+drained_done zero w h = refl
+drained_done (suc n) w h = rw (h, drained_by) refl
+
+-- another makes one pass, and then the others
+pub drained_more : (n m : ℕ) (w : WorldAt) → n ≡ suc m → is_settled w ≡ false → drained_by n w ≡ drained_by m (one_pass w)
+drained_more n m w e h = rw e (rw (h, drained_by) refl)
+
+pass_next : (n : ℕ) (w : WorldAt) → pass_below (suc n) w ≡ worker_step (pass_below n w) n
+pass_next n w = refl
+
+pub pass_more : (n : ℕ) (w : WorldAt) → pass_below (n + 1) w ≡ worker_step (pass_below n w) n
+pass_more n w = simp unary_clauses (pass_next n w)
+
+-- a world is reached from itself, and over another
+pub reached_self : (script : Script) (w : WorldAt) → IsReached script w w
+reached_self script w = ([], refl)
+
+pub reached_on : (script : Script) (u v w : WorldAt) → IsReached script u v → IsReached script v w → IsReached script u w
+reached_on script u v w (first, e) (later, f) = (first ++ later, f ∙ (ap (steps script later) e ∙ sym (steps_append script first later u)))
+
+pub reached_below : (script : Script) (n : ℕ) (w : WorldAt) → IsReached script w (pass_below n w)
+reached_below script zero w = reached_self script w
+reached_below script (suc n) w = reached_on script w (pass_below n w) (pass_below (suc n) w) (reached_below script n w) (Worker n ∷ [], refl)
+
+-- a choice between worlds that are reached
+chosen : (script : Script) (b : Bool) (u v w : WorldAt) → IsReached script u v → IsReached script u w → IsReached script u (elim b [ true ↦ v | false ↦ w ])
+chosen script true u v w x y = x
+chosen script false u v w x y = y
+
+rounds_reached : (n : ℕ) (script : Script) (w : WorldAt) → IsReached script w (rounds n script w)
+rounds_reached zero script w = reached_self script w
+rounds_reached (suc n) script w =
+    chosen script (all_finished script w) w w (rounds n script (round script w)) (reached_self script w)
+    (reached_on script w (round script w) (rounds n script (round script w)) (round_actors script.targets, refl) (rounds_reached n script (round script w)))
+
+drained_reached : (n : ℕ) (script : Script) (w : WorldAt) → IsReached script w (drained_by n w)
+drained_reached zero script w = reached_self script w
+drained_reached (suc n) script w =
+    chosen script (is_settled w) w w (drained_by n (one_pass w)) (reached_self script w)
+    (reached_on script w (one_pass w) (drained_by n (one_pass w)) (reached_below script (length w.workers) w) (drained_reached n script (one_pass w)))
+
+pub rounds_are_steps : RoundsAreSteps
+rounds_are_steps n script w = rounds_reached n script w
+
+pub drains_are_steps : DrainsAreSteps
+drains_are_steps script w = drained_reached most_passes script w
+
+-- a world after passes below is reached
+pub reached_at : (script : Script) (n : ℕ) (w v : WorldAt) → v ≡ pass_below n w → IsReached script w v
+reached_at script n w v e = subst (λ z. IsReached script w z) (sym e) (reached_below script n w)
+
+-- what is left after one pass gives the same
+pub drained_next : (n : ℕ) (w v : WorldAt) → 0 < n → is_settled w ≡ false → v ≡ one_pass w → drained_by (n - 1) v ≡ drained_by n w
+drained_next n w v l h e =
+    let more : n ≡ suc (n - 1) = omega arith in
+    ap (drained_by (n - 1)) e ∙ sym (drained_more n (n - 1) w more h)

@@ -1,0 +1,375 @@
+-- A step of a worker keeps what every world keeps.
+use Rattle.std.proofs.Common.{◌≡◌, ◌≢◌, ◌∙◌, refl, ap, subst, sym, ℕ, ◌+◌, ◌*◌, ◌<◌, ◌≤◌, Bool, true, false, ◌==◌, if◌then◌else◌, List, [], ◌∷◌, ◌++◌, length, length-append, length-set, set, get_or, get_or-set_same, get_or-set_other, Option, None, Some, lit<, arith}
+use Rattle.std.proofs.lemmas.Bool.Decides.{nat_tests}
+use Rattle.std.proofs.lemmas.Nat.{mod_below}
+use Rattle.std.specs.Prelude.{nat_lt, slice_index}
+use native.Mathlib.Decide.{ℕ_discrete}
+use Rattle.sb_actor.specs.Acts.{ready}
+use Rattle.sb_actor.specs.Ranges.{IsReplyTo, IsSoundStage}
+use Rattle.sb_actor.specs.WorkerStages.{WorkerStage, WorkerAt, Look, Count, End, Copy, Take, Mark, Give, Reply, Ack}
+use Rattle.sb_actor.specs.declared.acts.Seen.{Seen}
+use Rattle.sb_actor.specs.WorkerTable.{worker_plan, worker_after, look_next, after_reply}
+use Rattle.sb_block.specs.Copies.{Copied, copied, is_end, mark_of}
+use Rattle.sb_block.specs.Packing.{offset_of}
+use Rattle.sb_book.specs.Histories.{reply_of}
+use Rattle.sb_book.specs.declared.decisions.Decision.{Decision}
+use Rattle.sb_book.specs.declared.decisions.Decision.TheVariants.{Refused, Denied, Faked, Performed}
+use Rattle.sb_kernel.specs.Namespaces.{Space}
+use Rattle.sb_statements.specs.declared.statements.Word.{Word}
+use Rattle.sb_core.specs.Kept.{IsRunOf, IsWorkerOf, IsWorld, channels_at, has_turn, is_holder}
+use Rattle.sb_core.specs.Shared.{SharedAt, decided, on_worker}
+use Rattle.sb_core.specs.Words.{exchanged, loaded, place_of, stored, words_of}
+use Rattle.sb_core.specs.Worlds.{WorldAt, no_worker, run_at, threads_at, worker_at, worker_goes, worker_step}
+use Rattle.sb_core.proofs.Sets.{sizes_set}
+use Rattle.sb_core.proofs.There.{words_listed}
+
+-- What a step of a target's worker leaves that the world needs: the setting and the sizes of the words as they were, the worker at one of its
+-- channels with its numbers in range, and the turn with it exactly where its stage says so, and else with whom it was
+pub record Moves (w : WorldAt) (t : ℕ) (y : WorkerAt) (s : SharedAt) : Type 0 where
+  pub setting : s.book.setting ≡ w.shared.book.setting
+  pub count : length s.words ≡ length w.shared.words
+  pub sizes : (u : ℕ) → length (words_of s.words u) ≡ length (words_of w.shared.words u)
+  pub its_target : y.target ≡ t
+  pub its_channels : y.channels ≡ channels_at w t
+  pub within : y.channel < y.channels
+  pub few : y.channels ≤ 8
+  pub sound : IsSoundStage y.stage
+  pub turn : has_turn y.stage ≡ is_holder s.turn t
+  pub others : (u : ℕ) → u ≢ t → is_holder s.turn u ≡ is_holder w.shared.turn u
+  pub holder : (u : ℕ) → s.turn ≡ Some u → u < length w.workers
+
+abbrev after : WorldAt → ℕ → WorkerAt → SharedAt → WorldAt
+after w t y s = record w { shared = s; workers = set w.workers t y }
+
+module _ (w : WorldAt) (t : ℕ) (y : WorkerAt) (s : SharedAt) (kept : IsWorld w) (there : t < length w.workers) (m : Moves w t y s) where
+  channels_stay : (u : ℕ) → channels_at (after w t y s) u ≡ channels_at w u
+  channels_stay u = ap (λ setting. slice_index setting.channels u) m.setting
+
+  this : IsWorkerOf (after w t y s) t y
+  this = record {
+    its_target = m.its_target;
+    its_channels = m.its_channels ∙ sym (channels_stay t);
+    within = m.within;
+    few = m.few;
+    sound = m.sound;
+    sized = m.sizes t ∙ ((kept.workers t there).sized ∙ ap (λ z. z * 65) ((kept.workers t there).its_channels ∙ sym m.its_channels));
+    turn = m.turn;
+  }
+
+  other : (u : ℕ) → u < length w.workers → u ≢ t → IsWorkerOf (after w t y s) u (worker_at w u)
+  other u l n =
+      let x = kept.workers u l in
+      record {
+        its_target = x.its_target;
+        its_channels = x.its_channels ∙ sym (channels_stay u);
+        within = x.within;
+        few = x.few;
+        sound = x.sound;
+        sized = m.sizes u ∙ x.sized;
+        turn = x.turn ∙ sym (m.others u n);
+      }
+
+  each : (u : ℕ) → u < length w.workers → Dec (u ≡ t) → IsWorkerOf (after w t y s) u (get_or (set w.workers t y) u no_worker)
+  each u l (yes e) =
+      subst (λ z. IsWorkerOf (after w t y s) z (get_or (set w.workers t y) z no_worker)) (sym e)
+      (subst (λ z. IsWorkerOf (after w t y s) t z) (sym (get_or-set_same w.workers t y no_worker there)) this)
+  each u l (no n) =
+      subst (λ z. IsWorkerOf (after w t y s) u z) (sym (get_or-set_other w.workers t u y no_worker n)) (other u l n)
+
+  run : (u k : ℕ) → k < length (threads_at w u) → IsRunOf (after w t y s) u k (run_at w u k)
+  run u k l =
+      let x = kept.threads u k l in
+      record {
+        its_target = x.its_target;
+        its_number = x.its_number;
+        its_channels = x.its_channels ∙ sym (channels_stay u);
+        short = x.short;
+        sound = x.sound;
+        counted = x.counted;
+      }
+
+  pub moved : IsWorld (after w t y s)
+  moved =
+      let same = length-set w.workers t y in
+      record {
+        few = subst (λ n. n ≤ 8) (sym same) kept.few;
+        policies = ap (λ setting. length setting.policies) m.setting ∙ (kept.policies ∙ sym same);
+        channels = ap (λ setting. length setting.channels) m.setting ∙ (kept.channels ∙ sym same);
+        words = m.count ∙ (kept.words ∙ sym same);
+        holder = λ u e. subst (λ n. u < n) (sym same) (m.holder u e);
+        workers = λ u l. each u (subst (λ n. u < n) same l) (ℕ_discrete u t);
+        lists = subst (λ n. length w.threads ≤ n) (sym same) kept.lists;
+        threads = λ u k l. run u k l;
+      }
+
+-- a reply bears the mark that it was made for
+replies_bear : (ns : Space) (target mark : ℕ) (d : Decision) → (reply_of ns target mark d).mark ≡ mark
+replies_bear ns target mark (Refused f) = refl
+replies_bear ns target mark (Denied tag verdict) = refl
+replies_bear ns target mark (Faked tag line) = refl
+replies_bear ns target mark (Performed tag line action args) = refl
+
+-- tests of numbers
+below_ten : (count : ℕ) → nat_lt 9 count ≡ false → count ≤ 9
+below_ten count e = grind (arith, nat_tests)
+
+end_within : (count end : ℕ) → is_end count end ≡ true → (16 + count ≤ end) × (end ≤ 64)
+end_within count end h = (grind (arith, nat_tests), grind (arith, nat_tests))
+
+not_same : (x y : ℕ) → (x == y) ≡ false → x ≢ y
+not_same x y e = grind (arith, nat_tests)
+
+is_same : (x y : ℕ) → (x == y) ≡ true → x ≡ y
+is_same x y e = grind (arith, nat_tests)
+
+self_same : (x : ℕ) → (x == x) ≡ true
+self_same x = grind (arith, nat_tests)
+
+apart : (x y : ℕ) → y ≢ x → (x == y) ≡ false
+apart x y n = grind (arith, nat_tests)
+
+-- a worker at a stage, in a world that is kept
+module _ (w : WorldAt) (t channels c : ℕ) (kept : IsWorld w) (there : t < length w.workers) (its : channels ≡ channels_at w t) (within : c < channels) (few : channels ≤ 8)
+    (sized : length (words_of w.shared.words t) ≡ channels * 65) where
+  abbrev at_this : WorkerStage → WorkerAt
+  at_this stage = record { target = t; channels = channels; channel = c; stage = stage }
+
+  -- the worker goes on, and what all share stays
+  stays : (stage : WorkerStage) → IsSoundStage stage → has_turn stage ≡ is_holder w.shared.turn t → Moves w t (at_this stage) w.shared
+  stays stage sound turn = record {
+    setting = refl;
+    count = refl;
+    sizes = λ u. refl;
+    its_target = refl;
+    its_channels = its;
+    within = within;
+    few = few;
+    sound = sound;
+    turn = turn;
+    others = λ u n. refl;
+    holder = kept.holder;
+  }
+
+  -- the worker looks at the next channel
+  looks_on : false ≡ is_holder w.shared.turn t → Moves w t (look_next (at_this Look)) w.shared
+  looks_on turn = record {
+    setting = refl;
+    count = refl;
+    sizes = λ u. refl;
+    its_target = refl;
+    its_channels = its;
+    within = mod_below (c + 1) channels (omega (arith, within));
+    few = few;
+    sound = tt;
+    turn = turn;
+    others = λ u n. refl;
+    holder = kept.holder;
+  }
+
+  -- the words of the target change, and keep their number
+  writes : (y : WorkerAt) (new : List ℕ) → Moves w t y w.shared → length new ≡ length (words_of w.shared.words t)
+      → Moves w t y (record w.shared { words = set w.shared.words t new })
+  writes y new m e = record {
+    setting = refl;
+    count = length-set w.shared.words t new;
+    sizes = sizes_set w.shared.words t new (words_listed w t kept there) e;
+    its_target = m.its_target;
+    its_channels = m.its_channels;
+    within = m.within;
+    few = m.few;
+    sound = m.sound;
+    turn = m.turn;
+    others = m.others;
+    holder = m.holder;
+  }
+
+  looked : (b : Bool) → false ≡ is_holder w.shared.turn t → Moves w t (if b then at_this Count else look_next (at_this Look)) w.shared
+  looked true turn = stays Count tt turn
+  looked false turn = looks_on turn
+
+  counted : (count : ℕ) (b : Bool) → nat_lt 9 count ≡ b → false ≡ is_holder w.shared.turn t
+      → Moves w t (at_this (if b then Take (copied count 0 []) else End count)) w.shared
+  counted count true e turn = stays (Take (copied count 0 [])) tt turn
+  counted count false e turn = stays (End count) (below_ten count e) turn
+
+  ended : (count end : ℕ) → count ≤ 9 → (b : Bool) → is_end count end ≡ b → false ≡ is_holder w.shared.turn t
+      → Moves w t (at_this (if b then Copy count end [] else Take (copied count end []))) w.shared
+  ended count end low true e turn =
+      let within = end_within count end e in
+      let first = within.0 in
+      let second = within.1 in
+      stays (Copy count end []) (low, first, second, omega (arith, first)) turn
+  ended count end low false e turn = stays (Take (copied count end [])) tt turn
+
+  copied_on : (count end : ℕ) (words : List ℕ) → IsSoundStage (Copy count end words) → (x : ℕ) → (b : Bool) → (length (words ++ x ∷ []) == end) ≡ b
+      → false ≡ is_holder w.shared.turn t
+      → Moves w t (at_this (if b then Take (copied count end (words ++ x ∷ [])) else Copy count end (words ++ x ∷ []))) w.shared
+  copied_on count end words s x true e turn = stays (Take (copied count end (words ++ x ∷ []))) tt turn
+  copied_on count end words s x false e turn =
+      let longer = length-append words (x ∷ []) in
+      let ne = not_same (length (words ++ x ∷ [])) end e in
+      let below = s.3 in
+      stays (Copy count end (words ++ x ∷ [])) (s.0, s.1, s.2, omega (arith, longer, ne, below)) turn
+
+  replied_on : (taken : Copied) (reply : List ℕ) (at : ℕ) → IsSoundStage (Reply taken reply at) → (b : Bool) → (at == 11) ≡ b
+      → false ≡ is_holder w.shared.turn t → Moves w t (at_this (if b then Ack taken reply else Reply taken reply (at + 1))) w.shared
+  replied_on taken reply at s true e turn = stays (Ack taken reply) s.1 turn
+  replied_on taken reply at s false e turn =
+      let ne = not_same at 11 e in
+      let below = s.0 in
+      stays (Reply taken reply (at + 1)) (omega (arith, ne, below), s.1) turn
+
+  -- by whether somebody has the turn
+  took : (taken : Copied) (turn : Option ℕ) → w.shared.turn ≡ turn → false ≡ is_holder w.shared.turn t
+      → Moves w t (worker_after (at_this (Take taken)) (on_worker w.shared t (at_this (Take taken)) (worker_plan (at_this (Take taken)))).seen)
+      (on_worker w.shared t (at_this (Take taken)) (worker_plan (at_this (Take taken)))).shared
+  took taken None e turn =
+      subst (λ (z : Option ℕ). Moves w t (worker_after (at_this (Take taken)) (on_worker (record w.shared { turn = z }) t (at_this (Take taken)) (worker_plan (at_this (Take taken)))).seen)
+      (on_worker (record w.shared { turn = z }) t (at_this (Take taken)) (worker_plan (at_this (Take taken)))).shared)
+      (sym e) (record {
+        setting = refl;
+        count = refl;
+        sizes = λ u. refl;
+        its_target = refl;
+        its_channels = its;
+        within = within;
+        few = few;
+        sound = tt;
+        turn = sym (self_same t);
+        others = λ u n. apart t u n ∙ ap (λ (z : Option ℕ). is_holder z u) (sym e);
+        holder = λ u f. subst (λ z. z < length w.workers) (some_same t u f) there;
+      })
+    where
+      some_same : (a b : ℕ) → ◌≡◌ {A = Option ℕ} (Some a) (Some b) → a ≡ b
+      some_same a b e = cc
+  took taken (Some holder) e turn =
+      subst (λ (z : Option ℕ). Moves w t (worker_after (at_this (Take taken)) (on_worker (record w.shared { turn = z }) t (at_this (Take taken)) (worker_plan (at_this (Take taken)))).seen)
+      (on_worker (record w.shared { turn = z }) t (at_this (Take taken)) (worker_plan (at_this (Take taken)))).shared)
+      (sym e) (record {
+        setting = refl;
+        count = refl;
+        sizes = λ u. refl;
+        its_target = refl;
+        its_channels = its;
+        within = within;
+        few = few;
+        sound = tt;
+        turn = turn ∙ ap (λ (z : Option ℕ). is_holder z t) e;
+        others = λ u n. ap (λ (z : Option ℕ). is_holder z u) (sym e);
+        holder = λ u f. kept.holder u (e ∙ f);
+      })
+
+  -- the holder alone has the turn
+  alone : (turn : Option ℕ) → w.shared.turn ≡ turn → true ≡ is_holder turn t → (u : ℕ) → u ≢ t → is_holder None u ≡ is_holder turn u
+  alone None e h u n = refl
+  alone (Some holder) e h u n =
+      let same = is_same holder t (sym h) in
+      sym (subst (λ z. (z == u) ≡ false) (sym same) (apart t u n))
+
+  gave : (taken : Copied) (reply : List ℕ) → IsReplyTo taken reply → true ≡ is_holder w.shared.turn t
+      → Moves w t (at_this (Reply taken reply 0)) (record w.shared { turn = None })
+  gave taken reply bears turn = record {
+    setting = refl;
+    count = refl;
+    sizes = λ u. refl;
+    its_target = refl;
+    its_channels = its;
+    within = within;
+    few = few;
+    sound = (lit< tt, bears);
+    turn = refl;
+    others = λ u n. alone w.shared.turn refl turn u n;
+    holder = λ u f. absurd (none_some u f);
+  }
+    where
+      none_some : (u : ℕ) → ◌≡◌ {A = Option ℕ} None (Some u) → ⊥
+      none_some u e = cc
+
+  marks : (taken : Copied) → true ≡ is_holder w.shared.turn t
+      → Moves w t (worker_after (at_this (Mark taken)) (on_worker w.shared t (at_this (Mark taken)) (worker_plan (at_this (Mark taken)))).seen)
+      (on_worker w.shared t (at_this (Mark taken)) (worker_plan (at_this (Mark taken)))).shared
+  marks taken turn = record {
+    setting = refl;
+    count = refl;
+    sizes = λ u. refl;
+    its_target = refl;
+    its_channels = its;
+    within = within;
+    few = few;
+    sound = record { size = refl; mark = replies_bear w.shared.book.space t (mark_of taken) (decided w.shared.book t taken) };
+    turn = turn;
+    others = λ u n. refl;
+    holder = kept.holder;
+  }
+
+  -- the words after an exchange are as many
+  exchanged_size : (b : Bool) (words new : List ℕ) → length new ≡ length words → length (if b then new else words) ≡ length words
+  exchanged_size true words new e = e
+  exchanged_size false words new e = refl
+
+  -- each row
+  pub step_moves : (stage : WorkerStage) → IsSoundStage stage → has_turn stage ≡ is_holder w.shared.turn t
+      → Moves w t (worker_after (at_this stage) (on_worker w.shared t (at_this stage) (worker_plan (at_this stage))).seen)
+      (on_worker w.shared t (at_this stage) (worker_plan (at_this stage))).shared
+  step_moves Look s turn = looked (loaded (words_of w.shared.words t) (record { channel = c; at = 0 }) == ready) turn
+  step_moves Count s turn =
+      let count = loaded (words_of w.shared.words t) (record { channel = c; at = 1 + 2 }) in counted count (nat_lt 9 count) refl turn
+  step_moves (End count) s turn =
+      let end = offset_of (loaded (words_of w.shared.words t) (record { channel = c; at = 1 + (15 + count) })) in ended count end s (is_end count end) refl turn
+  step_moves (Copy count end copy) s turn =
+      let x = loaded (words_of w.shared.words t) (record { channel = c; at = 1 + length copy }) in
+      copied_on count end copy s x (length (copy ++ x ∷ []) == end) refl turn
+  step_moves (Take taken) s turn = took taken w.shared.turn refl turn
+  step_moves (Mark taken) s turn = marks taken turn
+  step_moves (Give taken reply) s turn = gave taken reply s turn
+  step_moves (Reply taken reply at) s turn =
+      writes (at_this (after_reply taken reply at)) (stored (words_of w.shared.words t) (record { channel = c; at = 1 + (3 + at) }) (slice_index reply at))
+      (replied_on taken reply at s (at == 11) refl turn) (length-set (words_of w.shared.words t) (place_of (record { channel = c; at = 1 + (3 + at) })) (slice_index reply at))
+  step_moves (Ack taken reply) s turn =
+      let words = words_of w.shared.words t in
+      let word : Word = record { channel = c; at = 0 } in
+      writes (look_next (at_this Look)) (exchanged words word 3 4) (looks_on turn)
+      (exchanged_size (loaded words word == 3) words (stored words word 4) (length-set words (place_of word) 4))
+
+-- a step of the worker of a target
+pub worker_keeps : (w : WorldAt) (t : ℕ) → IsWorld w → t < length w.workers → IsWorld (worker_step w t)
+worker_keeps w t kept there =
+    let x = worker_at w t in
+    let k = kept.workers t there in
+    by_target x.target x.channels x.channel x.stage k.its_target k
+  where
+    by_target : (target channels channel : ℕ) (stage : WorkerStage) → target ≡ t
+        → IsWorkerOf w t (record { target = target; channels = channels; channel = channel; stage = stage })
+        → IsWorld (worker_goes w t (record { target = target; channels = channels; channel = channel; stage = stage })
+        (on_worker w.shared t (record { target = target; channels = channels; channel = channel; stage = stage })
+        (worker_plan (record { target = target; channels = channels; channel = channel; stage = stage }))))
+    by_target target channels channel stage e k =
+        subst (λ z. IsWorld (worker_goes w t (record { target = z; channels = channels; channel = channel; stage = stage })
+        (on_worker w.shared t (record { target = z; channels = channels; channel = channel; stage = stage })
+        (worker_plan (record { target = z; channels = channels; channel = channel; stage = stage })))))
+        (sym e)
+        (moved w t _ _ kept there (step_moves w t channels channel kept there k.its_channels k.within k.few k.sized stage k.sound k.turn))
+
+-- and the setting of its book, which is all that a judge depends on
+pub worker_setting : (w : WorldAt) (t : ℕ) → IsWorld w → t < length w.workers → (worker_step w t).shared.book.setting ≡ w.shared.book.setting
+worker_setting w t kept there =
+    let k = kept.workers t there in
+    by_target (worker_at w t).target (worker_at w t).channels (worker_at w t).channel (worker_at w t).stage k.its_target k
+  where
+    by_target : (target channels channel : ℕ) (stage : WorkerStage) → target ≡ t
+        → IsWorkerOf w t (record { target = target; channels = channels; channel = channel; stage = stage })
+        → (worker_goes w t (record { target = target; channels = channels; channel = channel; stage = stage })
+        (on_worker w.shared t (record { target = target; channels = channels; channel = channel; stage = stage })
+        (worker_plan (record { target = target; channels = channels; channel = channel; stage = stage })))).shared.book.setting ≡ w.shared.book.setting
+    by_target target channels channel stage e k =
+        subst (λ z. (worker_goes w t (record { target = z; channels = channels; channel = channel; stage = stage })
+        (on_worker w.shared t (record { target = z; channels = channels; channel = channel; stage = stage })
+        (worker_plan (record { target = z; channels = channels; channel = channel; stage = stage })))).shared.book.setting ≡ w.shared.book.setting)
+        (sym e) (step_moves w t channels channel kept there k.its_channels k.within k.few k.sized stage k.sound k.turn).setting
+
+-- what a step of a worker left, by the worker that was found
+pub worker_left : (w : WorldAt) (t : ℕ) (x y z : WorkerAt) (seen : Seen) (s : SharedAt) → x ≡ worker_at w t → y ≡ worker_at w t
+    → seen ≡ (on_worker w.shared t x (worker_plan x)).seen → s ≡ (on_worker w.shared t x (worker_plan x)).shared → z ≡ worker_after y seen
+    → record w { shared = s; workers = set w.workers t z } ≡ worker_step w t
+worker_left w t x y z seen s e f g h i =
+    rw (i, g, h, e, f) refl

@@ -1,0 +1,97 @@
+-- What the rule tells a thread of the channel at which it is: no clean channel is given up, its own block stands in it until the reply does, and the reply
+-- bears the mark of the block.
+use Rattle.std.proofs.Common.{◌≡◌, ◌≢◌, ◌∙◌, refl, ap, subst, sym, ℕ, ◌<◌, Bool, true, false, List, [], ◌∷◌, length, get_or, take, arith}
+use Rattle.std.specs.Prelude.{slice_index}
+use mathlib.Core.Option.{some}
+use Rattle.sb_actor.specs.Following.{act_word}
+use Rattle.sb_actor.specs.Moves.{is_clean}
+use Rattle.sb_actor.specs.Places.{clean_channels}
+use Rattle.sb_actor.specs.Ranges.{IsSoundThreadStage}
+use Rattle.sb_actor.specs.Rule.{Agrees, Chan, FitsThread, Fives, Mid, acked, filling, idle, place, ready, row, sees, Row}
+use Rattle.sb_actor.specs.ThreadFollowing.{GivesUp}
+use Rattle.sb_actor.specs.ThreadStages.{ThreadStage, ThreadAt}
+use Rattle.sb_actor.specs.ThreadStages as thread
+use Rattle.sb_actor.specs.ThreadTable.{thread_plan}
+use Rattle.sb_actor.specs.Ties.{thread_place_of}
+use Rattle.sb_actor.specs.declared.views.Served.{Served}
+use Rattle.sb_actor.specs.declared.views.ThreadPlace.{ThreadPlace}
+use Rattle.sb_actor.specs.declared.views.ThreadPlace.TheVariants.{Try, Fill, Fetch}
+use Rattle.sb_actor.specs.declared.views.ThreadView.{ThreadView}
+use Rattle.sb_actor.specs.declared.views.View.{View}
+use Rattle.sb_actor.specs.declared.views.View.TheVariants as view
+use Rattle.sb_actor.specs.declared.views.WorkerPlace.{WorkerPlace}
+use Rattle.sb_block.specs.Layout.{mark_in}
+use Rattle.sb_statements.specs.declared.scripts.Script.{Script}
+use Rattle.sb_core.specs.Threads.{RunAt, no_run}
+use Rattle.sb_core.specs.Views.{AreViews}
+use Rattle.sb_actor.specs.WorkerStages.{WorkerAt}
+use Rattle.sb_core.proofs.Tidings.{Learns, Waits}
+
+-- no clean channel is in state 5
+state_known : (m : Mid) (p : WorkerPlace) (f : Row) → Chan m p f → f 0 ≢ 5
+state_known idle p f h e = let s = h.0 in absurd (omega (arith, s, e))
+state_known (filling k words) p f h e = let s = h.0 in absurd (omega (arith, s, e))
+state_known (ready k block) p f h e = let s = h.0 in absurd (omega (arith, s, e))
+state_known (acked k block reply) p f h e = let s = h.0 in absurd (omega (arith, s, e))
+
+-- a channel that a thread fills is in state 2
+state_filling : (m : Mid) (k : ℕ) (words : List ℕ) (p : WorkerPlace) (f : Row) → m ≡ filling k words → Chan m p f → f 0 ≡ 2
+state_filling m k words p f e h = (subst (λ z. Chan z p f) e h).0
+
+-- the twelve words that were fetched are those of a reply to the block
+fetched_mark : (m : Mid) (k : ℕ) (block words : List ℕ) (p : WorkerPlace) (f : Row) → (reply : List ℕ) → m ≡ acked k block reply → words ≡ take (length words) reply → length words ≡ 12
+    → Chan m p f → slice_index words 0 ≡ mark_in block
+fetched_mark m k block words p f reply e t n h =
+    let c : Chan (acked k block reply) p f = subst (λ z. Chan z p f) e h in
+    let r = c.3 in
+    let whole : take 12 reply ≡ reply = take_all reply 12 (sym r.size) in
+    ap (λ (z : List ℕ). slice_index z 0) (t ∙ (ap (λ z. take z reply) n ∙ whole)) ∙ r.mark
+  where
+    take_all : (l : List ℕ) (n : ℕ) → n ≡ length l → take n l ≡ l
+    take_all [] n e = subst (λ z. take {A = ℕ} z [] ≡ []) (sym e) refl
+    take_all (x ∷ l) n e = subst (λ z. take z (x ∷ l) ≡ x ∷ l) (sym e) (ap (λ (z : List ℕ). x ∷ z) (take_all l (length l) refl))
+
+module _ (script : Script) (t : ℕ) (words : List ℕ) (calls : List Served) (x : WorkerAt) (runs : List RunAt) (views : List View)
+    (h : AreViews script t words calls x runs views) (k : ℕ) (there : k < length runs) where
+  abbrev mine : ThreadAt
+  mine = (get_or runs k no_run).thread
+
+  abbrev clean : List Bool
+  clean = clean_channels script t
+
+  -- what the rule says of the channel
+  module _ (v : ThreadView) (block : List ℕ) (marks : mine.clean ≡ clean) (fits : FitsThread clean h.rule.2.mids h.rule.2.stage h.rule.1.served (h.threads k there).0 v) where
+    cleaned : (c : ℕ) → is_clean mine.clean c ≡ true → is_clean clean c ≡ true
+    cleaned c e = subst (λ z. is_clean z c ≡ true) marks e
+
+    agrees_at : (c : ℕ) (p : ThreadPlace) → v.place ≡ p → place p ≡ some c → is_clean mine.clean c ≡ true → Agrees v.number p (h.rule.2.mids c)
+    agrees_at c p e q cl = subst (λ z. place z ≡ some c → Agrees v.number z (h.rule.2.mids c)) e (λ z. fits.agrees c z (cleaned c cl)) q
+
+    fives_at : (c : ℕ) (fives : Bool) → v.place ≡ Try c fives → fives ≡ true → (d : ℕ) → d < c → is_clean mine.clean d ≡ false
+    fives_at c fives e f d l = subst (λ z. is_clean z d ≡ false) (sym marks) ((subst (λ z. Fives clean z) e fits.fives) f d l)
+
+    learns : (stage : ThreadStage) → v.place ≡ thread_place_of block stage → mine.block ≡ block → IsSoundThreadStage (length mine.clean) mine.patience block stage → GivesUp mine.clean stage
+        → Waits script mine stage → Learns script mine stage (slice_index words (act_word (thread_plan script (record mine { stage = stage }))))
+    learns (thread.Try c rounds fives) e b s g w =
+        ((λ cl. state_known (h.rule.2.mids c) (sees c h.rule.1) (row words c) (h.rule.2.chans c (cleaned c cl))), fives_at c fives e)
+    learns (thread.Fill c i) e b s g w = tt
+    learns (thread.Send c) e b s g w = λ cl.
+        state_filling (h.rule.2.mids c) v.number block (sees c h.rule.1) (row words c) (agrees_at c (Fill c block) e refl cl) (h.rule.2.chans c (cleaned c cl))
+    learns (thread.Wait c loads) e b s g w = tt
+    learns (thread.Fetch c fetched) e b s g w = tt
+    learns (thread.Free c fetched) e b s g w = λ cl.
+        let a = agrees_at c (Fetch c block fetched) e refl cl in
+        fetched_mark (h.rule.2.mids c) v.number block fetched (sees c h.rule.1) (row words c) a.0 a.1 a.3 s.1 (h.rule.2.chans c (cleaned c cl))
+        ∙ ap (λ (z : List ℕ). mark_in z) (sym b)
+    learns (thread.Abandon c) e b s g w = g
+    learns (thread.Stray loads most) e b s g w = w
+    learns thread.Over e b s g w = tt
+
+  pub learned : IsSoundThreadStage (length mine.clean) mine.patience mine.block mine.stage → GivesUp mine.clean mine.stage → Waits script mine mine.stage
+      → Learns script mine mine.stage (slice_index words (act_word (thread_plan script mine)))
+  learned sound gives waits =
+      let seat = h.threads k there in
+      let v = seat.1 in
+      let held = seat.3.holds in
+      let fits : FitsThread clean h.rule.2.mids h.rule.2.stage h.rule.1.served seat.0 v = h.rule.2.seats seat.0 (view.Thread v) seat.2 in
+      learns v mine.block (sym held.clean ∙ fits.marks) fits mine.stage held.place refl sound gives waits

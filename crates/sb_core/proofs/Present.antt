@@ -1,0 +1,338 @@
+-- At any moment a thread's entries on clean channels are those of its results, with at most the one of its present call besides.
+use Rattle.std.proofs.Common.{◌≡◌, ◌⊎◌, inl, inr, ⊎_elim, ◌∙◌, refl, ap, subst, sym, ℕ, ◌+◌, ◌/◌, ◌<◌, Bool, true, false, cond, ◌==◌, if◌then◌else◌, List, [], ◌∷◌, ◌++◌, length, map, get_or, take, slice_get, arith}
+use Rattle.std.proofs.lemmas.Bool.{and_parts}
+use Rattle.std.proofs.lemmas.Bool.Decides.{nat_tests}
+use Rattle.std.proofs.lemmas.List.{append-nil, map-append}
+use Rattle.std.proofs.lemmas.List.Elements.{filter-append}
+use Rattle.std.specs.List.{filter}
+use mathlib.Core.Option.{Option, none, some, some-ne-none}
+use Rattle.sb_actor.specs.Moves.{IsBlock, is_clean}
+use Rattle.sb_actor.specs.Places.{clean_channels}
+use Rattle.sb_actor.specs.Rule.{Agrees, Chan, FitsThread, Mid, Row, acked, as_served, calls_of, filling, idle, is_of, owner, place, ready, row, sees, served_at, waiting}
+use Rattle.sb_actor.specs.ThreadStages.{ThreadStage, Try, Fill, Send, Wait, Fetch, Free, Abandon, Stray, Over}
+use Rattle.sb_actor.specs.Ties.{thread_place_of, worker_place_of}
+use Rattle.sb_actor.specs.WorkerStages.{WorkerStage, WorkerAt}
+use Rattle.sb_actor.specs.WorkerStages as worker
+use Rattle.sb_actor.specs.declared.views.Had.{Had}
+use Rattle.sb_actor.specs.declared.views.Served.{Served}
+use Rattle.sb_actor.specs.declared.views.ThreadView.{ThreadView}
+use Rattle.sb_actor.specs.declared.views.View.{View}
+use Rattle.sb_actor.specs.declared.views.View.TheVariants as view
+use Rattle.sb_actor.specs.declared.views.WorkerPlace.{WorkerPlace}
+use Rattle.sb_actor.specs.declared.views.WorkerPlace.TheVariants as stands
+use Rattle.sb_actor.specs.declared.views.WorkerView.{WorkerView}
+use Rattle.sb_block.specs.Copies.{Copied, mark_of, whole}
+use Rattle.sb_block.specs.Replies.{RepliesComeBack}
+use Rattle.sb_book.specs.Histories.{Setting, setting_of}
+use Rattle.sb_book.specs.Laws.{AnswersKeepHistories}
+use Rattle.sb_book.specs.declared.entries.Entry.{Entry}
+use Rattle.sb_kernel.specs.Laws.{AnswersAreShort}
+use Rattle.sb_kernel.specs.Openings.{opening}
+use Rattle.sb_statements.specs.Actors.{thread_count}
+use Rattle.sb_statements.specs.Soundness.{SoundStatements, SoundTargets}
+use Rattle.sb_statements.specs.declared.scripts.Script.{Script}
+use Rattle.sb_core.specs.Drains.{drained}
+use Rattle.sb_core.specs.Fits.{Answered, IsOwnSoFar, IsPresent, RepliesAreOwn, RunsReplyOwn, by_entry, by_result, is_entry_of}
+use Rattle.sb_core.specs.Kept.{is_calling}
+use Rattle.sb_core.specs.Runs.{played}
+use Rattle.sb_core.specs.Threads.{RunAt, no_run}
+use Rattle.sb_core.specs.Views.{AreViews, OwnCall, as_own, calls_at, in_work, own_calls}
+use Rattle.sb_core.specs.Words.{words_of}
+use Rattle.sb_core.specs.Worlds.{WorldAt, start_world, steps, threads_at, worker_at}
+use Rattle.sb_core.proofs.Fitting.{had_results, read, served_entries}
+use Rattle.sb_core.proofs.Reaching.{Good, good_steps}
+use Rattle.sb_core.proofs.RunLaws.{good_end, good_played, good_start}
+use Rattle.sb_core.proofs.Ruling.{Ruled, ruled_end, ruled_played, ruled_start, ruled_steps}
+use Rattle.sb_core.proofs.Seating.{SeatLaws}
+use Rattle.sb_core.proofs.Short.{AreShort, legal_short}
+use Rattle.sb_core.proofs.There.{listed}
+
+-- a worker that has copied from a clean channel is at a whole block there
+pub record Engaged (m : Mid) (taken : Copied) : Type 0 where
+  pub number : ℕ
+  pub block : List ℕ
+  pub is : m ≡ ready number block
+  pub whole_block : IsBlock number block
+  pub copy : taken ≡ whole block
+
+copied_whole : (m : Mid) (taken : Copied) (f : Row) → Chan m (stands.Copied taken) f → Engaged m taken
+copied_whole idle taken f h = absurd (apart taken h.1)
+  where
+    apart : (taken : Copied) → ◌≡◌ {A = WorkerPlace} (stands.Copied taken) stands.Look → ⊥
+    apart taken e = cc
+copied_whole (filling k words) taken f h = absurd (apart taken h.1)
+  where
+    apart : (taken : Copied) → ◌≡◌ {A = WorkerPlace} (stands.Copied taken) stands.Look → ⊥
+    apart taken e = cc
+copied_whole (ready k block) taken f h = record { number = k; block = block; is = refl; whole_block = h.1; copy = h.2.1 }
+copied_whole (acked k block reply) taken f h = absurd (apart taken h.2)
+  where
+    apart : (taken : Copied) → ◌≡◌ {A = WorkerPlace} (stands.Copied taken) stands.Look → ⊥
+    apart taken e = cc
+
+replied_whole : (m : Mid) (taken : Copied) (reply : List ℕ) (f : Row) → Chan m (stands.Reply taken reply) f → Engaged m taken
+replied_whole idle taken reply f h = absurd (apart taken reply h.1)
+  where
+    apart : (taken : Copied) (reply : List ℕ) → ◌≡◌ {A = WorkerPlace} (stands.Reply taken reply) stands.Look → ⊥
+    apart taken reply e = cc
+replied_whole (filling k words) taken reply f h = absurd (apart taken reply h.1)
+  where
+    apart : (taken : Copied) (reply : List ℕ) → ◌≡◌ {A = WorkerPlace} (stands.Reply taken reply) stands.Look → ⊥
+    apart taken reply e = cc
+replied_whole (ready k block) taken reply f h = record { number = k; block = block; is = refl; whole_block = h.1; copy = h.2.0 }
+replied_whole (acked k block words) taken reply f h = absurd (apart taken reply h.2)
+  where
+    apart : (taken : Copied) (reply : List ℕ) → ◌≡◌ {A = WorkerPlace} (stands.Reply taken reply) stands.Look → ⊥
+    apart taken reply e = cc
+
+either_whole : (b : Bool) (m : Mid) (taken : Copied) (reply : List ℕ) (f : Row) → Chan m (if b then stands.Copied taken else stands.Reply taken reply) f → Engaged m taken
+either_whole true m taken reply f h = copied_whole m taken f h
+either_whole false m taken reply f h = replied_whole m taken reply f h
+
+-- where a thread is at a channel it is within a call
+calling_at : (block : List ℕ) (stage : ThreadStage) (c : ℕ) → place (thread_place_of block stage) ≡ some c → is_calling stage ≡ true
+calling_at block (Try d rounds fives) c e = refl
+calling_at block (Fill d i) c e = refl
+calling_at block (Send d) c e = refl
+calling_at block (Wait d loads) c e = refl
+calling_at block (Fetch d words) c e = refl
+calling_at block (Free d words) c e = refl
+calling_at block (Abandon d) c e = refl
+calling_at block (Stray loads most) c e = absurd (some-ne-none c (sym e))
+calling_at block Over c e = absurd (some-ne-none c (sym e))
+
+-- a thread at a channel with a whole block has that block
+ready_block : (k number : ℕ) (block b : List ℕ) (stage : ThreadStage) (m : Mid) → Agrees k (thread_place_of block stage) m → (c : ℕ) → place (thread_place_of block stage) ≡ some c → m ≡ ready number b → b ≡ block
+ready_block k number block b (Try d rounds fives) m a c e f = absurd (some-ne-none c (sym e))
+ready_block k number block b (Fill d i) m a c e f = absurd (cc)
+ready_block k number block b (Send d) m a c e f = absurd (cc)
+ready_block k number block b (Wait d loads) m a c e f = ⊎_elim (λ h. cc) (λ h. let g = h.1 in absurd (cc)) a
+ready_block k number block b (Fetch d words) m a c e f = let g = a.1 in absurd (cc)
+ready_block k number block b (Free d words) m a c e f = let g = a.1 in absurd (cc)
+ready_block k number block b (Abandon d) m a c e f = ⊎_elim (λ h. cc) (λ h. let g = h.1 in absurd (cc)) a
+ready_block k number block b (Stray loads most) m a c e f = absurd (some-ne-none c (sym e))
+ready_block k number block b Over m a c e f = absurd (some-ne-none c (sym e))
+
+-- and so has one whose call is served
+acked_block : (k number : ℕ) (block b reply : List ℕ) (stage : ThreadStage) (m : Mid) → Agrees k (thread_place_of block stage) m → (c : ℕ) → place (thread_place_of block stage) ≡ some c → m ≡ acked number b reply → b ≡ block
+acked_block k number block b reply (Try d rounds fives) m a c e f = absurd (some-ne-none c (sym e))
+acked_block k number block b reply (Fill d i) m a c e f = absurd (cc)
+acked_block k number block b reply (Send d) m a c e f = absurd (cc)
+acked_block k number block b reply (Wait d loads) m a c e f = ⊎_elim (λ h. absurd (cc)) (λ h. let g = h.1 in cc) a
+acked_block k number block b reply (Fetch d words) m a c e f = let g = a.1 in cc
+acked_block k number block b reply (Free d words) m a c e f = let g = a.1 in cc
+acked_block k number block b reply (Abandon d) m a c e f = ⊎_elim (λ h. absurd (cc)) (λ h. let g = h.1 in cc) a
+acked_block k number block b reply (Stray loads most) m a c e f = absurd (some-ne-none c (sym e))
+acked_block k number block b reply Over m a c e f = absurd (some-ne-none c (sym e))
+
+is_same : (x y : ℕ) → (x == y) ≡ true → x ≡ y
+is_same x y e = grind (arith, nat_tests)
+
+-- a target of a world in the rule
+module _ (script : Script) (t : ℕ) (words : List ℕ) (entries : List Entry) (x : WorkerAt) (runs : List RunAt) (views : List View)
+    (h : AreViews script t words (calls_at t entries) x runs views) (come : RepliesComeBack) (short : AreShort entries) (k : ℕ) (there : k < length runs)
+    (its_number : (get_or runs k no_run).thread.thread ≡ k) where
+  abbrev clean : List Bool
+  clean = clean_channels script t
+
+  abbrev mids : ℕ → Mid
+  mids = h.rule.2.mids
+
+  abbrev mine : RunAt
+  mine = get_or runs k no_run
+
+  -- what the worker has in work for this thread: nothing, or the whole block of a clean channel
+  abbrev Work : List Served → Type 0
+  Work qs =
+      (qs ≡ [])
+      ⊎ ((q : Served) × (c : ℕ) × (block : List ℕ) × (qs ≡ q ∷ []) × (is_clean clean c ≡ true) × (mids c ≡ ready k block) × (q.taken ≡ whole block))
+
+  seen_here : (c : ℕ) → x.channel ≡ c → sees c h.rule.1 ≡ worker_place_of x.stage
+  seen_here c e =
+      let own = h.worker in
+      let seat = h.rule.2.seats own.0 (view.Worker own.1) own.2 in
+      let channel : h.rule.1.channel ≡ c = ap (λ (v : WorkerView). v.channel) (sym seat.1) ∙ (own.3.holds.channel ∙ e) in
+      ap (λ b. cond b h.rule.1.place stands.Look) (self_same c h.rule.1.channel channel) ∙ (ap (λ (v : WorkerView). v.place) (sym seat.1) ∙ own.3.holds.place)
+    where
+      self_same : (c d : ℕ) → d ≡ c → (c == d) ≡ true
+      self_same c d e = grind (arith, nat_tests)
+
+  -- a call in work, by whether it is the thread's
+  engaged : (q : Served) → (is_clean clean q.channel ≡ true → Engaged (mids q.channel) q.taken) → (b : Bool) → is_of clean k q ≡ b → Work (calls_of clean k (q ∷ []))
+  engaged q f true e =
+      let parts = and_parts (is_clean clean q.channel) (mark_of q.taken / 65536 == k + 1) e in
+      let at = f parts.0 in
+      let bears = is_same (mark_of q.taken / 65536) (k + 1) parts.1 in
+      let mark : mark_of q.taken / 65536 ≡ at.number + 1 = ap (λ (c : Copied). mark_of c / 65536) at.copy ∙ at.whole_block.mark in
+      let same : at.number ≡ k = omega (arith, bears, mark) in
+      inr (q, q.channel, at.block, ap (λ b. cond {A = List Served} b (q ∷ []) []) e, parts.0, at.is ∙ ap (λ n. ready n at.block) same, at.copy)
+  engaged q f false e = inl (ap (λ b. cond {A = List Served} b (q ∷ []) []) e)
+
+  work_by : (stage : WorkerStage) → x.stage ≡ stage → Work (calls_of clean k (in_work x.channel stage))
+  work_by worker.Look e = inl refl
+  work_by worker.Count e = inl refl
+  work_by (worker.End count) e = inl refl
+  work_by (worker.Copy count end ws) e = inl refl
+  work_by (worker.Take taken) e = inl refl
+  work_by (worker.Mark taken) e = inl refl
+  work_by (worker.Give taken reply) e =
+      let q : Served = record { channel = x.channel; taken = taken; reply = reply } in
+      engaged q
+      (λ cl. copied_whole (mids x.channel) taken (row words x.channel)
+      (subst (λ p. Chan (mids x.channel) p (row words x.channel)) (seen_here x.channel refl ∙ ap worker_place_of e) (h.rule.2.chans x.channel cl)))
+      (is_of clean k q) refl
+  work_by (worker.Reply taken reply i) e =
+      let q : Served = record { channel = x.channel; taken = taken; reply = reply } in
+      engaged q
+      (λ cl. either_whole (i == 0) (mids x.channel) taken (take i reply) (row words x.channel)
+      (subst (λ p. Chan (mids x.channel) p (row words x.channel)) (seen_here x.channel refl ∙ ap worker_place_of e) (h.rule.2.chans x.channel cl)))
+      (is_of clean k q) refl
+  work_by (worker.Ack taken reply) e =
+      let q : Served = record { channel = x.channel; taken = taken; reply = reply } in
+      engaged q
+      (λ cl. replied_whole (mids x.channel) taken reply (row words x.channel)
+      (subst (λ p. Chan (mids x.channel) p (row words x.channel)) (seen_here x.channel refl ∙ ap worker_place_of e) (h.rule.2.chans x.channel cl)))
+      (is_of clean k q) refl
+
+  -- a served call that the thread has not ended: none, or that of its own block
+  abbrev Rest : List Had → Type 0
+  Rest xs =
+      (xs ≡ [])
+      ⊎ ((q : Had) × (c : ℕ) × (number : ℕ) × (reply : List ℕ) × (xs ≡ q ∷ []) × (place (thread_place_of mine.thread.block mine.thread.stage) ≡ some c)
+      × (mids c ≡ acked number q.block reply) × (q.block ≡ mine.thread.block))
+
+  abbrev seat : ThreadView
+  seat = (h.threads k there).1
+
+  fits : FitsThread clean mids h.rule.2.stage h.rule.1.served (h.threads k there).0 seat
+  fits = h.rule.2.seats (h.threads k there).0 (view.Thread seat) (h.threads k there).2
+
+  number_is : seat.number ≡ k
+  number_is = (h.threads k there).3.holds.number ∙ its_number
+
+  agrees_at : (c : ℕ) → place (thread_place_of mine.thread.block mine.thread.stage) ≡ some c → is_clean clean c ≡ true
+      → Agrees seat.number (thread_place_of mine.thread.block mine.thread.stage) (mids c)
+  agrees_at c e cl = subst (λ p. place p ≡ some c → Agrees seat.number p (mids c)) (h.threads k there).3.holds.place (λ f. fits.agrees c f cl) e
+
+  rest_at : (c : ℕ) → place (thread_place_of mine.thread.block mine.thread.stage) ≡ some c → (b : Bool) → is_clean clean c ≡ b → (m : Mid) → mids c ≡ m → Rest (cond b (served_at c m) [])
+  rest_at c e false cl m f = inl refl
+  rest_at c e true cl idle f = inl refl
+  rest_at c e true cl (filling n ws) f = inl refl
+  rest_at c e true cl (ready n block) f = inl refl
+  rest_at c e true cl (acked n block reply) f =
+      inr (
+        record { channel = c; block = block; reply = reply },
+        c,
+        n,
+        reply,
+        refl,
+        e,
+        f,
+        acked_block seat.number n mine.thread.block block reply mine.thread.stage (mids c) (agrees_at c e cl) c e f,
+      )
+
+  rest_by : (o : Option ℕ) → place (thread_place_of mine.thread.block mine.thread.stage) ≡ o → Rest (waiting clean mids o)
+  rest_by none e = inl refl
+  rest_by (some c) e = rest_at c e (is_clean clean c) refl (mids c) refl
+
+  abbrev rest : List Had
+  rest = waiting clean mids (place (thread_place_of mine.thread.block mine.thread.stage))
+
+  abbrev work : List Served
+  work = calls_of clean k (in_work x.channel x.stage)
+
+  abbrev own : List OwnCall
+  own = own_calls script t k mine.results
+
+  -- the entries are the results, what is not ended and what is in work
+  all_entries : map by_entry (filter (is_entry_of script t k) entries) ≡ (map by_result own ++ map by_result (map as_own rest)) ++ map read work
+  all_entries =
+      let v = h.worker.1 in
+      let desk = h.rule.2.seats h.worker.0 (view.Worker v) h.worker.2 in
+      let served : calls_of clean k v.served ≡ map as_served (seat.had ++ rest) =
+      ap (λ (z : ℕ × List Served). calls_of clean z.0 z.1) (λ j. (sym number_is j, ap (λ (u : WorkerView). u.served) desk.1 j))
+      ∙ (fits.calls ∙ ap (λ p. map as_served (seat.had ++ waiting clean mids (place p))) (h.threads k there).3.holds.place) in
+      let told : map read (map as_served (seat.had ++ rest)) ≡ map by_result own ++ map by_result (map as_own rest) =
+      had_results (seat.had ++ rest)
+      ∙ (ap (λ (z : List OwnCall). map by_result z) (map-append as_own seat.had rest ∙ ap (λ (z : List OwnCall). z ++ map as_own rest) (h.threads k there).3.has)
+      ∙ map-append by_result own (map as_own rest)) in
+      sym (served_entries come script t k entries short)
+      ∙ (ap (λ (z : List Served). map read (calls_of clean k z)) h.worker.3.serves
+      ∙ (ap (λ (z : List Served). map read z) (filter-append (is_of clean k) v.served (in_work x.channel x.stage))
+      ∙ (map-append read (calls_of clean k v.served) work ∙ ap (λ (z : List Answered). z ++ map read work) (ap (λ (z : List Served). map read z) served ∙ told))))
+
+  -- where the worker is at the thread's block, so is the thread
+  at_ready : (c : ℕ) (block : List ℕ) → is_clean clean c ≡ true → mids c ≡ ready k block → place (thread_place_of mine.thread.block mine.thread.stage) ≡ some c
+  at_ready c block cl e =
+      subst (λ p. place p ≡ some c) (h.threads k there).3.holds.place (fits.only c cl (ap (λ m. owner m) e ∙ ap (λ n. some n) (sym number_is)))
+
+  both_apart : (n c d : ℕ) (b block reply : List ℕ) → ◌≡◌ {A = Option ℕ} (some c) (some d) → mids c ≡ acked n b reply → mids d ≡ ready k block → ⊥
+  both_apart n c d b block reply e f g = cc
+
+  end : (xs : List Had) (qs : List Served) → Rest xs → Work qs → (besides : List Answered)
+      × ((map by_result own ++ map by_result (map as_own xs)) ++ map read qs ≡ map by_result own ++ besides) × IsPresent mine besides
+  end xs qs (inl e) (inl f) = (
+    [],
+    ap (λ (z : List Had × List Served). (map by_result own ++ map by_result (map as_own z.0)) ++ map read z.1) (λ j. (e j, f j)) ∙ append-nil (map by_result own ++ []),
+    inl refl,
+  )
+  end xs qs (inr r) (inl f) = (
+    by_result (as_own r.0) ∷ [],
+    ap (λ (z : List Had × List Served). (map by_result own ++ map by_result (map as_own z.0)) ++ map read z.1) (λ j. (r.4 j, f j)) ∙ append-nil (map by_result own ++ by_result (as_own r.0) ∷ []),
+    inr (by_result (as_own r.0), refl, ap (λ (z : List ℕ). whole z) r.7, calling_at mine.thread.block mine.thread.stage r.1 r.5),
+  )
+  end xs qs (inl e) (inr w) =
+      let here = at_ready w.1 w.2 w.4 w.5 in (
+        read w.0 ∷ [],
+        ap (λ (z : List Had × List Served). (map by_result own ++ map by_result (map as_own z.0)) ++ map read z.1) (λ j. (e j, w.3 j))
+            ∙ ap (λ (z : List Answered). z ++ read w.0 ∷ []) (append-nil (map by_result own)),
+        inr (
+          read w.0,
+          refl,
+          w.6 ∙ ap (λ (z : List ℕ). whole z) (ready_block seat.number k mine.thread.block w.2 mine.thread.stage (mids w.1) (agrees_at w.1 here w.4) w.1 here w.5),
+          calling_at mine.thread.block mine.thread.stage w.1 here,
+        ),
+      )
+  end xs qs (inr r) (inr w) =
+      absurd (both_apart r.2 r.1 w.1 r.0.block w.2 r.3 (sym r.5 ∙ at_ready w.1 w.2 w.4 w.5) r.6 w.5)
+
+  pub own_so_far : (besides : List Answered)
+      × (map by_entry (filter (is_entry_of script t k) entries) ≡ map by_result own ++ besides) × IsPresent mine besides
+  own_so_far =
+      let last = end rest work (rest_by (place (thread_place_of mine.thread.block mine.thread.stage)) refl) (work_by x.stage refl) in
+      (last.0, all_entries ∙ last.1, last.2)
+
+-- each thread of a world that keeps the rule
+module _ (script : Script) (w : WorldAt) (r : Ruled script w) (come : RepliesComeBack) (short : AreShort w.shared.book.entries) where
+  pub own_in_world : (t k : ℕ) → k < thread_count (slice_get script.targets t) → IsOwnSoFar script w t k
+  own_in_world t k l =
+      let m : k < length (threads_at w t) = subst (λ n. k < n) (sym (r.runs.threads t)) l in
+      let low = there t (listed w.threads t k m) in
+      let v = r.rule t low in
+      own_so_far script t (words_of w.shared.words t) w.shared.book.entries (worker_at w t) (threads_at w t) v.0 v.1 come short k m (r.kept.threads t k m).its_number
+    where
+      there : (t : ℕ) → t < length w.threads → t < length w.workers
+      there t l = let e = r.kept.lists in omega (arith, e, l)
+
+-- the replies of a world with a legal book
+short_in : AnswersAreShort → (script : Script) (setting : Setting) (w : WorldAt) → Good script setting w → AreShort w.shared.book.entries
+short_in answered script setting w good =
+    legal_short answered w.shared.book.setting (opening w.shared.book.setting.start) w.shared.book.entries good.history.legal
+
+pub replies_are_own : SeatLaws → SoundTargets → SoundStatements → AnswersKeepHistories → RepliesComeBack → AnswersAreShort → RepliesAreOwn
+replies_are_own laws targets statements answers come answered policies script actors prepared units there =
+    let w = steps script actors (start_world policies script) in
+    own_in_world script w
+    (ruled_steps laws targets statements script units actors (start_world policies script) (ruled_start laws targets statements script policies prepared) there)
+    come
+    (short_in answered script (setting_of policies script) w
+    (good_steps statements answers script (setting_of policies script) actors (start_world policies script) (good_start targets statements policies script prepared) there))
+
+pub runs_reply_own : SeatLaws → SoundTargets → SoundStatements → AnswersKeepHistories → RepliesComeBack → AnswersAreShort → RunsReplyOwn
+runs_reply_own laws targets statements answers come answered policies script schedule can units t k l =
+    let w = played policies script schedule in (
+      own_in_world script w (ruled_played laws targets statements script units policies schedule can) come
+          (short_in answered script (setting_of policies script) w (good_played targets statements answers policies script schedule can)) t k l,
+      own_in_world script (drained w) (ruled_end laws targets statements script units policies schedule can) come
+          (short_in answered script (setting_of policies script) (drained w) (good_end targets statements answers policies script schedule can)) t k l,
+    )

@@ -1,0 +1,209 @@
+-- What each world of a run keeps: that of its type, that of its script, a legal book of the run's setting, and results that are each those of the
+-- statement at their place.
+use Rattle.std.proofs.Common.{◌≡◌, ◌∙◌, ◌⊎◌, inl, inr, ⊎_elim, refl, ap, subst, sym, ℕ, zero, suc, ◌<◌, ◌≤◌, Bool, true, false, List, [], ◌∷◌, ◌++◌, length, length-set, replicate, Option, None, Some, IfSome, slice_get, arith}
+use Rattle.std.proofs.lemmas.Bool.{and_parts}
+use Rattle.std.proofs.lemmas.Bool.Decides.{nat_tests}
+use Rattle.std.specs.List.{list_all}
+use Rattle.std.specs.Option.{option_to_list}
+use Rattle.std.specs.Prelude.{nat_lt, slice_index}
+use Rattle.sb_actor.specs.Places.{statement_at}
+use Rattle.sb_actor.specs.ThreadTable.{thread_after, thread_plan}
+use Rattle.sb_actor.specs.WorkerStages.{WorkerStage, WorkerAt, Look, Count, End, Copy, Take, Mark, Give, Reply, Ack}
+use Rattle.sb_actor.specs.WorkerTable.{worker_plan}
+use Rattle.sb_book.specs.Histories.{IsHistory, Setting}
+use Rattle.sb_book.specs.Laws.{AnswersKeepHistories}
+use Rattle.sb_statements.specs.Soundness.{SoundStatements}
+use Rattle.sb_statements.specs.declared.results.StmtResult.{StmtResult}
+use Rattle.sb_statements.specs.declared.schedules.Actor.{Actor}
+use Rattle.sb_statements.specs.declared.schedules.Actor.TheVariants.{Thread, Worker}
+use Rattle.sb_statements.specs.declared.scripts.Script.{Script}
+use Rattle.sb_statements.specs.declared.scripts.TargetScript.{TargetScript}
+use Rattle.sb_statements.specs.declared.statements.Statement.{Statement}
+use Rattle.sb_core.specs.Actors.{are_there, first_actors, first_threads, round_actors, scheduled, target_actors}
+use Rattle.sb_statements.specs.Actors.{is_step_there, is_there, thread_count}
+use Rattle.sb_core.specs.Drains.{drained_by, is_settled, one_pass, pass_below}
+use Rattle.sb_core.specs.Kept.{IsRunning, IsWorld}
+use Rattle.sb_core.specs.Results.{is_result_of}
+use Rattle.sb_core.specs.Shared.{decided, on_word, on_worker}
+use Rattle.sb_core.specs.Threads.{RunAt, no_run}
+use Rattle.sb_core.specs.Worlds.{WorldAt, all_finished, round, rounds, run_at, step, steps, threads_at, worker_at, worker_step}
+use Rattle.sb_core.proofs.Running.{step_keeps, thread_is_there, worker_is_there, worker_runs}
+use Rattle.sb_core.proofs.Keeping.{worker_keeps, worker_setting}
+use Rattle.sb_core.proofs.Sets.{each_set}
+use Rattle.sb_core.proofs.There.{listed, worker_channel, worker_policy}
+use Rattle.sb_core.proofs.ThreadKeeping.{facts, thread_book}
+use Rattle.sb_core.proofs.ThreadRows.{IsOwnResult}
+
+-- each result of a thread is that of the statement at its place
+abbrev pub RunFits : Script → ℕ → ℕ → RunAt → Type 0
+RunFits script t k x = (i : ℕ) (r : StmtResult) → slice_get x.results i ≡ Some r
+    → (s : Statement) × (statement_at script t k i ≡ Some s) × (is_result_of s r ≡ true)
+
+pub record Good (script : Script) (setting : Setting) (w : WorldAt) : Type 0 where
+  pub kept : IsWorld w
+  pub runs : IsRunning script w
+  pub setting_is : w.shared.book.setting ≡ setting
+  pub history : IsHistory w.shared.book
+  pub fits : (t k : ℕ) → k < length (threads_at w t) → RunFits script t k (run_at w t k)
+
+-- an element of a list with one more behind it
+pub behind : {X : Type 0} (xs : List X) (o : Option X) (i : ℕ) (x : X) → slice_get (xs ++ option_to_list o) i ≡ Some x
+    → (slice_get xs i ≡ Some x) ⊎ ((i ≡ length xs) × (o ≡ Some x))
+behind [] None zero x e = absurd (cc)
+behind [] None (suc i) x e = absurd (cc)
+behind [] (Some y) zero x e = inr (refl, e)
+behind [] (Some y) (suc i) x e = absurd (cc)
+behind (y ∷ xs) o zero x e = inl e
+behind (y ∷ xs) o (suc i) x e = ⊎_elim (λ h. inl h) (λ h. inr (ap suc h.0, h.1)) (behind xs o i x e)
+
+module _ (statements : SoundStatements) (answers : AnswersKeepHistories) (script : Script) (setting : Setting) where
+  -- the book after a step of a worker
+  history_after : (w : WorldAt) (t : ℕ) (x : WorkerAt) → IsHistory w.shared.book → t < length w.shared.book.setting.policies
+      → x.channel < slice_index w.shared.book.setting.channels t → (stage : WorkerStage)
+      → IsHistory (on_worker w.shared t (record x { stage = stage }) (worker_plan (record x { stage = stage }))).shared.book
+  history_after w t x h p c Look = h
+  history_after w t x h p c Count = h
+  history_after w t x h p c (End count) = h
+  history_after w t x h p c (Copy count end words) = h
+  history_after w t x h p c (Take taken) = h
+  history_after w t x h p c (Mark taken) = answers w.shared.book t x.channel taken (decided w.shared.book t taken) p c refl h
+  history_after w t x h p c (Give taken reply) = h
+  history_after w t x h p c (Reply taken reply at) = h
+  history_after w t x h p c (Ack taken reply) = h
+
+  good_worker : (w : WorldAt) (t : ℕ) → Good script setting w → t < length w.workers → Good script setting (worker_step w t)
+  good_worker w t good there = record {
+    kept = worker_keeps w t good.kept there;
+    runs = worker_runs script w t good.kept good.runs there;
+    setting_is = worker_setting w t good.kept there ∙ good.setting_is;
+    history = history_after w t (worker_at w t) good.history (worker_policy w t good.kept there) (worker_channel w t good.kept there) (worker_at w t).stage;
+    fits = good.fits;
+  }
+
+  -- the results of a thread after its step
+  fits_more : (t k : ℕ) (x : RunAt) (ended : Option StmtResult) → x.thread.target ≡ t → x.thread.thread ≡ k → length x.results ≡ x.thread.place
+      → RunFits script t k x → IfSome ended (λ r. IsOwnResult script x.thread r) → (i : ℕ) (r : StmtResult) → slice_get (x.results ++ option_to_list ended) i ≡ Some r
+      → (s : Statement) × (statement_at script t k i ≡ Some s) × (is_result_of s r ≡ true)
+  fits_more t k x ended et ek counted fits own i r e = ⊎_elim (λ h. fits i r h) (λ h. last ended own h) (behind x.results ended i r e)
+    where
+      placed : (place : ℕ) (q : StmtResult) → i ≡ place → (s : Statement) × (statement_at script x.thread.target x.thread.thread place ≡ Some s) × (is_result_of s q ≡ true)
+          → (s : Statement) × (statement_at script t k i ≡ Some s) × (is_result_of s q ≡ true)
+      placed place q f own = (own.0, ap (λ (z : ℕ × ℕ × ℕ). statement_at script z.0 z.1 z.2) (λ j. (sym et j, sym ek j, f j)) ∙ own.1, own.2)
+
+      last : (ended : Option StmtResult) → IfSome ended (λ r. IsOwnResult script x.thread r) → (i ≡ length x.results) × (ended ≡ Some r)
+          → (s : Statement) × (statement_at script t k i ≡ Some s) × (is_result_of s r ≡ true)
+      last None own h = absurd (none_some r h.1)
+        where
+          none_some : (r : StmtResult) → ◌≡◌ {A = Option StmtResult} None (Some r) → ⊥
+          none_some r e = cc
+      last (Some q) own h =
+          subst (λ z. (s : Statement) × (statement_at script t k i ≡ Some s) × (is_result_of s z ≡ true)) (same q r h.1) (placed x.thread.place q (h.0 ∙ counted) own)
+        where
+          same : (q r : StmtResult) → ◌≡◌ {A = Option StmtResult} (Some q) (Some r) → q ≡ r
+          same q r e = cc
+
+  good_thread : (w : WorldAt) (t k : ℕ) → Good script setting w → is_there script.targets (Thread t k) ≡ true → Good script setting (step script w (Thread t k))
+  good_thread w t k good e =
+      let there = thread_is_there script w t k good.runs e in
+      let kept = step_keeps statements script w (Thread t k) good.kept good.runs e in
+      let book = thread_book script w t k good.kept good.runs there statements in
+      let x = good.kept.threads t k there in
+      let told = facts script w t k good.kept good.runs there statements in
+      let next = thread_after script (run_at w t k).thread (on_word w.shared (thread_plan script (run_at w t k).thread)).seen in
+      let y : RunAt = record { thread = next.thread; results = (run_at w t k).results ++ option_to_list next.ended } in
+      record {
+        kept = kept.0;
+        runs = kept.1;
+        setting_is = ap (λ b. b.setting) book ∙ good.setting_is;
+        history = subst IsHistory (sym book) good.history;
+        fits = each_set (RunFits script) no_run w.threads t k y (listed w.threads t k there) there good.fits
+            (fits_more t k (run_at w t k) next.ended x.its_target x.its_number x.counted (good.fits t k there) told.own);
+      }
+
+  pub good_step : (w : WorldAt) (actor : Actor) → Good script setting w → is_there script.targets actor ≡ true → Good script setting (step script w actor)
+  good_step w (Worker t) good e = good_worker w t good (worker_is_there script w t good.kept good.runs e)
+  good_step w (Thread t k) good e = good_thread w t k good e
+
+  pub good_steps : (actors : List Actor) (w : WorldAt) → Good script setting w → are_there script.targets actors ≡ true → Good script setting (steps script actors w)
+  good_steps [] w good e = good
+  good_steps (actor ∷ actors) w good e =
+      let parts = and_parts (is_there script.targets actor) (are_there script.targets actors) e in
+      good_steps actors (step script w actor) (good_step w actor good parts.0) parts.1
+
+  chosen : (b : Bool) (v w : WorldAt) → Good script setting v → Good script setting w → Good script setting (elim b [ true ↦ v | false ↦ w ])
+  chosen true v w x y = x
+  chosen false v w x y = y
+
+  pub good_rounds : (n : ℕ) (w : WorldAt) → Good script setting w → are_there script.targets (round_actors script.targets) ≡ true → Good script setting (rounds n script w)
+  good_rounds zero w good e = good
+  good_rounds (suc n) w good e =
+      chosen (all_finished script w) w (rounds n script (round script w)) good
+      (good_rounds n (round script w) (good_steps (round_actors script.targets) w good e) e)
+
+  good_pass : (n : ℕ) (w : WorldAt) → Good script setting w → n ≤ length w.workers
+      → Good script setting (pass_below n w) × (length (pass_below n w).workers ≡ length w.workers)
+  good_pass zero w good l = (good, refl)
+  good_pass (suc n) w good l =
+      let before = good_pass n w good (omega (arith, l)) in
+      let same = before.1 in
+      (good_worker (pass_below n w) n before.0 (omega (arith, same, l)), kept_length (pass_below n w) n ∙ same)
+    where
+      kept_length : (w : WorldAt) (t : ℕ) → length (worker_step w t).workers ≡ length w.workers
+      kept_length w t = length-set w.workers t _
+
+  pub good_drained : (n : ℕ) (w : WorldAt) → Good script setting w → Good script setting (drained_by n w)
+  good_drained zero w good = good
+  good_drained (suc n) w good =
+      let within : length w.workers ≤ length w.workers = omega arith in
+      chosen (is_settled w) w (drained_by n (one_pass w)) good (good_drained n (one_pass w) (good_pass (length w.workers) w good within).0)
+
+-- the actors of a round are there
+all_append : (p : Actor → Bool) (xs ys : List Actor) → list_all p xs ≡ true → list_all p ys ≡ true → list_all p (xs ++ ys) ≡ true
+all_append p [] ys h k = k
+all_append p (x ∷ xs) ys h k =
+    let parts = and_parts (p x) (list_all p xs) h in
+    let rest = all_append p xs ys parts.1 k in
+    rw (parts.0, rest) refl
+
+single : (p : Actor → Bool) (x : Actor) → p x ≡ true → list_all p (x ∷ []) ≡ true
+single p x e = rw e refl
+
+threads_there : (targets : List TargetScript) (t n : ℕ) → n ≤ thread_count (slice_get targets t) → are_there targets (first_threads t n) ≡ true
+threads_there targets t zero l = refl
+threads_there targets t (suc n) l =
+    all_append (is_there targets) (first_threads t n) (Thread t n ∷ []) (threads_there targets t n (omega (arith, l)))
+    (single (is_there targets) (Thread t n) (is_below n (thread_count (slice_get targets t)) (omega (arith, l))))
+  where
+    is_below : (a b : ℕ) → a < b → nat_lt a b ≡ true
+    is_below a b h = grind (arith, nat_tests)
+
+target_there : (targets : List TargetScript) (t : ℕ) → t < length targets → are_there targets (target_actors targets t) ≡ true
+target_there targets t l =
+    let first : is_there targets (Worker t) ≡ true = is_below t (length targets) l in
+    let rest = threads_there targets t (thread_count (slice_get targets t)) (itself (thread_count (slice_get targets t))) in
+    rw (first, rest) refl
+  where
+    is_below : (a b : ℕ) → a < b → nat_lt a b ≡ true
+    is_below a b h = grind (arith, nat_tests)
+
+    itself : (n : ℕ) → n ≤ n
+    itself n = omega arith
+
+actors_there : (targets : List TargetScript) (n : ℕ) → n ≤ length targets → are_there targets (first_actors targets n) ≡ true
+actors_there targets zero l = refl
+actors_there targets (suc n) l =
+    all_append (is_there targets) (first_actors targets n) (target_actors targets n) (actors_there targets n (omega (arith, l))) (target_there targets n (omega (arith, l)))
+
+pub rounds_there : (targets : List TargetScript) → are_there targets (round_actors targets) ≡ true
+rounds_there targets = let within : length targets ≤ length targets = omega arith in actors_there targets (length targets) within
+
+-- and those of a schedule
+replicated : (targets : List TargetScript) (actor : Actor) (n : ℕ) → is_there targets actor ≡ true → are_there targets (replicate n actor) ≡ true
+replicated targets actor zero e = refl
+replicated targets actor (suc n) e = let rest = replicated targets actor n e in rw (e, rest) refl
+
+pub scheduled_there : (targets : List TargetScript) (entries : List (Actor × ℕ)) → list_all (is_step_there targets) entries ≡ true → are_there targets (scheduled entries) ≡ true
+scheduled_there targets [] e = refl
+scheduled_there targets (entry ∷ entries) e =
+    let parts = and_parts (is_step_there targets entry) (list_all (is_step_there targets) entries) e in
+    all_append (is_there targets) (replicate entry.1 entry.0) (scheduled entries) (replicated targets entry.0 entry.1 parts.0) (scheduled_there targets entries parts.1)

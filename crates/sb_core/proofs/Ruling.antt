@@ -1,0 +1,204 @@
+-- What each world of a script keeps beside its type: the rule for each target, and of each thread that it gives up no clean channel, that a wait makes the
+-- loads of its statement, and that each result suits its statement.
+use Rattle.std.proofs.Common.{◌≡◌, ◌∙◌, refl, ap, subst, sym, ℕ, zero, suc, ◌<◌, ◌≤◌, Bool, true, false, ⊎_elim, List, [], ◌∷◌, ◌++◌, length, length-set, Option, None, Some, IfSome, slice_get, arith}
+use Rattle.std.proofs.lemmas.Bool.{and_parts}
+use Rattle.std.specs.Option.{option_to_list}
+use Rattle.sb_actor.specs.Fitting.{Suits}
+use Rattle.sb_actor.specs.Places.{begun, clean_channels, mark_at, statement_at}
+use Rattle.sb_actor.specs.ThreadFollowing.{GivesUp}
+use Rattle.sb_actor.specs.ThreadTable.{thread_after, thread_plan}
+use Rattle.sb_book.specs.Readiness.{is_ready}
+use Rattle.sb_rule.specs.declared.policies.Policy.{Policy}
+use Rattle.sb_statements.specs.Actors.{is_there, thread_count}
+use Rattle.sb_statements.specs.Soundness.{SoundStatements, SoundTargets, channels_of}
+use Rattle.sb_statements.specs.declared.results.StmtResult.{StmtResult}
+use Rattle.sb_statements.specs.declared.schedules.Actor.{Actor}
+use Rattle.sb_statements.specs.declared.schedules.Actor.TheVariants.{Thread, Worker}
+use Rattle.sb_statements.specs.declared.schedules.Schedule.{Schedule}
+use Rattle.sb_statements.specs.declared.scripts.Script.{Script}
+use Rattle.sb_statements.specs.declared.statements.Statement.{Statement}
+use Rattle.sb_core.specs.Actors.{are_there, round_actors, scheduled}
+use Rattle.sb_core.specs.Drains.{drained, drained_by, is_settled, most_passes, one_pass, pass_below}
+use Rattle.sb_core.specs.Kept.{IsRunning, IsWorld}
+use Rattle.sb_core.specs.Rules.{AreInRule, RuleHolds, RunsKeepRule}
+use Rattle.sb_core.specs.Runs.{CanRun, played}
+use Rattle.sb_core.specs.Shared.{on_word}
+use Rattle.sb_core.specs.Threads.{RunAt, no_run}
+use Rattle.sb_core.specs.Views.{AreViews, HasUnits, InRule}
+use Rattle.sb_core.specs.Words.{free_channels}
+use Rattle.sb_core.specs.Worlds.{WorldAt, all_finished, first_runs, first_worker, first_workers, no_worker, round, rounds, run_at, start_world, step, steps, threads_at, worker_at, worker_step}
+use Rattle.sb_core.proofs.Keeping.{worker_keeps}
+use Rattle.sb_core.proofs.Opening.{opening_views}
+use Rattle.sb_core.proofs.Reaching.{behind, rounds_there, scheduled_there}
+use Rattle.sb_core.proofs.Running.{step_keeps, thread_is_there, worker_is_there, worker_runs}
+use Rattle.sb_core.proofs.Seating.{SeatLaws}
+use Rattle.sb_core.proofs.Sets.{each_set}
+use Rattle.sb_core.proofs.Starting.{each_is, runs_of, start_run, starts_running, starts_world, words_at}
+use Rattle.sb_core.proofs.There.{as_many, listed}
+use Rattle.sb_core.proofs.ThreadRuling.{thread_rules, tidings}
+use Rattle.sb_core.proofs.Tidings.{SuitsStatement, Waits, waits_first}
+use Rattle.sb_core.proofs.WorkerRuling.{worker_rules}
+
+-- each result of a thread suits the statement at its place
+abbrev pub RunSuits : Script → ℕ → ℕ → RunAt → Type 0
+RunSuits script t k x = (i : ℕ) (r : StmtResult) → slice_get x.results i ≡ Some r
+    → (s : Statement) × (statement_at script t k i ≡ Some s) × Suits (clean_channels script t) (mark_at k i) s r
+
+pub record Ruled (script : Script) (w : WorldAt) : Type 0 where
+  pub kept : IsWorld w
+  pub runs : IsRunning script w
+  pub gives : (t k : ℕ) → k < length (threads_at w t) → GivesUp (run_at w t k).thread.clean (run_at w t k).thread.stage
+  pub waits : (t k : ℕ) → k < length (threads_at w t) → Waits script (run_at w t k).thread (run_at w t k).thread.stage
+  pub suits : (t k : ℕ) → k < length (threads_at w t) → RunSuits script t k (run_at w t k)
+  pub rule : (t : ℕ) → t < length w.workers → InRule script w t
+
+module _ (laws : SeatLaws) (targets : SoundTargets) (statements : SoundStatements) (script : Script) where
+  -- at the start
+  pub ruled_start : (policies : List Policy) → is_ready policies script ≡ true → Ruled script (start_world policies script)
+  ruled_start policies h = record {
+    kept = kept;
+    runs = runs;
+    gives = λ t k l. subst (λ (x : RunAt). GivesUp x.thread.clean x.thread.stage) (sym (start_run targets statements policies script h t k l)) (laws.gives_up.0 script t k);
+    waits = λ t k l. subst (λ (x : RunAt). Waits script x.thread x.thread.stage) (sym (start_run targets statements policies script h t k l))
+        (waits_first script (begun script t k) (statement_at script t k 0) refl);
+    suits = λ t k l i r e. absurd (none_of i r (ap (λ (x : RunAt). slice_get x.results i) (sym (start_run targets statements policies script h t k l)) ∙ e));
+    rule = λ t l. opens t (subst (λ n. t < n) (as_many script (start_world policies script) kept runs) l);
+  }
+    where
+      kept : IsWorld (start_world policies script)
+      kept = starts_world targets statements policies script h
+
+      runs : IsRunning script (start_world policies script)
+      runs = starts_running targets statements policies script h
+
+      none_of : (i : ℕ) (r : StmtResult) → ◌≡◌ {A = Option StmtResult} (slice_get [] i) (Some r) → ⊥
+      none_of i r e = cc
+
+      opens : (t : ℕ) → t < length script.targets → InRule script (start_world policies script) t
+      opens t l =
+          let v = opening_views laws script t (thread_count (slice_get script.targets t)) in (
+            v.0,
+            subst (λ (q : List ℕ × List RunAt). AreViews script t q.0 [] (worker_at (start_world policies script) t) q.1 v.0)
+                (λ j. (sym (words_at script.targets t) j, sym (runs_of targets statements policies script h t l) j))
+                (subst (λ q. AreViews script t (free_channels (channels_of (slice_get script.targets t))) [] q (first_runs script t (thread_count (slice_get script.targets t))) v.0)
+                (sym (each_is (first_worker script.targets) (first_workers script.targets) refl (λ n. refl) (length script.targets) t no_worker l)) v.1),
+          )
+
+  -- a step of a worker
+  ruled_worker : (w : WorldAt) (t : ℕ) → Ruled script w → t < length w.workers → Ruled script (worker_step w t)
+  ruled_worker w t r there = record {
+    kept = worker_keeps w t r.kept there;
+    runs = worker_runs script w t r.kept r.runs there;
+    gives = r.gives;
+    waits = r.waits;
+    suits = r.suits;
+    rule = worker_rules laws script w t r.kept there r.rule;
+  }
+
+  module _ (units : HasUnits script) where
+    -- the results of a thread after its step
+    suits_more : (t k : ℕ) (x : RunAt) (ended : Option StmtResult) → x.thread.target ≡ t → x.thread.thread ≡ k → x.thread.clean ≡ clean_channels script t → length x.results ≡ x.thread.place
+        → RunSuits script t k x → IfSome ended (λ r. SuitsStatement script x.thread r) → (i : ℕ) (r : StmtResult) → slice_get (x.results ++ option_to_list ended) i ≡ Some r
+        → (s : Statement) × (statement_at script t k i ≡ Some s) × Suits (clean_channels script t) (mark_at k i) s r
+    suits_more t k x ended et ek ec counted suits own i r e = ⊎_elim (λ h. suits i r h) (λ h. last ended own h) (behind x.results ended i r e)
+      where
+        placed : (place : ℕ) (q : StmtResult) → i ≡ place
+            → (s : Statement) × (statement_at script x.thread.target x.thread.thread place ≡ Some s) × Suits x.thread.clean (mark_at x.thread.thread place) s q
+            → (s : Statement) × (statement_at script t k i ≡ Some s) × Suits (clean_channels script t) (mark_at k i) s q
+        placed place q f own = (
+          own.0,
+          ap (λ (z : ℕ × ℕ × ℕ). statement_at script z.0 z.1 z.2) (λ j. (sym et j, sym ek j, f j)) ∙ own.1,
+          subst (λ (z : List Bool × ℕ × ℕ). Suits z.0 (mark_at z.1 z.2) own.0 q) (λ j. (ec j, ek j, sym f j)) own.2,
+        )
+
+        last : (ended : Option StmtResult) → IfSome ended (λ r. SuitsStatement script x.thread r) → (i ≡ length x.results) × (ended ≡ Some r)
+            → (s : Statement) × (statement_at script t k i ≡ Some s) × Suits (clean_channels script t) (mark_at k i) s r
+        last None own h = absurd (none_some r h.1)
+          where
+            none_some : (r : StmtResult) → ◌≡◌ {A = Option StmtResult} None (Some r) → ⊥
+            none_some r e = cc
+        last (Some q) own h =
+            subst (λ z. (s : Statement) × (statement_at script t k i ≡ Some s) × Suits (clean_channels script t) (mark_at k i) s z) (same q r h.1) (placed x.thread.place q (h.0 ∙ counted) own)
+          where
+            same : (q r : StmtResult) → ◌≡◌ {A = Option StmtResult} (Some q) (Some r) → q ≡ r
+            same q r e = cc
+
+    ruled_thread : (w : WorldAt) (t k : ℕ) → Ruled script w → is_there script.targets (Thread t k) ≡ true → Ruled script (step script w (Thread t k))
+    ruled_thread w t k r e =
+        let there = thread_is_there script w t k r.runs e in
+        let kept = step_keeps statements script w (Thread t k) r.kept r.runs e in
+        let x = r.kept.threads t k there in
+        let at = r.runs.stands t k there in
+        let seen = (on_word w.shared (thread_plan script (run_at w t k).thread)).seen in
+        let next = thread_after script (run_at w t k).thread seen in
+        let told = tidings laws statements targets script units w t k r.kept r.runs r.rule there (r.gives t k there) (r.waits t k there) in
+        let y : RunAt = record { thread = next.thread; results = (run_at w t k).results ++ option_to_list next.ended } in
+        let here = listed w.threads t k there in
+        record {
+          kept = kept.0;
+          runs = kept.1;
+          gives = each_set (λ u j (z : RunAt). GivesUp z.thread.clean z.thread.stage) no_run w.threads t k y here there r.gives
+              (laws.gives_up.1 script (run_at w t k).thread seen (r.gives t k there));
+          waits = each_set (λ u j (z : RunAt). Waits script z.thread z.thread.stage) no_run w.threads t k y here there r.waits told.waits;
+          suits = each_set (RunSuits script) no_run w.threads t k y here there r.suits
+              (suits_more t k (run_at w t k) next.ended x.its_target x.its_number (at.clean ∙ ap (λ u. clean_channels script u) x.its_target) x.counted (r.suits t k there) told.suits);
+          rule = thread_rules laws statements targets script units w t k r.kept r.runs r.rule there (r.gives t k there) (r.waits t k there);
+        }
+
+    pub ruled_step : (w : WorldAt) (actor : Actor) → Ruled script w → is_there script.targets actor ≡ true → Ruled script (step script w actor)
+    ruled_step w (Worker t) r e = ruled_worker w t r (worker_is_there script w t r.kept r.runs e)
+    ruled_step w (Thread t k) r e = ruled_thread w t k r e
+
+    pub ruled_steps : (actors : List Actor) (w : WorldAt) → Ruled script w → are_there script.targets actors ≡ true → Ruled script (steps script actors w)
+    ruled_steps [] w r e = r
+    ruled_steps (actor ∷ actors) w r e =
+        let parts = and_parts (is_there script.targets actor) (are_there script.targets actors) e in
+        ruled_steps actors (step script w actor) (ruled_step w actor r parts.0) parts.1
+
+    chosen : (b : Bool) (v w : WorldAt) → Ruled script v → Ruled script w → Ruled script (elim b [ true ↦ v | false ↦ w ])
+    chosen true v w x y = x
+    chosen false v w x y = y
+
+    pub ruled_rounds : (n : ℕ) (w : WorldAt) → Ruled script w → are_there script.targets (round_actors script.targets) ≡ true → Ruled script (rounds n script w)
+    ruled_rounds zero w r e = r
+    ruled_rounds (suc n) w r e =
+        chosen (all_finished script w) w (rounds n script (round script w)) r
+        (ruled_rounds n (round script w) (ruled_steps (round_actors script.targets) w r e) e)
+
+    ruled_pass : (n : ℕ) (w : WorldAt) → Ruled script w → n ≤ length w.workers → Ruled script (pass_below n w) × (length (pass_below n w).workers ≡ length w.workers)
+    ruled_pass zero w r l = (r, refl)
+    ruled_pass (suc n) w r l =
+        let before = ruled_pass n w r (omega (arith, l)) in
+        let same = before.1 in
+        (ruled_worker (pass_below n w) n before.0 (omega (arith, same, l)), length-set (pass_below n w).workers n _ ∙ same)
+
+    pub ruled_drained : (n : ℕ) (w : WorldAt) → Ruled script w → Ruled script (drained_by n w)
+    ruled_drained zero w r = r
+    ruled_drained (suc n) w r =
+        let within : length w.workers ≤ length w.workers = omega arith in
+        chosen (is_settled w) w (drained_by n (one_pass w)) r (ruled_drained n (one_pass w) (ruled_pass (length w.workers) w r within).0)
+
+    -- a run, and its drain
+    pub ruled_played : (policies : List Policy) (schedule : Schedule) → CanRun policies script schedule → Ruled script (played policies script schedule)
+    ruled_played policies schedule can =
+        ruled_rounds schedule.rounds (steps script (scheduled schedule.steps) (start_world policies script))
+        (ruled_steps (scheduled schedule.steps) (start_world policies script) (ruled_start policies can.ready) (scheduled_there script.targets schedule.steps can.there))
+        (rounds_there script.targets)
+
+    pub ruled_end : (policies : List Policy) (schedule : Schedule) → CanRun policies script schedule → Ruled script (drained (played policies script schedule))
+    ruled_end policies schedule can = ruled_drained most_passes (played policies script schedule) (ruled_played policies schedule can)
+
+  -- each target of such a world
+  pub rule_of : (w : WorldAt) → Ruled script w → AreInRule script w
+  rule_of w r t l = r.rule t (subst (λ n. t < n) (sym (as_many script w r.kept r.runs)) l)
+
+pub rule_holds : SeatLaws → SoundTargets → SoundStatements → RuleHolds
+rule_holds laws targets statements policies script actors ready units there =
+    rule_of laws targets statements script (steps script actors (start_world policies script))
+    (ruled_steps laws targets statements script units actors (start_world policies script) (ruled_start laws targets statements script policies ready) there)
+
+pub runs_keep_rule : SeatLaws → SoundTargets → SoundStatements → RunsKeepRule
+runs_keep_rule laws targets statements policies script schedule can units = (
+  rule_of laws targets statements script (played policies script schedule) (ruled_played laws targets statements script units policies schedule can),
+  rule_of laws targets statements script (drained (played policies script schedule)) (ruled_end laws targets statements script units policies schedule can),
+)

@@ -1,0 +1,472 @@
+-- In every world of a script the entries on a channel, with one that is owed, are at most what threads handed over there and what made it ready by hand.
+use Rattle.std.proofs.Common.{◌≡◌, ◌≢◌, ◌∙◌, refl, ap, subst, sym, ℕ, zero, suc, ◌+◌, ◌*◌, ◌%◌, ◌<◌, ◌≤◌, Bool, true, false, ◌&&◌, ◌==◌, if◌then◌else◌, List, [], ◌∷◌, ◌++◌, length, length-set, map, set, get_or, get_or-set_same, get_or-set_other, Option, None, Some, slice_get, arith}
+use Rattle.std.proofs.lemmas.Bool.{and_parts}
+use Rattle.std.proofs.lemmas.Bool.Decides.{nat_tests}
+use Rattle.std.proofs.lemmas.List.{set-get_or}
+use Rattle.std.proofs.lemmas.List.Sums.{sum_by-cons, sum_by-set}
+use Rattle.std.specs.List.{sum_by}
+use Rattle.std.specs.Option.{option_to_list}
+use Rattle.std.specs.Prelude.{slice_index}
+use native.Mathlib.Decide.{ℕ_discrete}
+use Rattle.sb_actor.specs.Acts.{value_in}
+use Rattle.sb_actor.specs.Moves.{at}
+use Rattle.sb_actor.specs.Places.{statement_at, statements_of}
+use Rattle.sb_actor.specs.ThreadTable.{thread_after, thread_plan}
+use Rattle.sb_actor.specs.WorkerStages.{WorkerStage, WorkerAt, Look, Count, End, Copy, Take, Mark, Give, Reply, Ack}
+use Rattle.sb_actor.specs.WorkerTable.{worker_plan}
+use Rattle.sb_actor.specs.declared.acts.Act.{Act}
+use Rattle.sb_actor.specs.declared.acts.Act.TheVariants as act
+use Rattle.sb_book.specs.Histories.{entry_of}
+use Rattle.sb_book.specs.Readiness.{is_ready}
+use Rattle.sb_book.specs.declared.entries.Entry.{Entry}
+use Rattle.sb_rule.specs.declared.policies.Policy.{Policy}
+use Rattle.sb_statements.specs.Actors.{is_there}
+use Rattle.sb_statements.specs.Soundness.{SoundStatements, SoundTargets, channels_of}
+use Rattle.sb_statements.specs.declared.schedules.Actor.{Actor}
+use Rattle.sb_statements.specs.declared.schedules.Actor.TheVariants.{Thread, Worker}
+use Rattle.sb_statements.specs.declared.schedules.Schedule.{Schedule}
+use Rattle.sb_statements.specs.declared.scripts.Script.{Script}
+use Rattle.sb_statements.specs.declared.statements.Word.{Word}
+use Rattle.sb_core.specs.Actors.{are_there, round_actors, scheduled}
+use Rattle.sb_core.specs.Drains.{drained, drained_by, is_settled, most_passes, one_pass, pass_below}
+use Rattle.sb_core.specs.Kept.{IsRunning, IsWorkerOf, IsWorld}
+use Rattle.sb_core.specs.Reports.{results_of}
+use Rattle.sb_core.specs.Runs.{CanRun, ended, played}
+use Rattle.sb_core.specs.Shared.{IsActThere, SharedAt, decided, on_word, on_worker}
+use Rattle.sb_core.specs.Tallies.{EntriesAreFew, entries_on, is_state, one_if, tally_from, tally_targets, tally_threads}
+use Rattle.sb_core.specs.Threads.{RunAt, first_unfinished, no_run}
+use Rattle.sb_core.specs.Words.{free_channels, loaded, place_of, stored, words_of}
+use Rattle.sb_core.specs.Worlds.{WorldAt, all_finished, first_worker, first_workers, no_worker, round, rounds, run_at, start_world, step, steps, threads_at, worker_at, worker_goes, worker_step}
+use Rattle.sb_core.proofs.Draining.{drained_threads}
+use Rattle.sb_core.proofs.Judging.{none_behind, over_is}
+use Rattle.sb_core.proofs.Keeping.{step_moves, worker_keeps}
+use Rattle.sb_core.proofs.Reaching.{rounds_there, scheduled_there}
+use Rattle.sb_core.proofs.RunLaws.{each_finished}
+use Rattle.sb_core.proofs.Running.{step_keeps, thread_is_there, worker_is_there, worker_runs}
+use Rattle.sb_core.proofs.Settling.{other_stays}
+use Rattle.sb_core.proofs.Opening.{opened}
+use Rattle.sb_core.proofs.Starting.{each_is, free_length, starts_running, starts_world, words_at}
+use Rattle.sb_core.proofs.There.{as_many, listed, sized_words, sound_at, thread_there}
+use Rattle.sb_core.proofs.ThreadKeeping.{facts, thread_book, word_keeps}
+use Rattle.sb_core.proofs.ThreadSources.{row_writes}
+use Rattle.sb_core.proofs.ThreadTallies.{has_sent, readies, row_counted, tally_in, tally_more}
+use Rattle.sb_core.proofs.Sourcing.{WritesSource}
+use Rattle.sb_core.proofs.WorkerTallies.{entries_more, looking_owed, owed, owed_by, own_owed}
+
+-- what a thread handed over on a channel, and what it made ready by hand
+abbrev weight : Script → ℕ → ℕ → RunAt → ℕ
+weight script t c x = one_if (x.thread.target == t && has_sent c x.thread.stage) + tally_from script t c x.thread.target x.thread.thread 0 x.results
+
+abbrev row_weight : Script → ℕ → ℕ → List RunAt → ℕ
+row_weight script t c runs = sum_by (weight script t c) runs
+
+abbrev total : Script → ℕ → ℕ → List (List RunAt) → ℕ
+total script t c threads = sum_by (row_weight script t c) threads
+
+pub record Tallied (script : Script) (w : WorldAt) : Type 0 where
+  pub kept : IsWorld w
+  pub runs : IsRunning script w
+  pub few : (t c : ℕ) → t < length w.workers → at c 0 < length (words_of w.shared.words t)
+      → entries_on t c w.shared.book.entries + owed (worker_at w t) c (slice_index (words_of w.shared.words t) (at c 0)) ≤ total script t c w.threads
+
+-- the worker of a target, on its own channels
+own_few : (w : WorldAt) (t : ℕ) → IsWorld w → t < length w.workers → (c : ℕ) → at c 0 < length (words_of (worker_step w t).shared.words t)
+    → (at c 0 < length (words_of w.shared.words t))
+    × (entries_on t c (worker_step w t).shared.book.entries + owed (worker_at (worker_step w t) t) c (slice_index (words_of (worker_step w t).shared.words t) (at c 0))
+    ≤ entries_on t c w.shared.book.entries + owed (worker_at w t) c (slice_index (words_of w.shared.words t) (at c 0)))
+own_few w t kept there c inside =
+    let k = kept.workers t there in
+    by_target (worker_at w t).target (worker_at w t).channels (worker_at w t).channel (worker_at w t).stage k.its_target k inside
+  where
+    by_target : (target channels channel : ℕ) (stage : WorkerStage) → target ≡ t
+        → IsWorkerOf w t (record { target = target; channels = channels; channel = channel; stage = stage })
+        → at c 0 < length (words_of (on_worker w.shared t (record { target = target; channels = channels; channel = channel; stage = stage })
+        (worker_plan (record { target = target; channels = channels; channel = channel; stage = stage }))).shared.words t)
+        → (at c 0 < length (words_of w.shared.words t))
+        × (entries_on t c (on_worker w.shared t (record { target = target; channels = channels; channel = channel; stage = stage })
+        (worker_plan (record { target = target; channels = channels; channel = channel; stage = stage }))).shared.book.entries
+        + owed (worker_at (worker_goes w t (record { target = target; channels = channels; channel = channel; stage = stage })
+        (on_worker w.shared t (record { target = target; channels = channels; channel = channel; stage = stage })
+        (worker_plan (record { target = target; channels = channels; channel = channel; stage = stage })))) t) c
+        (slice_index (words_of (on_worker w.shared t (record { target = target; channels = channels; channel = channel; stage = stage })
+        (worker_plan (record { target = target; channels = channels; channel = channel; stage = stage }))).shared.words t) (at c 0))
+        ≤ entries_on t c w.shared.book.entries + owed_by (channel == c) stage (slice_index (words_of w.shared.words t) (at c 0)))
+    by_target target channels channel stage e k inside =
+        subst (λ z. at c 0 < length (words_of (on_worker w.shared t (record { target = z; channels = channels; channel = channel; stage = stage })
+        (worker_plan (record { target = z; channels = channels; channel = channel; stage = stage }))).shared.words t)
+        → (at c 0 < length (words_of w.shared.words t))
+        × (entries_on t c (on_worker w.shared t (record { target = z; channels = channels; channel = channel; stage = stage })
+        (worker_plan (record { target = z; channels = channels; channel = channel; stage = stage }))).shared.book.entries
+        + owed (worker_at (worker_goes w t (record { target = z; channels = channels; channel = channel; stage = stage })
+        (on_worker w.shared t (record { target = z; channels = channels; channel = channel; stage = stage })
+        (worker_plan (record { target = z; channels = channels; channel = channel; stage = stage })))) t) c
+        (slice_index (words_of (on_worker w.shared t (record { target = z; channels = channels; channel = channel; stage = stage })
+        (worker_plan (record { target = z; channels = channels; channel = channel; stage = stage }))).shared.words t) (at c 0))
+        ≤ entries_on t c w.shared.book.entries + owed_by (channel == c) stage (slice_index (words_of w.shared.words t) (at c 0)))) (sym e)
+        (λ q.
+        let low : at c 0 < length (words_of w.shared.words t) = subst (λ n. at c 0 < n)
+        ((step_moves w t channels channel kept there k.its_channels k.within k.few k.sized stage k.sound k.turn).sizes t) q in (
+          low,
+          subst (λ (y : WorkerAt). entries_on t c (on_worker w.shared t (record { target = t; channels = channels; channel = channel; stage = stage })
+              (worker_plan (record { target = t; channels = channels; channel = channel; stage = stage }))).shared.book.entries
+              + owed y c (slice_index (words_of (on_worker w.shared t (record { target = t; channels = channels; channel = channel; stage = stage })
+              (worker_plan (record { target = t; channels = channels; channel = channel; stage = stage }))).shared.words t) (at c 0))
+              ≤ entries_on t c w.shared.book.entries + owed_by (channel == c) stage (slice_index (words_of w.shared.words t) (at c 0)))
+              (sym (get_or-set_same w.workers t _ no_worker there)) (own_owed w t channels channel kept there c low stage k.sound),
+        ))
+        inside
+
+-- the entries of another target
+module _ (w : WorldAt) (t u c : ℕ) (x : WorkerAt) (ne : u ≢ t) where
+  other_entries : (stage : WorkerStage) → entries_on u c (on_worker w.shared t (record x { stage = stage }) (worker_plan (record x { stage = stage }))).shared.book.entries ≡ entries_on u c w.shared.book.entries
+  other_entries Look = refl
+  other_entries Count = refl
+  other_entries (End count) = refl
+  other_entries (Copy count end words) = refl
+  other_entries (Take taken) = refl
+  other_entries (Mark taken) =
+      let e = entry_of w.shared.book.space t x.channel taken (decided w.shared.book t taken) in
+      let more = entries_more u c w.shared.book.entries e in
+      let none : one_if (t == u && x.channel == c) ≡ 0 = ap (λ b. one_if (b && x.channel == c)) (apart t u ne) in
+      omega (arith, more, none)
+    where
+      apart : (a b : ℕ) → b ≢ a → (a == b) ≡ false
+      apart a b n = grind (arith, nat_tests)
+  other_entries (Give taken reply) = refl
+  other_entries (Reply taken reply i) = refl
+  other_entries (Ack taken reply) = refl
+
+tallied_worker : (script : Script) (w : WorldAt) (t : ℕ) → Tallied script w → t < length w.workers → Tallied script (worker_step w t)
+tallied_worker script w t r there = record {
+  kept = worker_keeps w t r.kept there;
+  runs = worker_runs script w t r.kept r.runs there;
+  few = λ u c l m. by_place u c (subst (λ n. u < n) (length-set w.workers t _) l) m (ℕ_discrete u t);
+}
+  where
+    by_place : (u c : ℕ) → u < length w.workers → at c 0 < length (words_of (worker_step w t).shared.words u) → Dec (u ≡ t)
+        → entries_on u c (worker_step w t).shared.book.entries + owed (worker_at (worker_step w t) u) c (slice_index (words_of (worker_step w t).shared.words u) (at c 0)) ≤ total script u c w.threads
+    by_place u c l m (yes e) =
+        subst (λ z. at c 0 < length (words_of (worker_step w t).shared.words z)
+        → entries_on z c (worker_step w t).shared.book.entries + owed (worker_at (worker_step w t) z) c (slice_index (words_of (worker_step w t).shared.words z) (at c 0)) ≤ total script z c w.threads) (sym e)
+        (λ q. let o = own_few w t r.kept there c q in at_most _ _ _ o.1 (r.few t c there o.0)) m
+      where
+        at_most : (a b c : ℕ) → a ≤ b → b ≤ c → a ≤ c
+        at_most a b c p q = omega (arith, p, q)
+    by_place u c l m (no ne) =
+        let s = other_stays w t u r.kept there ne in
+        let before = r.few u c l (subst (λ (z : List ℕ). at c 0 < length z) s.words m) in
+        subst (λ (z : ℕ × WorkerAt × List ℕ). z.0 + owed z.1 c (slice_index z.2 (at c 0)) ≤ total script u c w.threads)
+        (λ j. (sym (other_entries w t u c (worker_at w t) ne (worker_at w t).stage) j, sym s.worker j, sym s.words j)) before
+
+-- a state becomes 3 where a step makes the channel ready
+same_place : (c : ℕ) (word : Word) → word.at < 65 → place_of word ≡ at c 0 → (word.channel ≡ c) × (word.at ≡ 0)
+same_place c word l e =
+    let one : word.channel ≡ c = omega (arith, e, l) in
+    (one, omega (arith, e, one))
+
+self_same : (x : ℕ) → (x == x) ≡ true
+self_same x = grind (arith, nat_tests)
+
+is_this : (t u c : ℕ) (word : Word) → u ≡ t → word.channel ≡ c → word.at ≡ 0 → is_state t c u word ≡ true
+is_this t u c word e f g =
+    let one : (u == t) ≡ true = ap (λ z. z == t) e ∙ self_same t in
+    let two : (word.channel == c) ≡ true = ap (λ z. z == c) f ∙ self_same c in
+    let three : (word.at == 0) ≡ true = ap (λ z. z == 0) g ∙ self_same 0 in
+    rw (one, two, three) refl
+
+module _ (s : SharedAt) (u c : ℕ) (inside : at c 0 < length (words_of s.words u)) where
+  abbrev state : ℕ
+  state = slice_index (words_of s.words u) (at c 0)
+
+  more : (a b : ℕ) → a ≤ a + b
+  more a b = omega arith
+
+  put : (t : ℕ) (word : Word) (value : ℕ) → t < length s.words → word.at < 65 → (r : ℕ) → (is_state u c t word ≡ true → one_if (value == 3) ≤ r)
+      → one_if (slice_index (words_of (set s.words t (stored (words_of s.words t) word value)) u) (at c 0) == 3) ≤ one_if (state == 3) + r
+  put t word value here low r f = by_target (ℕ_discrete u t)
+    where
+      by_word : u ≡ t → Dec (at c 0 ≡ place_of word) → one_if (slice_index (stored (words_of s.words t) word value) (at c 0) == 3) ≤ one_if (slice_index (words_of s.words t) (at c 0) == 3) + r
+      by_word e (yes p) =
+          let parts = same_place c word low (sym p) in
+          let rises = f (is_this u t c word (sym e) parts.0 parts.1) in
+          let inside_t : place_of word < length (words_of s.words t) =
+          subst (λ z. z < length (words_of s.words t)) p (subst (λ z. at c 0 < length (words_of s.words z)) e inside) in
+          let now : slice_index (stored (words_of s.words t) word value) (at c 0) ≡ value =
+          ap (λ z. slice_index (stored (words_of s.words t) word value) z) p ∙ get_or-set_same (words_of s.words t) (place_of word) value 0 inside_t in
+          let same : one_if (slice_index (stored (words_of s.words t) word value) (at c 0) == 3) ≡ one_if (value == 3) = ap (λ z. one_if (z == 3)) now in
+          omega (arith, rises, same)
+      by_word e (no ne) =
+          let now = get_or-set_other (words_of s.words t) (place_of word) (at c 0) value 0 ne in
+          let same : one_if (slice_index (stored (words_of s.words t) word value) (at c 0) == 3) ≡ one_if (slice_index (words_of s.words t) (at c 0) == 3) = ap (λ z. one_if (z == 3)) now in
+          omega (arith, same)
+
+      by_target : Dec (u ≡ t) → one_if (slice_index (words_of (set s.words t (stored (words_of s.words t) word value)) u) (at c 0) == 3) ≤ one_if (state == 3) + r
+      by_target (yes e) =
+          subst (λ z. one_if (slice_index (words_of (set s.words t (stored (words_of s.words t) word value)) z) (at c 0) == 3) ≤ one_if (slice_index (words_of s.words z) (at c 0) == 3) + r) (sym e)
+          (subst (λ (ws : List ℕ). one_if (slice_index ws (at c 0) == 3) ≤ one_if (slice_index (words_of s.words t) (at c 0) == 3) + r)
+          (sym (get_or-set_same s.words t (stored (words_of s.words t) word value) [] here)) (by_word e (ℕ_discrete (at c 0) (place_of word))))
+      by_target (no ne) =
+          let now = get_or-set_other s.words t u (stored (words_of s.words t) word value) [] ne in
+          let same : one_if (slice_index (words_of (set s.words t (stored (words_of s.words t) word value)) u) (at c 0) == 3) ≡ one_if (state == 3) = ap (λ (ws : List ℕ). one_if (slice_index ws (at c 0) == 3)) now in
+          omega (arith, same)
+
+  state_rises : (script : Script) (es : List Entry) (a : Act) → IsActThere s.words a → WritesSource script es a
+      → one_if (slice_index (words_of (on_word s a).shared.words u) (at c 0) == 3) ≤ one_if (state == 3) + one_if (readies u c a (value_in (on_word s a).seen))
+  state_rises script es (act.Load t word) there w = more (one_if (state == 3)) 0
+  state_rises script es (act.Store t word value) there w =
+      put t word value there.0 w.0 (one_if (is_state u c t word && value == 3)) (λ e. same_test (is_state u c t word) (value == 3) e)
+    where
+      same_test : (a b : Bool) → a ≡ true → one_if b ≤ one_if (a && b)
+      same_test true b e = omega arith
+      same_test false b e = absurd (cc)
+  state_rises script es (act.Exchange t word from to) there w = by_test (loaded (words_of s.words t) word == from) refl
+    where
+      same_test : (a b d : Bool) → a ≡ true → b ≡ true → one_if d ≤ one_if (a && (b && d))
+      same_test true true d e f = omega arith
+      same_test true false d e f = absurd (cc)
+      same_test false b d e f = absurd (cc)
+
+      by_test : (b : Bool) → (loaded (words_of s.words t) word == from) ≡ b
+          → one_if (slice_index (words_of (set s.words t (if b then stored (words_of s.words t) word to else words_of s.words t)) u) (at c 0) == 3)
+          ≤ one_if (state == 3) + one_if (is_state u c t word && (loaded (words_of s.words t) word == from && to == 3))
+      by_test true e =
+          put t word to there.0 w.0 (one_if (is_state u c t word && (loaded (words_of s.words t) word == from && to == 3))) (λ f. same_test (is_state u c t word) (loaded (words_of s.words t) word == from) (to == 3) f e)
+      by_test false e =
+          let as_was = ap (λ (z : List (List ℕ)). one_if (slice_index (words_of z u) (at c 0) == 3)) (set-get_or s.words t []) in
+          omega (arith, as_was)
+  state_rises script es act.Take there w = more (one_if (state == 3)) 0
+  state_rises script es act.Mark there w = more (one_if (state == 3)) 0
+  state_rises script es act.Give there w = more (one_if (state == 3)) 0
+  state_rises script es act.Idle there w = more (one_if (state == 3)) 0
+
+-- what is owed grows by no more
+owed_rises : (b : Bool) (stage : WorkerStage) (s after r : ℕ) → one_if (after == 3) ≤ one_if (s == 3) + r → owed_by b stage after ≤ owed_by b stage s + r
+owed_rises true Look s after r l = l
+owed_rises true Count s after r l = omega arith
+owed_rises true (End count) s after r l = omega arith
+owed_rises true (Copy count end words) s after r l = omega arith
+owed_rises true (Take taken) s after r l = omega arith
+owed_rises true (Mark taken) s after r l = omega arith
+owed_rises true (Give taken reply) s after r l = omega arith
+owed_rises true (Reply taken reply i) s after r l = omega arith
+owed_rises true (Ack taken reply) s after r l = omega arith
+owed_rises false stage s after r l = l
+
+module _ (targets : SoundTargets) (statements : SoundStatements) (script : Script) where
+  tallied_thread : (w : WorldAt) (t k : ℕ) → Tallied script w → is_there script.targets (Thread t k) ≡ true → Tallied script (step script w (Thread t k))
+  tallied_thread w t k r e =
+      let there = thread_is_there script w t k r.runs e in
+      let kept = step_keeps statements script w (Thread t k) r.kept r.runs e in
+      record { kept = kept.0; runs = kept.1; few = λ u c l m. counted there u c l m }
+    where
+      counted : k < length (threads_at w t) → (u c : ℕ) → u < length w.workers → at c 0 < length (words_of (step script w (Thread t k)).shared.words u)
+          → entries_on u c (step script w (Thread t k)).shared.book.entries + owed (worker_at w u) c (slice_index (words_of (step script w (Thread t k)).shared.words u) (at c 0))
+          ≤ total script u c (step script w (Thread t k)).threads
+      counted there u c l m =
+          let x = run_at w t k in
+          let y = x.thread in
+          let its = r.kept.threads t k there in
+          let at_this = r.runs.stands t k there in
+          let plan = thread_plan script y in
+          let act_there = thread_there script w r.kept r.runs t k there statements in
+          let sizes = (word_keeps w.shared plan act_there).sizes u in
+          let inside : at c 0 < length (words_of w.shared.words u) = subst (λ n. at c 0 < n) sizes m in
+          let good = sound_at script y.target y.thread y.place r.runs.sound statements in
+          let seen = (on_word w.shared plan).seen in
+          let next = thread_after script y seen in
+          let z : RunAt = record { thread = next.thread; results = x.results ++ option_to_list next.ended } in
+          let told = facts script w t k r.kept r.runs there statements in
+          let book = ap (λ b. entries_on u c b.entries) (thread_book script w t k r.kept r.runs there statements) in
+          let rises = state_rises w.shared u c inside script w.shared.book.entries plan act_there
+          (row_writes script w.shared.book.entries y y.stage its.sound at_this.calling its.short at_this.block good) in
+          let owes = owed_rises ((worker_at w u).channel == c) (worker_at w u).stage (slice_index (words_of w.shared.words u) (at c 0))
+          (slice_index (words_of (on_word w.shared plan).shared.words u) (at c 0)) (one_if (readies u c plan (value_in seen))) rises in
+          let row = row_counted script u c y y.stage seen in
+          let tallies : tally_from script u c y.target y.thread 0 z.results
+          ≡ tally_from script u c y.target y.thread 0 x.results + tally_in u c y.target (statement_at script y.target y.thread y.place) next.ended =
+          tally_more script u c y.target y.thread 0 y.place x.results next.ended (from_zero (length x.results) y.place its.counted) in
+          let heavy : weight script u c z ≡ one_if (y.target == u && has_sent c next.thread.stage) + tally_from script u c y.target y.thread 0 z.results =
+          ap (λ (q : ℕ × ℕ). one_if (q.0 == u && has_sent c next.thread.stage) + tally_from script u c q.0 q.1 0 z.results) (λ j. (told.its_target j, told.its_number j)) in
+          let in_row = sum_by-set (weight script u c) (threads_at w t) k z no_run there in
+          let in_all = sum_by-set (row_weight script u c) w.threads t (set (threads_at w t) k z) [] (listed w.threads t k there) in
+          let before = r.few u c l inside in
+          put_together _ _ _ _ _ _ _ _ _ _ _ _ _ _ _ book owes before row tallies heavy in_row in_all
+        where
+          from_zero : (a b : ℕ) → a ≡ b → b ≡ 0 + a
+          from_zero a b e = omega (arith, e)
+
+          -- entries, what is owed, weights, sums
+          put_together : (ea eb oa ob rise all sent_b sent_a told_b told_a more wa row_a row_b sum : ℕ) → ea ≡ eb → oa ≤ ob + rise → eb + ob ≤ all → sent_b + rise ≤ sent_a + more → told_a ≡ told_b + more
+              → wa ≡ sent_a + told_a → row_a + (sent_b + told_b) ≡ row_b + wa → sum + row_b ≡ all + row_a → ea + oa ≤ sum
+          put_together ea eb oa ob rise all sent_b sent_a told_b told_a more wa row_a row_b sum p1 p2 p3 p4 p5 p6 p7 p8 = omega (arith, p1, p2, p3, p4, p5, p6, p7, p8)
+
+  -- at the start
+  least : (n : ℕ) → 0 ≤ n
+  least n = omega arith
+
+  start_state : (n c : ℕ) → at c 0 < n * 65 → one_if (slice_index (free_channels n) (at c 0) == 3) ≡ 0
+  start_state n c l =
+      let whole : (at c 0) % 65 ≡ 0 = omega arith in
+      let one : slice_index (free_channels n) (at c 0) ≡ 1 = opened n (at c 0) l ∙ ap (λ z. if z == 0 then 1 else 0) whole in
+      ap (λ z. one_if (z == 3)) one
+
+  tallied_start : (policies : List Policy) → is_ready policies script ≡ true → Tallied script (start_world policies script)
+  tallied_start policies h = record {
+    kept = kept;
+    runs = runs;
+    few = λ t c l m.
+        let n = channels_of (slice_get script.targets t) in
+        let same = words_at script.targets t in
+        let size = free_length n in
+        let state = start_state n c (subst (λ z. at c 0 < z) (ap (λ (z : List ℕ). length z) same ∙ size) m) in
+        let here = subst (λ n. t < n) (as_many script (start_world policies script) kept runs) l in
+        subst (λ (x : WorkerAt). 0 + owed x c (slice_index (words_of (start_world policies script).shared.words t) (at c 0)) ≤ total script t c (start_world policies script).threads)
+        (sym (each_is (first_worker script.targets) (first_workers script.targets) refl (λ n. refl) (length script.targets) t no_worker here))
+        (subst (λ (z : List ℕ). 0 + owed_by (0 == c) Look (slice_index z (at c 0)) ≤ total script t c (start_world policies script).threads) (sym same)
+        (nothing (owed_by (0 == c) Look (slice_index (free_channels n) (at c 0))) (total script t c (start_world policies script).threads)
+        (looking_owed (0 == c) (slice_index (free_channels n) (at c 0)) ∙ state)));
+  }
+    where
+      kept : IsWorld (start_world policies script)
+      kept = starts_world targets statements policies script h
+
+      runs : IsRunning script (start_world policies script)
+      runs = starts_running targets statements policies script h
+
+      nothing : (a b : ℕ) → a ≡ 0 → 0 + a ≤ b
+      nothing a b e = omega (arith, e)
+
+  tallied_step : (w : WorldAt) (actor : Actor) → Tallied script w → is_there script.targets actor ≡ true → Tallied script (step script w actor)
+  tallied_step w (Worker t) r e = tallied_worker script w t r (worker_is_there script w t r.kept r.runs e)
+  tallied_step w (Thread t k) r e = tallied_thread w t k r e
+
+  tallied_steps : (actors : List Actor) (w : WorldAt) → Tallied script w → are_there script.targets actors ≡ true → Tallied script (steps script actors w)
+  tallied_steps [] w r e = r
+  tallied_steps (actor ∷ actors) w r e =
+      let parts = and_parts (is_there script.targets actor) (are_there script.targets actors) e in
+      tallied_steps actors (step script w actor) (tallied_step w actor r parts.0) parts.1
+
+  chosen : (b : Bool) (v w : WorldAt) → Tallied script v → Tallied script w → Tallied script (elim b [ true ↦ v | false ↦ w ])
+  chosen true v w x y = x
+  chosen false v w x y = y
+
+  tallied_rounds : (n : ℕ) (w : WorldAt) → Tallied script w → are_there script.targets (round_actors script.targets) ≡ true → Tallied script (rounds n script w)
+  tallied_rounds zero w r e = r
+  tallied_rounds (suc n) w r e =
+      chosen (all_finished script w) w (rounds n script (round script w)) r
+      (tallied_rounds n (round script w) (tallied_steps (round_actors script.targets) w r e) e)
+
+  tallied_pass : (n : ℕ) (w : WorldAt) → Tallied script w → n ≤ length w.workers → Tallied script (pass_below n w) × (length (pass_below n w).workers ≡ length w.workers)
+  tallied_pass zero w r l = (r, refl)
+  tallied_pass (suc n) w r l =
+      let before = tallied_pass n w r (omega (arith, l)) in
+      let same = before.1 in
+      (tallied_worker script (pass_below n w) n before.0 (omega (arith, same, l)), length-set (pass_below n w).workers n _ ∙ same)
+
+  tallied_drained : (n : ℕ) (w : WorldAt) → Tallied script w → Tallied script (drained_by n w)
+  tallied_drained zero w r = r
+  tallied_drained (suc n) w r =
+      let within : length w.workers ≤ length w.workers = omega arith in
+      chosen (is_settled w) w (drained_by n (one_pass w)) r (tallied_drained n (one_pass w) (tallied_pass (length w.workers) w r within).0)
+
+  tallied_end : (policies : List Policy) (schedule : Schedule) → CanRun policies script schedule → Tallied script (drained (played policies script schedule))
+  tallied_end policies schedule can =
+      tallied_drained most_passes (played policies script schedule)
+      (tallied_rounds schedule.rounds (steps script (scheduled schedule.steps) (start_world policies script))
+      (tallied_steps (scheduled schedule.steps) (start_world policies script) (tallied_start policies can.ready) (scheduled_there script.targets schedule.steps can.there))
+      (rounds_there script.targets))
+
+-- where no thread is within a call the weights are the tallies of the results
+pub record Outside (script : Script) (c u k : ℕ) (x : RunAt) : Type 0 where
+  pub its_target : x.thread.target ≡ u
+  pub its_number : x.thread.thread ≡ k
+  pub not_sent : has_sent c x.thread.stage ≡ false
+
+one_weight : (script : Script) (t c u k : ℕ) (x : RunAt) → Outside script c u k x → weight script t c x ≡ tally_from script t c u k 0 x.results
+one_weight script t c u k x o =
+    let none = none_here (x.thread.target == t) (has_sent c x.thread.stage) o.not_sent in
+    let same : tally_from script t c x.thread.target x.thread.thread 0 x.results ≡ tally_from script t c u k 0 x.results =
+    ap (λ (q : ℕ × ℕ). tally_from script t c q.0 q.1 0 x.results) (λ j. (o.its_target j, o.its_number j)) in
+    omega (arith, none, same)
+  where
+    none_here : (a b : Bool) → b ≡ false → one_if (a && b) ≡ 0
+    none_here true b e = ap one_if e
+    none_here false b e = refl
+
+rows_weight : (script : Script) (t c u k : ℕ) (runs : List RunAt) → ((j : ℕ) → j < length runs → Outside script c u (k + j) (get_or runs j no_run))
+    → row_weight script t c runs ≡ tally_threads script t c u k (map (λ x. x.results) runs)
+rows_weight script t c u k [] each = refl
+rows_weight script t c u k (x ∷ runs) each =
+    let first = one_weight script t c u k x (subst (λ z. Outside script c u z x) (plus_none k) (each 0 (omega arith))) in
+    let rest = rows_weight script t c u (k + 1) runs (λ j l. subst (λ z. Outside script c u z (get_or runs j no_run)) (next k j) (each (suc j) (omega (arith, l)))) in
+    let both = sum_by-cons (weight script t c) x runs in
+    omega (arith, first, rest, both)
+  where
+    plus_none : (k : ℕ) → k + 0 ≡ k
+    plus_none k = omega arith
+
+    next : (k j : ℕ) → k + suc j ≡ (k + 1) + j
+    next k j = omega arith
+
+all_weight : (script : Script) (t c u : ℕ) (threads : List (List RunAt)) → ((i j : ℕ) → j < length (get_or threads i []) → Outside script c (u + i) j (get_or (get_or threads i []) j no_run))
+    → total script t c threads ≡ tally_targets script t c u (results_of threads)
+all_weight script t c u [] each = refl
+all_weight script t c u (runs ∷ threads) each =
+    let first = rows_weight script t c u 0 runs (λ j l. subst (λ (z : ℕ × ℕ). Outside script c z.0 z.1 (get_or runs j no_run)) (λ q. (plus_none u q, zero_plus j q)) (each 0 j l)) in
+    let rest = all_weight script t c (u + 1) threads (λ i j l. subst (λ z. Outside script c z j (get_or (get_or threads i []) j no_run)) (next u i) (each (suc i) j l)) in
+    let both = sum_by-cons (row_weight script t c) runs threads in
+    omega (arith, first, rest, both)
+  where
+    plus_none : (u : ℕ) → u + 0 ≡ u
+    plus_none u = omega arith
+
+    zero_plus : (j : ℕ) → j ≡ 0 + j
+    zero_plus j = omega arith
+
+    next : (u i : ℕ) → u + suc i ≡ (u + 1) + i
+    next u i = omega arith
+
+module _ (targets : SoundTargets) (statements : SoundStatements) (policies : List Policy) (script : Script) (schedule : Schedule) (can : CanRun policies script schedule)
+    (finished : first_unfinished script (played policies script schedule).threads ≡ None) where
+  abbrev w : WorldAt
+  w = drained (played policies script schedule)
+
+  is : Tallied script w
+  is = tallied_end targets statements script policies schedule can
+
+  same_threads : w.threads ≡ (played policies script schedule).threads
+  same_threads = drained_threads (played policies script schedule)
+
+  outside : (c i j : ℕ) → j < length (threads_at w i) → Outside script c (0 + i) j (run_at w i j)
+  outside c i j l =
+      let its = is.kept.threads i j l in
+      let x = (run_at w i j).thread in
+      let over = each_finished script w.threads (ap (λ threads. first_unfinished script threads) same_threads ∙ finished) i j l in
+      let last = (is.runs.stands i j l).over ∙ none_behind (statements_of script x.target x.thread) x.place over in
+      record { its_target = its.its_target ∙ zero_plus i; its_number = its.its_number; not_sent = ap (λ s. has_sent c s) (over_is x.stage last) }
+    where
+      zero_plus : (i : ℕ) → i ≡ 0 + i
+      zero_plus i = omega arith
+
+  few_entries : (t c : ℕ) → t < length script.targets → c < channels_of (slice_get script.targets t)
+      → entries_on t c w.shared.book.entries ≤ tally_targets script t c 0 (results_of (played policies script schedule).threads)
+  few_entries t c l m =
+      let there = subst (λ n. t < n) (sym (as_many script w is.kept is.runs)) l in
+      let size = (sized_words script w is.kept is.runs t l).1 in
+      let few = is.few t c there (omega (arith, size, m)) in
+      let all = all_weight script t c 0 w.threads (outside c) in
+      let same : tally_targets script t c 0 (results_of w.threads) ≡ tally_targets script t c 0 (results_of (played policies script schedule).threads) =
+      ap (λ (threads : List (List RunAt)). tally_targets script t c 0 (results_of threads)) same_threads in
+      at_most _ _ _ _ _ few all same
+    where
+      at_most : (a b d e f : ℕ) → a + b ≤ d → d ≡ e → e ≡ f → a ≤ f
+      at_most a b d e f p q r = omega (arith, p, q, r)
+
+pub entries_are_few : SoundTargets → SoundStatements → EntriesAreFew
+entries_are_few targets statements policies script schedule can all_ended t c l m =
+    by_finish (first_unfinished script (played policies script schedule).threads) refl all_ended
+  where
+    by_finish : (o : Option (ℕ × ℕ)) → first_unfinished script (played policies script schedule).threads ≡ o → (ended (played policies script schedule) o).unfinished ≡ None
+        → entries_on t c (ended (played policies script schedule) o).report.entries ≤ tally_targets script t c 0 (ended (played policies script schedule) o).report.results
+    by_finish None e u = few_entries targets statements policies script schedule can e t c l m
+    by_finish (Some thread) e u = absurd (cc)

@@ -1,0 +1,322 @@
+-- A step of a thread keeps what every world keeps, and what a world keeps of its script.
+use Rattle.std.proofs.Common.{◌≡◌, ◌∙◌, refl, ap, subst, sym, ℕ, zero, suc, ◌+◌, ◌<◌, ◌≤◌, Bool, true, false, ◌==◌, if◌then◌else◌, List, [], ◌∷◌, ◌++◌, length, length-append, length-set, set, get_or, Option, None, Some, IfSome, is_none, slice_get, lit≤, lit<, arith}
+use Rattle.std.proofs.lemmas.Bool.{and_parts}
+use Rattle.std.proofs.lemmas.Bool.Decides.{nat_tests}
+use Rattle.std.specs.Prelude.{nat_le, slice_index}
+use Rattle.std.specs.Option.{option_to_list}
+use Rattle.sb_actor.specs.Places.{block_of, first_stage, is_call, mark_at, statement_at, statements_of}
+use Rattle.sb_actor.specs.Ranges.{IsSoundThreadStage}
+use Rattle.sb_actor.specs.ThreadStages.{ThreadStage, ThreadAt}
+use Rattle.sb_actor.specs.ThreadTable.{ThreadNext, ends, goes_on, thread_after, thread_plan}
+use Rattle.sb_actor.specs.declared.acts.Act.{Act}
+use Rattle.sb_actor.specs.declared.acts.Act.TheVariants as act
+use Rattle.sb_actor.specs.declared.acts.Seen.{Seen}
+use Rattle.sb_block.specs.Blocks.{block}
+use Rattle.sb_call.specs.Arguments.{fits}
+use Rattle.sb_statements.specs.Limits.{most_statements}
+use Rattle.sb_statements.specs.Soundness.{SoundStatements, SoundTargets, is_patience, is_sound, is_statement, has_word}
+use Rattle.sb_statements.specs.declared.results.StmtResult.{StmtResult}
+use Rattle.sb_statements.specs.declared.schedules.Actor.TheVariants.{Thread}
+use Rattle.sb_statements.specs.declared.scripts.Script.{Script}
+use Rattle.sb_statements.specs.declared.scripts.TargetScript.{TargetScript}
+use Rattle.sb_statements.specs.declared.statements.Statement.{Statement}
+use Rattle.sb_statements.specs.declared.statements.Statement.TheVariants as statement
+use Rattle.sb_core.specs.Kept.{IsAtStatement, IsRunOf, IsRunning, IsWorkerOf, IsWorld, channels_at, is_calling, is_holder, is_over}
+use Rattle.sb_core.specs.Shared.{IsActThere, SharedAt, on_word}
+use Rattle.sb_core.specs.Threads.{HasRoom, RunAt, no_run, thread_step}
+use Rattle.sb_core.specs.Words.{exchanged, loaded, place_of, stored, words_of}
+use Rattle.sb_core.specs.Worlds.{WorldAt, run_at, step, threads_at, worker_at}
+use Rattle.sb_core.proofs.Bounds.{few_statements, some_patience}
+use Rattle.sb_core.proofs.Sets.{each_set, lengths_set, sizes_set}
+use Rattle.sb_core.proofs.There.{listed, sound_at, thread_there}
+use Rattle.sb_core.proofs.ThreadRows.{IsOwnResult, row_leads}
+
+-- a statement that is there has a place before the end
+pub within : {X : Type 0} (xs : List X) (i : ℕ) (x : X) → slice_get xs i ≡ Some x → i < length xs
+within [] i x e = absurd (cc)
+within (y ∷ ys) zero x e = omega arith
+within (y ∷ ys) (suc i) x e = let l = within ys i x e in omega (arith, l)
+
+-- the beginning of a sound statement
+module _ (targets : List TargetScript) (channels patience mark : ℕ) (some : 0 < channels) (waits : 0 < patience) where
+  pub first_sound : (o : Option Statement) → IfSome o (λ s. is_statement targets s ≡ true) → IsSoundThreadStage channels patience (block_of mark o) (first_stage o)
+  first_sound (Some (statement.Call tag args)) h = (some, waits, filled (length (block tag args mark)) refl)
+    where
+      filled : (n : ℕ) → n ≡ length (block tag args mark) → 0 < length (block tag args mark)
+      filled n e = omega arith
+  first_sound (Some (statement.Store t word value)) h = lit< tt
+  first_sound (Some (statement.Exchange t word from to)) h = lit< tt
+  first_sound (Some (statement.Load t word)) h = lit< tt
+  first_sound (Some (statement.Wait t word value most)) h =
+      let bounds = (and_parts (has_word targets t word) (is_patience most) h).1 in
+      let low = (and_parts (nat_le 1 most) (nat_le most 1000000) bounds).0 in
+      grind (arith, nat_tests, low)
+  first_sound None h = tt
+
+  pub first_short : (o : Option Statement) → IfSome o (λ s. is_statement targets s ≡ true) → length (block_of mark o) ≤ 64
+  first_short (Some (statement.Call tag args)) h =
+      let low = (and_parts (fits tag args) (nat_le (length (block tag args 0)) 64) h).1 in
+      let same : length (block tag args mark) ≡ length (block tag args 0) = refl in
+      at_most (length (block tag args mark)) (rw same low)
+    where
+      at_most : (n : ℕ) → nat_le n 64 ≡ true → n ≤ 64
+      at_most n e = grind (arith, nat_tests)
+  first_short (Some (statement.Store t word value)) h = lit≤ tt
+  first_short (Some (statement.Exchange t word from to)) h = lit≤ tt
+  first_short (Some (statement.Load t word)) h = lit≤ tt
+  first_short (Some (statement.Wait t word value most)) h = lit≤ tt
+  first_short None h = lit≤ tt
+
+pub first_calling : (o : Option Statement) → is_calling (first_stage o) ≡ is_call o
+first_calling (Some (statement.Call tag args)) = refl
+first_calling (Some (statement.Store t word value)) = refl
+first_calling (Some (statement.Exchange t word from to)) = refl
+first_calling (Some (statement.Load t word)) = refl
+first_calling (Some (statement.Wait t word value most)) = refl
+first_calling None = refl
+
+pub first_over : (o : Option Statement) → is_over (first_stage o) ≡ is_none o
+first_over (Some (statement.Call tag args)) = refl
+first_over (Some (statement.Store t word value)) = refl
+first_over (Some (statement.Exchange t word from to)) = refl
+first_over (Some (statement.Load t word)) = refl
+first_over (Some (statement.Wait t word value most)) = refl
+first_over None = refl
+
+-- What a step of a thread leads to: the same thread, at the same statement or at the beginning of the next, with its numbers in range, and with a
+-- result of its own statement where that ended
+pub record Leads (script : Script) (x : ThreadAt) (n : ThreadNext) : Type 0 where
+  pub its_target : n.thread.target ≡ x.target
+  pub its_number : n.thread.thread ≡ x.thread
+  pub its_clean : n.thread.clean ≡ x.clean
+  pub short : length n.thread.block ≤ 64
+  pub sound : IsSoundThreadStage (length n.thread.clean) n.thread.patience n.thread.block n.thread.stage
+  pub stands : IsAtStatement script n.thread
+  pub counted : n.thread.place ≡ x.place + length (option_to_list n.ended)
+  pub own : IfSome n.ended (λ r. IsOwnResult script x r)
+
+module _ (script : Script) (x : ThreadAt) (sound : is_sound script ≡ true) (law : SoundStatements) (some : 0 < length x.clean) (waits : 0 < x.patience)
+    (short : length x.block ≤ 64) (at : IsAtStatement script x) where
+  goes_leads : (s : ThreadStage) → IsSoundThreadStage (length x.clean) x.patience x.block s → is_calling s ≡ is_calling x.stage → is_over s ≡ is_over x.stage
+      → Leads script x (goes_on x s)
+  goes_leads s stage calling over = record {
+    its_target = refl;
+    its_number = refl;
+    its_clean = refl;
+    short = short;
+    sound = stage;
+    stands = record {
+      place = at.place;
+      calling = calling ∙ at.calling;
+      over = over ∙ at.over;
+      block = at.block;
+      patience = at.patience;
+      clean = at.clean;
+    };
+    counted = none x.place;
+    own = tt;
+  }
+    where
+      none : (n : ℕ) → n ≡ n + 0
+      none n = omega arith
+
+  ends_leads : (r : StmtResult) → IsOwnResult script x r → Leads script x (ends script x r)
+  ends_leads r own =
+      let next = statement_at script x.target x.thread (x.place + 1) in
+      let good = sound_at script x.target x.thread (x.place + 1) sound law in
+      let inside = within (statements_of script x.target x.thread) x.place own.0 own.1 in
+      record {
+        its_target = refl;
+        its_number = refl;
+        its_clean = refl;
+        short = first_short script.targets (length x.clean) x.patience (mark_at x.thread (x.place + 1)) some waits next good;
+        sound = first_sound script.targets (length x.clean) x.patience (mark_at x.thread (x.place + 1)) some waits next good;
+        stands = record {
+          place = omega (arith, inside);
+          calling = first_calling next;
+          over = first_over next;
+          block = refl;
+          patience = at.patience;
+          clean = at.clean;
+        };
+        counted = refl;
+        own = own;
+      }
+
+  pub leads : (stage : ThreadStage) → stage ≡ x.stage → IsSoundThreadStage (length x.clean) x.patience x.block x.stage → (seen : Seen)
+      → Leads script x (thread_after script x seen)
+  leads stage e s seen =
+      row_leads script x (Leads script x) waits x.stage s at.calling at.over goes_leads ends_leads
+      (goes_leads x.stage s refl refl) seen
+
+-- A step on words leaves their sizes, the book and the turn
+pub record KeepsSizes (s u : SharedAt) : Type 0 where
+  pub book : u.book ≡ s.book
+  pub turn : u.turn ≡ s.turn
+  pub count : length u.words ≡ length s.words
+  pub sizes : (t : ℕ) → length (words_of u.words t) ≡ length (words_of s.words t)
+
+same_sizes : (s : SharedAt) → KeepsSizes s s
+same_sizes s = record { book = refl; turn = refl; count = refl; sizes = λ t. refl }
+
+chosen_size : (b : Bool) (words new : List ℕ) → length new ≡ length words → length (if b then new else words) ≡ length words
+chosen_size true words new e = e
+chosen_size false words new e = refl
+
+pub word_keeps : (s : SharedAt) (a : Act) → IsActThere s.words a → KeepsSizes s (on_word s a).shared
+word_keeps s (act.Load t word) h = same_sizes s
+word_keeps s (act.Store t word value) h = record {
+  book = refl;
+  turn = refl;
+  count = length-set s.words t (stored (words_of s.words t) word value);
+  sizes = sizes_set s.words t (stored (words_of s.words t) word value) h.0 (length-set (words_of s.words t) (place_of word) value);
+}
+word_keeps s (act.Exchange t word from to) h =
+    let words = words_of s.words t in
+    record {
+      book = refl;
+      turn = refl;
+      count = length-set s.words t (exchanged words word from to);
+      sizes = sizes_set s.words t (exchanged words word from to) h.0
+          (chosen_size (loaded words word == from) words (stored words word to) (length-set words (place_of word) to));
+    }
+word_keeps s act.Take h = same_sizes s
+word_keeps s act.Mark h = same_sizes s
+word_keeps s act.Give h = same_sizes s
+word_keeps s act.Idle h = same_sizes s
+
+-- a thread of a world that runs a script
+module _ (script : Script) (w : WorldAt) (t k : ℕ) (kept : IsWorld w) (runs : IsRunning script w) (there : k < length (threads_at w t)) (law : SoundStatements) where
+  abbrev mine : RunAt
+  mine = run_at w t k
+
+  abbrev s : SharedAt
+  s = (on_word w.shared (thread_plan script mine.thread)).shared
+
+  abbrev n : ThreadNext
+  n = thread_after script mine.thread (on_word w.shared (thread_plan script mine.thread)).seen
+
+  abbrev y : RunAt
+  y = record { thread = n.thread; results = mine.results ++ option_to_list n.ended }
+
+  abbrev after : WorldAt
+  after = step script w (Thread t k)
+
+  keeps : KeepsSizes w.shared s
+  keeps = word_keeps w.shared (thread_plan script mine.thread) (thread_there script w kept runs t k there law)
+
+  listed_here : t < length w.threads
+  listed_here = listed w.threads t k there
+
+  worker_here : t < length w.workers
+  worker_here = let e = kept.lists in let l = listed_here in omega (arith, e, l)
+
+  some_clean : 0 < length mine.thread.clean
+  some_clean =
+      let x = kept.threads t k there in
+      let worker = kept.workers t worker_here in
+      let inside = worker.within in
+      let same : length mine.thread.clean ≡ (worker_at w t).channels = x.its_channels ∙ sym worker.its_channels in
+      omega (arith, inside, same)
+
+  waits : 0 < mine.thread.patience
+  waits = subst (λ z. 0 < z) (sym (runs.stands t k there).patience) (some_patience script runs.sound)
+
+  pub facts : Leads script mine.thread n
+  facts =
+      leads script mine.thread runs.sound law some_clean waits (kept.threads t k there).short (runs.stands t k there) mine.thread.stage refl
+      (kept.threads t k there).sound (on_word w.shared (thread_plan script mine.thread)).seen
+
+  channels_stay : (u : ℕ) → channels_at after u ≡ channels_at w u
+  channels_stay u = ap (λ book. slice_index book.setting.channels u) keeps.book
+
+  -- another thread, or this one before its step
+  old_run : (u j : ℕ) → j < length (threads_at w u) → IsRunOf after u j (run_at w u j)
+  old_run u j l =
+      let x = kept.threads u j l in
+      record {
+        its_target = x.its_target;
+        its_number = x.its_number;
+        its_channels = x.its_channels ∙ sym (channels_stay u);
+        short = x.short;
+        sound = x.sound;
+        counted = x.counted;
+      }
+
+  new_run : IsRunOf after t k y
+  new_run =
+      let x = kept.threads t k there in
+      record {
+        its_target = facts.its_target ∙ x.its_target;
+        its_number = facts.its_number ∙ x.its_number;
+        its_channels = ap (λ (c : List Bool). length c) facts.its_clean ∙ (x.its_channels ∙ sym (channels_stay t));
+        short = facts.short;
+        sound = facts.sound;
+        counted = length-append mine.results (option_to_list n.ended) ∙ (ap (λ z. z + length (option_to_list n.ended)) x.counted ∙ sym facts.counted);
+      }
+
+  old_worker : (u : ℕ) → u < length w.workers → IsWorkerOf after u (worker_at w u)
+  old_worker u l =
+      let x = kept.workers u l in
+      record {
+        its_target = x.its_target;
+        its_channels = x.its_channels ∙ sym (channels_stay u);
+        within = x.within;
+        few = x.few;
+        sound = x.sound;
+        sized = keeps.sizes u ∙ x.sized;
+        turn = x.turn ∙ ap (λ turn. is_holder turn u) (sym keeps.turn);
+      }
+
+  pub thread_keeps : IsWorld after
+  thread_keeps = record {
+    few = kept.few;
+    policies = ap (λ book. length book.setting.policies) keeps.book ∙ kept.policies;
+    channels = ap (λ book. length book.setting.channels) keeps.book ∙ kept.channels;
+    words = keeps.count ∙ kept.words;
+    holder = λ u e. kept.holder u (sym keeps.turn ∙ e);
+    workers = old_worker;
+    lists = subst (λ z. z ≤ length w.workers) (sym (length-set w.threads t (set (threads_at w t) k y))) kept.lists;
+    threads = each_set (IsRunOf after) no_run w.threads t k y listed_here there old_run new_run;
+  }
+
+  pub thread_runs : IsRunning script after
+  thread_runs = record {
+    sound = runs.sound;
+    channels = ap (λ book. book.setting.channels) keeps.book ∙ runs.channels;
+    targets = length-set w.threads t (set (threads_at w t) k y) ∙ runs.targets;
+    threads = λ u. lengths_set (λ u j x. Unit {0}) no_run w.threads t k y listed_here there u ∙ runs.threads u;
+    stands = each_set (λ u j (x : RunAt). IsAtStatement script x.thread) no_run w.threads t k y listed_here there runs.stands facts.stands;
+  }
+
+  -- there is room for the result of a statement that ends
+  pub has_room : SoundTargets → HasRoom script w.shared mine
+  has_room targets = by_ended n.ended facts.own
+    where
+      by_ended : (o : Option StmtResult) → IfSome o (λ r. IsOwnResult script mine.thread r) → IfSome o (λ r. length mine.results < most_statements)
+      by_ended None h = tt
+      by_ended (Some r) h =
+          let inside = within (statements_of script mine.thread.target mine.thread.thread) mine.thread.place h.0 h.1 in
+          let few = few_statements targets script runs.sound mine.thread.target mine.thread.thread in
+          let counted = (kept.threads t k there).counted in
+          omega (arith, inside, few, counted)
+
+  -- a step of a thread leaves the book
+  pub thread_book : after.shared.book ≡ w.shared.book
+  thread_book = keeps.book
+
+-- what a step of a thread left, by the threads that were found
+pub thread_left : (script : Script) (w : WorldAt) (t k : ℕ) (xs ys : List RunAt) (s : SharedAt) → xs ≡ threads_at w t
+    → ys ≡ set xs k (thread_step script w.shared (get_or xs k no_run)).run → s ≡ (thread_step script w.shared (get_or xs k no_run)).shared
+    → record w { shared = s; threads = set w.threads t ys } ≡ step script w (Thread t k)
+thread_left script w t k xs ys s e f g = rw (f, g, e) refl
+
+-- the word that a thread's step names is there, by the threads that were found
+pub thread_at : (script : Script) (w : WorldAt) (t k : ℕ) (xs : List RunAt) → xs ≡ threads_at w t
+    → IsActThere w.shared.words (thread_plan script (run_at w t k).thread) → IsActThere w.shared.words (thread_plan script (get_or xs k no_run).thread)
+thread_at script w t k xs e there = subst (λ (z : List RunAt). IsActThere w.shared.words (thread_plan script (get_or z k no_run).thread)) (sym e) there
+
+-- and there is room for its result
+pub room_at : (script : Script) (w : WorldAt) (t k : ℕ) (xs : List RunAt) → xs ≡ threads_at w t → HasRoom script w.shared (run_at w t k)
+    → HasRoom script w.shared (get_or xs k no_run)
+room_at script w t k xs e room = subst (λ (z : List RunAt). HasRoom script w.shared (get_or z k no_run)) (sym e) room

@@ -1,0 +1,393 @@
+-- In every world of a script each word, each copy and each value that a result shows has a source.
+use Rattle.std.proofs.Common.{◌≡◌, ◌⊎◌, inl, inr, ⊎_elim, ◌∙◌, refl, ap, subst, sym, ℕ, zero, suc, ◌+◌, ◌*◌, ◌%◌, ◌<◌, ◌≤◌, Bool, true, false, ltb, ◌==◌, if◌then◌else◌, List, [], ◌∷◌, ◌++◌, length, length-set, set, get_or, get_or-set_same, get_or-set_other, Option, None, Some, IfSome, slice_get, lit<, lit≤, arith}
+use Rattle.std.proofs.lemmas.Bool.{and_parts}
+use Rattle.std.proofs.lemmas.Bool.Decides.{nat_tests}
+use Rattle.std.specs.Option.{option_to_list}
+use Rattle.std.specs.Prelude.{nat_le, nat_lt, slice_index}
+use native.Mathlib.Decide.{ℕ_discrete}
+use Rattle.sb_actor.specs.Acts.{value_in}
+use Rattle.sb_actor.specs.Moves.{at}
+use Rattle.sb_actor.specs.Places.{statement_at}
+use Rattle.sb_actor.specs.Ranges.{IsSoundThreadStage}
+use Rattle.sb_actor.specs.Sources.{opening_at}
+use Rattle.sb_actor.specs.ThreadStages.{ThreadStage, ThreadAt}
+use Rattle.sb_actor.specs.ThreadStages as thread
+use Rattle.sb_actor.specs.ThreadTable.{stray_row, thread_after, thread_plan}
+use Rattle.sb_actor.specs.WorkerStages.{WorkerStage, WorkerAt, Look, Count, End, Copy, Take, Mark, Give, Reply, Ack}
+use Rattle.sb_actor.specs.WorkerTable.{worker_after, worker_plan}
+use Rattle.sb_book.specs.Histories.{entry_of}
+use Rattle.sb_book.specs.Readiness.{is_ready}
+use Rattle.sb_book.specs.declared.entries.Entry.{Entry}
+use Rattle.sb_rule.specs.declared.policies.Policy.{Policy}
+use Rattle.sb_statements.specs.Actors.{is_there}
+use Rattle.sb_statements.specs.Soundness.{SoundStatements, SoundTargets, channels_of, is_statement, has_word}
+use Rattle.sb_statements.specs.declared.results.CallResult.{CallResult}
+use Rattle.sb_statements.specs.declared.results.CallResult.TheVariants as call
+use Rattle.sb_statements.specs.declared.results.StmtResult.{StmtResult}
+use Rattle.sb_statements.specs.declared.results.StmtResult.TheVariants as result
+use Rattle.sb_statements.specs.declared.schedules.Actor.{Actor}
+use Rattle.sb_statements.specs.declared.schedules.Actor.TheVariants.{Thread, Worker}
+use Rattle.sb_statements.specs.declared.schedules.Schedule.{Schedule}
+use Rattle.sb_statements.specs.declared.scripts.Script.{Script}
+use Rattle.sb_statements.specs.declared.statements.Statement.{Statement}
+use Rattle.sb_statements.specs.declared.statements.Statement.TheVariants as statement
+use Rattle.sb_statements.specs.declared.statements.Word.{Word}
+use Rattle.sb_core.specs.Actors.{are_there, round_actors, scheduled}
+use Rattle.sb_core.specs.Drains.{drained, drained_by, is_settled, most_passes, one_pass, pass_below}
+use Rattle.sb_core.specs.Kept.{IsRunning, IsWorkerOf, IsWorld}
+use Rattle.sb_core.specs.Origins.{AreSourcedCopies, AreSourcedWords, HasSource, IsSourced, NoBlockIsInvented, Shows, ShowsCall}
+use Rattle.sb_core.specs.Reports.{results_of}
+use Rattle.sb_core.specs.Results.{result_at}
+use Rattle.sb_core.specs.Runs.{CanRun, ended, played}
+use Rattle.sb_core.specs.Shared.{Effect, IsActThere, decided, on_word, on_worker}
+use Rattle.sb_core.specs.Threads.{RunAt, first_unfinished, no_run}
+use Rattle.sb_core.specs.Words.{free_channels}
+use Rattle.sb_core.specs.Worlds.{WorldAt, all_finished, first_worker, first_workers, no_worker, round, rounds, run_at, start_world, step, steps, threads_at, worker_at, worker_step}
+use Rattle.sb_core.proofs.Draining.{drained_threads}
+use Rattle.sb_core.proofs.Keeping.{worker_keeps}
+use Rattle.sb_core.proofs.Opening.{opened}
+use Rattle.sb_core.proofs.Reaching.{behind, rounds_there, scheduled_there}
+use Rattle.sb_core.proofs.RunLaws.{no_run_past, results_at}
+use Rattle.sb_core.proofs.Running.{step_keeps, thread_is_there, worker_is_there, worker_runs}
+use Rattle.sb_core.proofs.Sets.{each_set}
+use Rattle.sb_core.proofs.Sourcing.{in_front, more_block, more_copy, more_reply, more_source, sourced_words}
+use Rattle.sb_core.proofs.Starting.{each_is, free_length, start_run, starts_running, starts_world, words_at}
+use Rattle.sb_core.proofs.There.{as_many, listed, sound_at, thread_there}
+use Rattle.sb_core.proofs.ThreadKeeping.{thread_book}
+use Rattle.sb_core.proofs.ThreadSources.{Finds, FindsAt, IsTracedThread, ShowsStatement, Traces, row_traces, row_writes, traced_first}
+use Rattle.sb_core.proofs.WorkerSources.{IsTracedWorker, own_copies, own_traced, own_words}
+
+-- the entries stay, or one comes
+abbrev Grown : List Entry → List Entry → Type 0
+Grown es after = (after ≡ es) ⊎ ((e : Entry) × (after ≡ es ++ e ∷ []))
+
+grow : (P : List Entry → Type 0) (es after : List Entry) → ((e : Entry) → P es → P (es ++ e ∷ [])) → Grown es after → P es → P after
+grow P es after more (inl e) h = subst P (sym e) h
+grow P es after more (inr g) h = subst P (sym g.1) (more g.0 h)
+
+-- what was traced stays so
+module _ (script : Script) (es : List Entry) (e : Entry) (t : ℕ) where
+  more_worker : (c : ℕ) (stage : WorkerStage) → IsTracedWorker script es t c stage → IsTracedWorker script (es ++ e ∷ []) t c stage
+  more_worker c Look h = tt
+  more_worker c Count h = tt
+  more_worker c (End count) h = more_block script es e t c 2 count h
+  more_worker c (Copy count end words) h = more_copy script es e t c _ h
+  more_worker c (Take taken) h = more_copy script es e t c taken h
+  more_worker c (Mark taken) h = more_copy script es e t c taken h
+  more_worker c (Give taken reply) h = (h.0, h.1, in_front es e h.0 h.1 h.2, h.3, h.4, h.5)
+  more_worker c (Reply taken reply i) h = (h.0, h.1, in_front es e h.0 h.1 h.2, h.3, h.4, h.5)
+  more_worker c (Ack taken reply) h = tt
+
+  more_thread : (stage : ThreadStage) → IsTracedThread script es t stage → IsTracedThread script (es ++ e ∷ []) t stage
+  more_thread (thread.Try c rounds fives) h = tt
+  more_thread (thread.Fill c i) h = tt
+  more_thread (thread.Send c) h = tt
+  more_thread (thread.Wait c loads) h = tt
+  more_thread (thread.Fetch c words) h = λ i l. more_block script es e t c (3 + i) (slice_index words i) (h i l)
+  more_thread (thread.Free c words) h = λ i l. more_block script es e t c (3 + i) (slice_index words i) (h i l)
+  more_thread (thread.Abandon c) h = tt
+  more_thread (thread.Stray loads most) h = tt
+  more_thread thread.Over h = tt
+
+  more_call : (r : CallResult) → ShowsCall script es t r → ShowsCall script (es ++ e ∷ []) t r
+  more_call (call.Reply c reply) h = more_reply script es e t c reply h
+  more_call call.NoChannel h = tt
+  more_call (call.SendLost c found) h = h
+  more_call (call.Foreign c mark) h = more_block script es e t c 3 mark h
+  more_call (call.TimedOut c) h = tt
+
+  more_shows : (s : Statement) (r : StmtResult) → Shows script es t s r → Shows script (es ++ e ∷ []) t s r
+  more_shows (statement.Call tag args) (result.Call r) h = more_call r h
+  more_shows (statement.Exchange u word from to) (result.Found x) h = more_source script es e u word.channel word.at x h
+  more_shows (statement.Load u word) (result.Found x) h = more_source script es e u word.channel word.at x h
+  more_shows _ _ h = tt
+
+-- each value that a result shows has a source
+abbrev pub RunShows : Script → List Entry → ℕ → ℕ → RunAt → Type 0
+RunShows script es t k x = (i : ℕ) (r : StmtResult) → slice_get x.results i ≡ Some r → (s : Statement) × (statement_at script t k i ≡ Some s) × Shows script es t s r
+
+pub record Traced (script : Script) (w : WorldAt) : Type 0 where
+  pub kept : IsWorld w
+  pub runs : IsRunning script w
+  pub words : AreSourcedWords script w.shared.book.entries w.shared.words
+  pub copies : AreSourcedCopies script w.shared.book.entries
+  pub workers : (t : ℕ) → t < length w.workers → IsTracedWorker script w.shared.book.entries t (worker_at w t).channel (worker_at w t).stage
+  pub threads : (t k : ℕ) → k < length (threads_at w t) → IsTracedThread script w.shared.book.entries t (run_at w t k).thread.stage
+  pub shown : (t k : ℕ) → k < length (threads_at w t) → RunShows script w.shared.book.entries t k (run_at w t k)
+
+-- what a step of a worker leaves
+pub record Own (script : Script) (w : WorldAt) (t : ℕ) (x : WorkerAt) (e : Effect) : Type 0 where
+  pub words : AreSourcedWords script e.shared.book.entries e.shared.words
+  pub copies : AreSourcedCopies script e.shared.book.entries
+  pub own : IsTracedWorker script e.shared.book.entries t (worker_after x e.seen).channel (worker_after x e.seen).stage
+  pub grown : Grown w.shared.book.entries e.shared.book.entries
+
+module _ (script : Script) (w : WorldAt) (t channels c : ℕ) where
+  grown_at : (stage : WorkerStage)
+      → Grown w.shared.book.entries (on_worker w.shared t (record { target = t; channels = channels; channel = c; stage = stage }) (worker_plan (record { target = t; channels = channels; channel = c; stage = stage }))).shared.book.entries
+  grown_at Look = inl refl
+  grown_at Count = inl refl
+  grown_at (End count) = inl refl
+  grown_at (Copy count end words) = inl refl
+  grown_at (Take taken) = inl refl
+  grown_at (Mark taken) = inr (entry_of w.shared.book.space t c taken (decided w.shared.book t taken), refl)
+  grown_at (Give taken reply) = inl refl
+  grown_at (Reply taken reply i) = inl refl
+  grown_at (Ack taken reply) = inl refl
+
+own_step : (script : Script) (w : WorldAt) (t : ℕ) → Traced script w → t < length w.workers → Own script w t (worker_at w t) (on_worker w.shared t (worker_at w t) (worker_plan (worker_at w t)))
+own_step script w t r there =
+    let k = r.kept.workers t there in
+    by_target (worker_at w t).target (worker_at w t).channels (worker_at w t).channel (worker_at w t).stage k.its_target k (r.workers t there)
+  where
+    by_target : (target channels channel : ℕ) (stage : WorkerStage) → target ≡ t
+        → IsWorkerOf w t (record { target = target; channels = channels; channel = channel; stage = stage }) → IsTracedWorker script w.shared.book.entries t channel stage
+        → Own script w t (record { target = target; channels = channels; channel = channel; stage = stage })
+        (on_worker w.shared t (record { target = target; channels = channels; channel = channel; stage = stage }) (worker_plan (record { target = target; channels = channels; channel = channel; stage = stage })))
+    by_target target channels channel stage e k h =
+        subst (λ z. Own script w t (record { target = z; channels = channels; channel = channel; stage = stage })
+        (on_worker w.shared t (record { target = z; channels = channels; channel = channel; stage = stage }) (worker_plan (record { target = z; channels = channels; channel = channel; stage = stage })))) (sym e)
+        (record {
+          words = own_words script w t channels channel r.kept there k.within k.sized r.words r.copies stage k.sound h;
+          copies = own_copies script w t channels channel r.kept there k.within k.sized r.words r.copies stage h;
+          own = own_traced script w t channels channel r.kept there k.within k.sized r.words r.copies stage k.sound h;
+          grown = grown_at script w t channels channel stage;
+        })
+
+traced_worker : (script : Script) (w : WorldAt) (t : ℕ) → Traced script w → t < length w.workers → Traced script (worker_step w t)
+traced_worker script w t r there =
+    let o = own_step script w t r there in
+    let es = w.shared.book.entries in
+    let after = (worker_step w t).shared.book.entries in
+    record {
+      kept = worker_keeps w t r.kept there;
+      runs = worker_runs script w t r.kept r.runs there;
+      words = o.words;
+      copies = o.copies;
+      workers = λ u l. each u (subst (λ n. u < n) (length-set w.workers t _) l) (ℕ_discrete u t) o;
+      threads = λ u k l. grow (λ z. IsTracedThread script z u (run_at w u k).thread.stage) es after (λ e. more_thread script es e u (run_at w u k).thread.stage) o.grown (r.threads u k l);
+      shown = λ u k l i q f.
+          let s = r.shown u k l i q f in
+          (s.0, s.1, grow (λ z. Shows script z u s.0 q) es after (λ e. more_shows script es e u s.0 q) o.grown s.2);
+    }
+  where
+    each : (u : ℕ) → u < length w.workers → Dec (u ≡ t) → Own script w t (worker_at w t) (on_worker w.shared t (worker_at w t) (worker_plan (worker_at w t)))
+        → IsTracedWorker script (worker_step w t).shared.book.entries u (worker_at (worker_step w t) u).channel (worker_at (worker_step w t) u).stage
+    each u l (yes e) o =
+        subst (λ z. IsTracedWorker script (worker_step w t).shared.book.entries z (worker_at (worker_step w t) z).channel (worker_at (worker_step w t) z).stage) (sym e)
+        (subst (λ (y : WorkerAt). IsTracedWorker script (worker_step w t).shared.book.entries t y.channel y.stage) (sym (get_or-set_same w.workers t _ no_worker there)) o.own)
+    each u l (no ne) o =
+        subst (λ (y : WorkerAt). IsTracedWorker script (worker_step w t).shared.book.entries u y.channel y.stage) (sym (get_or-set_other w.workers t u _ no_worker ne))
+        (grow (λ z. IsTracedWorker script z u (worker_at w u).channel (worker_at w u).stage) w.shared.book.entries (worker_step w t).shared.book.entries
+        (λ e. more_worker script w.shared.book.entries e u (worker_at w u).channel (worker_at w u).stage) o.grown (r.workers u l))
+
+-- a step of a thread
+low_word : (script : Script) (t : ℕ) (word : Word) → has_word script.targets t word ≡ true → word.at < 65
+low_word script t word h =
+    let second = (and_parts (nat_lt word.channel (channels_of (slice_get script.targets t))) (nat_le word.at 64) h).1 in
+    grind (arith, nat_tests, second)
+
+module _ (script : Script) (w : WorldAt) (all : AreSourcedWords script w.shared.book.entries w.shared.words) (x : ThreadAt) where
+  abbrev es : List Entry
+  es = w.shared.book.entries
+
+  finds_at : (loads most : ℕ) (o : Option Statement) → IfSome o (λ s. is_statement script.targets s ≡ true) → (y : ThreadAt) → IsActThere w.shared.words (stray_row script y loads most o).step
+      → FindsAt script es o (value_in (on_word w.shared (stray_row script y loads most o).step).seen)
+  finds_at loads most (Some (statement.Call tag args)) good y h = tt
+  finds_at loads most (Some (statement.Store u word value)) good y h = tt
+  finds_at loads most (Some (statement.Exchange u word from to)) good y h = all u word.channel word.at (low_word script u word good) h.1
+  finds_at loads most (Some (statement.Load u word)) good y h = all u word.channel word.at (low_word script u word good) h.1
+  finds_at loads most (Some (statement.Wait u word value limit)) good y h = tt
+  finds_at loads most None good y h = tt
+
+  finds : (stage : ThreadStage) → IsSoundThreadStage (length x.clean) x.patience x.block stage → IfSome (statement_at script x.target x.thread x.place) (λ s. is_statement script.targets s ≡ true)
+      → IsActThere w.shared.words (thread_plan script (record x { stage = stage })) → Finds script es x stage (value_in (on_word w.shared (thread_plan script (record x { stage = stage }))).seen)
+  finds (thread.Try c rounds fives) s good h = tt
+  finds (thread.Fill c i) s good h = tt
+  finds (thread.Send c) s good h = (all x.target c 0 (lit< tt) h.1).state refl
+  finds (thread.Wait c loads) s good h = tt
+  finds (thread.Fetch c words) s good h = let low = s.1 in (all x.target c (1 + (3 + length words)) (omega (arith, low)) h.1).word (3 + length words) refl
+  finds (thread.Free c words) s good h = tt
+  finds (thread.Abandon c) s good h = tt
+  finds (thread.Stray loads most) s good h = finds_at loads most (statement_at script x.target x.thread x.place) good (record x { stage = thread.Stray loads most }) h
+  finds thread.Over s good h = tt
+
+module _ (targets : SoundTargets) (statements : SoundStatements) (script : Script) where
+  -- the results of a thread after its step
+  shows_more : (es : List Entry) (t k : ℕ) (x : RunAt) (ended : Option StmtResult) → x.thread.target ≡ t → x.thread.thread ≡ k → length x.results ≡ x.thread.place
+      → RunShows script es t k x → IfSome ended (λ r. ShowsStatement script es x.thread r) → (i : ℕ) (r : StmtResult) → slice_get (x.results ++ option_to_list ended) i ≡ Some r
+      → (s : Statement) × (statement_at script t k i ≡ Some s) × Shows script es t s r
+  shows_more es t k x ended et ek counted shown own i r e = ⊎_elim (λ h. shown i r h) (λ h. last ended own h) (behind x.results ended i r e)
+    where
+      placed : (place : ℕ) (q : StmtResult) → i ≡ place → (s : Statement) × (statement_at script x.thread.target x.thread.thread place ≡ Some s) × Shows script es x.thread.target s q
+          → (s : Statement) × (statement_at script t k i ≡ Some s) × Shows script es t s q
+      placed place q f own =
+          (own.0, ap (λ (z : ℕ × ℕ × ℕ). statement_at script z.0 z.1 z.2) (λ j. (sym et j, sym ek j, f j)) ∙ own.1, subst (λ z. Shows script es z own.0 q) et own.2)
+
+      last : (ended : Option StmtResult) → IfSome ended (λ r. ShowsStatement script es x.thread r) → (i ≡ length x.results) × (ended ≡ Some r)
+          → (s : Statement) × (statement_at script t k i ≡ Some s) × Shows script es t s r
+      last None own h = absurd (none_some r h.1)
+        where
+          none_some : (r : StmtResult) → ◌≡◌ {A = Option StmtResult} None (Some r) → ⊥
+          none_some r e = cc
+      last (Some q) own h =
+          subst (λ z. (s : Statement) × (statement_at script t k i ≡ Some s) × Shows script es t s z) (same q r h.1) (placed x.thread.place q (h.0 ∙ counted) own)
+        where
+          same : (q r : StmtResult) → ◌≡◌ {A = Option StmtResult} (Some q) (Some r) → q ≡ r
+          same q r e = cc
+
+  traced_thread : (w : WorldAt) (t k : ℕ) → Traced script w → is_there script.targets (Thread t k) ≡ true → Traced script (step script w (Thread t k))
+  traced_thread w t k r e =
+      let there = thread_is_there script w t k r.runs e in
+      let kept = step_keeps statements script w (Thread t k) r.kept r.runs e in
+      let x = r.kept.threads t k there in
+      let at = r.runs.stands t k there in
+      let es = w.shared.book.entries in
+      let y = (run_at w t k).thread in
+      let good = sound_at script y.target y.thread y.place r.runs.sound statements in
+      let inside = thread_there script w r.kept r.runs t k there statements in
+      let seen = (on_word w.shared (thread_plan script y)).seen in
+      let next = thread_after script y seen in
+      let told : Traces script es y next =
+      row_traces script es y y.stage refl x.sound at.calling at.over (subst (λ u. IsTracedThread script es u y.stage) (sym x.its_target) (r.threads t k there)) seen
+      (finds script w r.words y y.stage x.sound good inside) in
+      let z : RunAt = record { thread = next.thread; results = (run_at w t k).results ++ option_to_list next.ended } in
+      let here = listed w.threads t k there in
+      let book : es ≡ (step script w (Thread t k)).shared.book.entries = ap (λ b. b.entries) (sym (thread_book script w t k r.kept r.runs there statements)) in
+      record {
+        kept = kept.0;
+        runs = kept.1;
+        words = subst (λ q. AreSourcedWords script q (step script w (Thread t k)).shared.words) book
+            (sourced_words script es w.shared (thread_plan script y) r.words inside (row_writes script es y y.stage x.sound at.calling x.short at.block good));
+        copies = subst (λ q. AreSourcedCopies script q) book r.copies;
+        workers = λ u l. subst (λ q. IsTracedWorker script q u (worker_at w u).channel (worker_at w u).stage) book (r.workers u l);
+        threads = subst (λ q. (u j : ℕ) → j < length (get_or (set w.threads t (set (threads_at w t) k z)) u [])
+            → IsTracedThread script q u (get_or (get_or (set w.threads t (set (threads_at w t) k z)) u []) j no_run).thread.stage) book
+            (each_set (λ u j (q : RunAt). IsTracedThread script es u q.thread.stage) no_run w.threads t k z here there r.threads
+            (subst (λ u. IsTracedThread script es u next.thread.stage) x.its_target told.stage));
+        shown = subst (λ q. (u j : ℕ) → j < length (get_or (set w.threads t (set (threads_at w t) k z)) u [])
+            → RunShows script q u j (get_or (get_or (set w.threads t (set (threads_at w t) k z)) u []) j no_run)) book
+            (each_set (RunShows script es) no_run w.threads t k z here there r.shown
+            (shows_more es t k (run_at w t k) next.ended x.its_target x.its_number x.counted (r.shown t k there) told.shown));
+      }
+
+  -- at the start
+  free_source : (t n c j : ℕ) → j < 65 → at c j < n * 65 → HasSource script [] t c j (slice_index (free_channels n) (at c j))
+  free_source t n c j l m = record {
+    state = λ e. inl (subst (λ z. (1 ≤ z) × (z ≤ 5)) (sym (opened n (at c j) m ∙ zero_place j e)) (lit≤ tt, lit≤ tt));
+    word = λ i e. inl (opened n (at c j) m ∙ other_place i e);
+  }
+    where
+      zero_place : (j : ℕ) → j ≡ 0 → opening_at (at c j) ≡ 1
+      zero_place j e =
+          let whole : (at c j) % 65 ≡ 0 = omega (arith, e) in
+          ap (λ z. if z == 0 then 1 else 0) whole
+
+      other_place : (i : ℕ) → j ≡ 1 + i → opening_at (at c j) ≡ 0
+      other_place i e =
+          let whole : (at c j) % 65 ≡ 1 + i = omega (arith, e, l) in
+          ap (λ z. if z == 0 then 1 else 0) whole ∙ ap (λ b. if b then 1 else 0) (apart i)
+        where
+          apart : (i : ℕ) → (1 + i == 0) ≡ false
+          apart i = grind (arith, nat_tests)
+
+  traced_start : (policies : List Policy) → is_ready policies script ≡ true → Traced script (start_world policies script)
+  traced_start policies h = record {
+    kept = kept;
+    runs = runs;
+    words = λ t c j l m.
+        let n = channels_of (slice_get script.targets t) in
+        let size = free_length n in
+        let same = words_at script.targets t in
+        subst (λ (z : List ℕ). HasSource script [] t c j (slice_index z (at c j))) (sym same)
+        (free_source t n c j l (subst (λ z. at c j < z) (ap (λ (z : List ℕ). length z) same ∙ size) m));
+    copies = λ n e f. absurd (no_entry n e f);
+    workers = λ t l.
+        subst (λ (x : WorkerAt). IsTracedWorker script [] t x.channel x.stage)
+        (sym (each_is (first_worker script.targets) (first_workers script.targets) refl (λ n. refl) (length script.targets) t no_worker
+        (subst (λ n. t < n) (as_many script (start_world policies script) kept runs) l))) tt;
+    threads = λ t k l. subst (λ (x : RunAt). IsTracedThread script [] t x.thread.stage) (sym (start_run targets statements policies script h t k l)) (traced_first script [] t (statement_at script t k 0));
+    shown = λ t k l i r e. absurd (none_of i r (ap (λ (x : RunAt). slice_get x.results i) (sym (start_run targets statements policies script h t k l)) ∙ e));
+  }
+    where
+      kept : IsWorld (start_world policies script)
+      kept = starts_world targets statements policies script h
+
+      runs : IsRunning script (start_world policies script)
+      runs = starts_running targets statements policies script h
+
+      none_of : (i : ℕ) (r : StmtResult) → ◌≡◌ {A = Option StmtResult} (slice_get [] i) (Some r) → ⊥
+      none_of i r e = cc
+
+      no_entry : (n : ℕ) (e : Entry) → ◌≡◌ {A = Option Entry} (slice_get [] n) (Some e) → ⊥
+      no_entry n e f = cc
+
+  traced_step : (w : WorldAt) (actor : Actor) → Traced script w → is_there script.targets actor ≡ true → Traced script (step script w actor)
+  traced_step w (Worker t) r e = traced_worker script w t r (worker_is_there script w t r.kept r.runs e)
+  traced_step w (Thread t k) r e = traced_thread w t k r e
+
+  pub traced_steps : (actors : List Actor) (w : WorldAt) → Traced script w → are_there script.targets actors ≡ true → Traced script (steps script actors w)
+  traced_steps [] w r e = r
+  traced_steps (actor ∷ actors) w r e =
+      let parts = and_parts (is_there script.targets actor) (are_there script.targets actors) e in
+      traced_steps actors (step script w actor) (traced_step w actor r parts.0) parts.1
+
+  chosen : (b : Bool) (v w : WorldAt) → Traced script v → Traced script w → Traced script (elim b [ true ↦ v | false ↦ w ])
+  chosen true v w x y = x
+  chosen false v w x y = y
+
+  traced_rounds : (n : ℕ) (w : WorldAt) → Traced script w → are_there script.targets (round_actors script.targets) ≡ true → Traced script (rounds n script w)
+  traced_rounds zero w r e = r
+  traced_rounds (suc n) w r e =
+      chosen (all_finished script w) w (rounds n script (round script w)) r
+      (traced_rounds n (round script w) (traced_steps (round_actors script.targets) w r e) e)
+
+  traced_pass : (n : ℕ) (w : WorldAt) → Traced script w → n ≤ length w.workers → Traced script (pass_below n w) × (length (pass_below n w).workers ≡ length w.workers)
+  traced_pass zero w r l = (r, refl)
+  traced_pass (suc n) w r l =
+      let before = traced_pass n w r (omega (arith, l)) in
+      let same = before.1 in
+      (traced_worker script (pass_below n w) n before.0 (omega (arith, same, l)), length-set (pass_below n w).workers n _ ∙ same)
+
+  traced_drained : (n : ℕ) (w : WorldAt) → Traced script w → Traced script (drained_by n w)
+  traced_drained zero w r = r
+  traced_drained (suc n) w r =
+      let within : length w.workers ≤ length w.workers = omega arith in
+      chosen (is_settled w) w (drained_by n (one_pass w)) r (traced_drained n (one_pass w) (traced_pass (length w.workers) w r within).0)
+
+  traced_played : (policies : List Policy) (schedule : Schedule) → CanRun policies script schedule → Traced script (played policies script schedule)
+  traced_played policies schedule can =
+      traced_rounds schedule.rounds (steps script (scheduled schedule.steps) (start_world policies script))
+      (traced_steps (scheduled schedule.steps) (start_world policies script) (traced_start policies can.ready) (scheduled_there script.targets schedule.steps can.there))
+      (rounds_there script.targets)
+
+  -- the results of such a world, as a report shows them
+  shown_results : (w : WorldAt) → Traced script w → (threads : List (List RunAt)) → w.threads ≡ threads → (t k i : ℕ) (r : StmtResult) → result_at (results_of threads) t k i ≡ Some r
+      → (s : Statement) × (statement_at script t k i ≡ Some s) × Shows script w.shared.book.entries t s r
+  shown_results w traced threads same t k i r e = by_test (ltb k (length (threads_at w t))) refl
+    where
+      found : slice_get (run_at w t k).results i ≡ Some r
+      found = ap (λ (z : List (List RunAt)). slice_get (get_or (get_or z t []) k no_run).results i) same ∙ (sym (results_at threads t k i) ∙ e)
+
+      none_of : (i : ℕ) (r : StmtResult) → ◌≡◌ {A = Option StmtResult} (slice_get [] i) (Some r) → ⊥
+      none_of i r e = cc
+
+      by_test : (b : Bool) → ltb k (length (threads_at w t)) ≡ b → (s : Statement) × (statement_at script t k i ≡ Some s) × Shows script w.shared.book.entries t s r
+      by_test true f = let low : k < length (threads_at w t) = grind (arith, nat_tests) in traced.shown t k low i r found
+      by_test false f =
+          let past : length (threads_at w t) ≤ k = grind (arith, nat_tests) in
+          absurd (none_of i r (ap (λ (x : RunAt). slice_get x.results i) (sym (no_run_past (threads_at w t) k past)) ∙ found))
+
+  sourced_report : (policies : List Policy) (schedule : Schedule) → CanRun policies script schedule → (o : Option (ℕ × ℕ)) → IsSourced script (ended (played policies script schedule) o).report
+  sourced_report policies schedule can None =
+      let before = played policies script schedule in
+      let r = traced_drained most_passes before (traced_played policies schedule can) in
+      record { copies = r.copies; results = shown_results (drained before) r before.threads (drained_threads before); words = r.words }
+  sourced_report policies schedule can (Some thread) =
+      let before = played policies script schedule in
+      let r = traced_played policies schedule can in
+      record { copies = r.copies; results = shown_results before r before.threads refl; words = r.words }
+
+pub no_block_is_invented : SoundTargets → SoundStatements → NoBlockIsInvented
+no_block_is_invented targets statements policies script schedule can =
+    sourced_report targets statements script policies schedule can (first_unfinished script (played policies script schedule).threads)

@@ -1,0 +1,21 @@
+use Rattle.std.proofs.Common.{◌≡◌, subst, sym, true}
+use Rattle.sb_statements.specs.Actors.{is_there}
+use Rattle.sb_statements.specs.declared.schedules.Actor.TheVariants.{Thread}
+use Rattle.sb_core.specs.Kept.{IsRunning}
+use Rattle.sb_core.specs.Worlds.{step}
+use Rattle.sb_core.proofs.Running.{step_keeps, worker_is_there}
+use Rattle.sb_core.proofs.worlds.World.step.Goals as goal
+
+pub worker_step-requires-clause-target : goal.worker_step-requires-clause-target
+worker_step-requires-clause-target g c κs within =
+    worker_is_there c.args.script.now c.args.self.now c.in-Worker.target c.establish_kept.ensures c.requires.running
+    (subst (λ a. is_there c.args.script.now.targets a ≡ true) c.in-Worker.is c.requires.there)
+
+pub returns-in-Thread-clause-running :
+    goal.returns-in-Thread-clause-running
+returns-in-Thread-clause-running g c =
+    let actor = Thread c.in-Thread.target c.in-Thread.thread in
+    let made : c.thread_step.new.self ≡ step c.args.script.now c.args.self.now actor = c.thread_step.ensures.value in
+    let there : is_there c.args.script.now.targets actor ≡ true = subst (λ a. is_there c.args.script.now.targets a ≡ true) c.in-Thread.is c.requires.there in
+    subst (λ v. IsRunning c.args.script.now v) (sym made)
+    (step_keeps c.sound_parts.ensures.statements c.args.script.now c.args.self.now actor c.establish_kept.ensures c.requires.running there).1

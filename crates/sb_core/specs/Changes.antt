@@ -1,0 +1,73 @@
+-- What a step changes: at most one word, the actor itself, at Take and Give the turn, at Mark the book, and nothing else.
+use Rattle.std.specs.Prelude.{◌≡◌, ◌≢◌, ℕ, Bool, true, false, ◌==◌, ◌&&◌, List, ◌++◌, length, slice_index, Option}
+use Rattle.std.specs.Option.{option_to_list}
+use Rattle.sb_actor.specs.ThreadTable.{thread_plan}
+use Rattle.sb_actor.specs.WorkerTable.{worker_plan}
+use Rattle.sb_actor.specs.declared.acts.Act.{Act}
+use Rattle.sb_actor.specs.declared.acts.Act.TheVariants as act
+use Rattle.sb_statements.specs.declared.results.StmtResult.{StmtResult}
+use Rattle.sb_statements.specs.declared.schedules.Actor.{Actor}
+use Rattle.sb_statements.specs.declared.schedules.Actor.TheVariants.{Worker, Thread}
+use Rattle.sb_statements.specs.declared.scripts.Script.{Script}
+use Rattle.sb_core.specs.Words.{place_of, words_of}
+use Rattle.sb_core.specs.Worlds.{WorldAt, worker_at, run_at}
+
+-- the next step of an actor
+abbrev pub plan_of : Script → WorldAt → Actor → Act
+plan_of script w (Worker target) = worker_plan (worker_at w target)
+plan_of script w (Thread target thread) = thread_plan script (run_at w target thread).thread
+
+-- the step stores or exchanges word i of a target
+abbrev pub writes : Act → ℕ → ℕ → Bool
+writes (act.Store target word value) t i = target == t && place_of word == i
+writes (act.Exchange target word from to) t i = target == t && place_of word == i
+writes (act.Load target word) t i = false
+writes act.Take t i = false
+writes act.Mark t i = false
+writes act.Give t i = false
+writes act.Idle t i = false
+
+-- it loads a word
+abbrev pub is_load : Act → Bool
+is_load (act.Load target word) = true
+is_load (act.Store target word value) = false
+is_load (act.Exchange target word from to) = false
+is_load act.Take = false
+is_load act.Mark = false
+is_load act.Give = false
+is_load act.Idle = false
+
+-- it takes the turn or gives it back
+abbrev pub moves_turn : Act → Bool
+moves_turn act.Take = true
+moves_turn act.Give = true
+moves_turn act.Mark = false
+moves_turn act.Idle = false
+moves_turn (act.Load target word) = false
+moves_turn (act.Store target word value) = false
+moves_turn (act.Exchange target word from to) = false
+
+-- the book answers
+abbrev pub is_mark : Act → Bool
+is_mark act.Mark = true
+is_mark act.Take = false
+is_mark act.Give = false
+is_mark act.Idle = false
+is_mark (act.Load target word) = false
+is_mark (act.Store target word value) = false
+is_mark (act.Exchange target word from to) = false
+
+-- the results of a thread after a step: as they were, or one more
+abbrev pub IsOneMore : List StmtResult → List StmtResult → Type 0
+IsOneMore before after = (ended : Option StmtResult) × (after ≡ before ++ option_to_list ended)
+
+-- from one world to another by a step of an actor with this plan
+pub record Changes (actor : Actor) (plan : Act) (w v : WorldAt) : Type 0 where
+  pub words : (t i : ℕ) → writes plan t i ≡ false → slice_index (words_of v.shared.words t) i ≡ slice_index (words_of w.shared.words t) i
+  pub sizes : (t : ℕ) → length (words_of v.shared.words t) ≡ length (words_of w.shared.words t)
+  pub turn : moves_turn plan ≡ false → v.shared.turn ≡ w.shared.turn
+  pub book : is_mark plan ≡ false → v.shared.book ≡ w.shared.book
+  pub setting : v.shared.book.setting ≡ w.shared.book.setting
+  pub workers : (t : ℕ) → actor ≢ Worker t → worker_at v t ≡ worker_at w t
+  pub threads : (t k : ℕ) → actor ≢ Thread t k → run_at v t k ≡ run_at w t k
+  pub results : (t k : ℕ) → IsOneMore (run_at w t k).results (run_at v t k).results

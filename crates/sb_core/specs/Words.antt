@@ -1,0 +1,52 @@
+-- The channel words of a target: for each channel its state, and then the 64 words of its block.
+use Rattle.std.specs.Prelude.{ℕ, zero, suc, ◌/◌, ◌<◌, Bool, false, ◌||◌, ◌==◌, if◌then◌else◌, List, [], ◌∷◌, ◌++◌, length, replicate, slice_index, slice_index_or, slice_set}
+use Rattle.std.specs.List.{list_any}
+use Rattle.sb_actor.specs.Acts.{free, ready}
+use Rattle.sb_actor.specs.Moves.{at}
+use Rattle.sb_statements.specs.declared.statements.Word.{Word}
+
+-- nobody uses the channel, and each word of its block is 0
+abbrev pub free_channel : List ℕ
+free_channel = free ∷ replicate 64 0
+
+-- the words of so many channels at the start
+abbrev pub free_channels : ℕ → List ℕ
+free_channels zero = []
+free_channels (suc n) = free_channels n ++ free_channel
+
+-- where a word stands among the words of its target: word j of channel c at c * 65 + j
+abbrev pub place_of : Word → ℕ
+place_of word = at word.channel word.at
+
+-- what a word holds
+abbrev pub loaded : List ℕ → Word → ℕ
+loaded words word = slice_index words (place_of word)
+
+-- the words with a value stored into one of them
+abbrev pub stored : List ℕ → Word → ℕ → List ℕ
+stored words word value = slice_set words (place_of word) value
+
+-- the words with `to` stored into one of them where it held `from`; another value stays
+abbrev pub exchanged : List ℕ → Word → ℕ → ℕ → List ℕ
+exchanged words word from to = if loaded words word == from then stored words word to else words
+
+-- the state of one of the first n channels is 3
+abbrev pub is_ready_below : ℕ → List ℕ → Bool
+is_ready_below zero words = false
+is_ready_below (suc n) words = slice_index words (at n 0) == ready || is_ready_below n words
+
+-- a state word of the target is 3
+abbrev pub has_ready : List ℕ → Bool
+has_ready words = is_ready_below (length words / 65) words
+
+-- a state word of some target is 3
+abbrev pub some_ready : List (List ℕ) → Bool
+some_ready words = list_any has_ready words
+
+-- the words of a target; one that is not there has none
+abbrev pub words_of : List (List ℕ) → ℕ → List ℕ
+words_of words target = slice_index_or words target []
+
+-- the target is there, and so is its word
+abbrev pub IsWordThere : List (List ℕ) → ℕ → Word → Type 0
+IsWordThere words target word = (target < length words) × (place_of word < length (words_of words target))

@@ -1,0 +1,63 @@
+// The drain: the workers serve what is still ready, while no thread makes a step.
+ghost use Rattle.std.specs.Prelude.{◌≡◌, OnOk};
+ghost use Rattle.std.specs.List.{list_all};
+ghost use Rattle.sb_actor.specs.WorkerTable.{is_looking};
+ghost use Rattle.sb_core.specs.Drains.{is_settled, one_pass, drained};
+ghost use Rattle.sb_core.specs.Kept.{IsReached};
+ghost use Rattle.sb_statements.specs.declared.scripts.Script.{Script};
+
+use crate::worlds::World;
+use sb_actor::WorkerState;
+use sb_items::NoMemory;
+use sb_rule::Judge;
+use std::alloc::Global;
+
+/// More passes than any drain makes.
+const MOST_PASSES: u32 = 10_000;
+
+fn all_looking(workers: &[WorkerState]) -> bool
+    ensures { result ≡ list_all (λ worker. is_looking worker.stage) workers.now }
+{
+    workers.iter().all(|worker| worker.looking())
+}
+
+// Whether each worker is looking, and no state word is 3.
+fn is_settled(world: &World) -> bool
+    ensures { result ≡ is_settled world.now }
+{
+    all_looking(&world.workers) && !world.shared.some_ready()
+}
+
+// One step of each worker, in target order.
+#[tactic(auto, using(crate::proofs::Folding::pass_more, crate::proofs::Folding::reached_below))]
+fn make_pass<J: Judge>(alloc: Global, judge: &J, world: &mut World) -> Result<(), NoMemory>
+    requires judge { J.policies judge.now ≡ world.old.shared.book.setting.policies }
+    ensures ok { OnOk result (world.new ≡ one_pass world.old) }
+    ensures reached { (script : Script) → IsReached script world.old world.new }
+    ensures setting { world.new.shared.book.setting ≡ world.old.shared.book.setting }
+{
+    for target in 0..world.worker_count() {
+        world.worker_step(alloc, judge, target)?;
+    }
+    Ok(())
+}
+
+/// The drain of a world, whatever its script: one step of each worker in target order, again and again, until each is looking and no
+/// state word is 3. After an error the world is that of the steps so far.
+///
+/// # Errors
+/// `NoMemory` where there was none for a step.
+#[tactic(auto, using(crate::proofs::Folding::drained_done, crate::proofs::Folding::drained_more, crate::proofs::Folding::reached_self, crate::proofs::Folding::reached_on))]
+pub(crate) fn settle<J: Judge>(alloc: Global, judge: &J, world: &mut World) -> Result<(), NoMemory>
+    requires judge { J.policies judge.now ≡ world.old.shared.book.setting.policies }
+    ensures ok { OnOk result (world.new ≡ drained world.old) }
+    ensures reached { (script : Script) → IsReached script world.old world.new }
+    ensures setting { world.new.shared.book.setting ≡ world.old.shared.book.setting }
+{
+    let mut left = MOST_PASSES;
+    while left > 0 && !is_settled(world) {
+        make_pass(alloc, judge, world)?;
+        left -= 1;
+    }
+    Ok(())
+}

@@ -1,0 +1,186 @@
+// What all actors share, and one step there.
+ghost use Rattle.std.specs.Prelude.{◌≡◌, ◌<◌, length, slice_index, is_none, None, IfOk, OnOk, OnErr};
+ghost use Rattle.sb_actor.specs.declared.acts.Act.TheVariants.{Mark};
+ghost use Rattle.sb_actor.specs.declared.acts.Seen.TheVariants.{Value, Done, Turn};
+ghost use Rattle.sb_actor.specs.WorkerTable.{worker_plan, taken_in, IsAnswer};
+ghost use Rattle.sb_core.specs.Shared.{on_word, on_worker, marked, turn_taken, with_words, IsActThere};
+ghost use Rattle.sb_core.specs.Words.{loaded, stored, exchanged, some_ready, words_of, IsWordThere};
+
+use crate::words::TargetWords;
+use sb_actor::{Act, Seen, WorkerState};
+use sb_book::{Book, decide};
+use sb_items::NoMemory;
+use sb_rule::Judge;
+use sb_statements::Word;
+use std::alloc::Global;
+use std::marker::Model;
+
+/// The channel words of each target, the target whose worker has the turn, and the book.
+#[derive(Debug, Drop)]
+pub(crate) struct Shared {
+    pub(crate) words: Vec<TargetWords>,
+    pub(crate) turn: Option<u32>,
+    pub(crate) book: Book,
+}
+
+impl Model for Shared {
+    ghost use Rattle.sb_core.specs.Shared.{SharedAt};
+
+    ghost Value = { SharedAt };
+
+    ghost view = { λ s. record { words = s.words.items; turn = s.turn; book = s.book } };
+}
+
+impl Shared {
+    // A load.
+    #[inline]
+    fn load(&self, target: u32, word: Word) -> Seen
+        requires { IsWordThere self.now.words target word }
+        ensures { result ≡ Value (loaded (words_of self.now.words target) word) }
+    {
+        Seen::Value(self.words[target as usize].load(word))
+    }
+
+    // A store.
+    #[inline]
+    fn store(&mut self, target: u32, word: Word, value: u64) -> Seen
+        requires { IsWordThere self.old.words target word }
+        ensures seen { result ≡ Done }
+        ensures shared { self.new ≡ with_words self.old target (stored (words_of self.old.words target) word value) }
+    {
+        self.words[target as usize].store(word, value);
+        Seen::Done
+    }
+
+    // An exchange.
+    #[inline]
+    fn exchange(&mut self, target: u32, word: Word, from: u64, to: u64) -> Seen
+        requires { IsWordThere self.old.words target word }
+        ensures seen { result ≡ Value (loaded (words_of self.old.words target) word) }
+        ensures shared { self.new ≡ with_words self.old target (exchanged (words_of self.old.words target) word from to) }
+    {
+        Seen::Value(self.words[target as usize].exchange(word, from, to))
+    }
+
+    // The worker of a target takes the turn, where nobody has it.
+    #[inline]
+    fn take_turn(&mut self, target: u32) -> Seen
+        ensures seen { result ≡ Turn (is_none self.old.turn) }
+        ensures shared { self.new ≡ record self.old { turn = turn_taken target self.old.turn } }
+    {
+        match self.turn {
+            Some(_) => Seen::Turn(false),
+            None => {
+                self.turn = Some(target);
+                Seen::Turn(true)
+            }
+        }
+    }
+
+    // The turn is given back.
+    #[inline]
+    fn give_turn(&mut self) -> Seen
+        ensures seen { result ≡ Done }
+        ensures shared { self.new ≡ record self.old { turn = None } }
+    {
+        self.turn = None;
+        Seen::Done
+    }
+
+    // The book answers the copy of a target's worker.
+    fn mark<J: Judge>(
+        &mut self,
+        alloc: Global,
+        judge: &J,
+        target: u32,
+        worker: &WorkerState,
+    ) -> Result<Seen, NoMemory>
+        requires judge { J.policies judge.now ≡ self.old.book.setting.policies }
+        requires target { target < length self.old.book.setting.policies }
+        requires channel { worker.now.channel < slice_index self.old.book.setting.channels target }
+        ensures seen { IfOk result (λ s. s ≡ (marked self.old target worker.now (taken_in worker.now.stage)).seen) }
+        ensures shared { OnOk result (self.new ≡ (marked self.old target worker.now (taken_in worker.now.stage)).shared) }
+        ensures err { OnErr result (self.new ≡ self.old) }
+        ensures answer { IfOk result (λ s. IsAnswer worker.now.stage s) }
+    {
+        let Some(taken) = worker.taken() else {
+            return Ok(Seen::Done);
+        };
+        let decision = decide(alloc, judge, target, taken)?;
+        let reply = self.book.answer(target, worker.channel(), taken, decision)?;
+        Ok(Seen::Answered(reply))
+    }
+
+    /// Makes the step of a thread, which is on a word, and gives what it found.
+    #[inline]
+    pub(crate) fn perform(&mut self, act: Act) -> Seen
+        requires { IsActThere self.old.words act }
+        ensures seen { result ≡ (on_word self.old act).seen }
+        ensures shared { self.new ≡ (on_word self.old act).shared }
+    {
+        match act {
+            Act::Load { target, word } => self.load(target, word),
+            Act::Store {
+                target,
+                word,
+                value,
+            } => self.store(target, word, value),
+            Act::Exchange {
+                target,
+                word,
+                from,
+                to,
+            } => self.exchange(target, word, from, to),
+            Act::Take | Act::Mark | Act::Give | Act::Idle => Seen::Done,
+        }
+    }
+
+    /// Makes the step of the worker of a target, and gives what it found. After an error nothing is changed.
+    ///
+    /// # Errors
+    /// `NoMemory` where the step is at Mark and there was none for the call's strings, for the entry, or for what the call makes.
+    #[inline]
+    pub(crate) fn work<J: Judge>(
+        &mut self,
+        alloc: Global,
+        judge: &J,
+        target: u32,
+        worker: &WorkerState,
+    ) -> Result<Seen, NoMemory>
+        requires judge { J.policies judge.now ≡ self.old.book.setting.policies }
+        requires target { target < length self.old.book.setting.policies }
+        requires channel { worker.now.channel < slice_index self.old.book.setting.channels target }
+        requires there { IsActThere self.old.words (worker_plan worker.now) }
+        ensures seen { IfOk result (λ s. s ≡ (on_worker self.old target worker.now (worker_plan worker.now)).seen) }
+        ensures shared { OnOk result (self.new ≡ (on_worker self.old target worker.now (worker_plan worker.now)).shared) }
+        ensures err { OnErr result (self.new ≡ self.old) }
+        ensures cause { OnErr result (worker_plan worker.now ≡ Mark) }
+        ensures answer { IfOk result (λ s. IsAnswer worker.now.stage s) }
+    {
+        match worker.plan() {
+            Act::Load { target, word } => Ok(self.load(target, word)),
+            Act::Store {
+                target,
+                word,
+                value,
+            } => Ok(self.store(target, word, value)),
+            Act::Exchange {
+                target,
+                word,
+                from,
+                to,
+            } => Ok(self.exchange(target, word, from, to)),
+            Act::Take => Ok(self.take_turn(target)),
+            Act::Mark => Ok(self.mark(alloc, judge, target, worker)?),
+            Act::Give => Ok(self.give_turn()),
+            Act::Idle => Ok(Seen::Done),
+        }
+    }
+
+    /// Whether a state word is 3.
+    pub(crate) fn some_ready(&self) -> bool
+        ensures { result ≡ some_ready self.now.words }
+    {
+        self.words.iter().any(|words| words.has_ready())
+    }
+}

@@ -1,0 +1,129 @@
+// The channel words of a target.
+ghost use Rattle.std.specs.Prelude.{◌≡◌, ◌<◌, length, IfOk};
+ghost use Rattle.sb_core.specs.Words.{free_channel, free_channels, place_of, loaded, stored, exchanged, has_ready};
+
+use sb_actor::{FREE, READY};
+use sb_items::{Items, NoMemory};
+use sb_statements::Word;
+use std::alloc::Global;
+use std::marker::Model;
+
+// A channel has its state and 64 words of a block.
+const CHANNEL: usize = 65;
+
+/// The words of a target's channels: word j of channel c stands at `c * 65 + j`. Contracts see them as a list.
+///
+/// Each load, store and exchange stands for one atomic step of the actor that makes it. Actors here take turns, step by step.
+#[derive(Debug, Drop)]
+pub(crate) struct TargetWords {
+    words: Vec<u64>,
+}
+
+impl Model for TargetWords {
+    ghost use Rattle.std.specs.Prelude.{List, ℕ};
+
+    ghost Value = { List ℕ };
+
+    ghost view = { λ t. t.words.items };
+}
+
+// A free channel whose block words are 0.
+fn free_channel() -> [u64; 65]
+    ensures { result ≡ free_channel }
+{
+    let mut words = [0; 65];
+    words[0] = FREE;
+    words
+}
+
+// Where a word stands.
+#[inline]
+fn place_of(word: Word, len: usize) -> usize
+    requires { place_of word < len }
+    ensures { result ≡ place_of word }
+{
+    let _len = len;
+    word.channel as usize * CHANNEL + word.at as usize
+}
+
+impl TargetWords {
+    /// The words of so many free channels.
+    ///
+    /// # Errors
+    /// `NoMemory` where there was none for the words.
+    #[tactic(auto, using(crate::proofs::Counting::channels_more))]
+    pub(crate) fn free(alloc: Global, channels: u32) -> Result<TargetWords, NoMemory>
+        ensures { IfOk result (λ t. t ≡ free_channels channels) }
+    {
+        let mut words = Vec::new(alloc);
+        let channel = free_channel();
+        for _channel in 0..channels {
+            words.extend_from_slice(&channel)?;
+        }
+        Ok(TargetWords { words })
+    }
+
+    /// The words of a list. It takes no memory.
+    pub(crate) fn new(words: Items<u64>) -> TargetWords
+        ensures { result ≡ words }
+    {
+        TargetWords {
+            words: words.into_items(),
+        }
+    }
+
+    /// The words as a list. It takes no memory.
+    pub(crate) fn into_list(self) -> Items<u64>
+        ensures { result ≡ self }
+    {
+        Items::new(self.words)
+    }
+
+    /// What a word holds.
+    #[inline]
+    pub(crate) fn load(&self, word: Word) -> u64
+        requires { place_of word < length self.now }
+        ensures { result ≡ loaded self.now word }
+    {
+        self.words[place_of(word, self.words.len())]
+    }
+
+    /// Stores a value into a word.
+    #[inline]
+    pub(crate) fn store(&mut self, word: Word, value: u64)
+        requires { place_of word < length self.old }
+        ensures { self.new ≡ stored self.old word value }
+    {
+        let at = place_of(word, self.words.len());
+        self.words[at] = value;
+    }
+
+    /// Stores `to` into a word that holds `from`, and gives what it held.
+    #[inline]
+    pub(crate) fn exchange(&mut self, word: Word, from: u64, to: u64) -> u64
+        requires { place_of word < length self.old }
+        ensures found { result ≡ loaded self.old word }
+        ensures after { self.new ≡ exchanged self.old word from to }
+    {
+        let at = place_of(word, self.words.len());
+        let found = self.words[at];
+        if found == from {
+            self.words[at] = to;
+        }
+        found
+    }
+
+    /// Whether the state of a channel is 3.
+    pub(crate) fn has_ready(&self) -> bool
+        ensures { result ≡ has_ready self.now }
+    {
+        let mut left = self.words.len() / CHANNEL;
+        while left > 0 {
+            left -= 1;
+            if self.words[left * CHANNEL] == READY {
+                return true;
+            }
+        }
+        false
+    }
+}
