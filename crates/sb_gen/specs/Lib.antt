@@ -1,0 +1,4 @@
+pub mod Generator
+pub mod Calls
+pub mod Policies
+pub mod Scripts

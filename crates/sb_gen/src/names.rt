@@ -1,0 +1,93 @@
+// The names in generated scripts. Each is an ASCII text that ends with a number in decimal.
+ghost use Rattle.std.specs.Prelude.{◌≡◌, ◌++◌, OnOk, IfOk, codes};
+ghost use Rattle.std.specs.Fmt.{decimal};
+ghost use Rattle.sb_gen.specs.Calls.{directory, name_within, root_name, other_name};
+
+use sb_items::NoMemory;
+use sb_wide::Wide;
+use std::alloc::Global;
+
+// The units of the longest name, `\make\aT\kK`, where T has one digit and K three.
+const MOST_UNITS: usize = 13;
+
+// Appends an ASCII text.
+fn put_text(units: &mut Vec<u16>, text: &[u8]) -> Result<(), NoMemory>
+    ensures { OnOk result (units.new.items ≡ units.old.items ++ text.now) }
+{
+    for byte in text {
+        units.push(u16::from(*byte))?;
+    }
+    Ok(())
+}
+
+// Appends an ASCII text and a number in decimal.
+fn put_numbered(units: &mut Vec<u16>, text: &[u8], number: u64) -> Result<(), NoMemory>
+    ensures { OnOk result (units.new.items ≡ units.old.items ++ (text.now ++ decimal number)) }
+{
+    let mut digits = itoa::Buffer::new();
+    put_text(units, text)?;
+    put_text(units, digits.format(number).as_bytes())
+}
+
+// An ASCII text.
+fn ascii(alloc: Global, text: &[u8]) -> Result<Wide, NoMemory>
+    ensures { IfOk result (λ units. units ≡ text.now) }
+{
+    let mut units = Vec::with_capacity(alloc, text.len())?;
+    put_text(&mut units, text)?;
+    Ok(Wide::new(units))
+}
+
+// The text of a ping.
+pub(crate) fn made_text(alloc: Global) -> Result<Wide, NoMemory>
+    ensures { IfOk result (λ text. text ≡ codes "made") }
+{
+    ascii(alloc, b"made")
+}
+
+// `\make`: the directory that holds those of all targets.
+pub(crate) fn make_directory(alloc: Global) -> Result<Wide, NoMemory>
+    ensures { IfOk result (λ name. name ≡ codes "\\make") }
+{
+    ascii(alloc, b"\\make")
+}
+
+// An ASCII text and a number in decimal.
+fn numbered(alloc: Global, text: &[u8], number: u64) -> Result<Wide, NoMemory>
+    ensures { IfOk result (λ name. name ≡ text.now ++ decimal number) }
+{
+    let mut units = Vec::with_capacity(alloc, MOST_UNITS)?;
+    put_numbered(&mut units, text, number)?;
+    Ok(Wide::new(units))
+}
+
+// `\make\aT`: the directory of target T.
+pub(crate) fn directory(alloc: Global, target: u32) -> Result<Wide, NoMemory>
+    ensures { IfOk result (λ name. name ≡ directory target) }
+{
+    numbered(alloc, b"\\make\\a", u64::from(target))
+}
+
+// `\make\aT\kK`: a name in it.
+pub(crate) fn name_within(alloc: Global, target: u32, number: u64) -> Result<Wide, NoMemory>
+    ensures { IfOk result (λ name. name ≡ name_within target number) }
+{
+    let mut units = Vec::with_capacity(alloc, MOST_UNITS)?;
+    put_numbered(&mut units, b"\\make\\a", u64::from(target))?;
+    put_numbered(&mut units, b"\\k", number)?;
+    Ok(Wide::new(units))
+}
+
+// `\kK`: a name in the root.
+pub(crate) fn root_name(alloc: Global, number: u64) -> Result<Wide, NoMemory>
+    ensures { IfOk result (λ name. name ≡ root_name number) }
+{
+    numbered(alloc, b"\\k", number)
+}
+
+// `\other\kK`: a name in a directory that is not there.
+pub(crate) fn other_name(alloc: Global, number: u64) -> Result<Wide, NoMemory>
+    ensures { IfOk result (λ name. name ≡ other_name number) }
+{
+    numbered(alloc, b"\\other\\k", number)
+}
