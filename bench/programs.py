@@ -1,6 +1,7 @@
 """The two programs that are measured, `sandbox` and `sb_bench`: building and running them."""
 import fcntl
 import os
+import resource
 import subprocess
 import sys
 import time
@@ -14,6 +15,13 @@ def fail(message):
     sys.exit("bench: " + message)
 
 
+def processor_seconds():
+    """The seconds that processors spent on all programs that were started here and have ended. Each of these has one thread, so on a
+    quiet machine it is the time that they took, and on a busy one it does not count the others."""
+    usage = resource.getrusage(resource.RUSAGE_CHILDREN)
+    return usage.ru_utime + usage.ru_stime
+
+
 def build():
     """Proves and builds both programs where that is not done."""
     subprocess.run([os.path.join(TOP, "sandbox"), "--version"], check=True, stdout=subprocess.DEVNULL)
@@ -22,13 +30,14 @@ def build():
         fail("crates/sb_bench was not built\n" + built.stdout + built.stderr)
 
 
-def replay(folder):
-    """Replays `policy` and `script` of a folder into its `transcript`: the seconds that it took and the bytes of its peak."""
+def replay(folder, schedule=()):
+    """Replays `policy` and `script` of a folder into its `transcript`, by the schedule of this name where there is one: the
+    seconds that it took and the bytes of its peak."""
     with open(os.path.join(folder, "transcript"), "wb") as out:
-        start = time.perf_counter()
-        child = subprocess.Popen([SANDBOX, "replay", "policy", "script"], cwd=folder, stdout=out)
+        start = processor_seconds()
+        child = subprocess.Popen([SANDBOX, "replay", "policy", "script", *schedule], cwd=folder, stdout=out)
         _, status, usage = os.wait4(child.pid, 0)
-        seconds = time.perf_counter() - start
+        seconds = processor_seconds() - start
     child.returncode = os.waitstatus_to_exitcode(status)
     if child.returncode != 0:
         fail("the program ended with status %d" % child.returncode)
@@ -37,9 +46,9 @@ def replay(folder):
 
 def told_by_sandbox(folder, words):
     """Runs `sandbox` in a folder: the seconds that it took, its exit status, and what it wrote to both outputs."""
-    start = time.perf_counter()
+    start = processor_seconds()
     ended = subprocess.run([SANDBOX] + words, cwd=folder, capture_output=True, text=True)
-    return time.perf_counter() - start, (ended.returncode, ended.stdout, ended.stderr)
+    return processor_seconds() - start, (ended.returncode, ended.stdout, ended.stderr)
 
 
 def bench_words(work, rounds, folder):
@@ -57,9 +66,9 @@ def seconds_of(runs, work, rounds, told, folder):
     """The seconds in which `sb_bench` does a work in so many rounds, in the best run. What it tells of it is `told`."""
     seconds = []
     for _ in range(runs):
-        start = time.perf_counter()
+        start = processor_seconds()
         line = subprocess.run(bench_words(work, rounds, folder), check=True, stdout=subprocess.PIPE, text=True).stdout
-        seconds.append(time.perf_counter() - start)
+        seconds.append(processor_seconds() - start)
         check_told(work, rounds, line, told)
     return min(seconds)
 

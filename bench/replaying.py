@@ -6,7 +6,7 @@ import steps
 import texts
 
 CALLS = 4096
-LEAST_STEPS_PER_SECOND = 500_000
+MOST_SECONDS = 0.02
 MOST_BYTES = 64 * 1024 * 1024
 
 ALLOWED = ["\\ready", "\\done", "\\Sessions\\1\\started", "\\Sessions\\1\\Windows\\ended", "\\a", "\\" + "n" * 120]
@@ -39,8 +39,8 @@ def event_words(name):
 
 
 def measure_events(runs):
-    """Calls and steps per second, and the peak of memory, of a thread that creates events. It fails where the best run has fewer
-    than LEAST_STEPS_PER_SECOND, or where a run takes more than MOST_BYTES."""
+    """Calls and steps per second, and the peak of memory, of a thread that creates events. It fails where the best run takes
+    more than MOST_SECONDS in all, or where a run takes more than MOST_BYTES."""
     made = list(event_calls())
     performed = sum(name in ALLOWED for name, _, _ in made)
     count = steps.steps([event_words(name) for name, _, _ in made])
@@ -55,8 +55,8 @@ def measure_events(runs):
     print("seconds of each run: " + " ".join("%.3f" % seconds for seconds, _ in measured))
     print("best run: %d calls per second, %d steps per second" % (CALLS / best, count / best))
     print("peak of memory: %.1f MiB" % (most / 1024 / 1024))
-    if count / best < LEAST_STEPS_PER_SECOND:
-        programs.fail("fewer than %d steps per second" % LEAST_STEPS_PER_SECOND)
+    if best > MOST_SECONDS:
+        programs.fail("%d calls of event.create take more than %.2f seconds" % (CALLS, MOST_SECONDS))
     if most > MOST_BYTES:
         programs.fail("more than %d MiB" % (MOST_BYTES // 1024 // 1024))
 

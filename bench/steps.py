@@ -1,8 +1,9 @@
 """How many steps a replay takes.
 
 A step is one step of the worker or of the thread. They are counted by a model that follows the rows of both actors
-(crates/sb_core/specs/Workers.antt, Threads.antt and Worlds.antt) without the values of words: on a channel that nothing
-else touches, the state and the length of the block decide each next phase.
+(crates/sb_actor/specs/WorkerTable.antt and ThreadTable.antt) and the rounds of crates/sb_core/specs/Worlds.antt, without the
+values of words: on a channel that nothing else touches, the state and the length of the block decide each next phase. It is
+of one target with one channel and one thread, so the turn is free whenever the worker takes it.
 """
 import programs
 
@@ -43,7 +44,7 @@ def steps(lengths):
                 state, at = 1, at + 1
             elif phase in ("fill", "fetch"):
                 at += 1
-    # the drain: the worker's steps until it looks and nothing is ready
+    # the drain: steps of the worker until it looks and nothing is ready
     return 2 * rounds + len(work)
 
 

@@ -31,6 +31,14 @@ def single_target(threads, opening=()):
     return lines
 
 
+def target_lines(name, channels, threads):
+    """The lines of a target under the policy `web`, whose threads have these statements."""
+    lines = ["target %s web %d" % (name, channels)]
+    for statements in threads:
+        lines += ["thread", *statements]
+    return lines
+
+
 def mixed_numbers(count):
     """Numbers that are as good as drawn by lot, below 2^31, and the same each time."""
     number = 1

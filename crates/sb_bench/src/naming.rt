@@ -5,7 +5,7 @@ use crate::inputs::{Inputs, names_of, statements_of};
 use sb_call::Arg;
 use sb_names::{NameTree, TreeFault};
 use sb_statements::Statement;
-use sb_wide::NoMemory;
+use sb_wide::{NoMemory, is_name};
 use std::alloc::Global;
 
 /// Makes a tree of the names of the first thread's calls, in their order, in these rounds.
@@ -56,7 +56,7 @@ fn tree_of(alloc: Global, inputs: &Inputs) -> Result<NameTree, Failure> {
 fn add_all(tree: &mut NameTree, names: &[&[u16]]) -> Result<u64, NoMemory> {
     let mut added: u64 = 0;
     for name in names {
-        if is_made(tree.add(name, 1))? {
+        if is_name(name) && is_made(tree.add(name, 1))? {
             added = added.saturating_add(1);
         }
     }
@@ -72,10 +72,13 @@ fn is_made(outcome: Result<(), TreeFault>) -> Result<bool, NoMemory> {
 }
 
 fn found_names(tree: &NameTree, names: &[&[u16]]) -> u64 {
-    names
-        .iter()
-        .filter(|name| tree.find(name).is_some())
-        .count() as u64
+    let mut found: u64 = 0;
+    for name in names {
+        if is_name(name) && tree.find(name).is_some() {
+            found = found.saturating_add(1);
+        }
+    }
+    found
 }
 
 // The old names and the new ones of these calls of file.rename.
@@ -106,7 +109,7 @@ fn move_of(statement: &Statement) -> Option<(&[u16], &[u16])> {
 fn rename_all(tree: &mut NameTree, moves: &[(&[u16], &[u16])]) -> Result<u64, NoMemory> {
     let mut renamed: u64 = 0;
     for names in moves {
-        if is_made(tree.rename(names.0, names.1))? {
+        if is_name(names.0) && is_name(names.1) && is_made(tree.rename(names.0, names.1))? {
             renamed = renamed.saturating_add(1);
         }
     }

@@ -49,12 +49,17 @@ rattle-kit-13f logic dac8208d650f15bf
 const HELP: &str = "sandbox: the broker side of a two-party sandbox
 
 usage:
-  sandbox check POLICY           prints the policies of POLICY, with each grant
-                                 as the rules that it stands for
-  sandbox replay POLICY SCRIPT   makes the calls of SCRIPT under POLICY and
-                                 prints the transcript
-  sandbox --help                 prints this text
-  sandbox --version              prints the version and the kit that proved it
+  sandbox check POLICY
+      prints the policies of POLICY, with each grant as the rules that it
+      stands for, and the code by which calls are judged
+  sandbox replay POLICY SCRIPT [SCHEDULE]
+      runs SCRIPT under POLICY, step by step as SCHEDULE says, and prints the
+      transcript. Without SCHEDULE the steps are made in rounds, at most
+      20000000
+  sandbox --help
+      prints this text
+  sandbox --version
+      prints the version and the kit that proved it
 
 A file whose name begins with `-` is written `./-x`.
 
@@ -63,14 +68,13 @@ exit status:
    2  usage
    3  policy refused
    4  script refused
+   5  schedule refused
    6  missing file
    7  file too long (it has more than 4194304 bytes)
    8  read fault
    9  write fault
   10  unfinished
   11  no memory
-  20  not yet: the script has more than one target, channel or thread,
-      or statements other than calls
 
 faults of a policy:
    1  the text is not UTF-8
@@ -102,6 +106,13 @@ faults of a script:
   12  the call is too big
   13  same name
   14  cannot be placed: no parent, or the name is there
+
+faults of a schedule:
+   1  unknown, missing or extra word
+   2  unknown actor
+   3  bad number
+   4  too many steps
+   5  no rounds
 
 faults of a block, as the first extended word of its reply:
    1  too-many-params

@@ -2,6 +2,7 @@ use crate::hosts::{HostFiles, HostSink};
 use crate::own_words::{OwnWord, own_text, own_word};
 use sb_outside::{FileFault, Files, Sink, SinkFault};
 use sb_ruletext::{TextFault, TextKind};
+use sb_schedule::{ScheduleFault, ScheduleKind};
 use sb_script::{ScriptFault, ScriptKind};
 use sb_top::{Complaint, Status, exit_code};
 use std::alloc::Global;
@@ -57,12 +58,15 @@ fn far_statuses_have_codes_and_lines(rt: HostRuntime) -> Result<(), Fail> {
     let policy = Status::PolicyRefused(TextFault { line, kind });
     let kind = ScriptKind::BadStart;
     let script = Status::ScriptRefused(ScriptFault { line, kind });
+    let kind = ScheduleKind::NoRounds;
+    let schedule = Status::ScheduleRefused(ScheduleFault { line, kind });
     let target = 7;
     let thread = 3;
     let unfinished = Status::Unfinished { target, thread };
     let cases = [
         (policy, 3, "sandbox: policy line 4294967295 fault 10"),
         (script, 4, "sandbox: script line 4294967295 fault 14"),
+        (schedule, 5, "sandbox: schedule line 4294967295 fault 5"),
         (unfinished, 10, "sandbox: unfinished: target 7 thread 3"),
         (Status::NoMemory, 11, "sandbox: no memory"),
     ];
@@ -90,7 +94,7 @@ fn own_words_stand_alone(rt: HostRuntime) -> Result<(), Fail> {
     words.push(String::from_str(rt.alloc(), "--help")?)?;
     words.push(String::from_str(rt.alloc(), "--help")?)?;
     assert_eq!(rt; own_word(&words), None);
-    assert!(rt; own_text(OwnWord::Help).contains("replay POLICY SCRIPT"));
+    assert!(rt; own_text(OwnWord::Help).contains("replay POLICY SCRIPT [SCHEDULE]"));
     assert!(rt; own_text(OwnWord::Help).contains("check POLICY"));
     assert!(rt; own_text(OwnWord::Version).starts_with("sandbox 0.1.0\n"));
     Ok(())

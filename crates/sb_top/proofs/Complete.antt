@@ -4,7 +4,7 @@ use Rattle.std.specs.Prelude.{IsOkAnd, Ok, Err}
 use Rattle.sb_top.specs.Outcomes.{IsCause, IsComplete, Ends, Leaves}
 use Rattle.sb_top.specs.Wanted.{Wanted, Work, Refusal}
 use Rattle.sb_top.specs.declared.outcomes.Status.{Status}
-use Rattle.sb_top.specs.declared.outcomes.Status.TheVariants.{Done, Unfinished, Usage, PolicyRefused, ScriptRefused, NotYet, Missing, TooLong, ReadFault, WriteFault, NoMemory}
+use Rattle.sb_top.specs.declared.outcomes.Status.TheVariants.{Done, Unfinished, Usage, PolicyRefused, ScriptRefused, ScheduleRefused, Missing, TooLong, ReadFault, WriteFault, NoMemory}
 
 -- what is said of the work that is wanted
 work_of : (P : Work → Type 0) (w : Wanted) (work : Work) → w ≡ Ok work → IsOkAnd w P → P work
@@ -22,7 +22,7 @@ complete files (Some w) files_rose sink_rose (Unfinished t k) h = λ work e quie
 complete files (Some w) files_rose sink_rose Usage h = λ work e quiet calm. no_refusal w work _ e h
 complete files (Some w) files_rose sink_rose (PolicyRefused fault) h = λ work e quiet calm. no_refusal w work _ e h
 complete files (Some w) files_rose sink_rose (ScriptRefused fault) (two, h) = λ work e quiet calm. no_refusal w work _ e h
-complete files (Some w) files_rose sink_rose (NotYet n) (i, two, h) = λ work e quiet calm. no_refusal w work _ e h
+complete files (Some w) files_rose sink_rose (ScheduleRefused fault) (three, h) = λ work e quiet calm. no_refusal w work _ e h
 complete files (Some w) files_rose sink_rose (Missing n) (i, h) = λ work e quiet calm. no_refusal w work _ e h
 complete files (Some w) files_rose sink_rose (TooLong n) (i, h) = λ work e quiet calm. no_refusal w work _ e h
 complete files (Some w) files_rose sink_rose (ReadFault n) (i, rose, h) = λ work e quiet calm. quiet rose

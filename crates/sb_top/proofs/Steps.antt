@@ -1,21 +1,23 @@
 -- Steps of reading, over files that tell what they hold and files that do not.
-use Rattle.std.proofs.Common.{◌≡◌, ◌≢◌, ◌∙◌, ℕ, ◌≤◌, Bool, true, false, if◌then◌else◌, List, length, Option, None, Some, refl, sym, ap, subst, lit≤}
-use Rattle.std.specs.Prelude.{nat_le, option_map, IfSome, IfOk, IfErr, Result, Ok, Err}
+use Rattle.std.proofs.Common.{◌≡◌, ◌≢◌, ◌∙◌, ℕ, ◌≤◌, Bool, true, false, if◌then◌else◌, List, length, Option, None, Some, refl, sym, ap, subst, lit≤, arith}
+use Rattle.std.specs.Prelude.{nat_le, option_map, IfSome, IfOk, IfErr, MatchOption, Result, Ok, Err}
+use Rattle.sb_statements.specs.declared.schedules.Schedule.{Schedule}
 use Rattle.sb_statements.specs.declared.scripts.Script.{Script}
-use Rattle.sb_core.specs.Single.{is_single_threaded}
 use Rattle.sb_outside.specs.Outside.{Held}
 use Rattle.sb_rule.specs.declared.policies.Policies.{Policies}
 use Rattle.sb_rule.specs.declared.policies.Policy.{Policy}
 use Rattle.sb_ruletext.specs.PolicyTexts.{TextFault, reading}
+use Rattle.sb_schedule.specs.ScheduleTexts as schedules
+use Rattle.sb_schedule.specs.ScheduleTexts.{ScheduleFault}
 use Rattle.sb_script.specs.ScriptTexts as scripts
 use Rattle.sb_script.specs.ScriptTexts.{ScriptFault}
 use Rattle.sb_text.specs.Steps.{◌>>=◌}
-use Rattle.sb_top.specs.Commands.{Command, Check, Replay, command_of}
+use Rattle.sb_top.specs.Commands.{Command, Check, Replay, command_of, replay_files}
 use Rattle.sb_top.specs.Outcomes.{IsCause, IsFile}
 use Rattle.sb_top.specs.Refusals.{IsRefused, IsTextRefused}
-use Rattle.sb_top.specs.Wanted.{Refusal, BadWords, NoFile, LongFile, BadPolicy, BadScript, UnrunScript, Wanted, Prints, Runs, IsReached, most_bytes, text_in, policies_by, policies_in, script_by, script_in, by_command, wanted_check, wanted_of, wanted_replay}
+use Rattle.sb_top.specs.Wanted.{Refusal, BadWords, NoFile, LongFile, BadPolicy, BadScript, BadSchedule, Wanted, Prints, Runs, IsReached, most_bytes, text_in, policies_by, policies_in, script_by, script_in, no_schedule, schedule_by, schedule_in, schedule_of, by_command, wanted_check, wanted_of, wanted_replay, wanted_run, wanted_script}
 use Rattle.sb_top.specs.declared.outcomes.Status.{Status}
-use Rattle.sb_top.specs.declared.outcomes.Status.TheVariants.{Done, Unfinished, Usage, PolicyRefused, ScriptRefused, NotYet, Missing, TooLong, ReadFault, WriteFault, NoMemory}
+use Rattle.sb_top.specs.declared.outcomes.Status.TheVariants.{Done, Unfinished, Usage, PolicyRefused, ScriptRefused, ScheduleRefused, Missing, TooLong, ReadFault, WriteFault, NoMemory}
 
 -- a step that was taken
 pub taken : {A B : Type 0} (first : Held → Result A Refusal) (next : Held → A → Result B Refusal) (x : A) (held : Option Held)
@@ -46,7 +48,7 @@ refused_first n first next None rose (TooLong m) h = h
 refused_first n first next None rose (ReadFault m) h = h
 refused_first n first next None rose (PolicyRefused fault) h = h
 refused_first n first next None rose (ScriptRefused fault) h = h
-refused_first n first next None rose (NotYet m) h = h
+refused_first n first next None rose (ScheduleRefused fault) h = h
 refused_first n first next None rose NoMemory h = h
 refused_first n first next None rose Done h = h
 refused_first n first next None rose (Unfinished t k) h = h
@@ -57,7 +59,7 @@ refused_first n first next (Some held) rose (TooLong m) (e, h) = (e, ap (λ r. r
 refused_first n first next (Some held) rose (ReadFault m) h = h
 refused_first n first next (Some held) rose (PolicyRefused fault) (e, h) = (e, ap (λ r. r >>= next held) h)
 refused_first n first next (Some held) rose (ScriptRefused fault) (e, h) = (e, ap (λ r. r >>= next held) h)
-refused_first n first next (Some held) rose (NotYet m) (e, d, h) = (e, d, ap (λ r. r >>= next held) h)
+refused_first n first next (Some held) rose (ScheduleRefused fault) (e, h) = (e, ap (λ r. r >>= next held) h)
 refused_first n first next (Some held) rose NoMemory h = h
 refused_first n first next (Some held) rose Done h = h
 refused_first n first next (Some held) rose (Unfinished t k) h = h
@@ -69,7 +71,7 @@ text_told : {A : Type 0} (n : ℕ) (r : Result A Refusal) (held : Option Held) (
     → IsTextRefused n r s → IsRefused n (option_map (λ (h : Held). r) held) rose s
 text_told n r held rose (PolicyRefused fault) (e, h) = (e, each_found (λ (h : Held). r) (λ q. q ≡ Err (BadPolicy fault)) held (λ _. h))
 text_told n r held rose (ScriptRefused fault) (e, h) = (e, each_found (λ (h : Held). r) (λ q. q ≡ Err (BadScript fault)) held (λ _. h))
-text_told n r held rose (NotYet m) (e, d, h) = (e, d, each_found (λ (h : Held). r) (λ q. q ≡ Err UnrunScript) held (λ _. h))
+text_told n r held rose (ScheduleRefused fault) (e, h) = (e, each_found (λ (h : Held). r) (λ q. q ≡ Err (BadSchedule fault)) held (λ _. h))
 text_told n r held rose NoMemory h = tt
 text_told n r held rose (Missing m) h = absurd h
 text_told n r held rose (TooLong m) h = absurd h
@@ -103,7 +105,7 @@ reached_next n (Err (NoFile m)) f h k = h
 reached_next n (Err (LongFile m)) f h k = h
 reached_next n (Err (BadPolicy fault)) f h k = h
 reached_next n (Err (BadScript fault)) f h k = h
-reached_next n (Err UnrunScript) f h k = h
+reached_next n (Err (BadSchedule fault)) f h k = h
 
 reached_policies_by : (r : Result (List Policy) TextFault) → IsReached 1 (policies_by r)
 reached_policies_by (Ok policies) = tt
@@ -114,27 +116,41 @@ reached_policies name held =
     reached_next 1 (text_in 1 (held name)) (λ text. policies_by (reading text)) (reached_text 1 1 (held name) (lit≤ tt)) (λ text. reached_policies_by (reading text))
 
 reached_script_by : (n : ℕ) (r : Result Script ScriptFault) → n ≤ 2 → IsReached n (script_by r)
-reached_script_by n (Ok script) h = reached_if n (is_single_threaded script) (Ok script) (Err UnrunScript) tt h
+reached_script_by n (Ok script) h = tt
 reached_script_by n (Err fault) h = h
 
 reached_script : (n : ℕ) (policies : List Policy) (name : List ℕ) (held : Held) → n ≤ 2 → IsReached n (script_in policies name held)
 reached_script n policies name held h =
     reached_next n (text_in 2 (held name)) (λ text. script_by (scripts.reading policies text)) (reached_text n 2 (held name) h) (λ text. reached_script_by n (scripts.reading policies text) h)
 
--- the run of a script in the second file
-abbrev run_in : List Policy → List ℕ → Held → Wanted
-run_in policies script held = script_in policies script held >>= λ script. Ok (Runs policies script)
+reached_schedule_by : (n : ℕ) (r : Result Schedule ScheduleFault) → n ≤ 3 → IsReached n (schedule_by r)
+reached_schedule_by n (Ok schedule) h = tt
+reached_schedule_by n (Err fault) h = h
 
-reached_run : (n : ℕ) (policies : List Policy) (script : List ℕ) (held : Held) → n ≤ 2 → IsReached n (run_in policies script held)
-reached_run n policies script held h =
-    reached_next n (script_in policies script held) (λ script. Ok (Runs policies script)) (reached_script n policies script held h) (λ script. tt)
+reached_schedule : (n : ℕ) (script : Script) (name : Option (List ℕ)) (held : Held) → n ≤ 3 → IsReached n (schedule_of script name held)
+reached_schedule n script None held h = tt
+reached_schedule n script (Some name) held h =
+    reached_next n (text_in 3 (held name)) (λ text. schedule_by (schedules.reading script.targets text)) (reached_text n 3 (held name) h)
+    (λ text. reached_schedule_by n (schedules.reading script.targets text) h)
+
+reached_run : (n : ℕ) (policies : List Policy) (schedule : Option (List ℕ)) (script : Script) (held : Held) → n ≤ 3
+    → IsReached n (wanted_run policies schedule script held)
+reached_run n policies schedule script held h =
+    reached_next n (schedule_of script schedule held) (λ schedule. Ok (Runs policies script schedule)) (reached_schedule n script schedule held h) (λ schedule. tt)
+
+reached_wanted_script : (n : ℕ) (script : List ℕ) (schedule : Option (List ℕ)) (policies : List Policy) (held : Held) → n ≤ 2
+    → IsReached n (wanted_script script schedule policies held)
+reached_wanted_script n script schedule policies held h =
+    reached_next n (script_in policies script held) (λ script. wanted_run policies schedule script held) (reached_script n policies script held h)
+    (λ script. reached_run n policies schedule script held (omega arith))
 
 reached_check : (policy : List ℕ) (held : Held) → IsReached 1 (wanted_check policy held)
 reached_check policy held = reached_next 1 (policies_in policy held) (λ policies. Ok (Prints policies)) (reached_policies policy held) (λ policies. tt)
 
-reached_replay : (policy script : List ℕ) (held : Held) → IsReached 1 (wanted_replay policy script held)
-reached_replay policy script held =
-    reached_next 1 (policies_in policy held) (λ policies. run_in policies script held) (reached_policies policy held) (λ policies. reached_run 1 policies script held (lit≤ tt))
+reached_replay : (policy script : List ℕ) (schedule : Option (List ℕ)) (held : Held) → IsReached 1 (wanted_replay policy script schedule held)
+reached_replay policy script schedule held =
+    reached_next 1 (policies_in policy held) (λ policies. wanted_script script schedule policies held) (reached_policies policy held)
+    (λ policies. reached_wanted_script 1 script schedule policies held (lit≤ tt))
 
 -- words that reach a file are a command
 started : (n : ℕ) (w : Wanted) → IsReached n w → w ≢ Err BadWords
@@ -144,7 +160,7 @@ started n (Err (NoFile m)) h = λ e. cc
 started n (Err (LongFile m)) h = λ e. cc
 started n (Err (BadPolicy fault)) h = λ e. cc
 started n (Err (BadScript fault)) h = λ e. cc
-started n (Err UnrunScript) h = λ e. cc
+started n (Err (BadSchedule fault)) h = λ e. cc
 
 all_started : (n : ℕ) (wanted : Option Wanted) → IfSome wanted (IsReached n) → IfSome wanted (λ w. w ≢ Err BadWords)
 all_started n None h = tt
@@ -154,7 +170,7 @@ all_started n (Some w) h = started n w h
 begun : (command : Option Command) (held : Held) → command ≢ None → by_command command held ≢ Err BadWords
 begun None held h = absurd (h refl)
 begun (Some (Check policy)) held h = started 1 (wanted_check policy held) (reached_check policy held)
-begun (Some (Replay policy script)) held h = started 1 (wanted_replay policy script held) (reached_replay policy script held)
+begun (Some (Replay policy script schedule)) held h = started 1 (wanted_replay policy script schedule held) (reached_replay policy script schedule held)
 
 pub commands_are_wanted : (words : List (List ℕ)) (held : Option Held) → command_of words ≢ None
     → IfSome (option_map (wanted_of words) held) (λ w. w ≢ Err BadWords)
@@ -169,7 +185,8 @@ caused n files wanted rose sink (ReadFault m) number reached (e, h) = rw e (numb
 caused n files wanted rose sink (PolicyRefused fault) number reached (e, h) = h
 caused n files wanted rose sink (ScriptRefused fault) number reached (two, h) =
     let P : ℕ → Type 0 = λ k. IsFile files k in (subst P two number, h)
-caused n files wanted rose sink (NotYet m) number reached (two, e, h) = (rw e number, e ∙ two, h)
+caused n files wanted rose sink (ScheduleRefused fault) number reached (three, h) =
+    let P : ℕ → Type 0 = λ k. IsFile files k in (subst P three number, h)
 caused n files wanted rose sink NoMemory number reached h = all_started n wanted reached
 caused n files wanted rose sink Done number reached h = absurd h
 caused n files wanted rose sink (Unfinished t k) number reached h = absurd h
@@ -183,22 +200,63 @@ check_refused policy held rose sink s h =
     caused 1 1 (option_map (wanted_check policy) held) rose sink s (lit≤ tt, lit≤ tt) (each_found (wanted_check policy) (IsReached 1) held (reached_check policy))
     (refused_first 1 (policies_in policy) (λ h policies. Ok (Prints policies)) held rose s h)
 
+-- a replay has at least two files
+enough_files : (n : ℕ) (schedule : Option (List ℕ)) → n ≤ 2 → n ≤ replay_files schedule
+enough_files n None h = h
+enough_files n (Some name) h = omega arith
+
 -- a replay whose policies were not read
-pub policies_refused : (policy script : List ℕ) (held : Option Held) (rose : Type 0) (s : Status) → IsRefused 1 (option_map (policies_in policy) held) rose s
-    → IsCause 2 (option_map (wanted_replay policy script) held) rose ⊥ s
-policies_refused policy script held rose s h =
-    caused 1 2 (option_map (wanted_replay policy script) held) rose ⊥ s (lit≤ tt, lit≤ tt) (each_found (wanted_replay policy script) (IsReached 1) held (reached_replay policy script))
-    (refused_first 1 (policies_in policy) (λ h policies. run_in policies script h) held rose s h)
+pub policies_refused : (policy script : List ℕ) (schedule : Option (List ℕ)) (held : Option Held) (rose : Type 0) (s : Status)
+    → IsRefused 1 (option_map (policies_in policy) held) rose s
+    → IsCause (replay_files schedule) (option_map (wanted_replay policy script schedule) held) rose ⊥ s
+policies_refused policy script schedule held rose s h =
+    caused 1 (replay_files schedule) (option_map (wanted_replay policy script schedule) held) rose ⊥ s (lit≤ tt, enough_files 1 schedule (lit≤ tt))
+    (each_found (wanted_replay policy script schedule) (IsReached 1) held (reached_replay policy script schedule))
+    (refused_first 1 (policies_in policy) (λ h policies. wanted_script script schedule policies h) held rose s h)
+
+-- a replay whose policies were read comes to what its script and its schedule come to
+replay_from : (policy script : List ℕ) (schedule : Option (List ℕ)) (policies : List Policy) (held : Option Held)
+    → IfSome held (λ h. policies_in policy h ≡ Ok policies)
+    → option_map (wanted_replay policy script schedule) held ≡ option_map (wanted_script script schedule policies) held
+replay_from policy script schedule policies held e = taken (policies_in policy) (λ h policies. wanted_script script schedule policies h) policies held e
 
 -- a replay whose policies were read, but not its script
-pub script_refused : (policy script : List ℕ) (policies : List Policy) (held : Option Held) (rose : Type 0) (s : Status)
+pub script_refused : (policy script : List ℕ) (schedule : Option (List ℕ)) (policies : List Policy) (held : Option Held) (rose : Type 0) (s : Status)
     → IfSome held (λ h. policies_in policy h ≡ Ok policies) → IsRefused 2 (option_map (script_in policies script) held) rose s
-    → IsCause 2 (option_map (wanted_replay policy script) held) rose ⊥ s
-script_refused policy script policies held rose s e h =
-    let P : Option Wanted → Type 0 = λ o. IsCause 2 o rose ⊥ s in
-    subst P (sym (taken (policies_in policy) (λ h policies. run_in policies script h) policies held e))
-    (caused 2 2 (option_map (run_in policies script) held) rose ⊥ s (lit≤ tt, lit≤ tt) (each_found (run_in policies script) (IsReached 2) held (λ h. reached_run 2 policies script h (lit≤ tt)))
-    (refused_first 2 (script_in policies script) (λ h script. Ok (Runs policies script)) held rose s h))
+    → IsCause (replay_files schedule) (option_map (wanted_replay policy script schedule) held) rose ⊥ s
+script_refused policy script schedule policies held rose s e h =
+    let P : Option Wanted → Type 0 = λ o. IsCause (replay_files schedule) o rose ⊥ s in
+    subst P (sym (replay_from policy script schedule policies held e))
+    (caused 2 (replay_files schedule) (option_map (wanted_script script schedule policies) held) rose ⊥ s (lit≤ tt, enough_files 2 schedule (lit≤ tt))
+    (each_found (wanted_script script schedule policies) (IsReached 2) held (λ h. reached_wanted_script 2 script schedule policies h (lit≤ tt)))
+    (refused_first 2 (script_in policies script) (λ h script. wanted_run policies schedule script h) held rose s h))
+
+-- and one whose script was read too comes to what its schedule comes to
+run_from : (policy script : List ℕ) (schedule : Option (List ℕ)) (policies : List Policy) (read : Script) (held : Option Held)
+    → IfSome held (λ h. policies_in policy h ≡ Ok policies) → IfSome held (λ h. script_in policies script h ≡ Ok read)
+    → option_map (wanted_replay policy script schedule) held ≡ option_map (wanted_run policies schedule read) held
+run_from policy script schedule policies read held e d =
+    replay_from policy script schedule policies held e
+    ∙ taken (script_in policies script) (λ h script. wanted_run policies schedule script h) read held d
+
+-- a replay whose schedule alone was not read
+named_refused : (policy script name : List ℕ) (policies : List Policy) (read : Script) (held : Option Held) (rose : Type 0) (s : Status)
+    → IfSome held (λ h. policies_in policy h ≡ Ok policies) → IfSome held (λ h. script_in policies script h ≡ Ok read)
+    → IsRefused 3 (option_map (schedule_in read name) held) rose s
+    → IsCause 3 (option_map (wanted_replay policy script (Some name)) held) rose ⊥ s
+named_refused policy script name policies read held rose s e d h =
+    let P : Option Wanted → Type 0 = λ o. IsCause 3 o rose ⊥ s in
+    subst P (sym (run_from policy script (Some name) policies read held e d))
+    (caused 3 3 (option_map (wanted_run policies (Some name) read) held) rose ⊥ s (lit≤ tt, lit≤ tt)
+    (each_found (wanted_run policies (Some name) read) (IsReached 3) held (λ h. reached_run 3 policies (Some name) read h (lit≤ tt)))
+    (refused_first 3 (schedule_in read name) (λ h schedule. Ok (Runs policies read schedule)) held rose s h))
+
+pub schedule_refused : (policy script : List ℕ) (schedule : Option (List ℕ)) (policies : List Policy) (read : Script) (held : Option Held) (rose : Type 0) (s : Status)
+    → IfSome held (λ h. policies_in policy h ≡ Ok policies) → IfSome held (λ h. script_in policies script h ≡ Ok read)
+    → MatchOption schedule ⊥ (λ name. IsRefused 3 (option_map (schedule_in read name) held) rose s)
+    → IsCause (replay_files schedule) (option_map (wanted_replay policy script schedule) held) rose ⊥ s
+schedule_refused policy script None policies read held rose s e d h = absurd h
+schedule_refused policy script (Some name) policies read held rose s e d h = named_refused policy script name policies read held rose s e d h
 
 -- a check whose policies were read
 pub check_wanted : (policy : List ℕ) (policies : List Policy) (held : Option Held) → IfSome held (λ h. policies_in policy h ≡ Ok policies)
@@ -206,11 +264,14 @@ pub check_wanted : (policy : List ℕ) (policies : List Policy) (held : Option H
 check_wanted policy policies held e = both_taken (policies_in policy) (λ h policies. Ok (Prints policies)) policies (Prints policies) held e (each _ held (λ h. refl))
 
 -- a replay whose files were read
-pub replay_wanted : (policy script : List ℕ) (policies : List Policy) (read : Script) (held : Option Held) → IfSome held (λ h. policies_in policy h ≡ Ok policies)
-    → IfSome held (λ h. script_in policies script h ≡ Ok read) → IfSome held (λ h. wanted_replay policy script h ≡ Ok (Runs policies read))
-replay_wanted policy script policies read held e d =
-    both_taken (policies_in policy) (λ h policies. run_in policies script h) policies (Runs policies read) held e
-    (both_taken (script_in policies script) (λ h script. Ok (Runs policies script)) read (Runs policies read) held d (each _ held (λ h. refl)))
+pub replay_wanted : (policy script : List ℕ) (schedule : Option (List ℕ)) (policies : List Policy) (read : Script) (found : Schedule) (held : Option Held)
+    → IfSome held (λ h. policies_in policy h ≡ Ok policies) → IfSome held (λ h. script_in policies script h ≡ Ok read)
+    → IfSome held (λ h. schedule_of read schedule h ≡ Ok found)
+    → IfSome held (λ h. wanted_replay policy script schedule h ≡ Ok (Runs policies read found))
+replay_wanted policy script schedule policies read found held e d f =
+    both_taken (policies_in policy) (λ h policies. wanted_script script schedule policies h) policies (Runs policies read found) held e
+    (both_taken (script_in policies script) (λ h script. wanted_run policies schedule script h) read (Runs policies read found) held d
+    (both_taken (schedule_of read schedule) (λ h schedule. Ok (Runs policies read schedule)) found (Runs policies read found) held f (each _ held (λ h. refl))))
 
 -- what was found of the policies' text
 pub policies_found : (name text : List ℕ) (held : Option Held) (r : Result Policies Status) → IfSome held (λ h. text_in 1 (h name) ≡ Ok text)
@@ -236,3 +297,20 @@ pub script_not_found : (policies : List Policy) (name text : List ℕ) (held : O
     → IfErr r (λ s. IsRefused 2 (option_map (script_in policies name) held) rose s)
 script_not_found policies name text held rose (Ok s) e h = tt
 script_not_found policies name text held rose (Err s) e h = refused_text 2 name (λ text. script_by (scripts.reading policies text)) text held rose s e h
+
+-- what was found of the schedule's text
+pub schedule_found : (script : Script) (name text : List ℕ) (held : Option Held) (r : Result Schedule Status) → IfSome held (λ h. text_in 3 (h name) ≡ Ok text)
+    → IfOk r (λ s. schedule_by (schedules.reading script.targets text) ≡ Ok s) → IfOk r (λ s. IfSome held (λ h. schedule_in script name h ≡ Ok s))
+schedule_found script name text held (Ok s) e d =
+    both_taken (λ (h : Held). text_in 3 (h name)) (λ h text. schedule_by (schedules.reading script.targets text)) text s held e (each _ held (λ h. d))
+schedule_found script name text held (Err s) e d = tt
+
+pub schedule_not_found : (script : Script) (name text : List ℕ) (held : Option Held) (rose : Type 0) (r : Result Schedule Status)
+    → IfSome held (λ h. text_in 3 (h name) ≡ Ok text) → IfErr r (λ s. IsTextRefused 3 (schedule_by (schedules.reading script.targets text)) s)
+    → IfErr r (λ s. IsRefused 3 (option_map (schedule_in script name) held) rose s)
+schedule_not_found script name text held rose (Ok s) e h = tt
+schedule_not_found script name text held rose (Err s) e h = refused_text 3 name (λ text. schedule_by (schedules.reading script.targets text)) text held rose s e h
+
+-- where no file is named, whatever the files hold
+pub schedule_unnamed : (script : Script) (held : Option Held) → IfSome held (λ h. schedule_of script None h ≡ Ok no_schedule)
+schedule_unnamed script held = each _ held (λ h. refl)

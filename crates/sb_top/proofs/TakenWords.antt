@@ -5,7 +5,7 @@ use Rattle.clap.specs.Words.{Text, first_of, first_value, found_of, is_simple, r
 use Rattle.clap.specs.declared.ArgMatches.{ArgMatches}
 use Rattle.clap.proofs.OnLiterals.{clap_on_literals}
 use Rattle.clap.proofs.WalkLemmas.{first_value-rows}
-use Rattle.sb_top.specs.Commands.{Command, Check, Replay, check_of, command_of, is_file_word, replay_of}
+use Rattle.sb_top.specs.Commands.{Command, Check, Replay, check_of, command_of, is_file_word, replay_of, scheduled_of}
 use Rattle.sb_top.specs.CommandLine.{command_line, found_command}
 
 -- a getter reads the rows of its matches
@@ -32,9 +32,19 @@ module _ (b : ℕ) (bs : List ℕ) (policy : (b == 45) ≡ false) where
     unfolding clap_on_literals
     replay_is_taken = rw (policy, policy, script, script) refl
 
-    replay_is_read : found_command (subcommand_of command_line (codes "replay" ∷ (b ∷ bs) ∷ (d ∷ ds) ∷ [])) ≡ Some (Replay (b ∷ bs) (d ∷ ds))
+    replay_is_read : found_command (subcommand_of command_line (codes "replay" ∷ (b ∷ bs) ∷ (d ∷ ds) ∷ [])) ≡ Some (Replay (b ∷ bs) (d ∷ ds) None)
     unfolding clap_on_literals
     replay_is_read = rw (policy, policy, script, script) refl
+
+    module _ (e : ℕ) (es : List ℕ) (schedule : (e == 45) ≡ false) where
+      scheduled_is_taken : takes command_line (codes "replay" ∷ (b ∷ bs) ∷ (d ∷ ds) ∷ (e ∷ es) ∷ []) ≡ true
+      unfolding clap_on_literals
+      scheduled_is_taken = rw (policy, policy, script, script, schedule, schedule) refl
+
+      scheduled_is_read : found_command (subcommand_of command_line (codes "replay" ∷ (b ∷ bs) ∷ (d ∷ ds) ∷ (e ∷ es) ∷ []))
+          ≡ Some (Replay (b ∷ bs) (d ∷ ds) (Some (e ∷ es)))
+      unfolding clap_on_literals
+      scheduled_is_read = rw (policy, policy, script, script, schedule, schedule) refl
 
 -- ---- words that are a command
 
@@ -59,11 +69,21 @@ check_literal [] file = absurd (true≢false (sym file))
 check_literal (b ∷ bs) file = (check_is_taken b bs (not_true _ file), check_is_read b bs (not_true _ file))
 
 replay_literal : (policy script : Text) → is_file_word policy ≡ true → is_file_word script ≡ true
-    → IsFound (codes "replay" ∷ policy ∷ script ∷ []) (Some (Replay policy script))
+    → IsFound (codes "replay" ∷ policy ∷ script ∷ []) (Some (Replay policy script None))
 replay_literal [] script file other = absurd (true≢false (sym file))
 replay_literal (b ∷ bs) [] file other = absurd (true≢false (sym other))
 replay_literal (b ∷ bs) (d ∷ ds) file other =
     (replay_is_taken b bs (not_true _ file) d ds (not_true _ other), replay_is_read b bs (not_true _ file) d ds (not_true _ other))
+
+scheduled_literal : (policy script schedule : Text) → is_file_word policy ≡ true → is_file_word script ≡ true → is_file_word schedule ≡ true
+    → IsFound (codes "replay" ∷ policy ∷ script ∷ schedule ∷ []) (Some (Replay policy script (Some schedule)))
+scheduled_literal [] script schedule file other last = absurd (true≢false (sym file))
+scheduled_literal (b ∷ bs) [] schedule file other last = absurd (true≢false (sym other))
+scheduled_literal (b ∷ bs) (d ∷ ds) [] file other last = absurd (true≢false (sym last))
+scheduled_literal (b ∷ bs) (d ∷ ds) (e ∷ es) file other last = (
+  scheduled_is_taken b bs (not_true _ file) d ds (not_true _ other) e es (not_true _ last),
+  scheduled_is_read b bs (not_true _ file) d ds (not_true _ other) e es (not_true _ last),
+)
 
 check_words : (command policy : Text) → IsSome (check_of command policy) → IsFound (command ∷ policy ∷ []) (check_of command policy)
 check_words command policy some =
@@ -77,12 +97,26 @@ check_words command policy some =
 replay_words : (command policy script : Text) → IsSome (replay_of command policy script)
     → IsFound (command ∷ policy ∷ script ∷ []) (replay_of command policy script)
 replay_words command policy script some =
-    let valid = chosen (pointwise nat_eq command (codes "replay") && is_file_word policy && is_file_word script) (Replay policy script) some in
+    let valid = chosen (pointwise nat_eq command (codes "replay") && is_file_word policy && is_file_word script) (Replay policy script None) some in
     let parts = both (pointwise nat_eq command (codes "replay") && is_file_word policy) (is_file_word script) valid in
     let others = both (pointwise nat_eq command (codes "replay")) (is_file_word policy) parts.0 in
     let name : command ≡ codes "replay" = (bytes_decides command (codes "replay")).0 others.0 in
-    let literal : IsFound (command ∷ policy ∷ script ∷ []) (Some (Replay policy script)) =
-    subst (λ (w : Text). IsFound (w ∷ policy ∷ script ∷ []) (Some (Replay policy script))) (sym name) (replay_literal policy script others.1 parts.1) in
+    let literal : IsFound (command ∷ policy ∷ script ∷ []) (Some (Replay policy script None)) =
+    subst (λ (w : Text). IsFound (w ∷ policy ∷ script ∷ []) (Some (Replay policy script None))) (sym name) (replay_literal policy script others.1 parts.1) in
+    rw (valid) literal
+
+scheduled_words : (command policy script schedule : Text) → IsSome (scheduled_of command policy script schedule)
+    → IsFound (command ∷ policy ∷ script ∷ schedule ∷ []) (scheduled_of command policy script schedule)
+scheduled_words command policy script schedule some =
+    let named = pointwise nat_eq command (codes "replay") in
+    let valid = chosen (named && is_file_word policy && is_file_word script && is_file_word schedule) (Replay policy script (Some schedule)) some in
+    let parts = both (named && is_file_word policy && is_file_word script) (is_file_word schedule) valid in
+    let others = both (named && is_file_word policy) (is_file_word script) parts.0 in
+    let first = both named (is_file_word policy) others.0 in
+    let name : command ≡ codes "replay" = (bytes_decides command (codes "replay")).0 first.0 in
+    let literal : IsFound (command ∷ policy ∷ script ∷ schedule ∷ []) (Some (Replay policy script (Some schedule))) =
+    subst (λ (w : Text). IsFound (w ∷ policy ∷ script ∷ schedule ∷ []) (Some (Replay policy script (Some schedule)))) (sym name)
+    (scheduled_literal policy script schedule first.1 others.1 parts.1) in
     rw (valid) literal
 
 found : (words : List Text) → IsSome (command_of words) → IsFound words (command_of words)
@@ -90,7 +124,8 @@ found [] some = absurd (true≢false (sym some))
 found (command ∷ []) some = absurd (true≢false (sym some))
 found (command ∷ policy ∷ []) some = check_words command policy some
 found (command ∷ policy ∷ script ∷ []) some = replay_words command policy script some
-found (command ∷ policy ∷ script ∷ further ∷ rest) some = absurd (true≢false (sym some))
+found (command ∷ policy ∷ script ∷ schedule ∷ []) some = scheduled_words command policy script schedule some
+found (command ∷ policy ∷ script ∷ schedule ∷ further ∷ rest) some = absurd (true≢false (sym some))
 
 pub commands_are_taken : (words : List Text) → IsSome (command_of words) → takes command_line words ≡ true
 commands_are_taken words some = (found words some).0

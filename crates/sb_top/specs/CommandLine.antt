@@ -10,13 +10,19 @@ use Rattle.sb_top.specs.Commands.{Command, Check, Replay}
 abbrev pub file_rule : List ℕ → Rule
 file_rule name = record (new_rule name) { required = true; action = Some Set }
 
+-- a file that a command may have
+abbrev pub further_rule : List ℕ → Rule
+further_rule name = record (new_rule name) { action = Some Set }
+
 -- `check POLICY`
 abbrev pub check_command : App
 check_command = with_rule (new_app (codes "check")) (file_rule (codes "policy"))
 
--- `replay POLICY SCRIPT`
+-- `replay POLICY SCRIPT [SCHEDULE]`
 abbrev pub replay_command : App
-replay_command = with_rule (with_rule (new_app (codes "replay")) (file_rule (codes "policy"))) (file_rule (codes "script"))
+replay_command =
+    with_rule (with_rule (with_rule (new_app (codes "replay")) (file_rule (codes "policy"))) (file_rule (codes "script")))
+    (further_rule (codes "schedule"))
 
 -- a program whose words begin after its name
 abbrev pub program : App
@@ -31,7 +37,8 @@ abbrev pub named_command : Text → List Row → Option Command
 named_command name files =
     if pointwise nat_eq name (codes "check") then option_map Check (first_of (codes "policy") files)
     else if pointwise nat_eq name (codes "replay")
-    then option_and_then (λ policy. option_map (Replay policy) (first_of (codes "script") files)) (first_of (codes "policy") files)
+    then option_and_then (λ policy. option_map (λ script. Replay policy script (first_of (codes "schedule") files)) (first_of (codes "script") files))
+    (first_of (codes "policy") files)
     else None
 
 -- the command that was found

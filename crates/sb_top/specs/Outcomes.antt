@@ -1,12 +1,19 @@
 -- What the top call answers, and when.
-use Rattle.std.specs.Prelude.{◌≡◌, ◌≢◌, ℕ, ◌≤◌, Bool, true, false, List, ◌++◌, Option, None, Some, option_map, IfSome, MatchOption, Ok, Err, IsOkAnd, ⊤}
+use Rattle.std.specs.Prelude.{◌≡◌, ◌≢◌, ℕ, ◌*◌, ◌≤◌, Bool, true, false, List, ◌++◌, length, map, Option, None, Some, option_map, IfSome, MatchOption, Ok, Err, IsOkAnd, ⊤}
 use Rattle.sb_book.specs.declared.reports.Report.{Report}
-use Rattle.sb_book.specs.Histories.{setting_of, IsLegalHistory}
+use Rattle.sb_book.specs.Histories.{setting_of, IsHistory}
+use Rattle.sb_core.specs.Fits.{Fits}
+use Rattle.sb_core.specs.Origins.{IsSourced}
+use Rattle.sb_core.specs.Results.{ResultsFit}
+use Rattle.sb_core.specs.Tallies.{AreFew}
+use Rattle.sb_core.specs.declared.runs.Ran.{Ran}
 use Rattle.sb_outside.specs.Outside.{GrowsByPrefix}
+use Rattle.sb_rule.specs.declared.policies.Policy.{Policy}
+use Rattle.sb_statements.specs.declared.scripts.Script.{Script}
 use Rattle.sb_transcript.specs.Transcripts.{transcript}
-use Rattle.sb_top.specs.Wanted.{Wanted, BadWords, NoFile, LongFile, BadPolicy, BadScript, UnrunScript, Work, Prints, Runs, IsReached, checked, whole_run}
+use Rattle.sb_top.specs.Wanted.{Wanted, BadWords, NoFile, LongFile, BadPolicy, BadScript, BadSchedule, Work, Prints, Runs, IsReached, checked, whole_run}
 use Rattle.sb_top.specs.declared.outcomes.Status.{Status}
-use Rattle.sb_top.specs.declared.outcomes.Status.TheVariants.{Done, Unfinished, Usage, PolicyRefused, ScriptRefused, NotYet, Missing, TooLong, ReadFault, WriteFault, NoMemory}
+use Rattle.sb_top.specs.declared.outcomes.Status.TheVariants.{Done, Unfinished, Usage, PolicyRefused, ScriptRefused, ScheduleRefused, Missing, TooLong, ReadFault, WriteFault, NoMemory}
 
 -- n is the number of a file of a command with so many files
 abbrev pub IsFile : ℕ → ℕ → Type 0
@@ -15,12 +22,12 @@ IsFile files n = (1 ≤ n) × (n ≤ files)
 -- the work comes to its end: a print always, and a run where it leaves no thread unfinished
 abbrev pub Ends : Work → Type 0
 Ends (Prints policies) = ⊤
-Ends (Runs policies script) = (whole_run policies script).unfinished ≡ None
+Ends (Runs policies script schedule) = (whole_run policies script schedule).unfinished ≡ None
 
 -- the work is a run that leaves this thread unfinished
 abbrev pub Leaves : ℕ → ℕ → Work → Type 0
 Leaves target thread (Prints policies) = ⊥
-Leaves target thread (Runs policies script) = (whole_run policies script).unfinished ≡ Some (target, thread)
+Leaves target thread (Runs policies script schedule) = (whole_run policies script schedule).unfinished ≡ Some (target, thread)
 
 -- the cause of a status of a command with so many files: by what is wanted, where it is told, and by whether the count of the files'
 -- faults rose, and that of the output's
@@ -30,29 +37,54 @@ IsCause files wanted files_rose sink_rose (Unfinished target thread) = IfSome wa
 IsCause files wanted files_rose sink_rose Usage = IfSome wanted (λ w. w ≡ Err BadWords)
 IsCause files wanted files_rose sink_rose (PolicyRefused fault) = IfSome wanted (λ w. w ≡ Err (BadPolicy fault))
 IsCause files wanted files_rose sink_rose (ScriptRefused fault) = IsFile files 2 × IfSome wanted (λ w. w ≡ Err (BadScript fault))
-IsCause files wanted files_rose sink_rose (NotYet n) = IsFile files n × (n ≡ 2) × IfSome wanted (λ w. w ≡ Err UnrunScript)
+IsCause files wanted files_rose sink_rose (ScheduleRefused fault) = IsFile files 3 × IfSome wanted (λ w. w ≡ Err (BadSchedule fault))
 IsCause files wanted files_rose sink_rose (Missing n) = IsFile files n × MatchOption wanted files_rose (λ w. w ≡ Err (NoFile n))
 IsCause files wanted files_rose sink_rose (TooLong n) = IsFile files n × MatchOption wanted files_rose (λ w. w ≡ Err (LongFile n))
 IsCause files wanted files_rose sink_rose (ReadFault n) = IsFile files n × files_rose × IfSome wanted (IsReached n)
 IsCause files wanted files_rose sink_rose WriteFault = sink_rose × IfSome wanted (λ w. IsOkAnd w Ends)
 IsCause files wanted files_rose sink_rose NoMemory = IfSome wanted (λ w. w ≢ Err BadWords)
 
--- the report of a run, with a legal history; a print has none
+-- what a run reports: its entries are a legal history, which led to its namespace; each result is that of the statement at its place; each
+-- target has 65 words for each channel; and no word of it is invented. Where no thread is unfinished the report fits the script: there is one
+-- result for each statement, each thread has its own replies, each once, each result suits its statement, and so do the words; and a channel has
+-- no more entries than calls that were handed over there and statements that made it ready
+pub record IsSoundRun (policies : List Policy) (script : Script) (r : Ran) : Type 0 where
+  pub history : IsHistory (record { setting = setting_of policies script; space = r.report.kernel; entries = r.report.entries })
+  pub results : ResultsFit script r.report.results
+  pub words : map (λ words. length words) r.report.words ≡ map (λ target. target.channels * 65) script.targets
+  pub sourced : IsSourced script r.report
+  pub fits : r.unfinished ≡ None → Fits policies script r.report
+  pub few : r.unfinished ≡ None → AreFew script r.report
+
+-- the report of a run; a print has none
 abbrev pub IsReportOf : Report → Work → Type 0
 IsReportOf report (Prints policies) = ⊥
-IsReportOf report (Runs policies script) = (report ≡ (whole_run policies script).report) × IsLegalHistory (setting_of policies script) report.entries
+IsReportOf report (Runs policies script schedule) =
+    (report ≡ (whole_run policies script schedule).report) × IsSoundRun policies script (whole_run policies script schedule)
+
+-- the report of a run in which no thread is unfinished: it fits the script under its policies
+abbrev pub IsWholeReportOf : Report → Work → Type 0
+IsWholeReportOf report (Prints policies) = ⊥
+IsWholeReportOf report (Runs policies script schedule) =
+    IsReportOf report (Runs policies script schedule) × ((whole_run policies script schedule).unfinished ≡ None) × Fits policies script report
 
 -- there is a report, and it is that of the run that is wanted
 abbrev pub HasReport : Option Wanted → Option Report → Type 0
 HasReport wanted None = ⊥
 HasReport wanted (Some report) = IfSome wanted (λ w. IsOkAnd w (IsReportOf report))
 
+-- and no thread of that run is unfinished, and the report fits
+abbrev pub HasWholeReport : Option Wanted → Option Report → Type 0
+HasWholeReport wanted None = ⊥
+HasWholeReport wanted (Some report) = IfSome wanted (λ w. IsOkAnd w (IsWholeReportOf report))
+
 -- there is a report exactly where the command runs a script
 abbrev pub HasReportOfRun : Bool → Option Wanted → Option Report → Type 0
 HasReportOfRun false wanted report = report ≡ None
-HasReportOfRun true wanted report = HasReport wanted report
+HasReportOfRun true wanted report = HasWholeReport wanted report
 
--- a report is there exactly with Done and WriteFault of a command that runs a script, and with Unfinished, which is of such commands alone
+-- a report is there exactly with Done and WriteFault of a command that runs a script, and it fits the script; and with Unfinished, which is
+-- of such commands alone
 abbrev pub IsReported : Bool → Option Wanted → Option Report → Status → Type 0
 IsReported runs wanted report Done = HasReportOfRun runs wanted report
 IsReported runs wanted report (Unfinished target thread) = (runs ≡ true) × HasReport wanted report
@@ -60,7 +92,7 @@ IsReported runs wanted report WriteFault = HasReportOfRun runs wanted report
 IsReported runs wanted report Usage = report ≡ None
 IsReported runs wanted report (PolicyRefused fault) = report ≡ None
 IsReported runs wanted report (ScriptRefused fault) = report ≡ None
-IsReported runs wanted report (NotYet n) = report ≡ None
+IsReported runs wanted report (ScheduleRefused fault) = report ≡ None
 IsReported runs wanted report (Missing n) = report ≡ None
 IsReported runs wanted report (TooLong n) = report ≡ None
 IsReported runs wanted report (ReadFault n) = report ≡ None
@@ -69,7 +101,7 @@ IsReported runs wanted report NoMemory = report ≡ None
 -- all that is written: the policies as a text with the listings of their programs, or the transcript of the run
 abbrev pub text_of : Work → List ℕ
 text_of (Prints policies) = checked policies
-text_of (Runs policies script) = transcript script (whole_run policies script).report
+text_of (Runs policies script schedule) = transcript script (whole_run policies script schedule).report
 
 -- the output grew by exactly this text
 abbrev pub GrowsBy : Option (List ℕ) → List ℕ → Option (List ℕ) → Type 0
@@ -83,7 +115,7 @@ IsWritten wanted before after (Unfinished target thread) = after ≡ before
 IsWritten wanted before after Usage = after ≡ before
 IsWritten wanted before after (PolicyRefused fault) = after ≡ before
 IsWritten wanted before after (ScriptRefused fault) = after ≡ before
-IsWritten wanted before after (NotYet n) = after ≡ before
+IsWritten wanted before after (ScheduleRefused fault) = after ≡ before
 IsWritten wanted before after (Missing n) = after ≡ before
 IsWritten wanted before after (TooLong n) = after ≡ before
 IsWritten wanted before after (ReadFault n) = after ≡ before
@@ -97,7 +129,7 @@ IsSilent (Unfinished target thread) = ⊤
 IsSilent Usage = ⊤
 IsSilent (PolicyRefused fault) = ⊤
 IsSilent (ScriptRefused fault) = ⊤
-IsSilent (NotYet n) = ⊤
+IsSilent (ScheduleRefused fault) = ⊤
 IsSilent (Missing n) = ⊤
 IsSilent (TooLong n) = ⊤
 IsSilent (ReadFault n) = ⊤
@@ -111,7 +143,7 @@ IsEndOf work NoMemory = ⊤
 IsEndOf work Usage = ⊥
 IsEndOf work (PolicyRefused fault) = ⊥
 IsEndOf work (ScriptRefused fault) = ⊥
-IsEndOf work (NotYet n) = ⊥
+IsEndOf work (ScheduleRefused fault) = ⊥
 IsEndOf work (Missing n) = ⊥
 IsEndOf work (TooLong n) = ⊥
 IsEndOf work (ReadFault n) = ⊥

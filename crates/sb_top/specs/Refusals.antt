@@ -4,9 +4,9 @@ use Rattle.sb_outside.specs.Outside.{GrowsByPrefix}
 use Rattle.sb_outside.specs.declared.files.FileFault.{FileFault}
 use Rattle.sb_outside.specs.declared.files.FileFault.TheVariants as file
 use Rattle.sb_top.specs.Outcomes.{GrowsBy}
-use Rattle.sb_top.specs.Wanted.{Refusal, NoFile, LongFile, BadPolicy, BadScript, UnrunScript}
+use Rattle.sb_top.specs.Wanted.{Refusal, NoFile, LongFile, BadPolicy, BadScript, BadSchedule}
 use Rattle.sb_top.specs.declared.outcomes.Status.{Status}
-use Rattle.sb_top.specs.declared.outcomes.Status.TheVariants.{Done, Unfinished, Usage, PolicyRefused, ScriptRefused, NotYet, Missing, TooLong, ReadFault, WriteFault, NoMemory}
+use Rattle.sb_top.specs.declared.outcomes.Status.TheVariants.{Done, Unfinished, Usage, PolicyRefused, ScriptRefused, ScheduleRefused, Missing, TooLong, ReadFault, WriteFault, NoMemory}
 
 -- a status that comes after the words and before the work
 abbrev pub IsRefusal : Status → Type 0
@@ -15,7 +15,7 @@ IsRefusal (Unfinished target thread) = ⊥
 IsRefusal Usage = ⊥
 IsRefusal (PolicyRefused fault) = ⊤
 IsRefusal (ScriptRefused fault) = ⊤
-IsRefusal (NotYet n) = ⊤
+IsRefusal (ScheduleRefused fault) = ⊤
 IsRefusal (Missing n) = ⊤
 IsRefusal (TooLong n) = ⊤
 IsRefusal (ReadFault n) = ⊤
@@ -30,7 +30,7 @@ IsRefused n found rose (TooLong m) = (m ≡ n) × MatchOption found rose (λ r. 
 IsRefused n found rose (ReadFault m) = (m ≡ n) × rose
 IsRefused n found rose (PolicyRefused fault) = (n ≡ 1) × IfSome found (λ r. r ≡ Err (BadPolicy fault))
 IsRefused n found rose (ScriptRefused fault) = (n ≡ 2) × IfSome found (λ r. r ≡ Err (BadScript fault))
-IsRefused n found rose (NotYet m) = (n ≡ 2) × (m ≡ n) × IfSome found (λ r. r ≡ Err UnrunScript)
+IsRefused n found rose (ScheduleRefused fault) = (n ≡ 3) × IfSome found (λ r. r ≡ Err (BadSchedule fault))
 IsRefused n found rose NoMemory = ⊤
 IsRefused n found rose Done = ⊥
 IsRefused n found rose (Unfinished target thread) = ⊥
@@ -41,7 +41,7 @@ IsRefused n found rose WriteFault = ⊥
 abbrev pub IsTextRefused : {A : Type 0} → ℕ → Result A Refusal → Status → Type 0
 IsTextRefused n found (PolicyRefused fault) = (n ≡ 1) × (found ≡ Err (BadPolicy fault))
 IsTextRefused n found (ScriptRefused fault) = (n ≡ 2) × (found ≡ Err (BadScript fault))
-IsTextRefused n found (NotYet m) = (n ≡ 2) × (m ≡ n) × (found ≡ Err UnrunScript)
+IsTextRefused n found (ScheduleRefused fault) = (n ≡ 3) × (found ≡ Err (BadSchedule fault))
 IsTextRefused n found NoMemory = ⊤
 IsTextRefused n found (Missing m) = ⊥
 IsTextRefused n found (TooLong m) = ⊥
@@ -67,7 +67,7 @@ IsPut text before after (Unfinished target thread) = ⊥
 IsPut text before after Usage = ⊥
 IsPut text before after (PolicyRefused fault) = ⊥
 IsPut text before after (ScriptRefused fault) = ⊥
-IsPut text before after (NotYet n) = ⊥
+IsPut text before after (ScheduleRefused fault) = ⊥
 IsPut text before after (Missing n) = ⊥
 IsPut text before after (TooLong n) = ⊥
 IsPut text before after (ReadFault n) = ⊥

@@ -1,6 +1,10 @@
 -- What the words come to, where the files tell what they hold.
-use Rattle.std.specs.Prelude.{ℕ, ◌≤◌, nat_le, ⊤, List, ◌++◌, length, Option, None, Some, Result, Ok, Err, if◌then◌else◌}
+use Rattle.std.specs.Prelude.{ℕ, ◌≤◌, nat_le, ⊤, List, [], ◌++◌, length, Option, None, Some, Result, Ok, Err, if◌then◌else◌}
 use Rattle.std.specs.List.{flat_map}
+use Rattle.sb_schedule.specs.Limits.{most_rounds}
+use Rattle.sb_schedule.specs.ScheduleTexts as schedules
+use Rattle.sb_schedule.specs.ScheduleTexts.{ScheduleFault}
+use Rattle.sb_statements.specs.declared.schedules.Schedule.{Schedule}
 use Rattle.sb_statements.specs.declared.scripts.Script.{Script}
 use Rattle.sb_compile.specs.Compiling.{program_of}
 use Rattle.sb_compile.specs.Listing.{listing_of}
@@ -8,7 +12,6 @@ use Rattle.sb_rule.specs.declared.policies.Policy.{Policy}
 use Rattle.sb_ruletext.specs.PolicyTexts.{TextFault, reading}
 use Rattle.sb_ruleprint.specs.Printing.{printed}
 use Rattle.sb_core.specs.Runs.{ran}
-use Rattle.sb_core.specs.Single.{is_single_threaded}
 use Rattle.sb_core.specs.declared.runs.Ran.{Ran}
 use Rattle.sb_outside.specs.Outside.{Held}
 use Rattle.sb_script.specs.ScriptTexts as scripts
@@ -17,19 +20,19 @@ use Rattle.sb_text.specs.Steps.{◌>>=◌}
 use Rattle.sb_top.specs.Commands.{Command, Check, Replay, command_of}
 
 -- why nothing is done: the words are no command; file n is missing, or too long; the policies' text has this fault, or the script's
--- text; the script cannot be run yet
+-- text, or the schedule's
 pub data Refusal : Type 0 where
   BadWords : Refusal
   NoFile : ℕ → Refusal
   LongFile : ℕ → Refusal
   BadPolicy : TextFault → Refusal
   BadScript : ScriptFault → Refusal
-  UnrunScript : Refusal
+  BadSchedule : ScheduleFault → Refusal
 
--- what is done: policies are printed, or a script is run under policies
+-- what is done: policies are printed, or a script is run under policies by a schedule
 pub data Work : Type 0 where
   Prints : List Policy → Work
-  Runs : List Policy → Script → Work
+  Runs : List Policy → Script → Schedule → Work
 
 -- what is to be done, or why nothing is
 abbrev pub Wanted : Type 0
@@ -53,31 +56,53 @@ policies_by (Err fault) = Err (BadPolicy fault)
 abbrev pub policies_in : List ℕ → Held → Result (List Policy) Refusal
 policies_in name held = text_in 1 (held name) >>= λ text. policies_by (reading text)
 
--- a script can be run where it has at most one target, with one channel and at most one thread, which only makes calls
-abbrev pub runnable : Script → Result Script Refusal
-runnable script = if is_single_threaded script then Ok script else Err UnrunScript
-
--- the script of a text, where it can be run, or the text's fault
+-- the script of a text, or its fault
 abbrev pub script_by : Result Script ScriptFault → Result Script Refusal
-script_by (Ok script) = runnable script
+script_by (Ok script) = Ok script
 script_by (Err fault) = Err (BadScript fault)
 
 -- the script of the second file, for targets of these policies
 abbrev pub script_in : List Policy → List ℕ → Held → Result Script Refusal
 script_in policies name held = text_in 2 (held name) >>= λ text. script_by (scripts.reading policies text)
 
+-- the schedule where no file names one: no steps, and as many rounds as a schedule may have
+abbrev pub no_schedule : Schedule
+no_schedule = record { steps = []; rounds = most_rounds }
+
+-- the schedule of a text, or its fault
+abbrev pub schedule_by : Result Schedule ScheduleFault → Result Schedule Refusal
+schedule_by (Ok schedule) = Ok schedule
+schedule_by (Err fault) = Err (BadSchedule fault)
+
+-- the schedule of the third file, for the actors of this script
+abbrev pub schedule_in : Script → List ℕ → Held → Result Schedule Refusal
+schedule_in script name held = text_in 3 (held name) >>= λ text. schedule_by (schedules.reading script.targets text)
+
+-- the schedule, which a file may name
+abbrev pub schedule_of : Script → Option (List ℕ) → Held → Result Schedule Refusal
+schedule_of script None held = Ok no_schedule
+schedule_of script (Some name) held = schedule_in script name held
+
 -- a check reads policies, and prints them
 abbrev pub wanted_check : List ℕ → Held → Wanted
 wanted_check policy held = policies_in policy held >>= λ policies. Ok (Prints policies)
 
--- a replay reads policies, then a script, and runs it
-abbrev pub wanted_replay : List ℕ → List ℕ → Held → Wanted
-wanted_replay policy script held = policies_in policy held >>= λ policies. script_in policies script held >>= λ script. Ok (Runs policies script)
+-- the run of a script that was read, by its schedule
+abbrev pub wanted_run : List Policy → Option (List ℕ) → Script → Held → Wanted
+wanted_run policies schedule script held = schedule_of script schedule held >>= λ schedule. Ok (Runs policies script schedule)
+
+-- a replay under policies that were read: it reads a script, and then the schedule
+abbrev pub wanted_script : List ℕ → Option (List ℕ) → List Policy → Held → Wanted
+wanted_script script schedule policies held = script_in policies script held >>= λ script. wanted_run policies schedule script held
+
+-- a replay reads policies, then a script, then the schedule where one is named, and runs the script by it
+abbrev pub wanted_replay : List ℕ → List ℕ → Option (List ℕ) → Held → Wanted
+wanted_replay policy script schedule held = policies_in policy held >>= λ policies. wanted_script script schedule policies held
 
 abbrev pub by_command : Option Command → Held → Wanted
 by_command None held = Err BadWords
 by_command (Some (Check policy)) held = wanted_check policy held
-by_command (Some (Replay policy script)) held = wanted_replay policy script held
+by_command (Some (Replay policy script schedule)) held = wanted_replay policy script schedule held
 
 -- what the words come to over files that hold this
 abbrev pub wanted_of : List (List ℕ) → Held → Wanted
@@ -91,9 +116,9 @@ listings policies = flat_map (λ policy. listing_of (program_of policy)) policie
 unfoldable pub checked : List Policy → List ℕ
 checked policies = printed policies ++ listings policies
 
--- the run of a script under policies, of at most 20,000,000 rounds
-unfoldable pub whole_run : List Policy → Script → Ran
-whole_run policies script = ran policies script 20000000
+-- the run of a script under policies by a schedule
+unfoldable pub whole_run : List Policy → Script → Schedule → Ran
+whole_run policies script schedule = ran policies script schedule
 
 -- each file before file n was read without a fault
 abbrev pub IsReached : {A : Type 0} → ℕ → Result A Refusal → Type 0
@@ -103,4 +128,4 @@ IsReached n (Err (NoFile m)) = n ≤ m
 IsReached n (Err (LongFile m)) = n ≤ m
 IsReached n (Err (BadPolicy fault)) = n ≤ 1
 IsReached n (Err (BadScript fault)) = n ≤ 2
-IsReached n (Err UnrunScript) = n ≤ 2
+IsReached n (Err (BadSchedule fault)) = n ≤ 3

@@ -3,7 +3,7 @@ ghost use Rattle.std.specs.Prelude.{◌≡◌, IfOk, false, option_map};
 ghost use Rattle.clap.specs.Words.{app_of, rule_of, subcommand_rows_of};
 ghost use Rattle.clap.specs.declared.builder.Command.TheViews.{out-Command};
 ghost use Rattle.sb_top.specs.Commands.{meant};
-ghost use Rattle.sb_top.specs.CommandLine.{check_command, command_line, file_rule, found_command, replay_command};
+ghost use Rattle.sb_top.specs.CommandLine.{check_command, command_line, file_rule, found_command, further_rule, replay_command};
 
 use crate::commands::CommandWords;
 use clap::{Arg, ArgAction, ArgMatches, Command};
@@ -17,6 +17,14 @@ fn file<'a>(alloc: Global, name: &'a str) -> Arg<'a>
     Arg::new(alloc, name).required(true).action(ArgAction::Set)
 }
 
+// A file that a command may have.
+fn further_file<'a>(alloc: Global, name: &'a str) -> Arg<'a>
+    ensures rule { rule_of result ≡ further_rule name.entry.now }
+    ensures local { result.global ≡ false }
+{
+    Arg::new(alloc, name).action(ArgAction::Set)
+}
+
 // `check POLICY`.
 fn check_command<'a>(alloc: Global) -> Result<Command<'a>, AllocError>
     ensures app { IfOk result (λ c. app_of c ≡ check_command) }
@@ -25,14 +33,15 @@ fn check_command<'a>(alloc: Global) -> Result<Command<'a>, AllocError>
     Command::new(alloc, "check").arg(file(alloc, "policy"))
 }
 
-// `replay POLICY SCRIPT`.
+// `replay POLICY SCRIPT [SCHEDULE]`.
 fn replay_command<'a>(alloc: Global) -> Result<Command<'a>, AllocError>
     ensures app { IfOk result (λ c. app_of c ≡ replay_command) }
     ensures local { IfOk result (λ c. (out-Command c).has_globals ≡ false) }
 {
     Command::new(alloc, "replay")
         .arg(file(alloc, "policy"))?
-        .arg(file(alloc, "script"))
+        .arg(file(alloc, "script"))?
+        .arg(further_file(alloc, "schedule"))
 }
 
 /// The program with its commands, each with the files that it has to have. Its words begin after the program's name.
@@ -56,7 +65,12 @@ pub(crate) fn found_command<'a>(matches: &ArgMatches<'a>) -> Option<CommandWords
         "check" => Some(CommandWords::Check { policy }),
         "replay" => {
             let script = files.get_str("script")?;
-            Some(CommandWords::Replay { policy, script })
+            let schedule = files.get_str("schedule");
+            Some(CommandWords::Replay {
+                policy,
+                script,
+                schedule,
+            })
         }
         _ => None,
     }

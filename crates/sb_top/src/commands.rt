@@ -1,6 +1,6 @@
 // Which command the words are.
 ghost use Rattle.std.specs.Prelude.{◌≡◌, ◌≢◌, IfOk, IsErr, None, is_some, option_map};
-ghost use Rattle.sb_top.specs.Commands.{command_of, check_of, replay_of, is_file_word, meant, texts};
+ghost use Rattle.sb_top.specs.Commands.{command_of, check_of, replay_of, scheduled_of, is_file_word, meant, texts};
 
 use crate::command_line::{command_line, found_command};
 use clap::error::ErrorKind;
@@ -11,9 +11,15 @@ use std::alloc::Global;
 #[derive(Clone, Copy, Debug)]
 pub enum CommandWords<'a> {
     /// Policies are read, and printed.
-    Check { policy: &'a str },
-    /// A script is run under policies, and its transcript is printed.
-    Replay { policy: &'a str, script: &'a str },
+    Check {
+        policy: &'a str,
+    },
+    /// A script is run under policies, by a schedule where one is named, and its transcript is printed.
+    Replay {
+        policy: &'a str,
+        script: &'a str,
+        schedule: Option<&'a str>,
+    },
 }
 
 // Whether a word names a file: it is not empty and does not begin with `-`.
@@ -40,6 +46,13 @@ fn is_replay(command: &str, policy: &str, script: &str) -> bool
     command == "replay" && is_file_word(policy) && is_file_word(script)
 }
 
+// Whether the words are `replay POLICY SCRIPT SCHEDULE`.
+fn is_scheduled(command: &str, policy: &str, script: &str, schedule: &str) -> bool
+    ensures { result ≡ is_some (scheduled_of command.now policy.now script.now schedule.now) }
+{
+    command == "replay" && is_file_word(policy) && is_file_word(script) && is_file_word(schedule)
+}
+
 // Whether the words are a command.
 fn is_command(words: &[String]) -> bool
     ensures { result ≡ is_some (command_of (texts words.now)) }
@@ -49,11 +62,17 @@ fn is_command(words: &[String]) -> bool
         [command, policy, script] => {
             is_replay(command.as_str(), policy.as_str(), script.as_str())
         }
+        [command, policy, script, schedule] => is_scheduled(
+            command.as_str(),
+            policy.as_str(),
+            script.as_str(),
+            schedule.as_str(),
+        ),
         _ => false,
     }
 }
 
-/// The command that the words are: `check POLICY` or `replay POLICY SCRIPT`. Any other words are no command.
+/// The command that the words are: `check POLICY` or `replay POLICY SCRIPT [SCHEDULE]`. Any other words are no command.
 ///
 /// Which words are a command is tested here. Only words that are go to the library for command lines, which gives the
 /// values.

@@ -14,13 +14,13 @@ pub fn exit_code(status: Status) -> u8
         Status::Usage => 2,
         Status::PolicyRefused(_) => 3,
         Status::ScriptRefused(_) => 4,
+        Status::ScheduleRefused(_) => 5,
         Status::Missing { .. } => 6,
         Status::TooLong { .. } => 7,
         Status::ReadFault { .. } => 8,
         Status::WriteFault => 9,
         Status::Unfinished { .. } => 10,
         Status::NoMemory => 11,
-        Status::NotYet { .. } => 20,
     }
 }
 
@@ -37,7 +37,9 @@ impl fmt::Display for Complaint {
     fn fmt<W: fmt::Write>(&self, f: &mut fmt::Formatter<W>) -> fmt::Result {
         match self.status {
             Status::Done => f.write_str("sandbox: done"),
-            Status::Usage => f.write_str("sandbox: usage: check POLICY, replay POLICY SCRIPT"),
+            Status::Usage => {
+                f.write_str("sandbox: usage: check POLICY, replay POLICY SCRIPT [SCHEDULE]")
+            }
             Status::PolicyRefused(fault) => {
                 let line = fault.line;
                 let number = fault.kind.number();
@@ -48,6 +50,11 @@ impl fmt::Display for Complaint {
                 let number = fault.kind.number();
                 write!(f, "sandbox: script line {line} fault {number}")
             }
+            Status::ScheduleRefused(fault) => {
+                let line = fault.line;
+                let number = fault.kind.number();
+                write!(f, "sandbox: schedule line {line} fault {number}")
+            }
             Status::Missing { which } => write!(f, "sandbox: missing file {which}"),
             Status::TooLong { which } => write!(f, "sandbox: file {which} too long"),
             Status::ReadFault { which } => write!(f, "sandbox: read fault in file {which}"),
@@ -56,7 +63,6 @@ impl fmt::Display for Complaint {
                 write!(f, "sandbox: unfinished: target {target} thread {thread}")
             }
             Status::NoMemory => f.write_str("sandbox: no memory"),
-            Status::NotYet { which } => write!(f, "sandbox: not yet {which}"),
         }
     }
 }

@@ -2,6 +2,7 @@
 
 use sb_book::Report;
 use sb_ruletext::TextFault;
+use sb_schedule::ScheduleFault;
 use sb_script::ScriptFault;
 
 /// How a command ended. Files are numbered by their place in the command, from 1.
@@ -9,7 +10,7 @@ use sb_script::ScriptFault;
 pub enum Status {
     /// All was put.
     Done,
-    /// This thread of this target, both numbered from 0, used up the rounds.
+    /// The run leaves a thread unfinished: the first such one is this thread of this target, both numbered from 0.
     Unfinished { target: u32, thread: u32 },
     /// The words are no command.
     Usage,
@@ -17,9 +18,8 @@ pub enum Status {
     PolicyRefused(TextFault),
     /// The first fault of the text of the script.
     ScriptRefused(ScriptFault),
-    /// The file has a script that cannot be run yet: one of more than one target, of a target with more than one channel or
-    /// thread, or with a statement other than a call.
-    NotYet { which: u8 },
+    /// The first fault of the text of the schedule.
+    ScheduleRefused(ScheduleFault),
     /// There is no such file.
     Missing { which: u8 },
     /// The file has more than 4,194,304 bytes.

@@ -1,18 +1,20 @@
-// Policies, and a script that can be run under them.
+// Policies, a script that can be run under them, and a schedule of its actors.
 ghost use Rattle.std.specs.Prelude.{◌≡◌, true};
-ghost use Rattle.sb_book.specs.Readiness.{is_ready};
-ghost use Rattle.sb_core.specs.Single.{is_single_threaded};
+ghost use Rattle.sb_core.specs.Runs.{CanRun};
+ghost use Rattle.sb_statements.specs.Units.{script_has_units};
 
 use sb_rule::Policies;
-use sb_statements::Script;
+use sb_statements::{Schedule, Script};
 
-/// Policies, and a script that can be run under them.
+/// Policies, a script that can be run under them, and a schedule of its actors.
 #[derive(Debug, Drop)]
 pub struct Prepared {
     /// The policies.
     pub policies: Policies,
     /// The script.
     pub script: Script,
-    ghost ready: { is_ready policies.list script ≡ true },
-    ghost runs: { is_single_threaded script ≡ true },
+    /// The schedule.
+    pub schedule: Schedule,
+    ghost runs: { CanRun policies.list script schedule },
+    ghost units: { script_has_units script ≡ true },
 }

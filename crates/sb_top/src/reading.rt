@@ -1,23 +1,27 @@
-// The files of a command, read and found to be policies, and a script that can be run under them.
-ghost use Rattle.std.specs.Prelude.{◌≡◌, ◌≤◌, ◌<◌, ◌^◌, length, true, option_map, IfOk, IfErr, IfSome, OnOk, Ok};
+// The files of a command, read and found to be policies, a script for targets of these, and a schedule of its actors.
+ghost use Rattle.std.specs.Prelude.{◌≡◌, ◌≤◌, ◌<◌, ◌^◌, length, true, option_map, IfOk, IfErr, IfSome, MatchOption, OnOk, Ok};
+ghost use Rattle.std.specs.List.{list_all};
 ghost use Rattle.sb_book.specs.Readiness.{is_ready};
-ghost use Rattle.sb_core.specs.Single.{is_single_threaded};
 ghost use Rattle.sb_outside.specs.Outside.{Rose};
 ghost use Rattle.sb_rule.specs.WellMade.{are_well_made};
 ghost use Rattle.sb_ruletext.specs.PolicyTexts.{reading};
+ghost use Rattle.sb_schedule.specs.ScheduleTexts as schedules;
 ghost use Rattle.sb_script.specs.ScriptTexts as scripts;
-ghost use Rattle.sb_top.specs.Wanted.{Runs, text_in, policies_by, policies_in, runnable, script_by, script_in, wanted_replay, most_bytes};
+ghost use Rattle.sb_statements.specs.Actors.{is_step_there};
+ghost use Rattle.sb_statements.specs.Units.{script_has_units};
+ghost use Rattle.sb_top.specs.Commands.{named, replay_files};
+ghost use Rattle.sb_top.specs.Wanted.{Runs, text_in, policies_by, policies_in, script_by, script_in, no_schedule, schedule_by, schedule_in, schedule_of, wanted_replay, most_bytes};
 ghost use Rattle.sb_top.specs.Outcomes.{IsCause};
 ghost use Rattle.sb_top.specs.Refusals.{IsRefusal, IsRefused, IsTextRefused, status_of};
 
 use crate::outcomes::Status;
 use crate::prepared::Prepared;
-use sb_core::is_single_threaded;
 use sb_outside::{FileFault, Files};
 use sb_rule::Policies;
 use sb_ruletext::{TextRefused, read_policies};
+use sb_schedule::{MOST_ROUNDS, ScheduleRefused, read_schedule};
 use sb_script::{ScriptRefused, placing_is_opening, read_script};
-use sb_statements::Script;
+use sb_statements::{Schedule, Script, Steps};
 use std::alloc::Global;
 
 /// A file may have so many bytes.
@@ -79,31 +83,19 @@ pub fn policies_in<F: Files>(alloc: Global, files: &mut F, name: &str) -> Result
     }
 }
 
-// The script itself, where it can be run.
-fn runnable(script: Script) -> Result<Script, Status>
-    ensures ok { IfOk result (λ s. (s ≡ script) × (runnable script ≡ Ok s)) }
-    ensures runs { IfOk result (λ s. is_single_threaded s ≡ true) }
-    ensures err { IfErr result (λ s. IsTextRefused 2 (runnable script) s) }
-{
-    if is_single_threaded(&script) {
-        return Ok(script);
-    }
-    Err(Status::NotYet { which: 2 })
-}
-
-// The script of a text, for targets of these policies, where it can be run.
+// The script of a text, for targets of these policies.
 #[tactic(auto, using(crate::proofs::Ready::few_made, crate::proofs::Ready::ready_of))]
 fn script_by(alloc: Global, policies: &Policies, text: &[u8]) -> Result<Script, Status>
     requires short { length text.now < 2 ^ 32 }
     requires well_made { are_well_made policies.now.list ≡ true }
     ensures ok { IfOk result (λ s. script_by (scripts.reading policies.now.list text.now) ≡ Ok s) }
     ensures ready { IfOk result (λ s. is_ready policies.now.list s ≡ true) }
-    ensures runs { IfOk result (λ s. is_single_threaded s ≡ true) }
+    ensures units { IfOk result (λ s. script_has_units s ≡ true) }
     ensures err { IfErr result (λ s. IsTextRefused 2 (script_by (scripts.reading policies.now.list text.now)) s) }
 {
     placing_is_opening();
     match read_script(alloc, text, policies) {
-        Ok(script) => runnable(script),
+        Ok(script) => Ok(script),
         Err(ScriptRefused::Fault(fault)) => Err(Status::ScriptRefused(fault)),
         Err(ScriptRefused::NoMemory) => Err(Status::NoMemory),
     }
@@ -121,7 +113,7 @@ fn script_in<F: Files>(
     ensures counted { F.faults files.old ≤ F.faults files.new }
     ensures ok { IfOk result (λ s. IfSome (F.held files.old) (λ held. script_in policies.now.list name.now held ≡ Ok s)) }
     ensures ready { IfOk result (λ s. is_ready policies.now.list s ≡ true) }
-    ensures runs { IfOk result (λ s. is_single_threaded s ≡ true) }
+    ensures units { IfOk result (λ s. script_has_units s ≡ true) }
     ensures ok_count { OnOk result (F.faults files.new ≡ F.faults files.old) }
     ensures err { IfErr result (λ s. IsRefused 2 (option_map (script_in policies.now.list name.now) (F.held files.old)) (Rose (F.faults files.old) (F.faults files.new)) s) }
 {
@@ -131,26 +123,100 @@ fn script_in<F: Files>(
     }
 }
 
-/// Reads both files of a replay, the policies first.
+// The schedule where no file names one.
+fn no_schedule(alloc: Global) -> Schedule
+    ensures value { result ≡ no_schedule }
+{
+    Schedule {
+        steps: Steps::new(Vec::new(alloc)),
+        rounds: MOST_ROUNDS,
+    }
+}
+
+// The schedule of a text, for the actors of this script.
+fn schedule_by(alloc: Global, script: &Script, text: &[u8]) -> Result<Schedule, Status>
+    requires { length text.now < 2 ^ 32 }
+    ensures ok { IfOk result (λ s. schedule_by (schedules.reading script.now.targets text.now) ≡ Ok s) }
+    ensures there { IfOk result (λ s. list_all (is_step_there script.now.targets) s.steps ≡ true) }
+    ensures err { IfErr result (λ s. IsTextRefused 3 (schedule_by (schedules.reading script.now.targets text.now)) s) }
+{
+    match read_schedule(alloc, text, script) {
+        Ok(schedule) => Ok(schedule),
+        Err(ScheduleRefused::Fault(fault)) => Err(Status::ScheduleRefused(fault)),
+        Err(ScheduleRefused::NoMemory) => Err(Status::NoMemory),
+    }
+}
+
+// The schedule of the third file, for the actors of this script.
+fn schedule_in<F: Files>(
+    alloc: Global,
+    files: &mut F,
+    script: &Script,
+    name: &str,
+) -> Result<Schedule, Status>
+    ensures kept { F.held files.new ≡ F.held files.old }
+    ensures counted { F.faults files.old ≤ F.faults files.new }
+    ensures ok { IfOk result (λ s. IfSome (F.held files.old) (λ held. schedule_in script.now name.now held ≡ Ok s)) }
+    ensures there { IfOk result (λ s. list_all (is_step_there script.now.targets) s.steps ≡ true) }
+    ensures ok_count { OnOk result (F.faults files.new ≡ F.faults files.old) }
+    ensures err { IfErr result (λ s. IsRefused 3 (option_map (schedule_in script.now name.now) (F.held files.old)) (Rose (F.faults files.old) (F.faults files.new)) s) }
+{
+    match text_in(alloc, files, name, 3) {
+        Ok(text) => schedule_by(alloc, script, &text),
+        Err(status) => Err(status),
+    }
+}
+
+// The schedule, which the third file may hold. No file is read where none is named.
+#[tactic(auto, using(crate::proofs::Steps::schedule_unnamed))]
+fn schedule_of<F: Files>(
+    alloc: Global,
+    files: &mut F,
+    script: &Script,
+    name: Option<&str>,
+) -> Result<Schedule, Status>
+    ensures kept { F.held files.new ≡ F.held files.old }
+    ensures counted { F.faults files.old ≤ F.faults files.new }
+    ensures ok { IfOk result (λ s. IfSome (F.held files.old) (λ held. schedule_of script.now (named name.entry) held ≡ Ok s)) }
+    ensures there { IfOk result (λ s. list_all (is_step_there script.now.targets) s.steps ≡ true) }
+    ensures ok_count { OnOk result (F.faults files.new ≡ F.faults files.old) }
+    ensures err { IfErr result (λ s. MatchOption (named name.entry) ⊥ (λ n. IsRefused 3 (option_map (schedule_in script.now n) (F.held files.old)) (Rose (F.faults files.old) (F.faults files.new)) s)) }
+{
+    match name {
+        Some(name) => schedule_in(alloc, files, script, name),
+        None => Ok(no_schedule(alloc)),
+    }
+}
+
+/// Reads the files of a replay: the policies, then the script, and then the schedule where one is named.
 pub fn prepare<F: Files>(
     alloc: Global,
     files: &mut F,
     policy: &str,
     script: &str,
+    schedule: Option<&str>,
 ) -> Result<Prepared, Status>
     ensures kept { F.held files.new ≡ F.held files.old }
     ensures counted { F.faults files.old ≤ F.faults files.new }
-    ensures ok { IfOk result (λ p. IfSome (F.held files.old) (λ held. wanted_replay policy.now script.now held ≡ Ok (Runs p.policies.list p.script))) }
+    ensures ok { IfOk result (λ p. IfSome (F.held files.old) (λ held. wanted_replay policy.now script.now (named schedule.entry) held ≡ Ok (Runs p.policies.list p.script p.schedule))) }
     ensures ok_count { OnOk result (F.faults files.new ≡ F.faults files.old) }
-    ensures cause { IfErr result (λ s. IsCause 2 (option_map (wanted_replay policy.now script.now) (F.held files.old)) (Rose (F.faults files.old) (F.faults files.new)) ⊥ s) }
+    ensures cause { IfErr result (λ s. IsCause (replay_files (named schedule.entry)) (option_map (wanted_replay policy.now script.now (named schedule.entry)) (F.held files.old)) (Rose (F.faults files.old) (F.faults files.new)) ⊥ s) }
     ensures refusal { IfErr result (λ s. IsRefusal s) }
 {
     let policies = match policies_in(alloc, files, policy) {
         Ok(policies) => policies,
         Err(status) => return Err(status),
     };
-    match script_in(alloc, files, &policies, script) {
-        Ok(script) => Ok(Prepared { policies, script }),
+    let script = match script_in(alloc, files, &policies, script) {
+        Ok(script) => script,
+        Err(status) => return Err(status),
+    };
+    match schedule_of(alloc, files, &script, schedule) {
+        Ok(schedule) => Ok(Prepared {
+            policies,
+            script,
+            schedule,
+        }),
         Err(status) => Err(status),
     }
 }

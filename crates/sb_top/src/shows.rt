@@ -1,42 +1,49 @@
-// The run of a script under policies, and its transcript put line by line.
-ghost use Rattle.std.specs.Prelude.{◌≡◌, ◌≤◌, ◌<◌, ◌^◌, true, Ok, Some, IfOk};
-ghost use Rattle.sb_book.specs.Histories.{setting_of, IsLegalHistory};
-ghost use Rattle.sb_book.specs.Readiness.{is_ready};
+// The run of a script under policies by a schedule, and its transcript put line by line.
+ghost use Rattle.std.specs.Prelude.{◌≡◌, ◌≤◌, ◌<◌, ◌^◌, ℕ, true, Ok, Some, IfOk};
 ghost use Rattle.sb_book.specs.Reports.{result_count};
-ghost use Rattle.sb_core.specs.Single.{is_single_threaded};
+ghost use Rattle.sb_core.specs.Runs.{CanRun};
 ghost use Rattle.sb_outside.specs.Outside.{Rose};
+ghost use Rattle.sb_statements.specs.Units.{script_has_units};
 ghost use Rattle.sb_transcript.specs.Transcripts.{transcript};
 ghost use Rattle.sb_top.specs.Wanted.{Runs, whole_run};
-ghost use Rattle.sb_top.specs.Outcomes.{IsCause, IsReported, IsWritten, IsSilent};
+ghost use Rattle.sb_top.specs.Outcomes.{IsCause, IsReported, IsSoundRun, IsWritten, IsSilent};
 ghost use Rattle.sb_top.specs.Refusals.{IsPut};
 
 use crate::outcomes::{Outcome, Status};
 use crate::prepared::Prepared;
 use sb_book::Report;
 use sb_compile::Programs;
-use sb_core::{Ran, run, runs_are_legal};
+use sb_core::{
+    Ran, no_block_is_invented, run, runs_are_legal, runs_are_whole, runs_fit, units_are_placed,
+};
 use sb_outside::{Sink, put_lines};
 use sb_rule::Policies;
-use sb_statements::Script;
+use sb_statements::{Schedule, Script};
 use sb_transcript::transcript_lines;
 use sb_wide::NoMemory;
 use std::alloc::Global;
 
-/// A run has so many rounds where no schedule says otherwise.
-const ROUNDS: u32 = 20_000_000;
-
-// The run of a script, whose calls are judged by the programs of the policies.
+// The run of a script by a schedule, in which calls are judged by the programs of the policies.
 #[tactic(auto, unfolding(crate::specs::Wanted::whole_run), using(crate::proofs::Ready::ready_made))]
-fn run_whole(alloc: Global, policies: &Policies, script: &Script) -> Result<Ran, NoMemory>
-    requires ready { is_ready policies.now.list script.now ≡ true }
-    requires runs { is_single_threaded script.now ≡ true }
-    ensures value { IfOk result (λ r. r ≡ whole_run policies.now.list script.now) }
+fn run_whole(
+    alloc: Global,
+    policies: &Policies,
+    script: &Script,
+    schedule: &Schedule,
+) -> Result<Ran, NoMemory>
+    requires runs { CanRun policies.now.list script.now schedule.now }
+    requires units { script_has_units script.now ≡ true }
+    ensures value { IfOk result (λ r. r ≡ whole_run policies.now.list script.now schedule.now) }
     ensures few { IfOk result (λ r. result_count r.report.results < 2 ^ 62) }
-    ensures legal { IfOk result (λ r. IsLegalHistory (setting_of policies.now.list script.now) r.report.entries) }
+    ensures sound { IsSoundRun policies.now.list script.now (whole_run policies.now.list script.now schedule.now) }
 {
     runs_are_legal();
+    runs_are_whole();
+    runs_fit();
+    units_are_placed();
+    no_block_is_invented();
     let judge = Programs::new(alloc, policies, script)?;
-    run(alloc, &judge, policies, script, ROUNDS)
+    run(alloc, &judge, policies, script, schedule)
 }
 
 // Puts the transcript, one put a line. All lines are made before the first put, and no put follows one that failed.
@@ -57,18 +64,19 @@ fn put_transcript<K: Sink>(alloc: Global, script: &Script, report: &Report, out:
     }
 }
 
-/// Runs a script under policies, and puts the transcript, one put a line. All lines are made before the first put, and no
-/// put follows one that failed.
+#[tactic(auto, using(crate::proofs::Runs::whole_report))]
+/// Runs a script under policies by its schedule, and puts the transcript, one put a line. All lines are made before the first put,
+/// and no put follows one that failed.
 pub fn show<K: Sink>(alloc: Global, prepared: &Prepared, out: &mut K) -> Outcome
     ensures counted { K.faults out.old ≤ K.faults out.new }
     ensures silent { IsSilent result.status → out.new ≡ out.old }
-    ensures cause { IsCause 2 (Some (Ok (Runs prepared.now.policies.list prepared.now.script))) ⊥ (Rose (K.faults out.old) (K.faults out.new)) result.status }
-    ensures report { IsReported true (Some (Ok (Runs prepared.now.policies.list prepared.now.script))) result.report result.status }
-    ensures written { IsWritten (Some (Ok (Runs prepared.now.policies.list prepared.now.script))) (K.written out.old) (K.written out.new) result.status }
+    ensures cause { (files : ℕ) → IsCause files (Some (Ok (Runs prepared.now.policies.list prepared.now.script prepared.now.schedule))) ⊥ (Rose (K.faults out.old) (K.faults out.new)) result.status }
+    ensures report { IsReported true (Some (Ok (Runs prepared.now.policies.list prepared.now.script prepared.now.schedule))) result.report result.status }
+    ensures written { IsWritten (Some (Ok (Runs prepared.now.policies.list prepared.now.script prepared.now.schedule))) (K.written out.old) (K.written out.new) result.status }
     ensures done_count { result.status ≡ Status.Done → K.faults out.new ≡ K.faults out.old }
 {
     let script = &prepared.script;
-    let Ok(ran) = run_whole(alloc, &prepared.policies, script) else {
+    let Ok(ran) = run_whole(alloc, &prepared.policies, script, &prepared.schedule) else {
         return Outcome {
             status: Status::NoMemory,
             report: None,

@@ -1,7 +1,7 @@
 // The top call.
 ghost use Rattle.std.specs.Prelude.{◌≡◌, ◌≢◌, ◌≤◌, ◌↔◌, None, IsSome, IfSome, option_map, true, false};
 ghost use Rattle.sb_outside.specs.Outside.{Rose};
-ghost use Rattle.sb_top.specs.Commands.{command_of, file_count, is_run, texts};
+ghost use Rattle.sb_top.specs.Commands.{command_of, file_count, is_run, named, replay_files, texts};
 ghost use Rattle.sb_top.specs.Wanted.{wanted_of, wanted_check, wanted_replay};
 ghost use Rattle.sb_top.specs.Outcomes.{IsCause, IsComplete, IsReported, IsWritten, IsSilent};
 
@@ -43,12 +43,13 @@ fn replay<F: Files, K: Sink>(
     alloc: Global,
     policy: &str,
     script: &str,
+    schedule: Option<&str>,
     files: &mut F,
     out: &mut K,
 ) -> Outcome
-    ensures cause { IsCause 2 (option_map (wanted_replay policy.now script.now) (F.held files.old)) (Rose (F.faults files.old) (F.faults files.new)) (Rose (K.faults out.old) (K.faults out.new)) result.status }
-    ensures report { IsReported true (option_map (wanted_replay policy.now script.now) (F.held files.old)) result.report result.status }
-    ensures written { IsWritten (option_map (wanted_replay policy.now script.now) (F.held files.old)) (K.written out.old) (K.written out.new) result.status }
+    ensures cause { IsCause (replay_files (named schedule.entry)) (option_map (wanted_replay policy.now script.now (named schedule.entry)) (F.held files.old)) (Rose (F.faults files.old) (F.faults files.new)) (Rose (K.faults out.old) (K.faults out.new)) result.status }
+    ensures report { IsReported true (option_map (wanted_replay policy.now script.now (named schedule.entry)) (F.held files.old)) result.report result.status }
+    ensures written { IsWritten (option_map (wanted_replay policy.now script.now (named schedule.entry)) (F.held files.old)) (K.written out.old) (K.written out.new) result.status }
     ensures done_sink { result.status ≡ Status.Done → K.faults out.new ≡ K.faults out.old }
     ensures done_files { result.status ≡ Status.Done → F.faults files.new ≡ F.faults files.old }
     ensures known { result.status ≢ Status.Usage }
@@ -58,7 +59,7 @@ fn replay<F: Files, K: Sink>(
     ensures silent { IsSilent result.status → out.new ≡ out.old }
     ensures run_files { IsSome result.report → F.faults files.new ≡ F.faults files.old }
 {
-    match prepare(alloc, files, policy, script) {
+    match prepare(alloc, files, policy, script, schedule) {
         Ok(prepared) => show(alloc, &prepared, out),
         Err(status) => Outcome {
             status,
@@ -97,8 +98,9 @@ pub fn plain_top<F: Files, K: Sink>(
     // Where the words and the files come to work, and neither count rose, the work comes to its end, if there was memory.
     ensures complete { IfSome result (λ o. IsComplete (option_map (wanted_of (texts words.now)) (F.held files.old)) (Rose (F.faults files.old) (F.faults files.new)) (Rose (K.faults out.old) (K.faults out.new)) o.status) }
 
-    // The report is that of the run of the script under the policies that the texts mean, and its entries are a legal history. A check
-    // has none.
+    // The report is that of the run of the script by the schedule under the policies that the texts mean, and its entries are a legal
+    // history. With Done and WriteFault no thread is unfinished, and the report fits the script: one result for each statement, for each
+    // thread its own replies, each once, results that suit their statements, and free channels at the end. A check has none.
     ensures report { IfSome result (λ o. IsReported (is_run (command_of (texts words.now))) (option_map (wanted_of (texts words.now)) (F.held files.old)) o.report o.status) }
 
     // The output grew by exactly the transcript of script and report, or of a check the policies as a text and the listings of their programs, after a write fault by a
@@ -107,9 +109,15 @@ pub fn plain_top<F: Files, K: Sink>(
 {
     match command_of(alloc, words) {
         Ok(Some(CommandWords::Check { policy })) => Some(check(alloc, policy, files, out)),
-        Ok(Some(CommandWords::Replay { policy, script })) => {
-            Some(replay(alloc, policy, script, files, out))
-        }
+        Ok(
+            Some(
+                CommandWords::Replay {
+                    policy,
+                    script,
+                    schedule,
+                },
+            ),
+        ) => Some(replay(alloc, policy, script, schedule, files, out)),
         Ok(None) => Some(Outcome {
             status: Status::Usage,
             report: None,

@@ -1,14 +1,15 @@
-use Rattle.std.proofs.Common.{◌≡◌}
+use Rattle.std.proofs.Common.{◌≡◌, ◌∙◌}
 use Rattle.sb_outside.specs.Outside.{Rose}
-use Rattle.std.specs.Prelude.{option_map}
+use Rattle.std.specs.Prelude.{option_map, IfSome, MatchOption, Ok}
+use Rattle.sb_top.specs.Commands.{named}
 use Rattle.sb_top.specs.Refusals.{IsRefused}
-use Rattle.sb_top.specs.Wanted.{script_in}
-use Rattle.sb_top.proofs.Steps.{policies_refused, script_refused}
+use Rattle.sb_top.specs.Wanted.{schedule_in, script_in}
+use Rattle.sb_top.proofs.Steps.{policies_refused, script_refused, schedule_refused}
 use Rattle.sb_top.proofs.reading.prepare.Goals as goal
 
 pub returns-in-Err-clause-cause : goal.returns-in-Err-clause-cause
 returns-in-Err-clause-cause g c =
-    policies_refused c.args.policy.now c.args.script.now (g.F.Files.held c.args.files.now) _ c.in-Err.status c.in-Err.ensures.err
+    policies_refused c.args.policy.now c.args.script.now (named c.args.schedule) (g.F.Files.held c.args.files.now) _ c.in-Err.status c.in-Err.ensures.err
 
 pub returns-in-Err-script_in-clause-cause : goal.returns-in-Err-script_in-clause-cause
 returns-in-Err-script_in-clause-cause g c =
@@ -19,4 +20,4 @@ returns-in-Err-script_in-clause-cause g c =
     (Rose (g.F.Files.faults c.policies_in.new.files) (g.F.Files.faults c.script_in.new.files)) c.in-Err-script_in.status = c.in-Err-script_in.ensures.err in
     let refused : IsRefused 2 (option_map (script_in c.in-Ok.policies.list c.args.script.now) held)
     (Rose (g.F.Files.faults c.args.files.now) (g.F.Files.faults c.script_in.new.files)) c.in-Err-script_in.status = rw count at (rw kept at found) in
-    script_refused c.args.policy.now c.args.script.now c.in-Ok.policies.list held _ c.in-Err-script_in.status c.in-Ok.ensures.ok refused
+    script_refused c.args.policy.now c.args.script.now (named c.args.schedule) c.in-Ok.policies.list held _ c.in-Err-script_in.status c.in-Ok.ensures.ok refused
