@@ -3,22 +3,14 @@
 // holds the same rows with the values that are right.
 #![tactic(auto)]
 
-mod arena;
-mod blocks;
 mod bytes;
-mod calls;
 mod outside;
 mod patterns;
-mod readers_blocks;
-mod readers_calls;
 mod readers_rules;
-mod readers_scripts;
-mod readers_units;
 mod rows;
 mod rules;
 mod strings;
 mod texts;
-mod written_calls;
 mod written_rules;
 
 use std::alloc::Global;

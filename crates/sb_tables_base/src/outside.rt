@@ -1,13 +1,12 @@
 // Rows of files and outputs in memory.
 
 use crate::bytes::{bytes, put_shown, shown};
-use crate::readers_units::{displayed, numbers, put_between};
 use sb_items::Copies;
 use sb_outside::{
     Bytes, FileFault, FileList, Files, MemFiles, MemSink, Numbers, Sink, SinkFault, StoredFile,
     Text, put_lines,
 };
-use sb_rows::{RowFault, number, told};
+use sb_rows::{RowFault, displayed, number, numbers, put_between, told};
 use std::alloc::Global;
 
 /// What a function of files and outputs gives.

@@ -1,9 +1,8 @@
 // Rows of patterns.
 
-use crate::readers_units::{displayed, put_quoted, small};
 use sb_items::Copies;
 use sb_pattern::{Pattern, PatternFault, PatternRefused};
-use sb_rows::{RowFault, told, wide};
+use sb_rows::{RowFault, displayed, put_quoted, small, told, wide};
 use std::alloc::Global;
 
 /// What a function of patterns gives.
@@ -16,6 +15,7 @@ pub fn value_of(alloc: Global, name: &str, parts: &[&str]) -> Result<String, Row
         ("Pattern::chunks", [text]) => chunks(alloc, text),
         ("Chunks::into_items", [text]) => chunks_back(alloc, text),
         ("Pattern::matches_plain", [text, units]) => matching(alloc, text, units),
+        ("PatternFault::number", _) => number(alloc, parts),
         ("message", _) => message(alloc, parts),
         _ => Err(RowFault::Unknown),
     }
@@ -87,6 +87,10 @@ fn fault_message(alloc: Global, words: &[&str]) -> Result<String, RowFault> {
 
 fn refusal_message(alloc: Global, words: &[&str]) -> Result<String, RowFault> {
     displayed(alloc, &PatternRefused::Fault(fault(words)?))
+}
+
+fn number(alloc: Global, words: &[&str]) -> Result<String, RowFault> {
+    told(alloc, &fault(words)?.number())
 }
 
 fn fault(words: &[&str]) -> Result<PatternFault, RowFault> {

@@ -1,10 +1,7 @@
 // Readers of rules and policies. Rules are separated by semicolons. `N *` before a rule repeats it N times.
 
 use crate::patterns::pattern;
-use crate::readers_calls::tag;
-use crate::readers_scripts::short_name;
-use crate::readers_units::{quoted, small, unquoted, words_in};
-use sb_rows::{RowFault, number};
+use sb_rows::{RowFault, number, quoted, short_name, small, tag, unquoted, words_in};
 use sb_rule::{Action, Cond, Conds, Numbers, Policies, Policy, PolicyList, Rule, Rules, Test};
 use std::alloc::Global;
 
@@ -50,14 +47,25 @@ fn like(alloc: Global, word: &str) -> Result<Test, RowFault> {
 
 // A test: `is "TEXT"`, `is N or N`, `in N..N`, `has N` or `like "TEXT"`.
 fn test(alloc: Global, words: &[&str]) -> Result<Test, RowFault> {
-    match words {
-        ["is", word] if unquoted(word).is_some() => Ok(Test::Equal(quoted(alloc, word)?)),
-        ["is", numbers @ ..] => one_of(alloc, numbers),
-        ["in", text] => range(text),
-        ["has", mask] => Ok(Test::Mask(number(mask)?)),
-        ["like", word] => like(alloc, word),
+    let [word, rest @ ..] = words else {
+        return Err(RowFault::BadWords);
+    };
+    match (*word, rest) {
+        ("is", [word]) if unquoted(word).is_some() => equal(alloc, word),
+        ("is", numbers) => one_of(alloc, numbers),
+        ("in", [text]) => range(text),
+        ("has", [bits]) => mask(bits),
+        ("like", [word]) => like(alloc, word),
         _ => Err(RowFault::BadWords),
     }
+}
+
+fn equal(alloc: Global, word: &str) -> Result<Test, RowFault> {
+    Ok(Test::Equal(quoted(alloc, word)?))
+}
+
+fn mask(bits: &str) -> Result<Test, RowFault> {
+    Ok(Test::Mask(number(bits)?))
 }
 
 // A condition on a parameter by its number, as `not p1 has 2`.

@@ -1,6 +1,6 @@
 // The value of a row.
 
-use crate::{arena, blocks, calls, outside, patterns, rules, strings, texts};
+use crate::{outside, patterns, rules, strings, texts};
 use sb_rows::{RowFault, arguments};
 use std::alloc::Global;
 
@@ -18,19 +18,10 @@ pub fn value_of(alloc: Global, row: &str) -> Result<String, RowFault> {
         value = outside::value_of(alloc, name, parts);
     }
     if is_unknown(&value) {
-        value = calls::value_of(alloc, name, parts);
-    }
-    if is_unknown(&value) {
         value = patterns::value_of(alloc, name, parts);
     }
     if is_unknown(&value) {
         value = rules::value_of(alloc, name, parts);
-    }
-    if is_unknown(&value) {
-        value = blocks::value_of(alloc, name, parts);
-    }
-    if is_unknown(&value) {
-        value = arena::value_of(alloc, name, parts);
     }
     value
 }

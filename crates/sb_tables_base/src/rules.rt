@@ -1,13 +1,10 @@
 // Rows of policies, and of what they say of calls.
 
-use crate::readers_calls::call;
 use crate::readers_rules::{action, policies, policy};
-use crate::readers_units::small;
-use crate::written_calls::put_word;
 use crate::written_rules::put_policy;
 use sb_call::{Arg, CallTag, fits};
 use sb_items::Copies;
-use sb_rows::{RowFault, told};
+use sb_rows::{RowFault, call, put_word, small, told};
 use sb_rule::{Judge, PlainJudge, Policies, all_well_made, verdict_plain, well_made};
 use std::alloc::Global;
 

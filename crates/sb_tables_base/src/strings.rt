@@ -1,8 +1,7 @@
 // Rows of strings of units.
 
-use crate::readers_units::{displayed, put_units, unit};
 use sb_items::Copies;
-use sb_rows::{RowFault, told, wide};
+use sb_rows::{RowFault, displayed, put_units, told, unit, wide};
 use sb_wide::{
     NoMemory, Wide, fold, is_component, is_name, quote_into, quoted_len, same, units, wide_of,
 };

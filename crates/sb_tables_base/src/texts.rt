@@ -1,8 +1,7 @@
 // Rows of texts: lines, tokens, words and numbers.
 
 use crate::bytes::{bytes, put_shown, shown, text};
-use crate::readers_units::{displayed, put_between, put_units, small};
-use sb_rows::{RowFault, told};
+use sb_rows::{RowFault, displayed, put_between, put_units, small, told};
 use sb_text::{
     ByteLines, Lines, NotUtf8, RawLines, Token, Tokens, Words, decimal_of, line_count, number_of,
     string_of, text_of,

@@ -1,9 +1,7 @@
 // Policies, written in the form in which rows are read.
 
-use crate::readers_units::{put_number, put_quoted};
-use crate::written_calls::put_word;
 use sb_call::call_word;
-use sb_rows::RowFault;
+use sb_rows::{RowFault, put_number, put_quoted, put_word};
 use sb_rule::{Cond, Policy, Rule, Test};
 use std::alloc::Global;
 

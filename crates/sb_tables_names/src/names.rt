@@ -1,15 +1,19 @@
-// Rows of names: a tree of names, and a map from names. Each row continues from the one before.
+// Rows of names: a tree of names, and a map from names. Each row continues from the one before. Each call on the tree is also
+// made on the plain one, which has to give the same.
+ghost use Rattle.std.specs.Prelude.{◌≡◌, true, IfOk};
+ghost use Rattle.sb_wide.specs.Names.{is_name_of};
 
 use crate::readers_namespace::{numbered, plain, refusal, told_line};
-use sb_names::{NameMap, NameTree, TreeFault, is_below, parent};
+use sb_names::{NameMap, NameTree, PlainTree, TreeFault, is_below, parent};
 use sb_rows::{RowFault, number, told, wide};
-use sb_wide::quote_into;
+use sb_wide::{Wide, is_name, quote_into};
 use std::alloc::Global;
 
-/// The tree and the map that rows change.
+/// The tree, the plain one and the map that rows change.
 #[derive(Drop)]
 pub struct Names {
     tree: NameTree,
+    plain: PlainTree,
     map: NameMap<u64>,
 }
 
@@ -18,6 +22,7 @@ impl Names {
     pub fn new(alloc: Global) -> Names {
         Names {
             tree: NameTree::new(alloc),
+            plain: PlainTree::new(alloc),
             map: NameMap::new(alloc),
         }
     }
@@ -35,6 +40,7 @@ pub fn value_of(
         ("is_below", [name, lower]) => told_below(alloc, name, lower),
         ("tree", [""]) => {
             names.tree = NameTree::new(alloc);
+            names.plain = PlainTree::new(alloc);
             plain(alloc, "empty")
         }
         ("map", [""]) => {
@@ -52,7 +58,7 @@ fn kept_value(
     name: &str,
     parts: &[&str],
 ) -> Result<String, RowFault> {
-    match tree_value(alloc, &mut names.tree, name, parts) {
+    match tree_value(alloc, names, name, parts) {
         Err(RowFault::Unknown) => map_value(alloc, &mut names.map, name, parts),
         value => value,
     }
@@ -78,16 +84,16 @@ fn told_name(alloc: Global, name: &[u16]) -> Result<String, RowFault> {
 // What a call on the tree gives.
 fn tree_value(
     alloc: Global,
-    tree: &mut NameTree,
+    names: &mut Names,
     name: &str,
     parts: &[&str],
 ) -> Result<String, RowFault> {
     match (name, parts) {
-        ("tree.add", [name, object]) => add(alloc, tree, name, object),
-        ("tree.rename", [name, to]) => rename(alloc, tree, name, to),
-        ("tree.add_numbered", [name, count]) => add_numbered(alloc, tree, name, number(count)?),
-        ("tree.find_numbered", [name, count]) => find_numbered(alloc, tree, name, number(count)?),
-        (_, [text]) => tree_value_at(alloc, tree, name, text),
+        ("tree.add", [name, object]) => add(alloc, names, name, object),
+        ("tree.rename", [name, to]) => rename(alloc, names, name, to),
+        ("tree.add_numbered", [name, count]) => add_numbered(alloc, names, name, number(count)?),
+        ("tree.find_numbered", [name, count]) => find_numbered(alloc, names, name, number(count)?),
+        (_, [text]) => tree_value_at(alloc, names, name, text),
         _ => Err(RowFault::Unknown),
     }
 }
@@ -95,55 +101,114 @@ fn tree_value(
 // What a call on the tree with one name gives.
 fn tree_value_at(
     alloc: Global,
-    tree: &mut NameTree,
+    names: &mut Names,
     name: &str,
     text: &str,
 ) -> Result<String, RowFault> {
     match name {
-        "tree.remove" => remove(alloc, tree, text),
-        "tree.take_back" => take_back(alloc, tree, text),
-        "tree.find" => found(alloc, tree, text),
-        "tree.has_parent" => told_parent(alloc, tree, text),
-        "tree.children_count" => told_children(alloc, tree, text),
+        "tree.remove" => remove(alloc, names, text),
+        "tree.take_back" => take_back(alloc, names, text),
+        "tree.find" => found(alloc, names, text),
+        "tree.has_parent" => told_parent(alloc, names, text),
+        "tree.children_count" => told_children(alloc, names, text),
         _ => Err(RowFault::Unknown),
     }
 }
 
-fn add(alloc: Global, tree: &mut NameTree, name: &str, object: &str) -> Result<String, RowFault> {
+// A text that is a name.
+fn checked(name: Wide) -> Result<Wide, RowFault>
+    ensures { IfOk result (λ name. is_name_of name ≡ true) }
+{
+    if is_name(name.as_units()) {
+        Ok(name)
+    } else {
+        Err(RowFault::NotInRange)
+    }
+}
+
+fn named(alloc: Global, text: &str) -> Result<Wide, RowFault>
+    ensures { IfOk result (λ name. is_name_of name ≡ true) }
+{
+    checked(wide(alloc, text)?)
+}
+
+// What the tree gives, where the plain one gives the same.
+fn agreed(alloc: Global, value: String, wanted: String) -> Result<String, RowFault> {
+    if value.as_bytes() == wanted.as_bytes() {
+        Ok(value)
+    } else {
+        plain(alloc, "differs from the plain tree")
+    }
+}
+
+fn add(alloc: Global, names: &mut Names, name: &str, object: &str) -> Result<String, RowFault> {
     let object = number(object)?;
-    let name = wide(alloc, name)?;
-    done(alloc, tree.add(name.as_units(), object))
+    let name = named(alloc, name)?;
+    let wanted = done(alloc, names.plain.add(name.as_units(), object))?;
+    let value = done(alloc, names.tree.add(name.as_units(), object))?;
+    agreed(alloc, value, wanted)
 }
 
-fn rename(alloc: Global, tree: &mut NameTree, name: &str, to: &str) -> Result<String, RowFault> {
-    let name = wide(alloc, name)?;
-    let to = wide(alloc, to)?;
-    done(alloc, tree.rename(name.as_units(), to.as_units()))
+fn rename(alloc: Global, names: &mut Names, name: &str, to: &str) -> Result<String, RowFault> {
+    let name = named(alloc, name)?;
+    let to = named(alloc, to)?;
+    renamed(alloc, names, name.as_units(), to.as_units())
 }
 
-fn remove(alloc: Global, tree: &mut NameTree, name: &str) -> Result<String, RowFault> {
-    let name = wide(alloc, name)?;
-    match tree.remove(name.as_units()) {
+fn renamed(alloc: Global, names: &mut Names, name: &[u16], to: &[u16]) -> Result<String, RowFault>
+    requires name { is_name_of name.now ≡ true }
+    requires to { is_name_of to.now ≡ true }
+{
+    let wanted = done(alloc, names.plain.rename(name, to))?;
+    let value = done(alloc, names.tree.rename(name, to))?;
+    agreed(alloc, value, wanted)
+}
+
+fn remove(alloc: Global, names: &mut Names, name: &str) -> Result<String, RowFault> {
+    let name = named(alloc, name)?;
+    let wanted = taken(alloc, names.plain.remove(name.as_units()))?;
+    let value = taken(alloc, names.tree.remove(name.as_units()))?;
+    agreed(alloc, value, wanted)
+}
+
+fn taken(alloc: Global, result_: Result<u64, TreeFault>) -> Result<String, RowFault> {
+    match result_ {
         Ok(object) => told(alloc, &object),
         Err(fault) => refusal(alloc, fault),
     }
 }
 
-fn take_back(alloc: Global, tree: &mut NameTree, name: &str) -> Result<String, RowFault> {
-    tree.take_back(wide(alloc, name)?.as_units());
-    plain(alloc, "done")
+fn take_back(alloc: Global, names: &mut Names, name: &str) -> Result<String, RowFault> {
+    let name = named(alloc, name)?;
+    names.plain.take_back(name.as_units());
+    match names.tree.children_count(name.as_units()) {
+        Some(0) => {
+            names.tree.take_back(name.as_units());
+            plain(alloc, "done")
+        }
+        _ => Err(RowFault::NotInRange),
+    }
 }
 
-fn found(alloc: Global, tree: &NameTree, name: &str) -> Result<String, RowFault> {
-    told(alloc, &tree.find(wide(alloc, name)?.as_units()))
+fn found(alloc: Global, names: &Names, name: &str) -> Result<String, RowFault> {
+    let name = named(alloc, name)?;
+    let wanted = told(alloc, &names.plain.find(name.as_units()))?;
+    let value = told(alloc, &names.tree.find(name.as_units()))?;
+    agreed(alloc, value, wanted)
 }
 
-fn told_parent(alloc: Global, tree: &NameTree, name: &str) -> Result<String, RowFault> {
-    told(alloc, &tree.has_parent(wide(alloc, name)?.as_units()))
+fn told_parent(alloc: Global, names: &Names, name: &str) -> Result<String, RowFault> {
+    let name = named(alloc, name)?;
+    let wanted = told(alloc, &names.plain.has_parent(name.as_units()))?;
+    let value = told(alloc, &names.tree.has_parent(name.as_units()))?;
+    agreed(alloc, value, wanted)
 }
 
-fn told_children(alloc: Global, tree: &NameTree, name: &str) -> Result<String, RowFault> {
-    told(alloc, &tree.children_count(wide(alloc, name)?.as_units()))
+fn told_children(alloc: Global, names: &Names, name: &str) -> Result<String, RowFault> {
+    let name = named(alloc, name)?;
+    let wanted = told(alloc, &names.plain.children_count(name.as_units()))?;
+    let value = told(alloc, &names.tree.children_count(name.as_units()))?;
+    agreed(alloc, value, wanted)
 }
 
 fn done(alloc: Global, result_: Result<(), TreeFault>) -> Result<String, RowFault> {
@@ -156,12 +221,14 @@ fn done(alloc: Global, result_: Result<(), TreeFault>) -> Result<String, RowFaul
 // Adds a count of names: the name with each number behind it, and that number as the object.
 fn add_numbered(
     alloc: Global,
-    tree: &mut NameTree,
+    names: &mut Names,
     name: &str,
     count: u64,
 ) -> Result<String, RowFault> {
     for number in 0..count {
-        match tree.add(numbered(alloc, name, number)?.as_units(), number) {
+        let name = checked(numbered(alloc, name, number)?)?;
+        let _wanted = names.plain.add(name.as_units(), number);
+        match names.tree.add(name.as_units(), number) {
             Ok(()) => {}
             Err(fault) => return refusal(alloc, fault),
         }
@@ -169,20 +236,22 @@ fn add_numbered(
     plain(alloc, "done")
 }
 
-// How many of these names are there with their number as the object.
-fn find_numbered(
-    alloc: Global,
-    tree: &NameTree,
-    name: &str,
-    count: u64,
-) -> Result<String, RowFault> {
+// How many of these names are there with their number as the object, in both trees.
+fn find_numbered(alloc: Global, names: &Names, name: &str, count: u64) -> Result<String, RowFault> {
     let mut found: u64 = 0;
     for number in 0..count {
-        if tree.find(numbered(alloc, name, number)?.as_units()) == Some(number) {
+        let name = checked(numbered(alloc, name, number)?)?;
+        if is_object(names, name.as_units(), number) {
             found = found.saturating_add(1);
         }
     }
     told(alloc, &found)
+}
+
+fn is_object(names: &Names, name: &[u16], object: u64) -> bool
+    requires { is_name_of name.now ≡ true }
+{
+    names.tree.find(name) == Some(object) && names.plain.find(name) == Some(object)
 }
 
 // What a call on the map gives.

@@ -5,7 +5,8 @@ ghost use Rattle.sb_book.specs.Reports.{result_count};
 use crate::decisions::script_of;
 use crate::readers_namespace::{blanks, plain, short_number, told_line};
 use crate::readers_transcripts::{entry, statement_result};
-use sb_book::{Entries, Entry, Report, Results, TargetResults, ThreadResults};
+use sb_book::{AllWords, Entries, Entry, Report, Results, TargetResults, ThreadResults};
+use sb_kernel::Kernel;
 use sb_outside::Bytes;
 use sb_rows::{RowFault, number, told};
 use sb_statements::{Script, StmtResult};
@@ -168,7 +169,7 @@ fn found_in(alloc: Global, thread: &str) -> Result<ThreadResults, RowFault> {
     Ok(results)
 }
 
-// Makes the report of what was put.
+// Makes the report of what was put, with no words and an empty namespace, which no line shows.
 fn made(alloc: Global, transcript: &mut Transcript) -> Result<String, RowFault> {
     let entries = mem::replace(&mut transcript.entries, Vec::new(alloc));
     let results = mem::replace(&mut transcript.results, Vec::new(alloc));
@@ -179,6 +180,8 @@ fn made(alloc: Global, transcript: &mut Transcript) -> Result<String, RowFault> 
     let report = Report {
         entries: Entries::new(entries),
         results: Results::new(results),
+        words: AllWords::none(alloc),
+        kernel: Kernel::new(alloc),
     };
     transcript.report = Some(SmallReport { report });
     Ok(format!(in alloc; "{entry_count} entries, {target_count} targets")?)

@@ -5,6 +5,7 @@
 
 mod call_readers;
 mod evaluation;
+mod generated;
 mod listings;
 mod opcode_readers;
 mod opcodes;

@@ -1,6 +1,6 @@
 // The value of a row.
 
-use crate::{evaluation, listings, opcodes, policies, scripts};
+use crate::{evaluation, generated, listings, opcodes, policies, scripts};
 use sb_rows::{RowFault, arguments};
 use std::alloc::Global;
 
@@ -22,6 +22,10 @@ pub fn value_of(alloc: Global, row: &str) -> Result<String, RowFault> {
         value => return value,
     }
     match policies::value_of(alloc, name, &parts) {
+        Err(RowFault::Unknown) => {}
+        value => return value,
+    }
+    match generated::value_of(alloc, name, &parts) {
         Err(RowFault::Unknown) => {}
         value => return value,
     }

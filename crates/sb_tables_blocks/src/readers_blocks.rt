@@ -1,9 +1,8 @@
 // Readers of copies of blocks, and how words are written.
 
-use crate::readers_calls::call;
 use sb_block::{Taken, Words, encode};
 use sb_call::{Arg, CallTag, fits};
-use sb_rows::{RowFault, number};
+use sb_rows::{RowFault, call, number};
 use std::alloc::Global;
 
 /// At most 64 words of a block, separated by blanks, where `0*12` is the word 0 twelve times.

@@ -1,18 +1,15 @@
 // Rows of calls, their arguments, answers, scripts and schedules.
 
-use crate::readers_calls::{
-    answer, arg, args_in, call, extended, reply, result, small_status, tag,
-};
-use crate::readers_scripts::{schedule, script, short_name, statement_in};
-use crate::readers_units::small;
+use crate::readers_calls::{answer, extended, reply, result, small_status};
+use crate::readers_scripts::{schedule, script, statement_in};
 use crate::written_calls::{
-    put_answer, put_arg, put_args, put_extended, put_reply, put_script, put_statement, put_word,
+    put_answer, put_arg, put_args, put_extended, put_reply, put_script, put_statement,
 };
 use sb_call::{
     Answer, CallTag, ShortName, call_word, every_tag, fits, number_of, shape, tag_of, tag_of_word,
 };
 use sb_items::Copies;
-use sb_rows::{RowFault, number, told};
+use sb_rows::{RowFault, arg, args_in, call, number, put_word, short_name, small, tag, told};
 use sb_statements::clean;
 use std::alloc::Global;
 

@@ -1,6 +1,7 @@
 // Readers of small numbers, words and quoted units, and how units are written.
 
-use sb_rows::{RowFault, number, wide};
+use crate::faults::RowFault;
+use crate::readers::{number, wide};
 use sb_wide::Wide;
 use std::alloc::Global;
 use std::fmt::Display;

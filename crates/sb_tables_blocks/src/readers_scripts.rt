@@ -1,19 +1,12 @@
 // Readers of scripts and schedules. Their lines are separated by semicolons. `N *` before a line repeats it N times.
 
-use crate::readers_calls::{args, tag};
-use crate::readers_units::{quoted, small, words_in};
 use sb_call::ShortName;
-use sb_rows::{RowFault, number};
+use sb_rows::{RowFault, args, number, quoted, short_name, small, tag, words_in};
 use sb_statements::{
     Actor, Schedule, Script, StartLine, StartLines, Statement, Statements, Steps, TargetScript,
     Targets, Threads, Word,
 };
 use std::alloc::Global;
-
-/// A name of a policy or a target.
-pub fn short_name(word: &str) -> Result<ShortName, RowFault> {
-    ShortName::new(word.as_bytes()).ok_or(RowFault::BadWords)
-}
 
 // A word: a channel, and a place in it, where place 0 is the state.
 fn word(channel: &str, at: &str) -> Result<Word, RowFault> {

@@ -1,16 +1,8 @@
 // Calls, scripts and replies, written in the form in which rows are read.
 
-use crate::readers_units::{put_number, put_quoted};
 use sb_call::{Answer, Arg, CallTag, Reply, call_word};
-use sb_rows::RowFault;
+use sb_rows::{RowFault, put_number, put_quoted, put_word};
 use sb_statements::{Script, StartLine, Statement, TargetScript, Word};
-use std::str;
-
-/// Appends a word of ASCII.
-pub fn put_word(out: &mut String, word: &[u8]) -> Result<(), RowFault> {
-    let text = str::from_utf8(word).map_err(|_| RowFault::BadText)?;
-    Ok(out.push_str(text)?)
-}
 
 /// Appends an argument.
 pub fn put_arg(out: &mut String, arg: &Arg) -> Result<(), RowFault> {

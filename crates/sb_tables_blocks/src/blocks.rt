@@ -1,16 +1,15 @@
 // Rows of blocks: calls and replies as words, copies with their faults, and sound scripts.
 
 use crate::readers_blocks::{block_words, put_words, reply_block, taken, taken_with};
-use crate::readers_calls::{call, reply};
+use crate::readers_calls::reply;
 use crate::readers_scripts::script;
-use crate::readers_units::{displayed, small};
 use crate::written_calls::{put_call, put_reply};
 use sb_block::{
     BlockFault, BlockRefused, Call, Taken, TooBig, Words, decode, encode, encodes, fault_of,
     read_reply, reply_words,
 };
 use sb_call::fits;
-use sb_rows::{RowFault, number, told};
+use sb_rows::{RowFault, call, displayed, number, small, told};
 use sb_statements::sound;
 use std::alloc::Global;
 

@@ -1,50 +1,9 @@
-// Readers of calls, their arguments and what is replied to them.
+// Readers of what is replied to calls.
 
-use crate::readers_units::{quoted, small, unquoted, words_in};
-use sb_call::{Answer, Arg, Args, CallTag, Extended, Reply, tag_of_word};
-use sb_rows::{RowFault, number};
+use sb_call::{Answer, Extended, Reply};
+use sb_rows::{RowFault, number, small, words_in};
 use sb_statements::{CallResult, StmtResult};
 use std::alloc::Global;
-
-/// The call that a word names, as `file.open`.
-pub fn tag(word: &str) -> Result<CallTag, RowFault> {
-    tag_of_word(word.as_bytes()).ok_or(RowFault::BadWords)
-}
-
-/// An argument: a number, or a string between quotes.
-pub fn arg(alloc: Global, word: &str) -> Result<Arg, RowFault> {
-    match unquoted(word) {
-        Some(_) => Ok(Arg::Str(quoted(alloc, word)?)),
-        None => Ok(Arg::Num(number(word)?)),
-    }
-}
-
-/// Arguments, a word each.
-pub fn args(alloc: Global, words: &[&str]) -> Result<Args, RowFault> {
-    let mut found = Args::new(Vec::new(alloc));
-    for word in words {
-        found.push(arg(alloc, word)?)?;
-    }
-    Ok(found)
-}
-
-/// Arguments, separated by blanks.
-pub fn args_in(alloc: Global, text: &str) -> Result<Args, RowFault> {
-    args(alloc, words_in(alloc, text)?.as_slice())
-}
-
-/// A call as scripts write it: its word and its arguments, separated by blanks. The arguments need not fit the call.
-pub fn call(alloc: Global, text: &str) -> Result<(CallTag, Args), RowFault> {
-    call_of(alloc, words_in(alloc, text)?.as_slice())
-}
-
-fn call_of(alloc: Global, words: &[&str]) -> Result<(CallTag, Args), RowFault> {
-    let [name, rest @ ..] = words else {
-        return Err(RowFault::BadWords);
-    };
-    let tag = tag(name)?;
-    Ok((tag, args(alloc, rest)?))
-}
 
 /// A status: hexadecimal digits.
 fn status(text: &str) -> Result<u64, RowFault> {

@@ -1,0 +1,38 @@
+// Prints rows of single functions. A row is a function with its arguments, and what the function gives is printed behind it.
+// The rows stand in files, which the arguments name; what is printed is compared with the file `stdout` of this crate, which
+// holds the same rows with the values that are right.
+#![tactic(auto)]
+
+mod arena;
+mod blocks;
+mod calls;
+mod readers_blocks;
+mod readers_calls;
+mod readers_scripts;
+mod rows;
+mod written_calls;
+
+use std::alloc::Global;
+use std::{env, fs, io};
+
+fn main(rt: HostRuntime) -> io::Result<()> {
+    let alloc = rt.alloc();
+    for name in env::args(&rt)?.skip(1) {
+        let text = fs::read_to_string(&rt, name)?;
+        for line in text.as_str().lines() {
+            rt.println(told_line(alloc, line)?)?;
+        }
+    }
+    Ok(())
+}
+
+// What is printed of a line: a blank line or a comment as it is, and a row with its value.
+fn told_line(alloc: Global, line: &str) -> io::Result<String> {
+    if line.is_empty() || line.starts_with('#') {
+        return Ok(String::from_str(alloc, line)?);
+    }
+    Ok(match rows::value_of(alloc, line) {
+        Ok(value) => format!(in alloc; "{line} => {value}")?,
+        Err(fault) => format!(in alloc; "{line} FAULT {fault}")?,
+    })
+}

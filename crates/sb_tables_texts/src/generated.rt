@@ -1,0 +1,55 @@
+// Rows of generated input.
+ghost use Rattle.std.specs.Prelude.{◌≤◌, IfOk};
+
+use crate::script_values::told_script;
+use sb_gen::{Generator, make};
+use sb_rows::{RowFault, number, told};
+use sb_statements::Script;
+use std::alloc::Global;
+
+/// What a function of generated input gives. The arguments are the seed, and the counts of targets and of statements a thread.
+pub fn value_of(alloc: Global, name: &str, parts: &[&str]) -> Result<String, RowFault> {
+    match (name, parts) {
+        ("generated", [seed]) => pairs(alloc, number(seed)?),
+        ("make", [seed, targets, calls]) => {
+            made(alloc, number(seed)?, number(targets)?, number(calls)?)
+        }
+        _ => Err(RowFault::Unknown),
+    }
+}
+
+// The kind and the number of each of the first eight statements.
+fn pairs(alloc: Global, seed: u64) -> Result<String, RowFault> {
+    let mut generator = Generator::new(seed);
+    let mut pairs = Vec::new(alloc);
+    for _ in 0..8 {
+        generator.advance();
+        pairs.push((generator.kind(), generator.named_number()))?;
+    }
+    told(alloc, &pairs)
+}
+
+// A count from 1 to this limit.
+fn count(number: u64, most: u32) -> Result<u32, RowFault>
+    ensures { IfOk result (λ count. (1 ≤ count) × (count ≤ most)) }
+{
+    match u32::try_from(number) {
+        Ok(count) if count >= 1 && count <= most => Ok(count),
+        _ => Err(RowFault::TooMany),
+    }
+}
+
+fn made_script(alloc: Global, seed: u64, targets: u32, calls: u32) -> Result<Script, RowFault>
+    requires targets { (1 ≤ targets) × (targets ≤ 8) }
+    requires calls { (1 ≤ calls) × (calls ≤ 4096) }
+{
+    let (_policies, script) = make(alloc, seed, targets, calls)?;
+    Ok(script)
+}
+
+fn made(alloc: Global, seed: u64, targets: u64, calls: u64) -> Result<String, RowFault> {
+    let targets = count(targets, 8)?;
+    let calls = count(calls, 4096)?;
+    let script = made_script(alloc, seed, targets, calls)?;
+    told_script(alloc, &script)
+}
