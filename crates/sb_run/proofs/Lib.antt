@@ -1,0 +1,5 @@
+pub mod Bounds
+pub mod Leading
+pub mod Named
+pub mod Keeping
+pub mod Working

@@ -1,0 +1,4 @@
+pub mod ThreadActors
+pub mod ThreadSteps
+pub mod WorkerActors
+pub mod WorkerSteps

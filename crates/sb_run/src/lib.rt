@@ -1,0 +1,9 @@
+// A run on real threads: each thread and each worker makes its steps with seats of its own, so that any number of them may run beside
+// each other. What they did is told by the seats when all have come together again.
+#![tactic(auto)]
+
+mod threads;
+mod workers;
+
+pub use threads::ThreadActor;
+pub use workers::WorkerActor;
