@@ -1,2 +1,4 @@
 pub mod Lengths
 pub mod Spaces
+pub mod WrittenStrings
+pub mod QuotedStrings

@@ -1,3 +1,4 @@
 pub mod Parameters
 pub mod Printing
 pub mod Values
+pub mod Strings

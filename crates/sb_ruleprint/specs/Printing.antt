@@ -1,9 +1,7 @@
 -- How policies are written as a text.
 use Rattle.std.specs.Prelude.{ℕ, ◌+◌, Bool, true, false, List, [], ◌∷◌, ◌++◌, length, map, codes, if◌then◌else◌}
-use Rattle.std.specs.Char.Utf16.{utf16_lossy_chars}
 use Rattle.sb_wide.specs.Numbers.{hexadecimal}
 use Rattle.std.specs.List.{flat_map, list_any}
-use Rattle.std.specs.Str.{encode_utf8_all}
 use Rattle.sb_call.specs.declared.tags.CallTag.{CallTag}
 use Rattle.sb_pattern.specs.Reading.{text_of}
 use Rattle.sb_rule.specs.declared.actions.Action.{Action}
@@ -13,9 +11,9 @@ use Rattle.sb_rule.specs.declared.conditions.Test.{Test}
 use Rattle.sb_rule.specs.declared.conditions.Test.TheVariants.{OneOf, Range, Mask, Equal, Like}
 use Rattle.sb_rule.specs.declared.policies.Policy.{Policy}
 use Rattle.sb_rule.specs.declared.policies.Rule.{Rule}
-use Rattle.sb_text.specs.LineLaws.{ended}
-use Rattle.sb_text.specs.TokenLaws.{written_token, written_line}
-use Rattle.sb_text.specs.Tokens.{Lexeme, Word, Quoted}
+use Rattle.sb_text.specs.PlainLines.{line_text}
+use Rattle.sb_text.specs.TokenLaws.{written_token}
+use Rattle.sb_text.specs.Tokens.{Lexeme, Word, Quoted, utf8_of}
 use Rattle.sb_rule.specs.Actions.{action_word}
 use Rattle.sb_call.specs.CallWords.{call_word}
 use Rattle.sb_ruleprint.specs.Parameters.{parameter_word}
@@ -27,10 +25,6 @@ number_word n = 48 ∷ 120 ∷ hexadecimal n
 -- a range: two numbers joined by `..`
 abbrev pub range_word : ℕ → ℕ → List ℕ
 range_word lo hi = number_word lo ++ 46 ∷ 46 ∷ number_word hi
-
--- the UTF-8 of the characters that units spell
-abbrev pub utf8_of : List ℕ → List ℕ
-utf8_of units = encode_utf8_all (utf16_lossy_chars units)
 
 -- a further number: `or N`
 abbrev pub or_tokens : ℕ → List Lexeme
@@ -103,10 +97,6 @@ printed_lines policies = version_tokens policies ∷ flat_map policy_lines polic
 -- tokens with a space before each
 abbrev pub spaced : List Lexeme → List ℕ
 spaced tokens = flat_map (λ token. 32 ∷ written_token token) tokens
-
--- a line: its tokens with one space between each two, and an LF
-abbrev pub line_text : List Lexeme → List ℕ
-line_text tokens = ended (written_line tokens)
 
 -- the text of policies
 abbrev pub printed : List Policy → List ℕ

@@ -4,7 +4,9 @@ ghost use Rattle.std.specs.List.{flat_map, list_all, list_any};
 ghost use Rattle.sb_rule.specs.WellMade.{are_well_made};
 ghost use Rattle.sb_rule.specs.Actions.{action_word};
 ghost use Rattle.sb_call.specs.CallWords.{call_word};
-ghost use Rattle.sb_ruleprint.specs.Printing.{number_word, range_word, utf8_of, or_tokens, numbers_tokens, test_tokens, not_tokens, cond_tokens, joined_tokens, conds_tokens, rule_tokens, heading_tokens, policy_lines, is_read_only, has_read_only, version_word, version_tokens, spaced, line_text, printed};
+ghost use Rattle.sb_ruleprint.specs.Printing.{number_word, range_word, or_tokens, numbers_tokens, test_tokens, not_tokens, cond_tokens, joined_tokens, conds_tokens, rule_tokens, heading_tokens, policy_lines, is_read_only, has_read_only, version_word, version_tokens, spaced, printed};
+ghost use Rattle.sb_text.specs.PlainLines.{line_text};
+ghost use Rattle.sb_text.specs.Tokens.{utf8_of};
 ghost use Rattle.sb_ruleprint.specs.Values.{is_number, is_test_of_values, is_rule_of_values, is_policy_of_values};
 
 use crate::parameters::parameter_word;

@@ -1,5 +1,5 @@
 -- What is added to the policies so far.
-use Rattle.std.proofs.Common.{◌≡◌, refl, sym, ap, ◌∙◌, subst, ℕ, ◌+◌, ◌≤◌, ◌<◌, List, [], ◌∷◌, ◌++◌, Bool, true, false, not, ◌&&◌, ◌||◌, cond, length, length-append, nat_le, nat_lt, nat_eq, Result, Ok, Err, OnOk, arith}
+use Rattle.std.proofs.Common.{◌≡◌, refl, sym, ap, ◌∙◌, ℕ, ◌+◌, ◌≤◌, ◌<◌, List, [], ◌∷◌, ◌++◌, Bool, true, false, not, ◌&&◌, ◌||◌, cond, length, length-append, nat_le, nat_lt, nat_eq, Result, Ok, Err, arith}
 use Rattle.std.proofs.lemmas.Bool.Decides.{nat_tests}
 use Rattle.std.proofs.lemmas.List.Folds.{list_all-append, list_any-append}
 use Rattle.std.specs.Cmp.{nat_eq_equiv, partial_equiv_from_equiv}
@@ -9,9 +9,8 @@ use Rattle.sb_rule.specs.WellMade.{is_well_made_rule, is_well_made, are_well_mad
 use Rattle.sb_rule.specs.declared.policies.Policy.{Policy}
 use Rattle.sb_rule.specs.declared.policies.Rule.{Rule}
 use Rattle.sb_ruletext.proofs.Conjunctions.{both, and_true}
-use Rattle.sb_ruletext.specs.Lines.{with_last_rules, check_heading, with_policy}
-use Rattle.sb_text.specs.Steps.{◌>>=◌, Becomes}
-use Rattle.sb_text.specs.declared.refusals.Refused.{Refused}
+use Rattle.sb_ruletext.specs.Lines.{with_last_rules, check_heading}
+use Rattle.sb_text.specs.Steps.{◌>>=◌}
 use Rattle.sb_ruletext.specs.declared.faults.TextKind.{TextKind}
 use Rattle.sb_ruletext.specs.declared.faults.TextKind.TheVariants.{TooMany, NoHeading}
 
@@ -150,16 +149,6 @@ room_more before last =
 pub chosen : (b : Bool) (policies new : List Policy) → cond b (Ok policies) (Err TooMany) ≡ Ok new → (b ≡ true) × (policies ≡ new)
 chosen true policies new h = (refl, search h)
 chosen false policies new h = search h
-
--- the policies with a new one stay well made
-pub heading_well_made : {A : Type 0} (old new : List Policy) (name : List ℕ) (result : Result A (Refused TextKind)) → Becomes (with_policy old name) result new
-    → are_well_made old ≡ true → list_any (is_named name) old ≡ false → OnOk result (are_well_made new ≡ true)
-heading_well_made old new name (Ok done) h k n =
-    let p = chosen (nat_lt (length old) 8) (old ++ policy_of name [] ∷ []) new h in
-    let room : nat_lt (length old) 8 ≡ true = p.0 in
-    let few : length old < 8 = grind (arith, nat_tests) in
-    subst (λ policies. are_well_made policies ≡ true) p.1 (well_made_more old name k n few)
-heading_well_made old new name (Err refused) h k n = tt
 
 -- before the first heading there is no policy to which rules could be added
 pub added_nowhere : (rules : List Rule) → with_last_rules [] rules ≡ Err NoHeading

@@ -1,11 +1,5 @@
 -- Items that are joined by a word: what was read, and what is left.
 use Rattle.std.proofs.Common.{◌≡◌, refl, sym, ap, ◌∙◌, ℕ, suc, ◌+◌, ◌-◌, ◌<◌, ◌≤◌, List, [], ◌∷◌, ◌++◌, length, length-append, true, false, Ok, Err, append_assoc, arith}
-use Rattle.std.proofs.lemmas.List.Folds.{list_all-append}
-use Rattle.std.specs.List.{list_all}
-use Rattle.sb_call.specs.declared.tags.CallTag.{CallTag}
-use Rattle.sb_rule.specs.WellMade.{is_well_formed}
-use Rattle.sb_rule.specs.declared.conditions.Cond.{Cond}
-use Rattle.sb_ruletext.proofs.Conjunctions.{and_true}
 use Rattle.sb_ruletext.specs.Steps.{excess, joined_at}
 use Rattle.sb_ruletext.specs.declared.faults.TextKind.{TextKind}
 use Rattle.sb_text.specs.Steps.{◌>>=◌, Read, Reads, begins_with, later}
@@ -96,8 +90,3 @@ pub joined_after : {A : Type 0} (most : ℕ) (joint : List ℕ) (item_at : ItemA
     → (length now ≤ most) × (with_items now (joined_at (most - length now) joint item_at after) ≡ whole)
 joined_after most joint item_at done now tokens rest after item whole l i h e b a =
     rw (e) rw (a) (grown most done item l, sym (joined_more most joint item_at done tokens item rest l h b) ∙ i)
-
--- the conditions are well formed with one more that is
-pub well_formed_with : (tag : CallTag) (done : List Cond) (cond : Cond) → list_all (is_well_formed tag) done ≡ true → is_well_formed tag cond ≡ true
-    → list_all (is_well_formed tag) (done ++ cond ∷ []) ≡ true
-well_formed_with tag done cond h k = list_all-append (is_well_formed tag) done (cond ∷ []) ∙ and_true _ _ h (and_true _ _ k refl)

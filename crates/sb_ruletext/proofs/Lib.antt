@@ -1,12 +1,9 @@
-pub mod PrintedStrings
-pub mod PrintedLines
 pub mod PrintedWords
 pub mod PrintedConditions
 pub mod PrintedTokens
 pub mod PrintedRules
 pub mod PrintedTexts
 pub mod Conjunctions
-pub mod Strings
 pub mod Patterns
 pub mod Dots
 pub mod Joined

@@ -1,17 +1,13 @@
 -- The strings and patterns that are read can stand between quotes.
-use Rattle.std.proofs.Common.{◌≡◌, refl, sym, subst, ℕ, ◌≤◌, List, Bool, true, false, nat_le, nat_lt, length, Option, Some, Ok, arith, cond}
+use Rattle.std.proofs.Common.{◌≡◌, refl, sym, subst, ℕ, List, Bool, true, false, nat_le, nat_lt, length, Option, Some, Ok, arith, cond}
 use Rattle.std.proofs.lemmas.Bool.Decides.{nat_tests}
 use Rattle.std.specs.List.{list_all}
-use Rattle.std.specs.Str.{IsUtf8}
 use Rattle.sb_pattern.specs.Reading.{reading, star_fault, cells_of, unless, TextsComeBack, ReadingGivesPatterns}
 use Rattle.sb_pattern.specs.declared.cells.Cell.{Cell}
 use Rattle.sb_pattern.specs.declared.faults.PatternFault.{PatternFault}
 use Rattle.sb_pattern.specs.declared.faults.PatternFault.TheVariants.{TooLong}
 use Rattle.sb_rule.specs.WellMade.{is_paired, is_text_unit, is_policy_text, is_like_text}
-use Rattle.sb_text.specs.TokenLaws.{is_quoted_byte}
-use Rattle.sb_text.specs.Tokens.{string_of}
 use Rattle.sb_ruletext.proofs.Conjunctions.{and_true}
-use Rattle.sb_ruletext.proofs.Strings.{quoted_is_text}
 
 -- text of at most 256 units
 pub short_text : (text : List ℕ) → nat_le (length text) 256 ≡ true
@@ -34,9 +30,3 @@ pub read_like : TextsComeBack → ReadingGivesPatterns → (text : List ℕ) (ce
     → (list_all is_text_unit text ≡ true) × (is_paired text ≡ true) → is_like_text cells ≡ true
 read_like texts patterns text cells h k =
     and_true _ _ (patterns text cells h) (subst (λ us. is_policy_text us ≡ true) (sym (texts text cells h)) (short_text text (read_is_short text cells h) k))
-
--- what stands between quotes, as a string of a policy
-pub string_text : (q us : List ℕ) → us ≡ string_of q → IsUtf8 q → list_all is_quoted_byte q ≡ true → length us ≤ 256 → is_policy_text us ≡ true
-string_text q us e u h l =
-    let few : nat_le (length us) 256 ≡ true = grind (arith, nat_tests) in
-    short_text us few (subst (λ us. (list_all is_text_unit us ≡ true) × (is_paired us ≡ true)) (sym e) (quoted_is_text q u h))

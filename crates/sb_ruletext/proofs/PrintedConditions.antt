@@ -15,11 +15,11 @@ use Rattle.sb_rule.specs.declared.conditions.Cond.{Cond}
 use Rattle.sb_rule.specs.declared.conditions.Test.{Test}
 use Rattle.sb_rule.specs.declared.conditions.Test.TheVariants.{OneOf, Range, Mask, Equal, Like}
 use Rattle.sb_text.specs.NumberLaws.{HexadecimalsAreRead}
-use Rattle.sb_text.specs.Tokens.{Lexeme, Word}
+use Rattle.sb_text.specs.Tokens.{Lexeme, Word, utf8_of}
 use Rattle.sb_pattern.specs.Limits.{most_units}
 use Rattle.sb_ruletext.specs.Conditions.{number_at, string, cells, pattern, test_at, is_number_at, plain_condition_at, condition_at, conditions_of}
 use Rattle.sb_ruleprint.specs.Parameters.{parameter_word, parameter_words}
-use Rattle.sb_ruleprint.specs.Printing.{number_word, utf8_of, numbers_tokens, test_tokens, not_tokens, cond_tokens, joined_tokens}
+use Rattle.sb_ruleprint.specs.Printing.{number_word, numbers_tokens, test_tokens, not_tokens, cond_tokens, joined_tokens}
 use Rattle.sb_ruleprint.specs.Values.{is_number, is_test_of_values}
 use Rattle.sb_ruletext.specs.Steps.{joined_at}
 use Rattle.sb_text.specs.Steps.{◌>>=◌, or_fault, Read, begins_with, later, end_at}
@@ -27,7 +27,7 @@ use Rattle.sb_call.specs.CallWords.{is_word}
 use Rattle.sb_ruletext.specs.declared.faults.TextKind.{TextKind}
 use Rattle.sb_ruletext.specs.declared.faults.TextKind.TheVariants.{UnknownWord, UnknownParam, BadNumber, BadPattern}
 use Rattle.sb_ruletext.proofs.Conjunctions.{both}
-use Rattle.sb_ruletext.proofs.PrintedStrings.{string_back}
+use Rattle.sb_ruleprint.specs.Strings.{ComesBack, StringsComeBack}
 use Rattle.sb_ruletext.proofs.PrintedWords.{parameter_back, apart_at, within, number_back, range_back}
 
 pub number_small : (n : ℕ) → is_number n ≡ true → n < 2 ^ 64
@@ -62,36 +62,46 @@ numbers_read law (suc m) n (next ∷ more) rest k h e =
 
 -- strings and patterns
 
-string_read : (us : List ℕ) → is_policy_text us ≡ true → string (utf8_of us) ≡ Ok us
-string_read us h =
-    let back = (string_back us h).string in
-    let few : nat_le (length us) most_units ≡ true = (both _ _ (both _ _ h).0).0 in
-    ap (λ us. cond (nat_le (length us) most_units) (Ok us) (Err (BadPattern TooLong))) back ∙ ap (λ t. cond t (Ok us) (Err (BadPattern TooLong))) few
-
 -- the text of a pattern is read as that pattern
 abbrev pub PatternsComeBack : Type 0
 PatternsComeBack = (cells : List Cell) → is_pattern cells ≡ true → reading (text_of cells) ≡ Ok cells
 
-pattern_read : PatternsComeBack → (cs : List Cell) → is_like_text cs ≡ true → pattern (utf8_of (text_of cs)) ≡ Ok cs
-pattern_read law cs h =
-    ap (λ us. cells (reading us)) (string_back (text_of cs) (both _ _ h).1).string ∙ ap cells (law cs (both _ _ h).0)
+-- the laws of lower crates that the proofs on values stand on
+pub record Texts : Type 0 where
+  pub numbers : HexadecimalsAreRead
+  pub strings : StringsComeBack
+  pub patterns : PatternsComeBack
+
+-- a string of a policy comes back
+pub string_back : StringsComeBack → (us : List ℕ) → is_policy_text us ≡ true → ComesBack us
+string_back law us h = law us (both _ _ (both _ _ h).0).1 (both _ _ h).1
+
+string_read : StringsComeBack → (us : List ℕ) → is_policy_text us ≡ true → string (utf8_of us) ≡ Ok us
+string_read law us h =
+    let back = (string_back law us h).string in
+    let few : nat_le (length us) most_units ≡ true = (both _ _ (both _ _ h).0).0 in
+    ap (λ us. cond (nat_le (length us) most_units) (Ok us) (Err (BadPattern TooLong))) back ∙ ap (λ t. cond t (Ok us) (Err (BadPattern TooLong))) few
+
+pattern_read : Texts → (cs : List Cell) → is_like_text cs ≡ true → pattern (utf8_of (text_of cs)) ≡ Ok cs
+pattern_read laws cs h =
+    ap (λ us. cells (reading us)) (string_back laws.strings (text_of cs) (both _ _ h).1).string ∙ ap cells (laws.patterns cs (both _ _ h).0)
 
 -- tests
 
-test_read : HexadecimalsAreRead → PatternsComeBack → (test : Test) (rest : List Lexeme) → is_sensible test ≡ true → is_test_of_values test ≡ true
+test_read : Texts → (test : Test) (rest : List Lexeme) → is_sensible test ≡ true → is_test_of_values test ≡ true
     → begins_with (codes "or") rest ≡ false → test_at (is_number_test test) (test_tokens test ++ rest) ≡ Ok (test, rest)
 unfolding test_at
-test_read law back (OneOf []) rest s v e = absurd (false≢true s)
-test_read law back (OneOf (n ∷ more)) rest s v e =
-    ap (λ r. r >>= λ numbers. Ok (OneOf numbers.0, numbers.1)) (numbers_read law 15 n more rest (few more s) v e)
+test_read laws (OneOf []) rest s v e = absurd (false≢true s)
+test_read laws (OneOf (n ∷ more)) rest s v e =
+    ap (λ r. r >>= λ numbers. Ok (OneOf numbers.0, numbers.1)) (numbers_read laws.numbers 15 n more rest (few more s) v e)
   where
     few : (more : List ℕ) → is_sensible (OneOf (n ∷ more)) ≡ true → length more ≤ 15
     few more s = grind (arith, nat_tests)
-test_read law back (Range lo hi) rest s v e =
-    ap (λ r. r >>= λ test. Ok (test, rest)) (range_back law lo hi (number_small lo (both _ _ v).0) (number_small hi (both _ _ v).1) s)
-test_read law back (Mask mask) rest s v e = ap (λ r. r >>= λ mask. Ok (Mask mask.0, mask.1)) (number_read law mask rest v)
-test_read law back (Equal text) rest s v e = ap (λ r. r >>= λ text. Ok (Equal text, rest)) (string_read text s)
-test_read law back (Like pattern) rest s v e = ap (λ r. r >>= λ cells. Ok (Like cells, rest)) (pattern_read back pattern s)
+test_read laws (Range lo hi) rest s v e =
+    ap (λ r. r >>= λ test. Ok (test, rest)) (range_back laws.numbers lo hi (number_small lo (both _ _ v).0) (number_small hi (both _ _ v).1) s)
+test_read laws (Mask mask) rest s v e = ap (λ r. r >>= λ mask. Ok (Mask mask.0, mask.1)) (number_read laws.numbers mask rest v)
+test_read laws (Equal text) rest s v e = ap (λ r. r >>= λ text. Ok (Equal text, rest)) (string_read laws.strings text s)
+test_read laws (Like pattern) rest s v e = ap (λ r. r >>= λ cells. Ok (Like cells, rest)) (pattern_read laws pattern s)
 
 -- conditions
 
@@ -123,23 +133,23 @@ then_tokens tokens param = Ok (param, tokens)
 abbrev with_test : ℕ → Bool → Test × List Lexeme → Read Cond TextKind
 with_test param negated test = Ok (record { param = param; negated = negated; test = test.0 }, test.1)
 
-plain_read : HexadecimalsAreRead → PatternsComeBack → (negated : Bool) (tag : CallTag) (cond : Cond) (rest : List Lexeme)
+plain_read : Texts → (negated : Bool) (tag : CallTag) (cond : Cond) (rest : List Lexeme)
     → is_well_formed tag cond ≡ true → is_test_of_values cond.test ≡ true → begins_with (codes "or") rest ≡ false
     → plain_condition_at negated tag (Word (parameter_word tag cond.param) ∷ (test_tokens cond.test ++ rest))
     ≡ Ok (record { param = cond.param; negated = negated; test = cond.test }, rest)
-plain_read law back negated tag cond rest h v e =
+plain_read laws negated tag cond rest h v e =
     let tokens = test_tokens cond.test ++ rest in
     let kind = of_its_kind (is_number_test cond.test) (is_number_at tag cond.param) (both _ _ (both _ _ h).1).0 in
     ap (λ o. (or_fault UnknownParam o >>= then_tokens tokens) >>= λ param. test_at (is_number_at tag param.0) param.1 >>= with_test param.0 negated)
     (parameter_back tag cond.param (both _ _ h).0)
     ∙ ap (λ t. test_at t tokens >>= with_test cond.param negated) kind
-    ∙ ap (λ r. r >>= with_test cond.param negated) (test_read law back cond.test rest (both _ _ (both _ _ h).1).1 v e)
+    ∙ ap (λ r. r >>= with_test cond.param negated) (test_read laws cond.test rest (both _ _ (both _ _ h).1).1 v e)
 
-condition_read : HexadecimalsAreRead → PatternsComeBack → (tag : CallTag) (cond : Cond) (rest : List Lexeme)
+condition_read : Texts → (tag : CallTag) (cond : Cond) (rest : List Lexeme)
     → is_well_formed tag cond ≡ true → is_test_of_values cond.test ≡ true → begins_with (codes "or") rest ≡ false
     → condition_at tag (cond_tokens tag cond ++ rest) ≡ Ok (cond, rest)
 unfolding condition_at
-condition_read law back tag cond rest h v e = by_not cond.negated (λ negated. plain_read law back negated tag cond rest h v e)
+condition_read laws tag cond rest h v e = by_not cond.negated (λ negated. plain_read laws negated tag cond rest h v e)
   where
     by_not : (negated : Bool)
         → ((negated : Bool) → plain_condition_at negated tag (Word (parameter_word tag cond.param) ∷ (test_tokens cond.test ++ rest))
@@ -163,20 +173,20 @@ and_tokens tag conds = flat_map (joined_tokens (codes "and") tag) conds
 pub later_sound : (tag : CallTag) (cond : Cond) (conds : List Cond) → AreSound tag (cond ∷ conds) → AreSound tag conds
 later_sound tag cond conds s = record { formed = (both _ _ s.formed).1; values = (both _ _ s.values).1 }
 
-joined_read : HexadecimalsAreRead → PatternsComeBack → (m : ℕ) (tag : CallTag) (cond : Cond) (more : List Cond)
+joined_read : Texts → (m : ℕ) (tag : CallTag) (cond : Cond) (more : List Cond)
     → length more ≤ m → AreSound tag (cond ∷ more)
     → joined_at (suc m) (codes "and") (condition_at tag) (cond_tokens tag cond ++ and_tokens tag more) ≡ Ok (cond ∷ more, [])
-joined_read law back m tag cond [] k s =
+joined_read laws m tag cond [] k s =
     joined_step m (codes "and") (condition_at tag) (cond_tokens tag cond ++ [])
-    ∙ ap (λ r. r >>= and_others m (codes "and") (condition_at tag)) (condition_read law back tag cond [] (both _ _ s.formed).0 (both _ _ s.values).0 refl)
-joined_read law back zero tag cond (next ∷ more) k s = absurd (omega arith)
-joined_read law back (suc m) tag cond (next ∷ more) k s =
+    ∙ ap (λ r. r >>= and_others m (codes "and") (condition_at tag)) (condition_read laws tag cond [] (both _ _ s.formed).0 (both _ _ s.values).0 refl)
+joined_read laws zero tag cond (next ∷ more) k s = absurd (omega arith)
+joined_read laws (suc m) tag cond (next ∷ more) k s =
     let rest = Word (codes "and") ∷ (cond_tokens tag next ++ and_tokens tag more) in
     joined_step (suc m) (codes "and") (condition_at tag) (cond_tokens tag cond ++ rest)
-    ∙ ap (λ r. r >>= and_others (suc m) (codes "and") (condition_at tag)) (condition_read law back tag cond rest (both _ _ s.formed).0 (both _ _ s.values).0 refl)
-    ∙ ap (λ r. r >>= λ others. Ok (cond ∷ others.0, others.1)) (joined_read law back m tag next more (omega arith) (later_sound tag cond (next ∷ more) s))
+    ∙ ap (λ r. r >>= and_others (suc m) (codes "and") (condition_at tag)) (condition_read laws tag cond rest (both _ _ s.formed).0 (both _ _ s.values).0 refl)
+    ∙ ap (λ r. r >>= λ others. Ok (cond ∷ others.0, others.1)) (joined_read laws m tag next more (omega arith) (later_sound tag cond (next ∷ more) s))
 
-pub conditions_read : HexadecimalsAreRead → PatternsComeBack → (tag : CallTag) (cond : Cond) (more : List Cond)
+pub conditions_read : Texts → (tag : CallTag) (cond : Cond) (more : List Cond)
     → length more ≤ 7 → AreSound tag (cond ∷ more) → conditions_of tag (cond_tokens tag cond ++ and_tokens tag more) ≡ Ok (cond ∷ more)
-conditions_read law back tag cond more k s =
-    ap (λ (r : Read (List Cond) TextKind). r >>= λ conds. end_at UnknownWord UnknownWord conds.1 >>= λ end. Ok conds.0) (joined_read law back 7 tag cond more k s)
+conditions_read laws tag cond more k s =
+    ap (λ (r : Read (List Cond) TextKind). r >>= λ conds. end_at UnknownWord UnknownWord conds.1 >>= λ end. Ok conds.0) (joined_read laws 7 tag cond more k s)

@@ -9,7 +9,6 @@ use Rattle.sb_rule.specs.declared.actions.Action.TheVariants.{Allow, Deny, Alarm
 use Rattle.sb_rule.specs.declared.conditions.Cond.{Cond}
 use Rattle.sb_rule.specs.declared.policies.Policy.{Policy}
 use Rattle.sb_rule.specs.declared.policies.Rule.{Rule}
-use Rattle.sb_text.specs.NumberLaws.{HexadecimalsAreRead}
 use Rattle.sb_text.specs.Tokens.{Lexeme, Word}
 use Rattle.sb_rule.specs.Limits.{most_rules}
 use Rattle.sb_ruletext.proofs.Added.{added}
@@ -21,15 +20,15 @@ use Rattle.sb_rule.specs.Actions.{action_word}
 use Rattle.sb_ruletext.specs.Words.{action_of}
 use Rattle.sb_ruletext.specs.declared.faults.TextKind.{TextKind}
 use Rattle.sb_ruletext.specs.declared.faults.TextKind.TheVariants.{UnknownWord, UnknownCall, TooMany, NotReadOnly}
-use Rattle.sb_ruletext.proofs.PrintedConditions.{AreSound, PatternsComeBack, conditions_read}
+use Rattle.sb_ruletext.proofs.PrintedConditions.{AreSound, Texts, conditions_read}
 use Rattle.sb_ruletext.proofs.PrintedWords.{call_back}
 
 -- the conditions of a line
 
-when_read : HexadecimalsAreRead → PatternsComeBack → (tag : CallTag) (conds : List Cond) → nat_le (length conds) 8 ≡ true → AreSound tag conds
+when_read : Texts → (tag : CallTag) (conds : List Cond) → nat_le (length conds) 8 ≡ true → AreSound tag conds
     → when_of tag (conds_tokens tag conds) ≡ Ok conds
-when_read law back tag [] k s = refl
-when_read law back tag (cond ∷ conds) k s = conditions_read law back tag cond conds (few conds k) s
+when_read laws tag [] k s = refl
+when_read laws tag (cond ∷ conds) k s = conditions_read laws tag cond conds (few conds k) s
   where
     few : (conds : List Cond) → nat_le (suc (length conds)) 8 ≡ true → length conds ≤ 7
     few conds k = grind (arith, nat_tests)
@@ -42,15 +41,15 @@ ruled line action tag conds = Ok (record { tag = tag; conds = conds; action = ac
 abbrev then_tokens : List Lexeme → CallTag → Read CallTag TextKind
 then_tokens tokens tag = Ok (tag, tokens)
 
-rule_read : HexadecimalsAreRead → PatternsComeBack → (line : ℕ) (action : Action) (tag : CallTag) (conds : List Cond)
+rule_read : Texts → (line : ℕ) (action : Action) (tag : CallTag) (conds : List Cond)
     → is_for_readers action tag ≡ true → nat_le (length conds) 8 ≡ true → AreSound tag conds
     → rule line action (Word (call_word tag) ∷ conds_tokens tag conds) ≡ Ok (record { tag = tag; conds = conds; action = action; line = line } ∷ [])
 unfolding rule
-rule_read law back line action tag conds r k s =
+rule_read laws line action tag conds r k s =
     let tokens = conds_tokens tag conds in
     ap (λ o. (or_fault UnknownCall o >>= then_tokens tokens) >>= λ call. check_action action call.0 >>= λ tag. when_of tag call.1 >>= ruled line action tag) (call_back tag)
     ∙ ap (λ t. (if t then Ok tag else Err NotReadOnly) >>= λ tag. when_of tag tokens >>= ruled line action tag) r
-    ∙ ap (λ conds. conds >>= ruled line action tag) (when_read law back tag conds k s)
+    ∙ ap (λ conds. conds >>= ruled line action tag) (when_read laws tag conds k s)
 
 -- one rule more in the last policy
 
@@ -96,17 +95,17 @@ action_line version policies line Fake tokens = refl
 action_line version policies line ReadOnly tokens = refl
 
 -- the line of a rule adds this rule to the last policy
-pub rule_line_read : HexadecimalsAreRead → PatternsComeBack → (version : ℕ) (done : List Policy) (name : List ℕ) (before : List Rule) (line : ℕ) (r : Rule)
+pub rule_line_read : Texts → (version : ℕ) (done : List Policy) (name : List ℕ) (before : List Rule) (line : ℕ) (r : Rule)
     → action_of version (action_word r.action) ≡ Some r.action → is_for_readers r.action r.tag ≡ true → nat_le (length r.conds) 8 ≡ true → AreSound r.tag r.conds
     → length before + 1 ≤ 256
     → line_of version (done ++ policy_of name before ∷ []) line (rule_tokens r) ≡ Ok (done ++ policy_of name (before ++ record r { line = line } ∷ []) ∷ [])
-rule_line_read law back version done name before line r a f k s few =
+rule_line_read laws version done name before line r a f k s few =
     let policies = done ++ policy_of name before ∷ [] in
     let tokens = Word (call_word r.tag) ∷ conds_tokens r.tag r.conds in
     let made = record r { line = line } in
     action_line version policies line r.action tokens
     ∙ ap (λ o. or_fault UnknownWord o >>= λ action. added policies (rule line action tokens)) a
-    ∙ ap (added policies) (rule_read law back line r.action r.tag r.conds f k s)
+    ∙ ap (added policies) (rule_read laws line r.action r.tag r.conds f k s)
     ∙ added_last done (policy_of name before) (made ∷ [])
     ∙ last_rules done (policy_of name before) (made ∷ [])
     ∙ ap (λ t. (if t then Ok (policy_of name (before ++ made ∷ [])) else Err TooMany) >>= behind done) (room (length before) 1 few)

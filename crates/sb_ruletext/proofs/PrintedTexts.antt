@@ -9,13 +9,10 @@ use Rattle.std.proofs.lemmas.List.{append_assoc, append-nil, length-append}
 use Rattle.std.proofs.lemmas.List.Folds.{list_any-append}
 use Rattle.sb_call.specs.ShortNames.{is_short_name}
 use Rattle.sb_rule.specs.Limits.{most_policies}
-use Rattle.sb_ruletext.proofs.PrintedConditions.{PatternsComeBack}
+use Rattle.sb_ruletext.proofs.PrintedConditions.{Texts}
 use Rattle.sb_rule.specs.WellMade.{is_well_made_rule, is_well_made, is_named, are_named_apart}
 use Rattle.sb_rule.specs.declared.policies.Policy.{Policy}
 use Rattle.sb_rule.specs.declared.policies.Rule.{Rule}
-use Rattle.sb_text.specs.LineLaws.{WrittenLinesAreRead}
-use Rattle.sb_text.specs.NumberLaws.{HexadecimalsAreRead}
-use Rattle.sb_text.specs.TokenLaws.{WrittenTokensAreRead}
 use Rattle.sb_text.specs.Tokens.{Lexeme, Word}
 use Rattle.sb_text.specs.Utf8Laws.{NotUtf8LineTells}
 use Rattle.sb_ruletext.specs.Lines.{heading, line_of}
@@ -30,7 +27,7 @@ use Rattle.sb_ruletext.specs.Words.{action_of}
 use Rattle.sb_ruletext.proofs.Prefixes.{read_by_lines}
 use Rattle.sb_ruletext.specs.declared.faults.TextKind.{TextKind}
 use Rattle.sb_ruletext.specs.declared.faults.TextKind.TheVariants.{UnknownWord, TooMany, SameName}
-use Rattle.sb_ruletext.proofs.PrintedLines.{is_plain_line, numbered, lines_utf8, lines_back, tokens_back}
+use Rattle.sb_text.specs.PlainLines.{is_plain_line, numbered, PlainLinesAreUtf8, PlainLinesAreRead, PlainTokensAreRead}
 use Rattle.sb_ruletext.proofs.PrintedRules.{policy_of, rule_line_read}
 use Rattle.sb_ruletext.proofs.Conjunctions.{both, and_true}
 use Rattle.sb_ruletext.proofs.PrintedTokens.{sound_conds, rule_plain, heading_plain, printed_plain}
@@ -39,10 +36,10 @@ use Rattle.sb_ruletext.proofs.PrintedWords.{not_true, action_back, first_action_
 -- the laws of lower crates that the proof stands on
 pub record Laws : Type 0 where
   pub utf8 : NotUtf8LineTells
-  pub lines : WrittenLinesAreRead
-  pub tokens : WrittenTokensAreRead
-  pub numbers : HexadecimalsAreRead
-  pub patterns : PatternsComeBack
+  pub plain : PlainLinesAreUtf8
+  pub lines : PlainLinesAreRead
+  pub tokens : PlainTokensAreRead
+  pub texts : Texts
 
 -- each action is one of the version
 abbrev AreActions : ℕ → List Rule → Type 0
@@ -59,7 +56,7 @@ line_read : Laws → (version : ℕ) (done more : List Policy) (n : ℕ) (tokens
     → line_of version done n tokens ≡ Ok more → read_lines (add_line version) done (numbered n (tokens ∷ lines)) ≡ read_lines (add_line version) more (numbered (n + 1) lines)
 unfolding read_lines
 line_read laws version done more n tokens lines p e =
-    ap (λ tokens. on_line n (line_of version done n tokens) >>= λ more. read_lines (add_line version) more (numbered (n + 1) lines)) (tokens_back laws.tokens tokens p)
+    ap (λ tokens. on_line n (line_of version done n tokens) >>= λ more. read_lines (add_line version) more (numbered (n + 1) lines)) (laws.tokens tokens p)
     ∙ ap (λ r. on_line n r >>= λ more. read_lines (add_line version) more (numbered (n + 1) lines)) e
 
 -- the rules of a policy
@@ -75,8 +72,8 @@ rules_read laws version done name before n (rule ∷ rules) lines h v a few =
     let made = record rule { line = n } in
     let formed = (both _ _ h).0 in
     line_read laws version (done ++ policy_of name before ∷ []) (done ++ policy_of name (before ++ made ∷ []) ∷ []) n (rule_tokens rule) (map rule_tokens rules ++ lines)
-    (rule_plain laws.numbers rule formed (both _ _ v).0)
-    (rule_line_read laws.numbers laws.patterns version done name before n rule a.0 (both _ _ (both _ _ formed).0).1 (both _ _ (both _ _ formed).0).0
+    (rule_plain laws.texts rule formed (both _ _ v).0)
+    (rule_line_read laws.texts version done name before n rule a.0 (both _ _ (both _ _ formed).0).1 (both _ _ (both _ _ formed).0).0
     (sound_conds rule formed (both _ _ v).0) (omega arith))
     ∙ rules_read laws version done name (before ++ made ∷ []) (n + 1) rules lines (both _ _ h).1 (both _ _ v).1 a.1 (omega (arith, length-append before (made ∷ [])))
     ∙ ap (λ all. read_lines (add_line version) (done ++ policy_of name all ∷ []) (numbered (n + 1 + length rules) lines)) (append_assoc before (made ∷ []) (relined_rules (n + 1) rules))
@@ -202,10 +199,10 @@ below_read laws policies h v apart few false e = policies_read laws 1 [] 2 polic
 pub printed_read : Laws → PrintedPoliciesAreRead
 printed_read laws policies h v =
     let made = (both _ _ h).1 in
-    let plain = printed_plain laws.numbers policies made v in
-    read_by_lines (printed policies) (laws.utf8.0 (printed policies) (lines_utf8 (printed_lines policies) plain))
-    ∙ ap (read_by grammar) (lines_back laws.lines (printed_lines policies) plain)
-    ∙ ap (λ tokens. read_below grammar 1 (version_of (codes "sandbox-policy") 2 tokens) (numbered 2 (flat_map policy_lines policies))) (tokens_back laws.tokens (version_tokens policies) (both _ _ plain).0)
+    let plain = printed_plain laws.texts policies made v in
+    read_by_lines (printed policies) (laws.utf8.0 (printed policies) (laws.plain (printed_lines policies) plain))
+    ∙ ap (read_by grammar) (laws.lines (printed_lines policies) plain)
+    ∙ ap (λ tokens. read_below grammar 1 (version_of (codes "sandbox-policy") 2 tokens) (numbered 2 (flat_map policy_lines policies))) (laws.tokens (version_tokens policies) (both _ _ plain).0)
     ∙ below_read laws policies made v (both _ _ (both _ _ h).0).1 (most policies (both _ _ (both _ _ h).0).0) (list_any has_read_only policies) refl
   where
     most : (policies : List Policy) → nat_le (length policies) 8 ≡ true → length policies ≤ 8

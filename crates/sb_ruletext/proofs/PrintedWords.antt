@@ -25,8 +25,8 @@ use Rattle.sb_ruletext.specs.declared.faults.TextKind.{TextKind}
 use Rattle.sb_ruletext.specs.declared.faults.TextKind.TheVariants.{BadNumber}
 use Rattle.sb_rule.specs.declared.conditions.Test.{Test}
 use Rattle.sb_rule.specs.declared.conditions.Test.TheVariants.{Range}
-use Rattle.sb_ruletext.proofs.PrintedLines.{is_plain_byte, all_more}
-use Rattle.sb_ruletext.proofs.Conjunctions.{both, and_true}
+use Rattle.sb_text.specs.PlainLines.{is_plain_byte}
+use Rattle.sb_ruletext.proofs.Conjunctions.{both, and_true, all_more}
 
 pub is_itself : (word : List ℕ) → is_word word word ≡ true
 is_itself word = (bytes_decides word word).1 refl

@@ -1,5 +1,5 @@
 -- What a text is read as is well made.
-use Rattle.std.proofs.Common.{◌≡◌, refl, sym, ap, ◌∙◌, subst, arith, ℕ, zero, suc, ◌+◌, ◌<◌, ◌≤◌, List, [], ◌∷◌, ◌++◌, Bool, true, false, ◌&&◌, not, nat_le, nat_lt, cond, length, option_map, None, Some, Option, Result, Ok, Err, codes}
+use Rattle.std.proofs.Common.{◌≡◌, refl, sym, ap, ◌∙◌, subst, arith, ℕ, zero, suc, ◌+◌, ◌<◌, ◌≤◌, List, [], ◌∷◌, ◌++◌, Bool, true, false, nat_le, nat_lt, cond, length, option_map, None, Some, Option, Result, Ok, Err, codes}
 use Rattle.std.proofs.lemmas.Bool.Decides.{nat_tests}
 use Rattle.std.proofs.lemmas.Str.{IsUtf8-from_is_utf8}
 use Rattle.std.specs.Bool.{beq}
@@ -15,7 +15,7 @@ use Rattle.sb_pattern.specs.declared.cells.Cell.{Cell}
 use Rattle.sb_pattern.specs.declared.faults.PatternFault.{PatternFault}
 use Rattle.sb_pattern.specs.declared.faults.PatternFault.TheVariants.{TooLong}
 use Rattle.sb_rule.specs.Limits.{most_conditions, most_numbers}
-use Rattle.sb_rule.specs.WellMade.{is_text_unit, is_paired, is_policy_text, is_like_text, is_sensible, is_number_test, is_number_kind, is_well_formed, is_for_readers, is_well_made_rule, are_well_made, is_named}
+use Rattle.sb_rule.specs.WellMade.{is_text_unit, is_paired, is_policy_text, is_like_text, is_sensible, is_number_test, is_well_formed, is_for_readers, is_well_made_rule, are_well_made, is_named}
 use Rattle.sb_rule.specs.declared.actions.Action.{Action}
 use Rattle.sb_rule.specs.declared.conditions.Cond.{Cond}
 use Rattle.sb_rule.specs.declared.conditions.Test.{Test}
@@ -35,17 +35,17 @@ use Rattle.sb_ruletext.specs.Conditions.{number_at, numbers_at, around_dots, ran
 use Rattle.sb_ruletext.specs.Grants.{grant_of, rules_of}
 use Rattle.sb_ruletext.specs.Laws.{ReadPoliciesAreWellMade}
 use Rattle.sb_ruletext.specs.Lines.{new_name, name_at, with_policy, heading, call_at, check_action, when_of, rule, grant_at, granted_at, grant, check_heading, with_last_rules, with_grant, with_rule, line_of}
-use Rattle.sb_ruletext.specs.PolicyTexts.{add_line, grammar, policy_version, reading}
+use Rattle.sb_ruletext.specs.PolicyTexts.{add_line, grammar, policy_version}
 use Rattle.sb_ruletext.specs.Steps.{word_or, quoted_or, line_end, joined_at}
 use Rattle.sb_ruletext.specs.Words.{action_of, parameter_of, place_of}
 use Rattle.sb_ruletext.specs.declared.faults.TextKind.{TextKind}
-use Rattle.sb_ruletext.specs.declared.faults.TextKind.TheVariants.{NotUtf8, BadVersion, UnknownWord, UnknownCall, UnknownParam, WrongKind, BadNumber, EmptyRange, BadPattern, TooMany, SameName, NoHeading, NotReadOnly}
+use Rattle.sb_ruletext.specs.declared.faults.TextKind.TheVariants.{NotUtf8, UnknownWord, UnknownCall, UnknownParam, WrongKind, BadNumber, EmptyRange, BadPattern, SameName, NoHeading, NotReadOnly}
 use Rattle.sb_ruletext.specs.declared.grants.Grant.{Grant}
 use Rattle.sb_ruletext.proofs.Added.{last_rules, chosen, added_nowhere, well_made_longer, well_made_more}
 use Rattle.sb_ruletext.proofs.Conjunctions.{both, and_true}
 use Rattle.sb_ruletext.proofs.Patterns.{short_text, read_like}
 use Rattle.sb_ruletext.proofs.PrintedWords.{as_many}
-use Rattle.sb_ruletext.proofs.Strings.{quoted_is_text}
+use Rattle.sb_ruleprint.specs.Strings.{QuotedStringsAreText}
 use Rattle.sb_ruletext.proofs.WellMade.{granted_well_made, one_well_made}
 
 -- steps
@@ -98,11 +98,17 @@ quoted_fine word (Word w ∷ tokens) x h t = absurd cc
 quoted_fine word (Bad ∷ tokens) x h t = absurd cc
 quoted_fine word [] x h t = absurd cc
 
+-- the laws of lower crates that the proofs on values stand on
+pub record Texts : Type 0 where
+  pub texts : TextsComeBack
+  pub patterns : ReadingGivesPatterns
+  pub strings : QuotedStringsAreText
+
 -- the units of what stands between quotes
-units_fine : (q : List ℕ) → is_quoted_text (Quoted q) ≡ true → (list_all is_text_unit (string_of q) ≡ true) × (is_paired (string_of q) ≡ true)
-units_fine q h =
+units_fine : QuotedStringsAreText → (q : List ℕ) → is_quoted_text (Quoted q) ≡ true → (list_all is_text_unit (string_of q) ≡ true) × (is_paired (string_of q) ≡ true)
+units_fine law q h =
     let parts = both (is_utf8 q) (list_all is_quoted_byte q) h in
-    quoted_is_text q (IsUtf8-from_is_utf8 q parts.0) parts.1
+    law q (IsUtf8-from_is_utf8 q parts.0) parts.1
 
 -- items that are joined by a word
 
@@ -197,37 +203,37 @@ range_at_fine tokens t x h =
     subst (IsTest true) {x = (r.0, w.0.1)} (ok_same (r.0, w.0.1) x r.2)
     (record { sensible = fine.sensible; kind = fine.kind; rest = word_rest WrongKind tokens w.0 w.1 t })
 
-string_fine : (q text : List ℕ) → is_quoted_text (Quoted q) ≡ true → string q ≡ Ok text → is_policy_text text ≡ true
-string_fine q text t h =
+string_fine : Texts → (q text : List ℕ) → is_quoted_text (Quoted q) ≡ true → string q ≡ Ok text → is_policy_text text ≡ true
+string_fine laws q text t h =
     let p = passed (nat_le (length (string_of q)) most_units) (string_of q) text (BadPattern TooLong) h in
-    subst (λ us. is_policy_text us ≡ true) p.1 (short_text (string_of q) p.0 (units_fine q t))
+    subst (λ us. is_policy_text us ≡ true) p.1 (short_text (string_of q) p.0 (units_fine laws.strings q t))
 
 cells_same : (read : Result (List Cell) PatternFault) (cs : List Cell) → cells read ≡ Ok cs → read ≡ Ok cs
 cells_same (Ok pattern) cs h = cc
 cells_same (Err fault) cs h = absurd cc
 
-pattern_fine : TextsComeBack → ReadingGivesPatterns → (q : List ℕ) (cs : List Cell) → is_quoted_text (Quoted q) ≡ true → pattern q ≡ Ok cs → is_like_text cs ≡ true
-pattern_fine texts patterns q cs t h = read_like texts patterns (string_of q) cs (cells_same (cells_read (string_of q)) cs h) (units_fine q t)
+pattern_fine : Texts → (q : List ℕ) (cs : List Cell) → is_quoted_text (Quoted q) ≡ true → pattern q ≡ Ok cs → is_like_text cs ≡ true
+pattern_fine laws q cs t h = read_like laws.texts laws.patterns (string_of q) cs (cells_same (cells_read (string_of q)) cs h) (units_fine laws.strings q t)
 
-string_at_fine : (tokens : List Lexeme) → AreText tokens → Tests false (string_at tokens)
-string_at_fine tokens t x h =
+string_at_fine : Texts → (tokens : List Lexeme) → AreText tokens → Tests false (string_at tokens)
+string_at_fine laws tokens t x h =
     let q = made (quoted_or WrongKind tokens) (λ quoted. string quoted.0 >>= λ text. Ok (Equal text, quoted.1)) x h in
     let s = made (string q.0.0) (λ text. Ok (Equal text, q.0.1)) x q.2 in
     let fine = quoted_fine WrongKind tokens q.0 q.1 t in
     subst (IsTest false) {x = (Equal s.0, q.0.1)} (ok_same (Equal s.0, q.0.1) x s.2)
-    (record { sensible = string_fine q.0.0 s.0 fine.text s.1; kind = refl; rest = fine.rest })
+    (record { sensible = string_fine laws q.0.0 s.0 fine.text s.1; kind = refl; rest = fine.rest })
 
-pattern_at_fine : TextsComeBack → ReadingGivesPatterns → (tokens : List Lexeme) → AreText tokens → Tests false (pattern_at tokens)
-pattern_at_fine texts patterns tokens t x h =
+pattern_at_fine : Texts → (tokens : List Lexeme) → AreText tokens → Tests false (pattern_at tokens)
+pattern_at_fine laws tokens t x h =
     let q = made (quoted_or WrongKind tokens) (λ quoted. pattern quoted.0 >>= λ cells. Ok (Like cells, quoted.1)) x h in
     let p = made (pattern q.0.0) (λ cells. Ok (Like cells, q.0.1)) x q.2 in
     let fine = quoted_fine WrongKind tokens q.0 q.1 t in
     subst (IsTest false) {x = (Like p.0, q.0.1)} (ok_same (Like p.0, q.0.1) x p.2)
-    (record { sensible = pattern_fine texts patterns q.0.0 p.0 fine.text p.1; kind = refl; rest = fine.rest })
+    (record { sensible = pattern_fine laws q.0.0 p.0 fine.text p.1; kind = refl; rest = fine.rest })
 
-is_fine : (is_number : Bool) (tokens : List Lexeme) → AreText tokens → Tests is_number (is_at is_number tokens)
-is_fine true tokens t = numbers_fine tokens t
-is_fine false tokens t = string_at_fine tokens t
+is_fine : Texts → (is_number : Bool) (tokens : List Lexeme) → AreText tokens → Tests is_number (is_at is_number tokens)
+is_fine laws true tokens t = numbers_fine tokens t
+is_fine laws false tokens t = string_at_fine laws tokens t
 
 in_fine : (is_number : Bool) (tokens : List Lexeme) → AreText tokens → Tests is_number (in_at is_number tokens)
 in_fine true tokens t x h = range_at_fine tokens t x h
@@ -237,25 +243,25 @@ has_fine : (is_number : Bool) (tokens : List Lexeme) → AreText tokens → Test
 has_fine true tokens t x h = mask_fine tokens t x h
 has_fine false tokens t x h = absurd cc
 
-like_fine : TextsComeBack → ReadingGivesPatterns → (is_number : Bool) (tokens : List Lexeme) → AreText tokens → Tests is_number (like_at is_number tokens)
-like_fine texts patterns true tokens t x h = absurd cc
-like_fine texts patterns false tokens t x h = pattern_at_fine texts patterns tokens t x h
+like_fine : Texts → (is_number : Bool) (tokens : List Lexeme) → AreText tokens → Tests is_number (like_at is_number tokens)
+like_fine laws true tokens t x h = absurd cc
+like_fine laws false tokens t x h = pattern_at_fine laws tokens t x h
 
 no_test : (is_number : Bool) → Tests is_number (Err UnknownWord)
 no_test is_number x h = absurd cc
 
-test_fine : TextsComeBack → ReadingGivesPatterns → (is_number : Bool) (tokens : List Lexeme) → AreText tokens → Tests is_number (test_at is_number tokens)
+test_fine : Texts → (is_number : Bool) (tokens : List Lexeme) → AreText tokens → Tests is_number (test_at is_number tokens)
 unfolding test_at
-test_fine texts patterns is_number tokens t x h =
+test_fine laws is_number tokens t x h =
     let w = made (word_or UnknownWord tokens) (λ word. cond (is_word (codes "is") word.0) (is_at is_number word.1)
     (cond (is_word (codes "in") word.0) (in_at is_number word.1)
     (cond (is_word (codes "has") word.0) (has_at is_number word.1)
     (cond (is_word (codes "like") word.0) (like_at is_number word.1) (Err UnknownWord))))) x h in
     let rest = word_rest UnknownWord tokens w.0 w.1 t in
-    branches (Tests is_number) (is_word (codes "is") w.0.0) (is_at is_number w.0.1) _ (is_fine is_number w.0.1 rest)
+    branches (Tests is_number) (is_word (codes "is") w.0.0) (is_at is_number w.0.1) _ (is_fine laws is_number w.0.1 rest)
     (branches (Tests is_number) (is_word (codes "in") w.0.0) (in_at is_number w.0.1) _ (in_fine is_number w.0.1 rest)
     (branches (Tests is_number) (is_word (codes "has") w.0.0) (has_at is_number w.0.1) _ (has_fine is_number w.0.1 rest)
-    (branches (Tests is_number) (is_word (codes "like") w.0.0) (like_at is_number w.0.1) (Err UnknownWord) (like_fine texts patterns is_number w.0.1 rest) (no_test is_number)))) x w.2
+    (branches (Tests is_number) (is_word (codes "like") w.0.0) (like_at is_number w.0.1) (Err UnknownWord) (like_fine laws is_number w.0.1 rest) (no_test is_number)))) x w.2
 
 -- conditions
 
@@ -303,14 +309,14 @@ same_kind false false h = refl
 same_kind true false h = sym h
 same_kind false true h = h
 
-plain_fine : TextsComeBack → ReadingGivesPatterns → (negated : Bool) (tag : CallTag) (tokens : List Lexeme) (x : Cond × List Lexeme)
+plain_fine : Texts → (negated : Bool) (tag : CallTag) (tokens : List Lexeme) (x : Cond × List Lexeme)
     → plain_condition_at negated tag tokens ≡ Ok x → AreText tokens → IsItem (is_well_formed tag) x
-plain_fine texts patterns negated tag tokens x h t =
+plain_fine laws negated tag tokens x h t =
     let p = made (parameter_at tag tokens)
     (λ param. test_at (is_number_at tag param.0) param.1 >>= λ test. Ok (record { param = param.0; negated = negated; test = test.0 }, test.1)) x h in
     let fine = parameter_fine tag tokens p.0 p.1 t in
     let v = made (test_at (is_number_at tag p.0.0) p.0.1) (λ test. Ok (record { param = p.0.0; negated = negated; test = test.0 }, test.1)) x p.2 in
-    let test = test_fine texts patterns (is_number_at tag p.0.0) p.0.1 fine.rest v.0 v.1 in
+    let test = test_fine laws (is_number_at tag p.0.0) p.0.1 fine.rest v.0 v.1 in
     subst (IsItem (is_well_formed tag)) {x = (record { param = p.0.0; negated = negated; test = v.0.0 }, v.0.1)}
     (ok_same (record { param = p.0.0; negated = negated; test = v.0.0 }, v.0.1) x v.2)
     (record {
@@ -318,49 +324,49 @@ plain_fine texts patterns negated tag tokens x h t =
       rest = test.rest;
     })
 
-condition_fine : TextsComeBack → ReadingGivesPatterns → (tag : CallTag) (tokens : List Lexeme) (x : Cond × List Lexeme)
+condition_fine : Texts → (tag : CallTag) (tokens : List Lexeme) (x : Cond × List Lexeme)
     → condition_at tag tokens ≡ Ok x → AreText tokens → IsItem (is_well_formed tag) x
 unfolding condition_at
-condition_fine texts patterns tag tokens x h t =
+condition_fine laws tag tokens x h t =
     branches (λ (read : Read Cond TextKind). read ≡ Ok x → IsItem (is_well_formed tag) x) (begins_with (codes "not") tokens)
     (plain_condition_at true tag (later tokens)) (plain_condition_at false tag tokens)
-    (λ e. plain_fine texts patterns true tag (later tokens) x e (later_text tokens t)) (λ e. plain_fine texts patterns false tag tokens x e t) h
+    (λ e. plain_fine laws true tag (later tokens) x e (later_text tokens t)) (λ e. plain_fine laws false tag tokens x e t) h
 
 -- few conditions, each well formed
 record AreConditions (tag : CallTag) (conds : List Cond) : Type 0 where
   few : length conds ≤ 8
   each : list_all (is_well_formed tag) conds ≡ true
 
-conditions_fine : TextsComeBack → ReadingGivesPatterns → (tag : CallTag) (tokens : List Lexeme) (conds : List Cond)
+conditions_fine : Texts → (tag : CallTag) (tokens : List Lexeme) (conds : List Cond)
     → conditions_of tag tokens ≡ Ok conds → AreText tokens → AreConditions tag conds
-conditions_fine texts patterns tag tokens conds h t =
+conditions_fine laws tag tokens conds h t =
     let c = made (conditions_at tag tokens) (λ conds. line_end conds.1 >>= λ end. Ok conds.0) conds h in
     let e = made (line_end c.0.1) (λ end. Ok c.0.0) conds c.2 in
-    let j = joined_fine (is_well_formed tag) (condition_at tag) (condition_fine texts patterns tag) most_conditions (codes "and") tokens c.0 c.1 t in
+    let j = joined_fine (is_well_formed tag) (condition_at tag) (condition_fine laws tag) most_conditions (codes "and") tokens c.0 c.1 t in
     subst (AreConditions tag) {x = c.0.0} (ok_same c.0.0 conds e.2) (record { few = j.few; each = j.each })
 
-when_fine : TextsComeBack → ReadingGivesPatterns → (tag : CallTag) (tokens : List Lexeme) (conds : List Cond) → when_of tag tokens ≡ Ok conds → AreText tokens → AreConditions tag conds
-when_fine texts patterns tag tokens conds h t =
+when_fine : Texts → (tag : CallTag) (tokens : List Lexeme) (conds : List Cond) → when_of tag tokens ≡ Ok conds → AreText tokens → AreConditions tag conds
+when_fine laws tag tokens conds h t =
     branches (λ (read : Result (List Cond) TextKind). read ≡ Ok conds → AreConditions tag conds) (is_end tokens) (Ok []) _
     (λ e. subst (AreConditions tag) {x = []} (ok_same [] conds e) (record { few = omega arith; each = refl }))
     (branches (λ (read : Result (List Cond) TextKind). read ≡ Ok conds → AreConditions tag conds) (begins_with (codes "when") tokens) (conditions_of tag (later tokens)) (Err UnknownWord)
-    (λ e. conditions_fine texts patterns tag (later tokens) conds e (later_text tokens t)) (λ e. absurd cc)) h
+    (λ e. conditions_fine laws tag (later tokens) conds e (later_text tokens t)) (λ e. absurd cc)) h
 
 -- rules
 
 abbrev Rules : Result (List Rule) TextKind → Type 0
 Rules read = (rules : List Rule) → read ≡ Ok rules → list_all is_well_made_rule rules ≡ true
 
-rule_fine : TextsComeBack → ReadingGivesPatterns → (line : ℕ) (action : Action) (tokens : List Lexeme) → AreText tokens → Rules (rule line action tokens)
+rule_fine : Texts → (line : ℕ) (action : Action) (tokens : List Lexeme) → AreText tokens → Rules (rule line action tokens)
 unfolding rule
-rule_fine texts patterns line action tokens t rules h =
+rule_fine laws line action tokens t rules h =
     let c = made (call_at tokens)
     (λ call. check_action action call.0 >>= λ tag. when_of tag call.1 >>= λ conds. Ok (record { tag = tag; conds = conds; action = action; line = line } ∷ [])) rules h in
     let a = made (check_action action c.0.0) (λ tag. when_of tag c.0.1 >>= λ conds. Ok (record { tag = tag; conds = conds; action = action; line = line } ∷ [])) rules c.2 in
     let w = made (when_of a.0 c.0.1) (λ conds. Ok (record { tag = a.0; conds = conds; action = action; line = line } ∷ [])) rules a.2 in
     let p = passed (is_for_readers action c.0.0) c.0.0 a.0 NotReadOnly a.1 in
     let readers : is_for_readers action a.0 ≡ true = subst (λ tag. is_for_readers action tag ≡ true) p.1 p.0 in
-    let conds = when_fine texts patterns a.0 c.0.1 w.0 w.1 (call_rest tokens c.0 c.1 t) in
+    let conds = when_fine laws a.0 c.0.1 w.0 w.1 (call_rest tokens c.0 c.1 t) in
     subst (λ rules. list_all is_well_made_rule rules ≡ true) {x = record { tag = a.0; conds = w.0; action = action; line = line } ∷ []}
     (ok_same (record { tag = a.0; conds = w.0; action = action; line = line } ∷ []) rules w.2) (one_well_made a.0 w.0 action line conds.few readers conds.each)
   where
@@ -376,21 +382,21 @@ grant_rest tokens x h t =
     let g = made (or_fault UnknownWord (grant_of w.0.0)) (λ grant. Ok (grant, w.0.1)) x w.2 in
     subst (λ (y : Grant × List Lexeme). AreText y.1) {x = (g.0, w.0.1)} (ok_same (g.0, w.0.1) x g.2) (word_rest UnknownWord tokens w.0 w.1 t)
 
-granted_fine : TextsComeBack → ReadingGivesPatterns → (tokens : List Lexeme) (x : List Cell × List Lexeme) → granted_at tokens ≡ Ok x → AreText tokens → is_like_text x.0 ≡ true
-granted_fine texts patterns tokens x h t =
+granted_fine : Texts → (tokens : List Lexeme) (x : List Cell × List Lexeme) → granted_at tokens ≡ Ok x → AreText tokens → is_like_text x.0 ≡ true
+granted_fine laws tokens x h t =
     let q = made (quoted_or UnknownWord tokens) (λ quoted. pattern quoted.0 >>= λ cells. Ok (cells, quoted.1)) x h in
     let p = made (pattern q.0.0) (λ cells. Ok (cells, q.0.1)) x q.2 in
     subst (λ (y : List Cell × List Lexeme). is_like_text y.0 ≡ true) {x = (p.0, q.0.1)} (ok_same (p.0, q.0.1) x p.2)
-    (pattern_fine texts patterns q.0.0 p.0 (quoted_fine UnknownWord tokens q.0 q.1 t).text p.1)
+    (pattern_fine laws q.0.0 p.0 (quoted_fine UnknownWord tokens q.0 q.1 t).text p.1)
 
-grant_fine : TextsComeBack → ReadingGivesPatterns → (line : ℕ) (tokens : List Lexeme) → AreText tokens → Rules (grant line tokens)
+grant_fine : Texts → (line : ℕ) (tokens : List Lexeme) → AreText tokens → Rules (grant line tokens)
 unfolding grant
-grant_fine texts patterns line tokens t rules h =
+grant_fine laws line tokens t rules h =
     let g = made (grant_at tokens) (λ grant. granted_at grant.1 >>= λ cells. line_end cells.1 >>= λ end. Ok (rules_of line grant.0 cells.0)) rules h in
     let c = made (granted_at g.0.1) (λ cells. line_end cells.1 >>= λ end. Ok (rules_of line g.0.0 cells.0)) rules g.2 in
     let e = made (line_end c.0.1) (λ end. Ok (rules_of line g.0.0 c.0.0)) rules c.2 in
     subst (λ rules. list_all is_well_made_rule rules ≡ true) {x = rules_of line g.0.0 c.0.0} (ok_same (rules_of line g.0.0 c.0.0) rules e.2)
-    (granted_well_made line g.0.0 c.0.0 (granted_fine texts patterns g.0.1 c.0 c.1 (grant_rest tokens g.0 g.1 t)))
+    (granted_well_made line g.0.0 c.0.0 (granted_fine laws g.0.1 c.0 c.1 (grant_rest tokens g.0 g.1 t)))
 
 -- policies
 
@@ -455,34 +461,34 @@ heading_kept policies tokens h new e =
         let n = made (new_name policies w.0.0) (λ name. Ok (name, w.0.1)) x w.2 in
         subst (λ (y : List ℕ × List Lexeme). list_any (is_named y.0) policies ≡ false) {x = (n.0, w.0.1)} (ok_same (n.0, w.0.1) x n.2) (another_name policies w.0.0 n.0 n.1)
 
-line_kept : TextsComeBack → ReadingGivesPatterns → (version : ℕ) (policies : List Policy) (line : ℕ) (tokens : List Lexeme)
+line_kept : Texts → (version : ℕ) (policies : List Policy) (line : ℕ) (tokens : List Lexeme)
     → are_well_made policies ≡ true → AreText tokens → Kept (line_of version policies line tokens)
 unfolding line_of
-line_kept texts patterns version policies line tokens h t new e =
+line_kept laws version policies line tokens h t new e =
     let w = made (word_or UnknownWord tokens) (λ word. cond (is_word (codes "policy") word.0) (heading policies word.1)
     (cond (is_word (codes "grant") word.0) (with_grant policies line word.1)
     (or_fault UnknownWord (action_of version word.0) >>= λ action. with_rule policies line action word.1))) new e in
     let rest = word_rest UnknownWord tokens w.0 w.1 t in
     branches Kept (is_word (codes "policy") w.0.0) (heading policies w.0.1) _ (heading_kept policies w.0.1 h)
     (branches Kept (is_word (codes "grant") w.0.0) (with_grant policies line w.0.1) _
-    (added_kept policies (grant line w.0.1) h (grant_fine texts patterns line w.0.1 rest))
+    (added_kept policies (grant line w.0.1) h (grant_fine laws line w.0.1 rest))
     (λ new e.
     let a = made (or_fault UnknownWord (action_of version w.0.0)) (λ action. with_rule policies line action w.0.1) new e in
-    added_kept policies (rule line a.0 w.0.1) h (rule_fine texts patterns line a.0 w.0.1 rest) new a.2)) new w.2
+    added_kept policies (rule line a.0 w.0.1) h (rule_fine laws line a.0 w.0.1 rest) new a.2)) new w.2
 
 -- texts
 
 abbrev KeptText : Result (List Policy) (LineFault TextKind) → Type 0
 KeptText read = (new : List Policy) → read ≡ Ok new → are_well_made new ≡ true
 
-lines_kept : TextsComeBack → ReadingGivesPatterns → (version : ℕ) (lines : List NumberedLine) (policies : List Policy) → are_well_made policies ≡ true
+lines_kept : Texts → (version : ℕ) (lines : List NumberedLine) (policies : List Policy) → are_well_made policies ≡ true
     → list_all has_quoted_text lines ≡ true → KeptText (read_lines (add_line version) policies lines)
 unfolding read_lines
-lines_kept texts patterns version [] policies h t new e = subst (λ ps. are_well_made ps ≡ true) (ok_same policies new e) h
-lines_kept texts patterns version (line ∷ lines) policies h t new e =
+lines_kept laws version [] policies h t new e = subst (λ ps. are_well_made ps ≡ true) (ok_same policies new e) h
+lines_kept laws version (line ∷ lines) policies h t new e =
     let parts = both (has_quoted_text line) (list_all has_quoted_text lines) t in
-    by_line (add_line version policies line) (line_kept texts patterns version policies line.number (tokens_of line.text) h parts.0)
-    (λ more k. lines_kept texts patterns version lines more k parts.1) new e
+    by_line (add_line version policies line) (line_kept laws version policies line.number (tokens_of line.text) h parts.0)
+    (λ more k. lines_kept laws version lines more k parts.1) new e
   where
     by_line : (read : Result (List Policy) TextKind) → Kept read
         → ((more : List Policy) → are_well_made more ≡ true → KeptText (read_lines (add_line version) more lines))
@@ -490,19 +496,19 @@ lines_kept texts patterns version (line ∷ lines) policies h t new e =
     by_line (Ok more) f g new e = g more (f more refl) new e
     by_line (Err kind) f g new e = absurd cc
 
-below_kept : TextsComeBack → ReadingGivesPatterns → (n : ℕ) (version : Option ℕ) (lines : List NumberedLine) → list_all has_quoted_text lines ≡ true
+below_kept : Texts → (n : ℕ) (version : Option ℕ) (lines : List NumberedLine) → list_all has_quoted_text lines ≡ true
     → KeptText (read_below grammar n version lines)
-below_kept texts patterns n None lines t new e = absurd cc
-below_kept texts patterns n (Some version) lines t new e = lines_kept texts patterns version lines [] refl t new e
+below_kept laws n None lines t new e = absurd cc
+below_kept laws n (Some version) lines t new e = lines_kept laws version lines [] refl t new e
 
-by_kept : TextsComeBack → ReadingGivesPatterns → (lines : List NumberedLine) → list_all has_quoted_text lines ≡ true → KeptText (read_by grammar lines)
-by_kept texts patterns [] t new e = absurd cc
-by_kept texts patterns (first ∷ lines) t new e =
-    below_kept texts patterns first.number (policy_version first.text) lines (both (has_quoted_text first) (list_all has_quoted_text lines) t).1 new e
+by_kept : Texts → (lines : List NumberedLine) → list_all has_quoted_text lines ≡ true → KeptText (read_by grammar lines)
+by_kept laws [] t new e = absurd cc
+by_kept laws (first ∷ lines) t new e =
+    below_kept laws first.number (policy_version first.text) lines (both (has_quoted_text first) (list_all has_quoted_text lines) t).1 new e
 
-pub read_well_made : TextsComeBack → ReadingGivesPatterns → QuotedTokensAreText → ReadPoliciesAreWellMade
-read_well_made texts patterns law text new e = by_place (not_utf8_line text) refl e
+pub read_well_made : Texts → QuotedTokensAreText → ReadPoliciesAreWellMade
+read_well_made laws law text new e = by_place (not_utf8_line text) refl e
   where
     by_place : (place : Option ℕ) → not_utf8_line text ≡ place → where_utf8 NotUtf8 place (read_by grammar (lines_of text)) ≡ Ok new → are_well_made new ≡ true
-    by_place None k e = by_kept texts patterns (lines_of text) (law text k) new e
+    by_place None k e = by_kept laws (lines_of text) (law text k) new e
     by_place (Some line) k e = absurd cc

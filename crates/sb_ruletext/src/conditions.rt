@@ -1,20 +1,15 @@
 // Reading conditions: COND and COND .., each a parameter, a test word and a value.
-ghost use Rattle.std.specs.Prelude.{◌≡◌, ◌≤◌, ◌<◌, length, true, false, None, Some, IfOk, MatchOption};
-ghost use Rattle.std.specs.List.{list_all};
-ghost use Rattle.sb_call.specs.Tags.{shape_of};
-ghost use Rattle.sb_rule.specs.Limits.{most_conditions, most_numbers};
-ghost use Rattle.sb_rule.specs.WellMade.{is_policy_text, is_like_text, is_sensible, is_number_test, is_well_formed};
+ghost use Rattle.std.specs.Prelude.{◌≡◌, None, Some, MatchOption};
 ghost use Rattle.sb_ruletext.specs.Conditions.{number_at, numbers_at, after_dots, around_dots, range_of, range_at, pattern, string, string_at, pattern_at, is_at, in_at, has_at, like_at, test_at, parameter_at, is_number_at, plain_condition_at, condition_at, conditions_at, conditions_of};
 ghost use Rattle.sb_ruletext.specs.Steps.{excess};
 ghost use Rattle.sb_text.specs.Steps.{Gives, Reads};
-ghost use Rattle.sb_text.specs.TokenLaws.{is_quoted_byte};
 
 use crate::faults::LineRefused;
 use crate::faults::TextKind::{self, BadNumber, UnknownParam, UnknownWord, WrongKind};
 use crate::readers::{line_end, quoted_or, word_or};
 use crate::words::parameter_of;
 use sb_call::{CallTag, ParamKind, shape};
-use sb_pattern::{MOST_UNITS, Pattern, PatternFault, PatternRefused, texts_and_patterns};
+use sb_pattern::{MOST_UNITS, Pattern, PatternFault, PatternRefused};
 use sb_rule::{Cond, Conds, MOST_CONDITIONS, MOST_NUMBERS, Numbers, Test};
 use sb_text::{Token, Tokens, number_of, or_fault, string_of};
 use sb_wide::Wide;
@@ -41,9 +36,7 @@ fn excess(tokens: &Tokens) -> TextKind
 // N or N ..
 #[tactic(auto, using(crate::proofs::Joined::joined_bad, crate::proofs::Joined::joined_last, crate::proofs::Joined::joined_more, crate::proofs::Joined::joined_full))]
 fn numbers_at(alloc: Global, tokens: &mut Tokens) -> Result<Numbers, LineRefused>
-    ensures read { Reads (numbers_at tokens.old) result tokens.new }
-    ensures some { IfOk result (λ numbers. 0 < length numbers) }
-    ensures few { IfOk result (λ numbers. length numbers ≤ most_numbers) }
+    ensures { Reads (numbers_at tokens.old) result tokens.new }
 {
     let mut numbers = Numbers::new(Vec::new(alloc));
     while numbers.len() < MOST_NUMBERS {
@@ -83,9 +76,7 @@ fn around_dots(word: &[u8]) -> Option<(&[u8], &[u8])>
 
 // LO..HI: two numbers joined by `..`.
 fn range_of(word: &[u8]) -> Result<Test, LineRefused>
-    ensures range { Gives (range_of word.now) result }
-    ensures sensible { IfOk result (λ test. is_sensible test ≡ true) }
-    ensures number { IfOk result (λ test. is_number_test test ≡ true) }
+    ensures { Gives (range_of word.now) result }
 {
     let (low, high) = around_dots(word).ok_or(LineRefused::Fault(BadNumber))?;
     let lo = or_fault(BadNumber, number_of(low))?;
@@ -99,19 +90,14 @@ fn range_of(word: &[u8]) -> Result<Test, LineRefused>
 
 // LO..HI as one word.
 fn range_at(tokens: &mut Tokens) -> Result<Test, LineRefused>
-    ensures read { Reads (range_at tokens.old) result tokens.new }
-    ensures sensible { IfOk result (λ test. is_sensible test ≡ true) }
-    ensures number { IfOk result (λ test. is_number_test test ≡ true) }
+    ensures { Reads (range_at tokens.old) result tokens.new }
 {
     range_of(word_or(WrongKind, tokens)?)
 }
 
 // What stands between quotes, as a string of a policy.
-#[tactic(auto, using(crate::proofs::Patterns::string_text))]
 fn string(alloc: Global, quoted: &str) -> Result<Wide, LineRefused>
-    requires { list_all is_quoted_byte quoted.now ≡ true }
-    ensures string { Gives (string quoted.now) result }
-    ensures text { IfOk result (λ text. is_policy_text text ≡ true) }
+    ensures { Gives (string quoted.now) result }
 {
     let text = string_of(alloc, quoted)?;
     if text.len() > MOST_UNITS {
@@ -121,13 +107,9 @@ fn string(alloc: Global, quoted: &str) -> Result<Wide, LineRefused>
 }
 
 /// What stands between quotes, as a pattern.
-#[tactic(auto, using(crate::proofs::Strings::quoted_is_text, crate::proofs::Patterns::read_like))]
 pub(crate) fn pattern(alloc: Global, quoted: &str) -> Result<Pattern, LineRefused>
-    requires { list_all is_quoted_byte quoted.now ≡ true }
-    ensures pattern { Gives (pattern quoted.now) result }
-    ensures text { IfOk result (λ cells. is_like_text cells ≡ true) }
+    ensures { Gives (pattern quoted.now) result }
 {
-    texts_and_patterns();
     let text = string_of(alloc, quoted)?;
     match Pattern::read(alloc, text.as_units()) {
         Ok(pattern) => Ok(pattern),
@@ -138,9 +120,7 @@ pub(crate) fn pattern(alloc: Global, quoted: &str) -> Result<Pattern, LineRefuse
 
 // "S": a string.
 fn string_at(alloc: Global, tokens: &mut Tokens) -> Result<Test, LineRefused>
-    ensures read { Reads (string_at tokens.old) result tokens.new }
-    ensures sensible { IfOk result (λ test. is_sensible test ≡ true) }
-    ensures string { IfOk result (λ test. is_number_test test ≡ false) }
+    ensures { Reads (string_at tokens.old) result tokens.new }
 {
     let quoted = quoted_or(WrongKind, tokens)?;
     Ok(Test::Equal(string(alloc, quoted)?))
@@ -148,9 +128,7 @@ fn string_at(alloc: Global, tokens: &mut Tokens) -> Result<Test, LineRefused>
 
 // "P": a pattern.
 fn pattern_at(alloc: Global, tokens: &mut Tokens) -> Result<Test, LineRefused>
-    ensures read { Reads (pattern_at tokens.old) result tokens.new }
-    ensures sensible { IfOk result (λ test. is_sensible test ≡ true) }
-    ensures string { IfOk result (λ test. is_number_test test ≡ false) }
+    ensures { Reads (pattern_at tokens.old) result tokens.new }
 {
     let quoted = quoted_or(WrongKind, tokens)?;
     Ok(Test::Like(pattern(alloc, quoted)?))
@@ -158,9 +136,7 @@ fn pattern_at(alloc: Global, tokens: &mut Tokens) -> Result<Test, LineRefused>
 
 // The value of `is`.
 fn is_at(alloc: Global, is_number: bool, tokens: &mut Tokens) -> Result<Test, LineRefused>
-    ensures read { Reads (is_at is_number tokens.old) result tokens.new }
-    ensures sensible { IfOk result (λ test. is_sensible test ≡ true) }
-    ensures kind { IfOk result (λ test. is_number_test test ≡ is_number) }
+    ensures { Reads (is_at is_number tokens.old) result tokens.new }
 {
     if is_number {
         Ok(Test::OneOf(numbers_at(alloc, tokens)?))
@@ -171,9 +147,7 @@ fn is_at(alloc: Global, is_number: bool, tokens: &mut Tokens) -> Result<Test, Li
 
 // The value of `in`.
 fn in_at(is_number: bool, tokens: &mut Tokens) -> Result<Test, LineRefused>
-    ensures read { Reads (in_at is_number tokens.old) result tokens.new }
-    ensures sensible { IfOk result (λ test. is_sensible test ≡ true) }
-    ensures kind { IfOk result (λ test. is_number_test test ≡ is_number) }
+    ensures { Reads (in_at is_number tokens.old) result tokens.new }
 {
     if is_number {
         range_at(tokens)
@@ -184,9 +158,7 @@ fn in_at(is_number: bool, tokens: &mut Tokens) -> Result<Test, LineRefused>
 
 // The value of `has`.
 fn has_at(is_number: bool, tokens: &mut Tokens) -> Result<Test, LineRefused>
-    ensures read { Reads (has_at is_number tokens.old) result tokens.new }
-    ensures sensible { IfOk result (λ test. is_sensible test ≡ true) }
-    ensures kind { IfOk result (λ test. is_number_test test ≡ is_number) }
+    ensures { Reads (has_at is_number tokens.old) result tokens.new }
 {
     if is_number {
         Ok(Test::Mask(number_at(tokens)?))
@@ -197,9 +169,7 @@ fn has_at(is_number: bool, tokens: &mut Tokens) -> Result<Test, LineRefused>
 
 // The value of `like`.
 fn like_at(alloc: Global, is_number: bool, tokens: &mut Tokens) -> Result<Test, LineRefused>
-    ensures read { Reads (like_at is_number tokens.old) result tokens.new }
-    ensures sensible { IfOk result (λ test. is_sensible test ≡ true) }
-    ensures kind { IfOk result (λ test. is_number_test test ≡ is_number) }
+    ensures { Reads (like_at is_number tokens.old) result tokens.new }
 {
     if is_number {
         Err(LineRefused::Fault(WrongKind))
@@ -211,9 +181,7 @@ fn like_at(alloc: Global, is_number: bool, tokens: &mut Tokens) -> Result<Test, 
 // A test word, and a value that fits it.
 #[tactic(auto, unfolding(crate::specs::Conditions::test_at))]
 fn test_at(alloc: Global, is_number: bool, tokens: &mut Tokens) -> Result<Test, LineRefused>
-    ensures read { Reads (test_at is_number tokens.old) result tokens.new }
-    ensures sensible { IfOk result (λ test. is_sensible test ≡ true) }
-    ensures kind { IfOk result (λ test. is_number_test test ≡ is_number) }
+    ensures { Reads (test_at is_number tokens.old) result tokens.new }
 {
     let word = word_or(UnknownWord, tokens)?;
     if word == b"is".as_slice() {
@@ -231,8 +199,7 @@ fn test_at(alloc: Global, is_number: bool, tokens: &mut Tokens) -> Result<Test, 
 
 // The name of a parameter of the call.
 fn parameter_at(tag: CallTag, tokens: &mut Tokens) -> Result<u32, LineRefused>
-    ensures read { Reads (parameter_at tag tokens.old) result tokens.new }
-    ensures within { IfOk result (λ param. param < length (shape_of tag)) }
+    ensures { Reads (parameter_at tag tokens.old) result tokens.new }
 {
     let word = word_or(UnknownParam, tokens)?;
     parameter_of(tag, word).ok_or(LineRefused::Fault(UnknownParam))
@@ -255,8 +222,7 @@ fn plain_condition_at(
     tag: CallTag,
     tokens: &mut Tokens,
 ) -> Result<Cond, LineRefused>
-    ensures read { Reads (plain_condition_at negated tag tokens.old) result tokens.new }
-    ensures well_formed { IfOk result (λ cond. is_well_formed tag cond ≡ true) }
+    ensures { Reads (plain_condition_at negated tag tokens.old) result tokens.new }
 {
     let param = parameter_at(tag, tokens)?;
     let test = test_at(alloc, is_number_at(tag, param), tokens)?;
@@ -270,8 +236,7 @@ fn plain_condition_at(
 // COND: an optional `not` before them.
 #[tactic(auto, unfolding(crate::specs::Conditions::condition_at))]
 fn condition_at(alloc: Global, tag: CallTag, tokens: &mut Tokens) -> Result<Cond, LineRefused>
-    ensures read { Reads (condition_at tag tokens.old) result tokens.new }
-    ensures well_formed { IfOk result (λ cond. is_well_formed tag cond ≡ true) }
+    ensures { Reads (condition_at tag tokens.old) result tokens.new }
 {
     let negated = tokens.pass_word(b"not");
     plain_condition_at(alloc, negated, tag, tokens)
@@ -280,9 +245,7 @@ fn condition_at(alloc: Global, tag: CallTag, tokens: &mut Tokens) -> Result<Cond
 // COND and COND ..
 #[tactic(auto, using(crate::proofs::Joined::joined_bad, crate::proofs::Joined::joined_last, crate::proofs::Joined::joined_more, crate::proofs::Joined::joined_full))]
 fn conditions_at(alloc: Global, tag: CallTag, tokens: &mut Tokens) -> Result<Conds, LineRefused>
-    ensures read { Reads (conditions_at tag tokens.old) result tokens.new }
-    ensures few { IfOk result (λ conds. length conds ≤ most_conditions) }
-    ensures well_formed { IfOk result (λ conds. list_all (is_well_formed tag) conds ≡ true) }
+    ensures { Reads (conditions_at tag tokens.old) result tokens.new }
 {
     let mut conds = Conds::new(Vec::new(alloc));
     while conds.len() < MOST_CONDITIONS {
@@ -300,9 +263,7 @@ pub(crate) fn conditions_of(
     tag: CallTag,
     tokens: &mut Tokens,
 ) -> Result<Conds, LineRefused>
-    ensures read { Gives (conditions_of tag tokens.old) result }
-    ensures few { IfOk result (λ conds. length conds ≤ most_conditions) }
-    ensures well_formed { IfOk result (λ conds. list_all (is_well_formed tag) conds ≡ true) }
+    ensures { Gives (conditions_of tag tokens.old) result }
 {
     let conds = conditions_at(alloc, tag, tokens)?;
     line_end(tokens)?;

@@ -1,8 +1,8 @@
 // The policies so far, while a text is read.
-ghost use Rattle.std.specs.Prelude.{◌≡◌, ◌<◌, [], true, false, nat_lt, length, vec_len, vec_capacity, OnOk, OnErr, IfOk};
-ghost use Rattle.std.specs.List.{list_all, list_any};
+ghost use Rattle.std.specs.Prelude.{◌≡◌, ◌<◌, [], nat_lt, length, vec_len, vec_capacity, OnOk, OnErr, IfOk};
+ghost use Rattle.std.specs.List.{list_any};
 ghost use Rattle.sb_rule.specs.Limits.{most_policies};
-ghost use Rattle.sb_rule.specs.WellMade.{is_named, is_well_made_rule, are_well_made};
+ghost use Rattle.sb_rule.specs.WellMade.{is_named};
 ghost use Rattle.sb_ruletext.specs.Drafts.{is_headed};
 ghost use Rattle.sb_ruletext.specs.Lines.{with_policy, with_last_rules};
 ghost use Rattle.sb_text.specs.Steps.{Becomes};
@@ -96,18 +96,15 @@ impl Draft {
     }
 
     /// Adds rules to the last policy. After an error the draft is as it was.
-    #[tactic(auto, using(crate::proofs::Added::added_fits, crate::proofs::Added::added_too_many, crate::proofs::Added::added_nowhere, crate::proofs::Added::well_made_longer))]
+    #[tactic(auto, using(crate::proofs::Added::added_fits, crate::proofs::Added::added_too_many, crate::proofs::Added::added_nowhere))]
     pub(crate) fn add_rules(&mut self, rules: Rules) -> Result<(), LineRefused>
-        requires well_made { are_well_made self.old ≡ true }
-        requires rules { list_all is_well_made_rule rules ≡ true }
         ensures read { Becomes (with_last_rules self.old rules) result self.new }
-        ensures well_made { OnOk result (are_well_made self.new ≡ true) }
         ensures kept { OnErr result (self.new ≡ self.old) }
     {
         if self.last_name.is_none() {
             return Err(LineRefused::Fault(TextKind::NoHeading));
         }
-        if self.last_rules.len() + rules.len() > MOST_RULES {
+        if self.last_rules.as_slice().len() + rules.as_slice().len() > MOST_RULES {
             return Err(LineRefused::Fault(TextKind::TooMany));
         }
         let mut rules = rules.into_items();

@@ -1,8 +1,6 @@
 // Grants: one line that stands for several rules.
-ghost use Rattle.std.specs.Prelude.{◌≡◌, ◌∷◌, [], true, IfOk};
-ghost use Rattle.std.specs.List.{list_all};
+ghost use Rattle.std.specs.Prelude.{◌≡◌, ◌∷◌, [], IfOk};
 ghost use Rattle.sb_call.specs.declared.tags.CallTag.TheVariants.{FileCreate, FileRename};
-ghost use Rattle.sb_rule.specs.WellMade.{is_like_text, is_well_made_rule};
 ghost use Rattle.sb_ruletext.specs.declared.grants.Grant.TheVariants.{FilesAny, FilesReadonly};
 ghost use Rattle.sb_ruletext.specs.Grants.{grant_word, grants, grant_of, like_at, reads_at, opens_at, allowing, rules_of};
 
@@ -208,17 +206,14 @@ fn both(
     Ok(rules)
 }
 
-/// The rules of a grant on a line, for a pattern whose text can stand between quotes.
-#[tactic(auto, using(crate::proofs::WellMade::granted_well_made))]
+/// The rules of a grant on a line, for a pattern.
 pub(crate) fn rules_of(
     alloc: Global,
     line: u32,
     grant: Grant,
     pattern: &Pattern,
 ) -> Result<Rules, NoMemory>
-    requires { is_like_text pattern.now ≡ true }
-    ensures rules { IfOk result (λ rules. rules ≡ rules_of line grant pattern.now) }
-    ensures well_made { IfOk result (λ rules. list_all is_well_made_rule rules ≡ true) }
+    ensures { IfOk result (λ rules. rules ≡ rules_of line grant pattern.now) }
 {
     match grant {
         Grant::FilesAny => files_any(alloc, line, pattern),

@@ -4,6 +4,7 @@ ghost use Rattle.sb_ruletext.specs.Laws.{FirstFaultsStay, LinesBeforeAreRead, Re
 use crate::faults::TextKind;
 use sb_pattern::texts_and_patterns;
 use sb_rule::PolicyList;
+use sb_ruleprint::quoted_strings_are_read;
 use sb_text::quoted_tokens_are_text;
 
 /// A fault on one of the first lines of a text, some of which say something, is that of each text that begins with these
@@ -39,4 +40,5 @@ pub fn read_policies_are_well_made()
 {
     texts_and_patterns();
     quoted_tokens_are_text();
+    quoted_strings_are_read();
 }

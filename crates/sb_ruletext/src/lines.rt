@@ -1,8 +1,5 @@
 // Reading the lines below the version line.
-ghost use Rattle.std.specs.Prelude.{◌≡◌, ◌≤◌, length, true, false, IfOk, OnOk, OnErr};
-ghost use Rattle.std.specs.List.{list_all, list_any};
-ghost use Rattle.sb_rule.specs.Limits.{most_conditions};
-ghost use Rattle.sb_rule.specs.WellMade.{is_like_text, is_well_formed, is_well_made_rule, are_well_made, is_named};
+ghost use Rattle.std.specs.Prelude.{◌≡◌, OnErr};
 ghost use Rattle.sb_ruletext.specs.Lines.{new_name, name_at, heading, call_at, check_action, when_of, rule, grant_at, granted_at, grant, check_heading, with_grant, with_rule, line_of};
 ghost use Rattle.sb_text.specs.Steps.{Gives, Reads, Becomes};
 ghost use Rattle.sb_text.specs.Tokens.{tokens_of};
@@ -22,8 +19,7 @@ use std::alloc::Global;
 
 // NAME: a short name that no policy so far has.
 fn new_name(draft: &Draft, word: &[u8]) -> Result<ShortName, LineRefused>
-    ensures name { Gives (new_name draft.now word.now) result }
-    ensures new { IfOk result (λ name. list_any (is_named name) draft.now ≡ false) }
+    ensures { Gives (new_name draft.now word.now) result }
 {
     let Some(name) = ShortName::new(word) else {
         return Err(LineRefused::Fault(UnknownWord));
@@ -36,19 +32,16 @@ fn new_name(draft: &Draft, word: &[u8]) -> Result<ShortName, LineRefused>
 
 // The name of a policy.
 fn name_at(draft: &Draft, tokens: &mut Tokens) -> Result<ShortName, LineRefused>
-    ensures name { Reads (name_at draft.now tokens.old) result tokens.new }
-    ensures new { IfOk result (λ name. list_any (is_named name) draft.now ≡ false) }
+    ensures { Reads (name_at draft.now tokens.old) result tokens.new }
 {
     let word = word_or(UnknownWord, tokens)?;
     new_name(draft, word)
 }
 
 // `policy NAME`, behind its first word. After an error the policies are as they were.
-#[tactic(auto, unfolding(crate::specs::Lines::heading), using(crate::proofs::Added::heading_well_made))]
+#[tactic(auto, unfolding(crate::specs::Lines::heading))]
 fn heading(alloc: Global, draft: &mut Draft, tokens: &mut Tokens) -> Result<(), LineRefused>
-    requires { are_well_made draft.old ≡ true }
     ensures read { Becomes (heading draft.old tokens.old) result draft.new }
-    ensures well_made { OnOk result (are_well_made draft.new ≡ true) }
     ensures kept { OnErr result (draft.new ≡ draft.old) }
 {
     let name = name_at(draft, tokens)?;
@@ -66,9 +59,7 @@ fn call_at(tokens: &mut Tokens) -> Result<CallTag, LineRefused>
 
 // Nothing, or `when` and conditions, up to the line's end.
 fn when_of(alloc: Global, tag: CallTag, tokens: &mut Tokens) -> Result<Conds, LineRefused>
-    ensures read { Gives (when_of tag tokens.old) result }
-    ensures few { IfOk result (λ conds. length conds ≤ most_conditions) }
-    ensures well_formed { IfOk result (λ conds. list_all (is_well_formed tag) conds ≡ true) }
+    ensures { Gives (when_of tag tokens.old) result }
 {
     if tokens.is_end() {
         return Ok(Conds::new(Vec::new(alloc)));
@@ -80,10 +71,9 @@ fn when_of(alloc: Global, tag: CallTag, tokens: &mut Tokens) -> Result<Conds, Li
 }
 
 // `ACTION CALL` and what follows, behind its first word.
-#[tactic(auto, unfolding(crate::specs::Lines::rule), using(crate::proofs::WellMade::one_well_made))]
+#[tactic(auto, unfolding(crate::specs::Lines::rule))]
 fn rule(alloc: Global, line: u32, action: Action, tokens: &mut Tokens) -> Result<Rules, LineRefused>
-    ensures read { Gives (rule line action tokens.old) result }
-    ensures well_made { IfOk result (λ rules. list_all is_well_made_rule rules ≡ true) }
+    ensures { Gives (rule line action tokens.old) result }
 {
     let tag = call_at(tokens)?;
     if !is_for_readers(action, tag) {
@@ -111,8 +101,7 @@ fn grant_at(tokens: &mut Tokens) -> Result<Grant, LineRefused>
 
 // The pattern of a grant.
 fn granted_at(alloc: Global, tokens: &mut Tokens) -> Result<Pattern, LineRefused>
-    ensures read { Reads (granted_at tokens.old) result tokens.new }
-    ensures text { IfOk result (λ cells. is_like_text cells ≡ true) }
+    ensures { Reads (granted_at tokens.old) result tokens.new }
 {
     let quoted = quoted_or(UnknownWord, tokens)?;
     pattern(alloc, quoted)
@@ -121,8 +110,7 @@ fn granted_at(alloc: Global, tokens: &mut Tokens) -> Result<Pattern, LineRefused
 // `grant GRANT "PATTERN"`, behind its first word.
 #[tactic(auto, unfolding(crate::specs::Lines::grant))]
 fn grant(alloc: Global, line: u32, tokens: &mut Tokens) -> Result<Rules, LineRefused>
-    ensures read { Gives (grant line tokens.old) result }
-    ensures well_made { IfOk result (λ rules. list_all is_well_made_rule rules ≡ true) }
+    ensures { Gives (grant line tokens.old) result }
 {
     let grant = grant_at(tokens)?;
     let pattern = granted_at(alloc, tokens)?;
@@ -148,9 +136,7 @@ fn add_grant(
     line: u32,
     tokens: &mut Tokens,
 ) -> Result<(), LineRefused>
-    requires { are_well_made draft.old ≡ true }
     ensures read { Becomes (with_grant draft.old line tokens.old) result draft.new }
-    ensures well_made { OnOk result (are_well_made draft.new ≡ true) }
     ensures kept { OnErr result (draft.new ≡ draft.old) }
 {
     check_heading(draft)?;
@@ -166,9 +152,7 @@ fn add_rule(
     action: Action,
     tokens: &mut Tokens,
 ) -> Result<(), LineRefused>
-    requires { are_well_made draft.old ≡ true }
     ensures read { Becomes (with_rule draft.old line action tokens.old) result draft.new }
-    ensures well_made { OnOk result (are_well_made draft.new ≡ true) }
     ensures kept { OnErr result (draft.new ≡ draft.old) }
 {
     check_heading(draft)?;
@@ -176,7 +160,7 @@ fn add_rule(
     draft.add_rules(rules)
 }
 
-/// What a line adds to the policies so far. They stay well made, and after an error they are as they were.
+/// What a line adds to the policies so far. After an error they are as they were.
 #[tactic(auto, unfolding(crate::specs::Lines::line_of))]
 pub(crate) fn line_of(
     alloc: Global,
@@ -184,9 +168,7 @@ pub(crate) fn line_of(
     draft: &mut Draft,
     line: &Line,
 ) -> Result<(), LineRefused>
-    requires { are_well_made draft.old ≡ true }
     ensures read { Becomes (line_of version draft.old line.now.number (tokens_of line.now.text.now)) result draft.new }
-    ensures well_made { OnOk result (are_well_made draft.new ≡ true) }
     ensures kept { OnErr result (draft.new ≡ draft.old) }
 {
     let mut tokens = line.tokens();

@@ -1,46 +1,49 @@
 // Reading policy texts.
 ghost use Rattle.std.specs.Prelude.{◌≡◌, ◌<◌, ◌^◌, [], length, true, IfOk};
 ghost use Rattle.sb_rule.specs.WellMade.{are_well_made};
-ghost use Rattle.sb_ruletext.specs.PolicyTexts.{add_line, grammar, reading};
-ghost use Rattle.sb_text.specs.Readings.{read_lines, read_by};
-ghost use Rattle.sb_text.specs.Steps.{Gives, GivesAs};
+ghost use Rattle.sb_ruletext.specs.PolicyTexts.{grammar, reading};
+ghost use Rattle.sb_ruletext.specs.declared.faults.TextKind.TheVariants.{BadVersion};
+ghost use Rattle.sb_text.specs.Steps.{GivesAs};
 
 use crate::drafts::Draft;
 use crate::faults::{LineRefused, TextKind, TextRefused};
+use crate::laws::read_policies_are_well_made;
 use crate::lines::line_of;
-use sb_rule::{Policies, PolicyList};
-use sb_text::{Lines, lines_are_read_in_turn, text_of};
+use sb_rule::Policies;
+use sb_text::{Line, Lines, TextGrammar, read_text};
 use std::alloc::Global;
 
-// The policies that these lines make, below a version line.
-fn policies_from(alloc: Global, version: u32, lines: Lines) -> Result<PolicyList, TextRefused>
-    ensures exactly { Gives (read_lines (add_line version) [] lines.entry) result }
-    ensures well_made { IfOk result (λ policies. are_well_made policies ≡ true) }
-{
-    lines_are_read_in_turn::<PolicyList, TextKind>();
-    let mut lines = lines;
-    let mut draft = Draft::new(alloc);
-    while let Some(line) = lines.next_line() {
-        match line_of(alloc, version, &mut draft, &line) {
-            Ok(()) => {}
-            Err(refused) => return Err(refused.on(line.number)),
-        }
-    }
-    Ok(draft.into_policies()?)
+// Policy texts.
+#[derive(Drop)]
+struct PolicyGrammar {
+    alloc: Global,
 }
 
-// The policies of the lines with tokens.
-fn policies_of(alloc: Global, lines: Lines) -> Result<PolicyList, TextRefused>
-    ensures exactly { Gives (read_by grammar lines.entry) result }
-    ensures well_made { IfOk result (λ policies. are_well_made policies ≡ true) }
-{
-    let mut lines = lines;
-    let Some(first) = lines.next_line() else {
-        return Err(LineRefused::Fault(TextKind::BadVersion).on(1));
-    };
-    match first.version(b"sandbox-policy", 2) {
-        Some(version) => policies_from(alloc, version, lines),
-        None => Err(LineRefused::Fault(TextKind::BadVersion).on(first.number)),
+impl<'b> TextGrammar<Lines<'b>> for PolicyGrammar {
+    type Draft = Draft;
+
+    type Kind = TextKind;
+
+    ghost grammar = { λ texts. grammar };
+
+    fn version(&self, line: &Line<'b>) -> Option<u32> {
+        line.version(b"sandbox-policy", 2)
+    }
+
+    fn no_version(&self) -> TextKind
+        ensures { result ≡ BadVersion }
+    {
+        TextKind::BadVersion
+    }
+
+    fn start(&self) -> Draft
+        ensures { result ≡ [] }
+    {
+        Draft::new(self.alloc)
+    }
+
+    fn add(&self, version: u32, draft: &mut Draft, line: &Line<'b>) -> Result<(), LineRefused> {
+        line_of(self.alloc, version, draft, line)
     }
 }
 
@@ -57,10 +60,9 @@ pub fn read_policies(alloc: Global, text: &[u8]) -> Result<Policies, TextRefused
     ensures exactly { GivesAs (λ policies. policies.list) (reading text.now) result }
     ensures well_made { IfOk result (λ policies. are_well_made policies.list ≡ true) }
 {
-    match text_of(text) {
-        Ok(text) => Ok(Policies {
-            list: policies_of(alloc, Lines::new(text))?,
-        }),
-        Err(fault) => Err(LineRefused::Fault(TextKind::NotUtf8).on(fault.line)),
-    }
+    read_policies_are_well_made();
+    let draft = read_text(&PolicyGrammar { alloc }, TextKind::NotUtf8, text)?;
+    Ok(Policies {
+        list: draft.into_policies()?,
+    })
 }

@@ -1,9 +1,6 @@
 // Readers of a policy text's lines: in all of them a broken or missing token is an unknown word.
-ghost use Rattle.std.specs.Prelude.{◌≡◌, true, IfOk};
-ghost use Rattle.std.specs.List.{list_all};
 ghost use Rattle.sb_ruletext.specs.Steps.{word_or, quoted_or, line_end};
 ghost use Rattle.sb_text.specs.Steps.{Gives, ReadsAs};
-ghost use Rattle.sb_text.specs.TokenLaws.{is_quoted_byte};
 
 use crate::faults::LineRefused;
 use crate::faults::TextKind::{self, UnknownWord};
@@ -21,8 +18,7 @@ pub(crate) fn word_or<'a>(
 
 /// What stands between quotes. A word in its place has this fault; a broken token, or none, is `UnknownWord`.
 pub(crate) fn quoted_or<'a>(word: TextKind, tokens: &mut Tokens<'a>) -> Result<&'a str, LineRefused>
-    ensures read { ReadsAs (λ quoted. quoted.now) (quoted_or word tokens.old) result tokens.new }
-    ensures quotable { IfOk result (λ quoted. list_all is_quoted_byte quoted.now ≡ true) }
+    ensures { ReadsAs (λ quoted. quoted.now) (quoted_or word tokens.old) result tokens.new }
 {
     quoted_at(word, UnknownWord, UnknownWord, tokens)
 }

@@ -1,20 +1,24 @@
 -- The actors of what is read are there, and its steps and rounds are within their limits.
-use Rattle.std.proofs.Common.{◌≡◌, refl, sym, ap, ◌∙◌, subst, arith, ℕ, ◌+◌, ◌≤◌, List, [], ◌∷◌, ◌++◌, Bool, true, false, ◌&&◌, nat_le, nat_lt, cond, length, Option, None, Some, Result, Ok, Err, IfOk, codes}
+use Rattle.std.proofs.Common.{◌≡◌, refl, ap, ◌∙◌, subst, arith, ℕ, ◌+◌, ◌≤◌, List, [], ◌∷◌, ◌++◌, Bool, true, false, ◌&&◌, nat_le, cond, length, Option, None, Some, Result, Ok, Err, IfOk, codes}
 use Rattle.std.proofs.lemmas.Bool.{and_parts}
 use Rattle.std.proofs.lemmas.Bool.Decides.{nat_tests}
 use Rattle.std.proofs.lemmas.List.Folds.{list_all-append}
 use Rattle.std.specs.List.{list_all}
 use Rattle.sb_call.specs.CallWords.{is_word}
 use Rattle.sb_schedule.proofs.Counts.{one_more}
+use Rattle.sb_schedule.proofs.Made.{step_made}
+use Rattle.sb_schedule.proofs.Passing.{made, ok_same, passed, was_there}
+use Rattle.sb_schedule.specs.Printing.{is_made}
 use Rattle.sb_schedule.specs.Actors.{actor_named, where_there, actor_of}
 use Rattle.sb_statements.specs.Actors.{is_there, is_step_there}
 use Rattle.sb_schedule.specs.Drafts.{Drafted, step_count, nothing, has_rounds, with_step, with_rounds, finished}
 use Rattle.sb_schedule.specs.Laws.{ActorsAreThere, StepsAreCounted, RoundsAreCounted}
+use Rattle.sb_schedule.specs.PrintingLaws.{ActorsMakeSteps}
 use Rattle.sb_schedule.specs.Limits.{most_steps, most_rounds}
 use Rattle.sb_schedule.specs.Lines.{within, no_more, count_at, step, rounds, line_by, line_with, line_of}
 use Rattle.sb_schedule.specs.ScheduleTexts.{ScheduleFault, schedule_version, add_line, grammar, reading}
 use Rattle.sb_schedule.specs.declared.faults.ScheduleKind.{ScheduleKind}
-use Rattle.sb_schedule.specs.declared.faults.ScheduleKind.TheVariants.{UnknownWord, UnknownActor, BadNumber, TooMany, NoRounds}
+use Rattle.sb_schedule.specs.declared.faults.ScheduleKind.TheVariants.{UnknownWord, UnknownActor, BadNumber, TooMany}
 use Rattle.sb_statements.specs.declared.schedules.Actor.{Actor}
 use Rattle.sb_statements.specs.declared.schedules.Schedule.{Schedule}
 use Rattle.sb_statements.specs.declared.scripts.TargetScript.{TargetScript}
@@ -24,24 +28,6 @@ use Rattle.sb_text.specs.Readings.{on_line, read_lines, read_below, read_by}
 use Rattle.sb_text.specs.Steps.{◌>>=◌, or_fault, Gives}
 use Rattle.sb_text.specs.declared.refusals.Refused.{Refused}
 use Rattle.sb_text.specs.Words.{words_of}
-
--- a step that was made, and what followed it
-pub made : {A B E : Type 0} (first : Result A E) (next : A → Result B E) (y : B) → (first >>= next) ≡ Ok y → (x : A) × (first ≡ Ok x) × (next x ≡ Ok y)
-made (Ok x) next y h = (x, refl, h)
-made (Err e) next y h = absurd cc
-
-pub ok_same : {A E : Type 0} (x y : A) → ◌≡◌ {A = Result A E} (Ok x) (Ok y) → x ≡ y
-ok_same x y h = cc
-
--- a test that was passed
-passed : {A E : Type 0} (b : Bool) (x y : A) (e : E) → cond b (Ok x) (Err e) ≡ Ok y → (b ≡ true) × (x ≡ y)
-passed true x y e h = (refl, ok_same x y h)
-passed false x y e h = absurd cc
-
--- a value that was there
-was_there : {A E : Type 0} (o : Option A) (x : A) (e : E) → or_fault e o ≡ Ok x → o ≡ Some x
-was_there (Some y) x e h = ap Some (ok_same y x h)
-was_there None x e h = absurd cc
 
 on_this : {A : Type 0} (line : ℕ) (read : Result A ScheduleKind) (x : A) → on_line line read ≡ Ok x → read ≡ Ok x
 on_this line (Ok y) x h = ap Ok (ok_same y x h)
@@ -86,6 +72,7 @@ rounds_most (word ∷ words) n h =
 -- what was read is within its bounds
 pub record IsBounded (targets : List TargetScript) (draft : Drafted) : Type 0 where
   pub there : list_all (is_step_there targets) draft.steps ≡ true
+  pub each : list_all is_made draft.steps ≡ true
   pub steps : step_count draft.steps ≤ most_steps
   pub rounds : (n : ℕ) → draft.rounds ≡ Some n → n ≤ most_rounds
 
@@ -93,14 +80,15 @@ both : (a b : Bool) → a ≡ true → b ≡ true → (a && (b && true)) ≡ tru
 both a b h k = rw (h) rw (k) refl
 
 with_step_bounded : (targets : List TargetScript) (draft new : Drafted) (s : Actor × ℕ) → IsBounded targets draft → is_step_there targets s ≡ true
-    → with_step draft s ≡ Ok new → IsBounded targets new
-with_step_bounded targets draft new s b t h =
+    → is_made s ≡ true → with_step draft s ≡ Ok new → IsBounded targets new
+with_step_bounded targets draft new s b t m h =
     let p = passed (nat_le (step_count draft.steps + s.1) most_steps) (record draft { steps = draft.steps ++ s ∷ [] }) new TooMany h in
     let few = p.0 in
     let sum = one_more draft.steps s in
     subst (IsBounded targets) p.1
     record {
       there = list_all-append (is_step_there targets) draft.steps (s ∷ []) ∙ both (list_all (is_step_there targets) draft.steps) (is_step_there targets s) b.there t;
+      each = list_all-append is_made draft.steps (s ∷ []) ∙ both (list_all is_made draft.steps) (is_made s) b.each m;
       steps = grind (arith, nat_tests, few, sum);
       rounds = b.rounds;
     }
@@ -113,11 +101,11 @@ line_by_bounded targets draft new first words b h = by_words (is_word (codes "st
     by_words : (p q : Bool) → cond p (step targets words >>= λ s. with_step draft s) (cond q (rounds words >>= λ n. Ok (with_rounds draft n)) (Err UnknownWord)) ≡ Ok new → IsBounded targets new
     by_words true q h =
         let s = made (step targets words) (λ s. with_step draft s) new h in
-        with_step_bounded targets draft new s.0 b (step_there targets words s.0 s.1) s.2
+        with_step_bounded targets draft new s.0 b (step_there targets words s.0 s.1) (step_made targets words s.0 s.1) s.2
     by_words false true h =
         let n = made (rounds words) (λ n. Ok (with_rounds draft n)) new h in
         subst (IsBounded targets) (ok_same (with_rounds draft n.0) new n.2)
-        record { there = b.there; steps = b.steps; rounds = λ m e. let same : n.0 ≡ m = cc in subst (λ k. k ≤ most_rounds) same (rounds_most words n.0 n.1) }
+        record { there = b.there; each = b.each; steps = b.steps; rounds = λ m e. let same : n.0 ≡ m = cc in subst (λ k. k ≤ most_rounds) same (rounds_most words n.0 n.1) }
     by_words false false h = absurd cc
 
 line_bounded : (targets : List TargetScript) (draft new : Drafted) (words : List (List ℕ)) → IsBounded targets draft → line_of targets draft words ≡ Ok new
@@ -145,11 +133,12 @@ by_bounded targets (first ∷ lines) draft h = by_version (schedule_version firs
   where
     by_version : (version : Option ℕ) → read_below (grammar targets) first.number version lines ≡ Ok draft → IsBounded targets draft
     by_version None h = absurd cc
-    by_version (Some version) h = lines_bounded targets nothing draft lines record { there = refl; steps = omega arith; rounds = λ n e. absurd cc } h
+    by_version (Some version) h = lines_bounded targets nothing draft lines record { there = refl; each = refl; steps = omega arith; rounds = λ n e. absurd cc } h
 
 -- what is within its bounds of a schedule that is read
 record IsRead (targets : List TargetScript) (schedule : Schedule) : Type 0 where
   there : list_all (is_step_there targets) schedule.steps ≡ true
+  each : list_all is_made schedule.steps ≡ true
   steps : step_count schedule.steps ≤ most_steps
   rounds : schedule.rounds ≤ most_rounds
 
@@ -157,17 +146,20 @@ is_read : (targets : List TargetScript) (text : List ℕ) (schedule : Schedule) 
 is_read targets text schedule h =
     let d = made (read_by (grammar targets) (lines_of text)) (λ draft. finished (length (raw_lines text)) draft) schedule h in
     let b = by_bounded targets (lines_of text) d.0 d.1 in
-    by_rounds d.0.steps d.0.rounds b.there b.steps b.rounds d.2
+    by_rounds d.0.steps d.0.rounds b.there b.each b.steps b.rounds d.2
   where
-    by_rounds : (steps : List (Actor × ℕ)) (rounds : Option ℕ) → list_all (is_step_there targets) steps ≡ true → step_count steps ≤ most_steps
+    by_rounds : (steps : List (Actor × ℕ)) (rounds : Option ℕ) → list_all (is_step_there targets) steps ≡ true → list_all is_made steps ≡ true → step_count steps ≤ most_steps
         → ((n : ℕ) → rounds ≡ Some n → n ≤ most_rounds)
         → finished (length (raw_lines text)) (record { steps = steps; rounds = rounds }) ≡ Ok schedule → IsRead targets schedule
-    by_rounds steps None t s r h = absurd cc
-    by_rounds steps (Some n) t s r h =
-        subst (IsRead targets) (ok_same (record { steps = steps; rounds = n }) schedule h) record { there = t; steps = s; rounds = r n refl }
+    by_rounds steps None t m s r h = absurd cc
+    by_rounds steps (Some n) t m s r h =
+        subst (IsRead targets) (ok_same (record { steps = steps; rounds = n }) schedule h) record { there = t; each = m; steps = s; rounds = r n refl }
 
 pub actors_are_there : ActorsAreThere
 actors_are_there targets text schedule h = (is_read targets text schedule h).there
+
+pub actors_make_steps : ActorsMakeSteps
+actors_make_steps targets text schedule h = (is_read targets text schedule h).each
 
 pub steps_are_counted : StepsAreCounted
 steps_are_counted targets text schedule h = (is_read targets text schedule h).steps

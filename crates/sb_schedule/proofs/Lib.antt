@@ -1,3 +1,9 @@
 pub mod Bounds
+pub mod Conjunctions
 pub mod Counts
+pub mod Made
+pub mod Passing
+pub mod Printed
+pub mod PrintedActors
+pub mod PrintedLines
 pub mod Texts

@@ -1,15 +1,14 @@
 -- Texts that begin with the same lines, and lines that are put in.
-use Rattle.std.proofs.Common.{◌≡◌, refl, sym, ap, ◌∙◌, ℕ, List, ◌++◌, Bool, true, false, length, Option, None, Some, Result, Ok, Err}
+use Rattle.std.proofs.Common.{◌≡◌, refl, sym, ap, ◌∙◌, ℕ, List, ◌++◌, true, false, length, Option, None, Some, Result, Ok, Err}
 use Rattle.std.proofs.lemmas.Bool.{false≢true}
 use Rattle.sb_schedule.specs.Drafts.{Drafted, finished}
 use Rattle.sb_schedule.specs.Laws.{is_known_last, FirstFaultsStay, SkippedLinesCountAlone}
 use Rattle.sb_schedule.specs.Lines.{line_of}
-use Rattle.sb_schedule.specs.ScheduleTexts.{ScheduleFault, grammar, reading}
+use Rattle.sb_schedule.specs.ScheduleTexts.{ScheduleFault, grammar}
 use Rattle.sb_schedule.specs.declared.faults.ScheduleKind.{ScheduleKind}
 use Rattle.sb_schedule.specs.declared.faults.ScheduleKind.TheVariants.{NoRounds}
 use Rattle.sb_statements.specs.declared.schedules.Actor.{Actor}
 use Rattle.sb_statements.specs.declared.schedules.Schedule.{Schedule}
-use Rattle.sb_statements.specs.declared.scripts.TargetScript.{TargetScript}
 use Rattle.sb_text.specs.LineLaws.{ended}
 use Rattle.sb_text.specs.Lines.{raw_lines, lines_of}
 use Rattle.sb_text.specs.ReadingLaws as laws

@@ -1,5 +1,5 @@
 -- What is true of all schedule texts.
-use Rattle.std.specs.Prelude.{◌≡◌, ◌≤◌, ℕ, Bool, true, false, List, ◌++◌, length, Result, Ok, Err}
+use Rattle.std.specs.Prelude.{◌≡◌, ◌≤◌, ℕ, Bool, true, false, List, ◌++◌, length, Ok, Err}
 use Rattle.std.specs.List.{list_all}
 use Rattle.sb_statements.specs.Actors.{is_step_there}
 use Rattle.sb_schedule.specs.Drafts.{step_count}

@@ -4,4 +4,6 @@ pub mod Kinds
 pub mod Laws
 pub mod Limits
 pub mod Lines
+pub mod Printing
+pub mod PrintingLaws
 pub mod ScheduleTexts

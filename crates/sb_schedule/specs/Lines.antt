@@ -1,5 +1,5 @@
 -- The lines of a schedule text below its first, as lists of words.
-use Rattle.std.specs.Prelude.{⊤, ℕ, ◌&&◌, nat_le, List, [], ◌∷◌, Option, None, Some, Result, Ok, Err, if◌then◌else◌, codes}
+use Rattle.std.specs.Prelude.{⊤, ℕ, ◌&&◌, nat_le, List, [], ◌∷◌, None, Some, Result, Ok, Err, if◌then◌else◌, codes}
 use Rattle.sb_call.specs.CallWords.{is_word}
 use Rattle.sb_schedule.specs.Actors.{actor_of}
 use Rattle.sb_schedule.specs.Drafts.{Drafted, has_rounds, with_step, with_rounds}

@@ -4,8 +4,8 @@ ghost use Rattle.std.specs.List.{list_all};
 ghost use Rattle.sb_statements.specs.Actors.{is_step_there};
 ghost use Rattle.sb_schedule.specs.Drafts.{nothing, step_count};
 ghost use Rattle.sb_schedule.specs.Limits.{most_steps, most_rounds};
-ghost use Rattle.sb_schedule.specs.ScheduleTexts.{is_version, add_line, grammar, reading};
-ghost use Rattle.sb_text.specs.Readings.{read_lines, read_by};
+ghost use Rattle.sb_schedule.specs.ScheduleTexts.{is_version, grammar, reading};
+ghost use Rattle.sb_schedule.specs.declared.faults.ScheduleKind.TheVariants.{UnknownWord};
 ghost use Rattle.sb_text.specs.Steps.{Gives};
 ghost use Rattle.sb_text.specs.Words.{words_of};
 
@@ -14,24 +14,8 @@ use crate::faults::{LineRefused, ScheduleKind, ScheduleRefused};
 use crate::laws::read_schedules_are_bounded;
 use crate::lines::line_of;
 use sb_statements::{Schedule, Script};
-use sb_text::{ByteLine, ByteLines, line_count, lines_are_read_in_turn};
+use sb_text::{ByteLine, ByteLines, TextGrammar, line_count, read_by};
 use std::alloc::Global;
-
-// What these lines say, below a first line.
-fn draft_from(alloc: Global, script: &Script, lines: ByteLines) -> Result<Draft, ScheduleRefused>
-    ensures { Gives (read_lines (add_line script.now.targets) nothing lines.entry) result }
-{
-    lines_are_read_in_turn::<Draft, ScheduleKind>();
-    let mut lines = lines;
-    let mut draft = Draft::new(alloc);
-    while let Some(line) = lines.next_line() {
-        match line_of(script, &mut draft, line.words()) {
-            Ok(()) => {}
-            Err(refused) => return Err(refused.on(line.number)),
-        }
-    }
-    Ok(draft)
-}
 
 // Whether a line is `sandbox-schedule 1`.
 fn is_version(line: &ByteLine) -> bool
@@ -49,18 +33,43 @@ fn is_version(line: &ByteLine) -> bool
     }
 }
 
-// What the lines with words say.
-fn draft_of(alloc: Global, script: &Script, lines: ByteLines) -> Result<Draft, ScheduleRefused>
-    ensures { Gives (read_by (grammar script.now.targets) lines.entry) result }
-{
-    let mut lines = lines;
-    let Some(first) = lines.next_line() else {
-        return Err(LineRefused::Fault(ScheduleKind::UnknownWord).on(1));
-    };
-    if is_version(&first) {
-        draft_from(alloc, script, lines)
-    } else {
-        Err(LineRefused::Fault(ScheduleKind::UnknownWord).on(first.number))
+// Schedule texts, for the actors of a script.
+#[derive(Drop)]
+struct ScheduleGrammar<'a> {
+    alloc: Global,
+    script: &'a Script,
+}
+
+impl<'a, 'b> TextGrammar<ByteLines<'b>> for ScheduleGrammar<'a> {
+    type Draft = Draft;
+
+    type Kind = ScheduleKind;
+
+    ghost grammar = { λ texts. grammar texts.script.now.targets };
+
+    fn version(&self, line: &ByteLine<'b>) -> Option<u32> {
+        if is_version(line) { Some(1) } else { None }
+    }
+
+    fn no_version(&self) -> ScheduleKind
+        ensures { result ≡ UnknownWord }
+    {
+        ScheduleKind::UnknownWord
+    }
+
+    fn start(&self) -> Draft
+        ensures { result ≡ nothing }
+    {
+        Draft::new(self.alloc)
+    }
+
+    fn add(
+        &self,
+        _version: u32,
+        draft: &mut Draft,
+        line: &ByteLine<'b>,
+    ) -> Result<(), LineRefused> {
+        line_of(self.script, draft, line.words())
     }
 }
 
@@ -85,6 +94,6 @@ pub fn read_schedule(
     ensures rounds { IfOk result (λ s. s.rounds ≤ most_rounds) }
 {
     read_schedules_are_bounded();
-    let draft = draft_of(alloc, script, ByteLines::new(text))?;
+    let draft = read_by(&ScheduleGrammar { alloc, script }, ByteLines::new(text))?;
     draft.finished(line_count(text))
 }

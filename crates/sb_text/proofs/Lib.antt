@@ -9,3 +9,4 @@ pub mod Utf8Laws
 pub mod Values
 pub mod WordLemmas
 mod ReadingLaws
+pub mod PlainLines

@@ -1,5 +1,5 @@
 -- The lines of a text, cut at its first LF.
-use Rattle.std.proofs.Common.{nat_lt, ◌≡◌, ◌∙◌, ap, refl, sym, subst, suc, not, ◌-◌, ◌≤◌, Bool, true, false, cond, ℕ, ◌+◌, ◌<◌, ◌==◌, List, [], ◌∷◌, length, take, drop, get_or, arith}
+use Rattle.std.proofs.Common.{nat_lt, ◌≡◌, ◌∙◌, ap, refl, sym, subst, suc, not, Bool, true, false, cond, ℕ, ◌+◌, ◌<◌, ◌==◌, List, [], ◌∷◌, length, take, drop, get_or, arith}
 use Rattle.std.proofs.lemmas.List.{length-drop, length-take-le}
 use Rattle.sb_text.proofs.LineLaws.{lines_some}
 use Rattle.std.proofs.lemmas.Grind.{common_steps}

@@ -1,30 +1,46 @@
 -- The laws of texts that are read line by line.
-use Rattle.std.proofs.Common.{◌≡◌, refl, sym, ap, ◌∙◌, ℕ, ◌+◌, ◌<◌, ◌≤◌, List, [], ◌∷◌, ◌++◌, append-nil, Bool, true, false, ◌&&◌, nat_le, nat_lt, cond, length, map, Option, None, Some, Result, Ok, Err, arith}
+use Rattle.std.proofs.Common.{◌≡◌, refl, sym, ap, subst, ◌∙◌, ℕ, ◌+◌, ◌<◌, List, [], ◌∷◌, ◌++◌, append-nil, Bool, true, false, ◌&&◌, nat_le, nat_lt, cond, length, map, Option, None, Some, Result, Ok, Err, arith}
 use Rattle.std.proofs.lemmas.Bool.{false≢true}
 use Rattle.std.proofs.lemmas.Bool.Decides.{nat_tests}
+use Rattle.std.specs.Bool.{⊤}
 use Rattle.std.specs.List.{list_all}
 use Rattle.sb_text.proofs.Conjunctions.{both, and_true}
 use Rattle.sb_text.proofs.LineLaws.{append, saying_append, within, within_from, written_lines}
 use Rattle.sb_text.specs.LineLaws.{ended, is_line}
 use Rattle.sb_text.specs.Lines.{NumberedLine, raw_lines, lines_from, lines_of, is_skipped, without_cr}
-use Rattle.sb_text.specs.ReadingLaws.{NoLineAddsNothing, FirstLineAdds, FirstLineIsRefused, FirstFaultsStay, LinesBeforeAreRead, MovesWith, SkippedLinesCountAlone}
-use Rattle.sb_text.specs.Readings.{Grammar, on_line, read_lines, read_below, read_by, is_some_line, renumbered_line, renumbered, behind}
-use Rattle.sb_text.specs.Steps.{◌>>=◌, on_value}
+use Rattle.sb_text.specs.ReadingLaws.{FirstFaultsStay, LinesBeforeAreRead, MovesWith, SkippedLinesCountAlone}
+use Rattle.sb_text.specs.Readings.{Grammar, on_line, refused_on, read_lines, read_below, read_by, is_some_line, renumbered_line, renumbered, behind}
+use Rattle.sb_text.specs.Steps.{◌>>=◌, on_value, Gives, Becomes}
 use Rattle.sb_text.specs.declared.refusals.LineFault.{LineFault}
+use Rattle.sb_text.specs.declared.refusals.Refused.{Refused}
 use Rattle.sb_text.specs.declared.refusals.Refused.TheVariants.{Fault, NoMemory}
 
-pub no_line : {D K : Type 0} → NoLineAddsNothing D K
+-- where no line is left, what was read so far is all
+pub no_line : {D K : Type 0} (add : D → NumberedLine → Result D K) (sofar : D) → read_lines add sofar [] ≡ Ok sofar
 unfolding read_lines
 no_line add sofar = refl
 
-pub first_adds : {D K : Type 0} → FirstLineAdds D K
+-- behind a first line that adds to it the others are read
+pub added_in_turn : {D K : Type 0} (add : D → NumberedLine → Result D K) (sofar more : D) (line : NumberedLine) (lines : List NumberedLine)
+    → add sofar line ≡ Ok more → read_lines add sofar (line ∷ lines) ≡ read_lines add more lines
 unfolding read_lines
-first_adds add sofar more line lines h = rw (h) refl
+added_in_turn add sofar more line lines h = rw (h) refl
 
-pub first_refused : {D K : Type 0} → FirstLineIsRefused D K
+first_refused : {D K : Type 0} (add : D → NumberedLine → Result D K) (sofar new : D) (line : NumberedLine) (lines : List NumberedLine) (why : Refused K)
+    → Becomes {A = ⊤} (add sofar line) (Err why) new → Gives {A = D} (read_lines add sofar (line ∷ lines)) (Err (refused_on line.number why))
 unfolding read_lines
 first_refused add sofar new line lines (Fault kind) h = rw (h) refl
 first_refused add sofar new line lines NoMemory h = tt
+
+-- and why the first line of those that are left is refused is why all lines are
+pub refused_in_turn : {D K : Type 0} (add : D → NumberedLine → Result D K) (start sofar new : D) (all left : List NumberedLine) (line : NumberedLine)
+    (lines : List NumberedLine) (n : ℕ) (why : Refused K) (met : Refused (LineFault K)) → read_lines add sofar left ≡ read_lines add start all
+    → left ≡ line ∷ lines → Becomes {A = ⊤} (add sofar line) (Err why) new → n ≡ line.number → met ≡ refused_on n why
+    → Gives {A = D} (read_lines add start all) (Err met)
+refused_in_turn add start sofar new all left line lines n why met whole first h number here =
+    let refused = first_refused add sofar new line lines why h in
+    subst (λ met. Gives (read_lines add start all) (Err met)) (ap (λ n. refused_on n why) (sym number) ∙ sym here)
+    (subst (λ (read : Result _ (LineFault _)). Gives read (Err (refused_on line.number why))) (ap (read_lines add sofar) (sym first) ∙ whole) refused)
 
 nested : {D K : Type 0} (add : D → NumberedLine → Result D K) (xs ys : List NumberedLine) (first : Result D (LineFault K))
     → ((more : D) → read_lines add more (xs ++ ys) ≡ (read_lines add more xs >>= λ more. read_lines add more ys))

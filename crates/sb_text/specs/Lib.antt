@@ -10,3 +10,4 @@ pub mod TokenLaws
 pub mod NumberLaws
 pub mod Utf8Laws
 pub mod ReadingLaws
+pub mod PlainLines

@@ -1,5 +1,5 @@
 -- The lines of a text.
-use Rattle.std.specs.Prelude.{ℕ, ◌+◌, ◌-◌, Bool, true, false, ◌||◌, ◌&&◌, List, [], ◌∷◌, length, take, slice_index, nat_lt, ◌==◌, if◌then◌else◌}
+use Rattle.std.specs.Prelude.{ℕ, ◌+◌, ◌-◌, Bool, true, ◌||◌, ◌&&◌, List, [], ◌∷◌, length, take, slice_index, nat_lt, ◌==◌, if◌then◌else◌}
 use Rattle.std.specs.List.{onto_first}
 
 -- the bytes between LFs: a line for each LF, and one more where bytes follow the last LF

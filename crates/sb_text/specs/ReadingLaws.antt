@@ -1,25 +1,10 @@
 -- What is true of all texts that are read line by line.
-use Rattle.std.specs.Prelude.{◌≡◌, ⊤, ℕ, ◌≤◌, ◌<◌, true, List, [], ◌∷◌, ◌++◌, length, Result, Ok, Err}
+use Rattle.std.specs.Prelude.{◌≡◌, ℕ, ◌≤◌, ◌<◌, true, List, ◌++◌, length, Ok, Err}
 use Rattle.sb_text.specs.LineLaws.{ended, is_line}
 use Rattle.sb_text.specs.Lines.{NumberedLine, raw_lines, lines_of, is_skipped, without_cr}
-use Rattle.sb_text.specs.Readings.{Grammar, refused_on, read_lines, read_by, is_some_line, renumbered_line, renumbered, behind}
-use Rattle.sb_text.specs.Steps.{on_value, Gives, Becomes}
+use Rattle.sb_text.specs.Readings.{Grammar, read_by, is_some_line, renumbered_line, renumbered, behind}
+use Rattle.sb_text.specs.Steps.{on_value}
 use Rattle.sb_text.specs.declared.refusals.LineFault.{LineFault}
-use Rattle.sb_text.specs.declared.refusals.Refused.{Refused}
-
--- lines are read one after another: where none is left, what was read so far is all
-abbrev pub NoLineAddsNothing : Type 0 → Type 0 → Type 0
-NoLineAddsNothing D K = (add : D → NumberedLine → Result D K) (sofar : D) → read_lines add sofar [] ≡ Ok sofar
-
--- behind a first line that adds to it the others are read
-abbrev pub FirstLineAdds : Type 0 → Type 0 → Type 0
-FirstLineAdds D K = (add : D → NumberedLine → Result D K) (sofar more : D) (line : NumberedLine) (lines : List NumberedLine)
-    → add sofar line ≡ Ok more → read_lines add sofar (line ∷ lines) ≡ read_lines add more lines
-
--- and why the first line is refused is why all are
-abbrev pub FirstLineIsRefused : Type 0 → Type 0 → Type 0
-FirstLineIsRefused D K = (add : D → NumberedLine → Result D K) (sofar new : D) (line : NumberedLine) (lines : List NumberedLine) (why : Refused K)
-    → Becomes {A = ⊤} (add sofar line) (Err why) new → Gives {A = D} (read_lines add sofar (line ∷ lines)) (Err (refused_on line.number why))
 
 -- a fault on one of the first lines of a text, some of which have tokens, is that of each text that begins with these lines
 abbrev pub FirstFaultsStay : Type 0 → Type 0 → Type 0

@@ -1,7 +1,8 @@
 -- The tokens of a line. The laws in TokenLaws say what they are without the scan, and may be read first: WrittenTokensAreRead and
 -- TokensAreFound (tokens and lines as they are written), BrokenTokensAreBad (what breaks the rules), FirstTokenSkips (comments).
 use Rattle.std.specs.Prelude.{ℕ, List, [], ◌∷◌, ◌++◌, ◌==◌, nat_lt, Option, None, Some, if◌then◌else◌}
-use Rattle.std.specs.Str.{chars}
+use Rattle.std.specs.Char.Utf16.{utf16_lossy_chars}
+use Rattle.std.specs.Str.{chars, encode_utf8_all}
 use Rattle.sb_wide.specs.Wide.{utf16_of}
 use Rattle.sb_text.specs.Lines.{is_blank}
 use Rattle.sb_text.specs.declared.tokens.Token.{Token}
@@ -58,3 +59,7 @@ at_hand (Some token) tokens = lexeme_of token ∷ tokens
 -- the wide string that a quoted token means: the UTF-16 units of its characters, without escapes
 abbrev pub string_of : List ℕ → List ℕ
 string_of quoted = utf16_of (chars quoted)
+
+-- the UTF-8 of the characters that units spell: what is written of a wide string between quotes
+abbrev pub utf8_of : List ℕ → List ℕ
+utf8_of units = encode_utf8_all (utf16_lossy_chars units)

@@ -1,9 +1,10 @@
 // Laws of the definitions.
-ghost use Rattle.sb_text.specs.ReadingLaws.{NoLineAddsNothing, FirstLineAdds, FirstLineIsRefused, FirstFaultsStay, LinesBeforeAreRead, SkippedLinesCountAlone};
+ghost use Rattle.sb_text.specs.ReadingLaws.{FirstFaultsStay, LinesBeforeAreRead, SkippedLinesCountAlone};
 ghost use Rattle.sb_text.specs.LineLaws.{WrittenRawLinesAreRead, RawLinesAreLines, WrittenLinesAreRead, LinesHoldNoLf, RawLinesJoin, LinesAreCounted, LinesAppend, SayingLinesAppend, NumbersAreWithin, OneCrIsDropped, OtherEndsAreKept};
 ghost use Rattle.sb_text.specs.Utf8Laws.{NotUtf8LineTells};
 ghost use Rattle.sb_text.specs.TokenLaws.{TokenIsReadBeforeBlank, BrokenTokensAreBad, WrittenTokensAreRead, TokensAreFound, BlanksAreNothing, PlainLinesHaveWords, SayingLinesHaveTokens, FirstTokenSkips, QuotedTokensAreText};
 ghost use Rattle.sb_text.specs.NumberLaws.{DecimalsAreRead, HexadecimalsAreRead};
+ghost use Rattle.sb_text.specs.PlainLines.{PlainLinesAreUtf8, PlainLinesAreRead, PlainTokensAreRead, PlainWordsAreRead};
 
 /// Lines written one after another, each with an LF, are read back.
 pub fn written_lines_are_read()
@@ -97,6 +98,16 @@ pub fn plain_lines_have_words()
     ensures { PlainLinesHaveWords }
 {}
 
+/// Lines of plain tokens, the first of which is a word, with one space between each two: their text is UTF-8 and has these lines,
+/// and each line has these tokens. A line of plain words has these words.
+#[tactic(auto, using(crate::proofs::PlainLines::lines_utf8, crate::proofs::PlainLines::lines_back, crate::proofs::PlainLines::tokens_back, crate::proofs::PlainLines::words_back))]
+pub fn plain_lines_are_read()
+    ensures utf8 { PlainLinesAreUtf8 }
+    ensures lines { PlainLinesAreRead }
+    ensures tokens { PlainTokensAreRead }
+    ensures words { PlainWordsAreRead }
+{}
+
 /// The decimal digits of a number are read as that number.
 pub fn decimals_are_read()
     ensures { DecimalsAreRead }
@@ -121,14 +132,6 @@ pub fn other_ends_are_kept()
 /// number of LF in their longest front that is.
 pub fn not_utf8_line_tells()
     ensures { NotUtf8LineTells }
-{}
-
-/// Lines are read one after another, up to the first that is refused.
-#[tactic(auto, using(crate::proofs::ReadingLaws::no_line, crate::proofs::ReadingLaws::first_adds, crate::proofs::ReadingLaws::first_refused))]
-pub fn lines_are_read_in_turn<D, K>()
-    ensures end { NoLineAddsNothing D K }
-    ensures more { FirstLineAdds D K }
-    ensures refused { FirstLineIsRefused D K }
 {}
 
 /// A fault on one of the first lines of a text, some of which have tokens, is that of each text that begins with these

@@ -7,23 +7,27 @@ mod blanks;
 mod byte_lines;
 mod cuts;
 mod first_tokens;
+mod grammars;
 mod laws;
 mod lines;
 mod numbers;
 mod raw_lines;
+mod reading;
 mod refusals;
 mod steps;
+mod text_lines;
 mod tokens;
 mod utf8;
 mod words;
 
 pub use byte_lines::{ByteLine, ByteLines};
 pub use cuts::line_count;
+pub use grammars::TextGrammar;
 pub use laws::{
     blanks_are_nothing, broken_tokens_are_bad, decimals_are_read, first_faults_stay,
     first_token_skips, hexadecimals_are_read, lines_append, lines_are_counted,
-    lines_are_read_in_turn, lines_before_are_read, lines_hold_no_lf, not_utf8_line_tells,
-    numbers_are_within, one_cr_is_dropped, other_ends_are_kept, plain_lines_have_words,
+    lines_before_are_read, lines_hold_no_lf, not_utf8_line_tells, numbers_are_within,
+    one_cr_is_dropped, other_ends_are_kept, plain_lines_are_read, plain_lines_have_words,
     quoted_tokens_are_text, raw_lines_are_lines, raw_lines_join, saying_lines_append,
     saying_lines_have_tokens, skipped_lines_count_alone, token_is_read_before_blank,
     tokens_are_found, written_lines_are_read, written_raw_lines_are_read, written_tokens_are_read,
@@ -31,8 +35,10 @@ pub use laws::{
 pub use lines::{Line, Lines};
 pub use numbers::{decimal_of, number_of};
 pub use raw_lines::{RawLine, RawLines};
+pub use reading::{read_by, read_text};
 pub use refusals::{LineFault, Refused};
 pub use steps::{end_at, or_fault, quoted_at, word_at};
+pub use text_lines::TextLines;
 pub use tokens::{Token, Tokens};
 pub use utf8::{NotUtf8, string_of, text_of};
 pub use words::Words;

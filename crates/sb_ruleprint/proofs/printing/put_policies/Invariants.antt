@@ -1,6 +1,7 @@
 use Rattle.std.proofs.Common.{◌≡◌, true, ◌++◌, take}
 use Rattle.std.specs.List.{flat_map, list_all}
-use Rattle.sb_ruleprint.specs.Printing.{line_text, policy_lines}
+use Rattle.sb_ruleprint.specs.Printing.{policy_lines}
+use Rattle.sb_text.specs.PlainLines.{line_text}
 use Rattle.sb_ruleprint.specs.Values.{is_policy_of_values}
 use Rattle.sb_ruleprint.proofs.printing.put_policies.Given as goal
 

@@ -1,6 +1,7 @@
 use Rattle.std.proofs.Common.{◌≡◌, true, ◌++◌, take, map}
 use Rattle.std.specs.List.{flat_map, list_all}
-use Rattle.sb_ruleprint.specs.Printing.{line_text, rule_tokens}
+use Rattle.sb_ruleprint.specs.Printing.{rule_tokens}
+use Rattle.sb_text.specs.PlainLines.{line_text}
 use Rattle.sb_ruleprint.specs.Values.{is_rule_of_values}
 use Rattle.sb_ruleprint.proofs.printing.put_rules.Given as goal
 

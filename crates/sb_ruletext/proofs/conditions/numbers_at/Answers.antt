@@ -4,8 +4,8 @@ use Rattle.sb_ruletext.specs.Conditions.{number_at, numbers_at}
 use Rattle.sb_ruletext.proofs.Joined.{joined_refused, joined_after}
 use Rattle.sb_ruletext.proofs.conditions.numbers_at.Goals as goal
 
-pub returns-in_err-number_at-clause-read : goal.returns-in_err-number_at-clause-read
-returns-in_err-number_at-clause-read c =
+pub returns-in_err-number_at : goal.returns-in_err-number_at
+returns-in_err-number_at c =
     let p = err_from_is_err_and c.from_residual.result c.from_residual.ensures.1 in
     let few : length c.loop-numbers.numbers < 16 = omega (arith, c.len.ensures, c.loop-numbers-test.true) in
     let read = c.in_err-number_at.ensures in

@@ -5,8 +5,12 @@ pub returns : goal.returns
 returns c =
     printed_read (record {
       utf8 = c.not_utf8_line_tells.ensures;
-      lines = c.written_lines_are_read.ensures;
-      tokens = c.written_tokens_are_read.ensures;
-      numbers = c.hexadecimals_are_read.ensures;
-      patterns = λ cells h. (c.texts_and_patterns.ensures.patterns cells).0 h;
+      plain = c.plain_lines_are_read.ensures.utf8;
+      lines = c.plain_lines_are_read.ensures.lines;
+      tokens = c.plain_lines_are_read.ensures.tokens;
+      texts = record {
+        numbers = c.hexadecimals_are_read.ensures;
+        strings = c.quoted_strings_are_read.ensures.written;
+        patterns = λ cells h. (c.texts_and_patterns.ensures.patterns cells).0 h;
+      };
     })

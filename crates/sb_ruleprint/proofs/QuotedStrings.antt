@@ -1,17 +1,17 @@
 -- What stands between quotes is text.
 use Rattle.std.proofs.Common.{◌≡◌, refl, sym, ap, subst, ◌∙◌, arith, ℕ, ◌+◌, ◌-◌, ◌/◌, ◌%◌, ◌<◌, ◌≤◌, ◌⊎◌, ⊎_elim, List, [], ◌∷◌, ◌++◌, true, false, not, cond, ◌&&◌, ◌||◌, nat_lt}
 use Rattle.std.proofs.Math.Utf8.{scalar, scalars, scalar_cases, encode, encodes}
-use Rattle.std.proofs.lemmas.Bool.{cases_lt}
+use Rattle.std.proofs.lemmas.Bool.{and_parts, cases_lt}
 use Rattle.std.proofs.lemmas.Bool.Decides.{nat_tests}
 use Rattle.std.proofs.lemmas.List.Folds.{list_all-append}
 use Rattle.std.proofs.lemmas.Str.{encode_ascii, chars-encodes}
 use Rattle.std.specs.Char.Escape.{encode_utf16}
 use Rattle.std.specs.List.{list_all}
-use Rattle.std.specs.Str.{IsUtf8, chars}
-use Rattle.sb_ruletext.proofs.Conjunctions.{both, and_true}
+use Rattle.std.specs.Str.{chars}
+use Rattle.sb_ruleprint.proofs.WrittenStrings.{and_true}
+use Rattle.sb_ruleprint.specs.Strings.{QuotedStringsAreText}
 use Rattle.sb_rule.specs.WellMade.{is_high, is_low, is_surrogate, is_paired, is_text_unit}
 use Rattle.sb_text.specs.TokenLaws.{is_quoted_byte}
-use Rattle.sb_text.specs.Tokens.{string_of}
 use Rattle.sb_wide.specs.Wide.{utf16_of}
 
 one_unit : (c : ℕ) → c < 65536 → encode_utf16 c ≡ c ∷ []
@@ -73,14 +73,13 @@ text : (cs : List ℕ) → scalars cs ≡ true → list_all is_quoted_byte (enco
 text [] s h = (refl, refl)
 text (c ∷ cs) s h =
     let split : (list_all is_quoted_byte (encode c) && list_all is_quoted_byte (encodes cs)) ≡ true = sym (list_all-append is_quoted_byte (encode c) (encodes cs)) ∙ h in
-    let later = text cs (both (scalar c) (scalars cs) s).1 (both _ _ split).1 in (
-      list_all-append is_text_unit (encode_utf16 c) (utf16_of cs) ∙ and_true _ _ (char_text c (both (scalar c) (scalars cs) s).0 (both _ _ split).0) later.0,
-      paired c (utf16_of cs) (both (scalar c) (scalars cs) s).0 later.1,
+    let later = text cs (and_parts (scalar c) (scalars cs) s).1 (and_parts _ _ split).1 in (
+      list_all-append is_text_unit (encode_utf16 c) (utf16_of cs) ∙ and_true _ _ (char_text c (and_parts (scalar c) (scalars cs) s).0 (and_parts _ _ split).0) later.0,
+      paired c (utf16_of cs) (and_parts (scalar c) (scalars cs) s).0 later.1,
     )
 
 -- the string that stands between two quotes is text, with no surrogate alone
-pub quoted_is_text : (q : List ℕ) → IsUtf8 q → list_all is_quoted_byte q ≡ true
-    → (list_all is_text_unit (string_of q) ≡ true) × (is_paired (string_of q) ≡ true)
+pub quoted_is_text : QuotedStringsAreText
 quoted_is_text q u h =
     let cs_is : u.0 ≡ chars q = sym (chars-encodes u.0 u.1.0) ∙ ap chars u.1.1 in
     subst (λ cs. (list_all is_text_unit (utf16_of cs) ≡ true) × (is_paired (utf16_of cs) ≡ true)) cs_is

@@ -7,33 +7,24 @@ use Rattle.std.proofs.lemmas.List.Folds.{list_all-append}
 use Rattle.std.proofs.lemmas.Str.{IsUtf8-append, IsUtf8-nil, IsUtf8-from_ascii, IsUtf8-from_is_utf8}
 use Rattle.std.proofs.lemmas.Str.Ascii.{IsAscii-nil, IsAscii-cons}
 use Rattle.std.specs.List.{flat_map, list_all}
-use Rattle.std.specs.Str.{IsUtf8, IsAscii, is_utf8}
-use Rattle.sb_text.specs.LineLaws.{is_line_byte, is_line, ended, WrittenLinesAreRead}
-use Rattle.sb_text.specs.Lines.{NumberedLine, is_blank, is_skipped, has_cr, without_cr, lines_from, lines_of}
-use Rattle.sb_text.specs.TokenLaws.{is_word_byte, is_quoted_byte, is_writable, written_token, written_line, WrittenTokensAreRead}
-use Rattle.sb_text.specs.Tokens.{Lexeme, Word, Quoted, Bad, tokens_of}
-use Rattle.sb_text.specs.Words.{is_some_word}
-use Rattle.sb_ruleprint.specs.Printing.{spaced, line_text}
-use Rattle.sb_ruletext.proofs.Conjunctions.{both, and_true}
+use Rattle.std.specs.Str.{IsUtf8, IsAscii}
+use Rattle.sb_text.proofs.LineLaws.{written_lines}
+use Rattle.sb_text.proofs.TokenLaws.{plain, written}
+use Rattle.sb_text.specs.LineLaws.{is_line_byte, is_line, ended}
+use Rattle.sb_text.specs.Lines.{is_blank, is_skipped, has_cr, without_cr, lines_from, lines_of}
+use Rattle.sb_text.specs.PlainLines.{is_plain_byte, is_plain, is_plain_line, line_text, numbered, PlainLinesAreUtf8, PlainLinesAreRead, PlainTokensAreRead, PlainWordsAreRead}
+use Rattle.sb_text.specs.TokenLaws.{is_word_byte, is_quoted_byte, is_writable, written_token, written_line}
+use Rattle.sb_text.specs.Tokens.{Lexeme, Word, Quoted, Bad}
+use Rattle.sb_text.specs.Words.{words_of}
+use Rattle.sb_text.proofs.Conjunctions.{both, and_true}
 
--- printable ASCII behind `#`
-abbrev pub is_plain_byte : ℕ → Bool
-is_plain_byte b = nat_le 36 b && nat_le b 126
-
--- a word of such bytes, or a string between quotes
-abbrev pub is_plain : Lexeme → Bool
-is_plain (Word w) = is_some_word w && list_all is_plain_byte w
-is_plain (Quoted q) = list_all is_quoted_byte q && is_utf8 q
-is_plain Bad = false
-
--- a line of plain tokens, the first of which is a word
-abbrev pub is_plain_line : List Lexeme → Bool
-is_plain_line (Word w ∷ tokens) = list_all is_plain (Word w ∷ tokens)
-is_plain_line _ = false
-
-pub all_more : {A : Type 0} (p q : A → Bool) → ((x : A) → p x ≡ true → q x ≡ true) → (xs : List A) → list_all p xs ≡ true → list_all q xs ≡ true
+all_more : {A : Type 0} (p q : A → Bool) → ((x : A) → p x ≡ true → q x ≡ true) → (xs : List A) → list_all p xs ≡ true → list_all q xs ≡ true
 all_more p q f [] h = refl
 all_more p q f (x ∷ xs) h = and_true _ _ (f x (both _ _ h).0) (all_more p q f xs (both _ _ h).1)
+
+-- tokens with a space before each
+abbrev spaced : List Lexeme → List ℕ
+spaced tokens = flat_map (λ token. 32 ∷ written_token token) tokens
 
 -- a line of tokens is its first token, and a space before each other
 spaced_line : (token : Lexeme) (more : List Lexeme) → written_line (token ∷ more) ≡ written_token token ++ spaced more
@@ -150,7 +141,7 @@ tokens_utf8 (token ∷ next ∷ tokens) h =
     (IsUtf8-append (32 ∷ []) (written_line (next ∷ tokens)) (byte_utf8 32 (omega arith)) (tokens_utf8 (next ∷ tokens) (both _ _ h).1))
 
 -- lines of plain tokens are UTF-8
-pub lines_utf8 : (lines : List (List Lexeme)) → list_all is_plain_line lines ≡ true → IsUtf8 (flat_map line_text lines)
+pub lines_utf8 : PlainLinesAreUtf8
 lines_utf8 [] h = IsUtf8-nil
 lines_utf8 (tokens ∷ lines) h =
     IsUtf8-append (line_text tokens) (flat_map line_text lines)
@@ -158,11 +149,6 @@ lines_utf8 (tokens ∷ lines) h =
     (lines_utf8 lines (both _ _ h).1)
 
 -- the lines, numbered
-
--- the lines of these tokens, the first of which has number n
-abbrev pub numbered : ℕ → List (List Lexeme) → List NumberedLine
-numbered n [] = []
-numbered n (tokens ∷ lines) = record { number = n; text = written_line tokens } ∷ numbered (n + 1) lines
 
 flat_as_map : (lines : List (List Lexeme)) → flat_map line_text lines ≡ flat_map ended (map written_line lines)
 flat_as_map [] = refl
@@ -173,12 +159,12 @@ are_lines [] h = refl
 are_lines (tokens ∷ lines) h =
     and_true _ _ (all_more is_text_byte is_line_byte line_byte (written_line tokens) (tokens_text tokens (plain_tokens tokens (both _ _ h).0))) (are_lines lines (both _ _ h).1)
 
-numbered_from : (n : ℕ) (lines : List (List Lexeme)) → list_all is_plain_line lines ≡ true → lines_from n (map written_line lines) ≡ numbered n lines
-numbered_from n [] h = refl
-numbered_from n (tokens ∷ lines) h =
+numbered_lines : (n : ℕ) (lines : List (List Lexeme)) → list_all is_plain_line lines ≡ true → lines_from n (map written_line lines) ≡ numbered n lines
+numbered_lines n [] h = refl
+numbered_lines n (tokens ∷ lines) h =
     let plain = (both _ _ h).0 in
     let whole : without_cr (written_line tokens) ≡ written_line tokens = no_end (written_line tokens) (tokens_text tokens (plain_tokens tokens plain)) in
-    kept (without_cr (written_line tokens)) whole (ap is_skipped whole ∙ not_skipped tokens plain) (numbered_from (n + 1) lines (both _ _ h).1)
+    kept (without_cr (written_line tokens)) whole (ap is_skipped whole ∙ not_skipped tokens plain) (numbered_lines (n + 1) lines (both _ _ h).1)
   where
     kept : (line : List ℕ) → line ≡ written_line tokens → is_skipped line ≡ false → lines_from (n + 1) (map written_line lines) ≡ numbered (n + 1) lines
         → cond (is_skipped line) (lines_from (n + 1) (map written_line lines)) (record { number = n; text = line } ∷ lines_from (n + 1) (map written_line lines))
@@ -186,10 +172,40 @@ numbered_from n (tokens ∷ lines) h =
     kept line e s f = rw (s) ((λ i. record { number = n; text = e i } ∷ f i))
 
 -- the text of plain lines has these lines
-pub lines_back : WrittenLinesAreRead → (lines : List (List Lexeme)) → list_all is_plain_line lines ≡ true → lines_of (flat_map line_text lines) ≡ numbered 1 lines
-lines_back law lines h =
-    ap lines_of (flat_as_map lines) ∙ ap (lines_from 1) (law (map written_line lines) (are_lines lines h)) ∙ numbered_from 1 lines h
+pub lines_back : PlainLinesAreRead
+lines_back lines h =
+    ap lines_of (flat_as_map lines) ∙ ap (lines_from 1) (written_lines (map written_line lines) (are_lines lines h)) ∙ numbered_lines 1 lines h
 
 -- a plain line has these tokens
-pub tokens_back : WrittenTokensAreRead → (tokens : List Lexeme) → is_plain_line tokens ≡ true → tokens_of (written_line tokens) ≡ tokens
-tokens_back law tokens h = law tokens (all_more is_plain is_writable writable tokens (plain_tokens tokens h))
+pub tokens_back : PlainTokensAreRead
+tokens_back tokens h = written tokens (all_more is_plain is_writable writable tokens (plain_tokens tokens h))
+
+-- the words of a line
+
+-- the bytes of a token
+abbrev bytes_of : Lexeme → List ℕ
+bytes_of (Word w) = w
+bytes_of (Quoted q) = q
+bytes_of Bad = []
+
+bytes_back : (words : List (List ℕ)) → map bytes_of (map Word words) ≡ words
+bytes_back [] = refl
+bytes_back (w ∷ words) = ap (λ rest. w ∷ rest) (bytes_back words)
+
+no_quote : (b : ℕ) → is_plain_byte b ≡ true → not (b == 34) ≡ true
+no_quote b h = grind (arith, nat_tests)
+
+unquoted : (words : List (List ℕ)) → list_all is_plain (map Word words) ≡ true → list_all (λ b. not (b == 34)) (written_line (map Word words)) ≡ true
+unquoted [] h = refl
+unquoted (w ∷ []) h = all_more is_plain_byte (λ b. not (b == 34)) no_quote w (both _ _ (both _ _ h).0).1
+unquoted (w ∷ next ∷ words) h =
+    list_all-append (λ b. not (b == 34)) w (32 ∷ written_line (map Word (next ∷ words)))
+    ∙ and_true _ _ (all_more is_plain_byte (λ b. not (b == 34)) no_quote w (both _ _ (both _ _ h).0).1) (unquoted (next ∷ words) (both _ _ h).1)
+
+-- a line of plain words has these words
+pub words_back : PlainWordsAreRead
+words_back words h =
+    let line = written_line (map Word words) in
+    sym (bytes_back (words_of line))
+    ∙ ap (λ (tokens : List Lexeme). map bytes_of tokens) (sym (plain line (unquoted words (plain_tokens (map Word words) h))) ∙ tokens_back (map Word words) h)
+    ∙ bytes_back words

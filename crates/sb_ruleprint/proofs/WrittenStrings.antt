@@ -1,7 +1,7 @@
--- The string of the text that is printed between quotes is the string that was printed.
+-- The string of what is written between quotes is the string that was written.
 use Rattle.std.proofs.Common.{◌≡◌, ◌∙◌, ℕ, ◌<◌, ◌≤◌, ◌==◌, nat_le, Bool, true, false, not, cond, ◌&&◌, ◌||◌, List, [], ◌∷◌, ◌++◌, map, Some, ap, refl, sym, ⊎_elim, arith}
 use Rattle.std.proofs.Math.Utf8.{scalar, scalars, encode, encodes}
-use Rattle.std.proofs.lemmas.Bool.{false≢true, cases_lt}
+use Rattle.std.proofs.lemmas.Bool.{and_parts, false≢true, cases_lt}
 use Rattle.std.proofs.lemmas.Bool.Decides.{nat_tests}
 use Rattle.std.proofs.lemmas.List.Folds.{list_all-append}
 use Rattle.std.proofs.lemmas.Str.{chars-encodes, encode_ascii, utf16_chars-nil, utf16_chars_lone, utf16_chars_pair}
@@ -10,13 +10,16 @@ use Rattle.std.specs.Char.Escape.{encode_utf16}
 use Rattle.std.specs.Char.Utf16.{lone_unit_char, surrogate_pair_char, utf16_lossy_chars}
 use Rattle.std.specs.List.{list_all}
 use Rattle.std.specs.Option.{unwrap_or}
-use Rattle.std.specs.Str.{IsUtf8}
-use Rattle.sb_rule.specs.WellMade.{is_high, is_low, is_surrogate, is_paired, is_text_unit, is_policy_text}
+use Rattle.sb_rule.specs.WellMade.{is_high, is_low, is_surrogate, is_paired, is_text_unit}
 use Rattle.sb_text.specs.TokenLaws.{is_quoted_byte}
-use Rattle.sb_text.specs.Tokens.{string_of}
 use Rattle.sb_wide.specs.Wide.{is_unit, utf16_of}
-use Rattle.sb_ruleprint.specs.Printing.{utf8_of}
-use Rattle.sb_ruletext.proofs.Conjunctions.{both, and_true}
+use Rattle.sb_text.specs.Tokens.{utf8_of}
+use Rattle.sb_ruleprint.specs.Strings.{StringsComeBack}
+
+pub and_true : (a b : Bool) → a ≡ true → b ≡ true → (a && b) ≡ true
+and_true true true h k = refl
+and_true true false h k = k
+and_true false b h k = h
 
 -- a unit alone
 
@@ -114,38 +117,31 @@ spells_alone u us s t b rest = let p = neither (is_high u) (is_low u) s in spell
 spells_step : (u v : ℕ) (us : List ℕ) (pair : Bool) → (is_high u && is_low v) ≡ pair → is_text_unit u ≡ true → is_unit u ≡ true
     → cond pair (is_paired us) (not (is_surrogate u) && is_paired (v ∷ us)) ≡ true
     → (is_paired us ≡ true → Spells us) → (is_paired (v ∷ us) ≡ true → Spells (v ∷ us)) → Spells (u ∷ v ∷ us)
-spells_step u v us true e t b h two one = let p = both (is_high u) (is_low v) e in spells_pair u v us p.0 p.1 (two h)
+spells_step u v us true e t b h two one = let p = and_parts (is_high u) (is_low v) e in spells_pair u v us p.0 p.1 (two h)
 spells_step u v us false e t b h two one =
-    let p = both (not (is_surrogate u)) (is_paired (v ∷ us)) h in spells_alone u (v ∷ us) (untrue (is_surrogate u) p.0) t b (one p.1)
+    let p = and_parts (not (is_surrogate u)) (is_paired (v ∷ us)) h in spells_alone u (v ∷ us) (untrue (is_surrogate u) p.0) t b (one p.1)
 
 spells : (us : List ℕ) → is_paired us ≡ true → list_all is_text_unit us ≡ true → list_all is_unit us ≡ true → Spells us
 spells [] h t b = spells_none
-spells (u ∷ []) h t b = spells_alone u [] (untrue (is_surrogate u) h) (both _ _ t).0 (both _ _ b).0 spells_none
+spells (u ∷ []) h t b = spells_alone u [] (untrue (is_surrogate u) h) (and_parts _ _ t).0 (and_parts _ _ b).0 spells_none
 spells (u ∷ v ∷ us) h t b =
-    let t_later = (both (is_text_unit u) (list_all is_text_unit (v ∷ us)) t).1 in
-    let b_later = (both (is_unit u) (list_all is_unit (v ∷ us)) b).1 in
-    spells_step u v us (is_high u && is_low v) refl (both (is_text_unit u) (list_all is_text_unit (v ∷ us)) t).0
-    (both (is_unit u) (list_all is_unit (v ∷ us)) b).0 h
-    (λ k. spells us k (both (is_text_unit v) (list_all is_text_unit us) t_later).1 (both (is_unit v) (list_all is_unit us) b_later).1)
+    let t_later = (and_parts (is_text_unit u) (list_all is_text_unit (v ∷ us)) t).1 in
+    let b_later = (and_parts (is_unit u) (list_all is_unit (v ∷ us)) b).1 in
+    spells_step u v us (is_high u && is_low v) refl (and_parts (is_text_unit u) (list_all is_text_unit (v ∷ us)) t).0
+    (and_parts (is_unit u) (list_all is_unit (v ∷ us)) b).0 h
+    (λ k. spells us k (and_parts (is_text_unit v) (list_all is_text_unit us) t_later).1 (and_parts (is_unit v) (list_all is_unit us) b_later).1)
     (λ k. spells (v ∷ us) k t_later b_later)
-
--- a string comes back, and what is printed of it is UTF-8 and can stand between quotes
-pub record ComesBack (us : List ℕ) : Type 0 where
-  pub string : string_of (utf8_of us) ≡ us
-  pub utf8 : IsUtf8 (utf8_of us)
-  pub quoted : list_all is_quoted_byte (utf8_of us) ≡ true
 
 text_is_units : (us : List ℕ) → list_all is_text_unit us ≡ true → list_all is_unit us ≡ true
 text_is_units [] t = refl
 text_is_units (u ∷ us) t =
-    let first = (both (is_text_unit u) (list_all is_text_unit us) t).0 in
-    and_true _ _ (both (nat_le 32 u) (is_unit u) (both (nat_le 32 u && is_unit u) (not (u == 34)) first).0).1
-    (text_is_units us (both (is_text_unit u) (list_all is_text_unit us) t).1)
+    let first = (and_parts (is_text_unit u) (list_all is_text_unit us) t).0 in
+    and_true _ _ (and_parts (nat_le 32 u) (is_unit u) (and_parts (nat_le 32 u && is_unit u) (not (u == 34)) first).0).1
+    (text_is_units us (and_parts (is_text_unit u) (list_all is_text_unit us) t).1)
 
-pub string_back : (us : List ℕ) → is_policy_text us ≡ true → ComesBack us
-string_back us h =
-    let t = (both _ _ (both _ _ h).0).1 in
-    let s = spells us (both _ _ h).1 t (text_is_units us t) in
+pub string_back : StringsComeBack
+string_back us t h =
+    let s = spells us h t (text_is_units us t) in
     record {
       string = ap utf16_of (chars-encodes (utf16_lossy_chars us) s.scalar) ∙ s.units;
       utf8 = (utf16_lossy_chars us, (s.scalar, refl));

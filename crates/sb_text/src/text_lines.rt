@@ -1,0 +1,56 @@
+// Lines that say something, one after another, whatever they are cut from.
+ghost use Rattle.std.specs.Prelude.{◌≡◌, ◌∷◌, [], List, MatchOption};
+ghost use Rattle.sb_text.specs.Lines.{NumberedLine};
+
+use crate::byte_lines::{ByteLine, ByteLines};
+use crate::lines::{Line, Lines};
+
+/// The lines of a text that say something, one after another.
+pub trait TextLines: Drop {
+    /// A line.
+    type Line: Drop;
+
+    ghost left: { Self → List NumberedLine };
+
+    ghost numbered: { Self.Line → NumberedLine };
+
+    /// The next line that says something.
+    fn next_line(&mut self) -> Option<Self::Line>
+        ensures { MatchOption result ((left self.old ≡ []) × (left self.new ≡ [])) (λ line. left self.old ≡ numbered line ∷ left self.new) };
+
+    /// The number of a line in its text, from 1.
+    fn number_of(line: &Self::Line) -> u32
+        ensures { result ≡ (numbered line.now).number };
+}
+
+impl<'a> TextLines for Lines<'a> {
+    type Line = Line<'a>;
+
+    ghost left = { λ lines. lines };
+
+    ghost numbered = { λ line. record { number = line.number; text = line.text.now } };
+
+    fn next_line(&mut self) -> Option<Line<'a>> {
+        Lines::next_line(self)
+    }
+
+    fn number_of(line: &Line<'a>) -> u32 {
+        line.number
+    }
+}
+
+impl<'a> TextLines for ByteLines<'a> {
+    type Line = ByteLine<'a>;
+
+    ghost left = { λ lines. lines };
+
+    ghost numbered = { λ line. record { number = line.number; text = line.text.now } };
+
+    fn next_line(&mut self) -> Option<ByteLine<'a>> {
+        ByteLines::next_line(self)
+    }
+
+    fn number_of(line: &ByteLine<'a>) -> u32 {
+        line.number
+    }
+}
