@@ -5,10 +5,11 @@ use Rattle.sb_call.specs.Statuses.{success, name_exists, invalid_parameter, type
 use Rattle.sb_handles.specs.Effects.{Effect, refused, grants}
 use Rattle.sb_handles.specs.Tables.{Table}
 use Rattle.sb_names.specs.Keys.{key_of}
-use Rattle.sb_names.specs.Laws.{PutsAreFound}
+use Rattle.std.specs.Map.{lookup}
+use Rattle.sb_names.specs.Laws.{PutsAreFound, PutsKeepRows}
 use Rattle.sb_names.specs.Maps.{is_key, found}
 use Rattle.sb_event.specs.Events.{Events, is_invalid, create_by, on_event}
-use Rattle.sb_event.specs.Laws.{CreatesAreFound}
+use Rattle.sb_event.specs.Laws.{CreatesAreFound, CreatesKeepEvents}
 use Rattle.sb_event.specs.declared.rows.EventRow.{EventRow}
 
 -- what an effect of event.create makes of another name
@@ -33,3 +34,20 @@ creates_are_found puts events handles target name other kind initial = by (is_in
     by true row = refl
     by false None = puts events.rows name other (record { number = events.made + 1; kind = kind; initial = initial })
     by false (Some row) = there row (row.kind == kind)
+
+pub creates_keep_events : PutsKeepRows EventRow → CreatesKeepEvents
+creates_keep_events keep events handles target name key kind initial old f = by (is_invalid kind initial) (found events.rows name) refl
+  where
+    P : Effect Events → Type 0
+    P effect = lookup (is_key key) effect.service.rows ≡ Some old
+
+    there : (row : EventRow) (same : Bool) → P (if not same then refused events handles type_mismatch
+        else grants events handles target (on_event row.number 0) name_exists (row.kind ∷ row.initial ∷ []))
+    there row true = f
+    there row false = f
+
+    by : (invalid : Bool) (o : Option EventRow) → found events.rows name ≡ o
+        → P (if invalid then refused events handles invalid_parameter else create_by o events handles target name kind initial)
+    by true o absent = f
+    by false None absent = keep events.rows name key (record { number = events.made + 1; kind = kind; initial = initial }) old absent f
+    by false (Some row) there_is = there row (row.kind == kind)

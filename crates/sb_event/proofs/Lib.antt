@@ -1,3 +1,4 @@
 pub mod EventLaws
 pub mod GrantLaws
+pub mod Numbering
 mod WorkedCases

@@ -1,11 +1,14 @@
 -- The events, and what each call on them does.
-use Rattle.std.specs.Prelude.{◌+◌, ℕ, Bool, true, false, ◌||◌, not, ◌==◌, nat_lt, List, [], ◌∷◌, Option, None, Some, if◌then◌else◌}
+use Rattle.std.specs.Prelude.{◌≡◌, ◌+◌, ℕ, Bool, true, false, ◌||◌, not, ◌==◌, nat_lt, List, [], ◌∷◌, Option, None, Some, if◌then◌else◌}
+use Rattle.std.specs.List.{list_all}
+use Rattle.sb_wide.specs.Names.{is_name_of}
 use Rattle.sb_call.specs.Statuses.{success, name_exists, invalid_parameter, type_mismatch, name_not_found}
 use Rattle.sb_handles.specs.Effects.{Effect, refused, grants}
 use Rattle.sb_handles.specs.Tables.{Table}
 use Rattle.sb_handles.specs.declared.objects.Held.{Held}
 use Rattle.sb_handles.specs.declared.objects.Service.TheVariants as service
-use Rattle.sb_names.specs.Maps.{Rows, found, is_there, put}
+use Rattle.sb_names.specs.Maps.{Rows, Rises, found, is_there, put}
+use Rattle.sb_names.specs.Numbers.{AreNumbered}
 use Rattle.sb_event.specs.declared.rows.EventRow.{EventRow}
 
 -- the event under each name, and how many were ever made
@@ -15,6 +18,24 @@ pub record Events : Type 0 where
 
 abbrev pub no_events : Events
 no_events = record { rows = []; made = 0 }
+
+-- the number of an event
+abbrev pub number_of : EventRow → ℕ
+number_of row = row.number
+
+-- each name is one
+abbrev pub AreNamed : Rows EventRow → Type 0
+AreNamed rows = list_all (λ row. is_name_of row.0) rows ≡ true
+
+-- each name is one and leads to an event that was made, and no two to one
+pub record AreMade (events : Events) : Type 0 where
+  pub numbered : AreNumbered number_of events.made events.rows
+  pub named : AreNamed events.rows
+
+-- and names are in rising order
+pub record AreEvents (events : Events) : Type 0 where
+  pub made : AreMade events
+  pub rise : Rises events.rows
 
 -- with an event more; its number is one more than the count of events ever made
 abbrev pub with_event : Events → List ℕ → ℕ → ℕ → Events
@@ -50,8 +71,8 @@ open_by (Some row) events handles target access =
     grants events handles target (on_event row.number access) success (row.kind ∷ row.initial ∷ [])
 
 -- event.open
-abbrev pub open_event : Events → Table → ℕ → List ℕ → ℕ → Effect Events
-open_event events handles target name access = open_by (found events.rows name) events handles target access
+abbrev pub open_by_name : Events → Table → ℕ → List ℕ → ℕ → Effect Events
+open_by_name events handles target name access = open_by (found events.rows name) events handles target access
 
 -- an event of the opening namespace can be placed where its name is free
 abbrev pub can_start : Events → List ℕ → Bool

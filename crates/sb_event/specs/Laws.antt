@@ -1,11 +1,12 @@
 -- Laws of events.
 use Rattle.std.specs.Prelude.{◌≡◌, ◌+◌, ℕ, Bool, true, false, ◌&&◌, ◌||◌, ◌==◌, List, Some, if◌then◌else◌}
+use Rattle.std.specs.Map.{lookup}
 use Rattle.sb_call.specs.Statuses.{success, name_exists}
 use Rattle.sb_handles.specs.Effects.{Effect}
 use Rattle.sb_handles.specs.Tables.{Table, with_handle}
 use Rattle.sb_names.specs.Keys.{key_of}
 use Rattle.sb_names.specs.Maps.{is_key, found}
-use Rattle.sb_event.specs.Events.{Events, create, on_event, open_event}
+use Rattle.sb_event.specs.Events.{Events, create, on_event, open_by_name}
 use Rattle.sb_event.specs.declared.rows.EventRow.{EventRow}
 
 -- something was made or opened
@@ -23,8 +24,8 @@ RefusedCreatesChangeNothing = (events : Events) (handles : Table) (target : ℕ)
 
 abbrev pub RefusedOpensChangeNothing : Type 0
 RefusedOpensChangeNothing = (events : Events) (handles : Table) (target : ℕ) (name : List ℕ) (access : ℕ)
-    → is_granted (open_event events handles target name access).answer.status ≡ false
-    → ChangesNothing events handles (open_event events handles target name access)
+    → is_granted (open_by_name events handles target name access).answer.status ≡ false
+    → ChangesNothing events handles (open_by_name events handles target name access)
 
 -- an event that was made is found under its name with its kind and initial state, and under every other name what was before
 abbrev pub CreatesAreFound : Type 0
@@ -36,7 +37,13 @@ CreatesAreFound = (events : Events) (handles : Table) (target : ℕ) (name other
 
 abbrev pub OpensLeaveEvents : Type 0
 OpensLeaveEvents = (events : Events) (handles : Table) (target : ℕ) (name : List ℕ) (access : ℕ)
-    → (open_event events handles target name access).service ≡ events
+    → (open_by_name events handles target name access).service ≡ events
+
+-- what stands under a key stands there still after event.create
+abbrev pub CreatesKeepEvents : Type 0
+CreatesKeepEvents = (events : Events) (handles : Table) (target : ℕ) (name key : List ℕ) (kind initial : ℕ) (row : EventRow)
+    → lookup (is_key key) events.rows ≡ Some row
+    → lookup (is_key key) (create events handles target name kind initial).service.rows ≡ Some row
 
 -- a call that makes or opens an event grants one handle, on the event that is found under the name after it
 abbrev pub IsGrantedOn : Effect Events → Table → ℕ → List ℕ → ℕ → Type 0
@@ -50,5 +57,5 @@ CreatesGrantTheirEvent = (events : Events) (handles : Table) (target : ℕ) (nam
 
 abbrev pub OpensGrantTheirEvent : Type 0
 OpensGrantTheirEvent = (events : Events) (handles : Table) (target : ℕ) (name : List ℕ) (access : ℕ)
-    → is_granted (open_event events handles target name access).answer.status ≡ true
-    → IsGrantedOn (open_event events handles target name access) handles target name access
+    → is_granted (open_by_name events handles target name access).answer.status ≡ true
+    → IsGrantedOn (open_by_name events handles target name access) handles target name access

@@ -1,13 +1,14 @@
 // The events by their names, and the calls on them.
 ghost use Rattle.std.specs.Prelude.{◌≡◌, ◌+◌, ◌<◌, ◌^◌, true, None, IfOk, OnOk, OnErr};
 ghost use Rattle.sb_wide.specs.Names.{is_name_of};
+ghost use Rattle.sb_handles.specs.Effects.{IsDone};
 ghost use Rattle.sb_names.specs.Maps.{found};
-ghost use Rattle.sb_event.specs.Events.{no_events, with_event, on_event, is_invalid, create, create_by, open_event, can_start, started};
+ghost use Rattle.sb_event.specs.Events.{AreEvents, no_events, with_event, on_event, is_invalid, create, create_by, open_by_name, can_start, started};
 
 use crate::rows::EventRow;
 use sb_call::{Answer, INVALID_PARAMETER, NAME_EXISTS, NAME_NOT_FOUND, SUCCESS, TYPE_MISMATCH};
 use sb_handles::{HandleTable, Held, Object, Service};
-use sb_names::{NameMap, puts_come_back};
+use sb_names::{NameMap, names_fold, numbers_are_kept, puts_come_back};
 use sb_wide::NoMemory;
 use std::alloc::Global;
 use std::marker::Model;
@@ -20,11 +21,13 @@ pub struct EventService {
 }
 
 impl Model for EventService {
-    ghost use Rattle.sb_event.specs.Events.{Events};
+    ghost use Rattle.sb_event.specs.Events.{Events, AreMade};
 
     ghost Value = { Events };
 
     ghost view = { λ s. record { rows = s.rows; made = s.made } };
+
+    ghost invariant = { λ s. AreMade (record { rows = s.rows; made = s.made }) };
 }
 
 // A handle on the event of this number, with this access.
@@ -59,14 +62,24 @@ impl EventService {
         self.made
     }
 
-    // Puts an event under a name that is free, with the next number. It does not count as made yet.
-    fn insert_next(&mut self, name: &[u16], kind: u64, initial: u64) -> Result<u64, NoMemory>
-        requires { self.old.made < 2 ^ 63 }
+    /// Each name is one and leads to an event that was made, no two to one, and names are kept in rising order. It changes
+    /// nothing.
+    pub fn events_are_made(&self)
+        ensures { AreEvents self.now }
+    {
+        self.rows.rows_rise();
+    }
+
+    // Makes an event under a name that is free, with the next number.
+    fn add_next(&mut self, name: &[u16], kind: u64, initial: u64) -> Result<u64, NoMemory>
+        requires name { is_name_of name.now ≡ true }
+        requires made { self.old.made < 2 ^ 63 }
         ensures number { IfOk result (λ number. number ≡ self.old.made + 1) }
-        ensures rows { OnOk result (self.new.rows ≡ (with_event self.old name.now kind initial).rows) }
-        ensures made { self.new.made ≡ self.old.made }
+        ensures service { OnOk result (self.new ≡ with_event self.old name.now kind initial) }
         ensures err { OnErr result (self.new ≡ self.old) }
     {
+        names_fold();
+        numbers_are_kept::<EventRow>();
         let number = self.made + 1;
         let row = EventRow {
             number,
@@ -74,6 +87,7 @@ impl EventService {
             initial,
         };
         self.rows.insert(name, row)?;
+        self.made = number;
         Ok(number)
     }
 
@@ -86,23 +100,21 @@ impl EventService {
         kind: u64,
         initial: u64,
     ) -> Result<Answer, NoMemory>
+        requires name { is_name_of name.now ≡ true }
         requires absent { found self.old.rows name.now ≡ None }
         requires granted { handles.old.granted < 2 ^ 63 }
         requires made { self.old.made < 2 ^ 63 }
-        ensures answer { IfOk result (λ a. a ≡ (create_by None self.old handles.old target name.now kind initial).answer) }
-        ensures service { OnOk result (self.new ≡ (create_by None self.old handles.old target name.now kind initial).service) }
-        ensures handles { OnOk result (handles.new ≡ (create_by None self.old handles.old target name.now kind initial).handles) }
+        ensures effect { IfOk result (λ a. IsDone (create_by None self.old handles.old target name.now kind initial) self.new handles.new a) }
         ensures err { OnErr result ((self.new ≡ self.old) × (handles.new ≡ handles.old)) }
     {
         puts_come_back::<EventRow>();
-        let number = self.insert_next(name, kind, initial)?;
+        self.events_are_made();
+        let number = self.add_next(name, kind, initial)?;
         match handles.grant(target, on_event(number, 0)) {
-            Ok(handle) => {
-                self.made = number;
-                Ok(Answer::with_words(SUCCESS, handle, kind, initial))
-            }
+            Ok(handle) => Ok(Answer::with_words(SUCCESS, handle, kind, initial)),
             Err(error) => {
                 self.rows.remove(name);
+                self.made = number - 1;
                 Err(error)
             }
         }
@@ -130,9 +142,7 @@ impl EventService {
         requires name { is_name_of name.now ≡ true }
         requires granted { handles.old.granted < 2 ^ 63 }
         requires made { self.old.made < 2 ^ 63 }
-        ensures answer { IfOk result (λ a. a ≡ (create self.old handles.old target name.now kind initial).answer) }
-        ensures service { OnOk result (self.new ≡ (create self.old handles.old target name.now kind initial).service) }
-        ensures handles { OnOk result (handles.new ≡ (create self.old handles.old target name.now kind initial).handles) }
+        ensures effect { IfOk result (λ a. IsDone (create self.old handles.old target name.now kind initial) self.new handles.new a) }
         ensures err { OnErr result ((self.new ≡ self.old) × (handles.new ≡ handles.old)) }
     {
         if kind > 1 || initial > 1 {
@@ -154,7 +164,7 @@ impl EventService {
     ///
     /// # Errors
     /// `NoMemory` where there was none for the handle; then nothing is changed.
-    pub fn open_event(
+    pub fn open_by_name(
         &mut self,
         handles: &mut HandleTable,
         target: u32,
@@ -163,9 +173,8 @@ impl EventService {
     ) -> Result<Answer, NoMemory>
         requires name { is_name_of name.now ≡ true }
         requires granted { handles.old.granted < 2 ^ 63 }
-        ensures answer { IfOk result (λ a. a ≡ (open_event self.old handles.old target name.now access).answer) }
+        ensures effect { IfOk result (λ a. IsDone (open_by_name self.old handles.old target name.now access) self.new handles.new a) }
         ensures service { self.new ≡ self.old }
-        ensures handles { OnOk result (handles.new ≡ (open_event self.old handles.old target name.now access).handles) }
         ensures err { OnErr result (handles.new ≡ handles.old) }
     {
         match self.rows.find(name) {
@@ -175,6 +184,13 @@ impl EventService {
                 Ok(Answer::with_words(SUCCESS, handle, row.kind, row.initial))
             }
         }
+    }
+
+    /// Whether `start` can place an event of this name: the name is free.
+    pub fn can_start(&self, name: &[u16]) -> bool
+        ensures { result ≡ can_start self.now name.now }
+    {
+        self.rows.find(name).is_none()
     }
 
     /// Places an event of the opening namespace. It answers false, and changes nothing, exactly where an event of that
@@ -189,10 +205,18 @@ impl EventService {
         ensures service { OnOk result (self.new ≡ started self.old name.now kind initial) }
         ensures err { OnErr result (self.new ≡ self.old) }
     {
-        if self.rows.find(name).is_some() {
+        names_fold();
+        numbers_are_kept::<EventRow>();
+        let number = self.made + 1;
+        let row = EventRow {
+            number,
+            kind,
+            initial,
+        };
+        if !self.rows.insert_new(name, row)? {
             return Ok(false);
         }
-        self.made = self.insert_next(name, kind, initial)?;
+        self.made = number;
         Ok(true)
     }
 }

@@ -1,8 +1,8 @@
 // Laws of events. None of these functions changes anything: each contract is a law.
-ghost use Rattle.sb_event.specs.Laws.{RefusedCreatesChangeNothing, RefusedOpensChangeNothing, CreatesAreFound, CreatesGrantTheirEvent, OpensGrantTheirEvent, OpensLeaveEvents};
+ghost use Rattle.sb_event.specs.Laws.{RefusedCreatesChangeNothing, RefusedOpensChangeNothing, CreatesAreFound, CreatesGrantTheirEvent, CreatesKeepEvents, OpensGrantTheirEvent, OpensLeaveEvents};
 
 use crate::rows::EventRow;
-use sb_names::puts_are_found;
+use sb_names::{puts_are_found, puts_keep_rows};
 
 /// A call that neither made nor opened an event leaves events and handles as they were.
 pub fn refused_calls_change_nothing()
@@ -17,6 +17,14 @@ pub fn events_are_found_where_made()
     ensures opens { OpensLeaveEvents }
 {
     puts_are_found::<EventRow>();
+}
+
+/// Events stay under their names, and the same: what stands under a key stands there after each call that makes or opens one.
+#[tactic(auto, using(crate::proofs::EventLaws::creates_keep_events))]
+pub fn events_stay()
+    ensures { CreatesKeepEvents }
+{
+    puts_keep_rows::<EventRow>();
 }
 
 /// A call that makes or opens an event grants its handle on the event that is found under the name.

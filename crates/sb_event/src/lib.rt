@@ -8,6 +8,6 @@ mod rows;
 
 pub use events::EventService;
 pub use laws::{
-    calls_grant_their_event, events_are_found_where_made, refused_calls_change_nothing,
+    calls_grant_their_event, events_are_found_where_made, events_stay, refused_calls_change_nothing,
 };
 pub use rows::EventRow;

@@ -8,78 +8,46 @@ use Rattle.std.specs.List.{AllByRecursion, find}
 use Rattle.std.specs.List.Sorted.{IsStrictlySortedBy}
 use Rattle.std.specs.Ordering.{nat_cmp}
 use Rattle.std.specs.declared.cmp.Ordering.TheVariants.{Less}
-use Rattle.sb_call.specs.Statuses.{success, meets, invalid_parameter, path_not_found, name_not_found, name_collision, not_a_directory, file_is_a_directory, sharing_violation}
+use Rattle.sb_call.specs.Statuses.{success}
 use Rattle.sb_handles.specs.Agreements.{is_file, file_share, file_share_by}
-use Rattle.sb_handles.specs.Effects.{Effect, refused}
+use Rattle.sb_handles.specs.Effects.{Effect}
 use Rattle.sb_handles.specs.Laws.{ClosesKeepFiles as ClosesKeepShares, GrantsLeaveFiles as GrantsLeaveShares}
 use Rattle.sb_handles.specs.Shares.{Shares, left, share_on}
 use Rattle.sb_handles.specs.Tables.{Table, is_of, with_handle, without_handle}
 use Rattle.sb_handles.specs.declared.objects.Held.{Held}
 use Rattle.sb_handles.specs.declared.objects.OpenHandle.{OpenHandle}
 use Rattle.sb_handles.specs.declared.objects.Share.{Share}
-use Rattle.sb_names.specs.Maps.{found}
-use Rattle.sb_file.specs.Creation.{create, create_by, create_new, directory_option, is_invalid, non_directory_option, on_file, open_by, open_existing, open_or_create, opens, overwrite, replaces, supersede, was_created, was_opened, was_overwritten, was_superseded}
-use Rattle.sb_file.specs.Files.{Files, has_parent, is_directory, is_shared_out, kind_of, object_of, with_attributes, with_object}
-use Rattle.sb_file.specs.declared.objects.FileKind.{FileKind}
+use Rattle.sb_file.specs.Creation.{object_asked, on_file}
+use Rattle.sb_file.specs.Files.{Files, object_of, with_attributes}
 use Rattle.sb_file.specs.Laws.{CreatesGrantFiles, CreatesMakeOne, RefusalsChangeNothing, ClosesKeepFiles, ClosesLeaveFiles, GrantsLeaveFiles}
-use Rattle.sb_file.proofs.RenameLaws.{chosen}
-
--- what holds of a file.create that is refused, of one that makes an object, and of one that opens what is there, holds of each
-by_create : (P : Effect Files → Type 0) (files : Files) (handles : Table) (target : ℕ) (name : List ℕ) (attributes access sharing disposition options : ℕ)
-    → ((status : ℕ) → (status ≡ success → ⊥) → P (refused files handles status))
-    → ((kind : FileKind)
-    → P (opens (with_object files name (record { kind = kind; attributes = attributes })) handles target (length files.objects + 1) access sharing was_created))
-    → ((number word : ℕ) → P (opens files handles target number access sharing word))
-    → ((number word : ℕ) → P (opens (with_attributes files number attributes) handles target number access sharing word))
-    → P (create files handles target name attributes access sharing disposition options)
-by_create P files handles target name attributes access sharing disposition options refuses makes takes replaces_it =
-    chosen P (is_invalid sharing disposition options) (refused files handles invalid_parameter) _ (refuses invalid_parameter (λ h. absurd (omega (arith, h))))
-    (chosen P (not (has_parent files name)) (refused files handles path_not_found)
-    (create_by (found files.names name) files handles target name attributes access sharing disposition options)
-    (refuses path_not_found (λ h. absurd (omega (arith, h)))) (by (found files.names name)))
-  where
-    opened : (number : ℕ) → P (open_by files handles target number attributes access sharing disposition)
-    opened number =
-        chosen P (disposition == open_existing || disposition == open_or_create) _ _ (takes number was_opened)
-        (chosen P (disposition == supersede) _ _ (replaces_it number was_superseded) (replaces_it number was_overwritten))
-
-    by : (o : Option ℕ) → P (create_by o files handles target name attributes access sharing disposition options)
-    by None =
-        chosen P (disposition == open_existing || disposition == overwrite) (refused files handles name_not_found) _
-        (refuses name_not_found (λ h. absurd (omega (arith, h)))) (makes (kind_of (meets options directory_option)))
-    by (Some number) =
-        chosen P (disposition == create_new) (refused files handles name_collision) _ (refuses name_collision (λ h. absurd (omega (arith, h))))
-        (chosen P (not (is_directory (object_of files number).kind) && meets options directory_option) (refused files handles not_a_directory) _
-        (refuses not_a_directory (λ h. absurd (omega (arith, h))))
-        (chosen P (is_directory (object_of files number).kind && (meets options non_directory_option || replaces disposition))
-        (refused files handles file_is_a_directory) _ (refuses file_is_a_directory (λ h. absurd (omega (arith, h))))
-        (chosen P (is_shared_out files number access sharing) (refused files handles sharing_violation) _
-        (refuses sharing_violation (λ h. absurd (omega (arith, h)))) (opened number))))
+use Rattle.sb_file.proofs.CreationCases.{by_create}
 
 abbrev IsPlain : Files → Table → Effect Files → Type 0
 IsPlain files handles effect = (effect.answer.status ≡ success → ⊥) → (effect.service ≡ files) × (effect.handles ≡ handles)
 
 pub refusals_change_nothing : RefusalsChangeNothing
-refusals_change_nothing files handles target name attributes access sharing disposition options =
-    by_create (IsPlain files handles) files handles target name attributes access sharing disposition options (λ status n h. (refl, refl))
-    (λ kind h. absurd (h refl)) (λ number word h. absurd (h refl)) (λ number word h. absurd (h refl))
+refusals_change_nothing files handles target name request =
+    by_create (IsPlain files handles) files handles target name request (λ status n h. (refl, refl))
+    (λ f h. absurd (h refl)) (λ number f h. absurd (h refl)) (λ number f h. absurd (h refl)) (λ number f h. absurd (h refl))
 
 abbrev GrantsOne : Table → ℕ → Effect Files → Type 0
 GrantsOne handles target effect =
     (effect.handles ≡ handles) ⊎ ((held : Held) × (is_file held.object.service ≡ true) × (effect.handles ≡ with_handle handles target held))
 
 pub creates_grant_files : CreatesGrantFiles
-creates_grant_files files handles target name attributes access sharing disposition options =
-    by_create (GrantsOne handles target) files handles target name attributes access sharing disposition options (λ status n. inl refl)
-    (λ kind. inr (on_file (length files.objects + 1) access sharing, refl, refl)) (λ number word. inr (on_file number access sharing, refl, refl))
-    (λ number word. inr (on_file number access sharing, refl, refl))
+creates_grant_files files handles target name request =
+    by_create (GrantsOne handles target) files handles target name request (λ status n. inl refl)
+    (λ f. inr (on_file (length files.objects + 1) request, refl, refl)) (λ number f. inr (on_file number request, refl, refl))
+    (λ number f. inr (on_file number request, refl, refl)) (λ number f. inr (on_file number request, refl, refl))
 
 pub creates_make_one : CreatesMakeOne
-creates_make_one files handles target name attributes access sharing disposition options =
-    by_create (λ effect. length effect.service.objects ≤ length files.objects + 1) files handles target name attributes access sharing disposition options
-    (λ status n. omega arith) (λ kind. omega (arith, length-append files.objects (record { kind = kind; attributes = attributes } ∷ [])))
-    (λ number word. omega arith)
-    (λ number word. omega (arith, length-set files.objects (number - 1) (record (object_of files number) { attributes = attributes })))
+creates_make_one files handles target name request =
+    by_create (λ effect. length effect.service.objects ≤ length files.objects + 1) files handles target name request
+    (λ status n. omega arith) (λ f. omega (arith, length-append files.objects (object_asked request ∷ [])))
+    (λ number f. omega arith) (λ number f. same number) (λ number f. same number)
+  where
+    same : (number : ℕ) → length (with_attributes files number request.attributes).objects ≤ length files.objects + 1
+    same number = omega (arith, length-set files.objects (number - 1) (record (object_of files number) { attributes = request.attributes }))
 
 -- how a handle is open once another was left
 share_left : (object number handle : ℕ) (shares : Shares)

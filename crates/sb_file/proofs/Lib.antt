@@ -1,4 +1,5 @@
 pub mod AgreementLaws
+pub mod CreationCases
 pub mod CreationLaws
 pub mod FileLemmas
 pub mod ParentLemmas

@@ -1,13 +1,18 @@
 -- What file.create and file.open do.
-use Rattle.std.specs.Prelude.{◌+◌, ℕ, Bool, ◌&&◌, ◌||◌, not, ◌==◌, nat_lt, List, [], ◌∷◌, length, Option, None, Some, if◌then◌else◌}
+use Rattle.std.specs.Prelude.{◌+◌, ℕ, Bool, true, false, ◌&&◌, ◌||◌, not, ◌==◌, nat_lt, List, [], ◌∷◌, length, Option, None, Some, if◌then◌else◌}
 use Rattle.sb_call.specs.Statuses.{meets, success, invalid_parameter, name_not_found, name_collision, path_not_found, sharing_violation, file_is_a_directory, not_a_directory}
 use Rattle.sb_handles.specs.Effects.{Effect, refused, grants}
 use Rattle.sb_handles.specs.Shares.{opened}
 use Rattle.sb_handles.specs.Tables.{Table}
 use Rattle.sb_handles.specs.declared.objects.Held.{Held}
+use Rattle.sb_handles.specs.declared.objects.Share.{Share}
+use Rattle.sb_handles.specs.declared.objects.ShareRefused.{ShareRefused}
+use Rattle.sb_handles.specs.declared.objects.ShareRefused.TheVariants as share_refused
 use Rattle.sb_handles.specs.declared.objects.Service.TheVariants as service
 use Rattle.sb_names.specs.Maps.{found}
 use Rattle.sb_file.specs.Files.{Files, has_parent, is_directory, kind_of, object_of, is_shared_out, with_object, with_attributes}
+use Rattle.sb_file.specs.declared.objects.FileObject.{FileObject}
+use Rattle.sb_file.specs.declared.requests.FileRequest.{FileRequest}
 
 -- what to do where the name is there, and where it is not: its file is replaced whole, it is opened, it is made,
 -- opened or made, its content is replaced, or replaced or made
@@ -54,50 +59,78 @@ non_directory_option = 0x40
 abbrev pub replaces : ℕ → Bool
 replaces disposition = disposition == supersede || disposition == overwrite || disposition == overwrite_or_create
 
--- the arguments are out of range, or exclude each other
-abbrev pub is_invalid : ℕ → ℕ → ℕ → Bool
-is_invalid sharing disposition options =
-    nat_lt 5 disposition || nat_lt 7 sharing
-    || (meets options directory_option && meets options non_directory_option)
-    || (meets options directory_option && replaces disposition)
+-- it asks for a directory, or else for a file
+abbrev pub wants_directory : FileRequest → Bool
+wants_directory request = meets request.options directory_option
+
+-- it asks for a file alone
+abbrev pub wants_file : FileRequest → Bool
+wants_file request = meets request.options non_directory_option
+
+-- what is asked for is out of range, or excludes itself
+abbrev pub is_invalid : FileRequest → Bool
+is_invalid request =
+    nat_lt 5 request.disposition || nat_lt 7 request.sharing
+    || (wants_directory request && wants_file request)
+    || (wants_directory request && replaces request.disposition)
 
 -- a handle on the file or directory of this number
-abbrev pub on_file : ℕ → ℕ → ℕ → Held
-on_file number access sharing = record { object = record { service = service.File; number = number }; access = access; sharing = sharing }
+abbrev pub on_file : ℕ → FileRequest → Held
+on_file number request =
+    record { object = record { service = service.File; number = number }; access = request.access; sharing = request.sharing }
+
+-- how that handle stands to others
+abbrev pub share_of : FileRequest → Share
+share_of request = record { access = request.access; sharing = request.sharing }
+
+-- the object that is made
+abbrev pub object_asked : FileRequest → FileObject
+object_asked request = record { kind = kind_of (wants_directory request); attributes = request.attributes }
+
+-- why no handle was granted is a conflict, and no want of memory
+abbrev pub is_violation : ShareRefused → Bool
+is_violation (share_refused.Conflict handle) = true
+is_violation share_refused.NoMemory = false
 
 -- a handle on an object is granted, and takes part in sharing
-abbrev pub opens : Files → Table → ℕ → ℕ → ℕ → ℕ → ℕ → Effect Files
-opens files handles target number access sharing result =
-    grants (record files { shares = opened files.shares number (handles.granted + 1) (record { access = access; sharing = sharing }) })
-    handles target (on_file number access sharing) success (result ∷ [])
+abbrev pub opens : Files → Table → ℕ → ℕ → FileRequest → ℕ → Effect Files
+opens files handles target number request result =
+    grants (record files { shares = opened files.shares number (handles.granted + 1) (share_of request) })
+    handles target (on_file number request) success (result ∷ [])
 
 -- file.create of what is there and may be opened
-abbrev pub open_by : Files → Table → ℕ → ℕ → ℕ → ℕ → ℕ → ℕ → Effect Files
-open_by files handles target number attributes access sharing disposition =
-    if disposition == open_existing || disposition == open_or_create then opens files handles target number access sharing was_opened
-    else (if disposition == supersede then opens (with_attributes files number attributes) handles target number access sharing was_superseded
-    else opens (with_attributes files number attributes) handles target number access sharing was_overwritten)
+abbrev pub open_by : Files → Table → ℕ → ℕ → FileRequest → Effect Files
+open_by files handles target number request =
+    if request.disposition == open_existing || request.disposition == open_or_create then opens files handles target number request was_opened
+    else (if request.disposition == supersede
+    then opens (with_attributes files number request.attributes) handles target number request was_superseded
+    else opens (with_attributes files number request.attributes) handles target number request was_overwritten)
 
 -- file.create, by what stands under the name: the first case that applies
-abbrev pub create_by : Option ℕ → Files → Table → ℕ → List ℕ → ℕ → ℕ → ℕ → ℕ → ℕ → Effect Files
-create_by None files handles target name attributes access sharing disposition options =
-    if disposition == open_existing || disposition == overwrite then refused files handles name_not_found
-    else opens (with_object files name (record { kind = kind_of (meets options directory_option); attributes = attributes }))
-    handles target (length files.objects + 1) access sharing was_created
-create_by (Some number) files handles target name attributes access sharing disposition options =
-    if disposition == create_new then refused files handles name_collision
-    else (if not (is_directory (object_of files number).kind) && meets options directory_option then refused files handles not_a_directory
-    else (if is_directory (object_of files number).kind && (meets options non_directory_option || replaces disposition) then refused files handles file_is_a_directory
-    else (if is_shared_out files number access sharing then refused files handles sharing_violation
-    else open_by files handles target number attributes access sharing disposition)))
+abbrev pub create_by : Option ℕ → Files → Table → ℕ → List ℕ → FileRequest → Effect Files
+create_by None files handles target name request =
+    if request.disposition == open_existing || request.disposition == overwrite then refused files handles name_not_found
+    else opens (with_object files name (object_asked request)) handles target (length files.objects + 1) request was_created
+create_by (Some number) files handles target name request =
+    if request.disposition == create_new then refused files handles name_collision
+    else (if not (is_directory (object_of files number).kind) && wants_directory request then refused files handles not_a_directory
+    else (if is_directory (object_of files number).kind && (wants_file request || replaces request.disposition)
+    then refused files handles file_is_a_directory
+    else (if is_shared_out files number request.access request.sharing then refused files handles sharing_violation
+    else open_by files handles target number request)))
 
 -- file.create: the first case that applies
-abbrev pub create : Files → Table → ℕ → List ℕ → ℕ → ℕ → ℕ → ℕ → ℕ → Effect Files
-create files handles target name attributes access sharing disposition options =
-    if is_invalid sharing disposition options then refused files handles invalid_parameter
+abbrev pub create : Files → Table → ℕ → List ℕ → FileRequest → Effect Files
+create files handles target name request =
+    if is_invalid request then refused files handles invalid_parameter
     else (if not (has_parent files name) then refused files handles path_not_found
-    else create_by (found files.names name) files handles target name attributes access sharing disposition options)
+    else create_by (found files.names name) files handles target name request)
 
--- file.open is file.create of what is there, with attributes 0
-abbrev pub open_file : Files → Table → ℕ → List ℕ → ℕ → ℕ → ℕ → Effect Files
-open_file files handles target name access sharing options = create files handles target name 0 access sharing open_existing options
+-- file.open asks for what is there, with attributes 0
+abbrev pub open_request : ℕ → ℕ → ℕ → FileRequest
+open_request access sharing options =
+    record { attributes = 0; access = access; sharing = sharing; disposition = open_existing; options = options }
+
+-- and is such a file.create
+abbrev pub open_by_name : Files → Table → ℕ → List ℕ → ℕ → ℕ → ℕ → Effect Files
+open_by_name files handles target name access sharing options = create files handles target name (open_request access sharing options)

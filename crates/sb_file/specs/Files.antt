@@ -1,5 +1,5 @@
 -- The files and directories, and what each call but file.create does.
-use Rattle.std.specs.Prelude.{◌≡◌, ◌+◌, ◌-◌, ℕ, Bool, true, false, ◌&&◌, not, List, [], ◌∷◌, ◌++◌, length, Option, None, Some, is_some, slice_index_or, slice_set, if◌then◌else◌}
+use Rattle.std.specs.Prelude.{◌≡◌, ◌+◌, ◌-◌, ℕ, Bool, true, false, ◌&&◌, not, List, [], ◌∷◌, ◌++◌, length, Option, None, Some, is_some, option_map, slice_index_or, slice_set, if◌then◌else◌}
 use Rattle.std.specs.List.{list_all}
 use Rattle.sb_call.specs.Statuses.{refusal, showing, success, invalid_parameter, name_not_found, name_collision, path_not_found, sharing_violation}
 use Rattle.sb_call.specs.declared.replies.Answer.{Answer}
@@ -48,6 +48,10 @@ is_directory_there files (u ∷ us) = is_directory_by (found files.names (u ∷ 
 -- the parent of a name is there, and is a directory
 abbrev pub has_parent : Files → List ℕ → Bool
 has_parent files name = is_directory_there files (parent_of name)
+
+-- what stands under a name
+abbrev pub object_found : Files → List ℕ → Option FileObject
+object_found files name = option_map (object_of files) (found files.names name)
 
 -- with a file or directory more; its number is one more than the count of objects ever made
 abbrev pub with_object : Files → List ℕ → FileObject → Files

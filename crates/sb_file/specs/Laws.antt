@@ -1,5 +1,5 @@
 -- Laws of files and directories.
-use Rattle.std.specs.Prelude.{◌≡◌, ◌≤◌, ◌+◌, ◌⊎◌, ℕ, Bool, true, false, ◌&&◌, ◌||◌, ◌==◌, nat_eq, List, [], ◌∷◌, length, Option, None, Some, is_some, if◌then◌else◌}
+use Rattle.std.specs.Prelude.{◌≡◌, ◌≤◌, ◌+◌, ◌⊎◌, ℕ, Bool, true, false, ◌&&◌, ◌||◌, ◌==◌, nat_eq, List, [], ◌∷◌, length, Option, None, Some, is_some, option_map, if◌then◌else◌}
 use Rattle.std.specs.Cmp.Lexicographic.{pointwise}
 use Rattle.std.specs.Map.{lookup}
 use Rattle.sb_wide.specs.Names.{is_name_of}
@@ -10,16 +10,18 @@ use Rattle.sb_handles.specs.declared.objects.Held.{Held}
 use Rattle.sb_names.specs.Keys.{key_of, is_below}
 use Rattle.sb_names.specs.Maps.{found, is_key, is_there}
 use Rattle.sb_names.specs.Renames.{renamed_key}
-use Rattle.sb_file.specs.Creation.{create, on_file, open_file, was_created}
-use Rattle.sb_file.specs.Files.{Files, AreFiles, Agrees, rename, closed}
+use Rattle.sb_file.specs.Creation.{create, object_asked, on_file, open_by_name, was_created, was_overwritten, was_superseded}
+use Rattle.sb_file.specs.Files.{Files, AreFiles, AreObjects, Agrees, object_found, rename, closed}
+use Rattle.sb_file.specs.declared.objects.FileObject.{FileObject}
+use Rattle.sb_file.specs.declared.requests.FileRequest.{FileRequest}
 
 -- a file.create that answers a status other than success leaves files and handles as they are; so does file.open, which is
 -- one
 abbrev pub RefusalsChangeNothing : Type 0
-RefusalsChangeNothing = (files : Files) (handles : Table) (target : ℕ) (name : List ℕ) (attributes access sharing disposition options : ℕ)
-    → ((create files handles target name attributes access sharing disposition options).answer.status ≡ success → ⊥)
-    → ((create files handles target name attributes access sharing disposition options).service ≡ files)
-    × ((create files handles target name attributes access sharing disposition options).handles ≡ handles)
+RefusalsChangeNothing = (files : Files) (handles : Table) (target : ℕ) (name : List ℕ) (request : FileRequest)
+    → ((create files handles target name request).answer.status ≡ success → ⊥)
+    → ((create files handles target name request).service ≡ files)
+    × ((create files handles target name request).handles ≡ handles)
 
 -- so does a file.rename
 abbrev pub RefusedRenamesChangeNothing : Type 0
@@ -27,23 +29,23 @@ RefusedRenamesChangeNothing = (files : Files) (name to : List ℕ) → ((rename 
 
 -- a file.create leaves the handles as they are, or grants one on a file or directory
 abbrev pub CreatesGrantFiles : Type 0
-CreatesGrantFiles = (files : Files) (handles : Table) (target : ℕ) (name : List ℕ) (attributes access sharing disposition options : ℕ)
-    → ((create files handles target name attributes access sharing disposition options).handles ≡ handles)
+CreatesGrantFiles = (files : Files) (handles : Table) (target : ℕ) (name : List ℕ) (request : FileRequest)
+    → ((create files handles target name request).handles ≡ handles)
     ⊎ ((held : Held) × (is_file held.object.service ≡ true)
-    × ((create files handles target name attributes access sharing disposition options).handles ≡ with_handle handles target held))
+    × ((create files handles target name request).handles ≡ with_handle handles target held))
 
 -- one that answers success grants one handle, on what is found under the name after it, with the access and the sharing that
 -- were asked for
 abbrev pub CreatesGrantTheirFile : Type 0
-CreatesGrantTheirFile = (files : Files) (handles : Table) (target : ℕ) (name : List ℕ) (attributes access sharing disposition options : ℕ)
-    → (create files handles target name attributes access sharing disposition options).answer.status ≡ success
-    → (number : ℕ) × (found (create files handles target name attributes access sharing disposition options).service.names name ≡ Some number)
-    × ((create files handles target name attributes access sharing disposition options).handles ≡ with_handle handles target (on_file number access sharing))
+CreatesGrantTheirFile = (files : Files) (handles : Table) (target : ℕ) (name : List ℕ) (request : FileRequest)
+    → (create files handles target name request).answer.status ≡ success
+    → (number : ℕ) × (found (create files handles target name request).service.names name ≡ Some number)
+    × ((create files handles target name request).handles ≡ with_handle handles target (on_file number request))
 
 -- it makes one object at most
 abbrev pub CreatesMakeOne : Type 0
-CreatesMakeOne = (files : Files) (handles : Table) (target : ℕ) (name : List ℕ) (attributes access sharing disposition options : ℕ)
-    → length (create files handles target name attributes access sharing disposition options).service.objects ≤ length files.objects + 1
+CreatesMakeOne = (files : Files) (handles : Table) (target : ℕ) (name : List ℕ) (request : FileRequest)
+    → length (create files handles target name request).service.objects ≤ length files.objects + 1
 
 -- the extended words say that a file or directory was made
 abbrev pub says_made : List ℕ → Bool
@@ -51,16 +53,44 @@ says_made words = pointwise nat_eq words (was_created ∷ [])
 
 -- what was made is found under its name, with the number that follows those of all objects; every other name is found as before
 abbrev pub CreatesAreFound : Type 0
-CreatesAreFound = (files : Files) (handles : Table) (target : ℕ) (name other : List ℕ) (attributes access sharing disposition options : ℕ)
-    → found (create files handles target name attributes access sharing disposition options).service.names other
-    ≡ (if says_made (create files handles target name attributes access sharing disposition options).answer.ext && is_key (key_of other) (key_of name)
+CreatesAreFound = (files : Files) (handles : Table) (target : ℕ) (name other : List ℕ) (request : FileRequest)
+    → found (create files handles target name request).service.names other
+    ≡ (if says_made (create files handles target name request).answer.ext && is_key (key_of other) (key_of name)
     then Some (length files.objects + 1)
     else found files.names other)
+
+-- what stands under a key stands there still after a file.create
+abbrev pub CreatesKeepNames : Type 0
+CreatesKeepNames = (files : Files) (handles : Table) (target : ℕ) (name key : List ℕ) (request : FileRequest) (number : ℕ)
+    → lookup (is_key key) files.names ≡ Some number → lookup (is_key key) (create files handles target name request).service.names ≡ Some number
+
+-- the extended words say that the attributes were replaced
+abbrev pub says_replaced : List ℕ → Bool
+says_replaced words = pointwise nat_eq words (was_superseded ∷ []) || pointwise nat_eq words (was_overwritten ∷ [])
+
+-- with the attributes that were asked for
+abbrev pub with_asked : FileRequest → FileObject → FileObject
+with_asked request object = record object { attributes = request.attributes }
+
+-- what is found after a file.create that made it is what was asked for; after one that replaced its attributes it has those that
+-- were asked for; and any other leaves it as it was
+abbrev pub CreatesGiveAttributes : Type 0
+CreatesGiveAttributes = (files : Files) (handles : Table) (target : ℕ) (name : List ℕ) (request : FileRequest) → AreObjects files
+    → object_found (create files handles target name request).service name
+    ≡ (if says_made (create files handles target name request).answer.ext then Some (object_asked request)
+    else (if says_replaced (create files handles target name request).answer.ext then option_map (with_asked request) (object_found files name)
+    else object_found files name))
+
+-- and what stands under every other name is as it was
+abbrev pub CreatesLeaveOthers : Type 0
+CreatesLeaveOthers = (files : Files) (handles : Table) (target : ℕ) (name other : List ℕ) (request : FileRequest) → AreObjects files
+    → is_key (key_of other) (key_of name) ≡ false
+    → object_found (create files handles target name request).service other ≡ object_found files other
 
 -- a file.open makes nothing
 abbrev pub OpensLeaveNames : Type 0
 OpensLeaveNames = (files : Files) (handles : Table) (target : ℕ) (name : List ℕ) (access sharing options : ℕ)
-    → (open_file files handles target name access sharing options).service.names ≡ files.names
+    → (open_by_name files handles target name access sharing options).service.names ≡ files.names
 
 -- a rename leaves all objects and open handles
 abbrev pub RenamesKeepObjects : Type 0

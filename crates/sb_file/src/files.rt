@@ -219,6 +219,14 @@ impl FileService {
         }
     }
 
+    /// Whether `start` can place a directory or a file of this name: its parent is there and no file, and the name is free.
+    pub fn can_start(&self, name: &[u16]) -> bool
+        requires name { is_name_of name.now ≡ true }
+        ensures { result ≡ can_start self.now name.now }
+    {
+        self.has_parent(name) && self.number_of(name).is_none()
+    }
+
     #[tactic(auto, using(crate::proofs::FileLemmas::parent_there))]
     /// Places a directory or a file of the opening namespace. It answers false, and changes nothing, exactly where the
     /// parent of the name is not there or is a file, or the name is there.

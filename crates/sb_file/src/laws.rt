@@ -1,8 +1,8 @@
 // Laws of files and directories. None of these functions changes anything: each contract is a law.
-ghost use Rattle.sb_file.specs.Laws.{CreatesAreFound, CreatesGrantFiles, CreatesGrantTheirFile, CreatesMakeOne, OpensLeaveNames, RefusalsChangeNothing, RefusedRenamesChangeNothing, RenamesAddNothing, RenamesKeepObjects, RenamesMove, RenamesLeaveNothing, RenamesLeaveOthers, ClosesKeepFiles, ClosesLeaveFiles, GrantsLeaveFiles};
+ghost use Rattle.sb_file.specs.Laws.{CreatesAreFound, CreatesGiveAttributes, CreatesGrantFiles, CreatesGrantTheirFile, CreatesKeepNames, CreatesLeaveOthers, CreatesMakeOne, OpensLeaveNames, RefusalsChangeNothing, RefusedRenamesChangeNothing, RenamesAddNothing, RenamesKeepObjects, RenamesMove, RenamesLeaveNothing, RenamesLeaveOthers, ClosesKeepFiles, ClosesLeaveFiles, GrantsLeaveFiles};
 
 use sb_handles::agreement_is_kept as shares_are_kept;
-use sb_names::{puts_are_found, renames_are_found};
+use sb_names::{puts_are_found, puts_keep_rows, renames_are_found};
 
 /// A call that answers a status other than success leaves files and handles as they are.
 #[tactic(auto, using(crate::proofs::AgreementLaws::refusals_change_nothing, crate::proofs::RenameLaws::refused_renames_change_nothing))]
@@ -25,6 +25,24 @@ pub fn files_are_found_where_made()
     ensures opens { OpensLeaveNames }
 {
     puts_are_found::<u64>();
+}
+
+/// What is found under the name of a file.create that made it is what was asked for; after one that replaced its attributes
+/// it has those that were asked for; any other file.create leaves it as it was, and each leaves all other names.
+#[tactic(auto, using(crate::proofs::CreationLaws::creates_give_attributes, crate::proofs::CreationLaws::creates_leave_others))]
+pub fn creates_give_attributes()
+    ensures own { CreatesGiveAttributes }
+    ensures others { CreatesLeaveOthers }
+{
+    puts_are_found::<u64>();
+}
+
+/// Files and directories stay under their names after each file.create.
+#[tactic(auto, using(crate::proofs::CreationLaws::creates_keep_names))]
+pub fn files_stay()
+    ensures { CreatesKeepNames }
+{
+    puts_keep_rows::<u64>();
 }
 
 /// A file.create that succeeds grants its handle on what is found under the name, with the access and sharing asked for.

@@ -6,10 +6,12 @@ mod creation;
 mod files;
 mod laws;
 mod objects;
+mod requests;
 
 pub use files::FileService;
 pub use laws::{
-    agreement_is_kept, creates_grant_files, creates_grant_their_file, files_are_found_where_made,
-    refusals_change_nothing, renames_move_names,
+    agreement_is_kept, creates_give_attributes, creates_grant_files, creates_grant_their_file,
+    files_are_found_where_made, files_stay, refusals_change_nothing, renames_move_names,
 };
 pub use objects::{FileKind, FileObject};
+pub use requests::FileRequest;

@@ -1,5 +1,5 @@
 -- What a call of a service does.
-use Rattle.std.specs.Prelude.{◌+◌, ℕ, List}
+use Rattle.std.specs.Prelude.{◌≡◌, ◌+◌, ℕ, List}
 use Rattle.sb_call.specs.Statuses.{refusal, granting}
 use Rattle.sb_call.specs.declared.replies.Answer.{Answer}
 use Rattle.sb_handles.specs.Tables.{Table, with_handle}
@@ -20,3 +20,8 @@ module _ {S : Type 0} where
   abbrev pub grants : S → Table → ℕ → Held → ℕ → List ℕ → Effect S
   grants service handles target held status words =
       record { service = service; handles = with_handle handles target held; answer = granting status (handles.granted + 1) words }
+
+  -- what a call left, and what it answered, are those of an effect
+  abbrev pub IsDone : Effect S → S → Table → Answer → Type 0
+  IsDone effect service handles answer =
+      (answer ≡ effect.answer) × (service ≡ effect.service) × (handles ≡ effect.handles)

@@ -1,12 +1,21 @@
 -- What each call leaves of the kernel's agreements.
 use Rattle.std.proofs.Common.{◌≡◌, ◌∙◌, ℕ, ◌+◌, ◌≤◌, Bool, true, false, List, length, refl, sym, ap, subst, arith, ◌⊎◌, inl, inr}
-use Rattle.sb_handles.specs.Agreements.{is_file, is_pipe}
+use Rattle.std.specs.Prelude.{◌^◌, nat_lt}
+use Rattle.sb_wide.specs.Names.{is_name_of}
+use Rattle.sb_handles.specs.Agreements.{AgreesOnFiles, is_file, is_pipe}
 use Rattle.sb_handles.specs.Tables.{Table, IsTable}
 use Rattle.sb_handles.specs.declared.objects.Service.{Service}
 use Rattle.sb_handles.specs.declared.objects.Service.TheVariants as service
 use Rattle.sb_file.specs.Files as files
-use Rattle.sb_file.specs.Laws.{GrantsLeaveFiles}
-use Rattle.sb_pipe.specs.Laws.{GrantsLeavePipes}
+use Rattle.sb_file.specs.Laws.{CreatesGrantTheirFile, CreatesKeepNames, GrantsLeaveFiles, RenamesKeepObjects, RenamesMove}
+use Rattle.sb_file.specs.Laws as files_refused
+use Rattle.sb_key.specs.Laws.{CreatesGrantTheirKey, CreatesKeepKeys, OpensGrantTheirKey, OpensLeaveKeys}
+use Rattle.sb_key.specs.Laws as keys_refused
+use Rattle.sb_event.specs.Laws.{CreatesGrantTheirEvent, CreatesKeepEvents, OpensGrantTheirEvent, OpensLeaveEvents}
+use Rattle.sb_event.specs.Laws as events_refused
+use Rattle.sb_pipe.specs.Laws as pipes_refused
+use Rattle.sb_file.specs.declared.requests.FileRequest.{FileRequest}
+use Rattle.sb_pipe.specs.Laws.{CallsGrantTheirPipe, CallsKeepCounts, GrantsLeavePipes}
 use Rattle.sb_pipe.specs.Pipes as pipes
 use Rattle.sb_key.specs.Registry as registry
 use Rattle.sb_event.specs.Events as events
@@ -14,9 +23,10 @@ use Rattle.sb_kernel.specs.Kept.{IsKept, MadeAtMost}
 use Rattle.sb_statements.specs.Limits.{most_start_lines}
 use Rattle.sb_kernel.specs.Namespaces.{Space}
 use Rattle.sb_file.specs.Creation as creation
-use Rattle.sb_handles.specs.Tables.{held_by, without_handle}
-use Rattle.sb_handles.specs.declared.objects.Held.{Held}
-use Rattle.sb_kernel.proofs.Steps.{IsStep, IsGrant, file_step, pipe_step, key_open_step}
+use Rattle.sb_names.specs.Maps.{found}
+use Rattle.sb_kernel.specs.Held.{AreHeld}
+use Rattle.sb_kernel.proofs.Holding.{events_held, files_held, found_held, keys_held, pipes_held, reached_held, renamed_held}
+use Rattle.sb_kernel.proofs.Steps.{IsStep, IsGrant, event_open_step, event_step, file_step, key_open_step, key_step, pipe_step}
 
 -- a step on objects of another service leaves the agreement on files
 pub files_kept : (law : GrantsLeaveFiles) (f : files.Files) (kind : Service) (made more : ℕ) (handles after : Table) → is_file kind ≡ false → IsTable handles
@@ -51,8 +61,9 @@ other_count_kept kind made more other start handles after (inr g) few =
 -- what a kernel keeps, after a step of each service
 module _ (other_files : GrantsLeaveFiles) (other_pipes : GrantsLeavePipes) (ns : Space) (kept : IsKept ns) (table : IsTable ns.handles) where
   pub files_step_kept : (f : files.Files) (after : Table) → IsStep service.File (length ns.files.objects) ns.handles (length f.objects) after → files.Agrees f after
-      → IsKept (record ns { files = f; handles = after })
-  files_step_kept f after step agree = record {
+      → AreHeld (record ns { files = f; handles = after }) → IsKept (record ns { files = f; handles = after })
+  files_step_kept f after step agree held = record {
+    held = held;
     files_agree = agree;
     pipes_agree = pipes_kept other_pipes ns.pipes service.File _ _ ns.handles after refl step kept.pipes_agree;
     made = record {
@@ -64,8 +75,9 @@ module _ (other_files : GrantsLeaveFiles) (other_pipes : GrantsLeavePipes) (ns :
   }
 
   pub pipes_step_kept : (p : pipes.Pipes) (after : Table) → IsStep service.Pipe ns.pipes.made ns.handles p.made after → pipes.Agrees p after
-      → IsKept (record ns { pipes = p; handles = after })
-  pipes_step_kept p after step agree = record {
+      → AreHeld (record ns { pipes = p; handles = after }) → IsKept (record ns { pipes = p; handles = after })
+  pipes_step_kept p after step agree held = record {
+    held = held;
     files_agree = files_kept other_files ns.files service.Pipe _ _ ns.handles after refl table step kept.files_agree;
     pipes_agree = agree;
     made = record {
@@ -77,8 +89,9 @@ module _ (other_files : GrantsLeaveFiles) (other_pipes : GrantsLeavePipes) (ns :
   }
 
   pub keys_step_kept : (k : registry.Keys) (after : Table) → IsStep service.Key ns.keys.made ns.handles k.made after
-      → IsKept (record ns { keys = k; handles = after })
-  keys_step_kept k after step = record {
+      → AreHeld (record ns { keys = k; handles = after }) → IsKept (record ns { keys = k; handles = after })
+  keys_step_kept k after step held = record {
+    held = held;
     files_agree = files_kept other_files ns.files service.Key _ _ ns.handles after refl table step kept.files_agree;
     pipes_agree = pipes_kept other_pipes ns.pipes service.Key _ _ ns.handles after refl step kept.pipes_agree;
     made = record {
@@ -90,8 +103,9 @@ module _ (other_files : GrantsLeaveFiles) (other_pipes : GrantsLeavePipes) (ns :
   }
 
   pub events_step_kept : (v : events.Events) (after : Table) → IsStep service.Event ns.events.made ns.handles v.made after
-      → IsKept (record ns { events = v; handles = after })
-  events_step_kept v after step = record {
+      → AreHeld (record ns { events = v; handles = after }) → IsKept (record ns { events = v; handles = after })
+  events_step_kept v after step held = record {
+    held = held;
     files_agree = files_kept other_files ns.files service.Event _ _ ns.handles after refl table step kept.files_agree;
     pipes_agree = pipes_kept other_pipes ns.pipes service.Event _ _ ns.handles after refl step kept.pipes_agree;
     made = record {
@@ -103,27 +117,67 @@ module _ (other_files : GrantsLeaveFiles) (other_pipes : GrantsLeavePipes) (ns :
   }
 
   -- the same after each call, by what it left
-  pub file_created : (target : ℕ) (name : List ℕ) (attributes access sharing disposition options : ℕ) (f : files.Files) (after : Table)
-      → f ≡ (creation.create ns.files ns.handles target name attributes access sharing disposition options).service
-      → after ≡ (creation.create ns.files ns.handles target name attributes access sharing disposition options).handles
+  pub file_created : CreatesGrantTheirFile → files_refused.RefusalsChangeNothing → CreatesKeepNames → (target : ℕ) (name : List ℕ) (request : FileRequest)
+      → nat_lt request.access (2 ^ 32) ≡ true → nat_lt request.sharing (2 ^ 32) ≡ true → (f : files.Files) (after : Table)
+      → f ≡ (creation.create ns.files ns.handles target name request).service
+      → after ≡ (creation.create ns.files ns.handles target name request).handles
       → files.Agrees f after → IsKept (record ns { files = f; handles = after })
-  file_created target name attributes access sharing disposition options f after e h agree =
-      files_step_kept f after (rw (e, h) (file_step ns.files ns.handles target name attributes access sharing disposition options)) agree
+  file_created grants refuses stays target name request access sharing f after e h agree =
+      files_step_kept f after (rw (e, h) (file_step ns.files ns.handles target name request)) agree
+      (rw (e, h) (files_held grants refuses stays ns target name request access sharing kept.held))
 
-  pub pipe_created : (target : ℕ) (name : List ℕ) (mode form instances : ℕ) (p : pipes.Pipes) (after : Table)
+  pub pipe_created : CallsGrantTheirPipe → pipes_refused.RefusalsChangeNothing → CallsKeepCounts → (target : ℕ) (name : List ℕ) (mode form instances : ℕ)
+      → (p : pipes.Pipes) (after : Table)
       → p ≡ (pipes.create ns.pipes ns.handles target name mode form instances).service
       → after ≡ (pipes.create ns.pipes ns.handles target name mode form instances).handles
       → pipes.Agrees p after → IsKept (record ns { pipes = p; handles = after })
-  pipe_created target name mode form instances p after e h agree =
+  pipe_created grants refuses counts target name mode form instances p after e h agree =
       pipes_step_kept p after (rw (e, h) (pipe_step ns.pipes ns.handles target name mode form instances)) agree
+      (rw (e, h) (pipes_held grants refuses counts ns target name mode form instances kept.held))
 
-  pub key_opened : (target : ℕ) (name : List ℕ) (access : ℕ) (k : registry.Keys) (after : Table)
-      → k ≡ ns.keys → after ≡ (registry.open_key ns.keys ns.handles target name access).handles
+  pub key_created : CreatesGrantTheirKey → keys_refused.RefusedCreatesChangeNothing → CreatesKeepKeys → (target : ℕ) (name : List ℕ) (access : ℕ)
+      → nat_lt access (2 ^ 32) ≡ true → (k : registry.Keys) (after : Table)
+      → k ≡ (registry.create ns.keys ns.handles target name access).service → after ≡ (registry.create ns.keys ns.handles target name access).handles
       → IsKept (record ns { keys = k; handles = after })
-  key_opened target name access k after e h = keys_step_kept k after (rw (e, h) (opened (key_open_step ns.keys ns.handles target name access)))
-    where
-      opened : IsStep service.Key ns.keys.made ns.handles (registry.open_key ns.keys ns.handles target name access).service.made
-          (registry.open_key ns.keys ns.handles target name access).handles
-          → IsStep service.Key ns.keys.made ns.handles ns.keys.made (registry.open_key ns.keys ns.handles target name access).handles
-      opened (inl (m, a)) = inl (refl, a)
-      opened (inr g) = inr (record { target = g.target; held = g.held; kind_is = g.kind_is; one = omega arith; handles_are = g.handles_are })
+  key_created grants refuses stays target name access narrow k after e h =
+      keys_step_kept k after (rw (e, h) (key_step ns.keys ns.handles target name access))
+      (rw (e, h) (keys_held grants refuses stays ns target name access narrow kept.held))
+
+  pub key_opened : OpensGrantTheirKey → keys_refused.RefusedOpensChangeNothing → OpensLeaveKeys → (target : ℕ) (name : List ℕ) (access : ℕ)
+      → nat_lt access (2 ^ 32) ≡ true → (k : registry.Keys) (after : Table)
+      → k ≡ (registry.open_by_name ns.keys ns.handles target name access).service → after ≡ (registry.open_by_name ns.keys ns.handles target name access).handles
+      → IsKept (record ns { keys = k; handles = after })
+  key_opened grants refuses leaves target name access narrow k after e h =
+      keys_step_kept k after (rw (e, h) (key_open_step ns.keys ns.handles target name access))
+      (rw (e, h) (reached_held grants refuses leaves ns target name access narrow kept.held))
+
+  pub event_created : CreatesGrantTheirEvent → events_refused.RefusedCreatesChangeNothing → CreatesKeepEvents → (target : ℕ) (name : List ℕ) (kind initial : ℕ)
+      → (v : events.Events) (after : Table)
+      → v ≡ (events.create ns.events ns.handles target name kind initial).service → after ≡ (events.create ns.events ns.handles target name kind initial).handles
+      → IsKept (record ns { events = v; handles = after })
+  event_created grants refuses stays target name kind initial v after e h =
+      events_step_kept v after (rw (e, h) (event_step ns.events ns.handles target name kind initial))
+      (rw (e, h) (events_held grants refuses stays ns target name kind initial kept.held))
+
+  pub event_opened : OpensGrantTheirEvent → events_refused.RefusedOpensChangeNothing → OpensLeaveEvents → (target : ℕ) (name : List ℕ) (access : ℕ)
+      → nat_lt access (2 ^ 32) ≡ true → (v : events.Events) (after : Table)
+      → v ≡ (events.open_by_name ns.events ns.handles target name access).service → after ≡ (events.open_by_name ns.events ns.handles target name access).handles
+      → IsKept (record ns { events = v; handles = after })
+  event_opened grants refuses leaves target name access narrow v after e h =
+      events_step_kept v after (rw (e, h) (event_open_step (found ns.events.rows name) ns.events ns.handles target access))
+      (rw (e, h) (found_held grants refuses leaves ns target name access narrow kept.held))
+
+  -- and after a rename, which has no part in handles
+  pub file_renamed : RenamesMove → files_refused.RefusedRenamesChangeNothing → RenamesKeepObjects → (name to : List ℕ) → files.AreFiles ns.files
+      → is_name_of to ≡ true → (f : files.Files) → f ≡ (files.rename ns.files name to).0 → IsKept (record ns { files = f })
+  file_renamed moves refuses keeps name to are is_name f e = subst (λ f. IsKept (record ns { files = f })) (sym e) (record {
+    files_agree = subst (λ shares. AgreesOnFiles shares ns.handles) (sym (keeps ns.files name to).1) kept.files_agree;
+    pipes_agree = kept.pipes_agree;
+    made = record {
+      files = subst (λ objects. length objects ≤ ns.handles.granted + most_start_lines) (sym (keeps ns.files name to).0) kept.made.files;
+      pipes = kept.made.pipes;
+      keys = kept.made.keys;
+      events = kept.made.events;
+    };
+    held = renamed_held moves refuses ns name to are is_name kept.held;
+  })

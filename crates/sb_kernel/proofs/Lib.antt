@@ -1,4 +1,5 @@
 pub mod Closing
+pub mod Holding
 pub mod Kept
 pub mod Misfits
 pub mod Placing

@@ -1,8 +1,14 @@
--- Arguments that are none of the call's.
+-- The arguments of file.create, and such as are none of its.
 use Rattle.std.proofs.Common.{◌≡◌, ℕ, ◌≤◌, List, [], ◌∷◌, length, refl, arith}
 use Rattle.sb_call.specs.declared.arguments.Arg.{Arg}
 use Rattle.sb_call.specs.declared.arguments.Arg.TheVariants.{Num, Str}
+use Rattle.sb_file.specs.declared.requests.FileRequest.{FileRequest}
 use Rattle.sb_kernel.specs.Namespaces.{Space, file_create}
+
+-- what a file.create asks for, by its numbers
+abbrev pub asked : ℕ → ℕ → ℕ → ℕ → ℕ → FileRequest
+asked attributes access sharing disposition options =
+    record { attributes = attributes; access = access; sharing = sharing; disposition = disposition; options = options }
 
 -- file.create with more than six arguments changes nothing
 pub too_many : (ns : Space) (target : ℕ) (args : List Arg) → 7 ≤ length args → ns ≡ (file_create ns target args).space

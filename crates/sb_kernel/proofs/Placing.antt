@@ -1,5 +1,5 @@
 -- The objects of the opening, one after the other.
-use Rattle.std.proofs.Common.{◌≡◌, ◌∙◌, ℕ, ◌+◌, ◌≤◌, Bool, true, false, if◌then◌else◌, List, [], ◌∷◌, length, Option, None, Some, refl, sym, ap, arith}
+use Rattle.std.proofs.Common.{◌≡◌, ◌∙◌, ℕ, suc, ◌+◌, ◌≤◌, Bool, true, false, if◌then◌else◌, List, [], ◌∷◌, length, Option, None, Some, refl, sym, ap, subst, arith}
 use Rattle.std.specs.Prelude.{is_some, unwrap_or, Result, Ok, Err}
 use Rattle.std.proofs.lemmas.List.{length-append}
 use Rattle.std.proofs.lemmas.Bool.{false≢true}
@@ -10,8 +10,8 @@ use Rattle.sb_file.specs.declared.objects.FileObject.{FileObject}
 use Rattle.sb_key.specs.Registry as registry
 use Rattle.sb_event.specs.Events as events
 use Rattle.sb_kernel.specs.Kept.{MadeAtMost}
-use Rattle.sb_kernel.specs.Namespaces.{Space}
-use Rattle.sb_kernel.specs.Openings.{placed, opened_from}
+use Rattle.sb_kernel.specs.Namespaces.{Space, empty_space}
+use Rattle.sb_kernel.specs.Openings.{placed, opened_from, OpeningsMakeFew}
 
 -- more may be made than were
 pub made_more : (n m : ℕ) (ns : Space) → n ≤ m → MadeAtMost n ns → MadeAtMost m ns
@@ -93,3 +93,24 @@ opened_none at ns line lines h = by (placed ns line) h
     by : (o : Option Space) → is_some o ≡ false → elim o [ None ↦ refused | Some next ↦ opened_from (at + 1) next lines ] ≡ refused
     by None h = refl
     by (Some next) h = absurd (false≢true (sym h))
+
+-- objects placed in turn where at most n were made before
+made_from : (lines : List StartLine) (at n : ℕ) (ns final : Space) → MadeAtMost n ns → opened_from at ns lines ≡ Ok final → MadeAtMost (n + length lines) final
+made_from [] at n ns final few e = subst (MadeAtMost (n + 0)) (same ns final e) (made_more n (n + 0) ns (omega arith) few)
+  where
+    same : (a b : Space) → ◌≡◌ {A = Result Space ℕ} (Ok a) (Ok b) → a ≡ b
+    same a b e = cc
+made_from (line ∷ lines) at n ns final few e =
+    by (placed ns line) (placed_made n ns line few) (λ next f e. made_from lines (at + 1) (n + 1) next final f e) e
+  where
+    by : (o : Option Space) → MadeAtMost (n + 1) (unwrap_or o ns)
+        → ((next : Space) → MadeAtMost (n + 1) next → opened_from (at + 1) next lines ≡ Ok final → MadeAtMost (n + 1 + length lines) final)
+        → ◌≡◌ {A = Result Space ℕ} (elim o [ None ↦ Err at | Some next ↦ opened_from (at + 1) next lines ]) (Ok final)
+        → MadeAtMost (n + suc (length lines)) final
+    by None f step e = absurd cc
+    by (Some next) f step e = made_more (n + 1 + length lines) (n + suc (length lines)) final (omega arith) (step next f e)
+
+pub openings_make_few : OpeningsMakeFew
+openings_make_few lines ns e =
+    made_more (0 + length lines) (length lines) ns (omega arith)
+    (made_from lines 0 0 empty_space ns (record { files = omega arith; pipes = omega arith; keys = omega arith; events = omega arith }) e)

@@ -19,6 +19,7 @@ use Rattle.sb_pipe.specs.Laws as pipe_laws
 use Rattle.sb_pipe.specs.Pipes as pipes
 use Rattle.sb_kernel.specs.Laws.{is_done, RefusedCallsChangeNothing, UnheldClosesChangeNothing}
 use Rattle.sb_kernel.specs.Namespaces.{Space, ping, file_create, file_open, file_query, file_rename, pipe_create, key_create, key_open, event_create, event_open, handle_close, close_by, perform}
+use Rattle.sb_kernel.proofs.Misfits.{asked}
 
 -- neither of two tests holds where their `or` does not
 or_left : (a b : Bool) → a || b ≡ false → a ≡ false
@@ -87,7 +88,7 @@ module _ (files_refused : file_laws.RefusalsChangeNothing) (renames_refused : fi
   file_create_same ns target (Str a ∷ Num b ∷ Num c ∷ Num d ∷ Str e ∷ more) h = refl
   file_create_same ns target (Str a ∷ Num b ∷ Num c ∷ Num d ∷ Num e ∷ []) h = refl
   file_create_same ns target (Str a ∷ Num b ∷ Num c ∷ Num d ∷ Num e ∷ Str f ∷ more) h = refl
-  file_create_same ns target (Str a ∷ Num b ∷ Num c ∷ Num d ∷ Num e ∷ Num f ∷ []) h = files_same ns _ _ (files_refused ns.files ns.handles target a b c d e f (not_success _ h))
+  file_create_same ns target (Str a ∷ Num b ∷ Num c ∷ Num d ∷ Num e ∷ Num f ∷ []) h = files_same ns _ _ (files_refused ns.files ns.handles target a (asked b c d e f) (not_success _ h))
   file_create_same ns target (Str a ∷ Num b ∷ Num c ∷ Num d ∷ Num e ∷ Num f ∷ other ∷ more) h = refl
 
   file_open_same : (ns : Space) (target : ℕ) (args : List Arg) → is_done (file_open ns target args).answer.status ≡ false → (file_open ns target args).space ≡ ns
@@ -99,7 +100,7 @@ module _ (files_refused : file_laws.RefusalsChangeNothing) (renames_refused : fi
   file_open_same ns target (Str a ∷ Num b ∷ Str c ∷ more) h = refl
   file_open_same ns target (Str a ∷ Num b ∷ Num c ∷ []) h = refl
   file_open_same ns target (Str a ∷ Num b ∷ Num c ∷ Str d ∷ more) h = refl
-  file_open_same ns target (Str a ∷ Num b ∷ Num c ∷ Num d ∷ []) h = files_same ns _ _ (files_refused ns.files ns.handles target a 0 b c open_existing d (not_success _ h))
+  file_open_same ns target (Str a ∷ Num b ∷ Num c ∷ Num d ∷ []) h = files_same ns _ _ (files_refused ns.files ns.handles target a (asked 0 b c open_existing d) (not_success _ h))
   file_open_same ns target (Str a ∷ Num b ∷ Num c ∷ Num d ∷ other ∷ more) h = refl
 
   file_query_same : (ns : Space) (args : List Arg) → is_done (file_query ns args).answer.status ≡ false → (file_query ns args).space ≡ ns

@@ -10,6 +10,7 @@ use Rattle.sb_event.specs.declared.rows.EventRow.{EventRow}
 use Rattle.sb_file.specs.Creation as creation
 use Rattle.sb_file.specs.Creation.{open_existing}
 use Rattle.sb_file.specs.Files as files
+use Rattle.sb_file.specs.declared.requests.FileRequest.{FileRequest}
 use Rattle.sb_handles.specs.Effects.{Effect}
 use Rattle.sb_handles.specs.Tables.{Table, held_by}
 use Rattle.sb_handles.specs.declared.objects.Held.{Held}
@@ -19,6 +20,7 @@ use Rattle.sb_pipe.specs.Pipes as pipes
 use Rattle.sb_pipe.specs.declared.rows.PipeRow.{PipeRow}
 use Rattle.sb_kernel.specs.Laws.{AnswersAreShort}
 use Rattle.sb_kernel.specs.Namespaces.{Space, close_by, event_create, event_open, file_create, file_open, file_query, file_rename, handle_close, key_create, key_open, ping, pipe_create}
+use Rattle.sb_kernel.proofs.Misfits.{asked}
 
 -- an answer with at most seven extended words
 abbrev IsShort : Answer → Type 0
@@ -38,24 +40,24 @@ either_renamed true x y e f = e
 either_renamed false x y e f = f
 
 -- files
-short_open_by : (fs : files.Files) (handles : Table) (target number attributes access sharing disposition : ℕ) → IsShort (creation.open_by fs handles target number attributes access sharing disposition).answer
-short_open_by fs handles target number attributes access sharing disposition =
-    either (disposition == open_existing || disposition == creation.open_or_create) (creation.opens fs handles target number access sharing creation.was_opened)
-    (if disposition == creation.supersede then creation.opens (files.with_attributes fs number attributes) handles target number access sharing creation.was_superseded
-    else creation.opens (files.with_attributes fs number attributes) handles target number access sharing creation.was_overwritten) (lit≤ tt)
-    (either (disposition == creation.supersede) (creation.opens (files.with_attributes fs number attributes) handles target number access sharing creation.was_superseded)
-    (creation.opens (files.with_attributes fs number attributes) handles target number access sharing creation.was_overwritten) (lit≤ tt) (lit≤ tt))
+short_open_by : (fs : files.Files) (handles : Table) (target number : ℕ) (request : FileRequest) → IsShort (creation.open_by fs handles target number request).answer
+short_open_by fs handles target number request =
+    either (request.disposition == open_existing || request.disposition == creation.open_or_create) (creation.opens fs handles target number request creation.was_opened)
+    (if request.disposition == creation.supersede then creation.opens (files.with_attributes fs number request.attributes) handles target number request creation.was_superseded
+    else creation.opens (files.with_attributes fs number request.attributes) handles target number request creation.was_overwritten) (lit≤ tt)
+    (either (request.disposition == creation.supersede) (creation.opens (files.with_attributes fs number request.attributes) handles target number request creation.was_superseded)
+    (creation.opens (files.with_attributes fs number request.attributes) handles target number request creation.was_overwritten) (lit≤ tt) (lit≤ tt))
 
-short_create_by : (o : Option ℕ) (fs : files.Files) (handles : Table) (target : ℕ) (name : List ℕ) (attributes access sharing disposition options : ℕ)
-    → IsShort (creation.create_by o fs handles target name attributes access sharing disposition options).answer
-short_create_by None fs handles target name attributes access sharing disposition options = grind arith
-short_create_by (Some number) fs handles target name attributes access sharing disposition options =
-    grind (arith, short_open_by fs handles target number attributes access sharing disposition)
+short_create_by : (o : Option ℕ) (fs : files.Files) (handles : Table) (target : ℕ) (name : List ℕ) (request : FileRequest)
+    → IsShort (creation.create_by o fs handles target name request).answer
+short_create_by None fs handles target name request = grind arith
+short_create_by (Some number) fs handles target name request =
+    grind (arith, short_open_by fs handles target number request)
 
-short_file : (fs : files.Files) (handles : Table) (target : ℕ) (name : List ℕ) (attributes access sharing disposition options : ℕ)
-    → IsShort (creation.create fs handles target name attributes access sharing disposition options).answer
-short_file fs handles target name attributes access sharing disposition options =
-    grind (arith, short_create_by (found fs.names name) fs handles target name attributes access sharing disposition options)
+short_file : (fs : files.Files) (handles : Table) (target : ℕ) (name : List ℕ) (request : FileRequest)
+    → IsShort (creation.create fs handles target name request).answer
+short_file fs handles target name request =
+    grind (arith, short_create_by (found fs.names name) fs handles target name request)
 
 short_query_by : (o : Option ℕ) (fs : files.Files) → IsShort (files.query_by o fs)
 short_query_by None fs = lit≤ tt
@@ -92,7 +94,7 @@ short_key_open_by : (o : Option ℕ) (ks : registry.Keys) (handles : Table) (tar
 short_key_open_by None ks handles target access = lit≤ tt
 short_key_open_by (Some number) ks handles target access = lit≤ tt
 
-short_key_open : (ks : registry.Keys) (handles : Table) (target : ℕ) (name : List ℕ) (access : ℕ) → IsShort (registry.open_key ks handles target name access).answer
+short_key_open : (ks : registry.Keys) (handles : Table) (target : ℕ) (name : List ℕ) (access : ℕ) → IsShort (registry.open_by_name ks handles target name access).answer
 short_key_open ks handles target name access = grind (arith, short_key_open_by (found ks.names name) ks handles target access)
 
 -- events
@@ -133,7 +135,7 @@ short_call_file_create ns target (Str a ∷ Num b ∷ Num c ∷ Num d ∷ []) = 
 short_call_file_create ns target (Str a ∷ Num b ∷ Num c ∷ Num d ∷ Str e ∷ more) = lit≤ tt
 short_call_file_create ns target (Str a ∷ Num b ∷ Num c ∷ Num d ∷ Num e ∷ []) = lit≤ tt
 short_call_file_create ns target (Str a ∷ Num b ∷ Num c ∷ Num d ∷ Num e ∷ Str f ∷ more) = lit≤ tt
-short_call_file_create ns target (Str a ∷ Num b ∷ Num c ∷ Num d ∷ Num e ∷ Num f ∷ []) = short_file ns.files ns.handles target a b c d e f
+short_call_file_create ns target (Str a ∷ Num b ∷ Num c ∷ Num d ∷ Num e ∷ Num f ∷ []) = short_file ns.files ns.handles target a (asked b c d e f)
 short_call_file_create ns target (Str a ∷ Num b ∷ Num c ∷ Num d ∷ Num e ∷ Num f ∷ other ∷ more) = lit≤ tt
 
 short_call_file_open : (ns : Space) (target : ℕ) (args : List Arg) → IsShort (file_open ns target args).answer
@@ -145,7 +147,7 @@ short_call_file_open ns target (Str a ∷ Num b ∷ []) = lit≤ tt
 short_call_file_open ns target (Str a ∷ Num b ∷ Str c ∷ more) = lit≤ tt
 short_call_file_open ns target (Str a ∷ Num b ∷ Num c ∷ []) = lit≤ tt
 short_call_file_open ns target (Str a ∷ Num b ∷ Num c ∷ Str d ∷ more) = lit≤ tt
-short_call_file_open ns target (Str a ∷ Num b ∷ Num c ∷ Num d ∷ []) = short_file ns.files ns.handles target a 0 b c open_existing d
+short_call_file_open ns target (Str a ∷ Num b ∷ Num c ∷ Num d ∷ []) = short_file ns.files ns.handles target a (asked 0 b c open_existing d)
 short_call_file_open ns target (Str a ∷ Num b ∷ Num c ∷ Num d ∷ other ∷ more) = lit≤ tt
 
 short_call_file_query : (ns : Space) (args : List Arg) → IsShort (file_query ns args).answer

@@ -1,7 +1,6 @@
 -- What each call of a service does to the handles: nothing, or it grants one on an object of its own service.
 use Rattle.std.proofs.Common.{◌≡◌, ◌∙◌, ℕ, ◌+◌, ◌≤◌, Bool, true, false, if◌then◌else◌, List, [], ◌∷◌, length, Option, None, Some, refl, sym, ap, subst, arith, ◌⊎◌, inl, inr, ◌++◌, ◌&&◌, ◌||◌, not, ◌==◌}
 use Rattle.std.proofs.lemmas.List.{length-set, length-append}
-use Rattle.sb_call.specs.Statuses.{meets}
 use Rattle.sb_handles.specs.Effects.{Effect}
 use Rattle.sb_handles.specs.Tables.{Table, with_handle}
 use Rattle.sb_handles.specs.declared.objects.Held.{Held}
@@ -11,7 +10,7 @@ use Rattle.sb_names.specs.Maps.{found}
 use Rattle.sb_names.specs.Trees.{has_parent}
 use Rattle.sb_file.specs.Creation as creation
 use Rattle.sb_file.specs.Files as files
-use Rattle.sb_file.specs.declared.objects.FileObject.{FileObject}
+use Rattle.sb_file.specs.declared.requests.FileRequest.{FileRequest}
 use Rattle.sb_pipe.specs.Pipes as pipes
 use Rattle.sb_pipe.specs.declared.rows.PipeRow.{PipeRow}
 use Rattle.sb_key.specs.Registry as registry
@@ -46,46 +45,44 @@ made_files f = length f.objects
 
 -- files
 
-opens_step : (before after : files.Files) (handles : Table) (target number access sharing result : ℕ) → length after.objects ≤ length before.objects + 1
-    → IsStepOf made_files service.File before handles (creation.opens after handles target number access sharing result)
-opens_step before after handles target number access sharing result h =
-    inr (record { target = target; held = creation.on_file number access sharing; kind_is = refl; one = h; handles_are = refl })
+opens_step : (before after : files.Files) (handles : Table) (target number : ℕ) (request : FileRequest) (result : ℕ)
+    → length after.objects ≤ length before.objects + 1
+    → IsStepOf made_files service.File before handles (creation.opens after handles target number request result)
+opens_step before after handles target number request result h =
+    inr (record { target = target; held = creation.on_file number request; kind_is = refl; one = h; handles_are = refl })
 
 same_count : (f : files.Files) (number attributes : ℕ) → length (files.with_attributes f number attributes).objects ≤ length f.objects + 1
 same_count f number attributes = rw (length-set f.objects _ _) (omega arith)
 
-open_by_step : (f : files.Files) (handles : Table) (target number attributes access sharing disposition : ℕ)
-    → IsStepOf made_files service.File f handles (creation.open_by f handles target number attributes access sharing disposition)
-open_by_step f handles target number attributes access sharing disposition =
-    step_if made_files service.File f handles (disposition == creation.open_existing || disposition == creation.open_or_create) _ _
-    (opens_step f f handles target number access sharing creation.was_opened (omega arith))
-    (step_if made_files service.File f handles (disposition == creation.supersede) _ _
-    (opens_step f (files.with_attributes f number attributes) handles target number access sharing creation.was_superseded (same_count f number attributes))
-    (opens_step f (files.with_attributes f number attributes) handles target number access sharing creation.was_overwritten (same_count f number attributes)))
+open_by_step : (f : files.Files) (handles : Table) (target number : ℕ) (request : FileRequest)
+    → IsStepOf made_files service.File f handles (creation.open_by f handles target number request)
+open_by_step f handles target number request =
+    step_if made_files service.File f handles (request.disposition == creation.open_existing || request.disposition == creation.open_or_create) _ _
+    (opens_step f f handles target number request creation.was_opened (omega arith))
+    (step_if made_files service.File f handles (request.disposition == creation.supersede) _ _
+    (opens_step f (files.with_attributes f number request.attributes) handles target number request creation.was_superseded (same_count f number request.attributes))
+    (opens_step f (files.with_attributes f number request.attributes) handles target number request creation.was_overwritten (same_count f number request.attributes)))
 
-create_by_step : (o : Option ℕ) (f : files.Files) (handles : Table) (target : ℕ) (name : List ℕ) (attributes access sharing disposition options : ℕ)
-    → IsStepOf made_files service.File f handles (creation.create_by o f handles target name attributes access sharing disposition options)
-create_by_step None f handles target name attributes access sharing disposition options =
-    step_if made_files service.File f handles (disposition == creation.open_existing || disposition == creation.overwrite) _ _
+create_by_step : (o : Option ℕ) (f : files.Files) (handles : Table) (target : ℕ) (name : List ℕ) (request : FileRequest)
+    → IsStepOf made_files service.File f handles (creation.create_by o f handles target name request)
+create_by_step None f handles target name request =
+    step_if made_files service.File f handles (request.disposition == creation.open_existing || request.disposition == creation.overwrite) _ _
     (inl (refl, refl))
-    (opens_step f (files.with_object f name object) handles target (length f.objects + 1) access sharing creation.was_created
-    (rw (length-append f.objects (object ∷ [])) (omega arith)))
-  where
-    object : FileObject
-    object = record { kind = files.kind_of (meets options creation.directory_option); attributes = attributes }
-create_by_step (Some number) f handles target name attributes access sharing disposition options =
-    step_if made_files service.File f handles (disposition == creation.create_new) _ _ (inl (refl, refl))
-    (step_if made_files service.File f handles (not (files.is_directory (files.object_of f number).kind) && meets options creation.directory_option) _ _ (inl (refl, refl))
-    (step_if made_files service.File f handles (files.is_directory (files.object_of f number).kind && (meets options creation.non_directory_option || creation.replaces disposition)) _ _ (inl (refl, refl))
-    (step_if made_files service.File f handles (files.is_shared_out f number access sharing) _ _ (inl (refl, refl))
-    (open_by_step f handles target number attributes access sharing disposition))))
+    (opens_step f (files.with_object f name (creation.object_asked request)) handles target (length f.objects + 1) request creation.was_created
+    (rw (length-append f.objects (creation.object_asked request ∷ [])) (omega arith)))
+create_by_step (Some number) f handles target name request =
+    step_if made_files service.File f handles (request.disposition == creation.create_new) _ _ (inl (refl, refl))
+    (step_if made_files service.File f handles (not (files.is_directory (files.object_of f number).kind) && creation.wants_directory request) _ _ (inl (refl, refl))
+    (step_if made_files service.File f handles (files.is_directory (files.object_of f number).kind && (creation.wants_file request || creation.replaces request.disposition)) _ _ (inl (refl, refl))
+    (step_if made_files service.File f handles (files.is_shared_out f number request.access request.sharing) _ _ (inl (refl, refl))
+    (open_by_step f handles target number request))))
 
-pub file_step : (f : files.Files) (handles : Table) (target : ℕ) (name : List ℕ) (attributes access sharing disposition options : ℕ)
-    → IsStepOf made_files service.File f handles (creation.create f handles target name attributes access sharing disposition options)
-file_step f handles target name attributes access sharing disposition options =
-    step_if made_files service.File f handles (creation.is_invalid sharing disposition options) _ _ (inl (refl, refl))
+pub file_step : (f : files.Files) (handles : Table) (target : ℕ) (name : List ℕ) (request : FileRequest)
+    → IsStepOf made_files service.File f handles (creation.create f handles target name request)
+file_step f handles target name request =
+    step_if made_files service.File f handles (creation.is_invalid request) _ _ (inl (refl, refl))
     (step_if made_files service.File f handles (not (files.has_parent f name)) _ _ (inl (refl, refl))
-    (create_by_step (found f.names name) f handles target name attributes access sharing disposition options))
+    (create_by_step (found f.names name) f handles target name request))
 
 -- pipes
 
@@ -126,7 +123,7 @@ key_open_by_step (Some number) k handles target access =
     inr (record { target = target; held = registry.on_key number access; kind_is = refl; one = omega arith; handles_are = refl })
 
 pub key_open_step : (k : registry.Keys) (handles : Table) (target : ℕ) (name : List ℕ) (access : ℕ)
-    → IsStepOf (λ q. q.made) service.Key k handles (registry.open_key k handles target name access)
+    → IsStepOf (λ q. q.made) service.Key k handles (registry.open_by_name k handles target name access)
 key_open_step k handles target name access =
     step_if (λ q. q.made) service.Key k handles (not (has_parent k.names name)) _ _ (inl (refl, refl))
     (key_open_by_step (found k.names name) k handles target access)

@@ -1,4 +1,5 @@
 pub mod Namespaces
 pub mod Openings
+pub mod Held
 pub mod Kept
 pub mod Laws

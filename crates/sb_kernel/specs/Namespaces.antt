@@ -66,12 +66,13 @@ ping ns _ = misfit ns
 
 abbrev pub file_create : Space → ℕ → List Arg → Effect
 file_create ns target (Str name ∷ Num attributes ∷ Num access ∷ Num sharing ∷ Num disposition ∷ Num options ∷ []) =
-    on_files ns (creation.create ns.files ns.handles target name attributes access sharing disposition options)
+    on_files ns (creation.create ns.files ns.handles target name
+    (record { attributes = attributes; access = access; sharing = sharing; disposition = disposition; options = options }))
 file_create ns target _ = misfit ns
 
 abbrev pub file_open : Space → ℕ → List Arg → Effect
 file_open ns target (Str name ∷ Num access ∷ Num sharing ∷ Num options ∷ []) =
-    on_files ns (creation.open_file ns.files ns.handles target name access sharing options)
+    on_files ns (creation.open_by_name ns.files ns.handles target name access sharing options)
 file_open ns target _ = misfit ns
 
 abbrev pub file_query : Space → List Arg → Effect
@@ -92,7 +93,7 @@ key_create ns target (Str name ∷ Num access ∷ []) = on_keys ns (registry.cre
 key_create ns target _ = misfit ns
 
 abbrev pub key_open : Space → ℕ → List Arg → Effect
-key_open ns target (Str name ∷ Num access ∷ []) = on_keys ns (registry.open_key ns.keys ns.handles target name access)
+key_open ns target (Str name ∷ Num access ∷ []) = on_keys ns (registry.open_by_name ns.keys ns.handles target name access)
 key_open ns target _ = misfit ns
 
 abbrev pub event_create : Space → ℕ → List Arg → Effect
@@ -101,7 +102,7 @@ event_create ns target (Str name ∷ Num kind ∷ Num initial ∷ []) =
 event_create ns target _ = misfit ns
 
 abbrev pub event_open : Space → ℕ → List Arg → Effect
-event_open ns target (Str name ∷ Num access ∷ []) = on_events ns (events.open_event ns.events ns.handles target name access)
+event_open ns target (Str name ∷ Num access ∷ []) = on_events ns (events.open_by_name ns.events ns.handles target name access)
 event_open ns target _ = misfit ns
 
 -- what a closed handle leaves of its object: a file is no longer shared by it, and a pipe has one handle fewer

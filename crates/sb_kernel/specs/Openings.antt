@@ -1,11 +1,12 @@
 -- The namespace that is there before the first call.
-use Rattle.std.specs.Prelude.{◌≡◌, ℕ, ◌+◌, Bool, true, false, List, [], ◌∷◌, Option, None, Some, Result, Ok, Err, ⊤, if◌then◌else◌}
+use Rattle.std.specs.Prelude.{◌≡◌, ℕ, ◌+◌, Bool, true, false, List, [], ◌∷◌, length, Option, None, Some, Result, Ok, Err, ⊤, if◌then◌else◌}
 use Rattle.sb_wide.specs.Names.{is_name_of}
 use Rattle.sb_statements.specs.declared.scripts.StartLine.{StartLine}
 use Rattle.sb_statements.specs.declared.scripts.StartLine.TheVariants.{Dir, File, Key, Event}
 use Rattle.sb_file.specs.Files as files
 use Rattle.sb_key.specs.Registry as registry
 use Rattle.sb_event.specs.Events as events
+use Rattle.sb_kernel.specs.Kept.{MadeAtMost}
 use Rattle.sb_kernel.specs.Namespaces.{Space, empty_space}
 use Rattle.sb_kernel.specs.declared.openings.StartRefused.{StartRefused}
 use Rattle.sb_kernel.specs.declared.openings.StartRefused.TheVariants.{BadStart}
@@ -57,3 +58,7 @@ opening lines = space_or_empty (opened lines)
 abbrev pub IsStartRefused : Result Space ℕ → StartRefused → Type 0
 IsStartRefused wanted (BadStart at) = wanted ≡ Err at
 IsStartRefused wanted refused.NoMemory = ⊤
+
+-- objects that are placed in turn are the only ones: each service made at most as many
+abbrev pub OpeningsMakeFew : Type 0
+OpeningsMakeFew = (lines : List StartLine) (ns : Space) → opened lines ≡ Ok ns → MadeAtMost (length lines) ns

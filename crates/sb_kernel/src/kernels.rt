@@ -1,20 +1,27 @@
 // The kernel, and what each call does.
-ghost use Rattle.std.specs.Prelude.{◌≡◌, ◌<◌, ◌^◌, length, true, is_some, unwrap_or, IfOk, OnOk, OnErr};
+ghost use Rattle.std.specs.Prelude.{◌≡◌, ◌<◌, ◌^◌, length, nat_lt, true, is_some, unwrap_or, IfOk, OnOk, OnErr};
 ghost use Rattle.sb_wide.specs.Names.{is_name_of};
 ghost use Rattle.sb_call.specs.Arguments.{fits};
 ghost use Rattle.sb_file.specs.Creation as creation;
 ghost use Rattle.sb_pipe.specs.Pipes as pipes;
 ghost use Rattle.sb_call.specs.declared.tags.CallTag.TheVariants as tag;
 ghost use Rattle.sb_handles.specs.Tables.{IsTable, held_by};
-ghost use Rattle.sb_kernel.specs.Namespaces.{Space, empty_space, on_files, on_pipes, perform, ping, file_create, file_open, file_query, file_rename, pipe_create, key_create, key_open, event_create, event_open, handle_close, close_by};
+ghost use Rattle.sb_kernel.specs.Namespaces.{Space, empty_space, on_events, on_files, on_keys, on_pipes, renames, perform, ping, file_create, file_open, file_query, file_rename, pipe_create, key_create, key_open, event_create, event_open, handle_close, close_by};
 ghost use Rattle.sb_kernel.specs.Openings.{placed, is_named};
 ghost use Rattle.sb_file.specs.Laws.{GrantsLeaveFiles, ClosesKeepFiles, ClosesLeaveFiles};
 ghost use Rattle.sb_pipe.specs.Laws.{GrantsLeavePipes, ClosesKeepPipes, ClosesLeavePipes};
-ghost use Rattle.sb_kernel.specs.Kept.{MadeAtMost};
+ghost use Rattle.sb_event.specs.Events as events;
+ghost use Rattle.sb_file.specs.Files as files;
+ghost use Rattle.sb_key.specs.Registry as registry;
+ghost use Rattle.sb_kernel.specs.Kept.{IsSound, MadeAtMost};
 
+use crate::services::{
+    events_are_granted, files_are_granted, files_are_renamed, keys_are_granted, names_stay,
+    pipes_are_granted,
+};
 use sb_call::{Answer, Arg, CallTag, INVALID_HANDLE, INVALID_PARAMETER, SUCCESS};
 use sb_event::EventService;
-use sb_file::{FileService, agreement_is_kept as files_stay_agreed};
+use sb_file::{FileRequest, FileService, agreement_is_kept as files_stay_agreed};
 use sb_handles::{HandleTable, Object, Service};
 use sb_key::KeyService;
 use sb_pipe::{PipeService, agreement_is_kept as pipes_stay_agreed};
@@ -97,6 +104,18 @@ impl Kernel {
         }
     }
 
+    /// Files and pipes agree with the handles on them; each handle of a file, key or event has its row, with access and sharing
+    /// below 2^32; each name is one; and numbers are distinct within each service. It changes nothing.
+    pub fn establish_sound(&self)
+        ensures { IsSound self.now }
+    {
+        self.files.files_are_made();
+        self.pipes.pipes_are_made();
+        self.keys.keys_are_made();
+        self.events.events_are_made();
+        self.handles.numbers_rise();
+    }
+
     // What each call rests on: fewer than 2^63 handles were granted, and as many objects made in each service, and a handle
     // granted on an object of another service leaves the agreement of files and pipes with the handles.
     fn bounds(&self)
@@ -129,46 +148,19 @@ impl Kernel {
                 Arg::Num(sharing),
                 Arg::Num(disposition),
                 Arg::Num(options),
-            ] => self.create_file(
+            ] => self.obtain_file(
                 target,
                 name.as_units(),
-                *attributes,
-                *access,
-                *sharing,
-                *disposition,
-                *options,
+                FileRequest {
+                    attributes: *attributes,
+                    access: *access,
+                    sharing: *sharing,
+                    disposition: *disposition,
+                    options: *options,
+                },
             ),
             _ => Ok(Answer::refusal(INVALID_PARAMETER)),
         }
-    }
-
-    fn create_file(
-        &mut self,
-        target: u32,
-        name: &[u16],
-        attributes: u64,
-        access: u64,
-        sharing: u64,
-        disposition: u64,
-        options: u64,
-    ) -> Result<Answer, NoMemory>
-        requires name { is_name_of name.now ≡ true }
-        ensures answer { IfOk result (λ a. a ≡ (on_files self.old (creation.create self.old.files self.old.handles target name.now attributes access sharing disposition options)).answer) }
-        ensures ok { OnOk result (self.new ≡ (on_files self.old (creation.create self.old.files self.old.handles target name.now attributes access sharing disposition options)).space) }
-        ensures err { OnErr result (self.new ≡ self.old) }
-    {
-        self.bounds();
-        let answer = self.files.create(
-            &mut self.handles,
-            target,
-            name,
-            attributes,
-            access,
-            sharing,
-            disposition,
-            options,
-        )?;
-        Ok(answer)
     }
 
     fn file_open(&mut self, target: u32, args: &[Arg]) -> Result<Answer, NoMemory>
@@ -183,28 +175,32 @@ impl Kernel {
                 Arg::Num(access),
                 Arg::Num(sharing),
                 Arg::Num(options),
-            ] => { self.open_file(target, name.as_units(), *access, *sharing, *options) }
+            ] => self.obtain_file(
+                target,
+                name.as_units(),
+                FileRequest::to_open(*access, *sharing, *options),
+            ),
             _ => Ok(Answer::refusal(INVALID_PARAMETER)),
         }
     }
 
-    fn open_file(
+    // Makes or opens a file or directory, for file.create and for file.open.
+    fn obtain_file(
         &mut self,
         target: u32,
         name: &[u16],
-        access: u64,
-        sharing: u64,
-        options: u64,
+        request: FileRequest,
     ) -> Result<Answer, NoMemory>
         requires name { is_name_of name.now ≡ true }
-        ensures answer { IfOk result (λ a. a ≡ (on_files self.old (creation.open_file self.old.files self.old.handles target name.now access sharing options)).answer) }
-        ensures ok { OnOk result (self.new ≡ (on_files self.old (creation.open_file self.old.files self.old.handles target name.now access sharing options)).space) }
+        requires access { nat_lt request.access (2 ^ 32) ≡ true }
+        requires sharing { nat_lt request.sharing (2 ^ 32) ≡ true }
+        ensures answer { IfOk result (λ a. a ≡ (on_files self.old (creation.create self.old.files self.old.handles target name.now request)).answer) }
+        ensures ok { OnOk result (self.new ≡ (on_files self.old (creation.create self.old.files self.old.handles target name.now request)).space) }
         ensures err { OnErr result (self.new ≡ self.old) }
     {
         self.bounds();
-        let answer = self
-            .files
-            .open_file(&mut self.handles, target, name, access, sharing, options)?;
+        files_are_granted();
+        let answer = self.files.create(&mut self.handles, target, name, request)?;
         Ok(answer)
     }
 
@@ -225,9 +221,24 @@ impl Kernel {
         ensures err { OnErr result (self.new ≡ self.old) }
     {
         match args {
-            [Arg::Str(name), Arg::Str(to)] => self.files.rename(name.as_units(), to.as_units()),
+            [Arg::Str(name), Arg::Str(to)] => self.move_file(name.as_units(), to.as_units()),
             _ => Ok(Answer::refusal(INVALID_PARAMETER)),
         }
+    }
+
+    // Gives a file or directory a new name.
+    fn move_file(&mut self, name: &[u16], to: &[u16]) -> Result<Answer, NoMemory>
+        requires name { is_name_of name.now ≡ true }
+        requires to { is_name_of to.now ≡ true }
+        ensures answer { IfOk result (λ a. a ≡ (renames self.old (files.rename self.old.files name.now to.now)).answer) }
+        ensures ok { OnOk result (self.new ≡ (renames self.old (files.rename self.old.files name.now to.now)).space) }
+        ensures err { OnErr result (self.new ≡ self.old) }
+    {
+        self.bounds();
+        files_are_renamed();
+        self.files.files_are_made();
+        let answer = self.files.rename(name, to)?;
+        Ok(answer)
     }
 
     fn pipe_create(&mut self, target: u32, args: &[Arg]) -> Result<Answer, NoMemory>
@@ -242,12 +253,13 @@ impl Kernel {
                 Arg::Num(mode),
                 Arg::Num(form),
                 Arg::Num(instances),
-            ] => { self.create_pipe(target, name.as_units(), *mode, *form, *instances) }
+            ] => { self.obtain_pipe(target, name.as_units(), *mode, *form, *instances) }
             _ => Ok(Answer::refusal(INVALID_PARAMETER)),
         }
     }
 
-    fn create_pipe(
+    // Makes a pipe, or adds a handle on one.
+    fn obtain_pipe(
         &mut self,
         target: u32,
         name: &[u16],
@@ -261,6 +273,7 @@ impl Kernel {
         ensures err { OnErr result (self.new ≡ self.old) }
     {
         self.bounds();
+        pipes_are_granted();
         let answer = self
             .pipes
             .create(&mut self.handles, target, name, mode, form, instances)?;
@@ -274,15 +287,23 @@ impl Kernel {
         ensures err { OnErr result (self.new ≡ self.old) }
     {
         match args {
-            [Arg::Str(name), Arg::Num(access)] => {
-                self.bounds();
-                let answer = self
-                    .keys
-                    .create(&mut self.handles, target, name.as_units(), *access)?;
-                Ok(answer)
-            }
+            [Arg::Str(name), Arg::Num(access)] => self.obtain_key(target, name.as_units(), *access),
             _ => Ok(Answer::refusal(INVALID_PARAMETER)),
         }
+    }
+
+    // Makes or opens a key.
+    fn obtain_key(&mut self, target: u32, name: &[u16], access: u64) -> Result<Answer, NoMemory>
+        requires name { is_name_of name.now ≡ true }
+        requires access { nat_lt access (2 ^ 32) ≡ true }
+        ensures answer { IfOk result (λ a. a ≡ (on_keys self.old (registry.create self.old.keys self.old.handles target name.now access)).answer) }
+        ensures ok { OnOk result (self.new ≡ (on_keys self.old (registry.create self.old.keys self.old.handles target name.now access)).space) }
+        ensures err { OnErr result (self.new ≡ self.old) }
+    {
+        self.bounds();
+        keys_are_granted();
+        let answer = self.keys.create(&mut self.handles, target, name, access)?;
+        Ok(answer)
     }
 
     fn key_open(&mut self, target: u32, args: &[Arg]) -> Result<Answer, NoMemory>
@@ -292,15 +313,25 @@ impl Kernel {
         ensures err { OnErr result (self.new ≡ self.old) }
     {
         match args {
-            [Arg::Str(name), Arg::Num(access)] => {
-                self.bounds();
-                let answer = self
-                    .keys
-                    .open_key(&mut self.handles, target, name.as_units(), *access)?;
-                Ok(answer)
-            }
+            [Arg::Str(name), Arg::Num(access)] => self.reach_key(target, name.as_units(), *access),
             _ => Ok(Answer::refusal(INVALID_PARAMETER)),
         }
+    }
+
+    // Opens a key that is there.
+    fn reach_key(&mut self, target: u32, name: &[u16], access: u64) -> Result<Answer, NoMemory>
+        requires name { is_name_of name.now ≡ true }
+        requires access { nat_lt access (2 ^ 32) ≡ true }
+        ensures answer { IfOk result (λ a. a ≡ (on_keys self.old (registry.open_by_name self.old.keys self.old.handles target name.now access)).answer) }
+        ensures ok { OnOk result (self.new ≡ (on_keys self.old (registry.open_by_name self.old.keys self.old.handles target name.now access)).space) }
+        ensures err { OnErr result (self.new ≡ self.old) }
+    {
+        self.bounds();
+        keys_are_granted();
+        let answer = self
+            .keys
+            .open_by_name(&mut self.handles, target, name, access)?;
+        Ok(answer)
     }
 
     fn event_create(&mut self, target: u32, args: &[Arg]) -> Result<Answer, NoMemory>
@@ -311,18 +342,31 @@ impl Kernel {
     {
         match args {
             [Arg::Str(name), Arg::Num(kind), Arg::Num(initial)] => {
-                self.bounds();
-                let answer = self.events.create(
-                    &mut self.handles,
-                    target,
-                    name.as_units(),
-                    *kind,
-                    *initial,
-                )?;
-                Ok(answer)
+                self.obtain_event(target, name.as_units(), *kind, *initial)
             }
             _ => Ok(Answer::refusal(INVALID_PARAMETER)),
         }
+    }
+
+    // Makes or opens an event.
+    fn obtain_event(
+        &mut self,
+        target: u32,
+        name: &[u16],
+        kind: u64,
+        initial: u64,
+    ) -> Result<Answer, NoMemory>
+        requires name { is_name_of name.now ≡ true }
+        ensures answer { IfOk result (λ a. a ≡ (on_events self.old (events.create self.old.events self.old.handles target name.now kind initial)).answer) }
+        ensures ok { OnOk result (self.new ≡ (on_events self.old (events.create self.old.events self.old.handles target name.now kind initial)).space) }
+        ensures err { OnErr result (self.new ≡ self.old) }
+    {
+        self.bounds();
+        events_are_granted();
+        let answer = self
+            .events
+            .create(&mut self.handles, target, name, kind, initial)?;
+        Ok(answer)
     }
 
     fn event_open(&mut self, target: u32, args: &[Arg]) -> Result<Answer, NoMemory>
@@ -332,15 +376,29 @@ impl Kernel {
         ensures err { OnErr result (self.new ≡ self.old) }
     {
         match args {
-            [Arg::Str(name), Arg::Num(access)] => {
-                self.bounds();
-                let answer = self
-                    .events
-                    .open_event(&mut self.handles, target, name.as_units(), *access)?;
-                Ok(answer)
-            }
+            [Arg::Str(name), Arg::Num(access)] => self.reach_event(
+                target,
+                name.as_units(),
+                *access,
+            ),
             _ => Ok(Answer::refusal(INVALID_PARAMETER)),
         }
+    }
+
+    // Opens an event that is there.
+    fn reach_event(&mut self, target: u32, name: &[u16], access: u64) -> Result<Answer, NoMemory>
+        requires name { is_name_of name.now ≡ true }
+        requires access { nat_lt access (2 ^ 32) ≡ true }
+        ensures answer { IfOk result (λ a. a ≡ (on_events self.old (events.open_by_name self.old.events self.old.handles target name.now access)).answer) }
+        ensures ok { OnOk result (self.new ≡ (on_events self.old (events.open_by_name self.old.events self.old.handles target name.now access)).space) }
+        ensures err { OnErr result (self.new ≡ self.old) }
+    {
+        self.bounds();
+        events_are_granted();
+        let answer = self
+            .events
+            .open_by_name(&mut self.handles, target, name, access)?;
+        Ok(answer)
     }
 
     fn handle_close(&mut self, target: u32, args: &[Arg]) -> Answer
@@ -387,6 +445,21 @@ impl Kernel {
         Answer::refusal(SUCCESS)
     }
 
+    /// Whether an object of the opening can be placed: its parent is there and a directory, and its name is free among the
+    /// objects of its service.
+    pub fn can_place(&self, line: &StartLine) -> bool
+        requires name { is_named line.now ≡ true }
+        ensures { result ≡ is_some (placed self.now line.now) }
+    {
+        match line {
+            StartLine::Dir { name } | StartLine::File { name, .. } => {
+                self.files.can_start(name.as_units())
+            }
+            StartLine::Key { name } => self.keys.can_start(name.as_units()),
+            StartLine::Event { name, .. } => self.events.can_start(name.as_units()),
+        }
+    }
+
     /// Places an object of the opening, with fewer than 4,096 objects of each service made before. False exactly where it
     /// cannot be placed, since its parent is missing or no directory, or its name is taken among the objects of its
     /// service; then nothing is changed.
@@ -400,6 +473,7 @@ impl Kernel {
         ensures ok { OnOk result (self.new ≡ unwrap_or (placed self.old line.now) self.old) }
         ensures err { OnErr result (self.new ≡ self.old) }
     {
+        names_stay();
         match line {
             StartLine::Dir { name } => self.files.start(name.as_units(), true, 0),
             StartLine::File { name, attributes } => {

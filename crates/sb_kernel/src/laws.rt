@@ -1,5 +1,6 @@
 // Laws of the namespace. None of these functions changes anything: each contract is a law.
 ghost use Rattle.sb_kernel.specs.Laws.{AnswersAreShort, RefusedCallsChangeNothing, UnheldClosesChangeNothing};
+ghost use Rattle.sb_kernel.specs.Openings.{OpeningsMakeFew};
 
 use sb_event::refused_calls_change_nothing as refused_events_change_nothing;
 use sb_file::refusals_change_nothing as refused_files_change_nothing;
@@ -27,4 +28,9 @@ pub fn unheld_closes_change_nothing()
 #[tactic(auto, using(crate::proofs::Shortness::answers_are_short))]
 pub fn answers_are_short()
     ensures { AnswersAreShort }
+{}
+
+/// After objects of the opening were placed in turn, each service made at most as many.
+pub fn openings_make_few()
+    ensures { OpeningsMakeFew }
 {}

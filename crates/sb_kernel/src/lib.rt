@@ -4,7 +4,11 @@
 mod kernels;
 mod laws;
 mod openings;
+mod services;
 
 pub use kernels::Kernel;
-pub use laws::{answers_are_short, refused_calls_change_nothing, unheld_closes_change_nothing};
+pub use laws::{
+    answers_are_short, openings_make_few, refused_calls_change_nothing,
+    unheld_closes_change_nothing,
+};
 pub use openings::StartRefused;

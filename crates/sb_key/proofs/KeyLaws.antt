@@ -5,11 +5,12 @@ use Rattle.sb_call.specs.Statuses.{path_not_found}
 use Rattle.sb_handles.specs.Effects.{Effect, refused}
 use Rattle.sb_handles.specs.Tables.{Table}
 use Rattle.sb_names.specs.Keys.{key_of}
-use Rattle.sb_names.specs.Laws.{PutsAreFound, PutsKeepTrees}
+use Rattle.std.specs.Map.{lookup}
+use Rattle.sb_names.specs.Laws.{PutsAreFound, PutsKeepRows, PutsKeepTrees}
 use Rattle.sb_names.specs.Maps.{is_key, found}
 use Rattle.sb_names.specs.Trees.{IsTree, has_parent}
 use Rattle.sb_key.specs.Registry.{Keys, create_by}
-use Rattle.sb_key.specs.Laws.{CreatesAreFound, CreatesKeepTrees, says_made}
+use Rattle.sb_key.specs.Laws.{CreatesAreFound, CreatesKeepKeys, CreatesKeepTrees, says_made}
 
 -- what an effect of key.create makes of another name
 abbrev IsFoundAfter : Keys → List ℕ → List ℕ → Effect Keys → Type 0
@@ -34,3 +35,15 @@ creates_keep_trees keep keys handles target name access tree = by (has_parent ke
     by false h number = tree
     by true h None = keep keys.names name (keys.made + 1) tree h
     by true h (Some number) = tree
+
+pub creates_keep_keys : PutsKeepRows ℕ → CreatesKeepKeys
+creates_keep_keys keep keys handles target name key access old f = by (has_parent keys.names name) (found keys.names name) refl
+  where
+    P : Effect Keys → Type 0
+    P effect = lookup (is_key key) effect.service.names ≡ Some old
+
+    by : (parent : Bool) (o : Option ℕ) → found keys.names name ≡ o
+        → P (if not parent then refused keys handles path_not_found else create_by o keys handles target name access)
+    by false o there = f
+    by true None absent = keep keys.names name key (keys.made + 1) old absent f
+    by true (Some number) there = f

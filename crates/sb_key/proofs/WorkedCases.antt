@@ -3,7 +3,7 @@ use Rattle.std.specs.Prelude.{◌≡◌, ℕ, List, [], ◌∷◌, codes, refl}
 use Rattle.sb_call.specs.Statuses.{refusal, granting, success, name_not_found, path_not_found}
 use Rattle.sb_handles.specs.Effects.{Effect}
 use Rattle.sb_handles.specs.Tables.{no_handles}
-use Rattle.sb_key.specs.Registry.{Keys, no_keys, create, open_key}
+use Rattle.sb_key.specs.Registry.{Keys, no_keys, create, open_by_name}
 
 abbrev first : Effect Keys
 first = create no_keys no_handles 0 (codes "\\k") 1
@@ -17,8 +17,8 @@ there = refl
 no_parent : (create first.service first.handles 0 (codes "\\q\\r") 1).answer ≡ refusal path_not_found
 no_parent = refl
 
-no_parent_to_open : (open_key first.service first.handles 0 (codes "\\q\\r") 1).answer ≡ refusal path_not_found
+no_parent_to_open : (open_by_name first.service first.handles 0 (codes "\\q\\r") 1).answer ≡ refusal path_not_found
 no_parent_to_open = refl
 
-absent : (open_key first.service first.handles 0 (codes "\\k\\r") 1).answer ≡ refusal name_not_found
+absent : (open_by_name first.service first.handles 0 (codes "\\k\\r") 1).answer ≡ refusal name_not_found
 absent = refl

@@ -1,13 +1,14 @@
 -- Laws of keys.
 use Rattle.std.specs.Prelude.{◌≡◌, ◌+◌, ℕ, Bool, false, ◌&&◌, ◌==◌, nat_eq, List, [], ◌∷◌, Some, if◌then◌else◌}
 use Rattle.std.specs.Cmp.Lexicographic.{pointwise}
+use Rattle.std.specs.Map.{lookup}
 use Rattle.sb_call.specs.Statuses.{success}
 use Rattle.sb_handles.specs.Effects.{Effect}
 use Rattle.sb_handles.specs.Tables.{Table, with_handle}
 use Rattle.sb_names.specs.Keys.{key_of}
 use Rattle.sb_names.specs.Maps.{is_key, found}
 use Rattle.sb_names.specs.Trees.{IsTree}
-use Rattle.sb_key.specs.Registry.{Keys, create, open_key, created_new_key, on_key}
+use Rattle.sb_key.specs.Registry.{Keys, create, open_by_name, created_new_key, on_key}
 
 -- a call leaves all as it was
 abbrev pub ChangesNothing : Keys → Table → Effect Keys → Type 0
@@ -20,8 +21,8 @@ RefusedCreatesChangeNothing = (keys : Keys) (handles : Table) (target : ℕ) (na
 
 abbrev pub RefusedOpensChangeNothing : Type 0
 RefusedOpensChangeNothing = (keys : Keys) (handles : Table) (target : ℕ) (name : List ℕ) (access : ℕ)
-    → (open_key keys handles target name access).answer.status == success ≡ false
-    → ChangesNothing keys handles (open_key keys handles target name access)
+    → (open_by_name keys handles target name access).answer.status == success ≡ false
+    → ChangesNothing keys handles (open_by_name keys handles target name access)
 
 -- the extended words say that a key was made
 abbrev pub says_made : List ℕ → Bool
@@ -37,7 +38,12 @@ CreatesAreFound = (keys : Keys) (handles : Table) (target : ℕ) (name other : L
 
 abbrev pub OpensLeaveKeys : Type 0
 OpensLeaveKeys = (keys : Keys) (handles : Table) (target : ℕ) (name : List ℕ) (access : ℕ)
-    → (open_key keys handles target name access).service ≡ keys
+    → (open_by_name keys handles target name access).service ≡ keys
+
+-- what stands under a name stands there still after key.create
+abbrev pub CreatesKeepKeys : Type 0
+CreatesKeepKeys = (keys : Keys) (handles : Table) (target : ℕ) (name key : List ℕ) (access number : ℕ)
+    → lookup (is_key key) keys.names ≡ Some number → lookup (is_key key) (create keys handles target name access).service.names ≡ Some number
 
 -- each key stands below one that is there, or below the root
 abbrev pub CreatesKeepTrees : Type 0
@@ -57,5 +63,5 @@ CreatesGrantTheirKey = (keys : Keys) (handles : Table) (target : ℕ) (name : Li
 
 abbrev pub OpensGrantTheirKey : Type 0
 OpensGrantTheirKey = (keys : Keys) (handles : Table) (target : ℕ) (name : List ℕ) (access : ℕ)
-    → (open_key keys handles target name access).answer.status ≡ success
-    → IsGrantedOn (open_key keys handles target name access) handles target name access
+    → (open_by_name keys handles target name access).answer.status ≡ success
+    → IsGrantedOn (open_by_name keys handles target name access) handles target name access

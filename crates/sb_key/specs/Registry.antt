@@ -64,8 +64,8 @@ open_by None keys handles target access = refused keys handles name_not_found
 open_by (Some number) keys handles target access = grants keys handles target (on_key number access) success []
 
 -- key.open: the first case that applies
-abbrev pub open_key : Keys → Table → ℕ → List ℕ → ℕ → Effect Keys
-open_key keys handles target name access =
+abbrev pub open_by_name : Keys → Table → ℕ → List ℕ → ℕ → Effect Keys
+open_by_name keys handles target name access =
     if not (has_parent keys.names name) then refused keys handles path_not_found
     else open_by (found keys.names name) keys handles target access
 

@@ -1,7 +1,7 @@
 // Laws of keys. None of these functions changes anything: each contract is a law.
-ghost use Rattle.sb_key.specs.Laws.{RefusedCreatesChangeNothing, RefusedOpensChangeNothing, CreatesAreFound, CreatesGrantTheirKey, OpensGrantTheirKey, OpensLeaveKeys, CreatesKeepTrees};
+ghost use Rattle.sb_key.specs.Laws.{RefusedCreatesChangeNothing, RefusedOpensChangeNothing, CreatesAreFound, CreatesGrantTheirKey, OpensGrantTheirKey, OpensLeaveKeys, CreatesKeepKeys, CreatesKeepTrees};
 
-use sb_names::{puts_are_found, puts_keep_trees};
+use sb_names::{puts_are_found, puts_keep_rows, puts_keep_trees};
 
 /// A call that neither made nor opened a key leaves keys and handles as they were.
 pub fn refused_calls_change_nothing()
@@ -16,6 +16,14 @@ pub fn keys_are_found_where_made()
     ensures opens { OpensLeaveKeys }
 {
     puts_are_found::<u64>();
+}
+
+/// Keys stay under their names: what stands under a name stands there after each call that makes or opens a key.
+#[tactic(auto, using(crate::proofs::KeyLaws::creates_keep_keys))]
+pub fn keys_stay()
+    ensures { CreatesKeepKeys }
+{
+    puts_keep_rows::<u64>();
 }
 
 /// Where each key stands below one that is there, or below the root, each does so after a call that makes a key.

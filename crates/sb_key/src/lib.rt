@@ -6,7 +6,7 @@ mod laws;
 mod registry;
 
 pub use laws::{
-    calls_grant_their_key, keys_are_found_where_made, keys_stand_below_keys,
+    calls_grant_their_key, keys_are_found_where_made, keys_stand_below_keys, keys_stay,
     refused_calls_change_nothing,
 };
 pub use registry::KeyService;

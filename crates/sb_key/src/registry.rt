@@ -1,9 +1,10 @@
 // The keys by their names, and the calls on them.
 ghost use Rattle.std.specs.Prelude.{◌≡◌, ◌+◌, ◌<◌, ◌^◌, true, None, IfOk, OnOk, OnErr};
 ghost use Rattle.sb_wide.specs.Names.{is_name_of};
+ghost use Rattle.sb_handles.specs.Effects.{IsDone};
 ghost use Rattle.sb_names.specs.Maps.{count_in, found};
 ghost use Rattle.sb_names.specs.Trees.{has_parent};
-ghost use Rattle.sb_key.specs.Registry.{AreKeys, no_keys, with_key, on_key, create, create_by, open_key, can_start, started};
+ghost use Rattle.sb_key.specs.Registry.{AreKeys, no_keys, with_key, on_key, create, create_by, open_by_name, can_start, started};
 
 use sb_call::{Answer, Extended, NAME_NOT_FOUND, PATH_NOT_FOUND, SUCCESS};
 use sb_handles::{HandleTable, Held, Object, Service};
@@ -112,9 +113,7 @@ impl KeyService {
         requires absent { found self.old.names name.now ≡ None }
         requires granted { handles.old.granted < 2 ^ 63 }
         requires made { self.old.made < 2 ^ 63 }
-        ensures answer { IfOk result (λ a. a ≡ (create_by None self.old handles.old target name.now access).answer) }
-        ensures service { OnOk result (self.new ≡ (create_by None self.old handles.old target name.now access).service) }
-        ensures handles { OnOk result (handles.new ≡ (create_by None self.old handles.old target name.now access).handles) }
+        ensures effect { IfOk result (λ a. IsDone (create_by None self.old handles.old target name.now access) self.new handles.new a) }
         ensures err { OnErr result ((self.new ≡ self.old) × (handles.new ≡ handles.old)) }
     {
         puts_come_back::<u64>();
@@ -148,9 +147,7 @@ impl KeyService {
         requires name { is_name_of name.now ≡ true }
         requires granted { handles.old.granted < 2 ^ 63 }
         requires made { self.old.made < 2 ^ 63 }
-        ensures answer { IfOk result (λ a. a ≡ (create self.old handles.old target name.now access).answer) }
-        ensures service { OnOk result (self.new ≡ (create self.old handles.old target name.now access).service) }
-        ensures handles { OnOk result (handles.new ≡ (create self.old handles.old target name.now access).handles) }
+        ensures effect { IfOk result (λ a. IsDone (create self.old handles.old target name.now access) self.new handles.new a) }
         ensures err { OnErr result ((self.new ≡ self.old) × (handles.new ≡ handles.old)) }
     {
         match (self.names.has_parent(name), self.names.find(name)) {
@@ -171,7 +168,7 @@ impl KeyService {
     ///
     /// # Errors
     /// `NoMemory` where there was none for the handle; then nothing is changed.
-    pub fn open_key(
+    pub fn open_by_name(
         &mut self,
         handles: &mut HandleTable,
         target: u32,
@@ -180,9 +177,8 @@ impl KeyService {
     ) -> Result<Answer, NoMemory>
         requires name { is_name_of name.now ≡ true }
         requires granted { handles.old.granted < 2 ^ 63 }
-        ensures answer { IfOk result (λ a. a ≡ (open_key self.old handles.old target name.now access).answer) }
+        ensures effect { IfOk result (λ a. IsDone (open_by_name self.old handles.old target name.now access) self.new handles.new a) }
         ensures service { self.new ≡ self.old }
-        ensures handles { OnOk result (handles.new ≡ (open_key self.old handles.old target name.now access).handles) }
         ensures err { OnErr result (handles.new ≡ handles.old) }
     {
         if !self.names.has_parent(name) {
@@ -199,6 +195,14 @@ impl KeyService {
                 })
             }
         }
+    }
+
+    /// Whether `start` can place a key of this name: its parent is there, and the name is free.
+    pub fn can_start(&self, name: &[u16]) -> bool
+        requires name { is_name_of name.now ≡ true }
+        ensures { result ≡ can_start self.now name.now }
+    {
+        self.names.has_parent(name) && self.names.find(name).is_none()
     }
 
     /// Places a key of the opening namespace. It answers false, and changes nothing, exactly where the parent is not

@@ -2,7 +2,7 @@
 use Rattle.std.proofs.Common.{◌≡◌, ℕ, Bool, true, false, cond, refl, sym, subst, ◌∙◌, ap, arith, List, [], ◌∷◌, if◌then◌else◌}
 use Rattle.std.specs.List.{IsDistinct}
 use Rattle.std.proofs.lemmas.Bool.{false≢true}
-use Rattle.std.specs.Prelude.{Option, None, Some}
+use Rattle.std.specs.Prelude.{Option, None, Some, is_some}
 use Rattle.std.specs.BTreeMap.{insert_entry}
 use Rattle.std.specs.Cmp.Lexicographic.{bytes_decides, nat_list_eq_equiv}
 use Rattle.std.proofs.lemmas.Map.{lookup-remove_entry}
@@ -12,7 +12,7 @@ use Rattle.std.specs.Ordering.{match_ordering, is_eq}
 use Rattle.std.specs.declared.cmp.Ordering.{Ordering}
 use Rattle.std.specs.declared.cmp.Ordering.TheVariants.{Less, Equal, Greater}
 use Rattle.sb_names.specs.Keys.{key_of}
-use Rattle.sb_names.specs.Laws.{PutsComeBack, PutsAreFound, OutIsOut}
+use Rattle.sb_names.specs.Laws.{PutsComeBack, PutsAreFound, PutsKeepRows, OutIsOut}
 use Rattle.sb_names.specs.Maps.{Rows, Rises, is_key}
 use Rattle.sb_names.proofs.RisingLemmas.{by_unit, other_way, own_key, key_test, equal_keys}
 
@@ -63,6 +63,15 @@ puts_come_back V rows name value h = comes_back (key_of name) value rows h
 
 pub puts_are_found : (V : Type 0) → PutsAreFound V
 puts_are_found V rows name other value = is_found (key_of name) value (key_of other) rows
+
+pub puts_keep_rows : (V : Type 0) → PutsKeepRows V
+puts_keep_rows V rows name key value old absent there = by (is_key key (key_of name)) refl
+  where
+    by : (b : Bool) → is_key key (key_of name) ≡ b → lookup (is_key key) (insert_entry by_unit rows (key_of name) value) ≡ Some old
+    by true e =
+        let gone : lookup (is_key key) rows ≡ None = ap (λ k. lookup (is_key k) rows) (is_key_eq key (key_of name) e) ∙ absent in
+        absurd (false≢true (sym (ap is_some gone) ∙ ap is_some there))
+    by false e = is_found (key_of name) value key rows ∙ ap (λ b. if b then Some value else lookup (is_key key) rows) e ∙ there
 
 pub out_is_out : (V : Type 0) → OutIsOut V
 out_is_out V rows name other rises =

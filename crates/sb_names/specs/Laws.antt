@@ -16,6 +16,11 @@ abbrev pub PutsAreFound : Type 0 → Type 0
 PutsAreFound V = (rows : Rows V) (name other : List ℕ) (value : V)
     → found (put rows name value) other ≡ (if is_key (key_of other) (key_of name) then Some value else found rows other)
 
+-- what stands under a key stands there still after something is put under a name that is not there
+abbrev pub PutsKeepRows : Type 0 → Type 0
+PutsKeepRows V = (rows : Rows V) (name key : List ℕ) (value old : V) → found rows name ≡ None → lookup (is_key key) rows ≡ Some old
+    → lookup (is_key key) (put rows name value) ≡ Some old
+
 -- what is taken out is not found, and under every other name what was found before
 abbrev pub OutIsOut : Type 0 → Type 0
 OutIsOut V = (rows : Rows V) (name other : List ℕ) → Rises rows

@@ -1,6 +1,6 @@
 // Laws of maps from names and of trees of names. None of these functions changes anything: each contract is a law.
 ghost use Rattle.sb_names.specs.Numbers.{OutsKeepNumbers, PutsKeepNumbers, RenamesKeepNumbers};
-ghost use Rattle.sb_names.specs.Laws.{NamesFold, OutIsOut, PutsAreFound, PutsComeBack, PutsKeepParents, PutsKeepTrees, RemovesKeepTrees, RenamesAddNothing, RenamesAreFound, RenamesKeepParents, RenamesKeepTrees, RenamesLeaveNothing};
+ghost use Rattle.sb_names.specs.Laws.{NamesFold, OutIsOut, PutsAreFound, PutsComeBack, PutsKeepParents, PutsKeepRows, PutsKeepTrees, RemovesKeepTrees, RenamesAddNothing, RenamesAreFound, RenamesKeepParents, RenamesKeepTrees, RenamesLeaveNothing};
 
 use sb_wide::{names_are_paths, paths_are_names};
 
@@ -14,6 +14,12 @@ pub fn puts_come_back<V>()
 #[tactic(auto, using(crate::proofs::MapLaws::puts_are_found))]
 pub fn puts_are_found<V>()
     ensures { PutsAreFound V }
+{}
+
+/// What stands under a key stands there still after something is put under a name that is not there.
+#[tactic(auto, using(crate::proofs::MapLaws::puts_keep_rows))]
+pub fn puts_keep_rows<V>()
+    ensures { PutsKeepRows V }
 {}
 
 /// What is taken out is not found, and under every other name what was found before.

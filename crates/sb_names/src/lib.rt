@@ -20,7 +20,7 @@ pub use faults::TreeFault;
 pub use keys::{is_below, parent};
 pub use laws::{
     changes_keep_trees, names_fold, numbers_are_kept, out_is_out, parents_are_kept, puts_are_found,
-    puts_come_back, puts_keep_trees, renames_are_found, renames_keep_numbers,
+    puts_come_back, puts_keep_rows, puts_keep_trees, renames_are_found, renames_keep_numbers,
 };
 pub use linked::NameTree;
 pub use maps::NameMap;

@@ -251,7 +251,7 @@ impl NameTree {
 
     #[tactic(auto, using(crate::proofs::ChildLemmas::walk_begins, crate::proofs::ChildLemmas::begins_in, crate::proofs::ChildLemmas::child_live, crate::proofs::ChildLemmas::walk_goes_on, crate::proofs::ChildLemmas::goes_on_in, crate::proofs::ChildLemmas::children_few))]
     // How many nodes stand in the directory of one.
-    fn count_children(&self, node: NodeId) -> u64
+    fn nodes_in(&self, node: NodeId) -> u64
         requires { IsLive self.now node.0 }
         ensures { result ≡ length (children_of self.now node.0) }
     {
@@ -272,7 +272,7 @@ impl NameTree {
     {
         self.establish_names();
         match self.node(name) {
-            Some(node) => Some(self.count_children(node)),
+            Some(node) => Some(self.nodes_in(node)),
             None => None,
         }
     }

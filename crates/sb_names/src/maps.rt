@@ -1,18 +1,18 @@
 // A map from names, compared folded, to what stands under each.
-ghost use Rattle.std.specs.Prelude.{◌≡◌, ◌≤◌, ◌+◌, ◌<◌, [], Ok, Err, IfOk, OnOk, OnErr, length, option_map};
+ghost use Rattle.std.specs.Prelude.{◌≡◌, ◌≤◌, ◌+◌, ◌<◌, not, [], Ok, Err, IfOk, OnOk, OnErr, length, option_map};
 ghost use Rattle.std.specs.Vec.{vec_len, vec_capacity};
 ghost use Rattle.std.specs.BTreeMap.{insert_entry};
 ghost use Rattle.std.specs.Cmp.Lexicographic.{slice_cmp};
 ghost use Rattle.std.specs.Ordering.{nat_cmp};
 ghost use Rattle.std.specs.List.Sorted.{IsSearchInRange};
 ghost use Rattle.sb_names.specs.Keys.{key_of};
-ghost use Rattle.sb_names.specs.Maps.{Rises, count_in, found, put, replaced, without};
+ghost use Rattle.sb_names.specs.Maps.{Rises, count_in, found, is_there, put, put_new, replaced, without};
 ghost use Rattle.sb_names.specs.Moves.{moved};
 ghost use Rattle.sb_names.specs.Places.{IsFound, IsPut, IsReplaced, IsOut};
 
 use crate::keys::{compare, is_key, parent};
-use crate::moves::{drop_within, put_rows, rows_under};
-use sb_wide::{NoMemory, Wide, fold};
+use crate::moves::{drop_within, put_rows, refolded, rows_under};
+use sb_wide::{NoMemory, Wide, wide_of};
 use std::alloc::Global;
 use std::marker::Model;
 
@@ -37,11 +37,7 @@ impl<V> Model for NameMap<V> {
 fn folded(alloc: Global, name: &[u16]) -> Result<Wide, NoMemory>
     ensures { IfOk result (λ key. key ≡ key_of name.now) }
 {
-    let mut units = Vec::new(alloc);
-    for unit in name {
-        units.push(fold(*unit))?;
-    }
-    Ok(Wide::new(units))
+    Ok(refolded(wide_of(alloc, name)?))
 }
 
 // Where a name stands among rows in rising order, or where it would stand.
@@ -96,6 +92,25 @@ impl<V: Copy> NameMap<V> {
             }
         }
         Ok(())
+    }
+
+    /// Puts a value under a name where nothing stands. It answers false, and changes nothing, where something does.
+    ///
+    /// # Errors
+    /// `NoMemory` where there was none for the row; then nothing is changed.
+    pub fn insert_new(&mut self, name: &[u16], value: V) -> Result<bool, NoMemory>
+        ensures free { IfOk result (λ b. b ≡ not (is_there self.old name.now)) }
+        ensures ok { OnOk result (self.new ≡ put_new self.old name.now value) }
+        ensures err { OnErr result (self.new ≡ self.old) }
+    {
+        match place(&self.rows, name) {
+            Ok(_) => Ok(false),
+            Err(at) => {
+                let key = folded(*self.rows.allocator(), name)?;
+                self.rows.insert(at, (key, value))?;
+                Ok(true)
+            }
+        }
     }
 
     /// Gives the row of a name another value. Where there is no such row nothing is changed.

@@ -57,7 +57,7 @@ pub(crate) fn drop_within<V: Copy>(rows: &mut Vec<(Wide, V)>, from: &[u16])
 
 // A name folded, in the memory that it has.
 #[tactic(auto, using(crate::proofs::MoveLemmas::folded_more, crate::proofs::MoveLemmas::folded_whole, crate::proofs::MoveLemmas::length_folded))]
-fn refolded(name: Wide) -> Wide
+pub(crate) fn refolded(name: Wide) -> Wide
     ensures { result ≡ key_of name }
 {
     let mut units = name.into_units();

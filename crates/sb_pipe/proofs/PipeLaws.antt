@@ -20,12 +20,12 @@ abbrev IsPlain : Pipes → Table → Effect Pipes → Type 0
 IsPlain pipes handles effect = (effect.answer.status ≡ success → ⊥) → Unchanged pipes handles effect
 
 -- a choice of two
-chosen : {X : Type 0} (P : X → Type 0) (b : Bool) (x y : X) → P x → P y → P (if b then x else y)
+pub chosen : {X : Type 0} (P : X → Type 0) (b : Bool) (x y : X) → P x → P y → P (if b then x else y)
 chosen P true x y p q = p
 chosen P false x y p q = q
 
 -- what holds of a call that is refused, of one on a pipe that is there, and of one that makes a pipe, holds of each
-by_create : (P : Effect Pipes → Type 0) (pipes : Pipes) (handles : Table) (target : ℕ) (name : List ℕ) (mode form instances : ℕ)
+pub by_create : (P : Effect Pipes → Type 0) (pipes : Pipes) (handles : Table) (target : ℕ) (name : List ℕ) (mode form instances : ℕ)
     → ((status : ℕ) → (status ≡ success → ⊥) → P (refused pipes handles status))
     → ((row : PipeRow) → found pipes.rows name ≡ Some row
     → P (grants (with_instance pipes name row) handles target (on_pipe row.number) success ((row.handles + 1) ∷ [])))

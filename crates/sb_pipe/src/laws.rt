@@ -1,7 +1,9 @@
 // Laws of pipes. None of these functions changes anything: each contract is a law.
-ghost use Rattle.sb_pipe.specs.Laws.{RefusalsChangeNothing, CallsGrantPipes, CallsMakeOne, PipesHaveHandles, CallsKeepPipes, ClosesKeepPipes, ClosesLeavePipes, GrantsLeavePipes};
+ghost use Rattle.sb_pipe.specs.Laws.{RefusalsChangeNothing, CallsAddHandles, CallsGrantPipes, CallsGrantTheirPipe, CallsKeepCounts, CallsLeaveOthers, CallsMakeOne, MadePipesAreAsAsked, PipesHaveHandles, CallsKeepPipes, ClosesKeepPipes, ClosesLeavePipes, GrantsLeavePipes};
 
+use crate::rows::PipeRow;
 use sb_handles::pipe_handles_are_counted;
+use sb_names::puts_are_found;
 
 /// A call that answers a status other than success leaves pipes and handles as they are.
 #[tactic(auto, using(crate::proofs::PipeLaws::refusals_change_nothing))]
@@ -14,6 +16,31 @@ pub fn refusals_change_nothing()
 pub fn calls_grant_pipes()
     ensures granted { CallsGrantPipes }
     ensures made { CallsMakeOne }
+{}
+
+/// A call that succeeds grants its handle on the pipe that is found under the name.
+#[tactic(auto, using(crate::proofs::FoundLaws::calls_grant_their_pipe))]
+pub fn calls_grant_their_pipe()
+    ensures { CallsGrantTheirPipe }
+{
+    puts_are_found::<PipeRow>();
+}
+
+/// A pipe that a call made has what was asked for; one that was there is as it was, but for the handle more; and every other
+/// name leads to what it did.
+#[tactic(auto, using(crate::proofs::FoundLaws::made_pipes_are_as_asked, crate::proofs::FoundLaws::calls_add_handles, crate::proofs::FoundLaws::calls_leave_others))]
+pub fn pipes_are_found_where_made()
+    ensures made { MadePipesAreAsAsked }
+    ensures there { CallsAddHandles }
+    ensures others { CallsLeaveOthers }
+{
+    puts_are_found::<PipeRow>();
+}
+
+/// Where no more pipes were made than handles granted, so it is after each call.
+#[tactic(auto, using(crate::proofs::FoundLaws::calls_keep_counts))]
+pub fn pipes_come_with_handles()
+    ensures { CallsKeepCounts }
 {}
 
 /// Where pipes and handles agree, a pipe is there exactly while it has handles.

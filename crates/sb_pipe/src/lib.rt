@@ -6,6 +6,9 @@ mod laws;
 mod pipes;
 mod rows;
 
-pub use laws::{agreement_is_kept, calls_grant_pipes, pipes_have_handles, refusals_change_nothing};
+pub use laws::{
+    agreement_is_kept, calls_grant_pipes, calls_grant_their_pipe, pipes_are_found_where_made,
+    pipes_come_with_handles, pipes_have_handles, refusals_change_nothing,
+};
 pub use pipes::PipeService;
 pub use rows::PipeRow;

@@ -1,15 +1,16 @@
 // The pipes of the namespace.
-ghost use Rattle.std.specs.Prelude.{◌≡◌, ◌<◌, ◌≤◌, ◌+◌, ◌^◌, true, None, Some, IfOk, OnOk, OnErr, MatchOption, is_some, length, if◌then◌else◌};
+ghost use Rattle.std.specs.Prelude.{◌≡◌, ◌<◌, ◌≤◌, ◌+◌, ◌-◌, ◌^◌, true, None, Some, IfOk, OnOk, OnErr, MatchOption, is_some, length, slice_set, if◌then◌else◌};
 ghost use Rattle.sb_wide.specs.Names.{is_name_of};
+ghost use Rattle.sb_handles.specs.Effects.{IsDone};
 ghost use Rattle.sb_handles.specs.Tables.{with_handle};
 ghost use Rattle.sb_names.specs.Maps.{found, put};
-ghost use Rattle.sb_pipe.specs.Keeping.{name_at, StandsUnder};
+ghost use Rattle.sb_pipe.specs.Keeping.{AreNames, is_numbered, name_at, StandsUnder};
 ghost use Rattle.sb_pipe.specs.Pipes.{Agrees, ArePipes, no_pipes, on_pipe, is_invalid, is_alike, create, fewer, closed, with_pipe, with_instance};
 
 use crate::rows::PipeRow;
 use sb_call::{ACCESS_DENIED, Answer, INSTANCE_NOT_AVAILABLE, INVALID_PARAMETER, SUCCESS};
 use sb_handles::{HandleTable, Held, Object, Service, pipe_handles_are_counted};
-use sb_names::{NameMap, puts_come_back};
+use sb_names::{NameMap, names_fold, puts_come_back};
 use sb_wide::{NoMemory, Wide, wide_of};
 use std::alloc::Global;
 use std::marker::Model;
@@ -21,20 +22,20 @@ use std::marker::Model;
 pub struct PipeService {
     // The pipes that are there.
     rows: NameMap<PipeRow>,
-    // The name under which each pipe was made: that of pipe n at place n - 1.
-    names: Vec<Wide>,
+    // The name under which each pipe was made: that of pipe n at place n - 1, until it is gone.
+    names: Vec<Option<Wide>>,
 }
 
 impl Model for PipeService {
     ghost use Rattle.std.specs.Prelude.{length};
-    ghost use Rattle.sb_pipe.specs.Keeping.{AreNamed};
-    ghost use Rattle.sb_pipe.specs.Pipes.{Pipes, ArePipes};
+    ghost use Rattle.sb_pipe.specs.Keeping.{IsKept};
+    ghost use Rattle.sb_pipe.specs.Pipes.{Pipes};
 
     ghost Value = { Pipes };
 
     ghost view = { λ s. record { rows = s.rows; made = length s.names.items } };
 
-    ghost invariant = { λ s. ArePipes (record { rows = s.rows; made = length s.names.items }) × AreNamed s.names.items s.rows };
+    ghost invariant = { λ s. IsKept s.names.items s.rows };
 }
 
 // A handle on the pipe of this number; pipes have neither access nor sharing.
@@ -65,15 +66,24 @@ fn is_alike(row: PipeRow, mode: u64, form: u64, instances: u64) -> bool
     row.mode == mode && row.form == form && row.instances == instances
 }
 
-// The name under which the pipe of a number was made.
-fn name_of(names: &[Wide], number: u64) -> Option<&[u16]>
+// The name under which the pipe of a number was made, while it is there.
+fn name_of(names: &[Option<Wide>], number: u64) -> Option<&[u16]>
     ensures { MatchOption result (name_at names.now number ≡ None) (λ name. name_at names.now number ≡ Some name.now) }
 {
     let place = number.checked_sub(1)?;
     match names.get(place as usize) {
-        Some(name) => Some(name.as_units()),
-        None => None,
+        Some(Some(name)) => Some(name.as_units()),
+        _ => None,
     }
+}
+
+// Forgets the name of the pipe of a number.
+fn forget(names: &mut Vec<Option<Wide>>, number: u64)
+    requires low { 1 ≤ number }
+    requires high { number ≤ length names.old.items }
+    ensures { names.new.items ≡ slice_set names.old.items (number - 1) None }
+{
+    names[(number - 1) as usize] = None;
 }
 
 // Puts a new pipe under its name, and grants a handle on it.
@@ -126,6 +136,19 @@ fn drop_handle(rows: &mut NameMap<PipeRow>, name: &[u16], number: u64)
         );
     } else {
         rows.remove(name);
+    }
+}
+
+#[tactic(auto, using(crate::proofs::NumberedLemmas::numbered_nowhere, crate::proofs::NumberedLemmas::numbered_there))]
+// Whether the pipe of this number is there, which then stands under this name.
+fn is_there(rows: &NameMap<PipeRow>, name: &[u16], number: u64) -> bool
+    requires { StandsUnder name.now number rows.now }
+    ensures { result ≡ is_numbered rows.now number }
+{
+    rows.rows_rise();
+    match rows.find(name) {
+        Some(row) => row.number == number,
+        None => false,
     }
 }
 
@@ -185,6 +208,7 @@ impl PipeService {
         form: u64,
         instances: u64,
     ) -> Result<u64, NoMemory>
+        requires name { is_name_of name.now ≡ true }
         requires absent { found self.old.rows name.now ≡ None }
         requires granted { handles.old.granted < 2 ^ 63 }
         requires made { self.old.made < 2 ^ 63 }
@@ -194,6 +218,7 @@ impl PipeService {
         ensures handles { OnOk result (handles.new ≡ with_handle handles.old target (on_pipe (self.old.made + 1))) }
         ensures err { OnErr result ((self.new ≡ self.old) × (handles.new ≡ handles.old)) }
     {
+        names_fold();
         let alloc = *self.names.allocator();
         let kept = wide_of(alloc, name)?;
         self.names.reserve(1)?;
@@ -205,7 +230,7 @@ impl PipeService {
             handles: 1,
         };
         let handle = put_pipe(&mut self.rows, handles, target, name, row)?;
-        let _ = self.names.push(kept);
+        let _ = self.names.push(Some(kept));
         Ok(handle)
     }
 
@@ -232,9 +257,7 @@ impl PipeService {
         requires granted { handles.old.granted < 2 ^ 63 }
         requires made { self.old.made < 2 ^ 63 }
         requires agree { Agrees self.old handles.old }
-        ensures answer { IfOk result (λ a. a ≡ (create self.old handles.old target name.now mode form instances).answer) }
-        ensures service { OnOk result (self.new ≡ (create self.old handles.old target name.now mode form instances).service) }
-        ensures handles { OnOk result (handles.new ≡ (create self.old handles.old target name.now mode form instances).handles) }
+        ensures effect { IfOk result (λ a. IsDone (create self.old handles.old target name.now mode form instances) self.new handles.new a) }
         ensures agree { Agrees self.new handles.new }
         ensures err { OnErr result ((self.new ≡ self.old) × (handles.new ≡ handles.old)) }
     {
@@ -261,6 +284,7 @@ impl PipeService {
         }
     }
 
+    #[tactic(auto, using(crate::proofs::NamedLemmas::kept_low, crate::proofs::NamedLemmas::kept_high))]
     /// Takes one handle from the pipe of a number, once the handle table has closed it. A pipe whose last handle is closed
     /// is gone; where no pipe has that number nothing is changed.
     pub fn closed(&mut self, number: u64)
@@ -268,13 +292,17 @@ impl PipeService {
     {
         if let Some(name) = name_of(&self.names, number) {
             drop_handle(&mut self.rows, name, number);
+            if !is_there(&self.rows, name, number) {
+                forget(&mut self.names, number);
+            }
         }
     }
 
     /// No two pipes have one number, each number is one of those ever made, and each pipe has 1 handle to as many as it may
-    /// have. It changes nothing.
+    /// have; and each name is one. It changes nothing.
     pub fn pipes_are_made(&self)
-        ensures { ArePipes self.now }
+        ensures made { ArePipes self.now }
+        ensures named { AreNames self.now.rows }
     {
         let _count = self.names.len();
     }

@@ -2,7 +2,7 @@ use Rattle.std.proofs.Common.{◌≡◌, ◌+◌, length}
 use Rattle.sb_arena.specs.Forests.{children_of}
 use Rattle.sb_names.specs.Nodes.{number_of}
 use Rattle.sb_names.specs.Walks.{IsIn, rest_from}
-use Rattle.sb_names.proofs.linked.NameTree.count_children.Given as goal
+use Rattle.sb_names.proofs.linked.NameTree.nodes_in.Given as goal
 
 -- those counted, and those from this one on, are all
 abbrev pub invariant-loop-here : goal.invariant-loop-here

@@ -1,0 +1,82 @@
+// What the kernel rests on of each service: laws of what its calls leave of objects and handles.
+ghost use Rattle.sb_event.specs.Laws as event_laws;
+ghost use Rattle.sb_file.specs.Laws as file_laws;
+ghost use Rattle.sb_key.specs.Laws as key_laws;
+ghost use Rattle.sb_names.specs.Laws.{PutsKeepRows};
+ghost use Rattle.sb_pipe.specs.Laws as pipe_laws;
+ghost use Rattle.sb_event.specs.declared.rows.EventRow.{EventRow};
+ghost use Rattle.std.specs.Prelude.{ℕ};
+
+use sb_event::EventRow;
+use sb_names::puts_keep_rows;
+
+// Each file.create grants its handle on what is found under the name, or changes nothing; what was there stays.
+pub(crate) fn files_are_granted()
+    ensures grants { file_laws.CreatesGrantTheirFile }
+    ensures refused { file_laws.RefusalsChangeNothing }
+    ensures stay { file_laws.CreatesKeepNames }
+{
+    sb_file::creates_grant_their_file();
+    sb_file::refusals_change_nothing();
+    sb_file::files_stay();
+}
+
+// A file.rename moves what was there, or changes nothing, and leaves objects and shares.
+pub(crate) fn files_are_renamed()
+    ensures moved { file_laws.RenamesMove }
+    ensures objects { file_laws.RenamesKeepObjects }
+    ensures refused { file_laws.RefusedRenamesChangeNothing }
+{
+    sb_file::renames_move_names();
+    sb_file::refusals_change_nothing();
+}
+
+// Each pipe.create grants its handle on the pipe of the name, or changes nothing; no more pipes are made than handles granted.
+pub(crate) fn pipes_are_granted()
+    ensures grants { pipe_laws.CallsGrantTheirPipe }
+    ensures refused { pipe_laws.RefusalsChangeNothing }
+    ensures counts { pipe_laws.CallsKeepCounts }
+{
+    sb_pipe::calls_grant_their_pipe();
+    sb_pipe::refusals_change_nothing();
+    sb_pipe::pipes_come_with_handles();
+}
+
+// Each call on keys grants its handle on the key of the name, or changes nothing; what was there stays.
+pub(crate) fn keys_are_granted()
+    ensures creates { key_laws.CreatesGrantTheirKey }
+    ensures refused_creates { key_laws.RefusedCreatesChangeNothing }
+    ensures stay { key_laws.CreatesKeepKeys }
+    ensures opens { key_laws.OpensGrantTheirKey }
+    ensures refused_opens { key_laws.RefusedOpensChangeNothing }
+    ensures leave { key_laws.OpensLeaveKeys }
+{
+    sb_key::calls_grant_their_key();
+    sb_key::refused_calls_change_nothing();
+    sb_key::keys_stay();
+    sb_key::keys_are_found_where_made();
+}
+
+// Each call on events grants its handle on the event of the name, or changes nothing; what was there stays.
+pub(crate) fn events_are_granted()
+    ensures creates { event_laws.CreatesGrantTheirEvent }
+    ensures refused_creates { event_laws.RefusedCreatesChangeNothing }
+    ensures stay { event_laws.CreatesKeepEvents }
+    ensures opens { event_laws.OpensGrantTheirEvent }
+    ensures refused_opens { event_laws.RefusedOpensChangeNothing }
+    ensures leave { event_laws.OpensLeaveEvents }
+{
+    sb_event::calls_grant_their_event();
+    sb_event::refused_calls_change_nothing();
+    sb_event::events_stay();
+    sb_event::events_are_found_where_made();
+}
+
+// What is put under a name that is not there leaves all other names.
+pub(crate) fn names_stay()
+    ensures numbers { PutsKeepRows ℕ }
+    ensures events { PutsKeepRows EventRow }
+{
+    puts_keep_rows::<u64>();
+    puts_keep_rows::<EventRow>();
+}
