@@ -2,3 +2,5 @@ pub mod Fitting
 pub mod HistoryLaws
 pub mod Legal
 pub mod Ready
+pub mod Sayings
+pub mod TargetLaws

@@ -37,6 +37,10 @@ pub record History : Type 0 where
   pub space : Space
   pub entries : List Entry
 
+-- one who judges by these policies, a target's by its place, judges by the policies of the targets of the book with this history
+abbrev pub JudgesBy : List Policy → History → Type 0
+JudgesBy policies h = policies ≡ h.setting.policies
+
 -- no entries yet
 abbrev pub new_history : Setting → History
 new_history setting = record { setting = setting; space = opening setting.start; entries = [] }

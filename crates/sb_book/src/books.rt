@@ -1,5 +1,5 @@
-// The book: the setting of a run, every entry so far, and the namespace that they led to.
-ghost use Rattle.std.specs.Prelude.{◌≡◌, ◌≤◌, ◌<◌, ◌∷◌, [], true, length, map, is_ok, slice_index, OnOk, OnErr, IfOk};
+// The book: every entry of a run so far, and the namespace that they led to.
+ghost use Rattle.std.specs.Prelude.{◌≡◌, ◌≤◌, ◌<◌, ◌∷◌, [], true, length, is_ok, slice_index, OnOk, OnErr, IfOk};
 ghost use Rattle.std.specs.List.{list_all};
 ghost use Rattle.sb_block.specs.Copies.{mark_of};
 ghost use Rattle.sb_kernel.specs.Openings.{is_named, opened, opening};
@@ -7,41 +7,51 @@ ghost use Rattle.sb_rule.specs.Verdicts.{policy_at};
 ghost use Rattle.sb_statements.specs.Limits.{most_start_lines};
 ghost use Rattle.sb_book.specs.Decisions.{decision_of, is_fitting};
 ghost use Rattle.sb_book.specs.Histories.{History, IsHistory, new_history, setting_of, fault_words, performed_reply, reply_of, space_after, answered};
-ghost use Rattle.sb_book.specs.Readiness.{is_judged, is_ready};
+ghost use Rattle.sb_book.specs.Readiness.{is_ready};
 
 use crate::decisions::Decision;
 use crate::entries::{Entries, Entry};
 use sb_block::{BlockFault, Taken, faultless_copies_fit};
 use sb_call::{ACCESS_DENIED, Answer, Extended, INVALID_PARAMETER, Reply, SUCCESS};
-use sb_items::{Copies, Items, NoMemory};
+use sb_items::NoMemory;
 use sb_kernel::{Kernel, StartRefused};
-use sb_rule::{Policies, Policy, PolicyList};
-use sb_statements::{Script, StartLine, StartLines, TargetScript};
+use sb_rule::Policies;
+use sb_statements::{Script, StartLine};
 use std::alloc::Global;
+use std::fmt;
 use std::marker::Model;
+use std::snapshot::Snapshot;
 
-/// How many channels each target has.
-pub type ChannelCounts = Items<u32>;
-
-/// The append-only history of what the broker decided: the policies and channels of the targets, what is there at the start,
-/// every entry so far, and the namespace that they led to. Its entries are always a legal history of that setting.
-#[derive(Debug, Drop)]
+/// The append-only history of what the broker decided: every entry so far, and the namespace that they led to. Contracts also see
+/// the policies and channels of the targets and what is there at the start. The entries are always a legal history of that
+/// setting.
+#[derive(Drop)]
 pub struct Book {
-    policies: PolicyList,
-    channels: ChannelCounts,
-    start: StartLines,
     kernel: Kernel,
     entries: Vec<Entry>,
+    // The policies and the script with which the book was made, for proofs.
+    policies: Snapshot<Policies>,
+    script: Snapshot<Script>,
 }
 
 impl Model for Book {
-    ghost use Rattle.sb_book.specs.Histories.{History, IsHistory};
+    ghost use Rattle.sb_book.specs.Histories.{History, IsHistory, setting_of};
 
     ghost Value = { History };
 
-    ghost view = { λ b. record { setting = record { policies = b.policies; channels = b.channels; start = b.start }; space = b.kernel; entries = b.entries.items } };
+    ghost view = { λ b. record { setting = setting_of b.policies.value.list b.script.value; space = b.kernel; entries = b.entries.items } };
 
-    ghost invariant = { λ b. IsHistory (record { setting = record { policies = b.policies; channels = b.channels; start = b.start }; space = b.kernel; entries = b.entries.items }) };
+    ghost invariant = { λ b. IsHistory (record { setting = setting_of b.policies.value.list b.script.value; space = b.kernel; entries = b.entries.items }) };
+}
+
+// By hand: a snapshot has nothing to show.
+impl fmt::Debug for Book {
+    fn fmt<W: fmt::Write>(&self, f: &mut fmt::Formatter<W>) -> fmt::Result {
+        f.debug_struct("Book")
+            .field("kernel", &self.kernel)
+            .field("entries", &self.entries)
+            .finish()
+    }
 }
 
 // A fault's number alone.
@@ -148,35 +158,6 @@ fn carry_out(
     }
 }
 
-// The policy of each target, in memory of its own.
-pub(crate) fn policies_of(
-    alloc: Global,
-    policies: &[Policy],
-    targets: &[TargetScript],
-) -> Result<PolicyList, NoMemory>
-    requires { list_all (is_judged (length policies.now)) targets.now ≡ true }
-    ensures { IfOk result (λ list. list ≡ map (λ target. policy_at policies.now target.policy) targets.now) }
-{
-    let mut list = Vec::new(alloc);
-    let mut targets = targets;
-    while let Some((target, later)) = targets.split_first() {
-        list.push(policies[target.policy as usize].copy(alloc)?)?;
-        targets = later;
-    }
-    Ok(PolicyList::new(list))
-}
-
-// How many channels each target has.
-fn channels_of(alloc: Global, targets: &[TargetScript]) -> Result<ChannelCounts, NoMemory>
-    ensures { IfOk result (λ counts. counts ≡ map (λ target. target.channels) targets.now) }
-{
-    let mut items = Vec::new(alloc);
-    for target in targets {
-        items.push(target.channels)?;
-    }
-    Ok(ChannelCounts::new(items))
-}
-
 // The kernel at the start, where all objects can be placed.
 fn kernel_of(alloc: Global, start: &[StartLine]) -> Result<Kernel, NoMemory>
     requires few { length start.now ≤ most_start_lines }
@@ -196,19 +177,17 @@ impl Book {
     /// The book of a script that is ready for policies: no entries, and the namespace that the script opens with.
     ///
     /// # Errors
-    /// `NoMemory` where there was none for copies of the policies and of what is there at the start, or for the namespace.
+    /// `NoMemory` where there was none for the namespace.
     pub fn new(alloc: Global, policies: &Policies, script: &Script) -> Result<Book, NoMemory>
         requires { is_ready policies.now.list script.now ≡ true }
         ensures { IfOk result (λ book. book ≡ new_history (setting_of policies.now.list script.now)) }
     {
-        let targets = script.targets.as_slice();
         let kernel = kernel_of(alloc, script.start.as_slice())?;
         Ok(Book {
-            policies: policies_of(alloc, policies.list.as_slice(), targets)?,
-            channels: channels_of(alloc, targets)?,
-            start: script.start.copy(alloc)?,
             kernel,
             entries: Vec::new(alloc),
+            policies: Snapshot::of(policies),
+            script: Snapshot::of(script),
         })
     }
 

@@ -1,5 +1,6 @@
 // What the broker decides of a copy.
-ghost use Rattle.std.specs.Prelude.{◌≡◌, ◌<◌, length, true, IfOk};
+ghost use Rattle.std.specs.Prelude.{◌≡◌, ◌<◌, length, true, None, IfOk, OnErr};
+ghost use Rattle.sb_block.specs.Faults.{fault};
 ghost use Rattle.sb_call.specs.Arguments.{fits};
 ghost use Rattle.sb_rule.specs.Verdicts.{policy_at};
 ghost use Rattle.sb_book.specs.Decisions.{decision_of, by_verdict, read_only_args};
@@ -40,7 +41,7 @@ const READ_ONLY_BITS: u64 = 0xA012_00A9;
 /// Decides by the rules of a target's policy, on the copy alone. Nothing is performed. The judge must know the target.
 ///
 /// # Errors
-/// `NoMemory` where there was none for the call's strings.
+/// `NoMemory` where there was none for the call's strings. A copy with a fault has no call, and is decided without memory.
 pub fn decide<J: Judge>(
     alloc: Global,
     judge: &J,
@@ -48,7 +49,8 @@ pub fn decide<J: Judge>(
     taken: &Taken,
 ) -> Result<Decision, NoMemory>
     requires { target < length (J.policies judge.now) }
-    ensures { IfOk result (λ d. d ≡ decision_of (policy_at (J.policies judge.now) target) taken.now) }
+    ensures exact { IfOk result (λ d. d ≡ decision_of (policy_at (J.policies judge.now) target) taken.now) }
+    ensures memory { OnErr result (fault taken.now ≡ None) }
 {
     let call = match decode(alloc, taken) {
         Ok(call) => call,

@@ -1,5 +1,7 @@
 // Laws of histories. None of these functions does anything: each contract is a law.
+ghost use Rattle.sb_book.specs.Headline.{EntriesSayWhatWasDone};
 ghost use Rattle.sb_book.specs.Laws.{AnswersKeepHistories, FrontsAreLegal, OnlyPerformedCallsCount, PerformedCallsAreAllowed};
+ghost use Rattle.sb_book.specs.Targets.{TargetsAppend, OwnEntryIsLast, OtherEntriesStay};
 
 use sb_rule::first_rule_decides;
 
@@ -25,4 +27,26 @@ pub fn performed_calls_are_allowed()
 /// An answer to a copy, decided by the policy of its target, leaves a legal history and the namespace that it led to.
 pub fn answers_keep_histories()
     ensures { AnswersKeepHistories }
+{}
+
+/// The headline, entry by entry. Entry `n` of a legal history says by its decision what was done.
+///
+/// Refused: the copy has exactly that fault. Denied: the copy has no fault, the call is the copy's, and the verdict of its
+/// target's policy is no rule, or a rule on this line that says deny or alarm. Faked: the same with a rule that says fake.
+/// These three leave the namespace as it was. Performed: the copy has no fault, and the first of the policy's rules that
+/// holds says allow and the arguments are the copy's, or it says readonly and they are the copy's with the access cut;
+/// performing exactly these arguments led from the namespace before the entry to the one after it, and the reply is the
+/// answer to that. Each reply bears the mark of its copy.
+pub fn entries_say_what_was_done()
+    ensures { EntriesSayWhatWasDone }
+{
+    first_rule_decides();
+}
+
+/// The entries of one target, where others are put behind: an entry put behind all is the last of its own target, and none
+/// of any other.
+pub fn entries_of_targets_append()
+    ensures append { TargetsAppend }
+    ensures own { OwnEntryIsLast }
+    ensures others { OtherEntriesStay }
 {}

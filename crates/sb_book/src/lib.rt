@@ -9,11 +9,11 @@ mod entries;
 mod laws;
 mod reports;
 
-pub use books::{Book, ChannelCounts};
+pub use books::Book;
 pub use decisions::{Decision, decide};
 pub use entries::{Entries, Entry};
 pub use laws::{
-    answers_keep_histories, fronts_are_legal, only_performed_calls_count,
-    performed_calls_are_allowed,
+    answers_keep_histories, entries_of_targets_append, entries_say_what_was_done, fronts_are_legal,
+    only_performed_calls_count, performed_calls_are_allowed,
 };
 pub use reports::{AllWords, Report, Results, TargetResults, ThreadResults, WordList};

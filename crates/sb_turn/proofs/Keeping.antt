@@ -14,7 +14,8 @@ use Rattle.sb_turn.specs.declared.views.BookView.{BookView}
 use Rattle.sb_turn.specs.declared.views.Hold.{Hold}
 use Rattle.sb_turn.specs.declared.views.Hold.TheVariants.{Without, Taken, Marked}
 use Rattle.sb_turn.specs.declared.views.JoinedSeat.{JoinedSeat}
-use Rattle.sb_turn.specs.Views.{of_target, since, times, joined_numbers}
+use Rattle.sb_book.specs.Targets.{of_target}
+use Rattle.sb_turn.specs.Views.{since, times, joined_numbers}
 use Rattle.sb_turn.specs.Rule.{HasBook, SomeSeat, numbers, times_in, HasTurn, FitsSeat, IsHome, IsHeld, IsStop, TurnRule}
 use Rattle.sb_turn.specs.Plays.{Slot}
 use Rattle.sb_turn.proofs.Places.{at_set, set_here, set_else}

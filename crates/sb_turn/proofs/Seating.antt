@@ -13,7 +13,8 @@ use Rattle.sb_book.specs.Histories.{History}
 use Rattle.sb_turn.specs.declared.views.BookView.{BookView}
 use Rattle.sb_turn.specs.declared.views.Hold.TheVariants.{Without}
 use Rattle.sb_turn.specs.declared.views.JoinedSeat.{JoinedSeat}
-use Rattle.sb_turn.specs.Views.{of_target, Begins, since, times, first_view, spent_view, counted, newcomer, as_joined, with_joined, joined_numbers, IsLast}
+use Rattle.sb_book.specs.Targets.{of_target}
+use Rattle.sb_turn.specs.Views.{Begins, since, times, first_view, spent_view, counted, newcomer, as_joined, with_joined, joined_numbers, IsLast}
 use Rattle.sb_turn.specs.Rule.{SomeSeat, numbers, times_in, HasTurn, FitsSeat, IsHome, IsHeld, IsStop, TurnRule}
 use Rattle.sb_turn.specs.Plays.{Slot, Holds}
 use Rattle.sb_turn.specs.Turns.{AreDivided}

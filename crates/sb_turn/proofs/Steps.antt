@@ -13,7 +13,8 @@ use Rattle.sb_book.specs.Histories.{History}
 use Rattle.sb_book.specs.declared.entries.Entry.{Entry}
 use Rattle.sb_turn.specs.declared.views.BookView.{BookView}
 use Rattle.sb_turn.specs.declared.views.Hold.TheVariants.{Without, Taken}
-use Rattle.sb_turn.specs.Views.{of_target, looked, taken, marked, given, stopping}
+use Rattle.sb_book.specs.Targets.{of_target}
+use Rattle.sb_turn.specs.Views.{looked, taken, marked, given, stopping}
 use Rattle.sb_turn.specs.Rule.{HasBook, HasTurn, FitsSeat, IsStop}
 use Rattle.sb_turn.specs.Plays.{Slot, Placed, Holds, Took, Tried, MarkedAs, Gave, Stopped, Looked}
 use Rattle.sb_turn.proofs.Places.{set_here, set_first}

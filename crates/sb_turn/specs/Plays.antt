@@ -5,7 +5,8 @@ use Rattle.atomic_table.specs.Table.{State, Step, Me}
 use Rattle.sb_book.specs.Histories.{History}
 use Rattle.sb_book.specs.declared.entries.Entry.{Entry}
 use Rattle.sb_turn.specs.declared.views.BookView.{BookView}
-use Rattle.sb_turn.specs.Views.{of_target, Begins, since, looked, taken, marked, given, stopping}
+use Rattle.sb_book.specs.Targets.{of_target}
+use Rattle.sb_turn.specs.Views.{Begins, since, looked, taken, marked, given, stopping}
 use Rattle.sb_turn.specs.Rule.{TurnRule}
 
 -- the place of the book: empty while a seat has it

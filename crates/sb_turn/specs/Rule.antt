@@ -9,7 +9,8 @@ use Rattle.sb_turn.specs.declared.views.BookView.{BookView}
 use Rattle.sb_turn.specs.declared.views.Hold.{Hold}
 use Rattle.sb_turn.specs.declared.views.Hold.TheVariants.{Without, Taken, Marked}
 use Rattle.sb_turn.specs.declared.views.JoinedSeat.{JoinedSeat}
-use Rattle.sb_turn.specs.Views.{turn_word, stop_word, of_target, Begins, times, joined_numbers}
+use Rattle.sb_book.specs.Targets.{of_target}
+use Rattle.sb_turn.specs.Views.{turn_word, stop_word, Begins, times, joined_numbers}
 
 -- the book has the setting of the one with which the turn was made, and these entries
 abbrev pub HasBook : Snapshot History → List Entry → History → Type 0

@@ -10,7 +10,8 @@ use Rattle.sb_turn.specs.declared.views.BookView.{BookView}
 use Rattle.sb_turn.specs.declared.views.Hold.{Hold}
 use Rattle.sb_turn.specs.declared.views.Hold.TheVariants.{Without, Taken, Marked}
 use Rattle.sb_turn.specs.declared.views.JoinedSeat.{JoinedSeat}
-use Rattle.sb_turn.specs.Views.{of_target, fresh_view}
+use Rattle.sb_book.specs.Targets.{of_target}
+use Rattle.sb_turn.specs.Views.{fresh_view}
 use Rattle.sb_turn.specs.Plays.{Slot}
 use Rattle.sb_turn.specs.Rule.{HasBook}
 

@@ -1,6 +1,5 @@
 -- What a seat of the turn knows, and how each step changes it.
 use Rattle.std.specs.Prelude.{◌≡◌, ◌<◌, ◌⊎◌, ◌==◌, ℕ, ◌+◌, ◌++◌, true, false, ◌||◌, cond, Option, Some, None, option_map, unwrap_or, List, [], ◌∷◌, length, map, drop}
-use Rattle.std.specs.List.{filter}
 use Rattle.std.specs.Option.{option_or}
 use Rattle.core.specs.declared.snapshot.Snapshot.{Snapshot}
 use Rattle.sb_book.specs.Histories.{History, new_history}
@@ -16,10 +15,6 @@ turn_word = 0
 -- the stop word: 0, or 1 once it was set
 abbrev pub stop_word : ℕ
 stop_word = 1
-
--- the entries of one target
-abbrev pub of_target : ℕ → List Entry → List Entry
-of_target target entries = filter (λ (e : Entry). e.target == target) entries
 
 -- the list begins with these entries
 abbrev pub Begins : List Entry → List Entry → Type 0

@@ -2,7 +2,7 @@ use Rattle.std.proofs.Common.{◌≡◌, ◌<◌, ◌++◌, ◌∷◌, [], lengt
 use Rattle.std.specs.Prelude.{slice_index}
 use Rattle.sb_rule.specs.Verdicts.{policy_at}
 use Rattle.sb_book.specs.Decisions.{decision_of}
-use Rattle.sb_book.specs.Histories.{History, IsHistory, answered, entry_of, space_after}
+use Rattle.sb_book.specs.Histories.{History, IsHistory, answered, entry_of, setting_of, space_after}
 use Rattle.sb_book.proofs.Fitting.{decided_fits}
 use Rattle.sb_book.proofs.Legal.{answered_is_legal}
 use Rattle.sb_book.proofs.books.Book.answer.Goals as goal
@@ -13,7 +13,7 @@ carry_out-requires c = record { fits = rw c.requires.decided (decided_fits c.fau
 pub invariant_of-self-2 : goal.invariant_of-self-2
 invariant_of-self-2 c =
     let h : History = record {
-      setting = record { policies = c.self.inside.policies; channels = c.self.inside.channels; start = c.self.inside.start };
+      setting = setting_of c.self.inside.policies.value.list c.self.inside.script.value;
       space = c.self.inside.kernel;
       entries = c.self.inside.entries.items;
     } in
