@@ -190,7 +190,7 @@ module _ (script : Script) (v : ThreadView) (x : ThreadAt) (marks : v.clean ≡ 
     freed = by_mark (eqb (get_or ws 0 0) mark) refl
       where
         by_mark : (b : Bool) → eqb (get_or ws 0 0) mark ≡ b → Good free w (ends script x (ended.Call (cond {A = CallResult} b (result.Reply c (read_reply ws)) (result.Foreign c (get_or ws 0 0)))))
-        by_mark true q = (call_suits is (result.Reply c (read_reply ws)) (was_true (get_or ws 0 0) mark q), one)
+        by_mark true q = (call_suits is (result.Reply c (read_reply ws)) (l, was_true (get_or ws 0 0) mark q), one)
         by_mark false q =
             let ne = was_false (get_or ws 0 0) mark q in
             let unclean : is_clean x.clean c ≡ false = not_clean_by x.clean c (λ cl. ne (know cl ∙ own)) in

@@ -1,5 +1,5 @@
 -- The worker's notes are those of its calls.
-use Rattle.std.proofs.Common.{◌≡◌, ◌⊎◌, refl, sym, ap, ◌∙◌, subst, inl, inr, ℕ, suc, ◌+◌, Bool, true, false, cond, eqb, ltb, List, [], ◌∷◌, ◌++◌, length, length-append, arith, append_assoc}
+use Rattle.std.proofs.Common.{◌≡◌, ◌⊎◌, refl, sym, ap, ◌∙◌, subst, inl, inr, ℕ, suc, ◌+◌, ◌<◌, ◌≤◌, lit≤, Bool, true, false, cond, eqb, ltb, List, [], ◌∷◌, ◌++◌, length, length-append, arith, append_assoc}
 use Rattle.std.proofs.lemmas.List.{append-nil}
 use Rattle.sb_block.specs.Copies.{copied, is_end}
 use Rattle.sb_block.specs.Packing.{offset_of}
@@ -99,7 +99,7 @@ module _ (v : WorkerView) (w n : ℕ) (k : WorkerNotes v) where
       by_test true q sh s t =
           works load_count (shown_at (at v.channel 3) n (length k.stores) ∷ []) [] (Whole (copied n 0 [])) v.channel (none_served load_count Count e refl) sh refl
           (placed load_count Count (Whole (copied n 0 [])) e (ap (λ b. cond b (Whole (copied n 0 [])) (End n)) q)) refl
-          (([], s, subst (λ b. EndShows b v.channel (length k.stores) (copied n 0 []) []) (sym q) refl), t)
+          (([], s, subst (λ b. EndShows b v.channel (length k.stores) (copied n 0 []) []) (sym q) (refl, refl)), t)
       by_test false q sh s t =
           works load_count (shown_at (at v.channel 3) n (length k.stores) ∷ []) [] (End n) v.channel (none_served load_count Count e refl) sh refl
           (placed load_count Count (End n) e (ap (λ b. cond b (Whole (copied n 0 [])) (End n)) q)) refl (q, s, t)
@@ -108,7 +108,7 @@ module _ (v : WorkerView) (w n : ℕ) (k : WorkerNotes v) where
       let b = length k.stores in
       let s = shown_at (at v.channel (16 + c)) n b ∷ [] in
       let shows : k.work_shows ++ s ≡ shown_at (at v.channel 3) c b ∷ s = ap (λ l. l ++ s) h.1 in
-      let ends : EndShows (ltb 9 c) v.channel b (copied c (offset_of n) []) s = subst (λ z. EndShows z v.channel b (copied c (offset_of n) []) s) (sym h.0) (n, refl, refl) in
+      let ends : EndShows (ltb 9 c) v.channel b (copied c (offset_of n) []) s = subst (λ z. EndShows z v.channel b (copied c (offset_of n) []) s) (sym h.0) (lit≤ tt, (n, refl, refl)) in
       by_test (is_end c (offset_of n)) refl (shown_is (at v.channel (16 + c)) may.1 (before h.2)) (s, shows, ends) h.0 (ap (λ l. l ++ []) h.2)
     where
       by_test : (b : Bool) → is_end c (offset_of n) ≡ b → shown_at w n (length v.notes.stores) ∷ [] ≡ shown_at (at v.channel (16 + c)) n (length k.stores) ∷ []
@@ -123,17 +123,20 @@ module _ (v : WorkerView) (w n : ℕ) (k : WorkerNotes v) where
       let h = work_at (Copy c x ws) e in
       let b = length k.stores in
       let s = shown_at (at v.channel (1 + length ws)) n b ∷ [] in
-      by_test (eqb (length (ws ++ n ∷ [])) x) refl (shown_is (at v.channel (1 + length ws)) may.1 (before h.2)) (copy_more h.0 h.1) h.0 (ap (λ l. l ++ []) h.2)
+      by_test (eqb (length (ws ++ n ∷ [])) x) refl (shown_is (at v.channel (1 + length ws)) may.1 (before h.2)) (copy_more (short may.2 may.3) h.0 h.1) h.0 (ap (λ l. l ++ []) h.2)
     where
-      copy_more : ltb 9 c ≡ false → CopyShows v.channel (length k.stores) (copied c x ws) k.work_shows → CopyShows v.channel (length k.stores) (copied c x (ws ++ n ∷ [])) (k.work_shows ++ shown_at (at v.channel (1 + length ws)) n (length k.stores) ∷ [])
-      copy_more few h =
+      short : length ws < x → x ≤ 64 → length (ws ++ n ∷ []) ≤ 64
+      short l m = let longer = length-append ws (n ∷ []) in omega (arith, longer, l, m)
+
+      copy_more : length (ws ++ n ∷ []) ≤ 64 → ltb 9 c ≡ false → CopyShows v.channel (length k.stores) (copied c x ws) k.work_shows → CopyShows v.channel (length k.stores) (copied c x (ws ++ n ∷ [])) (k.work_shows ++ shown_at (at v.channel (1 + length ws)) n (length k.stores) ∷ [])
+      copy_more low few h =
           let b = length k.stores in
           let s = shown_at (at v.channel (1 + length ws)) n b ∷ [] in
-          let g : (m : ℕ) × (offset_of m ≡ x) × (h.0 ≡ shown_at (at v.channel (16 + c)) m b ∷ words_shown v.channel b 0 ws) = subst (λ z. EndShows z v.channel b (copied c x ws) h.0) few h.2 in
+          let g : (m : ℕ) × (offset_of m ≡ x) × (h.0 ≡ shown_at (at v.channel (16 + c)) m b ∷ words_shown v.channel b 0 ws) = (subst (λ z. EndShows z v.channel b (copied c x ws) h.0) few h.2).1 in
           let zero_plus : length ws ≡ 0 + length ws = omega arith in
           let grown : h.0 ++ s ≡ shown_at (at v.channel (16 + c)) g.0 b ∷ words_shown v.channel b 0 (ws ++ n ∷ []) =
           ap (λ l. l ++ s) g.2 ∙ ap (λ l. shown_at (at v.channel (16 + c)) g.0 b ∷ l) (ap (λ z. words_shown v.channel b 0 ws ++ shown_at (at v.channel (1 + z)) n b ∷ []) zero_plus ∙ sym (words_more v.channel b 0 ws n)) in
-          (h.0 ++ s, ap (λ l. l ++ s) h.1, subst (λ z. EndShows z v.channel b (copied c x (ws ++ n ∷ [])) (h.0 ++ s)) (sym few) (g.0, g.1, grown))
+          (h.0 ++ s, ap (λ l. l ++ s) h.1, subst (λ z. EndShows z v.channel b (copied c x (ws ++ n ∷ [])) (h.0 ++ s)) (sym few) (low, (g.0, g.1, grown)))
 
       by_test : (b : Bool) → eqb (length (ws ++ n ∷ [])) x ≡ b → shown_at w n (length v.notes.stores) ∷ [] ≡ shown_at (at v.channel (1 + length ws)) n (length k.stores) ∷ []
           → CopyShows v.channel (length k.stores) (copied c x (ws ++ n ∷ [])) (k.work_shows ++ shown_at (at v.channel (1 + length ws)) n (length k.stores) ∷ []) → ltb 9 c ≡ false → k.work_stores ++ [] ≡ [] → Kept copy

@@ -1,5 +1,5 @@
 -- Which results a statement may have, on the channels of its target, some of which are clean.
-use Rattle.std.specs.Prelude.{◌≡◌, ◌≢◌, ℕ, ◌≤◌, Bool, false, List, slice_index_or, true}
+use Rattle.std.specs.Prelude.{◌≡◌, ◌≢◌, ◌<◌, ℕ, ◌≤◌, Bool, false, List, length, slice_index_or, true}
 use Rattle.sb_actor.specs.Acts.{busy}
 use Rattle.sb_actor.specs.ThreadTable.{has_clean}
 use Rattle.sb_statements.specs.declared.results.CallResult.{CallResult}
@@ -13,10 +13,10 @@ use Rattle.sb_statements.specs.declared.statements.Statement.TheVariants as stat
 abbrev pub IsUncleanAt : List Bool → ℕ → Type 0
 IsUncleanAt clean c = slice_index_or clean c true ≡ false
 
--- a call with this mark: a reply bears the mark; no channel was free only where none is clean; a block is lost, a reply is another
--- call's, and patience runs out, only on a channel that is not clean
+-- a call with this mark: a reply came on a channel of the target and bears the mark; no channel was free only where none is clean; a block is
+-- lost, a reply is another call's, and patience runs out, only on a channel that is not clean
 abbrev pub SuitsCall : List Bool → ℕ → CallResult → Type 0
-SuitsCall clean mark (Reply c reply) = reply.mark ≡ mark
+SuitsCall clean mark (Reply c reply) = (c < length clean) × (reply.mark ≡ mark)
 SuitsCall clean mark NoChannel = has_clean clean ≡ false
 SuitsCall clean mark (SendLost c found) = IsUncleanAt clean c × (found ≢ busy)
 SuitsCall clean mark (Foreign c other) = IsUncleanAt clean c × (other ≢ mark)

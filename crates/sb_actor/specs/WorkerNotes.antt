@@ -1,5 +1,5 @@
 -- What the worker's seat has noted: what the steps for the calls that it served, and for the one in work, stored and showed.
-use Rattle.std.specs.Prelude.{◌≡◌, ◌⊎◌, ℕ, ◌+◌, Bool, true, false, nat_lt, List, [], ◌∷◌, ◌++◌, length}
+use Rattle.std.specs.Prelude.{◌≡◌, ◌⊎◌, ◌≤◌, ℕ, ◌+◌, Bool, true, false, nat_lt, List, [], ◌∷◌, ◌++◌, length}
 use Rattle.sb_block.specs.Copies.{Copied, copied}
 use Rattle.sb_block.specs.Packing.{offset_of}
 use Rattle.sb_actor.specs.Laws.{first_worker, with_thread, with_stray}
@@ -21,10 +21,10 @@ abbrev pub words_shown : ℕ → ℕ → ℕ → List ℕ → List Shown
 words_shown channel before i [] = []
 words_shown channel before i (x ∷ xs) = shown_at (at channel (1 + i)) x before ∷ words_shown channel before (i + 1) xs
 
--- behind too high a count nothing more is shown; else a value that has the end that was seen, and then the words
+-- behind too high a count there is no word, and nothing more is shown; else a value that has the end that was seen, and then the words, at most 64
 abbrev pub EndShows : Bool → ℕ → ℕ → Copied → List Shown → Type 0
-EndShows true channel before taken shows = shows ≡ []
-EndShows false channel before taken shows = (n : ℕ) × (offset_of n ≡ taken.end_seen) × (shows ≡ shown_at (at channel (16 + taken.count_seen)) n before ∷ words_shown channel before 0 taken.words)
+EndShows true channel before taken shows = (taken.words ≡ []) × (shows ≡ [])
+EndShows false channel before taken shows = (length taken.words ≤ 64) × ((n : ℕ) × (offset_of n ≡ taken.end_seen) × (shows ≡ shown_at (at channel (16 + taken.count_seen)) n before ∷ words_shown channel before 0 taken.words))
 
 -- what the loads of a copy show
 abbrev pub CopyShows : ℕ → ℕ → Copied → List Shown → Type 0

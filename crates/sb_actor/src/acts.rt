@@ -63,6 +63,7 @@ pub enum Seen {
 
 impl Seen {
     /// The value that was found, 0 where the step found none.
+    #[inline(always)]
     pub(crate) fn value(&self) -> u64
         ensures { result ≡ value_in self.now }
     {
@@ -73,6 +74,7 @@ impl Seen {
     }
 
     /// Whether the turn was taken.
+    #[inline(always)]
     pub(crate) fn turn(&self) -> bool
         ensures { result ≡ turn_in self.now }
     {
@@ -100,6 +102,7 @@ impl Seen {
 }
 
 /// The state of a channel.
+#[inline(always)]
 pub(crate) fn state_word(channel: u32) -> Word
     ensures { result ≡ state_word channel }
 {
@@ -107,6 +110,7 @@ pub(crate) fn state_word(channel: u32) -> Word
 }
 
 /// Word `at` of a channel's block, from 0 to 63.
+#[inline(always)]
 pub(crate) fn block_word(channel: u32, at: u32) -> Word
     requires { at < 64 }
     ensures { result ≡ block_word channel at }
@@ -118,6 +122,7 @@ pub(crate) fn block_word(channel: u32, at: u32) -> Word
 }
 
 /// A load.
+#[inline(always)]
 pub(crate) fn load(target: u32, word: Word) -> Act
     ensures { result ≡ Load target word }
 {
@@ -125,6 +130,7 @@ pub(crate) fn load(target: u32, word: Word) -> Act
 }
 
 /// A store.
+#[inline(always)]
 pub(crate) fn store(target: u32, word: Word, value: u64) -> Act
     ensures { result ≡ Store target word value }
 {
@@ -136,6 +142,7 @@ pub(crate) fn store(target: u32, word: Word, value: u64) -> Act
 }
 
 /// An exchange.
+#[inline(always)]
 pub(crate) fn exchange(target: u32, word: Word, from: u64, to: u64) -> Act
     ensures { result ≡ Exchange target word from to }
 {

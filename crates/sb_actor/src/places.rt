@@ -23,6 +23,7 @@ pub fn mark_at(thread: u32, place: u32) -> u64
 }
 
 /// The statements of a thread, none where it is not there.
+#[inline(always)]
 pub(crate) fn statements_of(script: &Script, target: u32, thread: u32) -> &[Statement]
     ensures { result.now ≡ statements_of script.now target thread }
 {
@@ -36,6 +37,7 @@ pub(crate) fn statements_of(script: &Script, target: u32, thread: u32) -> &[Stat
 }
 
 /// The statement at a place.
+#[inline(always)]
 pub(crate) fn statement_at(
     script: &Script,
     target: u32,

@@ -98,6 +98,7 @@ fn patience_of(script: &Script) -> u32
 }
 
 // The step of a store, an exchange, a load or a wait statement.
+#[inline(always)]
 fn stray_plan(statement: Option<&Statement>) -> Act
     ensures { (script : Script) (x : ThreadAt) (loads most : ℕ) → result ≡ (stray_row script x loads most (option_map (λ s. s.now) statement.entry)).step }
 {
@@ -125,6 +126,7 @@ fn stray_plan(statement: Option<&Statement>) -> Act
 }
 
 // Whether one of these channels is clean.
+#[inline(always)]
 fn is_clean(clean: &[bool], channel: u32) -> bool
     requires { channel < length clean.now }
     ensures { result ≡ slice_index_or clean.now channel true }
@@ -133,6 +135,7 @@ fn is_clean(clean: &[bool], channel: u32) -> bool
 }
 
 // What a fetched reply makes of the call with this mark.
+#[inline(always)]
 fn reply_by(channel: u32, mark: u64, reply: Reply) -> CallResult
     ensures { result ≡ reply_by channel mark reply }
 {
@@ -218,6 +221,7 @@ impl ThreadState {
     }
 
     // The statement ends with this result.
+    #[inline(always)]
     fn end(&mut self, script: &Script, ended: StmtResult) -> Option<StmtResult>
         requires sound { is_sound script.now ≡ true }
         requires place { self.old.place < most_statements }
@@ -229,6 +233,7 @@ impl ThreadState {
     }
 
     // It tries to take this channel next.
+    #[inline(always)]
     fn try_at(&mut self, channel: u32, rounds: u32, fives: bool) -> Option<StmtResult>
         requires channel { channel < length self.old.clean }
         requires rounds { rounds < self.old.patience }
@@ -245,6 +250,7 @@ impl ThreadState {
     }
 
     // Behind the last channel.
+    #[inline(always)]
     fn after_round(&mut self, script: &Script, rounds: u32, fives: bool) -> Option<StmtResult>
         requires sound { is_sound script.now ≡ true }
         requires rounds { rounds < self.old.patience }
@@ -266,6 +272,7 @@ impl ThreadState {
     }
 
     // By what the exchange from free to busy found.
+    #[inline(always)]
     fn after_try(
         &mut self,
         script: &Script,
@@ -296,6 +303,7 @@ impl ThreadState {
     }
 
     // By what the exchange from busy to ready found.
+    #[inline(always)]
     fn after_send(&mut self, script: &Script, channel: u32, found: u64) -> Option<StmtResult>
         requires sound { is_sound script.now ≡ true }
         requires channel { channel < length self.old.clean }
@@ -316,6 +324,7 @@ impl ThreadState {
     }
 
     // By whether the load of a wait statement met the value.
+    #[inline(always)]
     fn after_stray_load(
         &mut self,
         script: &Script,
@@ -343,6 +352,7 @@ impl ThreadState {
     }
 
     // By what a store, an exchange or a load by hand found.
+    #[inline(always)]
     fn after_stray(
         &mut self,
         script: &Script,
@@ -369,7 +379,7 @@ impl ThreadState {
     }
 
     /// Its one next step. The script is that of `new`.
-    #[inline]
+    #[inline(always)]
     pub fn plan(&self, script: &Script) -> Act
         ensures plan { result ≡ thread_plan script.now self.now }
         ensures within { IsCallWithin (length self.now.clean) self.now.stage result }
@@ -395,7 +405,7 @@ impl ThreadState {
     }
 
     /// Goes on by what the step found, and gives the result where it ended a statement. The script is that of `new`.
-    #[inline]
+    #[inline(always)]
     #[tactic(auto, using(crate::proofs::Replies::whole_reply))]
     pub fn after(&mut self, script: &Script, seen: Seen) -> Option<StmtResult>
         requires sound { is_sound script.now ≡ true }

@@ -46,7 +46,7 @@ impl Model for WorkerState {
 }
 
 // The channel behind this one, in turn.
-#[inline]
+#[inline(always)]
 pub(crate) fn next_channel(channel: u32, channels: u32) -> u32
     requires within { channel < channels }
     requires few { channels ≤ 8 }
@@ -95,7 +95,7 @@ impl WorkerState {
     }
 
     /// Its one next step.
-    #[inline]
+    #[inline(always)]
     pub fn plan(&self) -> Act
         ensures plan { result ≡ worker_plan self.now }
         ensures within { IsWithin self.now.channels result }
@@ -119,7 +119,7 @@ impl WorkerState {
     }
 
     /// Goes on by what the step found. At Mark it is a reply that bears the mark of the copy.
-    #[inline]
+    #[inline(always)]
     pub fn after(&mut self, seen: Seen)
         requires answer { IsAnswer self.old.stage seen }
         ensures { self.new ≡ worker_after self.old seen }

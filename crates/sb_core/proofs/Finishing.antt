@@ -15,11 +15,11 @@ use Rattle.sb_core.specs.Worlds.{WorldAt, worker_at}
 use Rattle.sb_core.proofs.Bounds.{few_targets, some_channels}
 use Rattle.sb_core.proofs.There.{channels_from}
 
-mapped : {X Y : Type 0} (f : X → Y) (xs : List X) → length (map f xs) ≡ length xs
+pub mapped : {X Y : Type 0} (f : X → Y) (xs : List X) → length (map f xs) ≡ length xs
 mapped f [] = refl
 mapped f (x ∷ xs) = ap suc (mapped f xs)
 
-wanted_at : (targets : List TargetScript) (t : ℕ) → get_or (map (λ (target : TargetScript). target.channels * 65) targets) t 0 ≡ channels_of (slice_get targets t) * 65
+pub wanted_at : (targets : List TargetScript) (t : ℕ) → get_or (map (λ (target : TargetScript). target.channels * 65) targets) t 0 ≡ channels_of (slice_get targets t) * 65
 wanted_at [] t = refl
 wanted_at (target ∷ targets) zero = refl
 wanted_at (target ∷ targets) (suc t) = wanted_at targets t

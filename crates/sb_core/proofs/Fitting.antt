@@ -45,7 +45,8 @@ use Rattle.sb_core.specs.Reports.{results_of}
 use Rattle.sb_core.specs.Results.{AreAllResults}
 use Rattle.sb_core.specs.Runs.{CanRun, ended, played}
 use Rattle.sb_core.specs.Threads.{RunAt, first_unfinished, no_run}
-use Rattle.sb_core.specs.Views.{AreViews, HasUnits, OwnCall, as_call, as_own, calls_at, in_work, is_of_target, own_calls}
+use Rattle.sb_book.specs.Targets.{is_of_target}
+use Rattle.sb_core.specs.Views.{AreViews, HasUnits, OwnCall, as_call, as_own, calls_at, in_work, own_calls}
 use Rattle.sb_core.specs.Words.{some_ready, words_of}
 use Rattle.sb_core.specs.Worlds.{WorldAt, no_worker, run_at, threads_at, worker_at}
 use Rattle.sb_core.proofs.Draining.{drained_threads}
@@ -95,7 +96,7 @@ had_results [] = refl
 had_results (x ∷ had) = ap (λ (z : List Answered). by_result (as_own x) ∷ z) (had_results had)
 
 -- an entry is among the calls of its target
-entry_listed : (t : ℕ) (entries : List Entry) (i : ℕ) (e : Entry) → slice_get entries i ≡ Some e → (e.target == t) ≡ true → (n : ℕ) × (get_elem? (calls_at t entries) n ≡ some (as_call e))
+pub entry_listed : (t : ℕ) (entries : List Entry) (i : ℕ) (e : Entry) → slice_get entries i ≡ Some e → (e.target == t) ≡ true → (n : ℕ) × (get_elem? (calls_at t entries) n ≡ some (as_call e))
 entry_listed t [] i e q f = absurd (cc)
 entry_listed t (x ∷ entries) zero e q f =
     let same : x ≡ e = cc in (

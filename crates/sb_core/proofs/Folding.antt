@@ -7,7 +7,7 @@ use Rattle.sb_statements.specs.declared.scripts.Script.{Script}
 use Rattle.sb_core.specs.Actors.{round_actors, scheduled}
 use Rattle.sb_core.specs.Drains.{is_settled, pass_below, one_pass, drained_by, most_passes}
 use Rattle.sb_core.specs.Kept.{IsReached}
-use Rattle.sb_core.specs.Laws.{DrainsAreSteps, RoundsAreSteps, StepsAreFolds}
+use Rattle.sb_core.specs.Laws.{DrainsAreSteps, OrdersAreSchedules, RoundsAreSteps, StepsAreFolds}
 use Rattle.sb_core.specs.Worlds.{WorldAt, all_finished, round, rounds, step, steps, worker_step}
 
 pub steps_append : StepsAreFolds
@@ -17,6 +17,10 @@ steps_append script (actor ∷ first) later w = steps_append script first later 
 pub scheduled_more : (script : Script) (entry : Actor × ℕ) (later : List (Actor × ℕ)) (w : WorldAt)
     → steps script (scheduled (entry ∷ later)) w ≡ steps script (scheduled later) (steps script (replicate entry.1 entry.0) w)
 scheduled_more script entry later w = steps_append script (replicate entry.1 entry.0) (scheduled later) w
+
+pub orders_are_schedules : OrdersAreSchedules
+orders_are_schedules [] = refl
+orders_are_schedules (actor ∷ actors) = ap (λ rest. actor ∷ rest) (orders_are_schedules actors)
 
 -- finished threads make no more rounds
 pub rounds_done : (n : ℕ) (script : Script) (w : WorldAt) → all_finished script w ≡ true → rounds n script w ≡ w

@@ -36,3 +36,11 @@ pub mod ThreadTallies
 pub mod WorkerTallies
 pub mod Tallying
 pub mod PlacedUnits
+pub mod Belonging
+pub mod DrainSteps
+pub mod Quieting
+pub mod FinishFitting
+pub mod FinishNotes
+pub mod NotedParts
+pub mod FinishSourcing
+pub mod FinishTallying

@@ -5,6 +5,7 @@ use Rattle.std.proofs.lemmas.Bool.Decides.{nat_tests}
 use Rattle.std.proofs.lemmas.List.{append-nil, map-append}
 use Rattle.std.proofs.lemmas.List.Elements.{filter-append}
 use Rattle.std.specs.List.{filter}
+use Rattle.std.specs.Prelude.{Some}
 use mathlib.Core.Option.{Option, none, some, some-ne-none}
 use Rattle.sb_actor.specs.Moves.{IsBlock, is_clean}
 use Rattle.sb_actor.specs.Places.{clean_channels}
@@ -33,7 +34,7 @@ use Rattle.sb_statements.specs.Soundness.{SoundStatements, SoundTargets}
 use Rattle.sb_statements.specs.declared.scripts.Script.{Script}
 use Rattle.sb_core.specs.Drains.{drained}
 use Rattle.sb_core.specs.Fits.{Answered, IsOwnSoFar, IsPresent, RepliesAreOwn, RunsReplyOwn, by_entry, by_result, is_entry_of}
-use Rattle.sb_core.specs.Kept.{is_calling}
+use Rattle.sb_core.specs.Kept.{channel_in, is_calling}
 use Rattle.sb_core.specs.Runs.{played}
 use Rattle.sb_core.specs.Threads.{RunAt, no_run}
 use Rattle.sb_core.specs.Views.{AreViews, OwnCall, as_own, calls_at, in_work, own_calls}
@@ -101,6 +102,21 @@ calling_at block (Abandon d) c e = refl
 calling_at block (Stray loads most) c e = absurd (some-ne-none c (sym e))
 calling_at block Over c e = absurd (some-ne-none c (sym e))
 
+-- and its stage names that channel
+same_channel : (d c : ℕ) → ◌≡◌ {A = Option ℕ} (some d) (some c) → channel_in (Send d) ≡ Some c
+same_channel d c e = let same : d ≡ c = cc in ap Some same
+
+channel_at : (block : List ℕ) (stage : ThreadStage) (c : ℕ) → place (thread_place_of block stage) ≡ some c → channel_in stage ≡ Some c
+channel_at block (Try d rounds fives) c e = absurd (some-ne-none c (sym e))
+channel_at block (Fill d i) c e = same_channel d c e
+channel_at block (Send d) c e = same_channel d c e
+channel_at block (Wait d loads) c e = same_channel d c e
+channel_at block (Fetch d words) c e = same_channel d c e
+channel_at block (Free d words) c e = same_channel d c e
+channel_at block (Abandon d) c e = same_channel d c e
+channel_at block (Stray loads most) c e = absurd (some-ne-none c (sym e))
+channel_at block Over c e = absurd (some-ne-none c (sym e))
+
 -- a thread at a channel with a whole block has that block
 ready_block : (k number : ℕ) (block b : List ℕ) (stage : ThreadStage) (m : Mid) → Agrees k (thread_place_of block stage) m → (c : ℕ) → place (thread_place_of block stage) ≡ some c → m ≡ ready number b → b ≡ block
 ready_block k number block b (Try d rounds fives) m a c e f = absurd (some-ne-none c (sym e))
@@ -145,7 +161,8 @@ module _ (script : Script) (t : ℕ) (words : List ℕ) (entries : List Entry) (
   abbrev Work : List Served → Type 0
   Work qs =
       (qs ≡ [])
-      ⊎ ((q : Served) × (c : ℕ) × (block : List ℕ) × (qs ≡ q ∷ []) × (is_clean clean c ≡ true) × (mids c ≡ ready k block) × (q.taken ≡ whole block))
+      ⊎ ((q : Served) × (c : ℕ) × (block : List ℕ) × (qs ≡ q ∷ []) × (is_clean clean c ≡ true) × (mids c ≡ ready k block) × (q.taken ≡ whole block)
+      × (q.channel ≡ c))
 
   seen_here : (c : ℕ) → x.channel ≡ c → sees c h.rule.1 ≡ worker_place_of x.stage
   seen_here c e =
@@ -165,7 +182,7 @@ module _ (script : Script) (t : ℕ) (words : List ℕ) (entries : List Entry) (
       let bears = is_same (mark_of q.taken / 65536) (k + 1) parts.1 in
       let mark : mark_of q.taken / 65536 ≡ at.number + 1 = ap (λ (c : Copied). mark_of c / 65536) at.copy ∙ at.whole_block.mark in
       let same : at.number ≡ k = omega (arith, bears, mark) in
-      inr (q, q.channel, at.block, ap (λ b. cond {A = List Served} b (q ∷ []) []) e, parts.0, at.is ∙ ap (λ n. ready n at.block) same, at.copy)
+      inr (q, q.channel, at.block, ap (λ b. cond {A = List Served} b (q ∷ []) []) e, parts.0, at.is ∙ ap (λ n. ready n at.block) same, at.copy, refl)
   engaged q f false e = inl (ap (λ b. cond {A = List Served} b (q ∷ []) []) e)
 
   work_by : (stage : WorkerStage) → x.stage ≡ stage → Work (calls_of clean k (in_work x.channel stage))
@@ -199,7 +216,7 @@ module _ (script : Script) (t : ℕ) (words : List ℕ) (entries : List Entry) (
   Rest xs =
       (xs ≡ [])
       ⊎ ((q : Had) × (c : ℕ) × (number : ℕ) × (reply : List ℕ) × (xs ≡ q ∷ []) × (place (thread_place_of mine.thread.block mine.thread.stage) ≡ some c)
-      × (mids c ≡ acked number q.block reply) × (q.block ≡ mine.thread.block))
+      × (mids c ≡ acked number q.block reply) × (q.block ≡ mine.thread.block) × (q.channel ≡ c))
 
   abbrev seat : ThreadView
   seat = (h.threads k there).1
@@ -229,6 +246,7 @@ module _ (script : Script) (t : ℕ) (words : List ℕ) (entries : List Entry) (
         e,
         f,
         acked_block seat.number n mine.thread.block block reply mine.thread.stage (mids c) (agrees_at c e cl) c e f,
+        refl,
       )
 
   rest_by : (o : Option ℕ) → place (thread_place_of mine.thread.block mine.thread.stage) ≡ o → Rest (waiting clean mids o)
@@ -279,7 +297,13 @@ module _ (script : Script) (t : ℕ) (words : List ℕ) (entries : List Entry) (
   end xs qs (inr r) (inl f) = (
     by_result (as_own r.0) ∷ [],
     ap (λ (z : List Had × List Served). (map by_result own ++ map by_result (map as_own z.0)) ++ map read z.1) (λ j. (r.4 j, f j)) ∙ append-nil (map by_result own ++ by_result (as_own r.0) ∷ []),
-    inr (by_result (as_own r.0), refl, ap (λ (z : List ℕ). whole z) r.7, calling_at mine.thread.block mine.thread.stage r.1 r.5),
+    inr (
+      by_result (as_own r.0),
+      refl,
+      ap (λ (z : List ℕ). whole z) r.7,
+      calling_at mine.thread.block mine.thread.stage r.1 r.5,
+      channel_at mine.thread.block mine.thread.stage r.1 r.5 ∙ ap Some (sym r.8),
+    ),
   )
   end xs qs (inl e) (inr w) =
       let here = at_ready w.1 w.2 w.4 w.5 in (
@@ -291,6 +315,7 @@ module _ (script : Script) (t : ℕ) (words : List ℕ) (entries : List Entry) (
           refl,
           w.6 ∙ ap (λ (z : List ℕ). whole z) (ready_block seat.number k mine.thread.block w.2 mine.thread.stage (mids w.1) (agrees_at w.1 here w.4) w.1 here w.5),
           calling_at mine.thread.block mine.thread.stage w.1 here,
+          channel_at mine.thread.block mine.thread.stage w.1 here ∙ ap Some (sym w.7),
         ),
       )
   end xs qs (inr r) (inr w) =

@@ -58,7 +58,7 @@ behind (y ∷ xs) o (suc i) x e = ⊎_elim (λ h. inl h) (λ h. inr (ap suc h.0,
 
 module _ (statements : SoundStatements) (answers : AnswersKeepHistories) (script : Script) (setting : Setting) where
   -- the book after a step of a worker
-  history_after : (w : WorldAt) (t : ℕ) (x : WorkerAt) → IsHistory w.shared.book → t < length w.shared.book.setting.policies
+  pub history_after : (w : WorldAt) (t : ℕ) (x : WorkerAt) → IsHistory w.shared.book → t < length w.shared.book.setting.policies
       → x.channel < slice_index w.shared.book.setting.channels t → (stage : WorkerStage)
       → IsHistory (on_worker w.shared t (record x { stage = stage }) (worker_plan (record x { stage = stage }))).shared.book
   history_after w t x h p c Look = h

@@ -171,7 +171,7 @@ all_results script w kept runs none t k i s e =
     at_most a b e = grind (arith, nat_tests)
 
 -- lists of the same numbers at the same places
-same_lists : (xs ys : List ℕ) → length xs ≡ length ys → ((i : ℕ) → i < length xs → get_or xs i 0 ≡ get_or ys i 0) → xs ≡ ys
+pub same_lists : (xs ys : List ℕ) → length xs ≡ length ys → ((i : ℕ) → i < length xs → get_or xs i 0 ≡ get_or ys i 0) → xs ≡ ys
 same_lists [] [] e each = refl
 same_lists [] (y ∷ ys) e each = absurd (omega arith)
 same_lists (x ∷ xs) [] e each = absurd (omega arith)
@@ -180,7 +180,7 @@ same_lists (x ∷ xs) (y ∷ ys) e each =
     ap (λ (z : ℕ × List ℕ). z.0 ∷ z.1) (λ j. (first j, same_lists xs ys (omega (arith, e)) (λ i l. each (suc i) (omega (arith, l))) j))
 
 -- the sizes of the words of a world that runs a script
-sizes_at : (words : List (List ℕ)) (t : ℕ) → get_or (map (λ (ws : List ℕ). length ws) words) t 0 ≡ length (get_or words t [])
+pub sizes_at : (words : List (List ℕ)) (t : ℕ) → get_or (map (λ (ws : List ℕ). length ws) words) t 0 ≡ length (get_or words t [])
 sizes_at words t = get_or-map (λ (ws : List ℕ). length ws) words t []
 
 wanted_at : (targets : List TargetScript) (t : ℕ) → get_or (map (λ (target : TargetScript). target.channels * 65) targets) t 0 ≡ channels_of (slice_get targets t) * 65
@@ -202,6 +202,15 @@ words_kept script w kept runs =
     same_lists (map (λ (ws : List ℕ). length ws) w.shared.words) (map (λ (target : TargetScript). target.channels * 65) script.targets) (omega (arith, one, two, words, many))
     (λ t l. sizes_at w.shared.words t ∙ ((sized_words script w kept runs t (omega (arith, one, words, many, l))).1 ∙ sym (wanted_at script.targets t)))
 
+-- there is a list of results for each thread of each target
+lists_of_targets : (threads : List (List RunAt)) → length (results_of threads) ≡ length threads
+lists_of_targets threads = mapped (λ (runs : List RunAt). map (λ (x : RunAt). x.results) runs) threads
+
+lists_of_threads : (threads : List (List RunAt)) (t : ℕ) → length (get_or (results_of threads) t []) ≡ length (get_or threads t [])
+lists_of_threads threads t =
+    ap (λ (rows : List (List StmtResult)). length rows) (get_or-map (λ (runs : List RunAt). map (λ (x : RunAt). x.results) runs) threads t [])
+    ∙ mapped (λ (x : RunAt). x.results) (get_or threads t [])
+
 pub runs_are_legal : SoundTargets → SoundStatements → AnswersKeepHistories → RunsAreLegal
 runs_are_legal targets statements answers policies script schedule can = legal targets statements answers policies script schedule can
 
@@ -221,7 +230,7 @@ runs_keep_words targets statements answers policies script schedule can =
     (words_kept script (drained w) last.kept last.runs) (λ thread. words_kept script w now.kept now.runs) (first_unfinished script w.threads)
 
 -- in a settled world no state word is 3
-nothing_ready : (a b : Bool) → (a && not b) ≡ true → b ≡ false
+pub nothing_ready : (a b : Bool) → (a && not b) ≡ true → b ≡ false
 nothing_ready true true e = absurd (cc)
 nothing_ready true false e = refl
 nothing_ready false b e = absurd (cc)
@@ -235,7 +244,12 @@ finished_runs_are_whole targets statements answers settles policies script sched
     by_finish None e u =
         let w = played policies script schedule in
         let now = good_played targets statements answers policies script schedule can in (
-          record { fit = results_fit script w.threads now.fits; each = all_results script w now.kept now.runs e },
+          record {
+            targets = lists_of_targets w.threads ∙ now.runs.targets;
+            threads = λ t. lists_of_threads w.threads t ∙ now.runs.threads t;
+            fit = results_fit script w.threads now.fits;
+            each = all_results script w now.kept now.runs e;
+          },
           nothing_ready (list_all (λ worker. is_looking worker.stage) (drained w).workers) (some_ready (drained w).shared.words) (settles w now.kept),
         )
     by_finish (Some thread) e u = absurd (cc)

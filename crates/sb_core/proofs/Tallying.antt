@@ -70,7 +70,7 @@ pub record Tallied (script : Script) (w : WorldAt) : Type 0 where
       → entries_on t c w.shared.book.entries + owed (worker_at w t) c (slice_index (words_of w.shared.words t) (at c 0)) ≤ total script t c w.threads
 
 -- the worker of a target, on its own channels
-own_few : (w : WorldAt) (t : ℕ) → IsWorld w → t < length w.workers → (c : ℕ) → at c 0 < length (words_of (worker_step w t).shared.words t)
+pub own_few : (w : WorldAt) (t : ℕ) → IsWorld w → t < length w.workers → (c : ℕ) → at c 0 < length (words_of (worker_step w t).shared.words t)
     → (at c 0 < length (words_of w.shared.words t))
     × (entries_on t c (worker_step w t).shared.book.entries + owed (worker_at (worker_step w t) t) c (slice_index (words_of (worker_step w t).shared.words t) (at c 0))
     ≤ entries_on t c w.shared.book.entries + owed (worker_at w t) c (slice_index (words_of w.shared.words t) (at c 0)))
@@ -118,7 +118,7 @@ own_few w t kept there c inside =
 
 -- the entries of another target
 module _ (w : WorldAt) (t u c : ℕ) (x : WorkerAt) (ne : u ≢ t) where
-  other_entries : (stage : WorkerStage) → entries_on u c (on_worker w.shared t (record x { stage = stage }) (worker_plan (record x { stage = stage }))).shared.book.entries ≡ entries_on u c w.shared.book.entries
+  pub other_entries : (stage : WorkerStage) → entries_on u c (on_worker w.shared t (record x { stage = stage }) (worker_plan (record x { stage = stage }))).shared.book.entries ≡ entries_on u c w.shared.book.entries
   other_entries Look = refl
   other_entries Count = refl
   other_entries (End count) = refl

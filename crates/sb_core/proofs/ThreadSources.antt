@@ -103,6 +103,25 @@ ext_at words n i l = in_take n (drop 5 words) i l ∙ get_or-drop 5 words i 0
     in_take (suc n) (x ∷ xs) zero l = refl
     in_take (suc n) (x ∷ xs) (suc i) l = in_take n xs i (omega (arith, l))
 
+-- a reply that is read from twelve words that have sources
+pub sourced_reply : (script : Script) (es : List Entry) (t c : ℕ) (words : List ℕ) → length words ≡ 12 → ((i : ℕ) → i < length words → HasBlockSource script es t c (3 + i) (slice_index words i))
+    → IsSourcedReply script es t c (read_reply words)
+sourced_reply script es t c words n h = record {
+  mark = h 0 (omega (arith, n));
+  outcome = h 1 (omega (arith, n));
+  status = h 2 (omega (arith, n));
+  handle = h 3 (omega (arith, n));
+  many = (slice_index words 4, h 4 (omega (arith, n)), ext_length words (slice_index words 4) n);
+  words = λ i l.
+      let size = ext_length words (slice_index words 4) n in
+      let low : 5 + i < length words = omega (arith, n, size, l) in
+      subst (λ z. HasBlockSource script es t c (8 + i) z) (sym (ext_at words (min (slice_index words 4) 7) i l))
+      (subst (λ z. HasBlockSource script es t c z (slice_index words (5 + i))) (eight i) (h (5 + i) low));
+}
+  where
+    eight : (i : ℕ) → 3 + (5 + i) ≡ 8 + i
+    eight i = omega arith
+
 module _ (script : Script) (es : List Entry) (x : ThreadAt) where
   abbrev here : Option Statement
   here = statement_at script x.target x.thread x.place
@@ -135,26 +154,9 @@ module _ (script : Script) (es : List Entry) (x : ThreadAt) where
         (pick (Traces script es x) (rounds + 1 == x.patience) (ends script x (result.Call call.NoChannel)) (goes_on x (Try 0 (rounds + 1) true)) (ended_call call.NoChannel tt)
         (on (Try 0 (rounds + 1) true) tt)))
 
-    fetched : (c : ℕ) (words : List ℕ) → length words ≡ 12 → IsTracedThread script es x.target (Free c words) → IsSourcedReply script es x.target c (read_reply words)
-    fetched c words n h = record {
-      mark = h 0 (omega (arith, n));
-      outcome = h 1 (omega (arith, n));
-      status = h 2 (omega (arith, n));
-      handle = h 3 (omega (arith, n));
-      many = (slice_index words 4, h 4 (omega (arith, n)), ext_length words (slice_index words 4) n);
-      words = λ i l.
-          let size = ext_length words (slice_index words 4) n in
-          let low : 5 + i < length words = omega (arith, n, size, l) in
-          subst (λ z. HasBlockSource script es x.target c (8 + i) z) (sym (ext_at words (min (slice_index words 4) 7) i l))
-          (subst (λ z. HasBlockSource script es x.target c z (slice_index words (5 + i))) (eight i) (h (5 + i) low));
-    }
-      where
-        eight : (i : ℕ) → 3 + (5 + i) ≡ 8 + i
-        eight i = omega arith
-
     reply_shown : (c : ℕ) (words : List ℕ) → length words ≡ 12 → IsTracedThread script es x.target (Free c words) → (b : Bool)
         → ShowsCall script es x.target (if b then call.Reply c (read_reply words) else call.Foreign c (slice_index words 0))
-    reply_shown c words n h true = fetched c words n h
+    reply_shown c words n h true = sourced_reply script es x.target c words n h
     reply_shown c words n h false = h 0 (omega (arith, n))
 
     call_traces : (stage : ThreadStage) → IsSoundThreadStage (length x.clean) x.patience x.block stage → is_calling stage ≡ true → IsTracedThread script es x.target stage → (seen : Seen)

@@ -205,7 +205,7 @@ module _ (script : Script) (x : ThreadAt) where
 
     on_reply : (c : ℕ) (words : List ℕ) → c < length x.clean → (is_clean x.clean c ≡ true → slice_index words 0 ≡ mark_in x.block) → (b : Bool) → (slice_index words 0 == mark) ≡ b
         → Tidings script x (Free c words) (ends script x (result.Call (if b then call.Reply c (read_reply words) else call.Foreign c (slice_index words 0))))
-    on_reply c words within own true e = on_ends (Free c words) (call.Reply c (read_reply words)) (is_same (slice_index words 0) mark e) refl
+    on_reply c words within own true e = on_ends (Free c words) (call.Reply c (read_reply words)) (within, is_same (slice_index words 0) mark e) refl
     on_reply c words within own false e =
         let ne = not_same (slice_index words 0) mark e in
         let unclean = unless (is_clean x.clean c) (λ t. ne (own t ∙ marked)) in

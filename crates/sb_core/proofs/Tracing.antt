@@ -58,16 +58,16 @@ use Rattle.sb_core.proofs.ThreadSources.{Finds, FindsAt, IsTracedThread, ShowsSt
 use Rattle.sb_core.proofs.WorkerSources.{IsTracedWorker, own_copies, own_traced, own_words}
 
 -- the entries stay, or one comes
-abbrev Grown : List Entry → List Entry → Type 0
+abbrev pub Grown : List Entry → List Entry → Type 0
 Grown es after = (after ≡ es) ⊎ ((e : Entry) × (after ≡ es ++ e ∷ []))
 
-grow : (P : List Entry → Type 0) (es after : List Entry) → ((e : Entry) → P es → P (es ++ e ∷ [])) → Grown es after → P es → P after
+pub grow : (P : List Entry → Type 0) (es after : List Entry) → ((e : Entry) → P es → P (es ++ e ∷ [])) → Grown es after → P es → P after
 grow P es after more (inl e) h = subst P (sym e) h
 grow P es after more (inr g) h = subst P (sym g.1) (more g.0 h)
 
 -- what was traced stays so
 module _ (script : Script) (es : List Entry) (e : Entry) (t : ℕ) where
-  more_worker : (c : ℕ) (stage : WorkerStage) → IsTracedWorker script es t c stage → IsTracedWorker script (es ++ e ∷ []) t c stage
+  pub more_worker : (c : ℕ) (stage : WorkerStage) → IsTracedWorker script es t c stage → IsTracedWorker script (es ++ e ∷ []) t c stage
   more_worker c Look h = tt
   more_worker c Count h = tt
   more_worker c (End count) h = more_block script es e t c 2 count h
@@ -96,7 +96,7 @@ module _ (script : Script) (es : List Entry) (e : Entry) (t : ℕ) where
   more_call (call.Foreign c mark) h = more_block script es e t c 3 mark h
   more_call (call.TimedOut c) h = tt
 
-  more_shows : (s : Statement) (r : StmtResult) → Shows script es t s r → Shows script (es ++ e ∷ []) t s r
+  pub more_shows : (s : Statement) (r : StmtResult) → Shows script es t s r → Shows script (es ++ e ∷ []) t s r
   more_shows (statement.Call tag args) (result.Call r) h = more_call r h
   more_shows (statement.Exchange u word from to) (result.Found x) h = more_source script es e u word.channel word.at x h
   more_shows (statement.Load u word) (result.Found x) h = more_source script es e u word.channel word.at x h
@@ -123,7 +123,7 @@ pub record Own (script : Script) (w : WorldAt) (t : ℕ) (x : WorkerAt) (e : Eff
   pub grown : Grown w.shared.book.entries e.shared.book.entries
 
 module _ (script : Script) (w : WorldAt) (t channels c : ℕ) where
-  grown_at : (stage : WorkerStage)
+  pub grown_at : (stage : WorkerStage)
       → Grown w.shared.book.entries (on_worker w.shared t (record { target = t; channels = channels; channel = c; stage = stage }) (worker_plan (record { target = t; channels = channels; channel = c; stage = stage }))).shared.book.entries
   grown_at Look = inl refl
   grown_at Count = inl refl
@@ -182,7 +182,7 @@ traced_worker script w t r there =
         (λ e. more_worker script w.shared.book.entries e u (worker_at w u).channel (worker_at w u).stage) o.grown (r.workers u l))
 
 -- a step of a thread
-low_word : (script : Script) (t : ℕ) (word : Word) → has_word script.targets t word ≡ true → word.at < 65
+pub low_word : (script : Script) (t : ℕ) (word : Word) → has_word script.targets t word ≡ true → word.at < 65
 low_word script t word h =
     let second = (and_parts (nat_lt word.channel (channels_of (slice_get script.targets t))) (nat_le word.at 64) h).1 in
     grind (arith, nat_tests, second)

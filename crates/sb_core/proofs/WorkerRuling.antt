@@ -22,7 +22,8 @@ use Rattle.sb_book.specs.declared.entries.Entry.{Entry}
 use Rattle.sb_statements.specs.declared.scripts.Script.{Script}
 use Rattle.sb_core.specs.Kept.{IsWorkerOf, IsWorld}
 use Rattle.sb_core.specs.Shared.{Effect, decided, on_word, on_worker}
-use Rattle.sb_core.specs.Views.{AreViews, InRule, as_call, calls_at, in_work, is_of_target}
+use Rattle.sb_book.specs.Targets.{is_of_target}
+use Rattle.sb_core.specs.Views.{AreViews, InRule, as_call, calls_at, in_work}
 use Rattle.sb_core.specs.Words.{loaded, words_of}
 use Rattle.sb_core.specs.Worlds.{WorldAt, no_worker, threads_at, worker_at, worker_goes, worker_step}
 use Rattle.sb_core.proofs.Naming.{named_words, names, tells}

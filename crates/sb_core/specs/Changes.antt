@@ -1,4 +1,5 @@
--- What a step changes: at most one word, the actor itself, at Take and Give the turn, at Mark the book, and nothing else.
+-- What a step changes of words, turn, book, workers, threads and results: at most one word, the actor itself and its results by at most one, the turn at Take and
+-- Give alone, and the book at Mark alone.
 use Rattle.std.specs.Prelude.{◌≡◌, ◌≢◌, ℕ, Bool, true, false, ◌==◌, ◌&&◌, List, ◌++◌, length, slice_index, Option}
 use Rattle.std.specs.Option.{option_to_list}
 use Rattle.sb_actor.specs.ThreadTable.{thread_plan}

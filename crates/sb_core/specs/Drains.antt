@@ -23,7 +23,7 @@ abbrev pub drained_by : ℕ → WorldAt → WorldAt
 drained_by zero w = w
 drained_by (suc n) w = elim (is_settled w) [ true ↦ w | false ↦ drained_by n (one_pass w) ]
 
--- more passes than any drain makes: a law says that every drain settles
+-- enough passes: a law says that every drain settles
 abbrev pub most_passes : ℕ
 most_passes = 10000
 

@@ -22,7 +22,8 @@ use Rattle.sb_statements.specs.declared.statements.Statement.{Statement}
 use Rattle.sb_core.specs.Actors.{are_there}
 use Rattle.sb_core.specs.Results.{AreAllResults, result_at}
 use Rattle.sb_core.specs.Drains.{drained}
-use Rattle.sb_core.specs.Kept.{is_calling}
+use Rattle.sb_core.specs.Kept.{channel_in, is_calling}
+use Rattle.sb_core.specs.OfScripts.{IsOfScript}
 use Rattle.sb_core.specs.Runs.{CanRun, played, ran}
 use Rattle.sb_core.specs.Threads.{RunAt}
 use Rattle.sb_core.specs.Views.{HasUnits, OwnCall, as_call, own_calls}
@@ -61,8 +62,8 @@ pub record OwnReplies (script : Script) (entries : List Entry) (results : List (
       → (k : ℕ) × (k < thread_count (slice_get script.targets e.target)) × (mark_of e.taken / 65536 ≡ k + 1)
 
 -- Each result suits the statement at its place. A call ends with no channel only where its target has no clean one; its block is lost, its reply is another's, and
--- its patience runs out only on channels that are not clean; and a reply bears the call's own mark. A wait that met its value made from one to its most loads,
--- and another made its most
+-- its patience runs out only on channels that are not clean; and a reply came on a channel of the target and bears the call's own mark. A wait that met its value
+-- made from one to its most loads, and another made its most
 abbrev pub ResultsSuit : Script → List (List (List StmtResult)) → Type 0
 ResultsSuit script results = (t k i : ℕ) (r : StmtResult) → result_at results t k i ≡ Some r
     → (s : Statement) × (statement_at script t k i ≡ Some s) × Suits (clean_channels script t) (mark_at k i) s r
@@ -87,9 +88,12 @@ abbrev pub RunsFit : Type 0
 RunsFit = (policies : List Policy) (script : Script) (schedule : Schedule) → CanRun policies script schedule → HasUnits script
     → (ran policies script schedule).unfinished ≡ None → Fits policies script (ran policies script schedule).report
 
--- what a thread has beside its results: nothing, or the entry of its present call, whose copy is the whole block of it
+-- what a thread has beside its results: nothing, or the entry of its present call, which is on the channel where the thread is, and whose
+-- copy is the whole block of it
 abbrev pub IsPresent : RunAt → List Answered → Type 0
-IsPresent x besides = (besides ≡ []) ⊎ ((a : Answered) × (besides ≡ a ∷ []) × (a.taken ≡ whole x.thread.block) × (is_calling x.thread.stage ≡ true))
+IsPresent x besides =
+    (besides ≡ [])
+    ⊎ ((a : Answered) × (besides ≡ a ∷ []) × (a.taken ≡ whole x.thread.block) × (is_calling x.thread.stage ≡ true) × (channel_in x.thread.stage ≡ Some a.channel))
 
 -- at any moment the entries of a thread on clean channels are those of its results, with at most the one of its present call besides
 abbrev pub IsOwnSoFar : Script → WorldAt → ℕ → ℕ → Type 0
@@ -108,3 +112,8 @@ abbrev pub RunsReplyOwn : Type 0
 RunsReplyOwn = (policies : List Policy) (script : Script) (schedule : Schedule) → CanRun policies script schedule → HasUnits script
     → (t k : ℕ) → k < thread_count (slice_get script.targets t)
     → IsOwnSoFar script (played policies script schedule) t k × IsOwnSoFar script (drained (played policies script schedule)) t k
+
+-- and so it is in each world of a script, whichever steps led there
+abbrev pub WorldsOfScriptsReplyOwn : Type 0
+WorldsOfScriptsReplyOwn = (script : Script) (w : WorldAt) → IsOfScript script w → HasUnits script
+    → (t k : ℕ) → k < thread_count (slice_get script.targets t) → IsOwnSoFar script w t k

@@ -84,6 +84,18 @@ is_calling (Abandon c) = true
 is_calling (Stray loads most) = false
 is_calling Over = false
 
+-- the channel of such a stage
+abbrev pub channel_in : ThreadStage → Option ℕ
+channel_in (Try c rounds fives) = Some c
+channel_in (Fill c i) = Some c
+channel_in (Send c) = Some c
+channel_in (Wait c loads) = Some c
+channel_in (Fetch c words) = Some c
+channel_in (Free c words) = Some c
+channel_in (Abandon c) = Some c
+channel_in (Stray loads most) = None
+channel_in Over = None
+
 -- all statements have ended
 abbrev pub is_over : ThreadStage → Bool
 is_over (Try c rounds fives) = false

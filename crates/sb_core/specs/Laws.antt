@@ -13,6 +13,7 @@ use Rattle.sb_statements.specs.declared.schedules.Actor.TheVariants.{Worker, Thr
 use Rattle.sb_statements.specs.declared.schedules.Schedule.{Schedule}
 use Rattle.sb_statements.specs.declared.scripts.Script.{Script}
 use Rattle.sb_statements.specs.Actors.{is_there}
+use Rattle.sb_core.specs.Actors.{scheduled}
 use Rattle.sb_core.specs.Changes.{Changes, plan_of, is_load}
 use Rattle.sb_core.specs.Drains.{drained, is_settled}
 use Rattle.sb_core.specs.Kept.{IsWorld, IsRunning, has_turn}
@@ -67,7 +68,7 @@ copy_in (Give taken reply) = Some taken
 copy_in (Reply taken reply at) = Some taken
 copy_in (Ack taken reply) = Some taken
 
--- a worker judges what it copied: from the end of the copy until the reply is acknowledged it loads nothing, and it keeps the copy
+-- a worker judges what it copied: from the end of the copy until the reply is acknowledged it loads nothing, and behind each step it keeps the copy or looks on
 abbrev pub CopiesAreJudged : Type 0
 CopiesAreJudged = (w : WorkerAt) (seen : Seen) (taken : Copied) → copy_in w.stage ≡ Some taken
     → (is_load (worker_plan w) ≡ false) × ((copy_in (worker_after w seen).stage ≡ Some taken) ⊎ ((worker_after w seen).stage ≡ Look))
@@ -87,6 +88,10 @@ RoundsAreSteps = (n : ℕ) (script : Script) (w : WorldAt) → (actors : List Ac
 
 abbrev pub DrainsAreSteps : Type 0
 DrainsAreSteps = (script : Script) (w : WorldAt) → (actors : List Actor) × (drained w ≡ steps script actors w)
+
+-- each order of actors is that of a schedule, in which each of them makes one step
+abbrev pub OrdersAreSchedules : Type 0
+OrdersAreSchedules = (actors : List Actor) → scheduled (map (λ actor. (actor, 1)) actors) ≡ actors
 
 -- a drain leaves every worker looking, and no state word is 3, whatever the words hold
 abbrev pub DrainsSettle : Type 0

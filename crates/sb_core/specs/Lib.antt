@@ -12,7 +12,10 @@ pub mod Results
 pub mod Laws
 pub mod Views
 pub mod Rules
+pub mod Noting
+pub mod Finishes
 pub mod Fits
 pub mod Origins
 pub mod Tallies
 pub mod Units
+pub mod OfScripts

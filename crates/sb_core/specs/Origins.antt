@@ -36,7 +36,7 @@ StoresThere t c j x (statement.Call tag args) = ⊥
 abbrev pub IsByHand : Script → ℕ → ℕ → ℕ → ℕ → Type 0
 IsByHand script t c j x = (u k i : ℕ) × (s : Statement) × (statement_at script u k i ≡ Some s) × StoresThere t c j x s
 
--- a value has a source at a state word: it is one of the states 1 to 5, or was stored there by hand
+-- a value has a source at a state word: it is one of the states 1 to 5, or a statement stores it there by hand
 abbrev pub HasStateSource : Script → ℕ → ℕ → ℕ → Type 0
 HasStateSource script t c x = ((1 ≤ x) × (x ≤ 5)) ⊎ IsByHand script t c 0 x
 
@@ -51,7 +51,7 @@ abbrev pub IsOfReply : List Entry → ℕ → ℕ → ℕ → ℕ → Type 0
 IsOfReply entries t c i x =
     (n : ℕ) × (e : Entry) × (j : ℕ) × (slice_get entries n ≡ Some e) × (e.target ≡ t) × (e.channel ≡ c) × (j < 12) × (i ≡ 3 + j) × (x ≡ slice_index (reply_words e.reply) j)
 
--- a value has a source at block word i of a channel: it is 0, of a call's block, stored by hand, or of a reply
+-- a value has a source at block word i of a channel: it is 0, of a call's block, of a statement that stores it there by hand, or of a reply
 abbrev pub HasBlockSource : Script → List Entry → ℕ → ℕ → ℕ → ℕ → Type 0
 HasBlockSource script entries t c i x = (x ≡ 0) ⊎ (IsOfCall script t i x ⊎ (IsByHand script t c (1 + i) x ⊎ IsOfReply entries t c i x))
 

@@ -1,6 +1,7 @@
 -- One result for each statement, at its place.
-use Rattle.std.specs.Prelude.{◌≡◌, ℕ, Bool, true, false, List, [], slice_get, slice_index_or, Option, Some}
+use Rattle.std.specs.Prelude.{◌≡◌, ℕ, Bool, true, false, List, [], length, slice_get, slice_index_or, Option, Some}
 use Rattle.sb_actor.specs.Places.{statement_at}
+use Rattle.sb_statements.specs.Actors.{thread_count}
 use Rattle.sb_statements.specs.declared.results.StmtResult.{StmtResult}
 use Rattle.sb_statements.specs.declared.results.StmtResult.TheVariants as result
 use Rattle.sb_statements.specs.declared.scripts.Script.{Script}
@@ -26,7 +27,9 @@ abbrev pub ResultsFit : Script → List (List (List StmtResult)) → Type 0
 ResultsFit script results = (t k i : ℕ) (r : StmtResult) → result_at results t k i ≡ Some r
     → (s : Statement) × (statement_at script t k i ≡ Some s) × (is_result_of s r ≡ true)
 
--- and each statement has one
+-- and each statement has one, in a list for each thread of each target
 pub record AreAllResults (script : Script) (results : List (List (List StmtResult))) : Type 0 where
+  pub targets : length results ≡ length script.targets
+  pub threads : (t : ℕ) → length (slice_index_or results t []) ≡ thread_count (slice_get script.targets t)
   pub fit : ResultsFit script results
   pub each : (t k i : ℕ) (s : Statement) → statement_at script t k i ≡ Some s → (r : StmtResult) × (result_at results t k i ≡ Some r)

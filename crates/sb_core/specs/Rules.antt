@@ -1,4 +1,4 @@
--- Rule S holds in every world of a script, and each result suits its statement.
+-- Rule S holds in every world of a script whose strings are made of units.
 use Rattle.std.specs.Prelude.{◌≡◌, ◌<◌, ℕ, true, List, length}
 use Rattle.sb_book.specs.Readiness.{is_ready}
 use Rattle.sb_rule.specs.declared.policies.Policy.{Policy}
@@ -7,6 +7,7 @@ use Rattle.sb_statements.specs.declared.schedules.Schedule.{Schedule}
 use Rattle.sb_statements.specs.declared.scripts.Script.{Script}
 use Rattle.sb_core.specs.Actors.{are_there}
 use Rattle.sb_core.specs.Drains.{drained}
+use Rattle.sb_core.specs.OfScripts.{IsOfScript}
 use Rattle.sb_core.specs.Runs.{CanRun, played}
 use Rattle.sb_core.specs.Views.{HasUnits, InRule}
 use Rattle.sb_core.specs.Worlds.{WorldAt, start_world, steps}
@@ -24,3 +25,7 @@ RuleHolds = (policies : List Policy) (script : Script) (actors : List Actor) →
 abbrev pub RunsKeepRule : Type 0
 RunsKeepRule = (policies : List Policy) (script : Script) (schedule : Schedule) → CanRun policies script schedule → HasUnits script
     → AreInRule script (played policies script schedule) × AreInRule script (drained (played policies script schedule))
+
+-- so it holds in each world of a script, whichever steps led there
+abbrev pub WorldsOfScriptsKeepRule : Type 0
+WorldsOfScriptsKeepRule = (script : Script) (w : WorldAt) → IsOfScript script w → HasUnits script → AreInRule script w

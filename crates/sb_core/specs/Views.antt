@@ -1,7 +1,7 @@
 -- What the seats of a target know in a world, and rule S over it: between any two steps the channel words of each target fit what its worker
 -- and its threads know.
 use Rattle.std.specs.Prelude.{◌≡◌, ◌<◌, ℕ, ◌+◌, ◌==◌, Bool, true, List, [], ◌∷◌, ◌++◌, length, map, slice_index_or, Some, if◌then◌else◌}
-use Rattle.std.specs.List.{filter, list_all}
+use Rattle.std.specs.List.{list_all}
 use mathlib.Core.Option.{some}
 use lib.ListN.{get_elem?}
 use Rattle.sb_actor.specs.Moves.{is_clean}
@@ -19,6 +19,7 @@ use Rattle.sb_actor.specs.declared.views.View.TheVariants as view
 use Rattle.sb_actor.specs.declared.views.WorkerView.{WorkerView}
 use Rattle.sb_block.specs.Blocks.{has_units}
 use Rattle.sb_block.specs.Replies.{read_reply, reply_words}
+use Rattle.sb_book.specs.Targets.{of_target}
 use Rattle.sb_book.specs.declared.entries.Entry.{Entry}
 use Rattle.sb_call.specs.declared.arguments.Arg.{Arg}
 use Rattle.sb_call.specs.declared.replies.Reply.{Reply as ReplyOf}
@@ -37,17 +38,13 @@ use Rattle.sb_core.specs.Worlds.{WorldAt, threads_at, worker_at}
 abbrev pub HasUnits : Script → Type 0
 HasUnits script = (t k i : ℕ) (tag : CallTag) (args : List Arg) → statement_at script t k i ≡ Some (Call tag args) → list_all has_units args ≡ true
 
--- an entry is of this target
-abbrev pub is_of_target : ℕ → Entry → Bool
-is_of_target t e = e.target == t
-
 -- an entry as the worker served it
 abbrev pub as_call : Entry → Served
 as_call e = record { channel = e.channel; taken = e.taken; reply = reply_words e.reply }
 
 -- the entries of a target, in order
 abbrev pub calls_at : ℕ → List Entry → List Served
-calls_at t entries = map as_call (filter (is_of_target t) entries)
+calls_at t entries = map as_call (of_target t entries)
 
 -- the call that has its entry and is not acknowledged yet
 abbrev pub in_work : ℕ → WorkerStage → List Served

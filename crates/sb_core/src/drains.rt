@@ -2,6 +2,7 @@
 ghost use Rattle.std.specs.Prelude.{◌≡◌, OnOk};
 ghost use Rattle.std.specs.List.{list_all};
 ghost use Rattle.sb_actor.specs.WorkerTable.{is_looking};
+ghost use Rattle.sb_book.specs.Histories.{JudgesBy};
 ghost use Rattle.sb_core.specs.Drains.{is_settled, one_pass, drained};
 ghost use Rattle.sb_core.specs.Kept.{IsReached};
 ghost use Rattle.sb_statements.specs.declared.scripts.Script.{Script};
@@ -12,7 +13,7 @@ use sb_items::NoMemory;
 use sb_rule::Judge;
 use std::alloc::Global;
 
-/// More passes than any drain makes.
+/// Enough passes for every drain, which is a law.
 const MOST_PASSES: u32 = 10_000;
 
 fn all_looking(workers: &[WorkerState]) -> bool
@@ -31,7 +32,7 @@ fn is_settled(world: &World) -> bool
 // One step of each worker, in target order.
 #[tactic(auto, using(crate::proofs::Folding::pass_more, crate::proofs::Folding::reached_below))]
 fn make_pass<J: Judge>(alloc: Global, judge: &J, world: &mut World) -> Result<(), NoMemory>
-    requires judge { J.policies judge.now ≡ world.old.shared.book.setting.policies }
+    requires judge { JudgesBy (J.policies judge.now) world.old.shared.book }
     ensures ok { OnOk result (world.new ≡ one_pass world.old) }
     ensures reached { (script : Script) → IsReached script world.old world.new }
     ensures setting { world.new.shared.book.setting ≡ world.old.shared.book.setting }
@@ -49,7 +50,7 @@ fn make_pass<J: Judge>(alloc: Global, judge: &J, world: &mut World) -> Result<()
 /// `NoMemory` where there was none for a step.
 #[tactic(auto, using(crate::proofs::Folding::drained_done, crate::proofs::Folding::drained_more, crate::proofs::Folding::reached_self, crate::proofs::Folding::reached_on))]
 pub(crate) fn settle<J: Judge>(alloc: Global, judge: &J, world: &mut World) -> Result<(), NoMemory>
-    requires judge { J.policies judge.now ≡ world.old.shared.book.setting.policies }
+    requires judge { JudgesBy (J.policies judge.now) world.old.shared.book }
     ensures ok { OnOk result (world.new ≡ drained world.old) }
     ensures reached { (script : Script) → IsReached script world.old world.new }
     ensures setting { world.new.shared.book.setting ≡ world.old.shared.book.setting }

@@ -1,5 +1,6 @@
 // The end of a run by threads.
 ghost use Rattle.std.specs.Prelude.{◌≡◌, IfOk};
+ghost use Rattle.sb_book.specs.Histories.{JudgesBy};
 ghost use Rattle.sb_core.specs.Runs.{CanFinish, finished, world_of};
 
 use crate::drains::settle;
@@ -45,6 +46,7 @@ fn world_of(
 /// The report of a run by threads, once each of them has ended: the workers serve what is still ready. The words are 65 for each
 /// channel of each target; there is one looking worker for each target, in target order, with its number of channels; one result for
 /// each statement; and the book is that of this script. The judge judges its targets by their policies.
+/// `finishes_fit` says when the report fits its script.
 ///
 /// # Errors
 /// `NoMemory` where there was none for a step, or for the report.
@@ -58,7 +60,7 @@ pub fn finish<J: Judge>(
     results: Results,
 ) -> Result<Report, NoMemory>
     requires parts { CanFinish script.now words workers.items book results }
-    requires judge { J.policies judge.now ≡ book.setting.policies }
+    requires judge { JudgesBy (J.policies judge.now) book }
     ensures { IfOk result (λ r. r ≡ finished words workers.items book results) }
 {
     let mut world = world_of(alloc, script, words, workers, book, &results)?;

@@ -1,5 +1,6 @@
 // Laws of worlds and runs. None of these functions does anything: each contract is a law.
-ghost use Rattle.sb_core.specs.Laws.{StartsKeep, StepsKeep, DrainsKeep, StepsChangeLittle, MarksAnswerCopies, TurnsAreHeld, CopiesAreJudged, FinishedThreadsStay, StepsAreFolds, RoundsAreSteps, DrainsAreSteps, DrainsSettle, RunsAreLegal, RunsHaveResults, FinishedRunsAreWhole, RunsKeepWords};
+ghost use Rattle.sb_core.specs.OfScripts.{DrainsAreOfScripts, StartsAreOfScripts, StepsAreOfScripts, WorldsOfScriptsRun};
+ghost use Rattle.sb_core.specs.Laws.{StartsKeep, StepsKeep, DrainsKeep, StepsChangeLittle, MarksAnswerCopies, TurnsAreHeld, CopiesAreJudged, FinishedThreadsStay, StepsAreFolds, RoundsAreSteps, DrainsAreSteps, OrdersAreSchedules, DrainsSettle, RunsAreLegal, RunsHaveResults, FinishedRunsAreWhole, RunsKeepWords};
 
 use sb_book::answers_keep_histories;
 use sb_statements::sound_parts;
@@ -10,6 +11,17 @@ pub fn worlds_keep()
     ensures start { StartsKeep }
     ensures step { StepsKeep }
     ensures drain { DrainsKeep }
+{
+    sound_parts();
+}
+
+/// The world that a script starts with is one of the script, and so is the world after a step of an actor that is there, and after a
+/// drain. Each of them keeps what its type says, and runs its script.
+pub fn worlds_are_of_scripts()
+    ensures start { StartsAreOfScripts }
+    ensures step { StepsAreOfScripts }
+    ensures drain { DrainsAreOfScripts }
+    ensures runs { WorldsOfScriptsRun }
 {
     sound_parts();
 }
@@ -32,7 +44,8 @@ pub fn turns_are_held()
     ensures { TurnsAreHeld }
 {}
 
-/// A worker judges what it copied: from the end of the copy until the reply is acknowledged it loads nothing, and it keeps the copy.
+/// A worker judges what it copied: from the end of the copy until the reply is acknowledged it loads nothing, and behind each step it
+/// keeps the copy or looks on.
 pub fn copies_are_judged()
     ensures { CopiesAreJudged }
 {}
@@ -42,11 +55,13 @@ pub fn finished_threads_stay()
     ensures { FinishedThreadsStay }
 {}
 
-/// A run is a fold of steps: what comes first decides the world after it, and rounds and the drain are steps too.
+/// A run is a fold of steps: what comes first decides the world after it, and rounds and the drain are steps too. Each order of actors
+/// is that of a schedule.
 pub fn steps_are_folds()
     ensures steps { StepsAreFolds }
     ensures rounds { RoundsAreSteps }
     ensures drain { DrainsAreSteps }
+    ensures orders { OrdersAreSchedules }
 {}
 
 /// A drain leaves every worker looking and no state word at 3, whatever the words hold.

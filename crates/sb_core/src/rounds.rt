@@ -1,6 +1,7 @@
 // Steps in turn: those of a schedule, and rounds.
 ghost use Rattle.std.specs.Prelude.{◌≡◌, replicate, true, OnOk};
 ghost use Rattle.std.specs.List.{list_all};
+ghost use Rattle.sb_book.specs.Histories.{JudgesBy};
 ghost use Rattle.sb_core.specs.Actors.{are_there, round_actors, scheduled};
 ghost use Rattle.sb_statements.specs.Actors.{is_step_there, is_there};
 ghost use Rattle.sb_core.specs.Kept.{IsRunning};
@@ -21,7 +22,7 @@ fn repeat<J: Judge>(
     actor: Actor,
     count: u32,
 ) -> Result<(), NoMemory>
-    requires judge { J.policies judge.now ≡ world.old.shared.book.setting.policies }
+    requires judge { JudgesBy (J.policies judge.now) world.old.shared.book }
     requires running { IsRunning script.now world.old }
     requires there { is_there script.now.targets actor ≡ true }
     ensures ok { OnOk result (world.new ≡ steps script.now (replicate count actor) world.old) }
@@ -48,7 +49,7 @@ pub(crate) fn make_steps<J: Judge>(
     world: &mut World,
     entries: &[(Actor, u32)],
 ) -> Result<(), NoMemory>
-    requires judge { J.policies judge.now ≡ world.old.shared.book.setting.policies }
+    requires judge { JudgesBy (J.policies judge.now) world.old.shared.book }
     requires running { IsRunning script.now world.old }
     requires there { list_all (is_step_there script.now.targets) entries.now ≡ true }
     ensures ok { OnOk result (world.new ≡ steps script.now (scheduled entries.now) world.old) }
@@ -71,7 +72,7 @@ fn make_round<J: Judge>(
     world: &mut World,
     actors: &[Actor],
 ) -> Result<(), NoMemory>
-    requires judge { J.policies judge.now ≡ world.old.shared.book.setting.policies }
+    requires judge { JudgesBy (J.policies judge.now) world.old.shared.book }
     requires running { IsRunning script.now world.old }
     requires there { are_there script.now.targets actors.now ≡ true }
     ensures ok { OnOk result (world.new ≡ steps script.now actors.now world.old) }
@@ -100,7 +101,7 @@ pub(crate) fn make_rounds<J: Judge>(
     actors: &[Actor],
     count: u32,
 ) -> Result<(), NoMemory>
-    requires judge { J.policies judge.now ≡ world.old.shared.book.setting.policies }
+    requires judge { JudgesBy (J.policies judge.now) world.old.shared.book }
     requires running { IsRunning script.now world.old }
     requires actors { actors.now ≡ round_actors script.now.targets }
     ensures ok { OnOk result (world.new ≡ rounds count script.now world.old) }

@@ -1,6 +1,6 @@
 // A whole run of a script by a schedule.
 ghost use Rattle.std.specs.Prelude.{◌≡◌, ◌≤◌, IfOk};
-ghost use Rattle.sb_book.specs.Histories.{setting_of};
+ghost use Rattle.sb_book.specs.Histories.{JudgesBy, setting_of};
 ghost use Rattle.sb_book.specs.Reports.{result_count};
 ghost use Rattle.sb_core.specs.Kept.{IsRunning};
 ghost use Rattle.sb_core.specs.Reports.{report_of, results_of};
@@ -60,7 +60,7 @@ fn world_report(alloc: Global, world: World) -> Result<Report, NoMemory>
 // Drains the world where every thread is finished, and reports.
 #[tactic(auto, using(crate::proofs::Draining::drained_threads, crate::proofs::Draining::few_results))]
 fn ended<J: Judge>(alloc: Global, judge: &J, script: &Script, world: World) -> Result<Ran, NoMemory>
-    requires judge { J.policies judge.now ≡ world.shared.book.setting.policies }
+    requires judge { JudgesBy (J.policies judge.now) world.shared.book }
     requires running { IsRunning script.now world }
     ensures value { IfOk result (λ r. r ≡ ended_from script.now world) }
     ensures few { IfOk result (λ r. result_count r.report.results ≤ most_results) }

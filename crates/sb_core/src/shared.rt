@@ -3,6 +3,7 @@ ghost use Rattle.std.specs.Prelude.{◌≡◌, ◌<◌, length, slice_index, is_
 ghost use Rattle.sb_actor.specs.declared.acts.Act.TheVariants.{Mark};
 ghost use Rattle.sb_actor.specs.declared.acts.Seen.TheVariants.{Value, Done, Turn};
 ghost use Rattle.sb_actor.specs.WorkerTable.{worker_plan, taken_in, IsAnswer};
+ghost use Rattle.sb_book.specs.Histories.{JudgesBy};
 ghost use Rattle.sb_core.specs.Shared.{on_word, on_worker, marked, turn_taken, with_words, IsActThere};
 ghost use Rattle.sb_core.specs.Words.{loaded, stored, exchanged, some_ready, words_of, IsWordThere};
 
@@ -33,7 +34,7 @@ impl Model for Shared {
 
 impl Shared {
     // A load.
-    #[inline]
+    #[inline(always)]
     fn load(&self, target: u32, word: Word) -> Seen
         requires { IsWordThere self.now.words target word }
         ensures { result ≡ Value (loaded (words_of self.now.words target) word) }
@@ -42,7 +43,7 @@ impl Shared {
     }
 
     // A store.
-    #[inline]
+    #[inline(always)]
     fn store(&mut self, target: u32, word: Word, value: u64) -> Seen
         requires { IsWordThere self.old.words target word }
         ensures seen { result ≡ Done }
@@ -53,7 +54,7 @@ impl Shared {
     }
 
     // An exchange.
-    #[inline]
+    #[inline(always)]
     fn exchange(&mut self, target: u32, word: Word, from: u64, to: u64) -> Seen
         requires { IsWordThere self.old.words target word }
         ensures seen { result ≡ Value (loaded (words_of self.old.words target) word) }
@@ -63,7 +64,7 @@ impl Shared {
     }
 
     // The worker of a target takes the turn, where nobody has it.
-    #[inline]
+    #[inline(always)]
     fn take_turn(&mut self, target: u32) -> Seen
         ensures seen { result ≡ Turn (is_none self.old.turn) }
         ensures shared { self.new ≡ record self.old { turn = turn_taken target self.old.turn } }
@@ -78,7 +79,7 @@ impl Shared {
     }
 
     // The turn is given back.
-    #[inline]
+    #[inline(always)]
     fn give_turn(&mut self) -> Seen
         ensures seen { result ≡ Done }
         ensures shared { self.new ≡ record self.old { turn = None } }
@@ -88,6 +89,7 @@ impl Shared {
     }
 
     // The book answers the copy of a target's worker.
+    #[inline(never)]
     fn mark<J: Judge>(
         &mut self,
         alloc: Global,
@@ -95,7 +97,7 @@ impl Shared {
         target: u32,
         worker: &WorkerState,
     ) -> Result<Seen, NoMemory>
-        requires judge { J.policies judge.now ≡ self.old.book.setting.policies }
+        requires judge { JudgesBy (J.policies judge.now) self.old.book }
         requires target { target < length self.old.book.setting.policies }
         requires channel { worker.now.channel < slice_index self.old.book.setting.channels target }
         ensures seen { IfOk result (λ s. s ≡ (marked self.old target worker.now (taken_in worker.now.stage)).seen) }
@@ -112,7 +114,7 @@ impl Shared {
     }
 
     /// Makes the step of a thread, which is on a word, and gives what it found.
-    #[inline]
+    #[inline(always)]
     pub(crate) fn perform(&mut self, act: Act) -> Seen
         requires { IsActThere self.old.words act }
         ensures seen { result ≡ (on_word self.old act).seen }
@@ -139,7 +141,7 @@ impl Shared {
     ///
     /// # Errors
     /// `NoMemory` where the step is at Mark and there was none for the call's strings, for the entry, or for what the call makes.
-    #[inline]
+    #[inline(always)]
     pub(crate) fn work<J: Judge>(
         &mut self,
         alloc: Global,
@@ -147,7 +149,7 @@ impl Shared {
         target: u32,
         worker: &WorkerState,
     ) -> Result<Seen, NoMemory>
-        requires judge { J.policies judge.now ≡ self.old.book.setting.policies }
+        requires judge { JudgesBy (J.policies judge.now) self.old.book }
         requires target { target < length self.old.book.setting.policies }
         requires channel { worker.now.channel < slice_index self.old.book.setting.channels target }
         requires there { IsActThere self.old.words (worker_plan worker.now) }

@@ -60,7 +60,7 @@ impl ThreadRun {
     }
 
     /// One step. It takes no memory.
-    #[inline]
+    #[inline(always)]
     pub(crate) fn step(&mut self, script: &Script, shared: &mut Shared)
         requires sound { is_sound script.now ≡ true }
         requires there { IsActThere shared.old.words (thread_plan script.now self.old.thread) }
@@ -129,7 +129,7 @@ impl TargetThreads {
     }
 
     /// One step of a thread that is there. It takes no memory.
-    #[inline]
+    #[inline(always)]
     #[tactic(auto, using(crate::proofs::Sets::at_place))]
     pub(crate) fn step(&mut self, script: &Script, thread: u32, shared: &mut Shared)
         requires sound { is_sound script.now ≡ true }

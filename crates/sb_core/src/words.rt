@@ -37,7 +37,7 @@ fn free_channel() -> [u64; 65]
 }
 
 // Where a word stands.
-#[inline]
+#[inline(always)]
 fn place_of(word: Word, len: usize) -> usize
     requires { place_of word < len }
     ensures { result ≡ place_of word }
@@ -80,7 +80,7 @@ impl TargetWords {
     }
 
     /// What a word holds.
-    #[inline]
+    #[inline(always)]
     pub(crate) fn load(&self, word: Word) -> u64
         requires { place_of word < length self.now }
         ensures { result ≡ loaded self.now word }
@@ -89,7 +89,7 @@ impl TargetWords {
     }
 
     /// Stores a value into a word.
-    #[inline]
+    #[inline(always)]
     pub(crate) fn store(&mut self, word: Word, value: u64)
         requires { place_of word < length self.old }
         ensures { self.new ≡ stored self.old word value }
@@ -99,7 +99,7 @@ impl TargetWords {
     }
 
     /// Stores `to` into a word that holds `from`, and gives what it held.
-    #[inline]
+    #[inline(always)]
     pub(crate) fn exchange(&mut self, word: Word, from: u64, to: u64) -> u64
         requires { place_of word < length self.old }
         ensures found { result ≡ loaded self.old word }

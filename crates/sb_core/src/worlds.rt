@@ -2,12 +2,14 @@
 ghost use Rattle.std.specs.Prelude.{◌≡◌, ◌<◌, ◌≤◌, length, true, IfOk, OnOk, OnErr};
 ghost use Rattle.sb_actor.specs.WorkerTable.{worker_plan};
 ghost use Rattle.sb_actor.specs.declared.acts.Act.TheVariants.{Mark};
+ghost use Rattle.sb_book.specs.Histories.{JudgesBy};
 ghost use Rattle.sb_book.specs.Readiness.{is_ready};
 ghost use Rattle.sb_statements.specs.declared.schedules.Actor.TheVariants.{Thread};
 ghost use Rattle.sb_statements.specs.Actors.{is_there};
 ghost use Rattle.sb_core.specs.Changes.{plan_of};
 ghost use Rattle.sb_core.specs.Drains.{drained};
 ghost use Rattle.sb_core.specs.Kept.{IsReached, IsRunning, IsWorld};
+ghost use Rattle.sb_core.specs.OfScripts.{IsOfScript};
 ghost use Rattle.sb_core.specs.Threads.{first_unfinished};
 ghost use Rattle.sb_core.specs.Worlds.{start_world, worker_at, worker_step, step, all_finished};
 
@@ -25,7 +27,8 @@ use std::marker::Model;
 
 /// The channel words, the holder of the turn and the book, which all actors share; the worker of each target; and its threads with
 /// their results. Every number in it is in its range, each thread has one result for each statement that ended, and the turn is with a
-/// worker exactly while that is at Mark or Give.
+/// worker exactly while that is at Mark or Give. A world that was started with a script stays one of it under its steps and drains, and
+/// so keeps rule S for each target where the strings of the script's calls are made of units (`worlds_of_scripts_keep_rule`).
 #[derive(Debug, Drop)]
 pub struct World {
     pub(crate) shared: Shared,
@@ -50,11 +53,12 @@ impl World {
     ///
     /// # Errors
     /// `NoMemory` where there was none for the words, the actors, the results or the book.
-    #[tactic(auto, using(crate::proofs::Starting::starts_world, crate::proofs::Starting::starts_running))]
+    #[tactic(auto, using(crate::proofs::Starting::starts_world, crate::proofs::Starting::starts_running, crate::proofs::Belonging::of_start))]
     pub fn start(alloc: Global, policies: &Policies, script: &Script) -> Result<World, NoMemory>
         requires { is_ready policies.now.list script.now ≡ true }
         ensures value { IfOk result (λ world. world ≡ start_world policies.now.list script.now) }
         ensures running { IfOk result (λ world. IsRunning script.now world) }
+        ensures of_script { IfOk result (λ world. IsOfScript script.now world) }
     {
         sound_parts();
         let shared = Shared {
@@ -78,7 +82,7 @@ impl World {
     }
 
     // One step of the worker of a target.
-    #[inline]
+    #[inline(always)]
     #[tactic(auto, using(crate::proofs::There::worker_there, crate::proofs::There::worker_channel, crate::proofs::There::worker_policy, crate::proofs::Keeping::worker_keeps, crate::proofs::Keeping::worker_setting))]
     pub(crate) fn worker_step<J: Judge>(
         &mut self,
@@ -86,7 +90,7 @@ impl World {
         judge: &J,
         target: u32,
     ) -> Result<(), NoMemory>
-        requires judge { J.policies judge.now ≡ self.old.shared.book.setting.policies }
+        requires judge { JudgesBy (J.policies judge.now) self.old.shared.book }
         requires target { target < length self.old.workers }
         ensures ok { OnOk result (self.new ≡ worker_step self.old target) }
         ensures err { OnErr result (self.new ≡ self.old) }
@@ -101,7 +105,7 @@ impl World {
     }
 
     // One step of a thread of a target. It takes no memory.
-    #[inline]
+    #[inline(always)]
     #[tactic(auto, using(crate::proofs::There::thread_there, crate::proofs::ThreadKeeping::thread_keeps))]
     fn thread_step(&mut self, script: &Script, target: u32, thread: u32)
         requires running { IsRunning script.now self.old }
@@ -118,8 +122,8 @@ impl World {
     ///
     /// # Errors
     /// `NoMemory` where a worker is at Mark and there was none for the call's strings, for the entry, or for what the call makes.
-    #[inline]
-    #[tactic(auto, using(crate::proofs::Running::step_keeps))]
+    #[inline(always)]
+    #[tactic(auto, using(crate::proofs::Running::step_keeps, crate::proofs::Belonging::of_step))]
     pub fn step<J: Judge>(
         &mut self,
         alloc: Global,
@@ -127,13 +131,14 @@ impl World {
         script: &Script,
         actor: Actor,
     ) -> Result<(), NoMemory>
-        requires judge { J.policies judge.now ≡ self.old.shared.book.setting.policies }
+        requires judge { JudgesBy (J.policies judge.now) self.old.shared.book }
         requires running { IsRunning script.now self.old }
         requires there { is_there script.now.targets actor ≡ true }
         ensures ok { OnOk result (self.new ≡ step script.now self.old actor) }
         ensures err { OnErr result (self.new ≡ self.old) }
         ensures cause { OnErr result (plan_of script.now self.old actor ≡ Mark) }
         ensures running { IsRunning script.now self.new }
+        ensures of_script { IsOfScript script.now self.old → IsOfScript script.now self.new }
         ensures setting { self.new.shared.book.setting ≡ self.old.shared.book.setting }
     {
         sound_parts();
@@ -187,10 +192,11 @@ impl World {
         judge: &J,
         script: &Script,
     ) -> Result<(), NoMemory>
-        requires judge { J.policies judge.now ≡ self.old.shared.book.setting.policies }
+        requires judge { JudgesBy (J.policies judge.now) self.old.shared.book }
         requires running { IsRunning script.now self.old }
         ensures ok { OnOk result (self.new ≡ drained self.old) }
         ensures running { OnOk result (IsRunning script.now self.new) }
+        ensures of_script { OnOk result (IsOfScript script.now self.old → IsOfScript script.now self.new) }
         ensures reached { IsReached script.now self.old self.new }
         ensures setting { self.new.shared.book.setting ≡ self.old.shared.book.setting }
     {
