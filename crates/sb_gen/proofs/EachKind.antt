@@ -7,6 +7,8 @@ use Rattle.sb_statements.specs.declared.scripts.TargetScript.{TargetScript}
 use Rattle.sb_statements.specs.declared.statements.Statement.{Statement}
 use Rattle.sb_gen.specs.Generator.{kind_of, number_of}
 use Rattle.sb_gen.specs.Calls.{file_create, file_query, file_open, event_create, event_open, key_open, ping, pipe_create, call_of, statement_of}
+use Rattle.sb_statements.specs.Units.{statement_has_units}
+use Rattle.sb_gen.proofs.KindUnits.{create_units, query_units, open_units, event_units, open_event_units, key_units, pipe_units}
 use Rattle.sb_gen.proofs.Fitting.{create_fits, query_fits, open_fits, event_fits, open_event_fits, key_fits, ping_fits, pipe_fits}
 
 module _ (p : Statement → Bool) (wanted : Bool) where
@@ -60,3 +62,11 @@ statement_fits targets t x target =
 pub statement_is_call : (target channel t x : ℕ) → writes_channel target channel (statement_of t x) ≡ false
 statement_is_call target channel t x =
     each_kind (writes_channel target channel) false t (kind_of x) (number_of x) refl refl refl refl refl refl refl refl
+
+-- the strings of each are made of units
+pub statement_units : (t x : ℕ) → t < 8 → statement_has_units (statement_of t x) ≡ true
+statement_units t x target =
+    let small : number_of x < 256 = number_is_small x in
+    each_kind statement_has_units true t (kind_of x) (number_of x)
+    (create_units t (number_of x) target small) (query_units t (number_of x) target small) (open_units (number_of x) small) (event_units (number_of x) small)
+    (open_event_units (number_of x) small) (key_units (number_of x) small) refl (pipe_units (number_of x) small)

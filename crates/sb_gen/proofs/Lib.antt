@@ -1,7 +1,9 @@
 pub mod Numbers
 pub mod Fitting
+pub mod KindUnits
 pub mod EachKind
 pub mod Readiness
+pub mod ScriptUnits
 pub mod PolicyText
 pub mod Steps
 pub mod TargetNames

@@ -4,29 +4,15 @@ ghost use Rattle.std.specs.Fmt.{decimal};
 ghost use Rattle.sb_gen.specs.Calls.{directory, name_within, root_name, other_name};
 
 use sb_items::NoMemory;
-use sb_wide::Wide;
+use sb_wide::{Wide, put_decimal};
 use std::alloc::Global;
 
-// The units of the longest name, `\make\aT\kK`, where T has one digit and K three.
-const MOST_UNITS: usize = 13;
-
-// Appends an ASCII text.
-fn put_text(units: &mut Vec<u16>, text: &[u8]) -> Result<(), NoMemory>
-    ensures { OnOk result (units.new.items ≡ units.old.items ++ text.now) }
-{
-    for byte in text {
-        units.push(u16::from(*byte))?;
-    }
-    Ok(())
-}
-
 // Appends an ASCII text and a number in decimal.
-fn put_numbered(units: &mut Vec<u16>, text: &[u8], number: u64) -> Result<(), NoMemory>
-    ensures { OnOk result (units.new.items ≡ units.old.items ++ (text.now ++ decimal number)) }
+fn put_numbered(name: &mut Vec<u8>, text: &[u8], number: u64) -> Result<(), NoMemory>
+    ensures { OnOk result (name.new.items ≡ name.old.items ++ (text.now ++ decimal number)) }
 {
-    let mut digits = itoa::Buffer::new();
-    put_text(units, text)?;
-    put_text(units, digits.format(number).as_bytes())
+    name.extend_from_slice(text)?;
+    put_decimal(name, number)
 }
 
 // An ASCII text.
@@ -34,7 +20,9 @@ fn ascii(alloc: Global, text: &[u8]) -> Result<Wide, NoMemory>
     ensures { IfOk result (λ units. units ≡ text.now) }
 {
     let mut units = Vec::with_capacity(alloc, text.len())?;
-    put_text(&mut units, text)?;
+    for byte in text {
+        units.push(u16::from(*byte))?;
+    }
     Ok(Wide::new(units))
 }
 
@@ -56,9 +44,9 @@ pub(crate) fn make_directory(alloc: Global) -> Result<Wide, NoMemory>
 fn numbered(alloc: Global, text: &[u8], number: u64) -> Result<Wide, NoMemory>
     ensures { IfOk result (λ name. name ≡ text.now ++ decimal number) }
 {
-    let mut units = Vec::with_capacity(alloc, MOST_UNITS)?;
-    put_numbered(&mut units, text, number)?;
-    Ok(Wide::new(units))
+    let mut name = Vec::new(alloc);
+    put_numbered(&mut name, text, number)?;
+    ascii(alloc, &name)
 }
 
 // `\make\aT`: the directory of target T.
@@ -72,10 +60,10 @@ pub(crate) fn directory(alloc: Global, target: u32) -> Result<Wide, NoMemory>
 pub(crate) fn name_within(alloc: Global, target: u32, number: u64) -> Result<Wide, NoMemory>
     ensures { IfOk result (λ name. name ≡ name_within target number) }
 {
-    let mut units = Vec::with_capacity(alloc, MOST_UNITS)?;
-    put_numbered(&mut units, b"\\make\\a", u64::from(target))?;
-    put_numbered(&mut units, b"\\k", number)?;
-    Ok(Wide::new(units))
+    let mut name = Vec::new(alloc);
+    put_numbered(&mut name, b"\\make\\a", u64::from(target))?;
+    put_numbered(&mut name, b"\\k", number)?;
+    ascii(alloc, &name)
 }
 
 // `\kK`: a name in the root.

@@ -1,6 +1,7 @@
 // The generated script.
 ghost use Rattle.std.specs.Prelude.{◌≡◌, ◌<◌, ◌≤◌, IfOk, OnOk, codes};
 ghost use Rattle.sb_gen.specs.Generator.{next, after};
+ghost use Rattle.sb_statements.specs.Limits.{most_targets};
 ghost use Rattle.sb_statements.specs.declared.scripts.StartLine.TheVariants.{Dir};
 ghost use Rattle.sb_gen.specs.Calls.{directory, statement_of, statements_of};
 ghost use Rattle.sb_gen.specs.Scripts.{directories_of, start_of, name_of, threads_of, target_of, targets_of, script_of};
@@ -69,7 +70,7 @@ fn threads(
 // The name of a target.
 #[tactic(auto, using(crate::proofs::TargetNames::name_is_made, crate::proofs::TargetNames::name_is_short))]
 fn name_of(target: u32) -> ShortName
-    requires { target < 8 }
+    requires { target < most_targets }
     ensures { result ≡ name_of target }
 {
     match ShortName::new(&[b'm', b'0' + target as u8]) {
@@ -85,7 +86,7 @@ fn target_of(
     calls: u32,
     generator: &mut Generator,
 ) -> Result<TargetScript, NoMemory>
-    requires { target < 8 }
+    requires { target < most_targets }
     ensures made { IfOk result (λ made. made ≡ target_of target calls generator.old) }
     ensures after { OnOk result (generator.new ≡ after calls (after calls generator.old)) }
 {
@@ -105,7 +106,7 @@ fn targets(
     calls: u32,
     generator: &mut Generator,
 ) -> Result<Targets, NoMemory>
-    requires { count ≤ 8 }
+    requires { count ≤ most_targets }
     ensures { IfOk result (λ made. made ≡ targets_of 0 count calls generator.old) }
 {
     let mut targets = Vec::with_capacity(alloc, count as usize)?;
@@ -135,7 +136,7 @@ fn first_line(alloc: Global) -> Result<StartLine, NoMemory>
 
 // What is there at the start.
 fn start(alloc: Global, count: u32) -> Result<StartLines, NoMemory>
-    requires { count ≤ 8 }
+    requires { count ≤ most_targets }
     ensures { IfOk result (λ start. start ≡ start_of count) }
 {
     let mut start = Vec::with_capacity(alloc, count as usize + 1)?;
@@ -148,7 +149,7 @@ fn start(alloc: Global, count: u32) -> Result<StartLines, NoMemory>
 
 // The script with this number of targets, and of statements in each thread.
 pub(crate) fn script(alloc: Global, seed: u64, count: u32, calls: u32) -> Result<Script, NoMemory>
-    requires { count ≤ 8 }
+    requires { count ≤ most_targets }
     ensures { IfOk result (λ script. script ≡ script_of seed count calls) }
 {
     let mut generator = Generator::new(seed);

@@ -5,5 +5,11 @@ pub mod Prefixes
 pub mod Renumbered
 pub mod Fitting
 pub mod Opened
-pub mod QuotedUnits
-pub mod ReadUnits
+pub mod LastChanged
+pub mod Built
+pub mod ReadWritable
+pub mod WrittenWords
+pub mod WrittenStatements
+pub mod WrittenOpenings
+pub mod WrittenTokens
+pub mod WrittenScripts

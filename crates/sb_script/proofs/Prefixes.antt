@@ -1,16 +1,15 @@
 -- The first lines of a text.
-use Rattle.std.proofs.Common.{◌≡◌, refl, sym, ap, ◌∙◌, ℕ, ◌+◌, ◌≤◌, List, [], ◌∷◌, ◌++◌, Bool, true, false, cond, length, Option, None, Some, Result, Ok, Err, arith}
+use Rattle.std.proofs.Common.{◌≡◌, refl, sym, ap, ◌∙◌, ℕ, List, [], ◌∷◌, ◌++◌, Bool, true, false, cond, length, Option, None, Some, Result, Ok, Err}
 use Rattle.std.proofs.lemmas.Bool.{false≢true}
 use Rattle.std.specs.Prelude.{nat_lt, slice_get}
 use Rattle.sb_statements.specs.Soundness.{channels_of}
 use Rattle.sb_statements.specs.declared.scripts.Script.{Script}
 use Rattle.sb_statements.specs.declared.scripts.TargetScript.{TargetScript}
 use Rattle.sb_rule.specs.declared.policies.Policy.{Policy}
-use Rattle.sb_script.specs.Drafts.{targets_of}
+use Rattle.sb_script.specs.SoFar.{SoFar}
 use Rattle.sb_script.specs.Laws.{is_looked_for_last, FirstFaultsStay}
 use Rattle.sb_script.specs.ScriptTexts.{ScriptFault, grammar, first_absence, script_of, finished, reading}
 use Rattle.sb_text.specs.Steps.{◌>>=◌}
-use Rattle.sb_script.specs.declared.drafts.Draft.{Draft}
 use Rattle.sb_script.specs.declared.drafts.Named.{Named}
 use Rattle.sb_script.specs.declared.faults.ScriptKind.{ScriptKind}
 use Rattle.sb_script.specs.declared.faults.ScriptKind.TheVariants.{NotUtf8, NoSuchTarget, NoSuchChannel}
@@ -22,9 +21,9 @@ use Rattle.sb_text.specs.Utf8.{not_utf8_line}
 
 -- a text that is UTF-8 is read by its lines
 pub read_by_lines : (policies : List Policy) (text : List ℕ) → not_utf8_line text ≡ None
-    → reading policies text ≡ (read_by (grammar policies) (lines_of text) >>= λ draft. finished draft)
+    → reading policies text ≡ (read_by (grammar policies) (lines_of text) >>= λ sofar. finished sofar)
 read_by_lines policies text h =
-    ap (λ line. where_utf8 NotUtf8 line (read_by (grammar policies) (lines_of text)) >>= λ draft. finished draft) h
+    ap (λ line. where_utf8 NotUtf8 line (read_by (grammar policies) (lines_of text)) >>= λ sofar. finished sofar) h
 
 -- a fault that is looked for last
 abbrev IsLast : Option ScriptFault → Type 0
@@ -46,13 +45,13 @@ absent_last targets (x ∷ xs) =
     by_tests others true false fault h = told NoSuchChannel refl fault h
     by_tests others false b fault h = told NoSuchTarget refl fault h
 
-finished_last : (draft : Draft) (fault : ScriptFault) → finished draft ≡ Err fault → is_looked_for_last fault.kind ≡ true
-finished_last draft fault h = by_absence (first_absence (targets_of draft) draft.named) (absent_last (targets_of draft) draft.named) h
+finished_last : (sofar : SoFar) (fault : ScriptFault) → finished sofar ≡ Err fault → is_looked_for_last fault.kind ≡ true
+finished_last sofar fault h = by_absence (first_absence sofar.targets sofar.named) (absent_last sofar.targets sofar.named) h
   where
     same_fault : (a b : ScriptFault) → ◌≡◌ {A = Result Script ScriptFault} (Err a) (Err b) → ◌≡◌ {A = Option ScriptFault} (Some a) (Some b)
     same_fault a b h = ap (λ (read : Result Script ScriptFault). elim read [ Ok script ↦ None | Err fault ↦ Some fault ]) h
 
-    by_absence : (absent : Option ScriptFault) → IsLast absent → ◌≡◌ {A = Result Script ScriptFault} (elim absent [ None ↦ Ok (script_of draft) | Some fault ↦ Err fault ]) (Err fault)
+    by_absence : (absent : Option ScriptFault) → IsLast absent → ◌≡◌ {A = Result Script ScriptFault} (elim absent [ None ↦ Ok (script_of sofar) | Some fault ↦ Err fault ]) (Err fault)
         → is_looked_for_last fault.kind ≡ true
     by_absence None l h = absurd cc
     by_absence (Some other) l h = l fault (same_fault other fault h)
@@ -61,18 +60,18 @@ abbrev fault_in : {A : Type 0} → Result A ScriptFault → Option ScriptFault
 fault_in (Ok x) = None
 fault_in (Err fault) = Some fault
 
-abbrev refused : Option ScriptFault → Result Draft ScriptFault → Result Draft ScriptFault
+abbrev refused : Option ScriptFault → Result SoFar ScriptFault → Result SoFar ScriptFault
 refused None other = other
 refused (Some fault) other = Err fault
 
 -- a fault is one of the lines, or one that is looked for last
-of_lines : (read : Result Draft ScriptFault) (fault : ScriptFault) → is_looked_for_last fault.kind ≡ false → (read >>= λ draft. finished draft) ≡ Err fault → read ≡ Err fault
-of_lines (Ok draft) fault k e = absurd (false≢true (sym k ∙ finished_last draft fault e))
+of_lines : (read : Result SoFar ScriptFault) (fault : ScriptFault) → is_looked_for_last fault.kind ≡ false → (read >>= λ sofar. finished sofar) ≡ Err fault → read ≡ Err fault
+of_lines (Ok sofar) fault k e = absurd (false≢true (sym k ∙ finished_last sofar fault e))
 of_lines (Err other) fault k e = ap (λ absent. refused absent (Err other)) (ap fault_in e)
 
-pub first_faults_stay : laws.FirstFaultsStay Draft ScriptKind → FirstFaultsStay
+pub first_faults_stay : laws.FirstFaultsStay SoFar ScriptKind → FirstFaultsStay
 first_faults_stay law policies front rest other fault u v s l k e =
     read_by_lines policies (ended front ++ other) v
-    ∙ ap (λ (read : Result Draft ScriptFault). read >>= λ draft. finished draft)
+    ∙ ap (λ (read : Result SoFar ScriptFault). read >>= λ sofar. finished sofar)
     (law (grammar policies) front rest other fault s l
     (of_lines (read_by (grammar policies) (lines_of (ended front ++ rest))) fault k (sym (read_by_lines policies (ended front ++ rest) u) ∙ e)))

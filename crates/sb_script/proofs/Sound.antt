@@ -6,6 +6,7 @@ use Rattle.std.specs.Prelude.{slice_get}
 use Rattle.sb_block.specs.Blocks.{encodes}
 use Rattle.sb_statements.specs.Soundness.{channels_of, is_patience, is_start, is_statement}
 use Rattle.sb_call.specs.CallWords.{is_word}
+use Rattle.sb_kernel.specs.Openings.{is_named}
 use Rattle.sb_call.specs.Tags.{shape_of}
 use Rattle.sb_statements.specs.declared.scripts.StartLine.{StartLine}
 use Rattle.sb_statements.specs.declared.scripts.StartLine.TheVariants.{Dir, File, Key, Event}
@@ -14,7 +15,7 @@ use Rattle.sb_statements.specs.declared.statements.Statement.{Statement}
 use Rattle.sb_statements.specs.declared.statements.Statement.TheVariants.{Call, Store, Exchange, Load, Wait}
 use Rattle.sb_statements.specs.declared.statements.Word as words
 use Rattle.sb_script.specs.Arguments.{most_32, tag_at, args_at, fitting, call}
-use Rattle.sb_script.specs.Drafts.{named_by}
+use Rattle.sb_script.specs.SoFar.{named_by}
 use Rattle.sb_script.specs.Lines.{patience, start_line, statement_line}
 use Rattle.sb_script.specs.Openings.{dir, file, key, event}
 use Rattle.sb_script.specs.ScriptTexts.{ScriptFault, absence, first_absence}
@@ -127,6 +128,16 @@ start_sound w tokens =
     (branches Starts (is_word (codes "file") w) (file tokens) _ (file_sound tokens)
     (branches Starts (is_word (codes "key") w) (key tokens) _ (key_sound tokens)
     (branches Starts (is_word (codes "event") w) (event tokens) _ (event_sound tokens) (λ line h. absurd cc))))
+
+named_start : (line : StartLine) → is_start line ≡ true → is_named line ≡ true
+named_start (Dir name) h = h
+named_start (File name attributes) h = (and_parts (is_name_of name) (nat_lt attributes (2 ^ 32)) h).0
+named_start (Key name) h = h
+named_start (Event name kind initial) h = (and_parts (is_name_of name) (nat_le kind 1) (and_parts (is_name_of name && nat_le kind 1) (nat_le initial 1) h).0).0
+
+-- and its name is a name
+pub start_named : (w : List ℕ) (tokens : List Lexeme) (line : StartLine) → start_line w tokens ≡ Ok line → is_named line ≡ true
+start_named w tokens line h = named_start line (start_sound w tokens line h)
 
 -- a statement is sound where what it names is there
 abbrev pub IsSoundOnce : Statement → Type 0

@@ -1,20 +1,16 @@
 -- What is true of all script texts: what one line can do to the lines after it.
-use Rattle.std.specs.Prelude.{◌≡◌, is_ok, ℕ, ◌+◌, ◌≤◌, nat_lt, Bool, true, false, List, [], ◌∷◌, ◌++◌, length, None, Result, Ok, Err, if◌then◌else◌}
+use Rattle.std.specs.Prelude.{◌≡◌, ℕ, ◌≤◌, Bool, true, false, List, ◌++◌, length, None, Ok, Err}
 use Rattle.sb_call.specs.declared.arguments.Arg.{Arg}
-use Rattle.sb_statements.specs.declared.scripts.Script.{Script}
 use Rattle.sb_call.specs.declared.tags.CallTag.{CallTag}
 use Rattle.sb_call.specs.Arguments.{fits}
 use Rattle.sb_call.specs.Tags.{shape_of}
-use Rattle.sb_statements.specs.declared.scripts.StartLine.{StartLine}
-use Rattle.sb_kernel.specs.Openings.{opened}
 use Rattle.sb_rule.specs.declared.policies.Policy.{Policy}
 use Rattle.sb_script.specs.Arguments.{args_at}
-use Rattle.sb_script.specs.Readiness.{can_follow}
 use Rattle.sb_script.specs.ScriptTexts.{ScriptFault, reading}
 use Rattle.sb_script.specs.declared.faults.ScriptKind.{ScriptKind}
 use Rattle.sb_script.specs.declared.faults.ScriptKind.TheVariants.{NoSuchTarget, NoSuchChannel}
 use Rattle.sb_text.specs.LineLaws.{ended, is_line}
-use Rattle.sb_text.specs.Lines.{NumberedLine, raw_lines, lines_of, is_skipped, without_cr}
+use Rattle.sb_text.specs.Lines.{raw_lines, lines_of, is_skipped, without_cr}
 use Rattle.sb_text.specs.Readings.{is_some_line, renumbered, behind}
 use Rattle.sb_text.specs.Tokens.{Lexeme}
 use Rattle.sb_text.specs.Utf8.{not_utf8_line}
@@ -43,7 +39,3 @@ SkippedLinesCountAlone = (policies : List Policy) (front line rest : List ℕ) �
 -- the arguments that are read for a call fit it
 abbrev pub ReadArgumentsFit : Type 0
 ReadArgumentsFit = (tag : CallTag) (tokens rest : List Lexeme) (args : List Arg) → args_at (shape_of tag) tokens ≡ Ok (args, rest) → fits tag args ≡ true
-
--- lines can be placed one after another exactly where the kernel opens with them
-abbrev pub PlacingIsOpening : Type 0
-PlacingIsOpening = (lines : List StartLine) → can_follow [] lines ≡ is_ok (opened lines)

@@ -3,8 +3,12 @@ pub mod Steps
 pub mod Arguments
 pub mod Statements
 pub mod Openings
-pub mod Drafts
+pub mod SoFar
+pub mod Building
 pub mod Lines
 pub mod ScriptTexts
 pub mod Readiness
 pub mod Laws
+pub mod Writing
+pub mod Writable
+pub mod WritingLaws

@@ -4,10 +4,9 @@ use Rattle.sb_statements.specs.Soundness.{channels_of}
 use Rattle.sb_statements.specs.declared.scripts.Script.{Script}
 use Rattle.sb_statements.specs.declared.scripts.TargetScript.{TargetScript}
 use Rattle.sb_rule.specs.declared.policies.Policy.{Policy}
-use Rattle.sb_script.specs.Drafts.{nothing, targets_of}
+use Rattle.sb_script.specs.SoFar.{SoFar, nothing}
 use Rattle.sb_script.specs.Lines.{line_of}
 use Rattle.sb_text.specs.Steps.{◌>>=◌, version_of}
-use Rattle.sb_script.specs.declared.drafts.Draft.{Draft}
 use Rattle.sb_script.specs.declared.drafts.Named.{Named}
 use Rattle.sb_script.specs.declared.faults.ScriptKind.{ScriptKind}
 use Rattle.sb_script.specs.declared.faults.ScriptKind.TheVariants.{NotUtf8, UnknownWord, NoSuchTarget, NoSuchChannel}
@@ -29,11 +28,11 @@ abbrev pub script_version : List ℕ → Option ℕ
 script_version line = version_of (codes "sandbox-script") 1 (tokens_of line)
 
 -- what was read so far, and what a line adds to it
-abbrev pub add_line : List Policy → Draft → NumberedLine → Result Draft ScriptKind
-add_line policies draft line = line_of policies draft line.number (tokens_of line.text)
+abbrev pub add_line : List Policy → SoFar → NumberedLine → Result SoFar ScriptKind
+add_line policies sofar line = line_of policies sofar line.number (tokens_of line.text)
 
 -- script texts, for targets of these policies
-abbrev pub grammar : List Policy → Grammar Draft ScriptKind
+abbrev pub grammar : List Policy → Grammar SoFar ScriptKind
 grammar policies = record { version = script_version; no_version = UnknownWord; start = nothing; add = λ version. add_line policies }
 
 -- the target that a statement names is not there, or it is and its channel is not
@@ -55,13 +54,13 @@ patience_of (Some n) = n
 patience_of None = usual_patience
 
 -- the script that was read
-abbrev pub script_of : Draft → Script
-script_of draft = record { patience = patience_of draft.patience; start = draft.start; targets = targets_of draft }
+abbrev pub script_of : SoFar → Script
+script_of sofar = record { patience = patience_of sofar.patience; start = sofar.start; targets = sofar.targets }
 
 -- the script that was read, where all is there that its statements name
-abbrev pub finished : Draft → Result Script ScriptFault
-finished draft = elim (first_absence (targets_of draft) draft.named) [ None ↦ Ok (script_of draft) | Some fault ↦ Err fault ]
+abbrev pub finished : SoFar → Result Script ScriptFault
+finished sofar = elim (first_absence sofar.targets sofar.named) [ None ↦ Ok (script_of sofar) | Some fault ↦ Err fault ]
 
 -- the script of a text for targets of these policies, or its first fault
 abbrev pub reading : List Policy → List ℕ → Result Script ScriptFault
-reading policies text = read_text NotUtf8 (grammar policies) text >>= λ draft. finished draft
+reading policies text = read_text NotUtf8 (grammar policies) text >>= λ sofar. finished sofar

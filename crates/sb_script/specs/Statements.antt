@@ -1,5 +1,5 @@
 -- `store`, `exchange`, `load` and `wait`: words of channels that are stored and loaded by hand.
-use Rattle.std.specs.Prelude.{ℕ, ◌+◌, nat_le, List, [], ◌∷◌, Result, Ok, Err, if◌then◌else◌, codes}
+use Rattle.std.specs.Prelude.{ℕ, ◌+◌, nat_le, List, Result, Ok, Err, if◌then◌else◌, codes}
 use Rattle.sb_call.specs.CallWords.{is_word}
 use Rattle.sb_statements.specs.declared.statements.Statement.{Statement}
 use Rattle.sb_statements.specs.declared.statements.Statement.TheVariants.{Store, Exchange, Load, Wait}

@@ -1,8 +1,12 @@
-// What was read of a script so far.
-ghost use Rattle.std.specs.Prelude.{◌≡◌, ◌++◌, ◌∷◌, [], length, IfOk, OnOk, Ok, None, Some};
+// What is so far there of a script, as the reader keeps it.
+ghost use Rattle.std.specs.Prelude.{◌≡◌, ◌++◌, ◌∷◌, [], true, nat_lt, length, is_some, IfOk, OnOk};
 ghost use Rattle.std.specs.List.{list_any};
-ghost use Rattle.sb_script.specs.Drafts.{nothing, is_opening, is_in_thread, threads_of, headed, targets_of, with_patience, with_start, with_target, with_thread, named_by, with_statement};
+ghost use Rattle.sb_statements.specs.Limits.{most_targets};
+ghost use Rattle.sb_kernel.specs.Openings.{is_named};
+ghost use Rattle.sb_script.specs.Building.{headed, told};
 ghost use Rattle.sb_script.specs.Lines.{is_target_named};
+ghost use Rattle.sb_script.specs.ScriptTexts.{script_of};
+ghost use Rattle.sb_script.specs.SoFar.{nothing, is_opening, is_in_thread, with_patience, with_start, with_target, with_thread, named_by, with_statement};
 ghost use Rattle.sb_text.specs.Steps.{Becomes};
 
 use crate::faults::{LineRefused, ScriptKind};
@@ -10,11 +14,14 @@ use crate::placing::Placed;
 use sb_call::ShortName;
 use sb_items::{Items, NoMemory};
 use sb_statements::{
-    MOST_START_LINES, MOST_STATEMENTS, MOST_TARGETS, MOST_THREADS, StartLine, Statement,
+    MOST_START_LINES, MOST_STATEMENTS, MOST_TARGETS, MOST_THREADS, Script, StartLine, Statement,
     Statements, TargetScript, Targets, Threads, Word,
 };
 use std::alloc::Global;
+use std::marker::Model;
 use std::mem;
+
+const USUAL_PATIENCE: u32 = 10_000;
 
 /// What the heading of a target says.
 #[derive(Debug, Drop)]
@@ -64,23 +71,27 @@ fn add_named(named: &mut NamedWords, line: u32, statement: &Statement) -> Result
     }
 }
 
-/// What was read of a script so far.
-#[derive(Debug, Drop)]
-pub(crate) struct Draft {
-    /// The patience, where a line told it.
-    pub(crate) patience: Option<u32>,
-    /// The opening lines.
-    pub(crate) start: Placed,
-    /// The targets before the last.
-    pub(crate) targets: Targets,
-    /// The heading of the last target. There is none before the first target.
-    pub(crate) last: Option<Heading>,
-    /// The threads of the last target before its last thread.
-    pub(crate) threads: Threads,
-    /// The statements of the last thread. There are none before the target's first thread.
-    pub(crate) statements: Option<Statements>,
-    /// What statements name. It is looked for when all else is read.
-    pub(crate) named: NamedWords,
+// The threads of a target, with the last one.
+fn told(threads: Threads, in_thread: bool, statements: Statements) -> Result<Threads, NoMemory>
+    ensures { IfOk result (λ all. all ≡ told threads in_thread statements) }
+{
+    let mut all = threads;
+    if in_thread {
+        all.push(statements)?;
+    }
+    Ok(all)
+}
+
+// A target of this heading.
+fn headed(heading: Heading, threads: Threads) -> TargetScript
+    ensures { result ≡ headed heading threads }
+{
+    TargetScript {
+        name: heading.name,
+        policy: heading.policy,
+        channels: heading.channels,
+        threads,
+    }
 }
 
 fn is_any_named(targets: &[TargetScript], name: &[u8]) -> bool
@@ -89,41 +100,107 @@ fn is_any_named(targets: &[TargetScript], name: &[u8]) -> bool
     targets.iter().any(|target| target.name.bytes() == name)
 }
 
+/// What is so far there of a script. The last target is open for threads, and its last thread for statements.
+#[derive(Debug, Drop)]
+pub(crate) struct Draft {
+    patience: Option<u32>,
+    start: Placed,
+    before: Targets,
+    last: Option<Heading>,
+    threads: Threads,
+    in_thread: bool,
+    statements: Statements,
+    named: NamedWords,
+}
+
+impl Model for Draft {
+    ghost use Rattle.sb_script.specs.Building.{built, IsBuilt};
+    ghost use Rattle.sb_script.specs.SoFar.{SoFar};
+
+    ghost Value = { SoFar };
+
+    ghost view = { λ d. record {
+      patience = d.patience;
+      start = d.start;
+      targets = built d.before d.last d.threads d.in_thread d.statements;
+      named = d.named;
+    } };
+
+    ghost invariant = { λ d. IsBuilt d.before d.last d.threads d.in_thread d.statements };
+}
+
 impl Draft {
-    /// Nothing was read.
+    /// Nothing.
     pub(crate) fn new(alloc: Global) -> Draft
         ensures { result ≡ nothing }
     {
         Draft {
             patience: None,
             start: Placed::new(alloc),
-            targets: Targets::new(Vec::new(alloc)),
+            before: Targets::new(Vec::new(alloc)),
             last: None,
             threads: Threads::new(Vec::new(alloc)),
-            statements: None,
+            in_thread: false,
+            statements: Statements::new(Vec::new(alloc)),
             named: NamedWords::none(alloc),
         }
     }
 
-    /// Whether no target was read.
+    /// Whether a line told the patience.
+    pub(crate) fn has_patience(&self) -> bool
+        ensures { result ≡ is_some self.now.patience }
+    {
+        self.patience.is_some()
+    }
+
+    /// Whether there is no target.
+    #[tactic(auto, using(crate::proofs::Built::opening_built))]
     pub(crate) fn is_opening(&self) -> bool
         ensures { result ≡ is_opening self.now }
     {
         self.last.is_none()
     }
 
+    /// Whether the last target has a thread.
+    #[tactic(auto, using(crate::proofs::Built::thread_built))]
+    pub(crate) fn is_in_thread(&self) -> bool
+        ensures { result ≡ is_in_thread self.now }
+    {
+        self.in_thread
+    }
+
     /// Whether a target has this name.
+    #[tactic(auto, using(crate::proofs::Built::any_named))]
     pub(crate) fn is_named(&self, name: &[u8]) -> bool
-        ensures { result ≡ list_any (is_target_named name.now) (targets_of self.now) }
+        ensures { result ≡ list_any (is_target_named name.now) self.now.targets }
     {
         match &self.last {
-            Some(last) => is_any_named(self.targets.as_slice(), name) || last.name.bytes() == name,
-            None => is_any_named(self.targets.as_slice(), name),
+            Some(last) => is_any_named(self.before.as_slice(), name) || last.name.bytes() == name,
+            None => false,
         }
+    }
+
+    // Whether there is room for one more target.
+    #[tactic(auto, using(crate::proofs::Built::room_more))]
+    fn has_room(&self) -> bool
+        ensures { result ≡ nat_lt (length self.now.targets) most_targets }
+    {
+        match &self.last {
+            Some(_) => self.before.len() < MOST_TARGETS - 1,
+            None => true,
+        }
+    }
+
+    /// With this patience.
+    pub(crate) fn add_patience(&mut self, patience: u32)
+        ensures { self.new ≡ with_patience self.old patience }
+    {
+        self.patience = Some(patience);
     }
 
     /// One more opening line. After an error the draft is of no more use.
     pub(crate) fn add_start(&mut self, alloc: Global, line: StartLine) -> Result<(), LineRefused>
+        requires name { is_named line ≡ true }
         ensures { Becomes (with_start self.old line) result self.new }
     {
         if !self.start.can_place(&line) {
@@ -137,66 +214,44 @@ impl Draft {
         Ok(())
     }
 
-    // The last thread is put to those before it.
-    fn end_thread(&mut self) -> Result<(), NoMemory>
-        ensures { OnOk result (self.new ≡ record self.old { threads = threads_of self.old; statements = None }) }
-    {
-        match mem::replace(&mut self.statements, None) {
-            Some(statements) => self.threads.push(statements),
-            None => Ok(()),
-        }
-    }
-
-    /// The last target is put to those before it.
-    pub(crate) fn end_target(&mut self, alloc: Global) -> Result<(), NoMemory>
-        ensures { OnOk result (self.new ≡ record self.old { targets = targets_of self.old; last = None; threads = []; statements = None }) }
-    {
-        self.end_thread()?;
-        let threads = mem::replace(&mut self.threads, Threads::new(Vec::new(alloc)));
-        match mem::replace(&mut self.last, None) {
-            Some(heading) => self.targets.push(TargetScript {
-                name: heading.name,
-                policy: heading.policy,
-                channels: heading.channels,
-                threads,
-            }),
-            None => Ok(()),
-        }
-    }
-
     /// One more target. After an error the draft is of no more use.
     pub(crate) fn add_target(&mut self, alloc: Global, heading: Heading) -> Result<(), LineRefused>
-        ensures { Becomes (with_target self.old heading) result self.new }
+        ensures { Becomes (with_target self.old (headed heading [])) result self.new }
     {
-        self.end_target(alloc)?;
-        if self.targets.len() >= MOST_TARGETS {
+        if !self.has_room() {
             return Err(LineRefused::Fault(ScriptKind::TooMany));
         }
-        self.last = Some(heading);
+        let threads = mem::replace(&mut self.threads, Threads::new(Vec::new(alloc)));
+        let in_thread = mem::replace(&mut self.in_thread, false);
+        let statements = mem::replace(&mut self.statements, Statements::new(Vec::new(alloc)));
+        if let Some(last) = mem::replace(&mut self.last, Some(heading)) {
+            let threads = told(threads, in_thread, statements)?;
+            self.before.push(headed(last, threads))?;
+        }
         Ok(())
     }
 
-    /// One more thread. After an error the draft is of no more use.
+    /// One more thread of the last target. After an error the draft is of no more use.
+    #[tactic(auto, using(crate::proofs::Built::thread_nowhere, crate::proofs::Built::thread_too_many, crate::proofs::Built::thread_first, crate::proofs::Built::thread_more))]
     pub(crate) fn add_thread(&mut self, alloc: Global) -> Result<(), LineRefused>
         ensures { Becomes (with_thread self.old) result self.new }
     {
-        self.end_thread()?;
-        if self.threads.len() >= MOST_THREADS {
-            return Err(LineRefused::Fault(ScriptKind::TooMany));
+        if self.last.is_none() {
+            return Err(LineRefused::Fault(ScriptKind::UnknownWord));
         }
-        self.statements = Some(Statements::new(Vec::new(alloc)));
+        if self.in_thread {
+            if self.threads.len() >= MOST_THREADS - 1 {
+                return Err(LineRefused::Fault(ScriptKind::TooMany));
+            }
+            let ended = mem::replace(&mut self.statements, Statements::new(Vec::new(alloc)));
+            self.threads.push(ended)?;
+        }
+        self.in_thread = true;
         Ok(())
     }
 
-    /// Whether a thread of the last target was read.
-    pub(crate) fn is_in_thread(&self) -> bool
-        ensures { result ≡ is_in_thread self.now }
-    {
-        self.statements.is_some()
-    }
-
-    /// One more statement of the last thread. After an error the draft is of no more use.
-    #[tactic(auto, unfolding(crate::specs::Drafts::with_statement))]
+    /// One more statement of the last thread, on this line. After an error the draft is of no more use.
+    #[tactic(auto, using(crate::proofs::Built::statement_nowhere, crate::proofs::Built::statement_too_many, crate::proofs::Built::statement_more))]
     pub(crate) fn add_statement(
         &mut self,
         line: u32,
@@ -204,15 +259,41 @@ impl Draft {
     ) -> Result<(), LineRefused>
         ensures { Becomes (with_statement self.old line statement) result self.new }
     {
-        let Some(mut statements) = mem::replace(&mut self.statements, None) else {
+        if !self.in_thread {
             return Err(LineRefused::Fault(ScriptKind::UnknownWord));
-        };
-        if statements.len() >= MOST_STATEMENTS {
+        }
+        if self.statements.len() >= MOST_STATEMENTS {
             return Err(LineRefused::Fault(ScriptKind::TooMany));
         }
         add_named(&mut self.named, line, &statement)?;
-        statements.push(statement)?;
-        self.statements = Some(statements);
+        self.statements.push(statement)?;
         Ok(())
+    }
+
+    /// The script, and what its statements name.
+    pub(crate) fn into_script(self) -> Result<(Script, NamedWords), NoMemory>
+        ensures { IfOk result (λ read. (read.0 ≡ script_of self) × (read.1 ≡ self.named)) }
+    {
+        let Draft {
+            patience,
+            start,
+            before,
+            last,
+            threads,
+            in_thread,
+            statements,
+            named,
+        } = self;
+        let mut targets = before;
+        if let Some(last) = last {
+            let threads = told(threads, in_thread, statements)?;
+            targets.push(headed(last, threads))?;
+        }
+        let script = Script {
+            patience: patience.unwrap_or(USUAL_PATIENCE),
+            start: start.into_lines(),
+            targets,
+        };
+        Ok((script, named))
     }
 }

@@ -1,19 +1,18 @@
 // Laws of script texts. None of these functions does anything: each contract is a law.
-ghost use Rattle.sb_script.specs.Laws.{FirstFaultsStay, SkippedLinesCountAlone, ReadArgumentsFit, PlacingIsOpening};
-ghost use Rattle.sb_script.specs.Readiness.{ReadScriptsAreSound, ReadScriptsAreJudged, ReadScriptsArePlaced, ReadScriptsHaveUnits};
+ghost use Rattle.sb_script.specs.Laws.{FirstFaultsStay, SkippedLinesCountAlone, ReadArgumentsFit};
+ghost use Rattle.sb_script.specs.Readiness.{ReadScriptsAreReady, ReadScriptsHaveUnits};
+ghost use Rattle.sb_script.specs.WritingLaws.{WrittenScriptsAreRead, ReadScriptsCanBeWritten};
 
 use crate::drafts::Draft;
 use crate::faults::ScriptKind;
-use sb_event::EventRow;
-use sb_names::puts_are_found;
-use sb_text::quoted_tokens_are_text;
+use sb_ruleprint::quoted_strings_are_read;
+use sb_text::{
+    decimals_are_read, not_utf8_line_tells, plain_lines_are_read, quoted_tokens_are_text,
+};
 
-/// Each script that is read is sound, the policy of each of its targets is there, and its opening lines can be placed one
-/// after another.
+/// Each script that is read for well-made policies is ready for them.
 pub fn read_scripts_are_ready()
-    ensures sound { ReadScriptsAreSound }
-    ensures judged { ReadScriptsAreJudged }
-    ensures placed { ReadScriptsArePlaced }
+    ensures { ReadScriptsAreReady }
 {}
 
 /// The strings of the calls of each script that is read are made of units of 16 bits: they stand between quotes in a text that is
@@ -21,6 +20,7 @@ pub fn read_scripts_are_ready()
 pub fn read_scripts_have_units()
     ensures { ReadScriptsHaveUnits }
 {
+    quoted_strings_are_read();
     quoted_tokens_are_text();
 }
 
@@ -45,10 +45,22 @@ pub fn skipped_lines_count_alone()
     sb_text::skipped_lines_count_alone::<Draft, ScriptKind>();
 }
 
-/// Opening lines can be placed one after another exactly where the kernel opens with them.
-pub fn placing_is_opening()
-    ensures { PlacingIsOpening }
+/// A script that is ready for policies with short names, and whose strings, numbers and names can be written, is read back from
+/// its text as itself: so each line means what it is written for.
+pub fn written_scripts_are_read()
+    ensures { WrittenScriptsAreRead }
 {
-    puts_are_found::<u64>();
-    puts_are_found::<EventRow>();
+    not_utf8_line_tells();
+    plain_lines_are_read();
+    quoted_strings_are_read();
+    decimals_are_read();
+}
+
+/// The strings, numbers and names of each script that is read can be written. Where the policies are well made it is ready for them
+/// too, by `read_scripts_are_ready`.
+pub fn read_scripts_can_be_written()
+    ensures { ReadScriptsCanBeWritten }
+{
+    quoted_strings_are_read();
+    quoted_tokens_are_text();
 }

@@ -15,7 +15,7 @@ mod steps;
 
 pub use faults::{ScriptFault, ScriptKind, ScriptRefused};
 pub use laws::{
-    first_faults_stay, placing_is_opening, read_arguments_fit, read_scripts_are_ready,
-    read_scripts_have_units, skipped_lines_count_alone,
+    first_faults_stay, read_arguments_fit, read_scripts_are_ready, read_scripts_can_be_written,
+    read_scripts_have_units, skipped_lines_count_alone, written_scripts_are_read,
 };
 pub use script_texts::read_script;

@@ -1,16 +1,16 @@
 // Reading the lines below the first.
-ghost use Rattle.std.specs.Prelude.{◌≡◌, ◌≤◌, ◌<◌, ◌^◌, length, IfOk, IfSome};
+ghost use Rattle.std.specs.Prelude.{◌≡◌, []};
 ghost use Rattle.std.specs.List.{list_any, position};
 ghost use Rattle.sb_rule.specs.WellMade.{is_named};
 ghost use Rattle.sb_script.specs.Arguments.{call};
-ghost use Rattle.sb_script.specs.Drafts.{targets_of};
-ghost use Rattle.sb_script.specs.Lines.{patience, new_name, new_name_at, policy_at, heading, set_patience, add_target, add_thread, start_line, statement_line, plain_line, line_of};
+ghost use Rattle.sb_script.specs.Building.{headed};
+ghost use Rattle.sb_script.specs.Lines.{patience, new_name, new_name_at, policy_number, policy_at, heading, set_patience, add_target, add_thread, start_line, statement_line, plain_line, line_of};
 ghost use Rattle.sb_script.specs.Openings.{dir, file, key, event};
 ghost use Rattle.sb_script.specs.Statements.{store, exchange, load, wait};
-ghost use Rattle.sb_text.specs.Steps.{Gives, Reads, Becomes};
+ghost use Rattle.sb_text.specs.Steps.{Gives, GivesAs, Reads, Becomes};
 ghost use Rattle.sb_text.specs.Tokens.{tokens_of};
 
-use crate::arguments::call;
+use crate::arguments::{MOST_32, call};
 use crate::drafts::{Draft, Heading};
 use crate::faults::LineRefused;
 use crate::faults::ScriptKind::{BadNumber, NoSuchPolicy, SameName, UnknownWord};
@@ -20,7 +20,7 @@ use crate::steps::number_within;
 use sb_call::ShortName;
 use sb_rule::Policy;
 use sb_statements::{MOST_CHANNELS, MOST_PATIENCE, StartLine, Statement};
-use sb_text::{Line, Tokens, end_at, word_at};
+use sb_text::{Line, Tokens, end_at, or_fault, word_at};
 use std::alloc::Global;
 
 // `patience N`, behind its first word.
@@ -35,7 +35,7 @@ fn patience(tokens: &mut Tokens) -> Result<u32, LineRefused>
 
 // NAME as a word: a short name that no target so far has.
 fn new_name(draft: &Draft, word: &[u8]) -> Result<ShortName, LineRefused>
-    ensures { Gives (new_name (targets_of draft.now) word.now) result }
+    ensures { Gives (new_name draft.now.targets word.now) result }
 {
     let Some(name) = ShortName::new(word) else {
         return Err(LineRefused::Fault(UnknownWord));
@@ -49,7 +49,7 @@ fn new_name(draft: &Draft, word: &[u8]) -> Result<ShortName, LineRefused>
 // NAME: the name of a target.
 #[tactic(auto, unfolding(crate::specs::Lines::new_name_at))]
 fn new_name_at(draft: &Draft, tokens: &mut Tokens) -> Result<ShortName, LineRefused>
-    ensures { Reads (new_name_at (targets_of draft.now) tokens.old) result tokens.new }
+    ensures { Reads (new_name_at draft.now.targets tokens.old) result tokens.new }
 {
     let word = word_at(UnknownWord, UnknownWord, UnknownWord, tokens)?;
     new_name(draft, word)
@@ -61,32 +61,38 @@ fn is_named(name: &[u8], policy: &Policy) -> bool
     policy.name.bytes() == name
 }
 
-// The number of the first policy of this name, from 0.
-fn policy_number(name: &[u8], policies: &[Policy]) -> Option<usize>
-    ensures value { result ≡ position (is_named name.now) policies.now }
-    ensures below { IfSome result (λ n. n < length policies.now) }
+// The place of the first policy of this name, from 0.
+fn policy_place(name: &[u8], policies: &[Policy]) -> Option<usize>
+    ensures { result ≡ position (is_named name.now) policies.now }
 {
     policies.iter().position(|policy| is_named(name, policy))
+}
+
+// The number of the policy at this place.
+fn policy_number(place: usize) -> Result<u32, LineRefused>
+    ensures { Gives (policy_number place) result }
+{
+    if place as u64 <= MOST_32 {
+        Ok(place as u32)
+    } else {
+        Err(LineRefused::Fault(NoSuchPolicy))
+    }
 }
 
 // POLICY: the number of the policy of this name.
 #[tactic(auto, unfolding(crate::specs::Lines::policy_at))]
 fn policy_at(policies: &[Policy], tokens: &mut Tokens) -> Result<u32, LineRefused>
-    requires few { length policies.now < 2 ^ 32 }
-    ensures read { Reads (policy_at policies.now tokens.old) result tokens.new }
+    ensures { Reads (policy_at policies.now tokens.old) result tokens.new }
 {
     let word = word_at(NoSuchPolicy, UnknownWord, UnknownWord, tokens)?;
-    match policy_number(word, policies) {
-        Some(number) => Ok(number as u32),
-        None => Err(LineRefused::Fault(NoSuchPolicy)),
-    }
+    let place = or_fault(NoSuchPolicy, policy_place(word, policies))?;
+    policy_number(place)
 }
 
 // `target NAME POLICY CHANNELS`, behind its first word.
 #[tactic(auto, unfolding(crate::specs::Lines::heading))]
 fn heading(policies: &[Policy], draft: &Draft, tokens: &mut Tokens) -> Result<Heading, LineRefused>
-    requires few { length policies.now < 2 ^ 32 }
-    ensures read { Gives (heading policies.now (targets_of draft.now) tokens.old) result }
+    ensures { GivesAs (λ heading. headed heading []) (heading policies.now draft.now.targets tokens.old) result }
 {
     let name = new_name_at(draft, tokens)?;
     let policy = policy_at(policies, tokens)?;
@@ -104,14 +110,14 @@ fn heading(policies: &[Policy], draft: &Draft, tokens: &mut Tokens) -> Result<He
 fn set_patience(draft: &mut Draft, tokens: &mut Tokens) -> Result<(), LineRefused>
     ensures { Becomes (set_patience draft.old tokens.old) result draft.new }
 {
-    if draft.patience.is_some() {
+    if draft.has_patience() {
         return Err(LineRefused::Fault(UnknownWord));
     }
     if !draft.is_opening() {
         return Err(LineRefused::Fault(UnknownWord));
     }
     let patience = patience(tokens)?;
-    draft.patience = Some(patience);
+    draft.add_patience(patience);
     Ok(())
 }
 
@@ -123,8 +129,7 @@ fn add_target(
     draft: &mut Draft,
     tokens: &mut Tokens,
 ) -> Result<(), LineRefused>
-    requires few { length policies.now < 2 ^ 32 }
-    ensures read { Becomes (add_target policies.now draft.old tokens.old) result draft.new }
+    ensures { Becomes (add_target policies.now draft.old tokens.old) result draft.new }
 {
     let heading = heading(policies, draft, tokens)?;
     draft.add_target(alloc, heading)
@@ -181,7 +186,7 @@ fn statement_line(alloc: Global, word: &[u8], tokens: &mut Tokens) -> Result<Sta
 }
 
 // In a thread a statement, before the first target an opening line.
-#[tactic(auto, unfolding(crate::specs::Lines::plain_line))]
+#[tactic(auto, unfolding(crate::specs::Lines::plain_line), using(crate::proofs::Sound::start_named))]
 fn plain_line(
     alloc: Global,
     word: &[u8],
@@ -210,8 +215,7 @@ pub(crate) fn line_of(
     draft: &mut Draft,
     line: &Line,
 ) -> Result<(), LineRefused>
-    requires few { length policies.now < 2 ^ 32 }
-    ensures read { Becomes (line_of policies.now draft.old line.now.number (tokens_of line.now.text.now)) result draft.new }
+    ensures { Becomes (line_of policies.now draft.old line.now.number (tokens_of line.now.text.now)) result draft.new }
 {
     let mut tokens = line.tokens();
     let word = word_at(UnknownWord, UnknownWord, UnknownWord, &mut tokens)?;

@@ -1,0 +1,32 @@
+-- The strings of generated scripts are made of units.
+use Rattle.std.proofs.Common.{◌≡◌, ◌<◌, ◌≤◌, ◌+◌, ◌&&◌, refl, true, ℕ, Bool, arith}
+use Rattle.std.specs.Prelude.{zero, suc}
+use Rattle.std.specs.List.{list_all}
+use Rattle.sb_statements.specs.Units.{statement_has_units, thread_has_units, target_has_units, script_has_units}
+use Rattle.sb_gen.specs.Generator.{after, next}
+use Rattle.sb_gen.specs.Calls.{statement_of, statements_of}
+use Rattle.sb_gen.specs.Scripts.{target_of, targets_of, script_of}
+use Rattle.sb_gen.proofs.EachKind.{statement_units}
+
+both : (a b : Bool) → a ≡ true → b ≡ true → (a && b) ≡ true
+both a b ha hb = rw (ha, hb) refl
+
+statements_units : (t n x : ℕ) → t < 8 → thread_has_units (statements_of t n x) ≡ true
+statements_units t zero x small = refl
+statements_units t (suc n) x small =
+    both (statement_has_units (statement_of t (next x))) (list_all statement_has_units (statements_of t n (next x))) (statement_units t (next x) small)
+    (statements_units t n (next x) small)
+
+target_units : (t n x : ℕ) → t < 8 → target_has_units (target_of t n x) ≡ true
+target_units t n x small =
+    both (thread_has_units (statements_of t n x)) (thread_has_units (statements_of t n (after n x)) && true) (statements_units t n x small)
+    (both (thread_has_units (statements_of t n (after n x))) true (statements_units t n (after n x) small) refl)
+
+targets_units : (t n calls x : ℕ) → t + n ≤ 8 → list_all target_has_units (targets_of t n calls x) ≡ true
+targets_units t zero calls x within = refl
+targets_units t (suc n) calls x within =
+    both (target_has_units (target_of t calls x)) (list_all target_has_units (targets_of (t + 1) n calls (after calls (after calls x))))
+    (target_units t calls x (omega arith)) (targets_units (t + 1) n calls (after calls (after calls x)) (omega arith))
+
+pub scripts_have_units : (seed n calls : ℕ) → n ≤ 8 → script_has_units (script_of seed n calls) ≡ true
+scripts_have_units seed n calls small = targets_units 0 n calls seed (omega arith)
