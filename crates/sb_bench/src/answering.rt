@@ -23,9 +23,14 @@ pub fn answers(alloc: Global, inputs: &Inputs, count: u64) -> Result<String, Fai
     told_outcomes(alloc, book.entries())
 }
 
+/// A new book after so many copies were answered.
 #[tactic(auto, using(crate::proofs::Ready::ready_made))]
-// A new book after so many copies were answered.
-fn answered(alloc: Global, inputs: &Inputs, steps: &[Step], count: u64) -> Result<Book, Failure> {
+pub fn answered(
+    alloc: Global,
+    inputs: &Inputs,
+    steps: &[Step],
+    count: u64,
+) -> Result<Book, Failure> {
     let [target, ..] = inputs.script.targets.as_slice() else {
         return Err(Failure::BadInput);
     };

@@ -6,7 +6,7 @@ use crate::failures::Failure;
 use sb_call::Arg;
 use sb_rule::Policies;
 use sb_ruletext::read_policies;
-use sb_script::{placing_is_opening, read_script};
+use sb_script::read_script;
 use sb_statements::{Script, Statement};
 use sb_wide::NoMemory;
 use std::alloc::Global;
@@ -42,12 +42,10 @@ pub fn read_inputs<R: Files + AllocGlobal>(
 }
 
 // Policies and a script by their texts.
-#[tactic(auto, using(crate::proofs::Ready::few_made, crate::proofs::Ready::ready_of))]
 fn inputs_by(alloc: Global, policy: &[u8], script: &[u8]) -> Result<Inputs, Failure> {
     if policy.len() > MOST_BYTES || script.len() > MOST_BYTES {
         return Err(Failure::BadInput);
     }
-    placing_is_opening();
     let policies = read_policies(alloc, policy)?;
     let script = read_script(alloc, script, &policies)?;
     Ok(Inputs { policies, script })

@@ -3,6 +3,7 @@
 #![tactic(auto)]
 
 mod answering;
+mod crowding;
 mod decoding;
 mod failures;
 mod holding;
@@ -13,6 +14,7 @@ mod naming;
 mod outcomes;
 mod steps;
 mod works;
+mod writing;
 
 use failures::Failure;
 use inputs::read_inputs;

@@ -63,7 +63,8 @@ fn add_all(tree: &mut NameTree, names: &[&[u16]]) -> Result<u64, NoMemory> {
     Ok(added)
 }
 
-fn is_made(outcome: Result<(), TreeFault>) -> Result<bool, NoMemory> {
+// Whether a name was added or renamed.
+pub(crate) fn is_made(outcome: Result<(), TreeFault>) -> Result<bool, NoMemory> {
     match outcome {
         Ok(()) => Ok(true),
         Err(TreeFault::NoMemory) => Err(NoMemory),

@@ -2,7 +2,7 @@
 
 use crate::failures::Failure;
 use crate::inputs::Inputs;
-use crate::{answering, decoding, holding, judging, matching, naming};
+use crate::{answering, crowding, decoding, holding, judging, matching, naming, writing};
 use std::alloc::Global;
 
 /// Does a work that needs no policy and no script, in these rounds, and says what came of it.
@@ -11,6 +11,9 @@ pub fn work_alone(alloc: Global, work: &str, rounds: u64) -> Result<String, Fail
         b"handles-grant" => holding::grants(alloc, rounds),
         b"handles-lookup" => holding::lookups(alloc, rounds),
         b"handles-close" => holding::closes(alloc, rounds),
+        b"crowd-add" => crowding::adds(alloc, rounds),
+        b"crowd-find" => crowding::finds(alloc, rounds),
+        b"crowd-rename" => crowding::renames(alloc, rounds),
         _ => Err(Failure::Usage),
     }
 }
@@ -26,6 +29,8 @@ pub fn work_on(alloc: Global, work: &str, rounds: u64, inputs: &Inputs) -> Resul
         b"names-find" => naming::finds(alloc, inputs, rounds),
         b"names-rename" => naming::renames(alloc, inputs, rounds),
         b"book" => answering::answers(alloc, inputs, rounds),
+        b"transcript" => writing::transcripts(alloc, inputs, rounds),
+        b"transcript-apart" => writing::transcripts_apart(alloc, inputs, rounds),
         _ => Err(Failure::Usage),
     }
 }

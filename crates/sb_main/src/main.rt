@@ -64,6 +64,7 @@ fn no_words(kind: ErrorKind) -> Status
 }
 
 // Answers the program's own words, and leaves all other words to the top call.
+#[tactic(auto, using(crate::proofs::Faulty::usage_is_faulty, crate::proofs::Faulty::faulty_is_usage))]
 fn answer<R: Files + Print + AllocGlobal>(rt: &R, words: &[String]) -> Status
     ensures usage { result ≡ Status.Usage → IsFaulty (texts words.now) }
     ensures faulty { IsFaulty (texts words.now) → result ≡ Status.Usage }

@@ -77,23 +77,23 @@ exit status:
   11  no memory
 
 faults of a policy:
-   1  the text is not UTF-8
-   2  no version line
-   3  unknown, missing or further word
+   1  not UTF-8
+   2  bad version
+   3  unknown word: or one that is missing, broken or extra
    4  unknown call
    5  unknown parameter
-   6  wrong kind of condition or value
+   6  wrong kind: of condition or value
    7  bad number
    8  empty range
    9  bad pattern
   10  too many
   11  same name
   12  no heading
-  13  not a call that can be read-only
+  13  not read-only: not a call that can be
 
 faults of a script:
-   1  the text is not UTF-8
-   2  unknown, missing or further word
+   1  not UTF-8
+   2  unknown word: or one that is missing, broken or extra
    3  unknown call
    4  wrong arguments
    5  bad number
@@ -103,15 +103,15 @@ faults of a script:
    9  no such channel
   10  no such word
   11  too many
-  12  the call is too big
+  12  too big: the block of the call
   13  same name
-  14  cannot be placed: no parent, or the name is there
+  14  bad start: no parent, or the name is there
 
 faults of a schedule:
-   1  unknown, missing or extra word
+   1  unknown word: or one that is missing or extra
    2  unknown actor
    3  bad number
-   4  too many steps
+   4  too many: steps
    5  no rounds
 
 faults of a block, as the first extended word of its reply:

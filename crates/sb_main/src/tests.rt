@@ -1,6 +1,7 @@
 use crate::hosts::{HostFiles, HostSink};
 use crate::own_words::{OwnWord, own_text, own_word};
-use sb_outside::{FileFault, Files, Sink, SinkFault};
+use crate::tell;
+use sb_outside::{FileFault, Files, MemSink, Sink, SinkFault};
 use sb_ruletext::{TextFault, TextKind};
 use sb_schedule::{ScheduleFault, ScheduleKind};
 use sb_script::{ScriptFault, ScriptKind};
@@ -97,5 +98,16 @@ fn own_words_stand_alone(rt: HostRuntime) -> Result<(), Fail> {
     assert!(rt; own_text(OwnWord::Help).contains("replay POLICY SCRIPT [SCHEDULE]"));
     assert!(rt; own_text(OwnWord::Help).contains("check POLICY"));
     assert!(rt; own_text(OwnWord::Version).starts_with("sandbox 0.1.0\n"));
+    Ok(())
+}
+
+#[test]
+fn own_words_put_their_texts(rt: HostRuntime) -> Result<(), Fail> {
+    for word in [OwnWord::Help, OwnWord::Version] {
+        let text = own_text(word).as_bytes();
+        let mut sink = MemSink::with_room(rt.alloc(), text.len() as u64, Vec::new(rt.alloc()))?;
+        assert_eq!(rt; tell(word, &mut sink), Status::Done);
+        assert_eq!(rt; sink.written(), text);
+    }
     Ok(())
 }

@@ -1,7 +1,10 @@
-pub mod Complete
+pub mod CheckEnds
+pub mod EndLaws
+pub mod Ending
 pub mod Ready
+pub mod ReplayEnds
 pub mod Runs
-pub mod Shown
 pub mod Steps
-pub mod Texts
 pub mod TakenWords
+pub mod Telling
+pub mod Texts

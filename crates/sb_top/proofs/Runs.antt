@@ -1,5 +1,5 @@
--- Runs are sound, and a refusal is no usage fault.
-use Rattle.std.proofs.Common.{◌≡◌, ◌≢◌, List, Bool, true, None, subst, sym}
+-- Runs are sound, and how they end.
+use Rattle.std.proofs.Common.{◌≡◌, ℕ, List, true, Some, None, ap, refl, subst, sym, inl, inr}
 use Rattle.std.specs.Prelude.{IfOk, Result, Ok, Err}
 use Rattle.sb_book.specs.declared.reports.Report.{Report}
 use Rattle.sb_items.specs.declared.memory.NoMemory.{NoMemory}
@@ -14,10 +14,9 @@ use Rattle.sb_core.specs.Runs.{CanRun, ran}
 use Rattle.sb_core.specs.Tallies.{EntriesAreFew}
 use Rattle.sb_core.specs.Units.{UnitsArePlaced}
 use Rattle.sb_core.specs.declared.runs.Ran.{Ran}
-use Rattle.sb_top.specs.Outcomes.{IsSoundRun, IsWholeReportOf}
-use Rattle.sb_top.specs.Refusals.{IsRefusal}
-use Rattle.sb_top.specs.Wanted.{Runs, whole_run}
-use Rattle.sb_top.specs.declared.outcomes.Status.{Status}
+use Rattle.sb_top.specs.Ends.{IsWholeReportOf, IsWorkEnd}
+use Rattle.sb_top.specs.Replay.{IsSoundRun, run_end, whole_run}
+use Rattle.sb_top.specs.Works.{Runs}
 use Rattle.sb_top.specs.declared.outcomes.Status.TheVariants as status
 
 -- every run is sound, by its laws
@@ -34,6 +33,19 @@ sound_run legal results words fit placed sourced few policies script schedule ru
   few = few policies script schedule runs;
 }
 
+-- a run that leaves no thread unfinished is done, one that leaves a thread ends with that, and the output may fail where it would be done
+pub run_ends : (policies : List Policy) (script : Script) (schedule : Schedule) (rose : Type 0) → (whole_run policies script schedule).unfinished ≡ None
+    → IsWorkEnd (Runs policies script schedule) rose status.Done
+run_ends policies script schedule rose e = inl (sym (ap run_end e))
+
+pub run_leaves : (policies : List Policy) (script : Script) (schedule : Schedule) (rose : Type 0) (target thread : ℕ)
+    → (whole_run policies script schedule).unfinished ≡ Some (target, thread) → IsWorkEnd (Runs policies script schedule) rose (status.Unfinished target thread)
+run_leaves policies script schedule rose target thread e = inl (sym (ap run_end e))
+
+pub run_unwritten : (policies : List Policy) (script : Script) (schedule : Schedule) (rose : Type 0) → (whole_run policies script schedule).unfinished ≡ None → rose
+    → IsWorkEnd (Runs policies script schedule) rose status.WriteFault
+run_unwritten policies script schedule rose e rises = inr (inl (refl, rises, ap run_end e))
+
 -- the report of a sound run without an unfinished thread fits
 pub whole_report : (policies : List Policy) (script : Script) (schedule : Schedule) (report : Report)
     → report ≡ (whole_run policies script schedule).report → IsSoundRun policies script (whole_run policies script schedule)
@@ -46,17 +58,3 @@ pub whole_of : (policies : List Policy) (script : Script) (schedule : Schedule) 
 unfolding whole_run
 whole_of policies script schedule (Ok x) h = h
 whole_of policies script schedule (Err m) h = tt
-
--- a refusal is no usage fault
-pub known : (s : Status) → IsRefusal s → s ≢ status.Usage
-known status.Done h = absurd h
-known (status.Unfinished t k) h = absurd h
-known status.Usage h = absurd h
-known (status.PolicyRefused fault) h = λ e. cc
-known (status.ScriptRefused fault) h = λ e. cc
-known (status.ScheduleRefused fault) h = λ e. cc
-known (status.Missing n) h = λ e. cc
-known (status.TooLong n) h = λ e. cc
-known (status.ReadFault n) h = λ e. cc
-known status.WriteFault h = absurd h
-known status.NoMemory h = λ e. cc

@@ -42,6 +42,10 @@ command_of _ = None
 abbrev pub named : Option (Bor (List ℕ)) → Option (List ℕ)
 named file = option_map (λ name. name.now) file
 
+-- a replay of these files
+abbrev pub as_replay : List ℕ → List ℕ → Option (Bor (List ℕ)) → Option Command
+as_replay policy script schedule = Some (Replay policy script (named schedule))
+
 -- a command that the program found
 abbrev pub meant : CommandWords → Command
 meant (words.Check policy) = Check policy.now
@@ -53,16 +57,14 @@ replay_files None = 2
 replay_files (Some schedule) = 3
 
 -- how many files a command has
-abbrev pub file_count : Option Command → ℕ
-file_count None = 0
-file_count (Some (Check policy)) = 1
-file_count (Some (Replay policy script schedule)) = replay_files schedule
+abbrev pub file_count : Command → ℕ
+file_count (Check policy) = 1
+file_count (Replay policy script schedule) = replay_files schedule
 
 -- whether a command runs a script
-abbrev pub is_run : Option Command → Bool
-is_run None = false
-is_run (Some (Check policy)) = false
-is_run (Some (Replay policy script schedule)) = true
+abbrev pub is_run : Command → Bool
+is_run (Check policy) = false
+is_run (Replay policy script schedule) = true
 
 -- the words as lists of bytes
 abbrev pub texts : List (String Global) → List (List ℕ)

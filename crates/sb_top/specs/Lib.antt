@@ -1,6 +1,13 @@
 pub mod CommandLine
 pub mod Commands
-pub mod Wanted
 pub mod Outcomes
-pub mod Refusals
 pub mod Exits
+pub mod Works
+pub mod Reading
+pub mod Writing
+pub mod Check
+pub mod Replay
+pub mod Effects
+pub mod Ends
+pub mod Top
+pub mod Laws

@@ -2,6 +2,7 @@
 ghost use Rattle.std.specs.Prelude.{◌≡◌, true};
 ghost use Rattle.sb_core.specs.Runs.{CanRun};
 ghost use Rattle.sb_statements.specs.Units.{script_has_units};
+ghost use Rattle.sb_transcript.specs.Laws.{HasShortNames};
 
 use sb_rule::Policies;
 use sb_statements::{Schedule, Script};
@@ -17,4 +18,5 @@ pub struct Prepared {
     pub schedule: Schedule,
     ghost runs: { CanRun policies.list script schedule },
     ghost units: { script_has_units script ≡ true },
+    ghost short: { HasShortNames script },
 }

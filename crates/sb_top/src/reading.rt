@@ -1,5 +1,5 @@
-// The files of a command, read and found to be policies, a script for targets of these, and a schedule of its actors.
-ghost use Rattle.std.specs.Prelude.{◌≡◌, ◌≤◌, ◌<◌, ◌^◌, length, true, option_map, IfOk, IfErr, IfSome, MatchOption, OnOk, Ok};
+// The files of commands, read and found to be policies, a script for targets of these, and a schedule of its actors.
+ghost use Rattle.std.specs.Prelude.{◌≡◌, ◌≤◌, ◌<◌, ◌^◌, length, true, option_map, IfOk, IfErr, IfSome, OnOk, Ok};
 ghost use Rattle.std.specs.List.{list_all};
 ghost use Rattle.sb_book.specs.Readiness.{is_ready};
 ghost use Rattle.sb_outside.specs.Outside.{Rose};
@@ -9,27 +9,27 @@ ghost use Rattle.sb_schedule.specs.ScheduleTexts as schedules;
 ghost use Rattle.sb_script.specs.ScriptTexts as scripts;
 ghost use Rattle.sb_statements.specs.Actors.{is_step_there};
 ghost use Rattle.sb_statements.specs.Units.{script_has_units};
-ghost use Rattle.sb_top.specs.Commands.{named, replay_files};
-ghost use Rattle.sb_top.specs.Wanted.{Runs, text_in, policies_by, policies_in, script_by, script_in, no_schedule, schedule_by, schedule_in, schedule_of, wanted_replay, most_bytes};
-ghost use Rattle.sb_top.specs.Outcomes.{IsCause};
-ghost use Rattle.sb_top.specs.Refusals.{IsRefusal, IsRefused, IsTextRefused, status_of};
+ghost use Rattle.sb_top.specs.Commands.{named};
+ghost use Rattle.sb_top.specs.Outcomes.{IsRefusal};
+ghost use Rattle.sb_transcript.specs.Laws.{HasShortNames};
+ghost use Rattle.sb_top.specs.Reading.{IsNotRead, IsNotScheduled, IsTextRefused, text_in, policies_by, policies_in, script_by, script_in, no_schedule, schedule_by, schedule_in, schedule_of, status_of, most_bytes};
 
 use crate::outcomes::Status;
-use crate::prepared::Prepared;
 use sb_outside::{FileFault, Files};
 use sb_rule::Policies;
 use sb_ruletext::{TextRefused, read_policies};
 use sb_schedule::{MOST_ROUNDS, ScheduleRefused, read_schedule};
-use sb_script::{ScriptRefused, placing_is_opening, read_script};
+use sb_script::{ScriptRefused, read_script, read_scripts_can_be_written};
 use sb_statements::{Schedule, Script, Steps};
 use std::alloc::Global;
 
-/// A file may have so many bytes.
+/// The most bytes that a file may have.
 const MOST_BYTES: u64 = 4_194_304;
 
 // The status of a fault of file `which`.
 fn status_of(fault: FileFault, which: u8) -> Status
-    ensures { result ≡ status_of fault which }
+    ensures value { result ≡ status_of fault which }
+    ensures refusal { IsRefusal result }
 {
     match fault {
         FileFault::Missing => Status::Missing { which },
@@ -40,13 +40,16 @@ fn status_of(fault: FileFault, which: u8) -> Status
 }
 
 // The bytes of file `which`.
+#[tactic(auto, using(crate::proofs::Steps::not_read))]
 fn text_in<F: Files>(alloc: Global, files: &mut F, name: &str, which: u8) -> Result<Vec<u8>, Status>
     ensures kept { F.held files.new ≡ F.held files.old }
     ensures counted { F.faults files.old ≤ F.faults files.new }
     ensures ok { IfOk result (λ text. IfSome (F.held files.old) (λ held. text_in which (held name.now) ≡ Ok text.items)) }
     ensures short { IfOk result (λ text. length text.items ≤ most_bytes) }
     ensures ok_count { OnOk result (F.faults files.new ≡ F.faults files.old) }
-    ensures err { IfErr result (λ s. IsRefused which (option_map (λ held. text_in which (held name.now)) (F.held files.old)) (Rose (F.faults files.old) (F.faults files.new)) s) }
+    ensures err { IfErr result (λ s. IsNotRead which (option_map (λ held. text_in which (held name.now)) (F.held files.old))
+        (Rose (F.faults files.old) (F.faults files.new)) s) }
+    ensures refusal { IfErr result (λ s. IsRefusal s) }
 {
     match files.read(alloc, name, MOST_BYTES) {
         Ok(text) => Ok(text),
@@ -59,7 +62,8 @@ fn policies_by(alloc: Global, text: &[u8]) -> Result<Policies, Status>
     requires { length text.now < 2 ^ 32 }
     ensures ok { IfOk result (λ p. policies_by (reading text.now) ≡ Ok p.list) }
     ensures well_made { IfOk result (λ p. are_well_made p.list ≡ true) }
-    ensures err { IfErr result (λ s. IsTextRefused 1 (policies_by (reading text.now)) s) }
+    ensures err { IfErr result (λ s. IsTextRefused (policies_by (reading text.now)) s) }
+    ensures refusal { IfErr result (λ s. IsRefusal s) }
 {
     match read_policies(alloc, text) {
         Ok(policies) => Ok(policies),
@@ -75,7 +79,9 @@ pub fn policies_in<F: Files>(alloc: Global, files: &mut F, name: &str) -> Result
     ensures ok { IfOk result (λ p. IfSome (F.held files.old) (λ held. policies_in name.now held ≡ Ok p.list)) }
     ensures well_made { IfOk result (λ p. are_well_made p.list ≡ true) }
     ensures ok_count { OnOk result (F.faults files.new ≡ F.faults files.old) }
-    ensures err { IfErr result (λ s. IsRefused 1 (option_map (policies_in name.now) (F.held files.old)) (Rose (F.faults files.old) (F.faults files.new)) s) }
+    ensures err { IfErr result (λ s. IsNotRead 1 (option_map (policies_in name.now) (F.held files.old))
+        (Rose (F.faults files.old) (F.faults files.new)) s) }
+    ensures refusal { IfErr result (λ s. IsRefusal s) }
 {
     match text_in(alloc, files, name, 1) {
         Ok(text) => policies_by(alloc, &text),
@@ -84,16 +90,18 @@ pub fn policies_in<F: Files>(alloc: Global, files: &mut F, name: &str) -> Result
 }
 
 // The script of a text, for targets of these policies.
-#[tactic(auto, using(crate::proofs::Ready::few_made, crate::proofs::Ready::ready_of))]
+#[tactic(auto, using(crate::proofs::Ready::short_of))]
 fn script_by(alloc: Global, policies: &Policies, text: &[u8]) -> Result<Script, Status>
     requires short { length text.now < 2 ^ 32 }
     requires well_made { are_well_made policies.now.list ≡ true }
     ensures ok { IfOk result (λ s. script_by (scripts.reading policies.now.list text.now) ≡ Ok s) }
     ensures ready { IfOk result (λ s. is_ready policies.now.list s ≡ true) }
     ensures units { IfOk result (λ s. script_has_units s ≡ true) }
-    ensures err { IfErr result (λ s. IsTextRefused 2 (script_by (scripts.reading policies.now.list text.now)) s) }
+    ensures short { IfOk result (λ s. HasShortNames s) }
+    ensures err { IfErr result (λ s. IsTextRefused (script_by (scripts.reading policies.now.list text.now)) s) }
+    ensures refusal { IfErr result (λ s. IsRefusal s) }
 {
-    placing_is_opening();
+    read_scripts_can_be_written();
     match read_script(alloc, text, policies) {
         Ok(script) => Ok(script),
         Err(ScriptRefused::Fault(fault)) => Err(Status::ScriptRefused(fault)),
@@ -101,8 +109,8 @@ fn script_by(alloc: Global, policies: &Policies, text: &[u8]) -> Result<Script, 
     }
 }
 
-// The script of the second file, for targets of these policies.
-fn script_in<F: Files>(
+/// The script of the second file, for targets of these policies.
+pub fn script_in<F: Files>(
     alloc: Global,
     files: &mut F,
     policies: &Policies,
@@ -114,8 +122,11 @@ fn script_in<F: Files>(
     ensures ok { IfOk result (λ s. IfSome (F.held files.old) (λ held. script_in policies.now.list name.now held ≡ Ok s)) }
     ensures ready { IfOk result (λ s. is_ready policies.now.list s ≡ true) }
     ensures units { IfOk result (λ s. script_has_units s ≡ true) }
+    ensures short { IfOk result (λ s. HasShortNames s) }
     ensures ok_count { OnOk result (F.faults files.new ≡ F.faults files.old) }
-    ensures err { IfErr result (λ s. IsRefused 2 (option_map (script_in policies.now.list name.now) (F.held files.old)) (Rose (F.faults files.old) (F.faults files.new)) s) }
+    ensures err { IfErr result (λ s. IsNotRead 2 (option_map (script_in policies.now.list name.now) (F.held files.old))
+        (Rose (F.faults files.old) (F.faults files.new)) s) }
+    ensures refusal { IfErr result (λ s. IsRefusal s) }
 {
     match text_in(alloc, files, name, 2) {
         Ok(text) => script_by(alloc, policies, &text),
@@ -138,7 +149,8 @@ fn schedule_by(alloc: Global, script: &Script, text: &[u8]) -> Result<Schedule, 
     requires { length text.now < 2 ^ 32 }
     ensures ok { IfOk result (λ s. schedule_by (schedules.reading script.now.targets text.now) ≡ Ok s) }
     ensures there { IfOk result (λ s. list_all (is_step_there script.now.targets) s.steps ≡ true) }
-    ensures err { IfErr result (λ s. IsTextRefused 3 (schedule_by (schedules.reading script.now.targets text.now)) s) }
+    ensures err { IfErr result (λ s. IsTextRefused (schedule_by (schedules.reading script.now.targets text.now)) s) }
+    ensures refusal { IfErr result (λ s. IsRefusal s) }
 {
     match read_schedule(alloc, text, script) {
         Ok(schedule) => Ok(schedule),
@@ -159,7 +171,9 @@ fn schedule_in<F: Files>(
     ensures ok { IfOk result (λ s. IfSome (F.held files.old) (λ held. schedule_in script.now name.now held ≡ Ok s)) }
     ensures there { IfOk result (λ s. list_all (is_step_there script.now.targets) s.steps ≡ true) }
     ensures ok_count { OnOk result (F.faults files.new ≡ F.faults files.old) }
-    ensures err { IfErr result (λ s. IsRefused 3 (option_map (schedule_in script.now name.now) (F.held files.old)) (Rose (F.faults files.old) (F.faults files.new)) s) }
+    ensures err { IfErr result (λ s. IsNotRead 3 (option_map (schedule_in script.now name.now) (F.held files.old))
+        (Rose (F.faults files.old) (F.faults files.new)) s) }
+    ensures refusal { IfErr result (λ s. IsRefusal s) }
 {
     match text_in(alloc, files, name, 3) {
         Ok(text) => schedule_by(alloc, script, &text),
@@ -167,9 +181,9 @@ fn schedule_in<F: Files>(
     }
 }
 
-// The schedule, which the third file may hold. No file is read where none is named.
+/// The schedule of the third file, where one is named. Where none is named no file is read.
 #[tactic(auto, using(crate::proofs::Steps::schedule_unnamed))]
-fn schedule_of<F: Files>(
+pub fn schedule_of<F: Files>(
     alloc: Global,
     files: &mut F,
     script: &Script,
@@ -180,43 +194,12 @@ fn schedule_of<F: Files>(
     ensures ok { IfOk result (λ s. IfSome (F.held files.old) (λ held. schedule_of script.now (named name.entry) held ≡ Ok s)) }
     ensures there { IfOk result (λ s. list_all (is_step_there script.now.targets) s.steps ≡ true) }
     ensures ok_count { OnOk result (F.faults files.new ≡ F.faults files.old) }
-    ensures err { IfErr result (λ s. MatchOption (named name.entry) ⊥ (λ n. IsRefused 3 (option_map (schedule_in script.now n) (F.held files.old)) (Rose (F.faults files.old) (F.faults files.new)) s)) }
+    ensures err { IfErr result (λ s. IsNotScheduled script.now (named name.entry) (F.held files.old)
+        (Rose (F.faults files.old) (F.faults files.new)) s) }
+    ensures refusal { IfErr result (λ s. IsRefusal s) }
 {
     match name {
         Some(name) => schedule_in(alloc, files, script, name),
         None => Ok(no_schedule(alloc)),
-    }
-}
-
-/// Reads the files of a replay: the policies, then the script, and then the schedule where one is named.
-pub fn prepare<F: Files>(
-    alloc: Global,
-    files: &mut F,
-    policy: &str,
-    script: &str,
-    schedule: Option<&str>,
-) -> Result<Prepared, Status>
-    ensures kept { F.held files.new ≡ F.held files.old }
-    ensures counted { F.faults files.old ≤ F.faults files.new }
-    ensures ok { IfOk result (λ p. IfSome (F.held files.old) (λ held. wanted_replay policy.now script.now (named schedule.entry) held ≡ Ok (Runs p.policies.list p.script p.schedule))) }
-    ensures ok_count { OnOk result (F.faults files.new ≡ F.faults files.old) }
-    ensures cause { IfErr result (λ s. IsCause (replay_files (named schedule.entry)) (option_map (wanted_replay policy.now script.now (named schedule.entry)) (F.held files.old)) (Rose (F.faults files.old) (F.faults files.new)) ⊥ s) }
-    ensures refusal { IfErr result (λ s. IsRefusal s) }
-{
-    let policies = match policies_in(alloc, files, policy) {
-        Ok(policies) => policies,
-        Err(status) => return Err(status),
-    };
-    let script = match script_in(alloc, files, &policies, script) {
-        Ok(script) => script,
-        Err(status) => return Err(status),
-    };
-    match schedule_of(alloc, files, &script, schedule) {
-        Ok(schedule) => Ok(Prepared {
-            policies,
-            script,
-            schedule,
-        }),
-        Err(status) => Err(status),
     }
 }

@@ -5,3 +5,4 @@ pub mod Totals
 pub mod Transcripts
 pub mod Places
 pub mod Laws
+pub mod LineBuffers

@@ -158,6 +158,28 @@ pub fn put_target(line: &mut Vec<u8>, script: &Script, target: usize) -> Result<
     Ok(())
 }
 
+/// Appends the line of entry `n` of a history, counted from 0, with its LF.
+pub fn put_entry_line(
+    line: &mut Vec<u8>,
+    script: &Script,
+    n: u64,
+    entry: &Entry,
+) -> Result<(), NoMemory>
+    ensures { OnOk result (line.new.items ≡ line.old.items ++ entry_line script.now n entry.now) }
+{
+    put_named(line, b"entry ", n)?;
+    line.push(b' ')?;
+    put_target(line, script, entry.target as usize)?;
+    put_named(line, b" ", u64::from(entry.channel))?;
+    put_named(line, b" mark ", entry.taken.mark())?;
+    line.push(b' ')?;
+    put_decision(line, &entry.decision)?;
+    line.extend_from_slice(b" reply ")?;
+    put_reply(line, &entry.reply)?;
+    line.push(b'\n')?;
+    Ok(())
+}
+
 /// The line of entry `n` of a history, counted from 0, with its LF.
 ///
 /// # Errors
@@ -171,15 +193,6 @@ pub fn entry_line(
     ensures { IfOk result (λ line. line.items ≡ entry_line script.now n entry.now) }
 {
     let mut line = Vec::new(alloc);
-    put_named(&mut line, b"entry ", n)?;
-    line.push(b' ')?;
-    put_target(&mut line, script, entry.target as usize)?;
-    put_named(&mut line, b" ", u64::from(entry.channel))?;
-    put_named(&mut line, b" mark ", entry.taken.mark())?;
-    line.push(b' ')?;
-    put_decision(&mut line, &entry.decision)?;
-    line.extend_from_slice(b" reply ")?;
-    put_reply(&mut line, &entry.reply)?;
-    line.push(b'\n')?;
+    put_entry_line(&mut line, script, n, entry)?;
     Ok(line)
 }

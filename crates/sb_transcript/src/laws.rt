@@ -1,7 +1,5 @@
 // Laws of the transcript. None of these functions changes anything: each contract is a law.
-ghost use Rattle.sb_transcript.specs.Laws.{LinesAreCounted, EntriesComeFirst, ResultsFollow, TotalsEnd, NumbersAreResults, ResultsAreInOrder, HasShortNames, LinesEndOnce, TranscriptsTellTheirLines};
-
-use sb_statements::Script;
+ghost use Rattle.sb_transcript.specs.Laws.{LinesAreCounted, EntriesComeFirst, ResultsFollow, TotalsEnd, NumbersAreResults, ResultsAreInOrder, LinesEndOnce, TranscriptsTellTheirLines};
 
 /// The transcript has as many lines as are counted: one for each entry, one for each result, and one more.
 pub fn lines_are_counted()
@@ -44,12 +42,3 @@ pub fn lines_end_once()
 pub fn transcripts_tell_their_lines()
     ensures { TranscriptsTellTheirLines }
 {}
-
-/// The names of a script's targets are short names. It walks through the targets, and has no other effect.
-pub fn names_are_short(script: &Script)
-    ensures { HasShortNames script.now }
-{
-    for target in script.targets.as_slice() {
-        let _name = target.name.bytes();
-    }
-}

@@ -5,6 +5,7 @@ mod comma_words;
 mod counts;
 mod entries;
 mod laws;
+mod line_buffers;
 mod lines;
 mod places;
 mod results;
@@ -13,9 +14,10 @@ mod transcripts;
 pub use counts::totals;
 pub use entries::entry_line;
 pub use laws::{
-    entries_come_first, lines_are_counted, lines_end_once, names_are_short, numbers_are_results,
+    entries_come_first, lines_are_counted, lines_end_once, numbers_are_results,
     results_are_in_order, results_follow, totals_end, transcripts_tell_their_lines,
 };
+pub use line_buffers::LineBuffer;
 pub use lines::{line, line_count};
 pub use results::result_line;
 pub use transcripts::transcript_lines;

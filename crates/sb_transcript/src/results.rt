@@ -72,7 +72,28 @@ pub fn result_line(
     line_at(alloc, script, target, thread, place, result_)
 }
 
-/// The same, for numbers as lists count them.
+/// Appends the line of a result, with its LF, for numbers as lists count them.
+pub fn put_result_line(
+    line: &mut Vec<u8>,
+    script: &Script,
+    target: usize,
+    thread: usize,
+    place: usize,
+    result_: &StmtResult,
+) -> Result<(), NoMemory>
+    ensures { OnOk result (line.new.items ≡ line.old.items ++ result_line script.now target thread place result_.now) }
+{
+    line.extend_from_slice(b"result ")?;
+    put_target(line, script, target)?;
+    put_named(line, b" ", thread as u64)?;
+    put_named(line, b" ", place as u64)?;
+    line.push(b' ')?;
+    put_result(line, result_)?;
+    line.push(b'\n')?;
+    Ok(())
+}
+
+/// The line of a result, with its LF, for numbers as lists count them.
 pub fn line_at(
     alloc: Global,
     script: &Script,
@@ -84,12 +105,6 @@ pub fn line_at(
     ensures { IfOk result (λ line. line.items ≡ result_line script.now target thread place result_.now) }
 {
     let mut line = Vec::new(alloc);
-    line.extend_from_slice(b"result ")?;
-    put_target(&mut line, script, target)?;
-    put_named(&mut line, b" ", thread as u64)?;
-    put_named(&mut line, b" ", place as u64)?;
-    line.push(b' ')?;
-    put_result(&mut line, result_)?;
-    line.push(b'\n')?;
+    put_result_line(&mut line, script, target, thread, place, result_)?;
     Ok(line)
 }

@@ -1,80 +1,152 @@
-// The whole transcript.
-ghost use Rattle.std.specs.Prelude.{◌≡◌, ◌++◌, ◌<◌, ◌^◌, IfOk, OnOk};
+// The whole transcript, in one buffer.
+ghost use Rattle.std.specs.Prelude.{◌≡◌, ◌++◌, ◌∷◌, ◌<◌, ◌^◌, [], length, IfOk, OnOk};
 ghost use Rattle.sb_book.specs.Reports.{result_count};
+ghost use Rattle.sb_transcript.specs.EntryLines.{entry_line};
+ghost use Rattle.sb_transcript.specs.LineBuffers.{cut_by, total};
+ghost use Rattle.sb_transcript.specs.ResultLines.{result_line};
 ghost use Rattle.sb_transcript.specs.Transcripts.{entry_lines, thread_lines, target_lines, result_lines, transcript_lines};
 
 use crate::counts::totals;
-use crate::entries::entry_line;
-use crate::results::line_at;
+use crate::entries::put_entry_line;
+use crate::line_buffers::LineBuffer;
+use crate::results::put_result_line;
 use sb_book::{Entry, Report, TargetResults, ThreadResults};
-use sb_outside::Bytes;
 use sb_statements::{Script, StmtResult};
 use sb_wide::NoMemory;
 use std::alloc::Global;
 
+// Appends the line of an entry, and notes its length.
+#[tactic(auto, using(crate::proofs::CutLaws::cut_more, crate::proofs::CutLaws::total_more))]
+fn put_entry(
+    bytes: &mut Vec<u8>,
+    lengths: &mut Vec<usize>,
+    script: &Script,
+    n: u64,
+    entry: &Entry,
+) -> Result<(), NoMemory>
+    requires { total lengths.old.items ≡ length bytes.old.items }
+    ensures whole { OnOk result (total lengths.new.items ≡ length bytes.new.items) }
+    ensures lines { OnOk result (cut_by lengths.new.items bytes.new.items ≡ cut_by lengths.old.items bytes.old.items
+        ++ entry_line script.now n entry.now ∷ []) }
+{
+    let before = bytes.len();
+    put_entry_line(bytes, script, n, entry)?;
+    lengths.push(bytes.len() - before)?;
+    Ok(())
+}
+
+// Appends the lines of entries.
 fn put_entry_lines(
-    lines: &mut Vec<Bytes>,
-    alloc: Global,
+    bytes: &mut Vec<u8>,
+    lengths: &mut Vec<usize>,
     script: &Script,
     entries: &[Entry],
 ) -> Result<(), NoMemory>
-    ensures { OnOk result (lines.new.items ≡ lines.old.items ++ entry_lines script.now 0 entries.now) }
+    requires { total lengths.old.items ≡ length bytes.old.items }
+    ensures whole { OnOk result (total lengths.new.items ≡ length bytes.new.items) }
+    ensures lines { OnOk result (cut_by lengths.new.items bytes.new.items ≡ cut_by lengths.old.items bytes.old.items
+        ++ entry_lines script.now 0 entries.now) }
 {
     for (n, entry) in entries.iter().enumerate() {
-        let line = entry_line(alloc, script, n as u64, entry)?;
-        lines.push(Bytes::new(line))?;
+        put_entry(bytes, lengths, script, n as u64, entry)?;
     }
     Ok(())
 }
 
+// Appends the line of a result, and notes its length.
+#[tactic(auto, using(crate::proofs::CutLaws::cut_more, crate::proofs::CutLaws::total_more))]
+fn put_result(
+    bytes: &mut Vec<u8>,
+    lengths: &mut Vec<usize>,
+    script: &Script,
+    target: usize,
+    thread: usize,
+    place: usize,
+    result_: &StmtResult,
+) -> Result<(), NoMemory>
+    requires { total lengths.old.items ≡ length bytes.old.items }
+    ensures whole { OnOk result (total lengths.new.items ≡ length bytes.new.items) }
+    ensures lines { OnOk result (cut_by lengths.new.items bytes.new.items ≡ cut_by lengths.old.items bytes.old.items
+        ++ result_line script.now target thread place result_.now ∷ []) }
+{
+    let before = bytes.len();
+    put_result_line(bytes, script, target, thread, place, result_)?;
+    lengths.push(bytes.len() - before)?;
+    Ok(())
+}
+
+// Appends the lines of a thread.
 fn put_thread_lines(
-    lines: &mut Vec<Bytes>,
-    alloc: Global,
+    bytes: &mut Vec<u8>,
+    lengths: &mut Vec<usize>,
     script: &Script,
     target: usize,
     thread: usize,
     results: &[StmtResult],
 ) -> Result<(), NoMemory>
-    ensures { OnOk result (lines.new.items ≡ lines.old.items ++ thread_lines script.now target thread 0 results.now) }
+    requires { total lengths.old.items ≡ length bytes.old.items }
+    ensures whole { OnOk result (total lengths.new.items ≡ length bytes.new.items) }
+    ensures lines { OnOk result (cut_by lengths.new.items bytes.new.items ≡ cut_by lengths.old.items bytes.old.items
+        ++ thread_lines script.now target thread 0 results.now) }
 {
     for (place, result_) in results.iter().enumerate() {
-        let line = line_at(alloc, script, target, thread, place, result_)?;
-        lines.push(Bytes::new(line))?;
+        put_result(bytes, lengths, script, target, thread, place, result_)?;
     }
     Ok(())
 }
 
+// Appends the lines of a target.
 fn put_target_lines(
-    lines: &mut Vec<Bytes>,
-    alloc: Global,
+    bytes: &mut Vec<u8>,
+    lengths: &mut Vec<usize>,
     script: &Script,
     target: usize,
     threads: &[ThreadResults],
 ) -> Result<(), NoMemory>
-    ensures { OnOk result (lines.new.items ≡ lines.old.items ++ target_lines script.now target 0 threads.now) }
+    requires { total lengths.old.items ≡ length bytes.old.items }
+    ensures whole { OnOk result (total lengths.new.items ≡ length bytes.new.items) }
+    ensures lines { OnOk result (cut_by lengths.new.items bytes.new.items ≡ cut_by lengths.old.items bytes.old.items
+        ++ target_lines script.now target 0 threads.now) }
 {
     for (thread, results) in threads.iter().enumerate() {
-        put_thread_lines(lines, alloc, script, target, thread, results.as_slice())?;
+        put_thread_lines(bytes, lengths, script, target, thread, results.as_slice())?;
     }
     Ok(())
 }
 
+// Appends the lines of all results.
 fn put_result_lines(
-    lines: &mut Vec<Bytes>,
-    alloc: Global,
+    bytes: &mut Vec<u8>,
+    lengths: &mut Vec<usize>,
     script: &Script,
     targets: &[TargetResults],
 ) -> Result<(), NoMemory>
-    ensures { OnOk result (lines.new.items ≡ lines.old.items ++ result_lines script.now 0 targets.now) }
+    requires { total lengths.old.items ≡ length bytes.old.items }
+    ensures whole { OnOk result (total lengths.new.items ≡ length bytes.new.items) }
+    ensures lines { OnOk result (cut_by lengths.new.items bytes.new.items ≡ cut_by lengths.old.items bytes.old.items
+        ++ result_lines script.now 0 targets.now) }
 {
     for (target, threads) in targets.iter().enumerate() {
-        put_target_lines(lines, alloc, script, target, threads.as_slice())?;
+        put_target_lines(bytes, lengths, script, target, threads.as_slice())?;
     }
     Ok(())
 }
 
-/// The lines of the transcript, each with its LF: one for each entry in order, one for each result by target, thread and
-/// place, and the totals.
+// Appends the last line, and notes its length.
+#[tactic(auto, using(crate::proofs::CutLaws::cut_more, crate::proofs::CutLaws::total_more))]
+fn put_totals(bytes: &mut Vec<u8>, lengths: &mut Vec<usize>, last: &[u8]) -> Result<(), NoMemory>
+    requires { total lengths.old.items ≡ length bytes.old.items }
+    ensures whole { OnOk result (total lengths.new.items ≡ length bytes.new.items) }
+    ensures lines { OnOk result (cut_by lengths.new.items bytes.new.items ≡ cut_by lengths.old.items bytes.old.items ++ last.now ∷ []) }
+{
+    let before = bytes.len();
+    bytes.extend_from_slice(last)?;
+    lengths.push(bytes.len() - before)?;
+    Ok(())
+}
+
+/// The lines of the transcript, each with its LF, in one growing buffer: one for each entry in order, one for each result by
+/// target, thread and place, and the totals.
 ///
 /// # Errors
 /// `NoMemory` where there was none for the lines.
@@ -82,14 +154,15 @@ pub fn transcript_lines(
     alloc: Global,
     script: &Script,
     report: &Report,
-) -> Result<Vec<Bytes>, NoMemory>
+) -> Result<LineBuffer, NoMemory>
     requires { result_count report.now.results < 2 ^ 62 }
-    ensures { IfOk result (λ lines. lines.items ≡ transcript_lines script.now report.now) }
+    ensures { IfOk result (λ lines. lines ≡ transcript_lines script.now report.now) }
 {
-    let mut lines = Vec::new(alloc);
-    put_entry_lines(&mut lines, alloc, script, report.entries.as_slice())?;
-    put_result_lines(&mut lines, alloc, script, report.results.as_slice())?;
+    let mut bytes = Vec::new(alloc);
+    let mut lengths = Vec::new(alloc);
+    put_entry_lines(&mut bytes, &mut lengths, script, report.entries.as_slice())?;
+    put_result_lines(&mut bytes, &mut lengths, script, report.results.as_slice())?;
     let last = totals(alloc, report)?;
-    lines.push(Bytes::new(last))?;
-    Ok(lines)
+    put_totals(&mut bytes, &mut lengths, &last)?;
+    Ok(LineBuffer { bytes, lengths })
 }

@@ -1,6 +1,6 @@
 use Rattle.std.proofs.Common.{◌≡◌}
 use Rattle.std.specs.Prelude.{IfSome, Ok}
-use Rattle.sb_top.specs.Wanted.{text_in}
+use Rattle.sb_top.specs.Reading.{text_in}
 use Rattle.sb_top.proofs.Steps.{policies_found, policies_not_found}
 use Rattle.sb_top.proofs.reading.policies_in.Goals as goal
 

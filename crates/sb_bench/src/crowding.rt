@@ -1,0 +1,132 @@
+// A directory with 100,000 names: adding, finding and renaming each of them.
+
+use crate::failures::Failure;
+use crate::naming::is_made;
+use sb_names::NameTree;
+use sb_wide::{NoMemory, Wide, is_name};
+use std::alloc::Global;
+
+// How many names there are.
+const MANY: u64 = 100_000;
+
+const BACKSLASH: u16 = 92;
+
+// The letters `d`, `n` and `m`.
+const DIRECTORY: u16 = 100;
+
+const OLD: u16 = 110;
+
+const NEW: u16 = 109;
+
+/// Makes a tree of the directory and its names, in these rounds.
+pub fn adds(alloc: Global, rounds: u64) -> Result<String, Failure> {
+    let names = names(alloc, OLD)?;
+    let mut added: u64 = 0;
+    for _round in 0..rounds {
+        let mut tree = directory(alloc)?;
+        added = added.saturating_add(add_all(&mut tree, &names)?);
+    }
+    Ok(format!(in alloc; "added {added}")?)
+}
+
+/// Looks for each name in the tree, in these rounds.
+pub fn finds(alloc: Global, rounds: u64) -> Result<String, Failure> {
+    let names = names(alloc, OLD)?;
+    let mut tree = directory(alloc)?;
+    add_all(&mut tree, &names)?;
+    let mut found: u64 = 0;
+    for _round in 0..rounds {
+        found = found.saturating_add(found_names(&tree, &names));
+    }
+    Ok(format!(in alloc; "found {found}")?)
+}
+
+/// Renames each name in the tree, and back again, in these rounds.
+pub fn renames(alloc: Global, rounds: u64) -> Result<String, Failure> {
+    let old = names(alloc, OLD)?;
+    let new = names(alloc, NEW)?;
+    let mut tree = directory(alloc)?;
+    add_all(&mut tree, &old)?;
+    let mut renamed: u64 = 0;
+    for _round in 0..rounds {
+        renamed = renamed.saturating_add(rename_all(&mut tree, &old, &new)?);
+        renamed = renamed.saturating_add(rename_all(&mut tree, &new, &old)?);
+    }
+    Ok(format!(in alloc; "renamed {renamed}")?)
+}
+
+// A tree of the directory `\d` alone.
+fn directory(alloc: Global) -> Result<NameTree, NoMemory> {
+    let mut tree = NameTree::new(alloc);
+    let name = [BACKSLASH, DIRECTORY];
+    if is_name(&name) {
+        is_made(tree.add(&name, 1))?;
+    }
+    Ok(tree)
+}
+
+// The names in the directory: a letter and five digits each.
+fn names(alloc: Global, letter: u16) -> Result<Vec<Wide>, NoMemory> {
+    let mut names = Vec::new(alloc);
+    for number in 0..MANY {
+        names.push(name(alloc, letter, number)?)?;
+    }
+    Ok(names)
+}
+
+fn name(alloc: Global, letter: u16, number: u64) -> Result<Wide, NoMemory> {
+    let mut units = Vec::with_capacity(alloc, 9)?;
+    for unit in [BACKSLASH, DIRECTORY, BACKSLASH, letter] {
+        units.push(unit)?;
+    }
+    for place in [10_000, 1_000, 100, 10, 1] {
+        units.push(digit(number, place))?;
+    }
+    Ok(Wide::new(units))
+}
+
+// The decimal digit of a number at a place, which is no 0.
+fn digit(number: u64, place: u64) -> u16 {
+    let value = number.checked_div(place).unwrap_or(0) % 10;
+    (value as u16).wrapping_add(48)
+}
+
+fn add_all(tree: &mut NameTree, names: &[Wide]) -> Result<u64, NoMemory> {
+    let mut added: u64 = 0;
+    for name in names {
+        let units = name.as_units();
+        if is_name(units) && is_made(tree.add(units, 1))? {
+            added = added.saturating_add(1);
+        }
+    }
+    Ok(added)
+}
+
+fn found_names(tree: &NameTree, names: &[Wide]) -> u64 {
+    let mut found: u64 = 0;
+    for name in names {
+        let units = name.as_units();
+        if is_name(units) && tree.find(units).is_some() {
+            found = found.saturating_add(1);
+        }
+    }
+    found
+}
+
+fn rename_all(tree: &mut NameTree, old: &[Wide], new: &[Wide]) -> Result<u64, NoMemory> {
+    let mut renamed: u64 = 0;
+    for pair in old.iter().zip(new.iter()) {
+        if rename_one(tree, pair.0.as_units(), pair.1.as_units())? {
+            renamed = renamed.saturating_add(1);
+        }
+    }
+    Ok(renamed)
+}
+
+fn rename_one(tree: &mut NameTree, old: &[u16], new: &[u16]) -> Result<bool, NoMemory> {
+    if is_name(old) && is_name(new) {
+        is_made(tree.rename(old, new))
+    } else {
+        Ok(false)
+    }
+}

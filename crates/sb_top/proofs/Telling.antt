@@ -1,0 +1,27 @@
+-- Transcripts tell entries line by line.
+use Rattle.std.proofs.Common.{◌≡◌, List, ℕ, Option, Some, sym, subst}
+use Rattle.std.specs.Prelude.{slice_get}
+use Rattle.sb_book.specs.declared.reports.Report.{Report}
+use Rattle.sb_rule.specs.declared.policies.Policy.{Policy}
+use Rattle.sb_statements.specs.declared.schedules.Schedule.{Schedule}
+use Rattle.sb_statements.specs.declared.scripts.Script.{Script}
+use Rattle.sb_transcript.specs.EntryLines.{entry_line}
+use Rattle.sb_transcript.specs.Laws.{EntriesComeFirst, HasShortNames, TranscriptsTellTheirLines}
+use Rattle.sb_transcript.specs.Transcripts.{transcript}
+use Rattle.sb_top.specs.Ends.{TellsReport}
+use Rattle.sb_top.specs.Works.{Runs}
+use Rattle.sb_top.specs.Writing.{GrowsBy, TellsEntries}
+
+-- the transcript of each report of a script with short names does
+pub tells_entries : EntriesComeFirst → TranscriptsTellTheirLines → (script : Script) (report : Report) → HasShortNames script
+    → TellsEntries script report (transcript script report)
+tells_entries first tell script report short = record {
+  lines = tell script report short;
+  entries = λ n entry there. subst (λ (ls : List (List ℕ)). slice_get ls n ≡ Some (entry_line script n entry)) (sym (tell script report short)) (first script report n entry there);
+}
+
+-- an output that grew by such a transcript
+pub told : (policies : List Policy) (script : Script) (schedule : Schedule) (report : Report) (before after : Option (List ℕ))
+    → TellsEntries script report (transcript script report) → GrowsBy before (transcript script report) after
+    → TellsReport before after report (Runs policies script schedule)
+told policies script schedule report before after tells grows = (transcript script report, grows, tells)

@@ -1,0 +1,117 @@
+-- How work ends: with which status and which report, and what was written.
+use Rattle.std.specs.Prelude.{◌≡◌, ◌⊎◌, ℕ, ◌≤◌, Bool, true, false, Option, None, Some, IfSome, IsSomeAnd, IsOkAnd, MatchOption, Result, Ok, Err, List, ⊤}
+use Rattle.sb_book.specs.declared.reports.Report.{Report}
+use Rattle.sb_core.specs.Fits.{Fits}
+use Rattle.sb_outside.specs.Outside.{GrowsByPrefix}
+use Rattle.sb_transcript.specs.Transcripts.{transcript}
+use Rattle.sb_top.specs.Check.{checked}
+use Rattle.sb_top.specs.Outcomes.{MayCome, file_of}
+use Rattle.sb_top.specs.Replay.{IsSoundRun, run_end, whole_run}
+use Rattle.sb_top.specs.Works.{Work, Prints, Runs, Wanted}
+use Rattle.sb_top.specs.Writing.{GrowsBy, TellsEntries}
+use Rattle.sb_top.specs.declared.outcomes.Status.{Status}
+use Rattle.sb_top.specs.declared.outcomes.Status.TheVariants.{Done, Unfinished, ReadFault, WriteFault, NoMemory}
+
+-- the status with which work ends
+abbrev pub end_of : Work → Status
+end_of (Prints policies) = Done
+end_of (Runs policies script schedule) = run_end (whole_run policies script schedule).unfinished
+
+-- the status that is expected: the one with which the work ends, or the one that refuses it
+abbrev pub expected : Wanted → Status
+expected (Ok work) = end_of work
+expected (Err status) = status
+
+-- all that is written: the policies as a text with the listings of their programs, or the transcript of the run
+abbrev pub text_of : Work → List ℕ
+text_of (Prints policies) = checked policies
+text_of (Runs policies script schedule) = transcript script (whole_run policies script schedule).report
+
+-- n is the number of a file of a command with this many files
+abbrev pub IsFile : ℕ → ℕ → Type 0
+IsFile files n = (1 ≤ n) × (n ≤ files)
+
+-- file n was reached: each file before it was read without a fault
+abbrev pub IsReached : {A : Type 0} → ℕ → Result A Status → Type 0
+IsReached n (Ok x) = ⊤
+IsReached n (Err status) = IsSomeAnd (file_of status) (λ m. n ≤ m)
+
+-- the status is the expected one, or where the contents of the files are not known, one that can come of them
+abbrev pub IsExpected : Option Wanted → Type 0 → Status → Type 0
+IsExpected wanted files_rose status = MatchOption wanted (MayCome files_rose status) (λ w. status ≡ expected w)
+
+-- a file that was reached was not read, and the files' count of faults rose
+abbrev pub IsUnread : Option Wanted → Type 0 → Status → Type 0
+IsUnread wanted files_rose status = (n : ℕ) × (status ≡ ReadFault n) × files_rose × IfSome wanted (IsReached n)
+
+-- the output failed where the work would have been done, and its count of faults rose
+abbrev pub IsUnwritten : Option Wanted → Type 0 → Status → Type 0
+IsUnwritten wanted sink_rose status = (status ≡ WriteFault) × sink_rose × IfSome wanted (λ w. expected w ≡ Done)
+
+-- The status of a command with this many files names only one of these; and it is the expected one, or a file was not read, or the output
+-- failed, or there was no memory
+abbrev pub IsEnd : ℕ → Option Wanted → Type 0 → Type 0 → Status → Type 0
+IsEnd files wanted files_rose sink_rose status =
+    IfSome (file_of status) (IsFile files)
+    × (IsExpected wanted files_rose status ⊎ IsUnread wanted files_rose status ⊎ IsUnwritten wanted sink_rose status ⊎ (status ≡ NoMemory))
+
+-- the status of work for which all was read: the one with which the work ends; or the output failed where it would have been done; or there was
+-- no memory
+abbrev pub IsWorkEnd : Work → Type 0 → Status → Type 0
+IsWorkEnd work sink_rose status = (status ≡ end_of work) ⊎ ((status ≡ WriteFault) × sink_rose × (end_of work ≡ Done)) ⊎ (status ≡ NoMemory)
+
+-- the report of a run; a print has none
+abbrev pub IsReportOf : Report → Work → Type 0
+IsReportOf report (Prints policies) = ⊥
+IsReportOf report (Runs policies script schedule) =
+    (report ≡ (whole_run policies script schedule).report) × IsSoundRun policies script (whole_run policies script schedule)
+
+-- the report of a run in which no thread is unfinished: it fits the script under its policies
+abbrev pub IsWholeReportOf : Report → Work → Type 0
+IsWholeReportOf report (Prints policies) = ⊥
+IsWholeReportOf report (Runs policies script schedule) =
+    IsReportOf report (Runs policies script schedule) × ((whole_run policies script schedule).unfinished ≡ None) × Fits policies script report
+
+-- there is a report, and it is that of the run that is wanted
+abbrev pub HasReport : Option Wanted → Option Report → Type 0
+HasReport wanted None = ⊥
+HasReport wanted (Some report) = IfSome wanted (λ w. IsOkAnd w (IsReportOf report))
+
+-- and no thread of that run is unfinished, and the report fits
+abbrev pub HasWholeReport : Option Wanted → Option Report → Type 0
+HasWholeReport wanted None = ⊥
+HasWholeReport wanted (Some report) = IfSome wanted (λ w. IsOkAnd w (IsWholeReportOf report))
+
+-- there is a report exactly where the command runs a script
+abbrev pub HasReportOfRun : Bool → Option Wanted → Option Report → Type 0
+HasReportOfRun false wanted report = report ≡ None
+HasReportOfRun true wanted report = HasWholeReport wanted report
+
+-- a report is there exactly with Done and WriteFault of a command that runs a script, and it fits the script; and with Unfinished, which comes of
+-- such commands alone
+abbrev pub IsReported : Bool → Option Wanted → Option Report → Status → Type 0
+IsReported runs wanted report Done = HasReportOfRun runs wanted report
+IsReported runs wanted report WriteFault = HasReportOfRun runs wanted report
+IsReported runs wanted report (Unfinished target thread) = (runs ≡ true) × HasReport wanted report
+IsReported runs wanted report status = report ≡ None
+
+-- with Done all was written, with WriteFault a prefix, and with any other status nothing
+abbrev pub IsWritten : Option Wanted → Option (List ℕ) → Option (List ℕ) → Status → Type 0
+IsWritten wanted before after Done = IfSome wanted (λ w. IsOkAnd w (λ work. GrowsBy before (text_of work) after))
+IsWritten wanted before after WriteFault = IfSome wanted (λ w. IsOkAnd w (λ work. GrowsByPrefix before (text_of work) after))
+IsWritten wanted before after status = after ≡ before
+
+-- the output grew by a text that tells the entries of this report line by line
+abbrev pub TellsReport : Option (List ℕ) → Option (List ℕ) → Report → Work → Type 0
+TellsReport before after report (Prints policies) = ⊥
+TellsReport before after report (Runs policies script schedule) = (text : List ℕ) × GrowsBy before text after × TellsEntries script report text
+
+-- the same where there is a report
+abbrev pub HasToldReport : Option Wanted → Option (List ℕ) → Option (List ℕ) → Option Report → Type 0
+HasToldReport wanted before after None = ⊥
+HasToldReport wanted before after (Some report) = IfSome wanted (λ w. IsOkAnd w (TellsReport before after report))
+
+-- with Done of a command that runs a script, the text that was written tells the entries of its report line by line
+abbrev pub IsTold : Option Wanted → Option (List ℕ) → Option (List ℕ) → Option Report → Status → Type 0
+IsTold wanted before after report Done = HasToldReport wanted before after report
+IsTold wanted before after report status = ⊤

@@ -1,0 +1,56 @@
+-- What `replay POLICY SCRIPT [SCHEDULE]` comes to, how its run ends, and what the report of a run says.
+use Rattle.std.specs.Prelude.{◌≡◌, ℕ, ◌*◌, List, length, map, Option, None, Some, Ok, option_map}
+use Rattle.sb_book.specs.Histories.{setting_of, IsHistory}
+use Rattle.sb_core.specs.Fits.{Fits}
+use Rattle.sb_core.specs.Origins.{IsSourced}
+use Rattle.sb_core.specs.Results.{ResultsFit}
+use Rattle.sb_core.specs.Runs.{ran}
+use Rattle.sb_core.specs.Tallies.{AreFew}
+use Rattle.sb_core.specs.declared.runs.Ran.{Ran}
+use Rattle.sb_outside.specs.Outside.{Held}
+use Rattle.sb_rule.specs.declared.policies.Policy.{Policy}
+use Rattle.sb_statements.specs.declared.schedules.Schedule.{Schedule}
+use Rattle.sb_statements.specs.declared.scripts.Script.{Script}
+use Rattle.sb_text.specs.Steps.{◌>>=◌}
+use Rattle.sb_top.specs.Reading.{policies_in, schedule_of, script_in}
+use Rattle.sb_top.specs.Works.{Wanted, Work, Runs}
+use Rattle.sb_top.specs.declared.outcomes.Status.{Status}
+use Rattle.sb_top.specs.declared.outcomes.Status.TheVariants.{Done, Unfinished}
+use Rattle.sb_top.specs.declared.prepared.Prepared.{Prepared}
+
+-- the run of a script that was read, by its schedule
+abbrev pub wanted_run : List Policy → Option (List ℕ) → Script → Held → Wanted
+wanted_run policies schedule script held = schedule_of script schedule held >>= λ schedule. Ok (Runs policies script schedule)
+
+-- a replay under policies that were read: it reads a script, and then the schedule
+abbrev pub wanted_script : List ℕ → Option (List ℕ) → List Policy → Held → Wanted
+wanted_script script schedule policies held = script_in policies script held >>= λ script. wanted_run policies schedule script held
+
+-- a replay reads policies, then a script, then the schedule where one is named, and runs the script by it
+abbrev pub wanted_replay : List ℕ → List ℕ → Option (List ℕ) → Held → Wanted
+wanted_replay policy script schedule held = policies_in policy held >>= λ policies. wanted_script script schedule policies held
+
+-- the run for which all was read
+abbrev pub work_of : Prepared → Work
+work_of prepared = Runs prepared.policies.list prepared.script prepared.schedule
+
+-- the run of a script under policies by a schedule
+unfoldable pub whole_run : List Policy → Script → Schedule → Ran
+whole_run policies script schedule = ran policies script schedule
+
+-- the status with which a run ends, by the thread that it leaves unfinished
+abbrev pub run_end : Option (ℕ × ℕ) → Status
+run_end None = Done
+run_end (Some thread) = Unfinished thread.0 thread.1
+
+-- What a run reports: its entries are a legal history, which led to its namespace; each result is that of the statement at its place; each
+-- target has 65 words for each channel; and no word of it is invented. Where no thread is unfinished the report fits the script: there is one
+-- result for each statement, each thread has its own replies, each once, each result suits its statement, and so do the words; and a channel has
+-- no more entries than calls that were handed over there and statements that made it ready
+pub record IsSoundRun (policies : List Policy) (script : Script) (r : Ran) : Type 0 where
+  pub history : IsHistory (record { setting = setting_of policies script; space = r.report.kernel; entries = r.report.entries })
+  pub results : ResultsFit script r.report.results
+  pub words : map (λ words. length words) r.report.words ≡ map (λ target. target.channels * 65) script.targets
+  pub sourced : IsSourced script r.report
+  pub fits : r.unfinished ≡ None → Fits policies script r.report
+  pub few : r.unfinished ≡ None → AreFew script r.report
