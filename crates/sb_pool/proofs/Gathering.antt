@@ -143,22 +143,28 @@ module _ {W H : Type 0} where
       let a = all n seat h in
       let k : seen seat ≡ fresh_view n homes (cond {A = Option ℕ} (eqb n 0) (Some (length seats)) None) =
       a.2 ∙ ap (λ l. fresh_view n l (cond {A = Option ℕ} (eqb n 0) (Some (length seats)) None)) same in
-      ((a.0, a.1, ap (λ (v : PoolView H). v.live) k, ap (λ (v : PoolView H). length v.homes) k ∙ size), k)
+      let count = ap (λ (v : PoolView H). cond {A = ℕ} (is_some v.count) pool.size 0) k in
+      ((a.0, a.1, ap (λ (v : PoolView H). v.live) k, ap (λ (v : PoolView H). length v.homes) k ∙ size, a.3 ∙ ap (λ (l : List H). cond {A = ℕ} (eqb n 0) (length l) 0) same ∙ ap (λ m. cond {A = ℕ} (eqb n 0) m 0) size ∙ kept (eqb n 0) (length seats) pool.size ∙ sym count), k)
+    where
+      kept : (b : Bool) (m size : ℕ) → cond {A = ℕ} b size 0 ≡ cond {A = ℕ} (is_some (cond {A = Option ℕ} b (Some m) None)) size 0
+      kept true m size = refl
+      kept false m size = refl
 
   -- one seat more, made of the one in front
   pub divided_more : (table : TableId) (homes : List H) (seats : List (PoolSeat W H)) (front after new : PoolSeat W H) → AreDivided table homes seats
       → slice_get seats 0 ≡ Some front
       → after.pass.table_id ≡ table → after.pass.me.1 ≡ [] → seen after ≡ counted (seen front)
       → new.pass.table_id ≡ table → new.pass.me.1 ≡ [] → seen new ≡ newcomer (seen front)
+      → after.rooms ≡ front.rooms → new.rooms ≡ []
       → AreDivided table homes (set seats 0 after ++ new ∷ [])
-  divided_more table homes [] front after new all at_front a b c d e f n seat h = absurd (false≢true (ap is_some at_front))
-  divided_more table homes (x ∷ xs) front after new all at_front a b c d e f n seat h =
+  divided_more table homes [] front after new all at_front a b c d e f r q n seat h = absurd (false≢true (ap is_some at_front))
+  divided_more table homes (x ∷ xs) front after new all at_front a b c d e f r q n seat h =
       ⊎_elim (old n)
       (λ (t : (n ≡ suc (length xs)) × (new ≡ seat)).
       subst
-      (λ (z : ℕ × PoolSeat W H). (z.1.pass.table_id ≡ table) × (z.1.pass.me.1 ≡ []) × (seen z.1 ≡ fresh_view z.0 homes (cond {A = Option ℕ} (eqb z.0 0) (Some (length (after ∷ (xs ++ new ∷ [])))) None)))
+      (λ (z : ℕ × PoolSeat W H). (z.1.pass.table_id ≡ table) × (z.1.pass.me.1 ≡ []) × (seen z.1 ≡ fresh_view z.0 homes (cond {A = Option ℕ} (eqb z.0 0) (Some (length (after ∷ (xs ++ new ∷ [])))) None)) × (length z.1.rooms ≡ cond {A = ℕ} (eqb z.0 0) (length homes) 0))
       (λ k. (sym t.0 k, t.1 k))
-      (d, e, last))
+      (d, e, last, ap (λ (l : List (Option W)). length l) q ∙ ap (λ b. cond {A = ℕ} b (length homes) 0) (sym (not_zero (length xs)))))
       (get_snoc (after ∷ xs) new n seat h)
     where
       first : seen front ≡ fresh_view 0 homes (Some (length (x ∷ xs)))
@@ -171,15 +177,23 @@ module _ {W H : Type 0} where
       last = f ∙ ap newcomer first ∙ ap (λ b. fresh_view (suc (length xs)) homes (cond {A = Option ℕ} b (Some (length (after ∷ (xs ++ new ∷ [])))) None)) (sym (not_zero (length xs)))
 
       old : (m : ℕ) → slice_get (after ∷ xs) m ≡ Some seat
-          → (seat.pass.table_id ≡ table) × (seat.pass.me.1 ≡ []) × (seen seat ≡ fresh_view m homes (cond {A = Option ℕ} (eqb m 0) (Some (length (after ∷ (xs ++ new ∷ [])))) None))
+          → (seat.pass.table_id ≡ table) × (seat.pass.me.1 ≡ []) × (seen seat ≡ fresh_view m homes (cond {A = Option ℕ} (eqb m 0) (Some (length (after ∷ (xs ++ new ∷ [])))) None)) × (length seat.rooms ≡ cond {A = ℕ} (eqb m 0) (length homes) 0)
       old zero g =
-          subst (λ (s : PoolSeat W H). (s.pass.table_id ≡ table) × (s.pass.me.1 ≡ []) × (seen s ≡ fresh_view 0 homes (Some (length (after ∷ (xs ++ new ∷ []))))))
+          subst (λ (s : PoolSeat W H). (s.pass.table_id ≡ table) × (s.pass.me.1 ≡ []) × (seen s ≡ fresh_view 0 homes (Some (length (after ∷ (xs ++ new ∷ []))))) × (length s.rooms ≡ length homes))
           (ap (λ o. unwrap_or o after) g)
-          (a, b, c ∙ ap counted first ∙ ap (λ l. fresh_view 0 homes (Some l)) grown)
+          (a, b, c ∙ ap counted first ∙ ap (λ l. fresh_view 0 homes (Some l)) grown, ap (λ (l : List (Option W)). length l) r ∙ (all 0 front at_front).3)
       old (suc m) g =
           let k = all (suc m) seat g in (
             k.0,
             k.1,
             k.2 ∙ ap (λ b. fresh_view (suc m) homes (cond {A = Option ℕ} b (Some (length (x ∷ xs))) None)) (not_zero m)
                 ∙ ap (λ b. fresh_view (suc m) homes (cond {A = Option ℕ} b (Some (length (after ∷ (xs ++ new ∷ [])))) None)) (sym (not_zero m)),
+            k.3,
           )
+
+-- of equal views
+pub live_same : {H : Type 0} {v w : PoolView H} → v ≡ w → v.live ≡ w.live
+live_same {H} e = ap (λ (z : PoolView H). z.live) e
+
+pub count_same : {H : Type 0} {v w : PoolView H} → v ≡ w → v.count ≡ w.count
+count_same {H} e = ap (λ (z : PoolView H). z.count) e

@@ -1,5 +1,5 @@
 -- Pools and their seats, as contracts see them.
-use Rattle.std.specs.Prelude.{◌≡◌, ◌<◌, ◌==◌, ℕ, true, cond, Option, Some, None, List, [], length, slice_get}
+use Rattle.std.specs.Prelude.{◌≡◌, ◌<◌, ◌==◌, ℕ, true, cond, Option, Some, None, is_some, List, [], length, slice_get}
 use Rattle.atomic_table.specs.Seated.{TableId}
 use Rattle.crossbeam_queue.specs.Passes.{view}
 use Rattle.sb_pool.specs.declared.protocol.PoolView.{PoolView}
@@ -20,16 +20,18 @@ module _ {W H : Type 0} where
   abbrev pub seen : PoolSeat W H → PoolView H
   seen seat = view seat.pass
 
-  -- a seat of this pool that was not taken in, and that knows a home for each number
+  -- a seat of this pool that was not taken in, and that knows a home for each number. Where it keeps count it has the rooms for all works
   abbrev pub IsSeatOf : PoolValue → PoolSeat W H → Type 0
   IsSeatOf pool seat =
       (seat.pass.table_id ≡ pool.table) × (seat.pass.me.1 ≡ []) × ((seen seat).live ≡ true) × (length (seen seat).homes ≡ pool.size)
+      × (length seat.rooms ≡ cond (is_some (seen seat).count) pool.size 0)
 
   -- the seats are of this table, have their places as numbers, know the homes and have nothing out; the first keeps the count of all
   abbrev pub AreDivided : TableId → List H → List (PoolSeat W H) → Type 0
   AreDivided table homes seats =
       (n : ℕ) (seat : PoolSeat W H) → slice_get seats n ≡ Some seat
       → (seat.pass.table_id ≡ table) × (seat.pass.me.1 ≡ []) × (seen seat ≡ fresh_view n homes (cond (n == 0) (Some (length seats)) None))
+      × (length seat.rooms ≡ cond (n == 0) (length homes) 0)
 
   -- they are seats of this pool
   abbrev pub AreSeats : PoolValue → List H → List (PoolSeat W H) → Type 0

@@ -22,25 +22,21 @@ pub struct PoolRefused<W> {
 #[derive(Drop)]
 pub struct Pool<W: Numbered> {
     pub(crate) queue: Queue<W>,
-    pub(crate) rooms: Rooms<W>,
+    alloc: Global,
 }
 
 impl<W: Numbered> Model for Pool<W> {
-    ghost use Rattle.std.specs.Prelude.{◌≡◌, length};
     ghost use Rattle.sb_pool.specs.Pools.{PoolValue};
 
     ghost Value = { PoolValue };
 
     ghost view = { λ p. record { table = p.queue.table.shared.table_id; size = p.queue.cap } };
-
-    ghost invariant = { λ p. length p.rooms ≡ p.queue.cap };
 }
 
 // A pool without works and its first seat, with room for all seats.
 #[derive(Drop)]
 struct Begun<W: Numbered> {
     queue: Queue<W>,
-    rooms: Rooms<W>,
     first: PoolSeat<W>,
     seats: Vec<PoolSeat<W>>,
 }
@@ -48,7 +44,7 @@ struct Begun<W: Numbered> {
 fn begin<W: Numbered>(alloc: Global, works: usize, seats: u32) -> Result<Begun<W>, AllocError>
     requires { 0 < works }
     ensures queue { IfOk result (λ o. IsPassOf o.queue o.first.pass × (view o.first.pass ≡ first_view)) }
-    ensures works { IfOk result (λ o. (ruled_capacity o.queue ≡ works) × (length o.rooms ≡ works)) }
+    ensures works { IfOk result (λ o. (ruled_capacity o.queue ≡ works) × (length o.first.rooms ≡ works)) }
     ensures seats { IfOk result (λ o. (o.seats.items ≡ []) × (seats ≤ vec_capacity o.seats)) }
 {
     let rooms = Rooms::of(alloc, works)?;
@@ -56,14 +52,14 @@ fn begin<W: Numbered>(alloc: Global, works: usize, seats: u32) -> Result<Begun<W
     let (queue, pass) = Queue::<W>::ruled(alloc, works)?;
     Ok(Begun {
         queue,
-        rooms,
-        first: PoolSeat { pass },
+        first: PoolSeat { pass, rooms },
         seats,
     })
 }
 
 // The given number of seats, made of the first one, which stays in front.
 fn divided<W: Numbered>(
+    alloc: Global,
     queue: &Queue<W>,
     first: PoolSeat<W>,
     room: Vec<PoolSeat<W>>,
@@ -71,6 +67,7 @@ fn divided<W: Numbered>(
 ) -> Vec<PoolSeat<W>>
     requires own { IsPassOf queue.now first.pass }
     requires first { seen first ≡ fresh_view 0 (seen first).homes (Some 1) }
+    requires rooms { length first.rooms ≡ length (seen first).homes }
     requires empty { room.items ≡ [] }
     requires room { count ≤ vec_capacity room }
     requires some { 0 < count }
@@ -80,7 +77,7 @@ fn divided<W: Numbered>(
     let mut seats = room;
     seats.push_reserved(first);
     for _seat in 1..count {
-        let next = seats[0].another(queue);
+        let next = seats[0].another(alloc, queue);
         seats.push_reserved(next);
     }
     seats
@@ -137,14 +134,13 @@ impl<W: Numbered> Pool<W> {
         };
         let Begun {
             queue,
-            rooms,
             first,
             seats: room,
         } = begun;
         let mut first = first;
         first.found_all(rt, &queue, works);
-        let seats = divided(&queue, first, room, seats);
-        Ok((Pool { queue, rooms }, seats))
+        let seats = divided(alloc, &queue, first, room, seats);
+        Ok((Pool { queue, alloc }, seats))
     }
 
     /// The works in the order of their numbers, each with the home that it had at `new`. Every other seat was taken in, and
@@ -156,7 +152,12 @@ impl<W: Numbered> Pool<W> {
         ensures numbered { AreNumbered W.number result.items }
         ensures homes { map W.home result.items ≡ (seen seat).homes }
     {
-        let Pool { queue, rooms } = self;
+        let Pool { queue, alloc } = self;
+        let PoolSeat { pass, rooms } = seat;
+        let seat = PoolSeat {
+            pass,
+            rooms: Rooms::none(alloc),
+        };
         gather(rt, &queue, seat, rooms).into_works()
     }
 }

@@ -1,5 +1,5 @@
 // The rooms of a pool: a place for each work by its number, and room for all works in order. They are taken when the pool is
-// made, so that its close takes no memory.
+// made, so that its close takes no memory. They are with the seat that keeps count, since what all threads share holds no work.
 ghost use Rattle.std.specs.Prelude.{◌≡◌, ◌<◌, ◌≤◌, [], Some, length, slice_set, vec_capacity, IfOk};
 ghost use Rattle.sb_pool.specs.Rooms.{filled};
 
@@ -37,6 +37,16 @@ impl<W: Drop> Rooms<W> {
             slots.push(None)?;
         }
         Ok(Rooms { slots, works })
+    }
+
+    /// No places. It takes no memory.
+    pub(crate) fn none(alloc: Global) -> Rooms<W>
+        ensures { result ≡ [] }
+    {
+        Rooms {
+            slots: Vec::new(alloc),
+            works: Vec::new(alloc),
+        }
     }
 
     /// How many places there are.

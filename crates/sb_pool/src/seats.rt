@@ -1,5 +1,5 @@
 // The seats of a pool. A thread draws and hands back works with a seat of its own.
-ghost use Rattle.std.specs.Prelude.{◌≡◌, ◌<◌, ◌≤◌, ℕ, true, Some, None, [], length, map, slice_get, IfSome, IfNone};
+ghost use Rattle.std.specs.Prelude.{◌≡◌, ◌<◌, ◌≤◌, ℕ, true, Some, None, [], length, map, max, slice_get, IfSome, IfNone};
 ghost use Rattle.crossbeam_queue.specs.Fifo.{Held};
 ghost use Rattle.crossbeam_queue.specs.Passes.{view, IsPassOf, ruled_capacity};
 ghost use Rattle.sb_pool.specs.Rule.{Drawn, IsMoment};
@@ -8,7 +8,9 @@ ghost use Rattle.sb_pool.specs.Pools.{seen, IsSeatOf, AreNumbered};
 
 use crate::pool::Pool;
 use crate::protocol::{Draws, Founds, Numbered, OnceEach, PoolView, Returns, Seats};
+use crate::rooms::Rooms;
 use crossbeam_queue::{Pass, RuledArrayQueue};
+use std::alloc::Global;
 use std::sync::Wait;
 
 /// The queue of a pool.
@@ -18,6 +20,8 @@ pub(crate) type Queue<W> = RuledArrayQueue<W, PoolView<<W as Numbered>::Home>, O
 #[derive(Drop)]
 pub struct PoolSeat<W: Numbered> {
     pub(crate) pass: Pass<W, PoolView<W::Home>>,
+    // Where the works are put in order at the end: with the seat that keeps count. Another has none.
+    pub(crate) rooms: Rooms<W>,
 }
 
 impl<W: Numbered> PoolSeat<W> {
@@ -30,6 +34,7 @@ impl<W: Numbered> PoolSeat<W> {
         requires room { length (view self.old.pass).homes < ruled_capacity queue.now }
         ensures own { IsPassOf queue.now self.new.pass }
         ensures view { view self.new.pass ≡ with_home (view self.old.pass) (W.home work) }
+        ensures rooms { self.new.rooms ≡ self.old.rooms }
     {
         let pushed = queue.push_as::<Founds<W>, R>(rt, &mut self.pass, work);
         let Ok(()) = pushed else { unreachable!() };
@@ -43,6 +48,7 @@ impl<W: Numbered> PoolSeat<W> {
         requires room { length works.items ≤ ruled_capacity queue.now }
         ensures own { IsPassOf queue.now self.new.pass }
         ensures view { view self.new.pass ≡ fresh_view 0 (map W.home works.items) (Some 1) }
+        ensures rooms { self.new.rooms ≡ self.old.rooms }
     {
         for work in works {
             self.found(rt, queue, work);
@@ -50,16 +56,18 @@ impl<W: Numbered> PoolSeat<W> {
     }
 
     // Makes another seat of the one that keeps count.
-    pub(crate) fn another(&mut self, queue: &Queue<W>) -> PoolSeat<W>
+    pub(crate) fn another(&mut self, alloc: Global, queue: &Queue<W>) -> PoolSeat<W>
         requires own { IsPassOf queue.now self.old.pass }
         requires live { (view self.old.pass).live ≡ true }
         requires count { (c : ℕ) × ((view self.old.pass).count ≡ Some c) }
         ensures own { IsPassOf queue.now self.new.pass × IsPassOf queue.now result.pass }
         ensures old { view self.new.pass ≡ counted (view self.old.pass) }
         ensures new { view result.pass ≡ newcomer (view self.old.pass) }
+        ensures rooms { (self.new.rooms ≡ self.old.rooms) × (result.rooms ≡ []) }
     {
         PoolSeat {
             pass: queue.another::<Seats>(&mut self.pass),
+            rooms: Rooms::none(alloc),
         }
     }
 
@@ -70,6 +78,7 @@ impl<W: Numbered> PoolSeat<W> {
         ensures own { IsPassOf queue.now self.new.pass }
         ensures drawn { IfSome result (λ work. Drawn W.number W.home (view self.old.pass) work (view self.new.pass)) }
         ensures none { IfNone result ((view self.new.pass ≡ view self.old.pass) × Held 0 (IsMoment W.number W.home (view self.old.pass))) }
+        ensures rooms { self.new.rooms ≡ self.old.rooms }
     {
         queue.pop_as::<Draws<W>, R>(rt, &mut self.pass)
     }
@@ -124,7 +133,18 @@ impl<W: Numbered> PoolSeat<W> {
         ensures own { IsSeatOf pool.now self.new }
         ensures taken { seen self.new ≡ with_taken (seen self.old) (seen other) }
     {
-        let PoolSeat { pass } = other;
+        let PoolSeat { pass, rooms } = other;
         pool.queue.absorb::<Seats>(&mut self.pass, pass);
+        self.keep_rooms(rooms);
+    }
+
+    // The larger rooms.
+    fn keep_rooms(&mut self, rooms: Rooms<W>)
+        ensures pass { self.new.pass ≡ self.old.pass }
+        ensures rooms { length self.new.rooms ≡ max (length self.old.rooms) (length rooms) }
+    {
+        if rooms.len() > self.rooms.len() {
+            self.rooms = rooms;
+        }
     }
 }

@@ -5,26 +5,35 @@ use Rattle.std.specs.Prelude.{nat_le, slice_set, MatchBool}
 use Rattle.std.specs.Option.{option_to_list}
 use native.Mathlib.Decide.{ℕ_discrete}
 use Rattle.sb_actor.specs.Fitting.{Suits}
-use Rattle.sb_actor.specs.Moves.{no_call}
+use Rattle.sb_actor.specs.Following.{act_word}
+use Rattle.sb_actor.specs.Moves.{met, no_call, noted, shows_of}
 use Rattle.sb_actor.specs.Places.{begun, block_of, clean_channels, first_stage, is_call, is_finished, is_in_call, mark_at, statement_at, statements_of}
+use Rattle.sb_actor.specs.Ranges.{IsSoundThreadStage}
 use Rattle.sb_actor.specs.Results.{HadGrows, SuitsAt}
 use Rattle.sb_actor.specs.ThreadStages.{Over, ThreadAt}
 use Rattle.sb_actor.specs.ThreadTable.{thread_after, thread_plan}
-use Rattle.sb_actor.specs.Ties.{HoldsThread, thread_place_of}
+use Rattle.sb_actor.specs.Ties.{HoldsThread, thread_deed, thread_place_of}
 use Rattle.sb_actor.specs.UnderWay.{BeginsUnderWay, IsStageOf, IsUnderWay, IsWholeAt}
+use Rattle.sb_actor.specs.declared.views.Notes.{Notes}
+use Rattle.sb_actor.specs.declared.views.StrayView.{StrayView}
+use Rattle.sb_actor.specs.declared.views.ThreadView.{ThreadView}
+use Rattle.atomic_table.specs.Seated.{TableId}
 use Rattle.sb_core.specs.Views.{OwnCall, as_own, own_calls, own_from, own_of}
 use Rattle.sb_section.specs.Seats.{IsOf, SectionValue, StraySeatValue, ThreadSeatValue}
-use Rattle.sb_section.specs.Steps.{StraySteps, ThreadSteps, seen_of}
+use Rattle.sb_section.specs.Steps.{StraySteps, ThreadSteps, deed_or, seen_of, stray_deed_at}
 use Rattle.sb_statements.specs.Soundness.{SoundTargets, is_sound}
 use Rattle.sb_statements.specs.declared.results.StmtResult.{StmtResult}
 use Rattle.sb_statements.specs.declared.scripts.Script.{Script}
 use Rattle.sb_statements.specs.declared.statements.Statement.{Statement}
 use Rattle.sb_statements.specs.declared.statements.Statement.TheVariants as statement
-use Rattle.sb_run.specs.ThreadActors.{AllSuit, AreSections, AreStrays, IsSeatAt, IsThreadActor, ThreadActorAt}
+use Rattle.sb_core.specs.Noting.{HandNotes, OwnNotes, shown_values, stage_shows, stage_stores}
+use Rattle.sb_run.specs.Noting.{AllHandNotes}
+use Rattle.sb_run.specs.ThreadActors.{AllSuit, AreSameStrays, AreSections, AreStrays, IsSameThread, IsSeatAt, IsThreadActor, ThreadActorAt, stray_name}
 use Rattle.sb_run.specs.ThreadSteps.{StepsByHand, StepsInCall, StepsOnSeats, own_ended}
 use Rattle.sb_run.proofs.Bounds.{few_statements}
 use Rattle.sb_run.proofs.Leading.{Follows, follows}
 use Rattle.sb_run.proofs.Named.{there, within}
+use Rattle.sb_run.proofs.Noted.{Grows, HandStep, call_noted, call_stage, first_stores, hand_at, hand_grows, hand_own, hand_stage, none_at, none_by_call, notes_show, own_grows, pairs_of}
 
 append_assoc : {X : Type 0} (xs ys zs : List X) → (xs ++ ys) ++ zs ≡ xs ++ (ys ++ zs)
 append_assoc [] ys zs = refl
@@ -148,11 +157,103 @@ suits_there script x n (Some r) under unfinished e h =
     let suits : Suits (clean_channels script x.target) (mark_at x.thread x.place) one.0 r = subst (λ c. Suits c (mark_at x.thread x.place) one.0 r) under.clean (h one.0 one.1) in
     subst (λ i. SuitsThere script x.target x.thread i r) (sym e) (one.0, one.1, suits)
 
+-- the notes of all seats after a step
+module _ (script : Script) (x : ThreadAt) (seat : ThreadSeatValue) (strays : List StraySeatValue) (seat' : ThreadSeatValue) (strays' : List StraySeatValue) (y : ThreadAt)
+    (ended : Option StmtResult) (results : List StmtResult) (under : IsUnderWay script x) (sound : IsSoundThreadStage (length x.clean) x.patience x.block x.stage)
+    (counted : length results ≡ x.place) where
+  abbrev present : Option Statement
+  present = statement_at script x.target x.thread x.place
+
+  abbrev Made : Bool → Type 0
+  Made b = MatchBool b (StepsInCall script seat strays x seat' strays' y ended) (StepsByHand script strays x strays' y ended × (seat' ≡ seat))
+
+  own_noted : (b : Bool) → is_call present ≡ b → Made b → (old : Notes) → OwnNotes script x.target x.thread results x.block x.stage old seat.view.notes
+      → OwnNotes script x.target x.thread (results ++ option_to_list ended) y.block y.stage old seat'.view.notes
+  own_noted true e h old was =
+      let step = h.0 in
+      let n = seat'.view.found in
+      let w = act_word (thread_plan script x) in
+      let d = deed_or (thread_deed x.block x.stage) in
+      let stores = noted d (met d n) w in
+      let shows = pairs_of (shows_of d (met d n) w n (length seat.view.notes.stores)) in
+      let grows = call_noted script x x.stage (call_stage present x.stage e under.stage) sound n (length seat.view.notes.stores) in
+      own_grows script x.target x.thread results x.place x.block x.stage old seat.view.notes seat'.view.notes stores shows counted under.block was
+      (ap (λ (v : ThreadView). v.notes.stores) step.view) (ap (λ (v : ThreadView). shown_values v.notes) step.view ∙ notes_show seat.view.notes w d (met d n) n) ended y
+      (subst (λ (z : ThreadAt). Grows x.block (stage_stores x.block x.stage ++ stores) (stage_shows x.stage ++ shows) ended z) (sym step.actor)
+      (subst (λ z. Grows x.block (stage_stores x.block x.stage ++ stores) (stage_shows x.stage ++ shows) z (thread_after script x (seen_of (thread_plan script x) n)).thread) (sym step.result) grows))
+  own_noted false e h old was =
+      let step = h.0.step in
+      let n = h.0.after.view.found in
+      own_grows script x.target x.thread results x.place x.block x.stage old seat.view.notes seat'.view.notes [] [] counted under.block was
+      (ap (λ (z : ThreadSeatValue). z.view.notes.stores) h.1 ∙ sym (append-nil seat.view.notes.stores))
+      (ap (λ (z : ThreadSeatValue). shown_values z.view.notes) h.1 ∙ sym (append-nil (shown_values seat.view.notes))) ended y
+      (subst (λ (z : ThreadAt). Grows x.block (stage_stores x.block x.stage ++ []) (stage_shows x.stage ++ []) ended z) (sym step.actor)
+      (subst (λ z. Grows x.block (stage_stores x.block x.stage ++ []) (stage_shows x.stage ++ []) z (thread_after script x (seen_of (thread_plan script x) n)).thread) (sym step.result)
+      (hand_own script x x.stage refl (hand_stage present x.stage e under.stage) n)))
+
+  -- of a stray seat that made no step
+  still_noted : (u : ℕ) (s r : StraySeatValue) → HandNotes script x.target x.thread u results s.view.notes r.view.notes → HandStep u present [] [] ended
+      → HandNotes script x.target x.thread u (results ++ option_to_list ended) s.view.notes r.view.notes
+  still_noted u s r was h =
+      hand_grows script x.target x.thread u results x.place s.view.notes r.view.notes r.view.notes [] [] counted was (sym (append-nil r.view.notes.stores)) (sym (append-nil (shown_values r.view.notes))) ended h
+
+  -- and of the one that did
+  moved_noted : (h : StepsByHand script strays x strays' y ended) → is_call present ≡ false → (u : ℕ) → u ≡ h.target → (s r : StraySeatValue) → r ≡ h.after
+      → HandNotes script x.target x.thread u results s.view.notes h.before.view.notes → HandNotes script x.target x.thread u (results ++ option_to_list ended) s.view.notes r.view.notes
+  moved_noted h e u same s r is was =
+      let step = h.step in
+      let n = h.after.view.found in
+      let w = act_word (thread_plan script x) in
+      let d = stray_deed_at script x in
+      let count = length h.before.view.notes.stores in
+      let stores = noted d (met d n) w in
+      let shows = pairs_of (shows_of d (met d n) w n count) in
+      let made = hand_at script x x.stage (hand_stage present x.stage e under.stage) u (h.its_target ∙ ap Some (sym same)) n count in
+      hand_grows script x.target x.thread u results x.place s.view.notes h.before.view.notes r.view.notes stores shows counted was
+      (ap (λ (z : StraySeatValue). z.view.notes.stores) is ∙ ap (λ (v : StrayView). v.notes.stores) step.view)
+      (ap (λ (z : StraySeatValue). shown_values z.view.notes) is ∙ ap (λ (v : StrayView). shown_values v.notes) step.view ∙ notes_show h.before.view.notes w d (met d n) n) ended
+      (subst (λ z. HandStep u present stores shows z) (sym step.result) made)
+
+  strays_noted : (b : Bool) → is_call present ≡ b → Made b → (old : List StraySeatValue) → AllHandNotes script x.target x.thread results old strays
+      → AllHandNotes script x.target x.thread (results ++ option_to_list ended) old strays'
+  strays_noted true e h old was u s r f g = still_noted u s r (was u s r f (ap (λ z. slice_get z u) (sym h.1) ∙ g)) (none_by_call u present e ended)
+  strays_noted false e h old was u s r f g = by_place (ℕ_discrete u h.0.target)
+    where
+      set : slice_get (slice_set strays h.0.target h.0.after) u ≡ Some r
+      set = ap (λ z. slice_get z u) (sym h.0.others) ∙ g
+
+      by_place : Dec (u ≡ h.0.target) → HandNotes script x.target x.thread u (results ++ option_to_list ended) s.view.notes r.view.notes
+      by_place (yes same) =
+          let is : r ≡ h.0.after = set_same strays h.0.target h.0.after r (subst (λ z. slice_get (slice_set strays h.0.target h.0.after) z ≡ Some r) same set) in
+          moved_noted h.0 e u same s r is (was u s h.0.before f (ap (slice_get strays) same ∙ h.0.there))
+      by_place (no other) =
+          still_noted u s r (was u s r f (sym (set_other strays h.0.target u h.0.after other) ∙ set))
+          (none_at script x x.stage (hand_stage present x.stage e under.stage) u h.0.target other h.0.its_target ended)
+
+  -- the seats are still the same ones
+  seat_same : (b : Bool) → Made b → (old : ThreadSeatValue) → IsSameThread old seat → IsSameThread old seat'
+  seat_same true h old was = record { table = h.0.table ∙ was.table; number = ap (λ (v : ThreadView). v.number) h.0.view ∙ was.number }
+  seat_same false h old was = subst (IsSameThread old) (sym h.1) was
+
+  strays_same : (b : Bool) → Made b → (old : List StraySeatValue) → AreSameStrays old strays → AreSameStrays old strays'
+  strays_same true h old was = ap (λ z. map stray_name z) h.1 ∙ was
+  strays_same false h old was =
+      ap (λ z. map stray_name z) h.0.others ∙ names_set strays h.0.target h.0.before h.0.after h.0.there (pair_of h.0.step.table (ap (λ (v : StrayView). v.number) h.0.step.view)) ∙ was
+    where
+      pair_of : {a b : TableId} {m n : ℕ} → a ≡ b → m ≡ n → ◌≡◌ {A = TableId × ℕ} (a, m) (b, n)
+      pair_of e f k = (e k, f k)
+
+      names_set : (xs : List StraySeatValue) (i : ℕ) (old new : StraySeatValue) → slice_get xs i ≡ Some old → stray_name new ≡ stray_name old → map stray_name (slice_set xs i new) ≡ map stray_name xs
+      names_set [] i old new e f = refl
+      names_set (z ∷ zs) zero old new e f = let same : z ≡ old = cc in ap (λ n. n ∷ map stray_name zs) (f ∙ ap stray_name (sym same))
+      names_set (z ∷ zs) (suc i) old new e f = ap (λ l. stray_name z ∷ l) (names_set zs i old new e f)
+
 -- Of an actor that was not finished, the actor after its step
 module _ (x : ThreadActorAt) (kept : IsThreadActor x) (seat' : ThreadSeatValue) (strays' : List StraySeatValue) (y : ThreadAt) (ended : Option StmtResult)
     (unfinished : is_finished x.script x.thread ≡ false) (step : StepsOnSeats x.script x.seat x.strays x.thread seat' strays' y ended)
     (under : IsUnderWay x.script y) (holds : HoldsThread seat'.view y) (suits : IfSome ended (λ r. SuitsAt x.script x.thread r))
-    (had : map as_own seat'.view.had ≡ map as_own x.seat.view.had ++ own_ended x.thread.clean x.thread.block ended) where
+    (had : map as_own seat'.view.had ≡ map as_own x.seat.view.had ++ own_ended x.thread.clean x.thread.block ended)
+    (sound : IsSoundThreadStage (length x.thread.clean) x.thread.patience x.thread.block x.thread.stage) where
   abbrev t : ℕ
   t = x.thread.target
 
@@ -186,7 +287,16 @@ module _ (x : ThreadActorAt) (kept : IsThreadActor x) (seat' : ThreadSeatValue) 
   suit_after : AllSuit x.script t k after
   suit_after = suit_more x.script t k x.results ended kept.suit (suits_there x.script x.thread (length x.results) ended kept.under_way unfinished kept.counted suits)
 
-  pub keeps : IsThreadActor (record { script = x.script; sections = x.sections; thread = y; seat = seat'; strays = strays'; results = after })
+  notes_after : OwnNotes x.script t k after y.block y.stage x.first.view.notes seat'.view.notes
+  notes_after = own_noted x.script x.thread x.seat x.strays seat' strays' y ended x.results kept.under_way sound kept.counted (is_in_call x.script x.thread) refl step x.first.view.notes kept.notes
+
+  stray_notes_after : AllHandNotes x.script t k after x.first_strays strays'
+  stray_notes_after = strays_noted x.script x.thread x.seat x.strays seat' strays' y ended x.results kept.under_way sound kept.counted (is_in_call x.script x.thread) refl step x.first_strays kept.stray_notes
+
+  pub stays_thread : (y.target ≡ x.thread.target) × (y.thread ≡ x.thread.thread)
+  stays_thread = (f.its_target, f.its_number)
+
+  pub keeps : IsThreadActor (record { script = x.script; sections = x.sections; thread = y; seat = seat'; strays = strays'; results = after; first = x.first; first_strays = x.first_strays })
   keeps = record {
     sound = kept.sound;
     sections = kept.sections;
@@ -199,6 +309,10 @@ module _ (x : ThreadActorAt) (kept : IsThreadActor x) (seat' : ThreadSeatValue) 
     within = subst (λ z. y.place ≤ length (statements_of x.script z y.thread)) (sym f.its_target) (subst (λ z. y.place ≤ length (statements_of x.script t z)) (sym f.its_number) within_after);
     suit = subst (λ z. AllSuit x.script z y.thread after) (sym f.its_target) (subst (λ z. AllSuit x.script t z after) (sym f.its_number) suit_after);
     had = subst (λ z. map as_own seat'.view.had ≡ own_calls x.script z y.thread after) (sym f.its_target) (subst (λ z. map as_own seat'.view.had ≡ own_calls x.script t z after) (sym f.its_number) own_after);
+    same = seat_same x.script x.thread x.seat x.strays seat' strays' y ended x.results kept.under_way sound kept.counted (is_in_call x.script x.thread) step x.first kept.same;
+    same_strays = strays_same x.script x.thread x.seat x.strays seat' strays' y ended x.results kept.under_way sound kept.counted (is_in_call x.script x.thread) step x.first_strays kept.same_strays;
+    notes = subst (λ z. OwnNotes x.script z y.thread after y.block y.stage x.first.view.notes seat'.view.notes) (sym f.its_target) (subst (λ z. OwnNotes x.script t z after y.block y.stage x.first.view.notes seat'.view.notes) (sym f.its_number) notes_after);
+    stray_notes = subst (λ z. AllHandNotes x.script z y.thread after x.first_strays strays') (sym f.its_target) (subst (λ z. AllHandNotes x.script t z after x.first_strays strays') (sym f.its_number) stray_notes_after);
   }
 
 -- before its first step a thread is outside a call
@@ -211,8 +325,8 @@ first_place block (Some (statement.Wait t word value most)) = refl
 first_place block None = refl
 
 -- and behind its last
-pub last_place : (script : Script) (x : ThreadAt) → IsUnderWay script x → is_finished script x ≡ true → thread_place_of x.block x.stage ≡ no_call
-last_place script x under finished = subst (λ s. thread_place_of x.block s ≡ no_call) (sym over) refl
+pub last_stage : (script : Script) (x : ThreadAt) → IsUnderWay script x → is_finished script x ≡ true → x.stage ≡ Over
+last_stage script x under finished = over
   where
     none_there : (statements : List Statement) (i : ℕ) → length statements ≤ i → slice_get statements i ≡ None
     none_there [] i l = refl
@@ -225,13 +339,24 @@ last_place script x under finished = subst (λ s. thread_place_of x.block s ≡ 
     over : x.stage ≡ Over
     over = subst (λ o. IsStageOf o x.stage) (none_there (statements_of script x.target x.thread) x.place high) under.stage
 
+pub last_place : (script : Script) (x : ThreadAt) → IsUnderWay script x → is_finished script x ≡ true → thread_place_of x.block x.stage ≡ no_call
+last_place script x under finished = subst (λ s. thread_place_of x.block s ≡ no_call) (sym (last_stage script x under finished)) refl
+
+-- its notes then are those of its results alone
+pub last_notes : (x : ThreadActorAt) → IsThreadActor x → is_finished x.script x.thread ≡ true
+    → OwnNotes x.script x.thread.target x.thread.thread x.results [] Over x.first.view.notes x.seat.view.notes
+last_notes x kept finished =
+    let e = last_stage x.script x.thread kept.under_way finished in
+    let was = subst (λ s. OwnNotes x.script x.thread.target x.thread.thread x.results x.thread.block s x.first.view.notes x.seat.view.notes) e kept.notes in
+    record { shows = was.shows; all_stores = was.all_stores; all_shows = was.all_shows; each = was.each }
+
 -- The actor before its first step
 module _ (script : Script) (sections : List SectionValue) (x : ThreadAt) (seat : ThreadSeatValue) (strays : List StraySeatValue) (results : List StmtResult)
     (sound : is_sound script ≡ true) (are : AreSections script sections) (here : x.target < length sections) (first : x ≡ begun script x.target x.thread)
     (its : IsSeatAt sections x.target seat) (number : seat.view.number ≡ x.thread) (outside : seat.view.place ≡ no_call) (none : seat.view.had ≡ [])
     (stray : AreStrays sections strays) (empty : results ≡ []) (begins : BeginsUnderWay) where
   pub begins_kept : (t k : ℕ) → t ≡ x.target → k ≡ x.thread → IsWholeAt script t k 0
-      → IsThreadActor (record { script = script; sections = sections; thread = x; seat = seat; strays = strays; results = results })
+      → IsThreadActor (record { script = script; sections = sections; thread = x; seat = seat; strays = strays; results = results; first = seat; first_strays = strays })
   begins_kept t k e f whole =
       let at : IsWholeAt script x.target x.thread 0 = subst (λ z. IsWholeAt script x.target z 0) f (subst (λ z. IsWholeAt script z k 0) e whole) in
       let under : IsUnderWay script x = subst (IsUnderWay script) (sym first) (begins script x.target x.thread at) in
@@ -255,8 +380,28 @@ module _ (script : Script) (sections : List SectionValue) (x : ThreadAt) (seat :
         within = subst (λ n. n ≤ length (statements_of script x.target x.thread)) (sym start) (low (length (statements_of script x.target x.thread)));
         suit = subst (AllSuit script x.target x.thread) (sym empty) (λ i r h. absurd (cc));
         had = ap (λ z. map as_own z) none ∙ ap (own_calls script x.target x.thread) (sym empty);
+        same = record { table = refl; number = refl };
+        same_strays = refl;
+        notes = subst (λ (z : List StmtResult). OwnNotes script x.target x.thread z x.block x.stage seat.view.notes seat.view.notes) (sym empty) (none_yet (stores_at x first).0 (stores_at x first).1);
+        stray_notes = subst (λ (z : List StmtResult). AllHandNotes script x.target x.thread z strays strays) (sym empty) (λ u s r e f. none_there u s r (cc));
       }
     where
+      stores_at : (z : ThreadAt) → z ≡ begun script x.target x.thread → (stage_stores z.block z.stage ≡ []) × (stage_shows z.stage ≡ [])
+      stores_at z e = subst (λ (z : ThreadAt). (stage_stores z.block z.stage ≡ []) × (stage_shows z.stage ≡ [])) (sym e) (first_stores (begun script x.target x.thread).block (statement_at script x.target x.thread 0))
+
+      none_yet : stage_stores x.block x.stage ≡ [] → stage_shows x.stage ≡ [] → OwnNotes script x.target x.thread [] x.block x.stage seat.view.notes seat.view.notes
+      none_yet e f = record {
+        shows = [];
+        all_stores = sym (append-nil seat.view.notes.stores) ∙ ap (λ z. seat.view.notes.stores ++ z) (sym e);
+        all_shows = sym (append-nil (shown_values seat.view.notes)) ∙ ap (λ z. shown_values seat.view.notes ++ z) (sym f);
+        each = refl;
+      }
+
+      none_there : (u : ℕ) (s r : StraySeatValue) → s ≡ r → HandNotes script x.target x.thread u [] s.view.notes r.view.notes
+      none_there u s r e =
+          subst (λ (z : StraySeatValue). HandNotes script x.target x.thread u [] s.view.notes z.view.notes) e
+          (record { all_stores = sym (append-nil s.view.notes.stores); all_shows = sym (append-nil (shown_values s.view.notes)) })
+
       low : (n : ℕ) → 0 ≤ n
       low n = omega arith
 

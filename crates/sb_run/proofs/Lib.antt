@@ -1,5 +1,11 @@
+pub mod Ending
+pub mod Gathered
+pub mod Joined
 pub mod Bounds
 pub mod Leading
 pub mod Named
+pub mod Noted
+pub mod Pooled
 pub mod Keeping
+pub mod Tied
 pub mod Working

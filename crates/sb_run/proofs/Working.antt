@@ -25,13 +25,13 @@ use Rattle.sb_section.specs.Steps.{IsOnWord, WorkerSteps, acknowledged_at, seen_
 use Rattle.sb_turn.specs.Plays.{GetsBook}
 use Rattle.sb_turn.specs.Rule.{HasBook}
 use Rattle.sb_turn.specs.Turns.{SeatValue}
-use Rattle.sb_turn.specs.Views.{given, looked, marked, taken}
+use Rattle.sb_turn.specs.Views.{given, looked, marked, stopping, taken}
 use Rattle.sb_turn.specs.declared.views.BookView.{BookView}
 use Rattle.sb_turn.specs.declared.views.Hold.{Hold}
 use Rattle.sb_turn.specs.declared.views.Hold.TheVariants.{Without, Taken, Marked}
 use Rattle.sb_call.specs.declared.replies.Reply.{Reply as ReplyOf}
 use Rattle.sb_run.specs.WorkerActors.{AreSeatsOf, AreServed, HasDecided, HoldsBook, HoldsTurn, IsStopped, IsWorkerActor, IsWorking, WorkerActorAt, decision_on}
-use Rattle.sb_run.specs.WorkerSteps.{Marks}
+use Rattle.sb_run.specs.WorkerSteps.{FindsNoMemory, FindsTurnHeld, Marks, TakesTurn, Tries, laid_back}
 
 -- what the stage of a worker without the turn has
 abbrev IsFree : Hold → BookView → Option History → Option Decision → Type 0
@@ -347,6 +347,59 @@ tried_keeps x kept plan decision decided book' table o gets some none n e =
     by_option x kept copy at decision is book' table None gets some none = wait_keeps x kept copy at decision is book' table book'.view.found none
     by_option x kept copy at decision is book' table (Some b) gets some none = take_keeps x kept copy at decision is book' table b gets some
 
+-- the try, as one step of the actor
+pub tried_steps : (x : WorkerActorAt) (decision : Option Decision) → decision ≡ decision_on x.policies x.worker.target (taken_in x.worker.stage) → (book' : SeatValue) (o : Option History)
+    → IfSome o (λ b. book'.view ≡ taken x.book.view b.entries) → IfNone o (book'.view.found ≢ 0) → IfNone o (book'.view ≡ looked x.book.view 0 book'.view.found)
+    → (n : WorkerAt) → n ≡ worker_after x.worker (seen.Turn (is_some o))
+    → Tries x (record { section = x.section; turn = x.turn; policies = x.policies; worker = n; seat = x.seat; book = book'; held = o; decision = decision; failed = x.failed })
+tried_steps x decision decided book' None some held none n e = inr (record { found = held; decided = decided; held = refl; book = none; worker = e })
+tried_steps x decision decided book' (Some b) some held none n e =
+    inl (record { history = b; found = ap (λ (v : BookView). v.found) some; decided = decided; held = refl; book = some; worker = e })
+
+-- an actor that found no memory, where its seat had the turn or had it not
+pub finds_none : (x y : WorkerActorAt) → y.failed ≡ true → y.seat ≡ x.seat → y.worker ≡ x.worker → y.held ≡ None → (hold : Hold) → x.book.view.hold ≡ hold
+    → y.book.view ≡ stopping (laid_back hold x.book.view) → FindsNoMemory x y
+finds_none x y failed seat worker held Without e f = record {
+  failed = failed;
+  seat = seat;
+  worker = worker;
+  held = held;
+  book = f ∙ ap (λ h. stopping (laid_back h x.book.view)) (sym e);
+  stops = ap (λ (v : BookView). v.stops) f;
+  seen = ap (λ (v : BookView). v.seen) f;
+  own = ap (λ (v : BookView). v.own) f;
+}
+finds_none x y failed seat worker held Taken e f = record {
+  failed = failed;
+  seat = seat;
+  worker = worker;
+  held = held;
+  book = f ∙ ap (λ h. stopping (laid_back h x.book.view)) (sym e);
+  stops = ap (λ (v : BookView). v.stops) f;
+  seen = ap (λ (v : BookView). v.seen) f;
+  own = ap (λ (v : BookView). v.own) f;
+}
+finds_none x y failed seat worker held Marked e f = record {
+  failed = failed;
+  seat = seat;
+  worker = worker;
+  held = held;
+  book = f ∙ ap (λ h. stopping (laid_back h x.book.view)) (sym e);
+  stops = ap (λ (v : BookView). v.stops) f;
+  seen = ap (λ (v : BookView). v.seen) f;
+  own = ap (λ (v : BookView). v.own) f;
+}
+
+-- at Mark the seat has the turn
+pub taken_at_mark : (x : WorkerActorAt) → IsWorking x → worker_plan x.worker ≡ act.Mark → x.book.view.hold ≡ Taken
+taken_at_mark x kept plan = subst (λ s. HoldsTurn s x.book.view.hold) (at_mark x.worker x.worker.stage plan).1 kept.hold
+
+-- before a try it has not the turn
+pub without_at_take : (x : WorkerActorAt) → IsWorking x → worker_plan x.worker ≡ act.Take → (x.book.view.hold ≡ Without) × (x.held ≡ None)
+without_at_take x kept plan =
+    let at = at_take x.worker x.worker.stage plan in
+    (subst (λ s. HoldsTurn s x.book.view.hold) at.1 kept.hold, subst (λ s. HoldsBook s x.book.view x.held) at.1 kept.has)
+
 -- an actor that has always found memory
 pub at_work : (x : WorkerActorAt) → x.failed ≡ false → IsWorkerActor x → IsWorking x
 at_work x e h = subst (λ b. MatchBool b (IsStopped x) (IsWorking x)) e h
@@ -423,11 +476,14 @@ module _ (x : WorkerActorAt) (kept : IsWorking x) (plan : worker_plan x.worker �
         (subst (λ h. IsWorking (record { section = x.section; turn = x.turn; policies = x.policies; worker = worker_after (staged x (Mark copy)) (seen.Answered its_entry.reply); seat = x.seat; book = book'; held = Some h; decision = None; failed = x.failed })) (sym is_answered)
         (mark_keeps x kept copy is_mark book has book' book'.view.found table view')))
 
-    pub answer_marks : (y : WorkerActorAt) → y.book ≡ book' → y.worker ≡ n → Marks x y
-    answer_marks y e f = record {
+    pub answer_marks : (y : WorkerActorAt) → y.book ≡ book' → y.worker ≡ n → x.held ≡ Some book → y.held ≡ Some new → Marks x y
+    answer_marks y e f held held' = record {
       copy = copy;
-      space = book.space;
+      history = book;
       its_copy = ap taken_in is_mark;
+      held = held;
+      decided = subst (λ s. HasDecided x.policies x.worker.target s x.decision) is_mark kept.decided;
+      answers = held' ∙ ap Some is_answered;
       book = ap (λ (b : SeatValue). b.view) e ∙ view ∙ ap (λ es. marked x.book.view es book'.view.found) new_entries ∙ ap (λ (b : SeatValue). marked x.book.view (x.book.view.seen ++ its_entry ∷ []) b.view.found) (sym e);
       worker = f ∙ next_is ∙ ap (λ z. worker_after x.worker (seen.Answered z)) (is_replied r reply);
     }

@@ -1,4 +1,12 @@
+pub mod Closings
+pub mod Fields
+pub mod Hands
+pub mod Noting
+pub mod Pooling
+pub mod Tasks
 pub mod ThreadActors
 pub mod ThreadSteps
+pub mod Turning
 pub mod WorkerActors
 pub mod WorkerSteps
+pub mod Works

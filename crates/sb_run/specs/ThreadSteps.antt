@@ -4,7 +4,7 @@ use Rattle.std.specs.Option.{option_to_list}
 use Rattle.sb_actor.specs.Places.{is_finished, is_in_call}
 use Rattle.sb_actor.specs.Results.{SuitsAt}
 use Rattle.sb_actor.specs.ThreadStages.{ThreadAt}
-use Rattle.sb_actor.specs.ThreadTable.{thread_after}
+use Rattle.sb_actor.specs.ThreadTable.{thread_plan}
 use Rattle.sb_actor.specs.Ties.{HoldsThread}
 use Rattle.sb_actor.specs.UnderWay.{IsUnderWay}
 use Rattle.sb_actor.specs.declared.acts.Act.{Act}
@@ -30,6 +30,7 @@ target_in act.Idle = None
 -- at a statement that names a word of a target it is one step of the stray seat in the section of that target, and of no other seat
 pub record StepsByHand (script : Script) (old : List StraySeatValue) (x : ThreadAt) (new : List StraySeatValue) (y : ThreadAt) (ended : Option StmtResult) : Type 0 where
   pub target : ℕ
+  pub its_target : target_in (thread_plan script x) ≡ Some target
   pub before : StraySeatValue
   pub after : StraySeatValue
   pub there : slice_get old target ≡ Some before
@@ -57,7 +58,18 @@ pub record StepsOnce (x y : ThreadActorAt) : Type 0 where
   pub results : y.results ≡ x.results ++ option_to_list ended
   pub script : y.script ≡ x.script
   pub sections : y.sections ≡ x.sections
+  pub first : y.first ≡ x.first
+  pub first_strays : y.first_strays ≡ x.first_strays
 
 -- a finished actor makes none
 abbrev pub Steps : ThreadActorAt → ThreadActorAt → Type 0
 Steps x y = MatchBool (is_finished x.script x.thread) (y ≡ x) (StepsOnce x y)
+
+-- what no step changes
+pub record IsSameThreadActor (x y : ThreadActorAt) : Type 0 where
+  pub script : y.script ≡ x.script
+  pub sections : y.sections ≡ x.sections
+  pub target : y.thread.target ≡ x.thread.target
+  pub thread : y.thread.thread ≡ x.thread.thread
+  pub first : y.first ≡ x.first
+  pub first_strays : y.first_strays ≡ x.first_strays

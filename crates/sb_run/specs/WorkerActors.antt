@@ -3,6 +3,8 @@ use Rattle.std.specs.Prelude.{◌≡◌, ◌<◌, ◌⊎◌, ℕ, Bool, true, fa
 use Rattle.sb_actor.specs.Ties.{HoldsWorker}
 use Rattle.sb_actor.specs.WorkerStages.{WorkerStage, Look, Count, End, Copy, Take, Mark, Give, Reply, Ack, WorkerAt}
 use Rattle.sb_actor.specs.WorkerTable.{is_looking, taken_in}
+use Rattle.sb_actor.specs.declared.acts.Act.{Act}
+use Rattle.sb_actor.specs.declared.acts.Act.TheVariants as act
 use Rattle.sb_block.specs.Copies.{Copied}
 use Rattle.sb_book.specs.Decisions.{decision_of}
 use Rattle.sb_book.specs.Histories.{History}
@@ -99,3 +101,13 @@ pub record CanServe (section : SectionValue) (turn : TurnValue) (policies : List
   pub seats : AreSeatsOf section turn policies w seat book
   pub without : book.view.hold ≡ Without
   pub served : AreServed w seat book
+
+-- a try to take the turn
+abbrev pub is_try : Act → Bool
+is_try act.Take = true
+is_try act.Mark = false
+is_try act.Give = false
+is_try act.Idle = false
+is_try (act.Load t word) = false
+is_try (act.Store t word value) = false
+is_try (act.Exchange t word from to) = false

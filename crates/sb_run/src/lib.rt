@@ -2,8 +2,16 @@
 // each other. What they did is told by the seats when all have come together again.
 #![tactic(auto)]
 
+mod closings;
+mod fields;
+mod homes;
+mod pooling;
+mod serving;
+mod tasks;
 mod threads;
+mod turning;
 mod workers;
+mod works;
 
 pub use threads::ThreadActor;
 pub use workers::WorkerActor;

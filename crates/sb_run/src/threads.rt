@@ -3,17 +3,22 @@ ghost use Rattle.std.specs.Prelude.{◌≡◌, ◌<◌, ◌≤◌, ◌++◌, tru
 ghost use Rattle.std.specs.Option.{option_to_list};
 ghost use mathlib.Core.Option as raw;
 ghost use Rattle.sb_actor.specs.Moves.{no_call};
+ghost use Rattle.sb_actor.specs.Ranges.{IsSoundThreadStage};
 ghost use Rattle.sb_actor.specs.Places.{begun, is_finished, is_in_call, statements_of};
 ghost use Rattle.sb_actor.specs.Results.{HadGrows, SuitsAt};
 ghost use Rattle.sb_actor.specs.Rule.{place};
+ghost use Rattle.sb_actor.specs.ThreadStages.{Over};
+ghost use Rattle.sb_actor.specs.ThreadTable.{thread_plan};
 ghost use Rattle.sb_actor.specs.Ties.{HoldsThread};
 ghost use Rattle.sb_actor.specs.UnderWay.{IsUnderWay};
 ghost use Rattle.sb_actor.specs.declared.views.ThreadView.{ThreadView};
 ghost use Rattle.sb_core.specs.Views.{as_own, own_calls};
 ghost use Rattle.sb_section.specs.Steps.{ThreadSteps};
 ghost use Rattle.sb_statements.specs.Soundness.{is_sound};
-ghost use Rattle.sb_run.specs.ThreadActors.{AllSuit, AreSections, AreStrays, IsSeatAt, IsThreadActor};
-ghost use Rattle.sb_run.specs.ThreadSteps.{Steps, StepsByHand, StepsOnSeats, own_ended, target_in};
+ghost use Rattle.sb_core.specs.Noting.{OwnNotes};
+ghost use Rattle.sb_run.specs.Noting.{AllHandNotes};
+ghost use Rattle.sb_run.specs.ThreadActors.{AllSuit, AreSameStrays, AreSections, AreStrays, IsSameThread, IsSeatAt, IsThreadActor};
+ghost use Rattle.sb_run.specs.ThreadSteps.{IsSameThreadActor, Steps, StepsByHand, StepsOnSeats, own_ended, target_in};
 
 use sb_actor::{Act, ThreadState, establish_block, threads_stay_under_way};
 use sb_items::NoMemory;
@@ -21,6 +26,7 @@ use sb_section::{Section, StraySeat, ThreadSeat};
 use sb_statements::{MOST_STATEMENTS, Script, StmtResult, sound_parts};
 use std::alloc::Global;
 use std::marker::Model;
+use std::snapshot::Snapshot;
 
 /// A thread that makes its steps on the sections of all targets, with a seat for its calls and a stray seat in each section. Contracts see
 /// where it stands, what its seats know, and its results so far.
@@ -32,6 +38,9 @@ pub struct ThreadActor<'a> {
     seat: ThreadSeat,
     strays: Vec<StraySeat>,
     results: Vec<StmtResult>,
+    // The seats as they were handed to the actor, for proofs.
+    first: Snapshot<ThreadSeat>,
+    first_strays: Snapshot<Vec<StraySeat>>,
 }
 
 impl<'a> Model for ThreadActor<'a> {
@@ -48,6 +57,8 @@ impl<'a> Model for ThreadActor<'a> {
       seat = x.seat;
       strays = x.strays.items;
       results = x.results.items;
+      first = x.first.value;
+      first_strays = x.first_strays.value.items;
     } };
 
     ghost invariant = { λ x. (most_statements ≤ vec_capacity x.results) × IsThreadActor (record {
@@ -57,6 +68,8 @@ impl<'a> Model for ThreadActor<'a> {
       seat = x.seat;
       strays = x.strays.items;
       results = x.results.items;
+      first = x.first.value;
+      first_strays = x.first_strays.value.items;
     }) };
 }
 
@@ -142,8 +155,10 @@ fn advance(
     ensures holds { HoldsThread seat.new.view state.new }
     ensures script { IsUnderWay script.now state.new }
     ensures suits { IfSome result (λ r. SuitsAt script.now state.old r) }
+    ensures sound { IsSoundThreadStage (length state.old.clean) state.old.patience state.old.block state.old.stage }
     ensures had { map as_own seat.new.view.had ≡ map as_own seat.old.view.had ++ own_ended state.old.clean state.old.block result }
 {
+    state.establish_sound();
     if state.in_call(script) {
         call_step(script, sections, seat, state)
     } else {
@@ -185,11 +200,13 @@ impl<'a> ThreadActor<'a> {
         requires outside { seat.view.place ≡ no_call }
         requires had { seat.view.had ≡ [] }
         requires strays { AreStrays sections.now strays.items }
-        ensures { IfOk result (λ actor. actor ≡ record { script = script.now; sections = sections.now; thread = state; seat = seat; strays = strays.items; results = [] }) }
+        ensures { IfOk result (λ actor. actor ≡ record { script = script.now; sections = sections.now; thread = state; seat = seat; strays = strays.items; results = []; first = seat; first_strays = strays.items }) }
     {
         threads_stay_under_way();
         establish_block(script, state.target(), state.thread(), 0);
         let results = Vec::with_capacity(alloc, MOST_STATEMENTS)?;
+        let first = Snapshot::of(&seat);
+        let first_strays = Snapshot::of(&strays);
         Ok(ThreadActor {
             script,
             sections,
@@ -197,13 +214,16 @@ impl<'a> ThreadActor<'a> {
             seat,
             strays,
             results,
+            first,
+            first_strays,
         })
     }
 
     /// Makes the thread's next step, as exactly one atomic step of one of its seats, and keeps the result where it ended a statement. A
     /// finished actor makes none. It takes no memory and waits for nobody.
     pub fn step(&mut self)
-        ensures { Steps self.old self.new }
+        ensures step { Steps self.old self.new }
+        ensures same { IsSameThreadActor self.old self.new }
     {
         sound_parts();
         if self.state.finished(self.script) {
@@ -217,6 +237,13 @@ impl<'a> ThreadActor<'a> {
             &mut self.state,
         );
         append(&mut self.results, ended);
+    }
+
+    /// The thread's next step.
+    pub(crate) fn act(&self) -> Act
+        ensures { result ≡ thread_plan self.now.script self.now.thread }
+    {
+        self.state.plan(self.script)
     }
 
     /// Whether each statement of the thread has ended.
@@ -233,7 +260,8 @@ impl<'a> ThreadActor<'a> {
         let _count = self.strays.len();
     }
 
-    /// The results of a finished actor, by place, its seat and its stray seats, in target order. It takes no memory.
+    /// The results of a finished actor, by place, its seat and its stray seats, in target order. These are the seats that were handed to it, and have
+    /// since noted what the thread's statements, with these results, stored and showed, and nothing else. It takes no memory.
     pub fn into_parts(self) -> (Vec<StmtResult>, ThreadSeat, Vec<StraySeat>)
         requires { is_finished self.script self.thread ≡ true }
         ensures results { result.0.items ≡ self.entry.results }
@@ -243,6 +271,9 @@ impl<'a> ThreadActor<'a> {
         ensures suit { AllSuit self.entry.script self.entry.thread.target self.entry.thread.thread result.0.items }
         ensures had { map as_own result.1.view.had ≡ own_calls self.entry.script self.entry.thread.target self.entry.thread.thread result.0.items }
         ensures outside { place result.1.view.place ≡ raw.none }
+        ensures same { IsSameThread self.entry.first result.1 × AreSameStrays self.entry.first_strays result.2.items }
+        ensures notes { OwnNotes self.entry.script self.entry.thread.target self.entry.thread.thread result.0.items [] Over self.entry.first.view.notes result.1.view.notes }
+        ensures stray_notes { AllHandNotes self.entry.script self.entry.thread.target self.entry.thread.thread result.0.items self.entry.first_strays result.2.items }
     {
         (self.results, self.seat, self.strays)
     }

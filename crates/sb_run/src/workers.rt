@@ -9,7 +9,7 @@ ghost use Rattle.sb_book.specs.Histories.{answered, reply_of};
 ghost use Rattle.sb_rule.specs.Verdicts.{policy_at};
 ghost use Rattle.sb_section.specs.Steps.{IsOnWord};
 ghost use Rattle.sb_turn.specs.declared.views.Hold.TheVariants.{Without};
-ghost use Rattle.sb_run.specs.WorkerActors.{CanServe, decision_on};
+ghost use Rattle.sb_run.specs.WorkerActors.{CanServe, decision_on, is_try};
 ghost use Rattle.sb_run.specs.WorkerSteps.{FindsNoMemory, IsSameActor, Steps};
 
 use sb_actor::{Act, Seen, WorkerState};
@@ -155,6 +155,7 @@ impl<'a, J: Judge, G: Gate> WorkerActor<'a, J, G> {
     fn stop(&mut self)
         requires working { self.old.failed ≡ false }
         requires without { self.old.book.view.hold ≡ Without }
+        requires none { self.old.held ≡ None }
         ensures stopped { FindsNoMemory self.old self.new }
         ensures same { IsSameActor self.old self.new }
     {
@@ -242,9 +243,9 @@ impl<'a, J: Judge, G: Gate> WorkerActor<'a, J, G> {
         self.seat.step(self.section, &mut self.state);
     }
 
-    /// Makes the worker's next step, as exactly one atomic step on a word of the section or on the turn. The decision on a copy is made, and
-    /// the gate is passed, before the first try to take the turn; while the turn is held the book answers, and nothing else is done. The
-    /// gate may wait. Nothing that the worker's seat noted is changed by a step on the turn.
+    /// Makes the worker's next step, as exactly one atomic step on a word of the section or on the turn. The decision on a copy stands once the
+    /// turn was tried, and the book answers by this decision. The gate is passed between the decision and the first try; it may wait, and no
+    /// clause says when it is passed. Nothing that the worker's seat noted is changed by a step on the turn.
     ///
     /// # Errors
     /// `NoMemory` where there was none for the decision or for the book's answer. Then the stop word is set, a book that the worker had is given
@@ -271,6 +272,13 @@ impl<'a, J: Judge, G: Gate> WorkerActor<'a, J, G> {
         ensures { result ≡ is_looking self.now.worker.stage }
     {
         self.state.looking()
+    }
+
+    /// Whether its next step is a try to take the turn.
+    pub(crate) fn trying(&self) -> bool
+        ensures { result ≡ is_try (worker_plan self.now.worker) }
+    {
+        matches!(self.state.plan(), Act::Take)
     }
 
     /// The worker and its seats, of an actor that is looking. Another actor may go on with them. It takes no memory.

@@ -2,7 +2,7 @@ use Rattle.std.proofs.Common.{rules, ◌≡◌, ◌<◌, [], length, set, ◌∷
 use Rattle.std.specs.Prelude.{vec_capacity}
 use Rattle.std.proofs.lemmas.Option.{slice_get_read}
 use Rattle.sb_pool.specs.Pools.{seen, AreDivided}
-use Rattle.sb_pool.proofs.Gathering.{divided_more}
+use Rattle.sb_pool.proofs.Gathering.{count_same, divided_more, live_same}
 use Rattle.sb_pool.proofs.pool.divided.Goals as goal
 
 pub loop-seat-preserved : goal.loop-seat-preserved
@@ -13,9 +13,33 @@ loop-seat-preserved g c =
     let some : 0 < length c.loop-seat.seats.items = search rules in
     let at_front = slice_get_read seats (length seats) 0 front refl some c.index_mut.ensures.value in
     let more = divided_more c.args.queue.now.table.shared.table_id (seen c.args.first).homes seats front c.another-next.new.self c.another-next.result
-    c.loop-seat.invariant.3 at_front made.own.0.0 made.own.0.1 made.old made.own.1.0 made.own.1.1 made.new in
+    c.loop-seat.invariant.3 at_front made.own.0.0 made.own.0.1 made.old made.own.1.0 made.own.1.1 made.new made.rooms.0 made.rooms.1 in
     let items : c.push_reserved-in-loop-seat.new.self.items ≡ set c.loop-seat.seats.items 0 c.another-next.new.self ++ c.another-next.result ∷ [] = search rules in
     let count : length c.push_reserved-in-loop-seat.new.self.items ≡ c.loop-seat._seat + 1 = search rules in
     let room : vec_capacity c.push_reserved-in-loop-seat.new.self ≡ vec_capacity c.args.room = search rules in
     let past : 0 < c.loop-seat._seat + 1 = search rules in
     (count, past, room, subst (λ l. AreDivided c.args.queue.now.table.shared.table_id (seen c.args.first).homes l) (sym items) more)
+
+pub another-next-requires-clause-own : goal.another-next-requires-clause-own
+another-next-requires-clause-own g c =
+    let seats = c.loop-seat.seats.items in
+    let front = c.index_mut.result.now in
+    let some : 0 < length c.loop-seat.seats.items = search rules in
+    let a = c.loop-seat.invariant.3 0 front (slice_get_read seats (length seats) 0 front refl some c.index_mut.ensures.value) in
+    (a.0, a.1)
+
+pub another-next-requires-clause-live : goal.another-next-requires-clause-live
+another-next-requires-clause-live g c =
+    let seats = c.loop-seat.seats.items in
+    let front = c.index_mut.result.now in
+    let some : 0 < length c.loop-seat.seats.items = search rules in
+    let a = c.loop-seat.invariant.3 0 front (slice_get_read seats (length seats) 0 front refl some c.index_mut.ensures.value) in
+    live_same a.2
+
+pub another-next-requires-clause-count : goal.another-next-requires-clause-count
+another-next-requires-clause-count g c =
+    let seats = c.loop-seat.seats.items in
+    let front = c.index_mut.result.now in
+    let some : 0 < length c.loop-seat.seats.items = search rules in
+    let a = c.loop-seat.invariant.3 0 front (slice_get_read seats (length seats) 0 front refl some c.index_mut.ensures.value) in
+    (length seats, count_same a.2)

@@ -2,6 +2,7 @@ use Rattle.std.proofs.Common.{rules, arith, ◌≡◌, ◌<◌, ◌∙◌, refl,
 use Rattle.std.specs.Prelude.{vec_len}
 use Rattle.sb_actor.specs.Places.{clean_channels, statement_at}
 use Rattle.sb_actor.specs.StrayFollowing.{IsOfTarget}
+use Rattle.sb_run.specs.ThreadSteps.{target_in}
 use Rattle.sb_run.proofs.Named.{at_get, step_target}
 use Rattle.sb_run.proofs.threads.stray_step.Goals as goal
 
@@ -69,6 +70,7 @@ returns-clause-step c =
     let seat = at_get c.args.strays.now.items c.in-Some.target c.index_mut.result.now below c.index_mut.ensures.value in
     record {
       target = c.in-Some.target;
+      its_target = ap target_in (sym c.plan.ensures.plan) ∙ sym c.target_of.ensures ∙ c.in-Some.is;
       before = c.index_mut.result.now;
       after = c.step.new.self;
       there = seat;

@@ -47,7 +47,7 @@ returns-in-Ok-clause-ok g c =
     let plan : worker_plan x.worker ≡ act.Mark = ap (λ (z : WorkerActorAt). worker_plan z.worker) c.self.view_is ∙ c.requires.plan in
     let has = book_at_mark x kept plan c.in-Some.book c.take.result c.take.ensures.value c.in-Some.is in
     let new : WorkerActorAt = record { section = x.section; turn = x.turn; policies = x.policies; worker = c.after.new.self; seat = x.seat; book = c.mark.new.self; held = Some c.answer_copy.new.book; decision = c.take-2.new.self; failed = x.failed } in
-    let marks : Marks x new = answer_marks x kept plan c.in-Some.book has c.answer_copy.new.book c.in-Ok.ensures.answered c.in-Ok.reply c.in-Ok.ensures.reply c.mark.new.self c.mark.ensures.marked c.after.new.self c.after.ensures new refl refl in (
+    let marks : Marks x new = answer_marks x kept plan c.in-Some.book has c.answer_copy.new.book c.in-Ok.ensures.answered c.in-Ok.reply c.in-Ok.ensures.reply c.mark.new.self c.mark.ensures.marked c.after.new.self c.after.ensures new refl refl (sym c.take.ensures.value ∙ c.in-Some.is) refl in (
       subst (λ v. Steps v new) c.self.view_is (subst (λ a. StepsBy a x new) (sym plan) (marks, refl)),
       working,
     )

@@ -8,7 +8,7 @@ use Rattle.sb_section.specs.Steps.{seen_of}
 use Rattle.sb_turn.specs.declared.views.BookView.{BookView}
 use Rattle.sb_run.specs.WorkerActors.{IsWorkerActor, WorkerActorAt, decision_on}
 use Rattle.sb_run.specs.WorkerSteps.{Marks, Steps, StepsBy}
-use Rattle.sb_run.proofs.Working.{after_same, answer_keeps, answer_marks, at_work, book_at_mark, channel_there, no_error, one_more, tried_keeps, tried_same, works}
+use Rattle.sb_run.proofs.Working.{after_same, answer_keeps, answer_marks, at_work, book_at_mark, channel_there, no_error, one_more, tried_keeps, tried_same, tried_steps, without_at_take, works}
 use Rattle.sb_run.proofs.workers.WorkerActor.take.Goals as goal
 
 pub invariant_of-self-2 : goal.invariant_of-self-2
@@ -22,6 +22,17 @@ invariant_of-self-2 g c =
     let new : WorkerActorAt = record { section = x.section; turn = x.turn; policies = x.policies; worker = c.after.new.self; seat = x.seat; book = c.try_take.new.self; held = c.try_take.result; decision = c.decide_once-decided.new.decision; failed = x.failed } in
     works new working
     (tried_keeps x kept plan c.decide_once-decided.new.decision decided c.try_take.new.self e.own c.try_take.result e.book e.taken e.none c.after.new.self (c.after.ensures ∙ ap (λ b. worker_after x.worker (seen.Turn b)) c.is_some.ensures))
+
+pub returns-clause-ok : goal.returns-clause-ok
+returns-clause-ok g c =
+    let x : WorkerActorAt = record { section = c.self.inside.section.now; turn = c.self.inside.turn.now; policies = g.J.Judge.policies c.self.inside.judge.now; worker = c.self.inside.state; seat = c.self.inside.seat; book = c.self.inside.book_seat; held = c.self.inside.book; decision = c.self.inside.decision; failed = c.self.inside.failed } in
+    let working : x.failed ≡ false = ap (λ (z : WorkerActorAt). z.failed) c.self.view_is ∙ c.requires.working in
+    let plan : worker_plan x.worker ≡ act.Take = ap (λ (z : WorkerActorAt). worker_plan z.worker) c.self.view_is ∙ c.requires.plan in
+    let decided = no_error c.decide_once-decided.result (c.decide_once-decided.new.decision ≡ decision_on x.policies x.worker.target (taken_in x.worker.stage)) (sym c.if-is_err.ensures.value) c.decide_once-decided.ensures.ok in
+    let e = c.try_take.ensures in
+    let new : WorkerActorAt = record { section = x.section; turn = x.turn; policies = x.policies; worker = c.after.new.self; seat = x.seat; book = c.try_take.new.self; held = c.try_take.result; decision = c.decide_once-decided.new.decision; failed = x.failed } in
+    let tries = tried_steps x c.decide_once-decided.new.decision decided c.try_take.new.self c.try_take.result e.taken e.held e.none c.after.new.self (c.after.ensures ∙ ap (λ b. worker_after x.worker (seen.Turn b)) c.is_some.ensures) in
+    (subst (λ v. Steps v new) c.self.view_is (subst (λ a. StepsBy a x new) (sym plan) (tries, refl)), working)
 
 pub returns-clause-same : goal.returns-clause-same
 returns-clause-same g c =

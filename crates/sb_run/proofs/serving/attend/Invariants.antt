@@ -1,0 +1,6 @@
+use Rattle.std.proofs.Common.{◌≡◌}
+use Rattle.sb_run.specs.Hands.{IsHand, IsSameHand}
+use Rattle.sb_run.proofs.serving.attend.Given as goal
+
+abbrev pub invariant-loop : goal.invariant-loop
+invariant-loop g l = IsHand l.field l.hand × IsSameHand l.fn.hand l.hand
