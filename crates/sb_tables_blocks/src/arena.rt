@@ -8,10 +8,22 @@ use std::alloc::Global;
 
 /// What a function of the arena gives.
 pub fn value_of(alloc: Global, name: &str, parts: &[&str]) -> Result<String, RowFault> {
-    match (name, parts) {
-        ("Arena::link", [first, second]) => linked(alloc, number(first)?, number(second)?),
+    match parts {
+        [first, second] => value_of_two(alloc, name, first, second),
         _ => Err(RowFault::Unknown),
     }
+}
+
+fn value_of_two(alloc: Global, name: &str, first: &str, second: &str) -> Result<String, RowFault> {
+    match name {
+        "Arena::link" => link(alloc, first, second),
+        _ => Err(RowFault::Unknown),
+    }
+}
+
+fn link(alloc: Global, first: &str, second: &str) -> Result<String, RowFault> {
+    let (first, second) = (number(first)?, number(second)?);
+    linked(alloc, first, second)
 }
 
 #[tactic(auto, using(crate::proofs::Apart::apart))]

@@ -15,20 +15,50 @@ use std::alloc::Global;
 
 /// What a function of blocks gives.
 pub fn value_of(alloc: Global, name: &str, parts: &[&str]) -> Result<String, RowFault> {
-    match (name, parts) {
-        ("encode", [text, mark]) => encoded(alloc, text, mark),
-        ("encodes", [text]) => is_encoded(alloc, text),
-        ("Taken::of", [count, end, words]) => copy(alloc, count, end, words),
-        ("fault_of", [count, end, words]) => fault_in(alloc, count, end, words),
-        ("fault_of", [text, changes]) => fault_with(alloc, text, changes),
-        ("decode", [count, end, words]) => decoded_in(alloc, count, end, words),
-        ("decode", [text, changes]) => decoded_with(alloc, text, changes),
-        ("Words::copy", [words]) => words_copied(alloc, words),
-        ("Words::eq", [a, b]) => words_equal(alloc, a, b),
-        ("reply_words", [text]) => written(alloc, text),
-        ("read_reply", [words]) => read(alloc, words),
-        ("sound", [text]) => is_sound(alloc, text),
-        ("message", _) => message(alloc, parts),
+    match name {
+        "message" => message(alloc, parts),
+        _ => counted_value(alloc, name, parts),
+    }
+}
+
+// What a function gives for so many arguments.
+fn counted_value(alloc: Global, name: &str, parts: &[&str]) -> Result<String, RowFault> {
+    match parts {
+        [text] => value_of_one(alloc, name, text),
+        [first, second] => value_of_two(alloc, name, first, second),
+        [count, end, words] => value_of_copy(alloc, name, (count, end, words)),
+        _ => Err(RowFault::Unknown),
+    }
+}
+
+fn value_of_one(alloc: Global, name: &str, text: &str) -> Result<String, RowFault> {
+    match name {
+        "encodes" => is_encoded(alloc, text),
+        "Words::copy" => words_copied(alloc, text),
+        "reply_words" => written(alloc, text),
+        "read_reply" => read(alloc, text),
+        "sound" => is_sound(alloc, text),
+        _ => Err(RowFault::Unknown),
+    }
+}
+
+fn value_of_two(alloc: Global, name: &str, text: &str, more: &str) -> Result<String, RowFault> {
+    match name {
+        "encode" => encoded(alloc, text, more),
+        "fault_of" => fault_with(alloc, text, more),
+        "decode" => decoded_with(alloc, text, more),
+        "Words::eq" => words_equal(alloc, text, more),
+        _ => Err(RowFault::Unknown),
+    }
+}
+
+// What a function gives for the copy with this count, this end and these words.
+fn value_of_copy(alloc: Global, name: &str, parts: (&str, &str, &str)) -> Result<String, RowFault> {
+    let (count, end, words) = parts;
+    match name {
+        "Taken::of" => copy(alloc, count, end, words),
+        "fault_of" => fault_in(alloc, count, end, words),
+        "decode" => decoded_in(alloc, count, end, words),
         _ => Err(RowFault::Unknown),
     }
 }
@@ -172,11 +202,13 @@ fn read(alloc: Global, words: &str) -> Result<String, RowFault> {
 }
 
 fn message(alloc: Global, parts: &[&str]) -> Result<String, RowFault> {
-    match parts {
-        ["TooBig"] => displayed(alloc, &TooBig),
-        ["BlockFault", words @ ..] => fault_message(alloc, words),
-        ["BlockRefused", "NoMemory"] => displayed(alloc, &BlockRefused::NoMemory),
-        ["BlockRefused", words @ ..] => refusal_message(alloc, words),
+    let [kind, words @ ..] = parts else {
+        return Err(RowFault::Unknown);
+    };
+    match *kind {
+        "TooBig" if words.is_empty() => displayed(alloc, &TooBig),
+        "BlockFault" => fault_message(alloc, words),
+        "BlockRefused" => refusal_message(alloc, words),
         _ => Err(RowFault::Unknown),
     }
 }
@@ -186,16 +218,37 @@ fn fault_message(alloc: Global, words: &[&str]) -> Result<String, RowFault> {
 }
 
 fn refusal_message(alloc: Global, words: &[&str]) -> Result<String, RowFault> {
-    displayed(alloc, &BlockRefused::Fault(fault_named(words)?))
+    displayed(alloc, &refusal_named(words)?)
+}
+
+fn refusal_named(words: &[&str]) -> Result<BlockRefused, RowFault> {
+    match words {
+        ["NoMemory"] => Ok(BlockRefused::NoMemory),
+        _ => Ok(BlockRefused::Fault(fault_named(words)?)),
+    }
 }
 
 fn fault_named(words: &[&str]) -> Result<BlockFault, RowFault> {
     match words {
-        ["WrongShape"] => Ok(BlockFault::WrongShape),
-        [name, param] if is_of_parameter(name) => fault_at(name, small(param)?),
-        [name, value] => fault_of_value(name, number(value)?),
+        [name] => lone_fault(name),
+        [name, value] => fault_with_value(name, value),
         [name, seen, copied] => changed_fault(name, number(seen)?, number(copied)?),
         _ => Err(RowFault::BadWords),
+    }
+}
+
+fn lone_fault(name: &str) -> Result<BlockFault, RowFault> {
+    match name {
+        "WrongShape" => Ok(BlockFault::WrongShape),
+        _ => Err(RowFault::BadWords),
+    }
+}
+
+fn fault_with_value(name: &str, value: &str) -> Result<BlockFault, RowFault> {
+    if is_of_parameter(name) {
+        fault_at(name, small(value)?)
+    } else {
+        fault_of_value(name, number(value)?)
     }
 }
 

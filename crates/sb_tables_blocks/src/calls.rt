@@ -15,18 +15,19 @@ use std::alloc::Global;
 
 /// What a function of calls gives.
 pub fn value_of(alloc: Global, name: &str, parts: &[&str]) -> Result<String, RowFault> {
-    match (name, parts) {
-        ("every_tag", [""]) => told(alloc, &every_tag()),
-        ("clean", [text, target, channel]) => is_clean(alloc, text, target, channel),
-        (_, [text]) => told_one(alloc, name, text),
-        (_, [a, b]) => equality(alloc, name, a, b),
-        _ => answered(alloc, name, parts),
+    match parts {
+        [text] => told_one(alloc, name, text),
+        [a, b] => equality(alloc, name, a, b),
+        [a, b, c] => told_three(alloc, name, (a, b, c)),
+        [status, handle, first, second] => answered(alloc, name, (status, handle), (first, second)),
+        _ => Err(RowFault::Unknown),
     }
 }
 
 // Rows of one argument.
 fn told_one(alloc: Global, name: &str, text: &str) -> Result<String, RowFault> {
     match name {
+        "every_tag" => tags_told(alloc, text),
         "sb_call::number_of" => tag_number(alloc, text),
         "tag_of" => tag_told(alloc, text),
         "shape" => shape_told(alloc, text),
@@ -38,6 +39,14 @@ fn told_one(alloc: Global, name: &str, text: &str) -> Result<String, RowFault> {
         "StartLines::len" => start_len(alloc, text),
         "status" => status_told(alloc, text),
         _ => copied(alloc, name, text),
+    }
+}
+
+fn tags_told(alloc: Global, text: &str) -> Result<String, RowFault> {
+    if text.is_empty() {
+        told(alloc, &every_tag())
+    } else {
+        Err(RowFault::Unknown)
     }
 }
 
@@ -183,15 +192,30 @@ fn schedules_equal(alloc: Global, a: &str, b: &str) -> Result<bool, RowFault> {
     Ok(schedule(alloc, a)? == schedule(alloc, b)?)
 }
 
-// Rows of answers.
-fn answered(alloc: Global, name: &str, parts: &[&str]) -> Result<String, RowFault> {
-    match (name, parts) {
-        ("Answer::with_word", [status, handle, word]) => {
-            with_word(alloc, status, handle, number(word)?)
-        }
-        ("Answer::with_words", [status, handle, first, second]) => {
-            with_words(alloc, status, handle, (number(first)?, number(second)?))
-        }
+// Rows of three arguments.
+fn told_three(alloc: Global, name: &str, parts: (&str, &str, &str)) -> Result<String, RowFault> {
+    let (first, second, third) = parts;
+    match name {
+        "clean" => is_clean(alloc, first, second, third),
+        "Answer::with_word" => with_word(alloc, first, second, number(third)?),
+        _ => Err(RowFault::Unknown),
+    }
+}
+
+// Rows of answers with two words.
+fn answered(
+    alloc: Global,
+    name: &str,
+    answer: (&str, &str),
+    words: (&str, &str),
+) -> Result<String, RowFault> {
+    match name {
+        "Answer::with_words" => with_words(
+            alloc,
+            answer.0,
+            answer.1,
+            (number(words.0)?, number(words.1)?),
+        ),
         _ => Err(RowFault::Unknown),
     }
 }

@@ -90,47 +90,70 @@ fn result_of(words: &[&str]) -> Result<StmtResult, RowFault> {
     let [name, rest @ ..] = words else {
         return Err(RowFault::BadWords);
     };
-    match (*name, rest) {
-        ("stored", []) => Ok(StmtResult::Stored),
-        ("found", [value]) => found(value),
-        ("met", [loads]) => met(loads),
-        ("unmet", [loads]) => unmet(loads),
+    match *name {
+        "stored" => stored(rest),
+        "found" => found(rest),
+        "met" => met(rest),
+        "unmet" => unmet(rest),
         _ => called(words),
     }
 }
 
-fn found(value: &str) -> Result<StmtResult, RowFault> {
-    Ok(StmtResult::Found(number(value)?))
+fn stored(words: &[&str]) -> Result<StmtResult, RowFault> {
+    match words {
+        [] => Ok(StmtResult::Stored),
+        _ => Err(RowFault::BadWords),
+    }
+}
+
+fn found(words: &[&str]) -> Result<StmtResult, RowFault> {
+    match words {
+        [value] => Ok(StmtResult::Found(number(value)?)),
+        _ => Err(RowFault::BadWords),
+    }
 }
 
 fn called(words: &[&str]) -> Result<StmtResult, RowFault> {
     Ok(StmtResult::Call(call_result(words)?))
 }
 
-fn met(loads: &str) -> Result<StmtResult, RowFault> {
+fn met(words: &[&str]) -> Result<StmtResult, RowFault> {
+    let [loads] = words else {
+        return Err(RowFault::BadWords);
+    };
     let loads = small(loads)?;
     Ok(StmtResult::Met { loads })
 }
 
-fn unmet(loads: &str) -> Result<StmtResult, RowFault> {
+fn unmet(words: &[&str]) -> Result<StmtResult, RowFault> {
+    let [loads] = words else {
+        return Err(RowFault::BadWords);
+    };
     let loads = small(loads)?;
     Ok(StmtResult::Unmet { loads })
 }
 
 fn call_result(words: &[&str]) -> Result<CallResult, RowFault> {
     match words {
-        ["no-channel"] => Ok(CallResult::NoChannel),
+        [name] => without_channel(name),
         [name, channel, rest @ ..] => on_channel(name, small(channel)?, rest),
         _ => Err(RowFault::BadWords),
     }
 }
 
+fn without_channel(name: &str) -> Result<CallResult, RowFault> {
+    match name {
+        "no-channel" => Ok(CallResult::NoChannel),
+        _ => Err(RowFault::BadWords),
+    }
+}
+
 fn on_channel(name: &str, channel: u32, words: &[&str]) -> Result<CallResult, RowFault> {
-    match (name, words) {
-        ("reply", words) => replied_on(channel, words),
-        ("send-lost", [found]) => send_lost(channel, found),
-        ("foreign", [mark]) => foreign(channel, mark),
-        ("timed-out", []) => Ok(CallResult::TimedOut { channel }),
+    match name {
+        "reply" => replied_on(channel, words),
+        "send-lost" => send_lost(channel, words),
+        "foreign" => foreign(channel, words),
+        "timed-out" => timed_out(channel, words),
         _ => Err(RowFault::BadWords),
     }
 }
@@ -140,12 +163,25 @@ fn replied_on(channel: u32, words: &[&str]) -> Result<CallResult, RowFault> {
     Ok(CallResult::Reply { channel, reply })
 }
 
-fn send_lost(channel: u32, found: &str) -> Result<CallResult, RowFault> {
+fn send_lost(channel: u32, words: &[&str]) -> Result<CallResult, RowFault> {
+    let [found] = words else {
+        return Err(RowFault::BadWords);
+    };
     let found = number(found)?;
     Ok(CallResult::SendLost { channel, found })
 }
 
-fn foreign(channel: u32, mark: &str) -> Result<CallResult, RowFault> {
+fn foreign(channel: u32, words: &[&str]) -> Result<CallResult, RowFault> {
+    let [mark] = words else {
+        return Err(RowFault::BadWords);
+    };
     let mark = number(mark)?;
     Ok(CallResult::Foreign { channel, mark })
+}
+
+fn timed_out(channel: u32, words: &[&str]) -> Result<CallResult, RowFault> {
+    match words {
+        [] => Ok(CallResult::TimedOut { channel }),
+        _ => Err(RowFault::BadWords),
+    }
 }

@@ -20,22 +20,59 @@ fn statement(alloc: Global, words: &[&str]) -> Result<Statement, RowFault> {
     let [name, rest @ ..] = words else {
         return Err(RowFault::BadWords);
     };
-    match (*name, rest) {
-        ("call", [name, rest @ ..]) => call_statement(alloc, name, rest),
-        (_, [target, channel, at, values @ ..]) => {
-            access(name, target, word(channel, at)?, values)
-        }
+    match *name {
+        "call" => called(alloc, rest),
+        _ => accessed(name, rest),
+    }
+}
+
+fn called(alloc: Global, words: &[&str]) -> Result<Statement, RowFault> {
+    match words {
+        [name, rest @ ..] => call_statement(alloc, name, rest),
+        _ => Err(RowFault::BadWords),
+    }
+}
+
+fn accessed(name: &str, words: &[&str]) -> Result<Statement, RowFault> {
+    match words {
+        [target, channel, at, values @ ..] => access(name, target, word(channel, at)?, values),
         _ => Err(RowFault::BadWords),
     }
 }
 
 // A statement on a word.
 fn access(name: &str, target: &str, word: Word, values: &[&str]) -> Result<Statement, RowFault> {
-    match (name, values) {
-        ("store", [value]) => store(target, word, value),
-        ("exchange", [from, to]) => exchange(target, word, from, to),
-        ("load", []) => load(target, word),
-        ("wait", [value, most]) => wait(target, word, value, most),
+    match values {
+        [] => load_named(name, target, word),
+        [value] => store_named(name, target, word, value),
+        [first, second] => access_with_two(name, target, word, (first, second)),
+        _ => Err(RowFault::BadWords),
+    }
+}
+
+fn load_named(name: &str, target: &str, word: Word) -> Result<Statement, RowFault> {
+    match name {
+        "load" => load(target, word),
+        _ => Err(RowFault::BadWords),
+    }
+}
+
+fn store_named(name: &str, target: &str, word: Word, value: &str) -> Result<Statement, RowFault> {
+    match name {
+        "store" => store(target, word, value),
+        _ => Err(RowFault::BadWords),
+    }
+}
+
+fn access_with_two(
+    name: &str,
+    target: &str,
+    word: Word,
+    values: (&str, &str),
+) -> Result<Statement, RowFault> {
+    match name {
+        "exchange" => exchange(target, word, values.0, values.1),
+        "wait" => wait(target, word, values.0, values.1),
         _ => Err(RowFault::BadWords),
     }
 }
@@ -91,14 +128,51 @@ pub fn statement_in(alloc: Global, text: &str) -> Result<Statement, RowFault> {
 // An object that is there at the start.
 fn start_line(alloc: Global, words: &[&str]) -> Result<StartLine, RowFault> {
     match words {
-        ["dir", name] => Ok(StartLine::Dir {
-            name: quoted(alloc, name)?,
-        }),
-        ["file", name, attributes] => file_line(alloc, name, number(attributes)?),
-        ["key", name] => Ok(StartLine::Key {
-            name: quoted(alloc, name)?,
-        }),
-        ["event", name, kind, initial] => event_line(alloc, name, kind, initial),
+        [word, name] => named_line(alloc, word, name),
+        [word, name, attributes] => numbered_line(alloc, word, name, attributes),
+        [word, name, kind, initial] => kind_line(alloc, word, name, (kind, initial)),
+        _ => Err(RowFault::BadWords),
+    }
+}
+
+fn named_line(alloc: Global, word: &str, name: &str) -> Result<StartLine, RowFault> {
+    match word {
+        "dir" => dir_line(alloc, name),
+        "key" => key_line(alloc, name),
+        _ => Err(RowFault::BadWords),
+    }
+}
+
+fn dir_line(alloc: Global, name: &str) -> Result<StartLine, RowFault> {
+    let name = quoted(alloc, name)?;
+    Ok(StartLine::Dir { name })
+}
+
+fn key_line(alloc: Global, name: &str) -> Result<StartLine, RowFault> {
+    let name = quoted(alloc, name)?;
+    Ok(StartLine::Key { name })
+}
+
+fn numbered_line(
+    alloc: Global,
+    word: &str,
+    name: &str,
+    attributes: &str,
+) -> Result<StartLine, RowFault> {
+    match word {
+        "file" => file_line(alloc, name, number(attributes)?),
+        _ => Err(RowFault::BadWords),
+    }
+}
+
+fn kind_line(
+    alloc: Global,
+    word: &str,
+    name: &str,
+    numbers: (&str, &str),
+) -> Result<StartLine, RowFault> {
+    match word {
+        "event" => event_line(alloc, name, numbers.0, numbers.1),
         _ => Err(RowFault::BadWords),
     }
 }
@@ -201,16 +275,22 @@ fn put_lines(alloc: Global, words: &[&str], drafts: &mut Drafts) -> Result<(), R
 }
 
 fn put_line(alloc: Global, words: &[&str], drafts: &mut Drafts) -> Result<(), RowFault> {
-    match words {
-        ["patience", count] => put_patience(count, drafts),
-        ["dir" | "file" | "key" | "event", ..] => put_start(alloc, words, drafts),
-        ["target", name, policy, channels] => put_target(alloc, name, (policy, channels), drafts),
-        ["thread"] => put_thread(alloc, drafts),
+    let [first, rest @ ..] = words else {
+        return Err(RowFault::BadWords);
+    };
+    match *first {
+        "dir" | "file" | "key" | "event" => put_start(alloc, words, drafts),
+        "patience" => put_patience(rest, drafts),
+        "target" => put_target(alloc, rest, drafts),
+        "thread" => put_thread(alloc, rest, drafts),
         _ => put_statement(alloc, words, drafts),
     }
 }
 
-fn put_patience(count: &str, drafts: &mut Drafts) -> Result<(), RowFault> {
+fn put_patience(words: &[&str], drafts: &mut Drafts) -> Result<(), RowFault> {
+    let [count] = words else {
+        return Err(RowFault::BadWords);
+    };
     drafts.patience = small(count)?;
     Ok(())
 }
@@ -220,24 +300,33 @@ fn put_start(alloc: Global, words: &[&str], drafts: &mut Drafts) -> Result<(), R
     Ok(drafts.start.push(line)?)
 }
 
-// Begins a target with this name, and with the number of its policy and of its channels.
-fn put_target(
-    alloc: Global,
-    name: &str,
-    numbers: (&str, &str),
-    drafts: &mut Drafts,
-) -> Result<(), RowFault> {
-    let (policy, channels) = (small(numbers.0)?, small(numbers.1)?);
-    let draft = Draft {
+// Begins a target with a name, the number of its policy and its count of channels.
+fn put_target(alloc: Global, words: &[&str], drafts: &mut Drafts) -> Result<(), RowFault> {
+    let draft = draft_of(alloc, words)?;
+    Ok(drafts.targets.push(draft)?)
+}
+
+fn draft_of(alloc: Global, words: &[&str]) -> Result<Draft, RowFault> {
+    let [name, policy, channels] = words else {
+        return Err(RowFault::BadWords);
+    };
+    let (policy, channels) = (small(policy)?, small(channels)?);
+    Ok(Draft {
         name: short_name(name)?,
         policy,
         channels,
         threads: Vec::new(alloc),
-    };
-    Ok(drafts.targets.push(draft)?)
+    })
 }
 
-fn put_thread(alloc: Global, drafts: &mut Drafts) -> Result<(), RowFault> {
+fn put_thread(alloc: Global, words: &[&str], drafts: &mut Drafts) -> Result<(), RowFault> {
+    match words {
+        [] => put_empty_thread(alloc, drafts),
+        _ => Err(RowFault::BadWords),
+    }
+}
+
+fn put_empty_thread(alloc: Global, drafts: &mut Drafts) -> Result<(), RowFault> {
     let draft = drafts.targets.last_mut().ok_or(RowFault::BadWords)?;
     Ok(draft.threads.push(Statements::none(alloc))?)
 }
@@ -271,8 +360,20 @@ pub fn schedule(alloc: Global, text: &str) -> Result<Schedule, RowFault> {
 
 fn put_steps(words: &[&str], schedule: &mut Schedule) -> Result<(), RowFault> {
     match words {
-        ["step", name, count] => put_step(actor(name)?, count, schedule),
-        ["rounds", count] => put_rounds(count, schedule),
+        [word, count] => put_rounds(word, count, schedule),
+        [word, name, count] => put_named_step(word, name, count, schedule),
+        _ => Err(RowFault::BadWords),
+    }
+}
+
+fn put_named_step(
+    word: &str,
+    name: &str,
+    count: &str,
+    schedule: &mut Schedule,
+) -> Result<(), RowFault> {
+    match word {
+        "step" => put_step(actor(name)?, count, schedule),
         _ => Err(RowFault::BadWords),
     }
 }
@@ -282,7 +383,10 @@ fn put_step(actor: Actor, count: &str, schedule: &mut Schedule) -> Result<(), Ro
     Ok(schedule.steps.push((actor, count))?)
 }
 
-fn put_rounds(count: &str, schedule: &mut Schedule) -> Result<(), RowFault> {
+fn put_rounds(word: &str, count: &str, schedule: &mut Schedule) -> Result<(), RowFault> {
+    if word != "rounds" {
+        return Err(RowFault::BadWords);
+    }
     schedule.rounds = small(count)?;
     Ok(())
 }

@@ -8,18 +8,20 @@ use std::alloc::Global;
 /// divided by bars.
 pub fn value_of(alloc: Global, row: &str) -> Result<String, RowFault> {
     let (name, rest) = row.split_once(' ').unwrap_or((row, ""));
-    let arguments = arguments(alloc, rest)?;
-    let parts = arguments.as_slice();
-    let mut value = calls::value_of(alloc, name, parts);
-    if is_unknown(&value) {
-        value = blocks::value_of(alloc, name, parts);
-    }
-    if is_unknown(&value) {
-        value = arena::value_of(alloc, name, parts);
-    }
-    value
+    let parts = arguments(alloc, rest)?;
+    call_value(alloc, name, parts.as_slice())
 }
 
-fn is_unknown(value: &Result<String, RowFault>) -> bool {
-    matches!(value, Err(RowFault::Unknown))
+fn call_value(alloc: Global, name: &str, parts: &[&str]) -> Result<String, RowFault> {
+    match calls::value_of(alloc, name, parts) {
+        Err(RowFault::Unknown) => block_value(alloc, name, parts),
+        value => value,
+    }
+}
+
+fn block_value(alloc: Global, name: &str, parts: &[&str]) -> Result<String, RowFault> {
+    match blocks::value_of(alloc, name, parts) {
+        Err(RowFault::Unknown) => arena::value_of(alloc, name, parts),
+        value => value,
+    }
 }

@@ -93,6 +93,7 @@ fn tree_value(
         ("tree.rename", [name, to]) => rename(alloc, names, name, to),
         ("tree.add_numbered", [name, count]) => add_numbered(alloc, names, name, number(count)?),
         ("tree.find_numbered", [name, count]) => find_numbered(alloc, names, name, number(count)?),
+        ("tree.add_nested", [part, count]) => add_nested(alloc, names, part, number(count)?),
         (_, [text]) => tree_value_at(alloc, names, name, text),
         _ => Err(RowFault::Unknown),
     }
@@ -227,6 +228,26 @@ fn add_numbered(
 ) -> Result<String, RowFault> {
     for number in 0..count {
         let name = checked(numbered(alloc, name, number)?)?;
+        let _wanted = names.plain.add(name.as_units(), number);
+        match names.tree.add(name.as_units(), number) {
+            Ok(()) => {}
+            Err(fault) => return refusal(alloc, fault),
+        }
+    }
+    plain(alloc, "done")
+}
+
+// Adds a count of names, each below the one before: the part once, twice and so on, with numbers from 0 as the objects.
+fn add_nested(
+    alloc: Global,
+    names: &mut Names,
+    part: &str,
+    count: u64,
+) -> Result<String, RowFault> {
+    let mut path = String::new(alloc);
+    for number in 0..count {
+        path.push_str(part)?;
+        let name = checked(wide(alloc, &path)?)?;
         let _wanted = names.plain.add(name.as_units(), number);
         match names.tree.add(name.as_units(), number) {
             Ok(()) => {}

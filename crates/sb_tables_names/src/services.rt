@@ -8,7 +8,7 @@ use crate::namespace::start_lines;
 use crate::readers_namespace::{Called, call, plain, short_number, told_answer};
 use sb_call::{Answer, Arg, CallTag};
 use sb_event::EventService;
-use sb_file::FileService;
+use sb_file::{FileRequest, FileService};
 use sb_handles::HandleTable;
 use sb_key::KeyService;
 use sb_pipe::PipeService;
@@ -228,17 +228,17 @@ impl Files {
             return Err(RowFault::NotInRange);
         }
         let _granted = self.handles.granted();
+        let request = FileRequest {
+            attributes: *attributes,
+            access: *access,
+            sharing: *sharing,
+            disposition: *disposition,
+            options: *options,
+        };
+        let handles = &mut self.handles;
         Ok(
-            self.service.create(
-                &mut self.handles,
-                target,
-                name.as_units(),
-                *attributes,
-                *access,
-                *sharing,
-                *disposition,
-                *options,
-            )?,
+            self.service
+                .create(handles, target, name.as_units(), request)?,
         )
     }
 }
@@ -307,7 +307,7 @@ impl Keys {
         let handles = &mut self.handles;
         Ok(
             self.service
-                .open_key(handles, target, name.as_units(), *access)?,
+                .open_by_name(handles, target, name.as_units(), *access)?,
         )
     }
 }
@@ -353,7 +353,7 @@ impl Events {
         let handles = &mut self.handles;
         Ok(
             self.service
-                .open_event(handles, target, name.as_units(), *access)?,
+                .open_by_name(handles, target, name.as_units(), *access)?,
         )
     }
 }

@@ -7,7 +7,6 @@ use crate::readers_namespace::{blanks, plain, short_number, told_line};
 use crate::readers_transcripts::{entry, statement_result};
 use sb_book::{AllWords, Entries, Entry, Report, Results, TargetResults, ThreadResults};
 use sb_kernel::Kernel;
-use sb_outside::Bytes;
 use sb_rows::{RowFault, number, told};
 use sb_statements::{Script, StmtResult};
 use sb_transcript::{entry_line, line, line_count, result_line, totals, transcript_lines};
@@ -232,20 +231,6 @@ impl SmallReport {
     fn told_lines(&self, alloc: Global) -> Result<String, RowFault> {
         let targets = targets(alloc)?;
         let lines = transcript_lines(alloc, &targets, &self.report)?;
-        joined(alloc, &lines)
+        told_line(alloc, lines.bytes())
     }
-}
-
-// Lines, one behind the other.
-fn joined(alloc: Global, lines: &[Bytes]) -> Result<String, RowFault> {
-    let mut whole = String::new(alloc);
-    for line in lines {
-        put_line(alloc, line.as_slice(), &mut whole)?;
-    }
-    Ok(whole)
-}
-
-fn put_line(alloc: Global, line: &[u8], whole: &mut String) -> Result<(), RowFault> {
-    let line = told_line(alloc, line)?;
-    Ok(whole.push_str(&line)?)
 }
