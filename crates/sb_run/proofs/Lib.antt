@@ -5,6 +5,9 @@ pub mod Bounds
 pub mod Leading
 pub mod Named
 pub mod Noted
+pub mod Pairs
+pub mod Opening
+pub mod Counted
 pub mod Pooled
 pub mod Keeping
 pub mod Tied

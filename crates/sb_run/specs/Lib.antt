@@ -2,6 +2,8 @@ pub mod Closings
 pub mod Fields
 pub mod Hands
 pub mod Noting
+pub mod Openings
+pub mod Pairing
 pub mod Pooling
 pub mod Tasks
 pub mod ThreadActors

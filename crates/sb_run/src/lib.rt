@@ -5,6 +5,7 @@
 mod closings;
 mod fields;
 mod homes;
+mod openings;
 mod pooling;
 mod serving;
 mod tasks;
