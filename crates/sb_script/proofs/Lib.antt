@@ -5,6 +5,7 @@ pub mod Prefixes
 pub mod Renumbered
 pub mod Fitting
 pub mod Opened
+pub mod Started
 pub mod LastChanged
 pub mod Built
 pub mod ReadWritable

@@ -47,11 +47,15 @@ behind (x ∷ lines) line at ns mid e h = by (placed ns x) (λ next e. behind li
     by None step e = absurd cc
     by (Some next) step e = step next e
 
+-- a line that is placed in the namespace of the lines before it leads on
+pub opened_placed : (lines : List StartLine) (line : StartLine) (ns next : Space) → opened lines ≡ Ok ns → is_some (placed ns line) ≡ true
+    → next ≡ unwrap_or (placed ns line) ns → opened (lines ++ line ∷ []) ≡ Ok next
+opened_placed lines line ns next e h n = behind lines line 0 empty_space ns e h ∙ ap Ok (sym n)
+
 -- a line that can be placed leads on
 pub opened_with : (lines : List StartLine) (line : StartLine) (ns next : Space) → opened lines ≡ Ok ns → can_place lines line ≡ true
     → next ≡ unwrap_or (placed ns line) ns → opened (lines ++ line ∷ []) ≡ Ok next
-opened_with lines line ns next e h n =
-    behind lines line 0 empty_space ns e (ap (λ ns. is_some (placed ns line)) (sym (opening_is lines ns e)) ∙ h) ∙ ap Ok (sym n)
+opened_with lines line ns next e h n = opened_placed lines line ns next e (ap (λ ns. is_some (placed ns line)) (sym (opening_is lines ns e)) ∙ h) n
 
 -- lines that lead to a namespace, and one more that can be placed
 pub opens_with : (lines : List StartLine) (line : StartLine) → is_ok (opened lines) ≡ true → can_place lines line ≡ true

@@ -1,5 +1,5 @@
 -- Opening lines: what is there at the start.
-use Rattle.std.specs.Prelude.{Bool, List, Result, Ok, is_some}
+use Rattle.std.specs.Prelude.{Bool, List, [], ◌∷◌, ◌++◌, Result, Ok, Err, is_some, if◌then◌else◌}
 use Rattle.sb_kernel.specs.Openings.{placed, opening}
 use Rattle.sb_statements.specs.declared.scripts.StartLine.{StartLine}
 use Rattle.sb_statements.specs.declared.scripts.StartLine.TheVariants.{Dir, File, Key, Event}
@@ -7,7 +7,7 @@ use Rattle.sb_script.specs.Arguments.{most_32}
 use Rattle.sb_script.specs.Steps.{number_within, name_at}
 use Rattle.sb_text.specs.Steps.{◌>>=◌, end_at}
 use Rattle.sb_script.specs.declared.faults.ScriptKind.{ScriptKind}
-use Rattle.sb_script.specs.declared.faults.ScriptKind.TheVariants.{UnknownWord, BadNumber}
+use Rattle.sb_script.specs.declared.faults.ScriptKind.TheVariants.{UnknownWord, BadNumber, BadStart}
 use Rattle.sb_text.specs.Tokens.{Lexeme}
 
 -- `dir "NAME"`, behind its first word
@@ -44,3 +44,7 @@ event tokens = do
 -- behind these lines a further one can be placed: in the namespace that they lead to
 abbrev pub can_place : List StartLine → StartLine → Bool
 can_place lines line = is_some (placed (opening lines) line)
+
+-- these lines with a further one, which can be placed behind them
+abbrev pub with_line : List StartLine → StartLine → Result (List StartLine) ScriptKind
+with_line lines line = if can_place lines line then Ok (lines ++ line ∷ []) else Err BadStart

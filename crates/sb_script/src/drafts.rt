@@ -203,11 +203,11 @@ impl Draft {
         requires name { is_named line ≡ true }
         ensures { Becomes (with_start self.old line) result self.new }
     {
-        if !self.start.can_place(&line) {
-            return Err(LineRefused::Fault(ScriptKind::BadStart));
-        }
         if self.start.len() >= MOST_START_LINES {
-            return Err(LineRefused::Fault(ScriptKind::TooMany));
+            if self.start.can_place(&line) {
+                return Err(LineRefused::Fault(ScriptKind::TooMany));
+            }
+            return Err(LineRefused::Fault(ScriptKind::BadStart));
         }
         let start = mem::replace(&mut self.start, Placed::new(alloc));
         self.start = start.with(line)?;

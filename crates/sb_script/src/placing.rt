@@ -1,12 +1,13 @@
 // The opening lines so far, and whether a further one can be placed behind them.
-ghost use Rattle.std.specs.Prelude.{◌≡◌, ◌<◌, ◌++◌, ◌∷◌, [], true, length, IfOk};
+ghost use Rattle.std.specs.Prelude.{◌≡◌, ◌<◌, [], true, length};
 ghost use Rattle.sb_kernel.specs.Openings.{is_named};
-ghost use Rattle.sb_script.specs.Openings.{can_place};
+ghost use Rattle.sb_script.specs.Openings.{can_place, with_line};
 ghost use Rattle.sb_statements.specs.Limits.{most_start_lines};
+ghost use Rattle.sb_text.specs.Steps.{Gives};
 
+use crate::faults::{LineRefused, ScriptKind};
 use sb_kernel::{Kernel, openings_make_few};
 use sb_statements::{StartLine, StartLines};
-use sb_wide::NoMemory;
 use std::alloc::Global;
 use std::marker::Model;
 
@@ -62,20 +63,20 @@ impl Placed {
         self.kernel.can_place(line)
     }
 
-    /// With one more line, which can be placed.
-    #[tactic(auto, using(crate::proofs::Opened::room_made))]
-    pub(crate) fn with(self, line: StartLine) -> Result<Placed, NoMemory>
+    /// With one more line, while there are fewer than 4,096. One that cannot be placed is a bad start.
+    pub(crate) fn with(self, line: StartLine) -> Result<Placed, LineRefused>
         requires name { is_named line ≡ true }
-        requires can { can_place self line ≡ true }
         requires few { length self < most_start_lines }
-        ensures { IfOk result (λ placed. placed ≡ self ++ line ∷ []) }
+        ensures { Gives (with_line self line) result }
     {
         openings_make_few();
         let Placed {
             mut lines,
             mut kernel,
         } = self;
-        let _placed = kernel.place(&line)?;
+        if !kernel.place(&line)? {
+            return Err(LineRefused::Fault(ScriptKind::BadStart));
+        }
         lines.push(line)?;
         Ok(Placed { lines, kernel })
     }
