@@ -12,7 +12,9 @@ use sb_wide::NoMemory;
 // round.
 #[derive(Clone, Copy, Debug)]
 pub(crate) struct Group {
+    /// The number of the parameter, from 0.
     pub param: u32,
+    /// Whether the condition is met where its opcodes say that it is not.
     pub negated: bool,
 }
 
