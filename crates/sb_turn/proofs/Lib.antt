@@ -1,3 +1,4 @@
+pub mod Crossing
 pub mod Counts
 pub mod Dividing
 pub mod Keeping
