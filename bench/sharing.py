@@ -14,14 +14,15 @@ def measure_pool(runs):
 
 
 def measure_turn(runs):
-    """One seat alone, by no thread of its own."""
-    takes = 4_000_000
-    seconds = rowing.seconds_of(runs, CRATE, "Turn::give_back %d" % takes, "takes %d" % takes)
-    print("turn: %d takes and returns per second by 1 seat" % (takes / seconds))
+    for seats in (1, 8):
+        takes = 4_000_000
+        row = "Turn::give_back %d | %d" % (seats, takes // seats)
+        seconds = rowing.seconds_of(runs, CRATE, row, "takes %d entries 0:%s" % (takes, " 0" * seats))
+        print("turn: %d takes and returns per second by %d seats" % (takes / seconds, seats))
 
 
 def measure(runs):
-    """Draws per second, by one seat and by eight, and takes of the turn by one seat."""
+    """Draws and takes per second, by one seat and by eight, each in a thread of its own."""
     rowing.build(CRATE, "data/pool.rows")
     measure_pool(runs)
     measure_turn(runs)

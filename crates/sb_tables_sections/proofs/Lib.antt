@@ -1,3 +1,5 @@
+mod Gathering
 mod Looking
 mod Marks
+mod Playing
 mod Taking

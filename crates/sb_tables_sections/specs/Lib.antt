@@ -1,1 +1,3 @@
+pub mod Players
+pub mod Plays
 pub mod Seated

@@ -3,10 +3,15 @@
 // is compared with the file `stdout` of this crate, which holds the same rows with the values that are right.
 #![tactic(auto)]
 
+mod cores;
+mod crews;
 mod measures;
 mod openings;
+mod players;
+mod plays;
 mod rows;
 mod scripts;
+mod seats;
 
 use std::alloc::Global;
 use std::rt::{Env, Files};

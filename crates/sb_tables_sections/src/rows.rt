@@ -1,6 +1,6 @@
 // The value of a row.
 
-use crate::{measures, openings};
+use crate::{crews, measures, openings, plays};
 use sb_rows::{RowFault, arguments};
 use std::alloc::Global;
 use std::thread::Threads;
@@ -12,6 +12,8 @@ pub fn value_of<R: Threads + Sync>(rt: &R, alloc: Global, row: &str) -> Result<S
     let parts = arguments(alloc, rest)?;
     match name {
         "Section::new" => openings::value_of(alloc, parts.as_slice()),
+        "Section::play" => plays::value_of(alloc, parts.as_slice()),
+        "Section::close" => crews::value_of(rt, alloc, parts.as_slice()),
         _ => measures::value_of(rt, alloc, name, parts.as_slice()),
     }
 }

@@ -6,7 +6,7 @@ ghost use Rattle.std.specs.Prelude.{option_map, IsTrue};
 
 use sb_actor::ThreadState;
 use sb_call::ShortName;
-use sb_rows::RowFault;
+use sb_rows::{RowFault, call};
 use sb_statements::{
     Script, StartLines, Statement, Statements, TargetScript, Targets, Threads, Word, clean,
 };
@@ -28,19 +28,27 @@ pub fn waiting(alloc: Global, loads: u32) -> Result<Script, RowFault> {
 
 // A script of one target with one channel.
 fn script_of(alloc: Global, name: &[u8], threads: Threads) -> Result<Script, RowFault> {
-    let name = ShortName::new(name).ok_or(RowFault::BadWords)?;
     let mut targets = Targets::none(alloc);
-    targets.push(TargetScript {
+    targets.push(target(name, 1, threads)?)?;
+    Ok(of_targets(alloc, targets))
+}
+
+fn target(name: &[u8], channels: u32, threads: Threads) -> Result<TargetScript, RowFault> {
+    let name = ShortName::new(name).ok_or(RowFault::BadWords)?;
+    Ok(TargetScript {
         name,
         policy: 0,
-        channels: 1,
+        channels,
         threads,
-    })?;
-    Ok(Script {
+    })
+}
+
+fn of_targets(alloc: Global, targets: Targets) -> Script {
+    Script {
         patience: 1000,
         start: StartLines::none(alloc),
         targets,
-    })
+    }
 }
 
 /// Of the channels of the first target, whether each is clean.
@@ -103,4 +111,82 @@ pub fn is_by_hand(script: &Script, state: &ThreadState, target: u32) -> bool
     ensures { IsTrue result → IsOfTarget target (statement_at script.now state.now.target state.now.thread state.now.place) }
 {
     names_word(present(script, state), target)
+}
+
+/// A script of one target with one channel and two threads: one call, and a store into a word of the channel. Place 0 is the state.
+pub fn calling(alloc: Global, text: &str, at: u32, value: u64) -> Result<Script, RowFault> {
+    let (tag, args) = call(alloc, text)?;
+    let word = Word { channel: 0, at };
+    let mut threads = Threads::none(alloc);
+    threads.push(only(alloc, Statement::Call { tag, args })?)?;
+    threads.push(only(
+        alloc,
+        Statement::Store {
+            target: 0,
+            word,
+            value,
+        },
+    )?)?;
+    script_of(alloc, b"tab", threads)
+}
+
+// One statement.
+fn only(alloc: Global, statement: Statement) -> Result<Statements, RowFault> {
+    let mut statements = Statements::none(alloc);
+    statements.push(statement)?;
+    Ok(statements)
+}
+
+/// A script of two targets: the first has three channels and four threads of so many calls, the second two threads of so many stores
+/// into the last of these channels.
+pub fn crew(alloc: Global, calls: u32, stores: u32) -> Result<Script, RowFault> {
+    let mut targets = Targets::none(alloc);
+    targets.push(callers(alloc, calls)?)?;
+    targets.push(hands(alloc, stores)?)?;
+    Ok(of_targets(alloc, targets))
+}
+
+fn callers(alloc: Global, calls: u32) -> Result<TargetScript, RowFault> {
+    let mut threads = Threads::none(alloc);
+    for _thread in 0..4 {
+        threads.push(pings(alloc, calls)?)?;
+    }
+    target(b"tab", 3, threads)
+}
+
+fn hands(alloc: Global, stores: u32) -> Result<TargetScript, RowFault> {
+    let mut threads = Threads::none(alloc);
+    for thread in 0..2 {
+        threads.push(stores_from(alloc, thread, stores)?)?;
+    }
+    target(b"odd", 1, threads)
+}
+
+fn pings(alloc: Global, calls: u32) -> Result<Statements, RowFault> {
+    let mut statements = Statements::none(alloc);
+    for _call in 0..calls {
+        let (tag, args) = call(alloc, "ping 7 \"\"")?;
+        statements.push(Statement::Call { tag, args })?;
+    }
+    Ok(statements)
+}
+
+fn stores_from(alloc: Global, thread: u32, stores: u32) -> Result<Statements, RowFault> {
+    let mut statements = Statements::none(alloc);
+    for number in 0..stores {
+        statements.push(store(number.wrapping_add(thread)))?;
+    }
+    Ok(statements)
+}
+
+// A store into a word of the last channel: in turn each word, with values that states, numbers and ends of blocks have among others.
+fn store(number: u32) -> Statement {
+    Statement::Store {
+        target: 0,
+        word: Word {
+            channel: 2,
+            at: number % 65,
+        },
+        value: u64::from(number % 7) << (number % 3 * 20),
+    }
 }

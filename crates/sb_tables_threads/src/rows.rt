@@ -16,7 +16,7 @@ pub fn value_of<R: Threads + Wait + Sync>(
     let (name, rest) = row.split_once(' ').unwrap_or((row, ""));
     let parts = arguments(alloc, rest)?;
     if name.starts_with("Turn::") {
-        return turns::value_of(alloc, name, parts.as_slice());
+        return turns::value_of(rt, alloc, name, parts.as_slice());
     }
     pools::value_of(rt, alloc, name, parts.as_slice())
 }
