@@ -11,28 +11,47 @@ use std::alloc::Global;
 
 /// What a function of files and outputs gives.
 pub fn value_of(alloc: Global, name: &str, parts: &[&str]) -> Result<String, RowFault> {
-    match (name, parts) {
-        ("MemFiles::read", [files, fails, reads]) => reads_of(alloc, files, fails, reads),
-        ("FileList::find", [files, name]) => found(alloc, files, name),
-        ("FileList::into_items", [files]) => listed(alloc, files),
-        ("StoredFile::eq", [a, b]) => files_equal(alloc, a, b),
-        ("MemSink::put", [room, fails, puts]) => puts_of(alloc, room, fails, puts),
-        ("put_lines", [room, fails, lines]) => lines_put(alloc, room, fails, lines),
-        ("message", [kind, fault]) => message(alloc, kind, fault),
-        _ => list_value(alloc, name, parts),
+    match parts {
+        [list] => value_of_one(alloc, name, list),
+        [first, second] => value_of_two(alloc, name, first, second),
+        [first, second, third] => value_of_three(alloc, name, (first, second, third)),
+        _ => Err(RowFault::Unknown),
     }
 }
 
-fn list_value(alloc: Global, name: &str, parts: &[&str]) -> Result<String, RowFault> {
-    match (name, parts) {
-        ("Bytes::copy", [list]) => bytes_copied(alloc, list),
-        ("Bytes::len", [list]) => bytes_counted(alloc, list),
-        ("Bytes::eq", [a, b]) => bytes_equal(alloc, a, b),
-        ("Bytes::into_items", [list]) => bytes_back(alloc, list),
-        ("Text::eq", [a, b]) => texts_equal(alloc, a, b),
-        ("Text::into_string", [text]) => text_back(alloc, text),
-        ("Numbers::contains", [list, item]) => is_among(alloc, list, item),
-        ("Numbers::into_items", [list]) => numbers_back(alloc, list),
+fn value_of_one(alloc: Global, name: &str, list: &str) -> Result<String, RowFault> {
+    match name {
+        "FileList::into_items" => listed(alloc, list),
+        "Bytes::copy" => bytes_copied(alloc, list),
+        "Bytes::len" => bytes_counted(alloc, list),
+        "Bytes::into_items" => bytes_back(alloc, list),
+        "Text::into_string" => text_back(alloc, list),
+        "Numbers::into_items" => numbers_back(alloc, list),
+        _ => Err(RowFault::Unknown),
+    }
+}
+
+fn value_of_two(alloc: Global, name: &str, first: &str, second: &str) -> Result<String, RowFault> {
+    match name {
+        "FileList::find" => found(alloc, first, second),
+        "StoredFile::eq" => files_equal(alloc, first, second),
+        "Bytes::eq" => bytes_equal(alloc, first, second),
+        "Text::eq" => texts_equal(alloc, first, second),
+        "Numbers::contains" => is_among(alloc, first, second),
+        "message" => message(alloc, first, second),
+        _ => Err(RowFault::Unknown),
+    }
+}
+
+fn value_of_three(
+    alloc: Global,
+    name: &str,
+    parts: (&str, &str, &str),
+) -> Result<String, RowFault> {
+    match name {
+        "MemFiles::read" => reads_of(alloc, parts.0, parts.1, parts.2),
+        "MemSink::put" => puts_of(alloc, parts.0, parts.1, parts.2),
+        "put_lines" => lines_put(alloc, parts.0, parts.1, parts.2),
         _ => Err(RowFault::Unknown),
     }
 }
@@ -234,12 +253,26 @@ fn put_outcome(out: &mut String, outcome: Result<(), SinkFault>) -> Result<(), R
 }
 
 fn message(alloc: Global, kind: &str, fault: &str) -> Result<String, RowFault> {
-    match (kind, fault) {
-        ("FileFault", "Missing") => displayed(alloc, &FileFault::Missing),
-        ("FileFault", "TooLong") => displayed(alloc, &FileFault::TooLong),
-        ("FileFault", "Failed") => displayed(alloc, &FileFault::Failed),
-        ("FileFault", "NoMemory") => displayed(alloc, &FileFault::NoMemory),
-        ("SinkFault", "Failed") => displayed(alloc, &SinkFault::Failed),
+    match kind {
+        "FileFault" => file_message(alloc, fault),
+        "SinkFault" => sink_message(alloc, fault),
+        _ => Err(RowFault::Unknown),
+    }
+}
+
+fn file_message(alloc: Global, fault: &str) -> Result<String, RowFault> {
+    match fault {
+        "Missing" => displayed(alloc, &FileFault::Missing),
+        "TooLong" => displayed(alloc, &FileFault::TooLong),
+        "Failed" => displayed(alloc, &FileFault::Failed),
+        "NoMemory" => displayed(alloc, &FileFault::NoMemory),
+        _ => Err(RowFault::Unknown),
+    }
+}
+
+fn sink_message(alloc: Global, fault: &str) -> Result<String, RowFault> {
+    match fault {
+        "Failed" => displayed(alloc, &SinkFault::Failed),
         _ => Err(RowFault::Unknown),
     }
 }

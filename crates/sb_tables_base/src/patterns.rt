@@ -7,16 +7,37 @@ use std::alloc::Global;
 
 /// What a function of patterns gives.
 pub fn value_of(alloc: Global, name: &str, parts: &[&str]) -> Result<String, RowFault> {
-    match (name, parts) {
-        ("Pattern::read", [text]) => cells(alloc, text),
-        ("Pattern::text", [text]) => written(alloc, text),
-        ("Pattern::copy", [text]) => copied(alloc, text),
-        ("Pattern::eq", [a, b]) => equality(alloc, a, b),
-        ("Pattern::chunks", [text]) => chunks(alloc, text),
-        ("Chunks::into_items", [text]) => chunks_back(alloc, text),
-        ("Pattern::matches_plain", [text, units]) => matching(alloc, text, units),
-        ("PatternFault::number", _) => number(alloc, parts),
-        ("message", _) => message(alloc, parts),
+    match name {
+        "PatternFault::number" => number(alloc, parts),
+        "message" => message(alloc, parts),
+        _ => counted_value(alloc, name, parts),
+    }
+}
+
+// What a function gives for so many arguments.
+fn counted_value(alloc: Global, name: &str, parts: &[&str]) -> Result<String, RowFault> {
+    match parts {
+        [text] => value_of_one(alloc, name, text),
+        [first, second] => value_of_two(alloc, name, first, second),
+        _ => Err(RowFault::Unknown),
+    }
+}
+
+fn value_of_one(alloc: Global, name: &str, text: &str) -> Result<String, RowFault> {
+    match name {
+        "Pattern::read" => cells(alloc, text),
+        "Pattern::text" => written(alloc, text),
+        "Pattern::copy" => copied(alloc, text),
+        "Pattern::chunks" => chunks(alloc, text),
+        "Chunks::into_items" => chunks_back(alloc, text),
+        _ => Err(RowFault::Unknown),
+    }
+}
+
+fn value_of_two(alloc: Global, name: &str, first: &str, second: &str) -> Result<String, RowFault> {
+    match name {
+        "Pattern::eq" => equality(alloc, first, second),
+        "Pattern::matches_plain" => matching(alloc, first, second),
         _ => Err(RowFault::Unknown),
     }
 }
@@ -73,10 +94,12 @@ fn text_of(alloc: Global, pattern: &Pattern) -> Result<String, RowFault> {
 }
 
 fn message(alloc: Global, parts: &[&str]) -> Result<String, RowFault> {
-    match parts {
-        ["PatternFault", words @ ..] => fault_message(alloc, words),
-        ["PatternRefused", "NoMemory"] => displayed(alloc, &PatternRefused::NoMemory),
-        ["PatternRefused", words @ ..] => refusal_message(alloc, words),
+    let [kind, words @ ..] = parts else {
+        return Err(RowFault::Unknown);
+    };
+    match *kind {
+        "PatternFault" => fault_message(alloc, words),
+        "PatternRefused" => refusal_message(alloc, words),
         _ => Err(RowFault::Unknown),
     }
 }
@@ -86,7 +109,14 @@ fn fault_message(alloc: Global, words: &[&str]) -> Result<String, RowFault> {
 }
 
 fn refusal_message(alloc: Global, words: &[&str]) -> Result<String, RowFault> {
-    displayed(alloc, &PatternRefused::Fault(fault(words)?))
+    displayed(alloc, &refusal(words)?)
+}
+
+fn refusal(words: &[&str]) -> Result<PatternRefused, RowFault> {
+    match words {
+        ["NoMemory"] => Ok(PatternRefused::NoMemory),
+        _ => Ok(PatternRefused::Fault(fault(words)?)),
+    }
 }
 
 fn number(alloc: Global, words: &[&str]) -> Result<String, RowFault> {
@@ -95,9 +125,23 @@ fn number(alloc: Global, words: &[&str]) -> Result<String, RowFault> {
 
 fn fault(words: &[&str]) -> Result<PatternFault, RowFault> {
     match words {
-        ["DoubleStar", at] => Ok(PatternFault::DoubleStar(small(at)?)),
-        ["StarQuestion", at] => Ok(PatternFault::StarQuestion(small(at)?)),
-        ["TooLong"] => Ok(PatternFault::TooLong),
+        [name] => lone_fault(name),
+        [name, at] => fault_at(name, small(at)?),
+        _ => Err(RowFault::BadWords),
+    }
+}
+
+fn lone_fault(name: &str) -> Result<PatternFault, RowFault> {
+    match name {
+        "TooLong" => Ok(PatternFault::TooLong),
+        _ => Err(RowFault::BadWords),
+    }
+}
+
+fn fault_at(name: &str, at: u32) -> Result<PatternFault, RowFault> {
+    match name {
+        "DoubleStar" => Ok(PatternFault::DoubleStar(at)),
+        "StarQuestion" => Ok(PatternFault::StarQuestion(at)),
         _ => Err(RowFault::BadWords),
     }
 }

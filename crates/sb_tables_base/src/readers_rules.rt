@@ -50,12 +50,39 @@ fn test(alloc: Global, words: &[&str]) -> Result<Test, RowFault> {
     let [word, rest @ ..] = words else {
         return Err(RowFault::BadWords);
     };
-    match (*word, rest) {
-        ("is", [word]) if unquoted(word).is_some() => equal(alloc, word),
-        ("is", numbers) => one_of(alloc, numbers),
-        ("in", [text]) => range(text),
-        ("has", [bits]) => mask(bits),
-        ("like", [word]) => like(alloc, word),
+    match *word {
+        "is" => is_test(alloc, rest),
+        "in" => range_test(rest),
+        "has" => mask_test(rest),
+        "like" => like_test(alloc, rest),
+        _ => Err(RowFault::BadWords),
+    }
+}
+
+fn is_test(alloc: Global, words: &[&str]) -> Result<Test, RowFault> {
+    match words {
+        [word] if unquoted(word).is_some() => equal(alloc, word),
+        numbers => one_of(alloc, numbers),
+    }
+}
+
+fn range_test(words: &[&str]) -> Result<Test, RowFault> {
+    match words {
+        [text] => range(text),
+        _ => Err(RowFault::BadWords),
+    }
+}
+
+fn mask_test(words: &[&str]) -> Result<Test, RowFault> {
+    match words {
+        [bits] => mask(bits),
+        _ => Err(RowFault::BadWords),
+    }
+}
+
+fn like_test(alloc: Global, words: &[&str]) -> Result<Test, RowFault> {
+    match words {
+        [word] => like(alloc, word),
         _ => Err(RowFault::BadWords),
     }
 }

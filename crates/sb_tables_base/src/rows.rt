@@ -8,24 +8,34 @@ use std::alloc::Global;
 /// divided by bars.
 pub fn value_of(alloc: Global, row: &str) -> Result<String, RowFault> {
     let (name, rest) = row.split_once(' ').unwrap_or((row, ""));
-    let arguments = arguments(alloc, rest)?;
-    let parts = arguments.as_slice();
-    let mut value = strings::value_of(alloc, name, parts);
-    if is_unknown(&value) {
-        value = texts::value_of(alloc, name, parts);
-    }
-    if is_unknown(&value) {
-        value = outside::value_of(alloc, name, parts);
-    }
-    if is_unknown(&value) {
-        value = patterns::value_of(alloc, name, parts);
-    }
-    if is_unknown(&value) {
-        value = rules::value_of(alloc, name, parts);
-    }
-    value
+    let parts = arguments(alloc, rest)?;
+    string_value(alloc, name, parts.as_slice())
 }
 
-fn is_unknown(value: &Result<String, RowFault>) -> bool {
-    matches!(value, Err(RowFault::Unknown))
+fn string_value(alloc: Global, name: &str, parts: &[&str]) -> Result<String, RowFault> {
+    match strings::value_of(alloc, name, parts) {
+        Err(RowFault::Unknown) => text_value(alloc, name, parts),
+        value => value,
+    }
+}
+
+fn text_value(alloc: Global, name: &str, parts: &[&str]) -> Result<String, RowFault> {
+    match texts::value_of(alloc, name, parts) {
+        Err(RowFault::Unknown) => outside_value(alloc, name, parts),
+        value => value,
+    }
+}
+
+fn outside_value(alloc: Global, name: &str, parts: &[&str]) -> Result<String, RowFault> {
+    match outside::value_of(alloc, name, parts) {
+        Err(RowFault::Unknown) => pattern_value(alloc, name, parts),
+        value => value,
+    }
+}
+
+fn pattern_value(alloc: Global, name: &str, parts: &[&str]) -> Result<String, RowFault> {
+    match patterns::value_of(alloc, name, parts) {
+        Err(RowFault::Unknown) => rules::value_of(alloc, name, parts),
+        value => value,
+    }
 }

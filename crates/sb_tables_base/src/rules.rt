@@ -10,18 +10,44 @@ use std::alloc::Global;
 
 /// What a function of policies gives.
 pub fn value_of(alloc: Global, name: &str, parts: &[&str]) -> Result<String, RowFault> {
-    match (name, parts) {
-        ("Action::number", [word]) => action_number(alloc, word),
-        ("Action::word", [word]) => action_word(alloc, word),
-        ("verdict_plain", [text, forwarded]) => verdict(alloc, text, forwarded),
-        ("well_made", [text]) => is_well_made(alloc, text),
-        ("all_well_made", texts) => are_well_made(alloc, texts),
-        ("Policy::eq", [a, b]) => equality(alloc, a, b),
-        ("Policies::copy", texts) => copied(alloc, texts),
-        ("PlainJudge::new", texts) => is_judge(alloc, texts),
-        ("PlainJudge::judge", [target, forwarded, texts @ ..]) => {
-            judged(alloc, target, forwarded, texts)
-        }
+    match name {
+        "all_well_made" => are_well_made(alloc, parts),
+        "Policies::copy" => copied(alloc, parts),
+        "PlainJudge::new" => is_judge(alloc, parts),
+        "PlainJudge::judge" => judged_in(alloc, parts),
+        _ => counted_value(alloc, name, parts),
+    }
+}
+
+// What a function gives for so many arguments.
+fn counted_value(alloc: Global, name: &str, parts: &[&str]) -> Result<String, RowFault> {
+    match parts {
+        [text] => value_of_one(alloc, name, text),
+        [first, second] => value_of_two(alloc, name, first, second),
+        _ => Err(RowFault::Unknown),
+    }
+}
+
+fn value_of_one(alloc: Global, name: &str, text: &str) -> Result<String, RowFault> {
+    match name {
+        "Action::number" => action_number(alloc, text),
+        "Action::word" => action_word(alloc, text),
+        "well_made" => is_well_made(alloc, text),
+        _ => Err(RowFault::Unknown),
+    }
+}
+
+fn value_of_two(alloc: Global, name: &str, first: &str, second: &str) -> Result<String, RowFault> {
+    match name {
+        "verdict_plain" => verdict(alloc, first, second),
+        "Policy::eq" => equality(alloc, first, second),
+        _ => Err(RowFault::Unknown),
+    }
+}
+
+fn judged_in(alloc: Global, parts: &[&str]) -> Result<String, RowFault> {
+    match parts {
+        [target, forwarded, texts @ ..] => judged(alloc, target, forwarded, texts),
         _ => Err(RowFault::Unknown),
     }
 }

@@ -9,17 +9,37 @@ use std::alloc::Global;
 
 /// What a function of strings gives.
 pub fn value_of(alloc: Global, name: &str, parts: &[&str]) -> Result<String, RowFault> {
-    match (name, parts) {
-        ("fold", [number]) => folded(alloc, number),
-        ("is_component", [units]) => component_test(alloc, units),
-        ("is_name", [units]) => name_test(alloc, units),
-        ("same", [a, b]) => comparison(alloc, a, b),
-        ("quoted_len", [units]) => quoted_length(alloc, units),
-        ("quote_into", [before, units]) => quoted(alloc, before, units),
-        ("Wide::len", [units]) => length(alloc, units),
-        ("Wide::eq", [a, b]) => equality(alloc, a, b),
-        ("message", ["NoMemory"]) => displayed(alloc, &NoMemory),
-        (_, [text]) => listed(alloc, name, text),
+    match parts {
+        [text] => value_of_one(alloc, name, text),
+        [first, second] => value_of_two(alloc, name, first, second),
+        _ => Err(RowFault::Unknown),
+    }
+}
+
+fn value_of_one(alloc: Global, name: &str, text: &str) -> Result<String, RowFault> {
+    match name {
+        "fold" => folded(alloc, text),
+        "is_component" => component_test(alloc, text),
+        "is_name" => name_test(alloc, text),
+        "quoted_len" => quoted_length(alloc, text),
+        "Wide::len" => length(alloc, text),
+        "message" => message(alloc, text),
+        _ => listed(alloc, name, text),
+    }
+}
+
+fn value_of_two(alloc: Global, name: &str, first: &str, second: &str) -> Result<String, RowFault> {
+    match name {
+        "same" => comparison(alloc, first, second),
+        "quote_into" => quoted(alloc, first, second),
+        "Wide::eq" => equality(alloc, first, second),
+        _ => Err(RowFault::Unknown),
+    }
+}
+
+fn message(alloc: Global, fault: &str) -> Result<String, RowFault> {
+    match fault {
+        "NoMemory" => displayed(alloc, &NoMemory),
         _ => Err(RowFault::Unknown),
     }
 }

@@ -10,10 +10,23 @@ use std::alloc::Global;
 
 /// What a function of texts gives.
 pub fn value_of(alloc: Global, name: &str, parts: &[&str]) -> Result<String, RowFault> {
-    match (name, parts) {
-        ("Lines" | "Line::tokens" | "Tokens" | "string_of", [whole]) => of_text(alloc, name, whole),
-        ("message", ["NotUtf8", line]) => message(alloc, line),
-        (_, [whole]) => of_bytes(alloc, name, whole),
+    match parts {
+        [whole] => value_of_one(alloc, name, whole),
+        ["NotUtf8", line] => value_of_message(alloc, name, line),
+        _ => Err(RowFault::Unknown),
+    }
+}
+
+fn value_of_one(alloc: Global, name: &str, whole: &str) -> Result<String, RowFault> {
+    match name {
+        "Lines" | "Line::tokens" | "Tokens" | "string_of" => of_text(alloc, name, whole),
+        _ => of_bytes(alloc, name, whole),
+    }
+}
+
+fn value_of_message(alloc: Global, name: &str, line: &str) -> Result<String, RowFault> {
+    match name {
+        "message" => message(alloc, line),
         _ => Err(RowFault::Unknown),
     }
 }
