@@ -1,10 +1,17 @@
 pub mod Closings
+pub mod Crews
+pub mod Dealings
+pub mod Endings
 pub mod Fields
+pub mod Gathering
 pub mod Hands
 pub mod Noting
 pub mod Openings
 pub mod Pairing
 pub mod Pooling
+pub mod Returns
+pub mod Starts
+pub mod Supplies
 pub mod Tasks
 pub mod ThreadActors
 pub mod ThreadSteps

@@ -11,6 +11,7 @@ use sb_turn::Turn;
 use std::marker::Model;
 
 /// The judge, the gate, the script, the sections of its targets, the turn, and the pool that deals the sections to workers.
+#[derive(Drop)]
 pub(crate) struct Field<'a, J: Judge, G: Gate> {
     pub(crate) judge: &'a J,
     pub(crate) gate: &'a G,

@@ -3,16 +3,30 @@
 #![tactic(auto)]
 
 mod closings;
+mod crews;
+mod dealings;
+mod endings;
 mod fields;
+mod flags;
+mod gathering;
 mod homes;
 mod openings;
 mod pooling;
+mod promises;
+mod returns;
+mod runs;
 mod serving;
+mod spawning;
+mod started;
+mod starts;
+mod supplies;
 mod tasks;
+mod teams;
 mod threads;
 mod turning;
 mod workers;
 mod works;
 
+pub use runs::run_threads;
 pub use threads::ThreadActor;
 pub use workers::WorkerActor;

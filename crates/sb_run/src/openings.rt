@@ -30,9 +30,9 @@ impl Model for Opened {
     ghost view = { λ x. record { sections = x.sections.items; workers = x.workers.items; threads = map (λ v. v.items) x.threads.items; strays = map (λ v. v.items) x.strays.items } };
 }
 
-// How many channels a target has: 1 to 8.
+/// How many channels a target has: 1 to 8.
 #[tactic(auto, using(crate::proofs::Counted::some_channels))]
-fn channel_count(script: &Script, target: u32) -> u32
+pub(crate) fn channel_count(script: &Script, target: u32) -> u32
     requires sound { is_sound script.now ≡ true }
     requires there { target < length script.now.targets }
     ensures count { result ≡ channels_of (slice_get script.now.targets target) }
@@ -93,9 +93,9 @@ fn open_section(
     Section::new(alloc, target, marks.as_slice(), threads, strays)
 }
 
-// How many targets a sound script has: at most 8.
+/// How many targets a sound script has: at most 8.
 #[tactic(auto, using(crate::proofs::Counted::few_targets))]
-fn target_count(script: &Script) -> u32
+pub(crate) fn target_count(script: &Script) -> u32
     requires { is_sound script.now ≡ true }
     ensures count { result ≡ length script.now.targets }
     ensures few { result ≤ 8 }
