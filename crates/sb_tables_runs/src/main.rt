@@ -1,0 +1,67 @@
+// Prints rows of runs by threads. A row names a policy and a script, which are files beside the rows, and how many workers serve; what
+// is printed behind it is what checks of the run's report tell. They are plain code over the report alone, by the definitions of what a
+// report has to be, and tell the same of each right report, whatever order the steps had. What is printed is compared with the file
+// `stdout` of this crate. Where memory runs out the program ends with a fault.
+#![tactic(auto)]
+
+mod checks;
+mod decisions;
+mod done;
+mod finals;
+mod gates;
+mod generating;
+mod inputs;
+mod kinds;
+mod replies;
+mod reports;
+mod rows;
+mod sources;
+mod told;
+
+use sb_rows::RowFault;
+use std::alloc::AllocError;
+use std::rt::{Env, Files};
+use std::sync::Wait;
+use std::thread::Threads;
+use std::{env, fs, io};
+
+fn main(rt: HostRuntime) -> io::Result<()> {
+    print_files(&rt)
+}
+
+// Prints the rows of all files that the arguments name.
+fn print_files<R: Env + Files + Print + AllocGlobal + Threads + Wait + Sync>(
+    rt: &R,
+) -> io::Result<()> {
+    for name in env::args(rt)?.skip(1) {
+        let text = fs::read_to_string(rt, name)?;
+        print_rows(rt, text.as_str())?;
+    }
+    Ok(())
+}
+
+fn print_rows<R: Files + Print + AllocGlobal + Threads + Wait + Sync>(
+    rt: &R,
+    text: &str,
+) -> io::Result<()> {
+    for line in text.lines() {
+        rt.println(told_line(rt, line)?)?;
+    }
+    Ok(())
+}
+
+// What is printed of a line: a blank line or a comment as it is, and a row with its value.
+fn told_line<R: Files + AllocGlobal + Threads + Wait + Sync>(
+    rt: &R,
+    line: &str,
+) -> io::Result<String> {
+    let alloc = rt.alloc();
+    if line.is_empty() || line.starts_with('#') {
+        return Ok(String::from_str(alloc, line)?);
+    }
+    match rows::value_of(rt, line) {
+        Ok(value) => Ok(format!(in alloc; "{line} => {value}")?),
+        Err(RowFault::NoMemory) => Err(io::Error::from(AllocError)),
+        Err(fault) => Ok(format!(in alloc; "{line} FAULT {fault}")?),
+    }
+}

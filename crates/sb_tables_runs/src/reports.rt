@@ -1,0 +1,104 @@
+// Reports of runs.
+
+use crate::checks::{ALL_RIGHT, told_checks};
+use crate::generating::{POLICY, script_text};
+use crate::inputs::{Inputs, inputs_by};
+use sb_book::Report;
+use sb_compile::Programs;
+use sb_core::{Ran, run};
+use sb_outside::{Gate, OpenGate};
+use sb_rows::RowFault;
+use sb_run::run_threads;
+use sb_statements::{Schedule, Steps};
+use std::alloc::Global;
+use std::sync::Wait;
+use std::thread::Threads;
+
+// As many rounds as a replay without a schedule makes at most.
+const MOST_ROUNDS: u32 = 20_000_000;
+
+/// The report of a run by so many workers, from 1 to 8, each call of which passes the gate.
+#[tactic(auto, using(crate::proofs::Ready::ready_made))]
+pub fn report_by_threads<R: Threads + Wait + Sync, G: Gate + Sync>(
+    rt: &R,
+    alloc: Global,
+    inputs: &Inputs,
+    workers: u32,
+    gate: &G,
+) -> Result<Report, RowFault> {
+    if workers == 0 || workers > 8 {
+        return Err(RowFault::NotInRange);
+    }
+    let judge = Programs::new(alloc, &inputs.policies, &inputs.script)?;
+    match run_threads(
+        rt,
+        alloc,
+        &judge,
+        &inputs.policies,
+        &inputs.script,
+        workers,
+        gate,
+    ) {
+        Ok(report) => Ok(report),
+        Err(_) => Err(RowFault::NoMemory),
+    }
+}
+
+/// The report of a run on one thread, in rounds.
+#[tactic(auto, using(crate::proofs::Ready::ready_made))]
+pub fn report_by_rounds(alloc: Global, inputs: &Inputs) -> Result<Report, RowFault> {
+    let judge = Programs::new(alloc, &inputs.policies, &inputs.script)?;
+    let schedule = Schedule {
+        steps: Steps::new(Vec::new(alloc)),
+        rounds: MOST_ROUNDS,
+    };
+    match run(alloc, &judge, &inputs.policies, &inputs.script, &schedule) {
+        Ok(
+            Ran {
+                report,
+                unfinished: None,
+            },
+        ) => Ok(report),
+        Ok(_) => Err(RowFault::NotInRange),
+        Err(_) => Err(RowFault::NoMemory),
+    }
+}
+
+/// Runs the scripts that are generated from so many numbers, each by 1, 2 or 8 workers. Told are how many runs were made, or the first
+/// whose report is not right, with its number, its workers and what the checks tell.
+pub fn generated<R: Threads + Wait + Sync>(
+    rt: &R,
+    alloc: Global,
+    seed: u64,
+    runs: u64,
+) -> Result<String, RowFault> {
+    for run in 0..runs {
+        let (number, workers) = (seed.wrapping_add(run), workers_of(run));
+        let told = told_generated(rt, alloc, number, workers)?;
+        if told.as_str() != ALL_RIGHT {
+            return Ok(format!(in alloc; "script {number} workers {workers} {told}")?);
+        }
+    }
+    Ok(format!(in alloc; "runs {runs} all right")?)
+}
+
+// How many workers a run has.
+fn workers_of(run: u64) -> u32 {
+    match run % 3 {
+        0 => 1,
+        1 => 2,
+        _ => 8,
+    }
+}
+
+fn told_generated<R: Threads + Wait + Sync>(
+    rt: &R,
+    alloc: Global,
+    number: u64,
+    workers: u32,
+) -> Result<String, RowFault> {
+    let text = script_text(alloc, number, "\n")?;
+    let inputs = inputs_by(alloc, POLICY.as_bytes(), text.as_str().as_bytes())?;
+    let report = report_by_threads(rt, alloc, &inputs, workers, &OpenGate)?;
+    told_checks(alloc, &inputs, &report)
+}

@@ -1,0 +1,104 @@
+// The value of a row.
+
+use crate::checks::told_checks;
+use crate::gates::meeting;
+use crate::generating::script_text;
+use crate::inputs::read_inputs;
+use crate::reports::{generated, report_by_rounds, report_by_threads};
+use sb_outside::OpenGate;
+use sb_rows::{RowFault, arguments, number, small};
+use std::rt::Files;
+use std::sync::Wait;
+use std::thread::Threads;
+
+/// What the function of a row gives for its arguments. The function is the first word, and the arguments stand behind it, divided by
+/// bars.
+pub fn value_of<R: Files + AllocGlobal + Threads + Wait + Sync>(
+    rt: &R,
+    row: &str,
+) -> Result<String, RowFault> {
+    let (name, rest) = row.split_once(' ').unwrap_or((row, ""));
+    let parts = arguments(rt.alloc(), rest)?;
+    match parts.as_slice() {
+        [seed] => of_one(rt, name, seed),
+        [seed, runs] => of_two(rt, name, seed, runs),
+        [policy, script, third] => of_three(rt, name, (policy, script), third),
+        [policy, script, workers, turns] => of_four(rt, name, (policy, script), (workers, turns)),
+        _ => Err(RowFault::Unknown),
+    }
+}
+
+// The lines of a generated script.
+fn of_one<R: AllocGlobal>(rt: &R, name: &str, seed: &str) -> Result<String, RowFault> {
+    match name {
+        "script" => script_text(rt.alloc(), number(seed)?, " / "),
+        _ => Err(RowFault::Unknown),
+    }
+}
+
+// Generated scripts run by threads, one for each number from a seed on.
+fn of_two<R: AllocGlobal + Threads + Wait + Sync>(
+    rt: &R,
+    name: &str,
+    seed: &str,
+    runs: &str,
+) -> Result<String, RowFault> {
+    match name {
+        "generated" => generated(rt, rt.alloc(), number(seed)?, number(runs)?),
+        _ => Err(RowFault::Unknown),
+    }
+}
+
+// A script run by so many workers, or the report of another checked as if it were of this script.
+fn of_three<R: Files + AllocGlobal + Threads + Wait + Sync>(
+    rt: &R,
+    name: &str,
+    files: (&str, &str),
+    third: &str,
+) -> Result<String, RowFault> {
+    match name {
+        "run_threads" => by_threads(rt, files, small(third)?),
+        "crossed" => crossed(rt, files, third),
+        _ => Err(RowFault::Unknown),
+    }
+}
+
+fn by_threads<R: Files + AllocGlobal + Threads + Wait + Sync>(
+    rt: &R,
+    files: (&str, &str),
+    workers: u32,
+) -> Result<String, RowFault> {
+    let inputs = read_inputs(rt, files.0, files.1)?;
+    let report = report_by_threads(rt, rt.alloc(), &inputs, workers, &OpenGate)?;
+    told_checks(rt.alloc(), &inputs, &report)
+}
+
+fn crossed<R: Files + AllocGlobal>(
+    rt: &R,
+    files: (&str, &str),
+    other: &str,
+) -> Result<String, RowFault> {
+    let inputs = read_inputs(rt, files.0, files.1)?;
+    let report = report_by_rounds(rt.alloc(), &read_inputs(rt, files.0, other)?)?;
+    told_checks(rt.alloc(), &inputs, &report)
+}
+
+// A script run by so many workers through a gate that holds calls back, for so many turns at most.
+fn of_four<R: Files + AllocGlobal + Threads + Wait + Sync>(
+    rt: &R,
+    name: &str,
+    files: (&str, &str),
+    numbers: (&str, &str),
+) -> Result<String, RowFault> {
+    let inputs = read_inputs(rt, files.0, files.1)?;
+    match name {
+        "meeting" => meeting(
+            rt,
+            rt.alloc(),
+            &inputs,
+            small(numbers.0)?,
+            number(numbers.1)?,
+        ),
+        _ => Err(RowFault::Unknown),
+    }
+}

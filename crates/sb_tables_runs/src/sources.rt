@@ -1,0 +1,248 @@
+// Whether each value that a report shows was written by somebody.
+
+use crate::done::Done;
+use crate::told::Told;
+use sb_block::{encode, reply_words};
+use sb_book::{Entry, WordList};
+use sb_call::{Arg, CallTag, Reply, fits};
+use sb_statements::{CallResult, Statement, StmtResult, Word};
+
+// A word of a target's channel: 0 is the state, and 1 + i is block word i.
+#[derive(Clone, Copy)]
+struct Place {
+    target: u32,
+    channel: u32,
+    at: u32,
+}
+
+// What is known of a value that has to have a source.
+#[derive(Clone, Copy)]
+enum Wanted {
+    // It is this.
+    Value(u64),
+    // It is an end item, with this end.
+    End(u64),
+    // It says how many extended words there are: so many, or more where these are seven.
+    Count(u64),
+}
+
+fn meets(wanted: Wanted, value: u64) -> bool {
+    match wanted {
+        Wanted::Value(known) => value == known,
+        Wanted::End(end) => (value >> 16) & 0xffff == end,
+        Wanted::Count(many) => value.min(7) == many,
+    }
+}
+
+// Whether such a value needs nobody who wrote it: a state from 1 to 5, or 0 in a word of a block.
+fn is_given(place: Place, wanted: Wanted) -> bool {
+    match (place.at, wanted) {
+        (0, Wanted::Value(state)) => 1 <= state && state <= 5,
+        (0, _) => false,
+        _ => meets(wanted, 0),
+    }
+}
+
+// Whether a statement stores such a value there by hand.
+fn is_stored(done: &Done<'_>, place: Place, wanted: Wanted) -> bool {
+    match done.statement {
+        Statement::Store {
+            target,
+            word,
+            value,
+        } => is_at(*target, *word, place) && meets(wanted, *value),
+        Statement::Exchange {
+            target,
+            word,
+            to,
+            ..
+        } => { is_at(*target, *word, place) && meets(wanted, *to) }
+        _ => false,
+    }
+}
+
+fn is_at(target: u32, word: Word, place: Place) -> bool {
+    target == place.target && word.channel == place.channel && word.at == place.at
+}
+
+// Whether the block of a call of the target has such a value there.
+fn is_of_call(done: &Done<'_>, place: Place, wanted: Wanted) -> bool {
+    match done.statement {
+        Statement::Call { tag, args } => {
+            done.target == place.target
+                && has_word(*tag, args.as_slice(), done.mark, place.at, wanted)
+        }
+        _ => false,
+    }
+}
+
+fn has_word(tag: CallTag, args: &[Arg], mark: u64, at: u32, wanted: Wanted) -> bool {
+    if at == 0 || !fits(tag, args) {
+        return false;
+    }
+    match encode(tag, args, mark) {
+        Ok(words) => is_met_at(words.as_slice(), at - 1, wanted),
+        Err(_) => false,
+    }
+}
+
+fn is_met_at(words: &[u64], at: u32, wanted: Wanted) -> bool {
+    match words.get(at as usize) {
+        Some(word) => meets(wanted, *word),
+        None => false,
+    }
+}
+
+// Whether a reply has such a value there. Its words stand from block word 3 on.
+fn is_of_reply(entry: &Entry, place: Place, wanted: Wanted) -> bool {
+    entry.target == place.target
+        && entry.channel == place.channel
+        && place.at >= 4
+        && is_met_at(&reply_words(&entry.reply), place.at - 4, wanted)
+}
+
+fn is_written(done: &Done<'_>, place: Place, wanted: Wanted) -> bool {
+    is_stored(done, place, wanted) || is_of_call(done, place, wanted)
+}
+
+// Whether such a value has a source there, among the calls and stores of the script and the replies of these entries.
+fn has_source(told: &Told<'_>, before: &[Entry], place: Place, wanted: Wanted) -> bool {
+    is_given(place, wanted)
+        || before.iter().any(|entry| is_of_reply(entry, place, wanted))
+        || told.done.iter().any(|done| is_written(done, place, wanted))
+}
+
+// Whether these values have sources at this place and those behind it.
+fn are_sourced(told: &Told<'_>, before: &[Entry], first: Place, values: &[u64]) -> bool {
+    let mut place = first;
+    for value in values {
+        if !has_source(told, before, place, Wanted::Value(*value)) {
+            return false;
+        }
+        place.at = place.at.saturating_add(1);
+    }
+    true
+}
+
+/// The place of the first entry whose copy has a word without a source among what was there before it.
+pub fn unsourced_copy(told: &Told<'_>) -> Option<usize> {
+    for at in 0..told.entries.len() {
+        let (before, rest) = told.entries.split_at(at);
+        if let [entry, ..] = rest {
+            if !is_sourced_copy(told, before, entry) {
+                return Some(at);
+            }
+        }
+    }
+    None
+}
+
+fn is_sourced_copy(told: &Told<'_>, before: &[Entry], entry: &Entry) -> bool {
+    let (count, end) = (entry.taken.count_seen(), entry.taken.end_seen());
+    are_sourced(told, before, place_of(entry, 1), entry.taken.words())
+        && has_source(told, before, place_of(entry, 3), Wanted::Value(count))
+        && (count > 9
+            || has_source(
+                told,
+                before,
+                place_of(entry, 16 + count as u32),
+                Wanted::End(end),
+            ))
+}
+
+fn place_of(entry: &Entry, at: u32) -> Place {
+    Place {
+        target: entry.target,
+        channel: entry.channel,
+        at,
+    }
+}
+
+/// The number of the first result that shows a value without a source.
+pub fn unsourced_result(told: &Told<'_>) -> Option<usize> {
+    told.done.iter().position(|done| !is_shown(told, done))
+}
+
+fn is_shown(told: &Told<'_>, done: &Done<'_>) -> bool {
+    match done.result {
+        StmtResult::Call(ended) => is_shown_call(told, done.target, ended),
+        StmtResult::Found(value) => is_found(told, done.statement, *value),
+        _ => true,
+    }
+}
+
+fn is_found(told: &Told<'_>, statement: &Statement, value: u64) -> bool {
+    match statement {
+        Statement::Exchange { target, word, .. } | Statement::Load { target, word } => {
+            let place = Place {
+                target: *target,
+                channel: word.channel,
+                at: word.at,
+            };
+            has_source(told, told.entries, place, Wanted::Value(value))
+        }
+        _ => true,
+    }
+}
+
+fn is_shown_call(told: &Told<'_>, target: u32, ended: &CallResult) -> bool {
+    match ended {
+        CallResult::Reply { channel, reply } => is_sourced_reply(told, target, *channel, reply),
+        CallResult::SendLost { channel, found } => {
+            are_shown(told, (target, *channel, 0), &[*found])
+        }
+        CallResult::Foreign { channel, mark } => are_shown(told, (target, *channel, 4), &[*mark]),
+        _ => true,
+    }
+}
+
+// Whether these values have sources at this place and those behind it, in the whole run.
+fn are_shown(told: &Told<'_>, first: (u32, u32, u32), values: &[u64]) -> bool {
+    let (target, channel, at) = first;
+    let place = Place {
+        target,
+        channel,
+        at,
+    };
+    are_sourced(told, told.entries, place, values)
+}
+
+fn is_sourced_reply(told: &Told<'_>, target: u32, channel: u32, reply: &Reply) -> bool {
+    let count = Place {
+        target,
+        channel,
+        at: 8,
+    };
+    let head = [reply.mark, reply.outcome, reply.status, reply.handle];
+    are_shown(told, (target, channel, 4), &head)
+        && has_source(
+            told,
+            told.entries,
+            count,
+            Wanted::Count(reply.ext.len() as u64),
+        )
+        && are_shown(told, (target, channel, 9), reply.ext.as_slice())
+}
+
+/// The number of the first target with a word at the end that has no source.
+pub fn unsourced_words(told: &Told<'_>) -> Option<usize> {
+    (0..told.words.len()).position(|target| !are_sourced_words(told, target))
+}
+
+fn are_sourced_words(told: &Told<'_>, target: usize) -> bool {
+    match (told.words.get(target), u32::try_from(target)) {
+        (Some(words), Ok(number)) => are_sourced_channels(told, number, words),
+        _ => false,
+    }
+}
+
+fn are_sourced_channels(told: &Told<'_>, target: u32, words: &WordList) -> bool {
+    let mut channel: u32 = 0;
+    for values in words.as_slice().chunks(65) {
+        if !are_shown(told, (target, channel, 0), values) {
+            return false;
+        }
+        channel = channel.saturating_add(1);
+    }
+    true
+}
