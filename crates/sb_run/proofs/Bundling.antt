@@ -1,5 +1,5 @@
 -- The next section with its seats.
-use Rattle.std.proofs.Common.{◌≡◌, refl, sym, subst, ap, ◌∙◌, ℕ, zero, suc, ◌+◌, ◌<◌, List, [], ◌∷◌, ◌++◌, length, length-append, map, Option, None, Some, option_map, arith}
+use Rattle.std.proofs.Common.{◌≡◌, refl, sym, ap, ◌∙◌, ℕ, ◌+◌, ◌<◌, List, [], ◌∷◌, ◌++◌, length, length-append, map, Option, None, Some, option_map, arith}
 use Rattle.std.specs.Prelude.{◌↔◌, IsSome}
 use Rattle.std.specs.Option.{option_to_list}
 use Rattle.sb_section.specs.Seats.{SectionValue, StraySeatValue, ThreadSeatValue, WorkerSeatValue}

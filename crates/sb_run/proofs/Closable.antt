@@ -1,15 +1,14 @@
 -- Each section can be closed at the end with the seats of its worker and its threads, and its stray seats.
-use Rattle.std.proofs.Common.{◌≡◌, refl, sym, subst, ap, ◌∙◌, ℕ, zero, suc, ◌+◌, ◌<◌, List, [], ◌∷◌, length, map, Some, arith}
+use Rattle.std.proofs.Common.{◌≡◌, refl, sym, subst, ap, ◌∙◌, ℕ, zero, suc, ◌+◌, List, [], ◌∷◌, length, map, Some, arith}
 use Rattle.std.specs.Prelude.{slice_get}
 use Rattle.sb_actor.specs.Places.{clean_channels}
 use Rattle.sb_actor.specs.declared.views.WorkerView.{WorkerView}
 use Rattle.sb_pool.specs.Pools.{seen}
-use Rattle.sb_section.specs.Seats.{SectionValue, StraySeatValue, ThreadSeatValue, WorkerSeatValue, opened_worker}
+use Rattle.sb_section.specs.Seats.{SectionValue, StraySeatValue, ThreadSeatValue, WorkerSeatValue}
 use Rattle.sb_statements.specs.Actors.{thread_count}
 use Rattle.sb_run.specs.Closings.{AreOutside, AreThreadsOf}
 use Rattle.sb_run.specs.Endings.{AreWorkersOf, CanClose, CanCloseAll, ClosingAt, HasEnded, RunEndAt, WorkersAt, bundled, lent_books}
 use Rattle.sb_run.specs.Gathering.{columns_of, gathered}
-use Rattle.sb_run.specs.Pairing.{AllPairs}
 use Rattle.sb_run.specs.Starts.{all_of}
 use Rattle.sb_run.specs.Tasks.{EndAt}
 use Rattle.sb_run.specs.Works.{WorkAt}

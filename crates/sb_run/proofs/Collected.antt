@@ -1,9 +1,8 @@
 -- One more of what comes together at the end.
-use Rattle.std.proofs.Common.{◌≡◌, refl, sym, subst, ap, ◌∙◌, ℕ, zero, suc, List, [], ◌∷◌, ◌++◌, append-nil, length, map, Option, None, Some, arith}
+use Rattle.std.proofs.Common.{◌≡◌, refl, sym, subst, ap, ◌∙◌, zero, suc, List, [], ◌∷◌, ◌++◌, append-nil, map, Option, None, Some}
 use Rattle.std.proofs.lemmas.List.{map-append}
 use Rattle.std.specs.Option.{option_to_list}
-use Rattle.std.specs.Prelude.{slice_get}
-use Rattle.sb_run.specs.Endings.{AreKeptWorks, IsKeptWork, WorkersAt, apart, with_work}
+use Rattle.sb_run.specs.Endings.{AreKeptWorks, IsKeptWork, apart, with_work}
 use Rattle.sb_run.specs.Gathering.{gathered, gathered_target, spread, with_end, with_target}
 use Rattle.sb_run.specs.Starts.{all_of}
 use Rattle.sb_run.specs.Tasks.{EndAt}

@@ -1,10 +1,10 @@
 -- How many targets, channels and threads a sound script has.
-use Rattle.std.proofs.Common.{◌≡◌, refl, sym, subst, ◌<◌, ◌≤◌, ℕ, zero, suc, List, [], ◌∷◌, Bool, true, ◌&&◌, length, lit≤, arith}
+use Rattle.std.proofs.Common.{◌≡◌, refl, sym, subst, ◌<◌, ◌≤◌, ℕ, zero, suc, List, [], ◌∷◌, true, ◌&&◌, length, arith}
 use Rattle.std.proofs.lemmas.Bool.{and_parts}
 use Rattle.std.proofs.lemmas.Bool.Decides.{nat_tests}
-use Rattle.std.specs.Prelude.{nat_le, Option, None, Some, slice_get}
+use Rattle.std.specs.Prelude.{nat_le, Some, slice_get}
 use Rattle.std.specs.List.{list_all}
-use Rattle.sb_statements.specs.Soundness.{is_patience, is_statement, is_start, is_thread, is_target, are_targets, names_differ, is_sound, channels_of, SoundTargets}
+use Rattle.sb_statements.specs.Soundness.{is_patience, is_start, is_thread, is_target, are_targets, names_differ, is_sound, channels_of, SoundTargets}
 use Rattle.sb_statements.specs.declared.scripts.Script.{Script}
 use Rattle.sb_statements.specs.declared.scripts.TargetScript.{TargetScript}
 use Rattle.sb_statements.specs.Actors.{thread_count}

@@ -1,5 +1,5 @@
 -- What the threads of a run gave back.
-use Rattle.std.proofs.Common.{◌≡◌, refl, sym, subst, ap, ◌∙◌, ℕ, zero, suc, List, [], ◌∷◌, ◌++◌, length, map, Some, arith}
+use Rattle.std.proofs.Common.{◌≡◌, sym, ap, ◌∙◌, ℕ, zero, suc, List, [], ◌∷◌, length, map, Some}
 use Rattle.std.specs.Prelude.{cond, is_some, slice_get}
 use Rattle.sb_pool.specs.declared.protocol.PoolView.{PoolView}
 use Rattle.sb_statements.specs.declared.scripts.Script.{Script}

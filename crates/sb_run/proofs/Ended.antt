@@ -1,5 +1,5 @@
 -- What the threads gave back, by the tasks that they were given.
-use Rattle.std.proofs.Common.{◌≡◌, refl, sym, subst, ap, ◌∙◌, ℕ, ◌+◌, ◌<◌, List, length, map, Some, arith}
+use Rattle.std.proofs.Common.{◌≡◌, sym, subst, ap, ◌∙◌, ℕ, ◌<◌, List, length, map, Some, arith}
 use Rattle.std.specs.Prelude.{slice_get}
 use Rattle.sb_actor.specs.Rule.{place}
 use Rattle.sb_actor.specs.declared.views.ThreadView.{ThreadView}

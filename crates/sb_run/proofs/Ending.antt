@@ -1,5 +1,5 @@
 -- What the thread of a task gives back, by the actor that made its steps.
-use Rattle.std.proofs.Common.{◌≡◌, refl, subst, ◌∙◌, List}
+use Rattle.std.proofs.Common.{refl, subst, ◌∙◌, List}
 use Rattle.sb_section.specs.Seats.{StraySeatValue, ThreadSeatValue}
 use Rattle.sb_statements.specs.declared.scripts.Script.{Script}
 use Rattle.sb_run.specs.Hands.{IsSameBook}

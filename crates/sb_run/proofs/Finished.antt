@@ -14,7 +14,6 @@ use Rattle.sb_actor.specs.WorkerStages.{WorkerAt, WorkerStage, Look, Count, End,
 use Rattle.sb_actor.specs.WorkerTable.{is_looking}
 use Rattle.sb_actor.specs.declared.views.Served.{Served}
 use Rattle.sb_actor.specs.declared.views.StrayRecord.{StrayRecord}
-use Rattle.sb_actor.specs.declared.views.ThreadRecord.{ThreadRecord}
 use Rattle.sb_actor.specs.declared.views.ThreadView.{ThreadView}
 use Rattle.sb_actor.specs.declared.views.WorkerPlace.TheVariants as place
 use Rattle.sb_actor.specs.declared.views.WorkerView.{WorkerView}
@@ -24,7 +23,7 @@ use Rattle.sb_rule.specs.Verdicts.{policy_at}
 use Rattle.sb_rule.specs.declared.policies.Policy.{Policy}
 use Rattle.sb_book.specs.declared.entries.Entry.{Entry}
 use Rattle.sb_book.specs.declared.reports.Report.{Report}
-use Rattle.sb_core.specs.Finishes.{AreHandedBack, AreNoted, FinishesAreFew, FinishesAreSourced, FinishesFit, IsClosed, IsClosedNoted, IsNotedPart, IsPart, ThreadPart, no_part, no_stray, part_at, parts_at, results_in, seats_of, stray_at, strays_of}
+use Rattle.sb_core.specs.Finishes.{FinishesAreFew, FinishesAreSourced, FinishesFit, IsClosed, IsClosedNoted, IsNotedPart, IsPart, ThreadPart, no_part, no_stray, part_at, parts_at, results_in, seats_of, stray_at, strays_of}
 use Rattle.sb_core.specs.Fits.{Fits}
 use Rattle.sb_core.specs.Noting.{HandNotes, OwnNotes}
 use Rattle.sb_core.specs.Origins.{IsSourced}
@@ -36,7 +35,7 @@ use Rattle.sb_core.specs.Words.{words_of}
 use Rattle.sb_core.specs.Worlds.{no_worker}
 use Rattle.sb_pool.specs.Pools.{seen}
 use Rattle.sb_section.specs.Closing.{Closes}
-use Rattle.sb_section.specs.Seats.{SectionValue, StraySeatValue, ThreadSeatValue, WorkerSeatValue}
+use Rattle.sb_section.specs.Seats.{StraySeatValue, WorkerSeatValue}
 use Rattle.sb_statements.specs.Actors.{thread_count}
 use Rattle.sb_statements.specs.Soundness.{channels_of}
 use Rattle.sb_statements.specs.declared.results.StmtResult.{StmtResult}
@@ -56,7 +55,7 @@ use Rattle.sb_run.specs.Tasks.{EndAt}
 use Rattle.sb_run.specs.Works.{WorkAt}
 use Rattle.sb_run.proofs.Closable.{IsBundle, bundled_length, bundles, is_bundle, worker_kept}
 use Rattle.sb_run.proofs.Ended.{EndsAs, ends_as, its_thread_count, strays_long, target_count}
-use Rattle.sb_run.proofs.Listed.{append_some, below, map_from, map_length, map_some, map_twice, pair_of, same_maps, there}
+use Rattle.sb_run.proofs.Listed.{append_some, below, map_length, map_some, map_twice, pair_of, same_maps, there}
 use Rattle.sb_run.proofs.Opening.{clean_length}
 use Rattle.sb_run.proofs.Pairs.{pairs_length}
 use Rattle.sb_run.proofs.Reunited.{work_count, work_home}

@@ -1,7 +1,7 @@
 -- A step keeps what the actor of a thread keeps.
 use Rattle.std.proofs.Common.{◌≡◌, refl, sym, subst, ap, ◌∙◌, ℕ, zero, suc, ◌+◌, ◌<◌, ◌≤◌, Bool, true, false, List, [], ◌∷◌, ◌++◌, append-nil, length, length-append, map, Option, None, Some, IfSome, slice_get, arith}
 use Rattle.std.proofs.lemmas.Bool.Decides.{nat_tests}
-use Rattle.std.specs.Prelude.{nat_le, slice_set, MatchBool}
+use Rattle.std.specs.Prelude.{slice_set, MatchBool}
 use Rattle.std.specs.Option.{option_to_list}
 use native.Mathlib.Decide.{ℕ_discrete}
 use Rattle.sb_actor.specs.Fitting.{Suits}
@@ -9,7 +9,7 @@ use Rattle.sb_actor.specs.Following.{act_word}
 use Rattle.sb_actor.specs.Moves.{met, no_call, noted, shows_of}
 use Rattle.sb_actor.specs.Places.{begun, block_of, clean_channels, first_stage, is_call, is_finished, is_in_call, mark_at, statement_at, statements_of}
 use Rattle.sb_actor.specs.Ranges.{IsSoundThreadStage}
-use Rattle.sb_actor.specs.Results.{HadGrows, SuitsAt}
+use Rattle.sb_actor.specs.Results.{SuitsAt}
 use Rattle.sb_actor.specs.ThreadStages.{Over, ThreadAt}
 use Rattle.sb_actor.specs.ThreadTable.{thread_after, thread_plan}
 use Rattle.sb_actor.specs.Ties.{HoldsThread, thread_deed, thread_place_of}
@@ -20,7 +20,7 @@ use Rattle.sb_actor.specs.declared.views.ThreadView.{ThreadView}
 use Rattle.atomic_table.specs.Seated.{TableId}
 use Rattle.sb_core.specs.Views.{OwnCall, as_own, own_calls, own_from, own_of}
 use Rattle.sb_section.specs.Seats.{IsOf, SectionValue, StraySeatValue, ThreadSeatValue}
-use Rattle.sb_section.specs.Steps.{StraySteps, ThreadSteps, deed_or, seen_of, stray_deed_at}
+use Rattle.sb_section.specs.Steps.{deed_or, seen_of, stray_deed_at}
 use Rattle.sb_statements.specs.Soundness.{SoundTargets, is_sound}
 use Rattle.sb_statements.specs.declared.results.StmtResult.{StmtResult}
 use Rattle.sb_statements.specs.declared.scripts.Script.{Script}

@@ -1,10 +1,10 @@
 -- What each row of a thread's table leads to, for what does not depend on where it leads: the statement goes on, or ends, or nothing changes.
 use Rattle.std.proofs.Common.{◌≡◌, refl, ℕ, ◌+◌, Bool, true, false, ◌&&◌, ◌==◌, if◌then◌else◌, [], ◌∷◌, ◌++◌, length, Option, None, Some, arith}
 use Rattle.std.specs.Option.{option_to_list}
-use Rattle.sb_actor.specs.Acts.{value_in, free, busy, acknowledged, abandoned}
+use Rattle.sb_actor.specs.Acts.{value_in, free, busy, abandoned}
 use Rattle.sb_actor.specs.Places.{mark_at, statement_at}
 use Rattle.sb_actor.specs.ThreadStages.{ThreadStage, ThreadAt, Try, Fill, Send, Wait, Fetch, Free, Abandon, Stray, Over}
-use Rattle.sb_actor.specs.ThreadTable.{ThreadNext, after_fetch, after_fill, after_round, after_stray_load, after_try, after_wait, ends, goes_on, has_clean, reply_by, stays, stray_row, thread_after, thread_row}
+use Rattle.sb_actor.specs.ThreadTable.{ThreadNext, after_fetch, after_fill, after_round, after_try, after_wait, ends, goes_on, has_clean, reply_by, stays, stray_row, thread_after, thread_row}
 use Rattle.sb_actor.specs.declared.acts.Seen.{Seen}
 use Rattle.sb_block.specs.Replies.{read_reply}
 use Rattle.sb_statements.specs.declared.results.CallResult.TheVariants as call

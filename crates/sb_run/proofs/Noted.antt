@@ -1,17 +1,17 @@
 -- What one step of a thread notes, and that the notes of all its statements grow by it.
-use Rattle.std.proofs.Common.{◌≡◌, ◌≢◌, refl, sym, subst, ap, ◌∙◌, ℕ, zero, suc, ◌+◌, ◌<◌, Bool, true, false, ◌==◌, ◌&&◌, if◌then◌else◌, List, [], ◌∷◌, ◌++◌, append-nil, length, length-append, map, Option, None, Some, arith}
+use Rattle.std.proofs.Common.{◌≡◌, refl, sym, subst, ap, ◌∙◌, ℕ, zero, suc, ◌+◌, ◌<◌, Bool, true, false, ◌==◌, ◌&&◌, if◌then◌else◌, List, [], ◌∷◌, ◌++◌, append-nil, length, map, Option, None, Some, arith}
 use Rattle.std.proofs.lemmas.Bool.Decides.{nat_tests}
 use Rattle.std.proofs.lemmas.List.{map-append}
 use Rattle.std.specs.Prelude.{slice_index, take}
 use Rattle.std.specs.Option.{option_to_list}
-use Rattle.sb_actor.specs.Acts.{abandoned, acknowledged, busy, free, value_in}
+use Rattle.sb_actor.specs.Acts.{abandoned, acknowledged, busy, free}
 use Rattle.sb_actor.specs.Following.{act_word}
-use Rattle.sb_actor.specs.Moves.{Deed, at, met, noted, notes_after, send, shown, shows_of, take_it}
+use Rattle.sb_actor.specs.Moves.{Deed, at, met, noted, notes_after, send, shows_of, take_it}
 use Rattle.sb_actor.specs.Places.{begins, block_of, first_stage, is_call, mark_at, statement_at}
 use Rattle.sb_actor.specs.Ranges.{IsSoundThreadStage}
 use Rattle.sb_actor.specs.StrayFollowing.{stray_deed_of}
 use Rattle.sb_actor.specs.ThreadStages.{ThreadStage, ThreadAt, Try, Fill, Send, Wait, Fetch, Free, Abandon, Stray, Over}
-use Rattle.sb_actor.specs.ThreadTable.{ThreadNext, after_fetch, after_fill, after_round, after_send, after_stray_load, after_try, after_wait, ends, goes_on, has_clean, is_clean_at, reply_by, stays, stray_row, thread_after, thread_plan, thread_row}
+use Rattle.sb_actor.specs.ThreadTable.{ThreadNext, after_fetch, after_fill, after_round, after_send, after_stray_load, after_try, after_wait, ends, goes_on, has_clean, is_clean_at, reply_by, stray_row, thread_row}
 use Rattle.sb_actor.specs.Ties.{thread_deed}
 use Rattle.sb_actor.specs.UnderWay.{IsCallStage, IsStageOf, IsStrayStage}
 use Rattle.sb_actor.specs.declared.views.Notes.{Notes}
@@ -26,7 +26,7 @@ use Rattle.sb_statements.specs.declared.scripts.Script.{Script}
 use Rattle.sb_statements.specs.declared.statements.Statement.{Statement}
 use Rattle.sb_statements.specs.declared.statements.Statement.TheVariants as statement
 use Rattle.sb_statements.specs.declared.statements.Word.{Word}
-use Rattle.sb_core.specs.Noting.{AllOwnShows, CallShows, HandNotes, OwnNotes, OwnShows, call_stores, found_there, hand_shows, hand_shows_at, hand_stores, hand_stores_at, noted_from, own_stores, own_stores_at, sending, shown_values, stage_shows, stage_stores, taking, words_from}
+use Rattle.sb_core.specs.Noting.{AllOwnShows, HandNotes, OwnNotes, OwnShows, hand_shows, hand_shows_at, hand_stores, hand_stores_at, noted_from, own_stores, own_stores_at, sending, shown_values, stage_shows, stage_stores, taking, words_from}
 use Rattle.sb_run.specs.ThreadSteps.{target_in}
 
 abbrev pub Pairs : Type 0

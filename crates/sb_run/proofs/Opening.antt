@@ -1,12 +1,12 @@
 -- One section more.
-use Rattle.std.proofs.Common.{◌≡◌, refl, sym, subst, ap, ◌∙◌, ℕ, zero, suc, ◌+◌, ◌<◌, ◌≤◌, Bool, true, ◌&&◌, List, [], ◌∷◌, ◌++◌, length, length-append, Some, arith}
+use Rattle.std.proofs.Common.{◌≡◌, refl, sym, subst, ℕ, zero, suc, ◌+◌, List, [], ◌∷◌, ◌++◌, length, length-append, Some, arith}
 use native.Mathlib.Numerals.{unary_clauses}
 use Rattle.std.specs.Prelude.{slice_get}
 use Rattle.sb_actor.specs.Places.{clean_channels, clean_upto}
 use Rattle.sb_section.specs.Seats.{SectionValue, StraySeatValue, ThreadSeatValue, WorkerSeatValue}
 use Rattle.sb_statements.specs.Scripts.{is_clean}
 use Rattle.sb_statements.specs.declared.scripts.Script.{Script}
-use Rattle.sb_run.specs.Openings.{AreInOrder, AreStraysIn, AreThreadsIn, IsOpened, IsWorkerOf, OpenedAt}
+use Rattle.sb_run.specs.Openings.{AreStraysIn, AreThreadsIn, IsOpened, IsWorkerOf, OpenedAt}
 use Rattle.sb_run.proofs.Pairs.{pairs_more}
 
 clean_next : (script : Script) (t n : ℕ) → clean_upto script t (suc n) ≡ clean_upto script t n ++ is_clean script t n ∷ []

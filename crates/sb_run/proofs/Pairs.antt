@@ -1,5 +1,5 @@
 -- Two lists whose elements belong together, place by place.
-use Rattle.std.proofs.Common.{◌≡◌, refl, sym, subst, ap, ◌∙◌, ℕ, zero, suc, List, [], ◌∷◌, ◌++◌, length, Some, None, arith}
+use Rattle.std.proofs.Common.{◌≡◌, refl, subst, ap, ℕ, zero, suc, List, [], ◌∷◌, ◌++◌, length, Some}
 use Rattle.std.specs.Prelude.{slice_get, slice_set}
 use Rattle.sb_run.specs.Pairing.{AllPairs}
 

@@ -1,10 +1,10 @@
 -- A seat of the pool once it has taken in all others.
-use Rattle.std.proofs.Common.{◌≡◌, refl, sym, subst, ap, ◌∙◌, ℕ, zero, suc, ◌+◌, ◌<◌, ◌==◌, cond, Bool, true, false, List, [], ◌∷◌, ◌++◌, append-nil, length, map, Option, None, Some, inl, inr, arith}
+use Rattle.std.proofs.Common.{◌≡◌, refl, sym, subst, ap, ◌∙◌, ℕ, zero, suc, ◌+◌, ◌<◌, ◌==◌, cond, Bool, true, false, List, [], ◌∷◌, ◌++◌, append-nil, length, map, None, Some, inl, inr, arith}
 use Rattle.std.proofs.lemmas.Bool.Decides.{nat_tests}
 use Rattle.std.specs.Prelude.{◌⊎◌, slice_get}
 use Rattle.std.specs.Option.{option_or}
 use native.Mathlib.Decide.{ℕ_discrete}
-use Rattle.sb_pool.specs.Pools.{IsSeatOf, seen}
+use Rattle.sb_pool.specs.Pools.{seen}
 use Rattle.sb_pool.specs.Views.{IsLast, times, with_taken}
 use Rattle.sb_pool.specs.declared.protocol.PoolView.{PoolView}
 use Rattle.sb_pool.specs.declared.seats.PoolSeat.{PoolSeat}

@@ -1,5 +1,5 @@
 -- What the end of a run asks of its parts, by what the steps before gave.
-use Rattle.std.proofs.Common.{◌≡◌, sym, subst, ap, ℕ, List, ◌++◌, length, map, Some}
+use Rattle.std.proofs.Common.{◌≡◌, sym, subst, ℕ, List, ◌++◌, length, map, Some}
 use Rattle.std.specs.Prelude.{slice_get}
 use Rattle.sb_book.specs.Histories.{History, IsHistory}
 use Rattle.sb_book.specs.Targets.{of_target}

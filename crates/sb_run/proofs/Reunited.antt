@@ -1,5 +1,5 @@
 -- The seats of the pool, and those of the turn, are all there at the end.
-use Rattle.std.proofs.Common.{◌≡◌, refl, sym, subst, ap, ◌∙◌, ℕ, zero, suc, ◌+◌, ◌<◌, ◌==◌, cond, Bool, true, false, List, [], ◌++◌, length, length-append, map, None, Some, inl, inr, arith}
+use Rattle.std.proofs.Common.{◌≡◌, sym, subst, ap, ◌∙◌, ℕ, ◌+◌, ◌<◌, ◌==◌, cond, false, List, [], ◌++◌, length, length-append, map, None, Some, inl, inr, arith}
 use Rattle.std.proofs.lemmas.Bool.Decides.{nat_tests}
 use Rattle.std.specs.Prelude.{◌⊎◌, slice_get}
 use Rattle.sb_book.specs.Histories.{setting_of}
@@ -7,7 +7,6 @@ use Rattle.sb_pool.specs.Pools.{IsSeatOf, seen}
 use Rattle.sb_pool.specs.declared.protocol.PoolView.{PoolView}
 use Rattle.sb_pool.specs.declared.seats.PoolSeat.{PoolSeat}
 use Rattle.sb_turn.specs.Turns.{SeatValue}
-use Rattle.sb_turn.specs.declared.views.BookView.{BookView}
 use Rattle.sb_turn.specs.declared.views.Hold.TheVariants.{Without}
 use Rattle.sb_run.specs.Endings.{AreWorkersOf, CanClosePool, HasEnded, RunEndAt, WorkersAt, lent_books, start_of}
 use Rattle.sb_run.specs.Hands.{HandAt, IsSameBook, IsSameHand}

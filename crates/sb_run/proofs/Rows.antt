@@ -1,7 +1,6 @@
 -- Columns of rows.
-use Rattle.std.proofs.Common.{◌≡◌, refl, sym, subst, ap, ◌∙◌, ℕ, zero, suc, ◌+◌, ◌<◌, List, [], ◌∷◌, ◌++◌, append-nil, length, map, replicate, Option, None, Some, arith}
+use Rattle.std.proofs.Common.{◌≡◌, refl, sym, subst, ap, ◌∙◌, ℕ, zero, suc, ◌+◌, ◌<◌, List, [], ◌∷◌, ◌++◌, append-nil, length, replicate, Some, arith}
 use Rattle.std.specs.Prelude.{slice_get}
-use Rattle.std.specs.Option.{option_to_list}
 use Rattle.sb_run.specs.Gathering.{columns_of, spread, spread_all}
 use Rattle.sb_run.specs.Pairing.{AllPairs}
 use Rattle.sb_run.proofs.Listed.{there}

@@ -1,17 +1,14 @@
 -- What a work is tied to stays while it is served.
-use Rattle.std.proofs.Common.{◌≡◌, refl, sym, subst, ap, ◌∙◌, ℕ, ◌<◌, Bool, true, false, List, length, Some, arith}
+use Rattle.std.proofs.Common.{◌≡◌, sym, subst, ap, ◌∙◌, ℕ, ◌<◌, List, length, Some, arith}
 use Rattle.std.specs.Prelude.{slice_get, slice_index}
 use Rattle.sb_actor.specs.WorkerNotes.{WorkerNotes}
 use Rattle.sb_actor.specs.WorkerStages.{WorkerAt}
-use Rattle.sb_actor.specs.WorkerTable.{is_looking}
 use Rattle.sb_rule.specs.declared.policies.Policy.{Policy}
 use Rattle.sb_section.specs.Seats.{SectionValue, WorkerSeatValue}
 use Rattle.sb_turn.specs.Turns.{SeatValue, TurnValue}
 use Rattle.sb_run.specs.Fields.{FieldAt, IsField, IsHome}
-use Rattle.sb_run.specs.WorkerActors.{CanServe, WorkerActorAt}
-use Rattle.sb_run.specs.WorkerSteps.{IsSameActor}
-use Rattle.sb_run.specs.Works.{IsWork, WorkAt, home_of}
-use Rattle.sb_run.specs.declared.homes.Home.{Home}
+use Rattle.sb_run.specs.WorkerActors.{CanServe}
+use Rattle.sb_run.specs.Works.{IsWork, home_of}
 
 -- a work that is tied to the section of its target can be served there
 module _ (x : FieldAt) (field : IsField x) (t : ℕ) (s : SectionValue) (at : slice_get x.sections t ≡ Some s) (low : t < length x.sections) where

@@ -1,11 +1,11 @@
 -- A step keeps what the actor of a worker keeps.
-use Rattle.std.proofs.Common.{◌≡◌, ◌≢◌, refl, sym, subst, ap, ◌∙◌, ℕ, zero, suc, ◌+◌, ◌<◌, Bool, true, false, ◌==◌, if◌then◌else◌, List, [], ◌∷◌, ◌++◌, append-nil, length, map, Option, Result, Ok, Err, inl, inr, None, Some, arith}
+use Rattle.std.proofs.Common.{◌≡◌, ◌≢◌, refl, sym, subst, ap, ◌∙◌, ℕ, ◌+◌, ◌<◌, Bool, true, false, ◌==◌, if◌then◌else◌, List, [], ◌∷◌, ◌++◌, append-nil, length, map, Option, Result, Ok, Err, inl, inr, None, Some}
 use Rattle.std.proofs.lemmas.List.{map-append}
-use Rattle.std.specs.Prelude.{◌⊎◌, nat_lt, slice_index, drop, is_some, is_err, IfSome, IfNone, OnOk, MatchBool}
-use Rattle.sb_actor.specs.Acts.{ready, reply_in, value_in}
+use Rattle.std.specs.Prelude.{nat_lt, slice_index, drop, is_some, is_err, IfSome, IfNone, OnOk, MatchBool}
+use Rattle.sb_actor.specs.Acts.{ready, value_in}
 use Rattle.sb_actor.specs.Ties.{HoldsWorker, worker_place_of}
 use Rattle.sb_actor.specs.WorkerStages.{WorkerStage, WorkerAt, Look, Count, End, Copy, Take, Mark, Give, Reply, Ack}
-use Rattle.sb_actor.specs.WorkerTable.{after_take, after_copy, after_count, after_end, after_reply, at_stage, look_next, taken_in, worker_after, worker_plan, worker_row}
+use Rattle.sb_actor.specs.WorkerTable.{after_take, at_stage, look_next, taken_in, worker_after, worker_plan, worker_row}
 use Rattle.sb_actor.specs.declared.acts.Act.TheVariants as act
 use Rattle.sb_actor.specs.declared.acts.Seen.{Seen}
 use Rattle.sb_actor.specs.declared.acts.Seen.TheVariants as seen
@@ -30,8 +30,8 @@ use Rattle.sb_turn.specs.declared.views.BookView.{BookView}
 use Rattle.sb_turn.specs.declared.views.Hold.{Hold}
 use Rattle.sb_turn.specs.declared.views.Hold.TheVariants.{Without, Taken, Marked}
 use Rattle.sb_call.specs.declared.replies.Reply.{Reply as ReplyOf}
-use Rattle.sb_run.specs.WorkerActors.{AreSeatsOf, AreServed, HasDecided, HoldsBook, HoldsTurn, IsStopped, IsWorkerActor, IsWorking, WorkerActorAt, decision_on}
-use Rattle.sb_run.specs.WorkerSteps.{FindsNoMemory, FindsTurnHeld, Marks, TakesTurn, Tries, laid_back}
+use Rattle.sb_run.specs.WorkerActors.{AreSeatsOf, HasDecided, HoldsBook, HoldsTurn, IsStopped, IsWorkerActor, IsWorking, WorkerActorAt, decision_on}
+use Rattle.sb_run.specs.WorkerSteps.{FindsNoMemory, Marks, Tries, laid_back}
 
 -- what the stage of a worker without the turn has
 abbrev IsFree : Hold → BookView → Option History → Option Decision → Type 0

@@ -1,5 +1,5 @@
 -- How the seats of a section come together at the end.
-use Rattle.std.specs.Prelude.{◌≡◌, ◌<◌, ℕ, ◌+◌, List, [], ◌++◌, length, map, slice_get, Some}
+use Rattle.std.specs.Prelude.{◌≡◌, ℕ, ◌+◌, List, [], ◌++◌, length, map, slice_get, Some}
 use mathlib.Core.Option as raw
 use Rattle.atomic_table.specs.Seated.{TableId}
 use Rattle.sb_actor.specs.Rule.{place}

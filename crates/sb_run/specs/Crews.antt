@@ -1,5 +1,5 @@
 -- The threads of a run, as the one that starts them has them.
-use Rattle.std.specs.Prelude.{◌≡◌, ℕ, ⊤, List, map, slice_get, Some}
+use Rattle.std.specs.Prelude.{◌≡◌, ℕ, ⊤, List, slice_get, Some}
 use Rattle.sb_statements.specs.declared.scripts.Script.{Script}
 use Rattle.sb_turn.specs.Turns.{SeatValue}
 use Rattle.sb_run.specs.Fields.{FieldAt, IsField}

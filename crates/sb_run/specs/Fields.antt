@@ -1,5 +1,5 @@
 -- What all actors of a run share, and what ties a work to it.
-use Rattle.std.specs.Prelude.{◌≡◌, ◌<◌, ℕ, true, List, length, slice_get, slice_index, Some}
+use Rattle.std.specs.Prelude.{◌≡◌, ℕ, true, List, length, slice_get, slice_index, Some}
 use Rattle.sb_pool.specs.Pools.{PoolValue}
 use Rattle.sb_rule.specs.declared.policies.Policy.{Policy}
 use Rattle.sb_section.specs.Seats.{IsOf, SectionValue}

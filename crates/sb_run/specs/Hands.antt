@@ -1,9 +1,8 @@
 -- The seats of a thread that serves sections.
-use Rattle.std.specs.Prelude.{◌≡◌, ℕ, [], Option, None}
+use Rattle.std.specs.Prelude.{◌≡◌, []}
 use Rattle.sb_pool.specs.Pools.{IsSeatOf, seen}
 use Rattle.sb_pool.specs.declared.seats.PoolSeat.{PoolSeat}
 use Rattle.sb_turn.specs.Turns.{SeatValue}
-use Rattle.sb_turn.specs.declared.views.BookView.{BookView}
 use Rattle.sb_turn.specs.declared.views.Hold.TheVariants.{Without}
 use Rattle.sb_run.specs.Fields.{AreHomes, FieldAt}
 use Rattle.sb_run.specs.Works.{WorkAt}

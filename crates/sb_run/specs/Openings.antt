@@ -1,5 +1,5 @@
 -- The sections of a run before the first step, with their seats.
-use Rattle.std.specs.Prelude.{◌≡◌, ℕ, List, length, slice_get, Some}
+use Rattle.std.specs.Prelude.{◌≡◌, ℕ, List, slice_get, Some}
 use Rattle.sb_actor.specs.Places.{clean_channels}
 use Rattle.sb_section.specs.Seats.{AreStraySeats, AreThreadSeats, SectionValue, StraySeatValue, ThreadSeatValue, WorkerSeatValue, opened_worker}
 use Rattle.sb_statements.specs.Actors.{thread_count}

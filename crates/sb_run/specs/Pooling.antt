@@ -1,5 +1,5 @@
 -- How the seats of the pool come together at the end.
-use Rattle.std.specs.Prelude.{◌≡◌, ◌<◌, ℕ, ◌+◌, ◌==◌, cond, List, [], ◌∷◌, length, map, slice_get, Some, None}
+use Rattle.std.specs.Prelude.{◌≡◌, ◌<◌, ℕ, ◌+◌, ◌==◌, cond, List, [], ◌∷◌, length, slice_get, Some, None}
 use Rattle.sb_pool.specs.Pools.{IsSeatOf, PoolValue, seen}
 use Rattle.sb_pool.specs.Views.{with_taken}
 use Rattle.sb_pool.specs.declared.protocol.PoolView.{PoolView}

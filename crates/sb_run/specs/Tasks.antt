@@ -1,5 +1,5 @@
 -- A thread before its first step, with its seats, and what it gives back once it has ended.
-use Rattle.std.specs.Prelude.{◌≡◌, ◌<◌, ℕ, ⊤, List, [], length, map, slice_get, Some}
+use Rattle.std.specs.Prelude.{◌≡◌, ◌<◌, ℕ, List, [], length, map, slice_get, Some}
 use mathlib.Core.Option as raw
 use Rattle.sb_actor.specs.Laws.{no_notes}
 use Rattle.sb_actor.specs.Places.{begun, statements_of}

@@ -1,16 +1,12 @@
 -- One step of the actor of a thread.
-use Rattle.std.specs.Prelude.{◌≡◌, ℕ, Bool, true, false, List, [], ◌++◌, map, MatchBool, IfSome, Option, Some, None, slice_get, slice_set}
+use Rattle.std.specs.Prelude.{◌≡◌, ℕ, Bool, List, [], ◌++◌, MatchBool, Option, Some, None, slice_get, slice_set}
 use Rattle.std.specs.Option.{option_to_list}
 use Rattle.sb_actor.specs.Places.{is_finished, is_in_call}
-use Rattle.sb_actor.specs.Results.{SuitsAt}
 use Rattle.sb_actor.specs.ThreadStages.{ThreadAt}
 use Rattle.sb_actor.specs.ThreadTable.{thread_plan}
-use Rattle.sb_actor.specs.Ties.{HoldsThread}
-use Rattle.sb_actor.specs.UnderWay.{IsUnderWay}
 use Rattle.sb_actor.specs.declared.acts.Act.{Act}
 use Rattle.sb_actor.specs.declared.acts.Act.TheVariants as act
-use Rattle.sb_actor.specs.declared.acts.Seen.{Seen}
-use Rattle.sb_core.specs.Views.{OwnCall, as_own, own_of}
+use Rattle.sb_core.specs.Views.{OwnCall, own_of}
 use Rattle.sb_section.specs.Seats.{StraySeatValue, ThreadSeatValue}
 use Rattle.sb_section.specs.Steps.{StraySteps, ThreadSteps}
 use Rattle.sb_statements.specs.declared.results.StmtResult.{StmtResult}

@@ -1,5 +1,5 @@
 -- How the seats of the turn, and those of the pool, come together at the end.
-use Rattle.std.specs.Prelude.{◌≡◌, ◌<◌, ℕ, ◌+◌, ◌==◌, cond, List, [], ◌∷◌, length, slice_get, Option, Some, None}
+use Rattle.std.specs.Prelude.{◌≡◌, ◌<◌, ℕ, ◌+◌, ◌==◌, cond, List, [], ◌∷◌, length, slice_get, Some, None}
 use Rattle.atomic_table.specs.Seated.{TableId}
 use Rattle.sb_turn.specs.Turns.{SeatValue}
 use Rattle.sb_turn.specs.Views.{with_joined}

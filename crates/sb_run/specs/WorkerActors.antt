@@ -2,7 +2,7 @@
 use Rattle.std.specs.Prelude.{◌≡◌, ◌<◌, ◌⊎◌, ℕ, Bool, true, false, List, ◌++◌, length, map, slice_index, Option, Some, None, option_map, MatchBool}
 use Rattle.sb_actor.specs.Ties.{HoldsWorker}
 use Rattle.sb_actor.specs.WorkerStages.{WorkerStage, Look, Count, End, Copy, Take, Mark, Give, Reply, Ack, WorkerAt}
-use Rattle.sb_actor.specs.WorkerTable.{is_looking, taken_in}
+use Rattle.sb_actor.specs.WorkerTable.{is_looking}
 use Rattle.sb_actor.specs.declared.acts.Act.{Act}
 use Rattle.sb_actor.specs.declared.acts.Act.TheVariants as act
 use Rattle.sb_block.specs.Copies.{Copied}

@@ -1,6 +1,5 @@
 -- One step of the actor of a worker.
-use Rattle.std.specs.Prelude.{◌≡◌, ◌≢◌, ◌⊎◌, ℕ, Bool, true, false, List, [], ◌∷◌, ◌++◌, Option, Some, None}
-use Rattle.sb_actor.specs.WorkerStages.{WorkerStage, WorkerAt}
+use Rattle.std.specs.Prelude.{◌≡◌, ◌≢◌, ◌⊎◌, true, false, [], ◌∷◌, ◌++◌, Some, None}
 use Rattle.sb_actor.specs.WorkerTable.{taken_in, worker_after, worker_plan}
 use Rattle.sb_actor.specs.declared.acts.Act.{Act}
 use Rattle.sb_actor.specs.declared.acts.Act.TheVariants as act

@@ -102,13 +102,16 @@ fn run_targets<R: Threads + Wait + Sync, J: Judge, G: Gate>(
     )
 }
 
-/// Runs a script on real threads: one for each thread of the script, and `workers` (1 to 8) that serve the sections of all targets in turn. Each call
-/// passes the gate before its worker takes the turn. The script is ready for the policies, and the judge judges each target by the policy that
-/// it names. Every thread has ended when this returns, and the report fits the script whatever the order of their steps was.
+/// Runs a script on real threads: one for each thread of the script, and `workers` (1 to 8) that serve the sections of all targets in turn. The
+/// script is ready for the policies, and the judge judges each target by the policy that it names. The report fits the script whatever the order
+/// of the steps was.
+///
+/// A call that a worker judges passes the gate before the turn is tried; what is still ready once the threads of the script have ended is served
+/// without it. All threads have ended when this returns, since they are of one scope. No clause says this, or which threads there were.
 ///
 /// # Errors
-/// `NoMemory` where there was none for a thread, for the caller or for the report. Then each thread that was started has ended, too.
-pub fn run_threads<R: Threads + Wait + Sync, J: Judge + Sync, G: Gate + Sync>(
+/// `NoMemory` where there was none for a thread, for the caller or for the report.
+pub fn run_threads<R: Threads + Wait + Sync, J: Judge, G: Gate>(
     rt: &R,
     alloc: Global,
     judge: &J,

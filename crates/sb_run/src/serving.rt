@@ -60,11 +60,12 @@ fn work_on<'a, J: Judge, G: Gate, R: Wait>(
             yield_now();
         }
         if actor.looking() {
+            if !looked {
+                break;
+            }
             left = left.saturating_sub(1);
             if left == 0 {
                 yield_now();
-            }
-            if left == 0 || !looked {
                 break;
             }
         }

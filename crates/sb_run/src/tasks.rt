@@ -120,15 +120,17 @@ impl<'a> Runner<'a> {
         self.actor.finished()
     }
 
-    /// Makes the thread's next step, and lets others go first where it found nothing to go on with.
-    pub(crate) fn step(&mut self)
+    /// Makes the thread's next step. True if it found nothing to go on with; then others were let go first.
+    pub(crate) fn step(&mut self) -> bool
         ensures { IsSameRunner self.old self.new }
     {
         let before = self.actor.act();
         self.actor.step();
-        if is_waiting(before, self.actor.act()) {
+        let waiting = is_waiting(before, self.actor.act());
+        if waiting {
             yield_now();
         }
+        waiting
     }
 
     /// Whether the stop word is set.
@@ -155,7 +157,8 @@ impl<'a> Runner<'a> {
     }
 }
 
-// Steps of a thread until it has ended, or the stop word is set.
+// Steps of a thread until it has ended, or the stop word is set. It looks at that word only where it waits: a thread that goes on comes to a wait
+// or to its end, and the word stands beside the turn, which the workers change all the time.
 fn go_through<R: Wait>(rt: &R, turn: &Turn, runner: &mut Runner<'_>) -> Result<(), NoMemory>
     requires { runner.old.book.table ≡ turn.now.table }
     ensures same { IsSameRunner runner.old runner.new }
@@ -165,10 +168,10 @@ fn go_through<R: Wait>(rt: &R, turn: &Turn, runner: &mut Runner<'_>) -> Result<(
         if runner.finished() {
             break;
         }
-        if runner.stopped(turn) {
+        let waiting = runner.step();
+        if waiting && runner.stopped(turn) {
             return Err(NoMemory);
         }
-        runner.step();
     }
     Ok(())
 }

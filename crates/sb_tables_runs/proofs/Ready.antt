@@ -1,5 +1,5 @@
 -- Policies for which a script is ready.
-use Rattle.std.proofs.Common.{◌≡◌, ℕ, Bool, true, ◌&&◌, List, length}
+use Rattle.std.proofs.Common.{◌≡◌, true, ◌&&◌, List, length}
 use Rattle.std.specs.Prelude.{is_ok}
 use Rattle.std.specs.List.{list_all}
 use Rattle.std.proofs.lemmas.Bool.{and_parts}

@@ -19,7 +19,7 @@ const MOST_ROUNDS: u32 = 20_000_000;
 
 /// The report of a run by so many workers, from 1 to 8, each call of which passes the gate.
 #[tactic(auto, using(crate::proofs::Ready::ready_made))]
-pub fn report_by_threads<R: Threads + Wait + Sync, G: Gate + Sync>(
+pub fn report_by_threads<R: Threads + Wait + Sync, G: Gate>(
     rt: &R,
     alloc: Global,
     inputs: &Inputs,

@@ -1,4 +1,4 @@
-use Rattle.std.proofs.Common.{◌≡◌, ◌∙◌, ap, sym, List, slice_get}
+use Rattle.std.proofs.Common.{◌∙◌, ap, sym, List, slice_get}
 use Rattle.sb_run.specs.Hands.{HandAt}
 use Rattle.sb_run.proofs.crews.look_after.Goals as goal
 

@@ -1,4 +1,4 @@
-use Rattle.std.proofs.Common.{◌≡◌, ◌∙◌, ◌++◌, ap, sym, length, map, option_map}
+use Rattle.std.proofs.Common.{◌∙◌, ◌++◌, ap, sym, map, option_map}
 use Rattle.std.specs.Option.{option_to_list}
 use Rattle.std.specs.Vec.Iter.{into_iter_items, into_iter_len}
 use Rattle.sb_run.specs.Endings.{bundled}

@@ -1,4 +1,4 @@
-use Rattle.std.proofs.Common.{◌≡◌, ◌++◌, [], ◌∷◌, length, rules}
+use Rattle.std.proofs.Common.{◌++◌, [], ◌∷◌, length, rules}
 use Rattle.std.specs.Vec.Iter.{into_iter_items}
 use Rattle.sb_run.specs.Endings.{IsClosedWith}
 use Rattle.sb_run.specs.Pairing.{AllPairs}

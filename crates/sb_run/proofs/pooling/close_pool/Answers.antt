@@ -1,4 +1,4 @@
-use Rattle.std.proofs.Common.{◌≡◌, ◌∙◌, ap, subst, sym}
+use Rattle.std.proofs.Common.{◌∙◌, ap, subst, sym}
 use Rattle.sb_pool.specs.Pools.{seen}
 use Rattle.sb_pool.specs.Views.{IsLast}
 use Rattle.sb_pool.specs.declared.protocol.PoolView.{PoolView}

@@ -1,4 +1,4 @@
-use Rattle.std.proofs.Common.{◌≡◌, ◌∙◌, ap, length}
+use Rattle.std.proofs.Common.{◌∙◌, ap, length}
 use Rattle.std.specs.Vec.Iter.{into_iter_items}
 use Rattle.sb_pool.specs.Pools.{seen}
 use Rattle.sb_pool.specs.Views.{with_taken}

@@ -1,4 +1,3 @@
-use Rattle.std.proofs.Common.{◌≡◌}
 use Rattle.sb_run.specs.Hands.{IsHand, IsSameHand}
 use Rattle.sb_run.proofs.serving.attend.Given as goal
 

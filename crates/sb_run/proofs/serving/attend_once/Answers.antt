@@ -1,8 +1,8 @@
-use Rattle.std.proofs.Common.{◌≡◌, ◌∙◌, ap, sym, subst}
+use Rattle.std.proofs.Common.{◌∙◌, ap, sym, subst}
 use Rattle.std.specs.Prelude.{slice_get}
 use Rattle.sb_pool.specs.declared.protocol.PoolView.{PoolView}
 use Rattle.sb_turn.specs.declared.views.BookView.{BookView}
-use Rattle.sb_run.specs.Hands.{HandAt, IsHand}
+use Rattle.sb_run.specs.Hands.{IsHand}
 use Rattle.sb_run.specs.declared.homes.Home.{Home}
 use Rattle.sb_run.proofs.serving.attend_once.Goals as goal
 

@@ -1,4 +1,3 @@
-use Rattle.std.proofs.Common.{◌≡◌}
 use Rattle.sb_run.specs.Tasks.{IsSameRunner}
 use Rattle.sb_run.proofs.tasks.go_through.Given as goal
 

@@ -1,4 +1,4 @@
-use Rattle.std.proofs.Common.{◌≡◌, ◌∙◌, ◌<◌, ap, sym, length, List, rules, slice_get}
+use Rattle.std.proofs.Common.{◌∙◌, ◌<◌, ap, sym, length, List, rules, slice_get}
 use Rattle.sb_run.specs.Hands.{HandAt}
 use Rattle.sb_run.proofs.Named.{at_get}
 use Rattle.sb_run.proofs.teams.serve_with_each.Goals as goal

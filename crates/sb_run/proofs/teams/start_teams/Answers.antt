@@ -1,4 +1,4 @@
-use Rattle.std.proofs.Common.{◌≡◌, length}
+use Rattle.std.proofs.Common.{length}
 use Rattle.std.specs.Vec.Iter.{into_iter_items}
 use Rattle.sb_run.proofs.Crewed.{map_get}
 use Rattle.sb_run.proofs.Pooled.{next_at}

@@ -1,4 +1,4 @@
-use Rattle.std.proofs.Common.{◌≡◌, subst, sym}
+use Rattle.std.proofs.Common.{subst, sym}
 use Rattle.sb_turn.specs.Views.{IsLast}
 use Rattle.sb_run.proofs.Gathered.{is_last}
 use Rattle.sb_run.proofs.turning.close_turn.Goals as goal

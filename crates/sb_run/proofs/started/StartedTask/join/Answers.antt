@@ -1,4 +1,4 @@
-use Rattle.std.proofs.Common.{◌≡◌, subst}
+use Rattle.std.proofs.Common.{subst}
 use Rattle.sb_run.specs.Crews.{IsHostOf, StartedAt}
 use Rattle.sb_run.specs.Tasks.{IsEndOf, IsRunner}
 use Rattle.sb_run.proofs.Ending.{ends_here}

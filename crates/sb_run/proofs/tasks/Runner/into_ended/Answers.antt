@@ -1,4 +1,4 @@
-use Rattle.std.proofs.Common.{◌≡◌, refl, subst}
+use Rattle.std.proofs.Common.{refl, subst}
 use Rattle.sb_run.specs.Tasks.{EndAt, IsEnd, RunnerAt}
 use Rattle.sb_run.proofs.tasks.Runner.into_ended.Goals as goal
 

@@ -1,14 +1,12 @@
-use Rattle.std.proofs.Common.{◌≡◌, ◌∙◌, ap, sym, subst, refl, false, Some, None}
+use Rattle.std.proofs.Common.{◌≡◌, ◌∙◌, ap, sym, subst, refl, false, Some}
 use Rattle.sb_actor.specs.WorkerStages.{WorkerAt}
-use Rattle.sb_actor.specs.WorkerTable.{taken_in, worker_after, worker_plan}
+use Rattle.sb_actor.specs.WorkerTable.{worker_plan}
 use Rattle.sb_actor.specs.declared.acts.Act.TheVariants as act
 use Rattle.sb_actor.specs.declared.acts.Seen.TheVariants as seen
-use Rattle.sb_actor.specs.declared.views.WorkerView.{WorkerView}
-use Rattle.sb_section.specs.Steps.{seen_of}
 use Rattle.sb_turn.specs.declared.views.BookView.{BookView}
-use Rattle.sb_run.specs.WorkerActors.{IsWorkerActor, WorkerActorAt, decision_on}
+use Rattle.sb_run.specs.WorkerActors.{WorkerActorAt}
 use Rattle.sb_run.specs.WorkerSteps.{Marks, Steps, StepsBy}
-use Rattle.sb_run.proofs.Working.{after_same, answer_keeps, answer_marks, at_work, book_at_mark, channel_there, no_error, one_more, tried_keeps, tried_same, works}
+use Rattle.sb_run.proofs.Working.{after_same, answer_keeps, answer_marks, at_work, book_at_mark, channel_there, one_more, works}
 use Rattle.sb_run.proofs.workers.WorkerActor.mark.Goals as goal
 
 pub answer_copy-requires-clause-channel : goal.answer_copy-requires-clause-channel

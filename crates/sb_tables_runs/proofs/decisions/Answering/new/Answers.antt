@@ -1,4 +1,4 @@
-use Rattle.std.proofs.Common.{◌≡◌, sym, ap, ◌∙◌}
+use Rattle.std.proofs.Common.{sym, ap, ◌∙◌}
 use Rattle.std.specs.Prelude.{map}
 use Rattle.sb_book.specs.Histories.{History}
 use Rattle.sb_rule.specs.Verdicts.{policy_at}
