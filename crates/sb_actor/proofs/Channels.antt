@@ -1,5 +1,5 @@
 -- The clean marks of the first channels.
-use Rattle.std.proofs.Common.{arith, ◌≡◌, ◌∙◌, refl, ap, ℕ, zero, suc, ◌+◌, List, [], ◌∷◌, ◌++◌, length, length-append}
+use Rattle.std.proofs.Common.{arith, ◌≡◌, refl, ℕ, zero, suc, ◌+◌, [], ◌∷◌, ◌++◌, length, length-append}
 use native.Mathlib.Numerals.{unary_clauses}
 use Rattle.sb_statements.specs.Scripts.{is_clean}
 use Rattle.sb_statements.specs.declared.scripts.Script.{Script}

@@ -1,13 +1,11 @@
 -- A thread gives up no clean channel.
-use Rattle.std.proofs.Common.{◌≡◌, refl, ℕ, zero, suc, ◌+◌, Bool, true, false, cond, eqb, ltb, ◌&&◌, List, [], ◌∷◌, ◌++◌, length, get_or, Option, None, Some}
-use Rattle.sb_block.specs.Replies.{read_reply}
+use Rattle.std.proofs.Common.{◌≡◌, refl, ℕ, zero, suc, ◌+◌, Bool, true, false, cond, eqb, ◌&&◌, List, [], ◌∷◌, ◌++◌, length, get_or, Option, None, Some}
 use Rattle.sb_actor.specs.Acts.{value_in}
-use Rattle.sb_actor.specs.Moves.{is_clean}
-use Rattle.sb_actor.specs.Places.{statement_at, first_stage, begins, begun}
+use Rattle.sb_actor.specs.Places.{statement_at, first_stage, begun}
 use Rattle.sb_actor.specs.ThreadFollowing.{GivesUp, GivingUpIsKept}
 use Rattle.sb_actor.specs.ThreadStages.{ThreadStage, ThreadAt}
 use Rattle.sb_actor.specs.ThreadStages as stage
-use Rattle.sb_actor.specs.ThreadTable.{ThreadNext, thread_row, stray_row, goes_on, stays, ends, after_round, after_try, after_fill, after_send, after_wait, after_fetch, after_stray_load, is_clean_at, has_clean}
+use Rattle.sb_actor.specs.ThreadTable.{ThreadNext, thread_row, stray_row, goes_on, ends, after_round, after_fill, after_wait, after_fetch, is_clean_at, has_clean}
 use Rattle.sb_actor.specs.declared.acts.Seen.{Seen}
 use Rattle.sb_statements.specs.declared.results.CallResult.TheVariants as result
 use Rattle.sb_statements.specs.declared.results.StmtResult.{StmtResult}

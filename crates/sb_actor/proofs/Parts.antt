@@ -1,25 +1,18 @@
 -- What stays of the rule when one channel and one view change.
-use Rattle.std.proofs.Common.{◌≡◌, ◌≢◌, ◌⊎◌, ℕ, zero, suc, ◌+◌, ◌*◌, ◌<◌, ◌≤◌, Bool, true, false, true≢false, cond, eqb, List, [], ◌∷◌, ◌++◌, length, map, length-set, set, get_or, sym, refl, ap, ◌∙◌, subst, inl, inr, ⊎_elim, lt_of_not-le, arith, get_or-set_same, get_or-set_other}
+use Rattle.std.proofs.Common.{◌≡◌, ◌≢◌, ◌⊎◌, ℕ, ◌+◌, ◌<◌, ◌≤◌, Bool, true, false, true≢false, cond, List, [], ◌++◌, map, sym, refl, ap, ◌∙◌, subst, inl, inr, lt_of_not-le}
 use mathlib.Core.Option.{Option, none, some, some-injective, some-ne-none}
 use native.Mathlib.Decide.{ℕ_discrete, dec_le}
 use lib.ListN.{get_elem?}
-use Rattle.std.proofs.lemmas.List.{append-nil}
 use Rattle.sb_actor.specs.declared.views.Served.{Served}
-use Rattle.sb_actor.specs.declared.views.Had.{Had}
-use Rattle.sb_actor.specs.declared.views.Notes.{Notes}
 use Rattle.sb_actor.specs.declared.views.ThreadRecord.{ThreadRecord}
-use Rattle.sb_actor.specs.declared.views.StrayRecord.{StrayRecord}
 use Rattle.sb_actor.specs.declared.views.ThreadPlace.{ThreadPlace}
 use Rattle.sb_actor.specs.declared.views.ThreadPlace.TheVariants.{Try, Fill, Wait, Fetch}
 use Rattle.sb_actor.specs.declared.views.ThreadView.{ThreadView}
-use Rattle.sb_actor.specs.declared.views.WorkerPlace.{WorkerPlace}
-use Rattle.sb_actor.specs.declared.views.WorkerPlace.TheVariants.{Look, Count, End, Copy, Copied as Whole, Reply}
 use Rattle.sb_actor.specs.declared.views.WorkerView.{WorkerView}
-use Rattle.sb_actor.specs.declared.views.StrayView.{StrayView}
 use Rattle.sb_actor.specs.declared.views.View.{View}
-use Rattle.sb_actor.specs.declared.views.View.TheVariants.{Worker, Thread, Stray, Spent}
+use Rattle.sb_actor.specs.declared.views.View.TheVariants.{Worker}
 use Rattle.sb_actor.specs.Moves.{is_clean}
-use Rattle.sb_actor.specs.Rule.{Mid, idle, filling, ready, acked, owner, Stage, unborn, seated, joined, sees, Chan, calls_of, as_served, place, served_at, waiting, Agrees, Fives, Bears, FitsThread, FitsRecord, FitsWorker, FitsSeat, RuleAt, Rule}
+use Rattle.sb_actor.specs.Rule.{Mid, owner, Stage, unborn, seated, joined, as_served, place, served_at, waiting, Agrees, FitsThread, FitsRecord, FitsWorker, RuleAt, Rule}
 use Rattle.sb_actor.proofs.Rows.{upd, upd_here, upd_else}
 
 pub off : false ≡ true → ⊥

@@ -1,5 +1,5 @@
 -- A reply that was fetched whole.
-use Rattle.std.proofs.Common.{◌≡◌, refl, ap, ◌∙◌, sym, subst, ℕ, zero, suc, ◌+◌, List, [], ◌∷◌, Bool, true, ◌==◌, length, take, arith, eqb}
+use Rattle.std.proofs.Common.{◌≡◌, refl, ap, sym, subst, ℕ, List, [], ◌∷◌, true, ◌==◌, length, take, arith}
 use Rattle.std.proofs.lemmas.Bool.Decides.{nat_tests}
 use Rattle.sb_block.specs.Replies.{read_reply}
 

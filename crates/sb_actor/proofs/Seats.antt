@@ -1,5 +1,5 @@
 -- A seat that is cut from the worker's, and one that the worker's takes in.
-use Rattle.std.proofs.Common.{◌≡◌, ◌≢◌, ◌⊎◌, ℕ, zero, suc, ◌+◌, ◌<◌, ◌≤◌, Bool, true, false, cond, eqb, List, [], ◌∷◌, ◌++◌, length, map, length-set, sym, subst, refl, set, get_or, ap, ◌∙◌, inl, inr, ⊎_elim, arith, eq-eqb, ne_eqb}
+use Rattle.std.proofs.Common.{◌≡◌, ◌≢◌, ◌⊎◌, ℕ, ◌+◌, ◌≤◌, Bool, cond, eqb, List, [], ◌∷◌, ◌++◌, length, map, length-set, sym, subst, refl, set, ap, ◌∙◌, ⊎_elim, arith, eq-eqb, ne_eqb}
 use Rattle.std.proofs.lemmas.List.{append-nil}
 use mathlib.Core.Option.{none, some, some-ne-none}
 use lib.ListN.{get_elem?}
@@ -10,10 +10,9 @@ use Rattle.sb_actor.specs.declared.views.StrayView.{StrayView}
 use Rattle.sb_actor.specs.declared.views.WorkerView.{WorkerView}
 use Rattle.sb_actor.specs.declared.views.View.{View}
 use Rattle.sb_actor.specs.declared.views.View.TheVariants.{Worker, Thread, Stray, Spent}
-use Rattle.sb_actor.specs.Moves.{is_clean}
-use Rattle.sb_actor.specs.Rule.{Mid, owner, Stage, unborn, seated, joined, as_served, place, waiting, FitsThread, FitsRecord, FitsWorker, FitsStray, FitsSeat, RuleAt, Rule}
+use Rattle.sb_actor.specs.Rule.{Stage, unborn, seated, joined, as_served, place, waiting, FitsThread, FitsRecord, FitsWorker, FitsStray, FitsSeat, RuleAt}
 use Rattle.sb_actor.specs.Laws.{SplitsThread, SplitsStray, JoinsThread, JoinsStray, one_more_thread, new_thread, one_more_stray, new_stray, with_thread, with_stray}
-use Rattle.sb_actor.proofs.Lists.{at_set, at_snoc, set_here, set_else}
+use Rattle.sb_actor.proofs.Lists.{at_set, at_snoc}
 use Rattle.sb_actor.proofs.Parts.{pinned}
 
 -- the stages after one number's has changed

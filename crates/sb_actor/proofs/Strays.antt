@@ -1,16 +1,14 @@
 -- A step by hand keeps the rule: it stores into no clean channel.
-use Rattle.std.proofs.Common.{◌≡◌, ◌≢◌, ℕ, ◌+◌, ◌*◌, ◌<◌, ◌≤◌, Bool, true, false, cond, List, length, length-set, set, get_or, sym, subst, refl, ap, ◌∙◌, ⊎_elim, arith}
+use Rattle.std.proofs.Common.{◌≡◌, ◌≢◌, ℕ, Bool, true, List, length-set, set, get_or, sym, subst, refl, ap, ◌∙◌, ⊎_elim}
 use Rattle.std.proofs.lemmas.List.{set-get_or}
 use mathlib.Core.Option.{some}
-use native.Mathlib.Decide.{ℕ_discrete}
 use lib.ListN.{get_elem?}
 use Rattle.sb_actor.specs.declared.views.WorkerView.{WorkerView}
-use Rattle.sb_actor.specs.declared.views.WorkerPlace.{WorkerPlace}
 use Rattle.sb_actor.specs.declared.views.StrayView.{StrayView}
 use Rattle.sb_actor.specs.declared.views.View.{View}
-use Rattle.sb_actor.specs.declared.views.View.TheVariants.{Worker, Thread, Stray, Spent}
+use Rattle.sb_actor.specs.declared.views.View.TheVariants.{Stray}
 use Rattle.sb_actor.specs.Moves.{is_clean, Deed, met, wrote, stray_view, StrayMay, IsUnclean, stray_store, stray_exchange, stray_load, stray_wait}
-use Rattle.sb_actor.specs.Rule.{Row, row, sees, Chan, FitsStray, FitsSeat, RuleAt, Rule}
+use Rattle.sb_actor.specs.Rule.{Row, row, sees, Chan, FitsStray, FitsSeat, RuleAt}
 use Rattle.sb_actor.specs.Laws.{StrayKeeps, words_after}
 use Rattle.sb_actor.proofs.Lists.{at_set}
 use Rattle.sb_actor.proofs.Rows.{row_at_else}

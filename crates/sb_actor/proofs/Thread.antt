@@ -1,11 +1,9 @@
 -- The law of a thread's steps.
-use Rattle.std.proofs.Common.{◌≡◌, ℕ, Bool, List, sym, subst, set, get_or}
+use Rattle.std.proofs.Common.{◌≡◌, Bool, List, sym, subst, set, get_or}
 use mathlib.Core.Option.{some}
 use lib.ListN.{get_elem?}
-use Rattle.sb_actor.specs.declared.views.ThreadView.{ThreadView}
-use Rattle.sb_actor.specs.declared.views.View.{View}
 use Rattle.sb_actor.specs.declared.views.View.TheVariants.{Thread}
-use Rattle.sb_actor.specs.Moves.{Deed, met, wrote, thread_view, ThreadMay}
+use Rattle.sb_actor.specs.Moves.{met, wrote, thread_view, ThreadMay}
 use Rattle.sb_actor.specs.Rule.{Rule}
 use Rattle.sb_actor.specs.Laws.{ThreadKeeps}
 use Rattle.sb_actor.proofs.ThreadSteps.{tv, thread_steps}

@@ -1,5 +1,5 @@
 -- Each step of a thread keeps the rule.
-use Rattle.std.proofs.Common.{◌≡◌, ◌≢◌, ◌⊎◌, ℕ, zero, suc, ◌+◌, ◌*◌, ◌<◌, ◌≤◌, Bool, true, false, true≢false, cond, eqb, ltb, ◌&&◌, List, [], ◌∷◌, ◌++◌, length, map, length-set, set, get_or, take, sym, refl, ap, ◌∙◌, subst, inl, inr, ⊎_elim, arith, append_assoc}
+use Rattle.std.proofs.Common.{◌≡◌, ◌≢◌, ◌⊎◌, ℕ, ◌+◌, ◌*◌, ◌<◌, ◌≤◌, Bool, true, false, cond, eqb, ltb, ◌&&◌, List, [], ◌∷◌, ◌++◌, length, map, length-set, set, get_or, take, sym, refl, ap, ◌∙◌, subst, inl, inr, ⊎_elim, arith}
 use Rattle.std.proofs.lemmas.Bool.Decides.{nat_tests}
 use Rattle.std.proofs.lemmas.List.{append-nil, set-get_or}
 use Rattle.std.proofs.lemmas.Grind.{common_steps}
@@ -9,21 +9,18 @@ use lib.ListN.{get_elem?}
 use Rattle.sb_actor.specs.declared.views.Served.{Served}
 use Rattle.sb_actor.specs.declared.views.Had.{Had}
 use Rattle.sb_actor.specs.declared.views.Notes.{Notes}
-use Rattle.sb_actor.specs.declared.views.ThreadRecord.{ThreadRecord}
-use Rattle.sb_actor.specs.declared.views.StrayRecord.{StrayRecord}
 use Rattle.sb_actor.specs.declared.views.ThreadPlace.{ThreadPlace}
 use Rattle.sb_actor.specs.declared.views.ThreadPlace.TheVariants.{Try, Fill, Wait, Fetch}
 use Rattle.sb_actor.specs.declared.views.ThreadView.{ThreadView}
 use Rattle.sb_actor.specs.declared.views.WorkerPlace.{WorkerPlace}
-use Rattle.sb_actor.specs.declared.views.WorkerPlace.TheVariants.{Look, Count, End, Copy, Copied as Whole, Reply}
+use Rattle.sb_actor.specs.declared.views.WorkerPlace.TheVariants.{Look}
 use Rattle.sb_actor.specs.declared.views.WorkerView.{WorkerView}
-use Rattle.sb_actor.specs.declared.views.StrayView.{StrayView}
 use Rattle.sb_actor.specs.declared.views.View.{View}
 use Rattle.sb_actor.specs.declared.views.View.TheVariants.{Worker, Thread, Stray, Spent}
-use Rattle.sb_actor.specs.Moves.{at, is_clean, no_call, IsBlock, Deed, met, wrote, noted, notes_after, thread_result, ThreadMay, take_it, fill, send, wait, fetch, free, abandon}
-use Rattle.sb_actor.specs.Rule.{Mid, idle, filling, ready, acked, owner, Stage, seated, Row, row, sees, Stands, Chan, Reads, IsReply, calls_of, as_served, place, served_at, waiting, Agrees, Fives, Bears, Last, FitsThread, FitsSeat, RuleAt}
+use Rattle.sb_actor.specs.Moves.{at, is_clean, no_call, IsBlock, Deed, met, wrote, notes_after, thread_result, ThreadMay, take_it, fill, send, wait, fetch, free, abandon}
+use Rattle.sb_actor.specs.Rule.{Mid, idle, filling, ready, acked, owner, seated, Row, row, sees, Chan, Reads, as_served, place, served_at, waiting, Agrees, Last, FitsThread, FitsSeat, RuleAt}
 use Rattle.sb_actor.proofs.Lists.{at_set, take_snoc}
-use Rattle.sb_actor.proofs.Rows.{put, put_here, put_else, upd, upd_here, upd_else, row_else, row_here, row_at, stands_more, stands_else}
+use Rattle.sb_actor.proofs.Rows.{put, put_else, upd, upd_here, upd_else, row_else, row_here, row_at, stands_more, stands_else}
 use Rattle.sb_actor.proofs.Parts.{off, FreeFor, thread_else, record_else, seated_apart, seated_below}
 
 -- the state of a clean channel tells who is at it

@@ -1,17 +1,16 @@
 -- The worker's seat goes on as the worker does.
-use Rattle.std.proofs.Common.{◌≡◌, refl, sym, ap, ◌∙◌, subst, ℕ, zero, suc, ◌+◌, ◌%◌, ◌<◌, ◌≤◌, Bool, true, false, cond, eqb, ltb, List, [], ◌∷◌, ◌++◌, length, get_or, take, Option, None, Some, arith}
+use Rattle.std.proofs.Common.{◌≡◌, refl, sym, ap, ◌∙◌, subst, ℕ, zero, suc, ◌+◌, ◌%◌, ◌<◌, ◌≤◌, Bool, true, false, cond, eqb, ltb, List, [], ◌∷◌, ◌++◌, length, get_or, take, Option, Some, arith}
 use Rattle.std.proofs.Math.Nat.{mod-eq_of_lt, mod_self}
 use Rattle.std.proofs.lemmas.Bool.Decides.{nat_tests}
-use Rattle.sb_block.specs.Copies.{Copied, copied, is_end, mark_of}
+use Rattle.sb_block.specs.Copies.{Copied, copied, is_end}
 use Rattle.sb_block.specs.Packing.{offset_of}
-use Rattle.sb_actor.specs.Acts.{value_in}
-use Rattle.sb_actor.specs.Following.{act_word, Tells, Follows, WorkerFollows}
-use Rattle.sb_actor.specs.Moves.{at, next, Deed, met, wrote, worker_place, worker_channel, worker_view, worker_result, WorkerMay, look, load_count, load_end, copy, answer, acknowledge}
-use Rattle.sb_actor.specs.Ranges.{IsReplyTo, IsSoundStage}
+use Rattle.sb_actor.specs.Following.{Tells, Follows, WorkerFollows}
+use Rattle.sb_actor.specs.Moves.{at, next, Deed, met, worker_place, worker_channel, worker_view, WorkerMay, look, load_count, load_end, copy, answer, acknowledge}
+use Rattle.sb_actor.specs.Ranges.{IsSoundStage}
 use Rattle.sb_actor.specs.Ties.{worker_place_of, worker_deed, HoldsWorker}
 use Rattle.sb_actor.specs.WorkerStages.{WorkerStage, WorkerAt}
 use Rattle.sb_actor.specs.WorkerStages as stage
-use Rattle.sb_actor.specs.WorkerTable.{worker_plan, worker_after, after_look, after_count, after_end, after_copy, after_reply, at_stage, look_next}
+use Rattle.sb_actor.specs.WorkerTable.{worker_plan, after_look, after_count, after_end, after_copy, after_reply, at_stage, look_next}
 use Rattle.sb_actor.specs.declared.acts.Seen.{Seen}
 use Rattle.sb_actor.specs.declared.views.WorkerPlace.{WorkerPlace}
 use Rattle.sb_actor.specs.declared.views.WorkerPlace.TheVariants.{Look, Count, End, Copy, Copied as Whole, Reply}

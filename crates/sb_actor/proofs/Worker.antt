@@ -1,5 +1,5 @@
 -- The law of the worker's steps, and the opening.
-use Rattle.std.proofs.Common.{◌≡◌, ◌≢◌, ℕ, zero, suc, ◌+◌, ◌*◌, ◌%◌, ◌<◌, ◌≤◌, Bool, true, false, cond, eqb, List, [], ◌∷◌, length, sym, subst, refl, set, get_or, ap, ◌∙◌, inl, inr, arith, eq-eqb, lt_of_not-le}
+use Rattle.std.proofs.Common.{◌≡◌, ℕ, zero, suc, ◌+◌, ◌*◌, ◌%◌, ◌<◌, ◌≤◌, Bool, true, false, cond, List, [], ◌∷◌, length, sym, subst, refl, set, get_or, ap, ◌∙◌, arith, eq-eqb, lt_of_not-le}
 use Rattle.std.proofs.lemmas.List.{get_or_past}
 use mathlib.Core.Option.{some, some-ne-none, some-injective}
 use native.Mathlib.Decide.{dec_le}
@@ -8,9 +8,9 @@ use Rattle.sb_actor.specs.declared.views.WorkerPlace.{WorkerPlace}
 use Rattle.sb_actor.specs.declared.views.WorkerPlace.TheVariants.{Look, Count, End, Copy, Copied as Whole, Reply}
 use Rattle.sb_actor.specs.declared.views.WorkerView.{WorkerView}
 use Rattle.sb_actor.specs.declared.views.View.{View}
-use Rattle.sb_actor.specs.declared.views.View.TheVariants.{Worker, Thread, Stray, Spent}
-use Rattle.sb_actor.specs.Moves.{at, is_clean, Deed, met, wrote, worker_view, WorkerMay, look, load_count, load_end, copy, answer, acknowledge}
-use Rattle.sb_actor.specs.Rule.{Mid, idle, Stage, unborn, row, sees, FitsSeat, RuleAt, Rule}
+use Rattle.sb_actor.specs.declared.views.View.TheVariants.{Worker}
+use Rattle.sb_actor.specs.Moves.{is_clean, Deed, met, wrote, worker_view, WorkerMay, look, load_count, load_end, copy, answer, acknowledge}
+use Rattle.sb_actor.specs.Rule.{idle, unborn, FitsSeat, RuleAt, Rule}
 use Rattle.sb_actor.specs.Laws.{WorkerKeeps, Starts, first_worker}
 use Rattle.sb_actor.proofs.Parts.{pinned, off}
 use Rattle.sb_actor.proofs.WorkerSteps.{wv, worker_steps, sees_look}

@@ -1,11 +1,11 @@
 -- Each step of the worker keeps the rule.
-use Rattle.std.proofs.Common.{◌≡◌, ◌≢◌, ◌⊎◌, ℕ, zero, suc, ◌+◌, ◌*◌, ◌/◌, ◌<◌, ◌≤◌, Bool, true, false, true≢false, cond, eqb, ltb, leb, ◌&&◌, List, [], ◌∷◌, ◌++◌, length, map, length-set, set, get_or, take, sym, refl, ap, ◌∙◌, subst, inl, inr, ⊎_elim, arith, append_assoc, eq-eqb, ne_eqb}
+use Rattle.std.proofs.Common.{◌≡◌, ◌≢◌, ◌⊎◌, ℕ, ◌+◌, ◌*◌, ◌/◌, ◌<◌, ◌≤◌, Bool, true, false, cond, eqb, ltb, leb, ◌&&◌, List, [], ◌∷◌, ◌++◌, length, map, length-set, set, get_or, take, sym, refl, ap, ◌∙◌, subst, inl, inr, ⊎_elim, arith, eq-eqb, ne_eqb}
 use Rattle.std.specs.List.{filter}
 use Rattle.std.proofs.lemmas.Bool.Decides.{nat_tests}
-use Rattle.std.proofs.lemmas.List.{append-nil, set-get_or}
+use Rattle.std.proofs.lemmas.List.{append-nil}
 use Rattle.std.proofs.lemmas.List.Elements.{filter-append}
 use Rattle.std.proofs.lemmas.Grind.{common_steps}
-use mathlib.Core.Option.{Option, none, some, some-injective, some-ne-none}
+use mathlib.Core.Option.{some, some-injective}
 use native.Mathlib.Decide.{ℕ_discrete}
 use lib.ListN.{get_elem?}
 use Rattle.sb_block.specs.Copies.{Copied, copied, is_end, whole, mark_of}
@@ -21,14 +21,13 @@ use Rattle.sb_actor.specs.declared.views.ThreadView.{ThreadView}
 use Rattle.sb_actor.specs.declared.views.WorkerPlace.{WorkerPlace}
 use Rattle.sb_actor.specs.declared.views.WorkerPlace.TheVariants.{Look, Count, End, Copy, Copied as Whole, Reply}
 use Rattle.sb_actor.specs.declared.views.WorkerView.{WorkerView}
-use Rattle.sb_actor.specs.declared.views.StrayView.{StrayView}
 use Rattle.sb_actor.specs.declared.views.View.{View}
 use Rattle.sb_actor.specs.declared.views.View.TheVariants.{Worker, Thread, Stray, Spent}
-use Rattle.sb_actor.specs.Moves.{at, is_clean, next, IsBlock, Deed, met, wrote, noted, notes_after, counted, ended_at, copied_to, worker_result, WorkerMay, look, load_count, load_end, copy, answer, acknowledge}
-use Rattle.sb_actor.specs.Rule.{Mid, idle, filling, ready, acked, owner, Stage, seated, Row, row, sees, Stands, Chan, Reads, IsReply, is_of, calls_of, as_served, place, served_at, waiting, Agrees, Fives, Replies, is_on, Last, FitsThread, FitsRecord, FitsWorker, FitsSeat, RuleAt}
+use Rattle.sb_actor.specs.Moves.{at, is_clean, next, IsBlock, Deed, met, wrote, notes_after, counted, ended_at, copied_to, worker_result, WorkerMay, look, load_count, load_end, copy, answer, acknowledge}
+use Rattle.sb_actor.specs.Rule.{Mid, idle, filling, ready, acked, owner, Row, row, sees, Stands, Chan, Reads, IsReply, is_of, calls_of, as_served, place, served_at, waiting, Agrees, Replies, is_on, Last, FitsThread, FitsWorker, FitsSeat, RuleAt}
 use Rattle.sb_actor.proofs.Lists.{at_set, at_snoc, take_snoc}
 use Rattle.sb_actor.proofs.Rows.{put, put_here, put_else, upd, upd_here, upd_else, row_else, row_here, row_at, stands_more, stands_else}
-use Rattle.sb_actor.proofs.Parts.{off, FreeFor, thread_else, record_else, agrees_owner}
+use Rattle.sb_actor.proofs.Parts.{off, thread_else, record_else}
 use Rattle.sb_actor.proofs.ThreadSteps.{was_true, was_false}
 
 -- who is at a clean channel in state 3, or at which the worker is engaged

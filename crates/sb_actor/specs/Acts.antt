@@ -1,5 +1,5 @@
 -- What steps find, and the words that they name.
-use Rattle.std.specs.Prelude.{ℕ, ◌+◌, Bool, true, false, []}
+use Rattle.std.specs.Prelude.{ℕ, ◌+◌, Bool, false, []}
 use Rattle.sb_call.specs.declared.replies.Reply.{Reply}
 use Rattle.sb_actor.specs.declared.acts.Seen.{Seen}
 use Rattle.sb_actor.specs.declared.acts.Seen.TheVariants as seen

@@ -1,7 +1,7 @@
 -- What a step does to its word and to the view of its seat, for each kind of step. These are the rows of the two tables, as a word
 -- and a view see them.
-use Rattle.std.specs.Prelude.{◌≡◌, ◌≢◌, ℕ, ◌+◌, ◌*◌, ◌/◌, ◌<◌, ◌≤◌, Bool, true, false, not, ◌==◌, ◌&&◌, nat_lt, List, [], ◌∷◌, ◌++◌, length, slice_index, slice_index_or, if◌then◌else◌}
-use Rattle.sb_block.specs.Copies.{Copied, copied, is_end, mark_of}
+use Rattle.std.specs.Prelude.{◌≡◌, ℕ, ◌+◌, ◌*◌, ◌/◌, ◌<◌, ◌≤◌, Bool, true, false, ◌==◌, ◌&&◌, nat_lt, List, [], ◌∷◌, ◌++◌, length, slice_index, slice_index_or, if◌then◌else◌}
+use Rattle.sb_block.specs.Copies.{copied, is_end, mark_of}
 use Rattle.sb_block.specs.Packing.{offset_of}
 use Rattle.sb_actor.specs.declared.views.Served.{Served}
 use Rattle.sb_actor.specs.declared.views.Had.{Had}

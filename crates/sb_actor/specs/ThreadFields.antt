@@ -1,5 +1,5 @@
 -- How the fields of a thread are read.
-use Rattle.std.specs.Prelude.{ℕ, Bool, true, ◌&&◌, ◌==◌, nat_lt, nat_le, List, length, take}
+use Rattle.std.specs.Prelude.{ℕ, Bool, true, ◌&&◌, ◌==◌, nat_lt, List, length, take}
 use Rattle.sb_statements.specs.Limits.{most_statements}
 use Rattle.sb_actor.specs.ThreadStages.{ThreadStage, Try, Fill, Send, Wait, Fetch, Free, Abandon, Stray, Over}
 use Rattle.sb_actor.specs.declared.phases.ThreadPhase.{ThreadPhase}

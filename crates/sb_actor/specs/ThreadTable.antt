@@ -1,6 +1,6 @@
 -- A thread, step by step: a table of phase, step and next phase. One row is one atomic step. When a statement ends the next one
 -- begins at once, without a step.
-use Rattle.std.specs.Prelude.{◌≡◌, ◌<◌, ◌≤◌, ℕ, ◌+◌, Bool, true, false, ◌&&◌, ◌==◌, List, [], ◌∷◌, ◌++◌, length, slice_index, slice_index_or, Option, None, Some, if◌then◌else◌}
+use Rattle.std.specs.Prelude.{ℕ, ◌+◌, Bool, true, ◌&&◌, ◌==◌, List, [], ◌∷◌, ◌++◌, length, slice_index, slice_index_or, Option, None, Some, if◌then◌else◌}
 use Rattle.std.specs.List.{list_any}
 use Rattle.sb_block.specs.Replies.{read_reply}
 use Rattle.sb_call.specs.declared.replies.Reply.{Reply}

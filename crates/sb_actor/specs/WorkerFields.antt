@@ -1,6 +1,6 @@
 -- How the fields of a worker are read.
 use Rattle.std.specs.Prelude.{ℕ, ◌+◌, Bool, true, ◌&&◌, ◌==◌, nat_lt, nat_le, List, length, slice_index}
-use Rattle.sb_block.specs.Copies.{Copied, is_end, mark_of}
+use Rattle.sb_block.specs.Copies.{Copied, mark_of}
 use Rattle.sb_actor.specs.WorkerStages.{WorkerStage, Look, Count, End, Copy, Take, Mark, Give, Reply, Ack}
 use Rattle.sb_actor.specs.declared.phases.WorkerPhase.{WorkerPhase}
 use Rattle.sb_actor.specs.declared.phases.WorkerPhase.TheVariants as phase

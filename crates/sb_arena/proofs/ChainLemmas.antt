@@ -1,9 +1,8 @@
 -- The nodes from one on, and how many they are.
-use Rattle.std.proofs.Common.{◌≡◌, ◌≢◌, ℕ, ◌+◌, ◌<◌, ◌≤◌, ◌==◌, Bool, true, false, cond, zero, suc, refl, sym, ◌∙◌, ap, subst, arith, List, [], ◌∷◌, ◌++◌, length, if◌then◌else◌}
+use Rattle.std.proofs.Common.{◌≡◌, ◌≢◌, ℕ, ◌+◌, ◌<◌, ◌≤◌, ◌==◌, Bool, true, false, cond, zero, suc, refl, sym, ◌∙◌, ap, arith, List, [], ◌∷◌, length}
 use Rattle.std.proofs.lemmas.Bool.Decides.{nat_tests}
 use Rattle.std.proofs.lemmas.Bool.{false≢true}
-use Rattle.std.specs.Prelude.{Option, None, Some, not, ◌||◌}
-use Rattle.std.specs.List.{filter}
+use Rattle.std.specs.Prelude.{Option, None, Some, ◌||◌}
 use Rattle.sb_arena.specs.Forests.{has, Single}
 use Rattle.sb_arena.specs.declared.links.Link.{Link}
 use Rattle.sb_arena.specs.Links.{Hangs, chain}

@@ -1,11 +1,11 @@
 -- What each change of a forest does to parents and values.
-use Rattle.std.proofs.Common.{◌≡◌, ◌≢◌, ℕ, ◌+◌, ◌-◌, ◌<◌, ◌≤◌, ◌==◌, Bool, true, false, cond, zero, suc, refl, sym, ◌∙◌, ap, arith, List, [], ◌∷◌, ◌++◌, length, take, get_or, set, if◌then◌else◌}
+use Rattle.std.proofs.Common.{◌≡◌, ◌≢◌, ℕ, ◌+◌, ◌-◌, ◌<◌, ◌==◌, Bool, true, false, zero, suc, refl, sym, ◌∙◌, ap, arith, List, [], ◌∷◌, ◌++◌, length, take, get_or, set, if◌then◌else◌}
 use Rattle.std.proofs.lemmas.Bool.Decides.{nat_tests}
 use Rattle.std.proofs.lemmas.List.{get_or_past}
 use Rattle.std.specs.Prelude.{Option, None, Some, ◌||◌}
-use Rattle.sb_arena.specs.Forests.{Forest, Row, IsLive, IsSound, bare_row, has, row_at, parent_of, value_at, node_number, with_node, without, rows_freed, rows_with}
+use Rattle.sb_arena.specs.Forests.{Forest, Row, bare_row, has, row_at, parent_of, value_at, without, rows_freed, rows_with}
 use Rattle.sb_arena.specs.Laws.{AddsLeaveParents, AddsSetValues, FreesClearValues, LinksSetParents, NumbersAreFree, SetsSetValues, UnlinksClearParents}
-use Rattle.sb_arena.proofs.LinkLaws.{same_of, other_of, is_same, is_other, at_set}
+use Rattle.sb_arena.proofs.LinkLaws.{same_of, other_of, is_same, at_set}
 use Rattle.sb_arena.proofs.Readers.{live_present, same_past}
 use Rattle.sb_arena.proofs.Roots.{parent_one, parent_others}
 

@@ -1,18 +1,17 @@
 -- Free nodes.
-use Rattle.std.proofs.Common.{◌≡◌, ◌≢◌, ℕ, ◌+◌, ◌-◌, ◌<◌, ◌≤◌, ◌==◌, Bool, true, false, cond, zero, suc, refl, sym, ◌∙◌, ap, subst, arith, List, [], ◌∷◌, ◌++◌, length, take, get_or, set, length-set, ◌⊎◌, inl, inr}
-use Rattle.std.proofs.lemmas.Bool.Decides.{nat_tests}
+use Rattle.std.proofs.Common.{◌≡◌, ◌≢◌, ℕ, ◌+◌, ◌-◌, ◌<◌, ◌≤◌, ◌==◌, Bool, true, false, cond, zero, suc, refl, sym, ◌∙◌, ap, subst, arith, List, [], ◌∷◌, ◌++◌, length, get_or, set, length-set, ◌⊎◌, inl, inr}
 use Rattle.std.proofs.lemmas.Bool.{false≢true}
 use Rattle.std.proofs.lemmas.Grind.{common_steps}
 use Rattle.std.proofs.lemmas.List.{length-map}
-use Rattle.std.specs.Prelude.{Option, None, Some, not, ◌||◌, map, nat_le, IsSome}
-use Rattle.sb_arena.specs.Forests.{Row, bare_row, row_at, rows_with, rows_without, without, Forest, IsLive, IsSound, with_node, has, Single, with_child, without_parent, without_node, parent_of, children_of, rows_freed}
+use Rattle.std.specs.Prelude.{Option, None, Some, ◌||◌, IsSome}
+use Rattle.sb_arena.specs.Forests.{Row, bare_row, row_at, without, Forest, IsLive, IsSound, with_node, has, Single, parent_of, children_of}
 use Rattle.sb_arena.proofs.LinkLaws.{same_of, other_of, is_same, is_other, at_set}
 use Rattle.sb_arena.proofs.LinkTies.{same_row}
 use Rattle.sb_arena.proofs.Readers.{live_present}
 use Rattle.sb_arena.specs.declared.links.Link.{Link}
 use Rattle.sb_arena.specs.Links.{at, no_link, linked, unlinked as unlinked_links, rows_of, row_of, IsTied}
 use Rattle.sb_arena.proofs.LinkTies.{rows_linked, has_last, has_still}
-use Rattle.sb_arena.proofs.Readers.{rows_added, tied_added, live_in, unlinked, parent_present}
+use Rattle.sb_arena.proofs.Readers.{rows_added, live_in, unlinked, parent_present}
 use Rattle.sb_arena.proofs.UnlinkTies.{rows_unlinked}
 use Rattle.sb_arena.proofs.ChainLemmas.{Below, few}
 

@@ -1,14 +1,10 @@
 -- Nodes that are linked last: the links agree as before, and the rows say so.
-use Rattle.std.proofs.Common.{◌≡◌, ◌≢◌, ℕ, ◌+◌, ◌<◌, ◌≤◌, ◌==◌, Bool, true, false, cond, zero, suc, refl, sym, ◌∙◌, ap, subst, arith, List, [], ◌∷◌, ◌++◌, length, if◌then◌else◌, get_or, set, length-set}
+use Rattle.std.proofs.Common.{◌≡◌, ◌≢◌, ℕ, ◌<◌, ◌==◌, Bool, true, false, cond, refl, sym, ◌∙◌, ap, arith, List, length, get_or, set, length-set}
 use Rattle.std.proofs.lemmas.Bool.Decides.{nat_tests}
-use Rattle.std.proofs.lemmas.Bool.{false≢true}
-use Rattle.std.proofs.lemmas.List.{get_or-set_same, get_or-set_other, get_or-map, ext_get_or, get_or_past, length-map}
-use Rattle.std.specs.Prelude.{Option, None, Some, not, ◌||◌, map}
+use Rattle.std.proofs.lemmas.List.{get_or-set_same, get_or-set_other}
+use Rattle.std.specs.Prelude.{Option, None, Some}
 use Rattle.sb_arena.specs.declared.links.Link.{Link}
-use Rattle.sb_arena.specs.Forests.{Row, bare_row, row_at, rows_with, has}
-use Rattle.sb_arena.specs.Links.{no_link, at, with_parent, with_first, with_last, with_next, with_prev, linked, linked_end, chain, kids, row_of, rows_of, Hangs, IsTied}
-use Rattle.sb_arena.proofs.HangLemmas.{fill, ends, last_hangs, hung_last, hung_others, hung_apart}
-use Rattle.sb_arena.proofs.ChainLemmas.{settled}
+use Rattle.sb_arena.specs.Links.{no_link, at, with_parent, with_last, with_next, with_prev, linked, linked_end}
 
 pub same_of : (x n : ℕ) → true ≡ (x == n) → x ≡ n
 same_of x n e = grind (arith, nat_tests, e)

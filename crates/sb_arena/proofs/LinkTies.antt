@@ -1,13 +1,13 @@
 -- Links agree after a node is linked last, and the rows are those with one child more.
-use Rattle.std.proofs.Common.{◌≡◌, ◌≢◌, ℕ, ◌+◌, ◌<◌, ◌≤◌, ◌==◌, Bool, true, false, cond, zero, suc, refl, sym, ◌∙◌, ap, subst, arith, List, [], ◌∷◌, ◌++◌, length, if◌then◌else◌, get_or, set, length-set}
+use Rattle.std.proofs.Common.{◌≡◌, ◌≢◌, ℕ, ◌+◌, ◌<◌, ◌≤◌, ◌==◌, Bool, true, false, cond, refl, sym, ◌∙◌, ap, subst, arith, List, [], ◌∷◌, ◌++◌, length, set, length-set}
 use Rattle.std.proofs.lemmas.Bool.Decides.{nat_tests}
 use Rattle.std.proofs.lemmas.Bool.{false≢true}
 use Rattle.std.proofs.lemmas.List.{get_or-map, ext_get_or, get_or_past, length-map}
-use Rattle.std.specs.Prelude.{Option, None, Some, not, ◌||◌, map, nat_le}
+use Rattle.std.specs.Prelude.{Option, None, Some, ◌||◌, nat_le}
 use Rattle.sb_arena.specs.declared.links.Link.{Link}
 use Rattle.sb_arena.specs.Forests.{Row, bare_row, row_at, rows_with, has}
-use Rattle.sb_arena.specs.Links.{no_link, at, linked, chain, kids, row_of, rows_of, Hangs, IsTied}
-use Rattle.sb_arena.proofs.HangLemmas.{fill, ends, last_hangs, hung_last, hung_others, hung_apart}
+use Rattle.sb_arena.specs.Links.{no_link, at, linked, kids, row_of, rows_of, Hangs, IsTied}
+use Rattle.sb_arena.proofs.HangLemmas.{fill, last_hangs, hung_last, hung_others}
 use Rattle.sb_arena.proofs.ChainLemmas.{settled}
 use Rattle.sb_arena.proofs.LinkLaws.{same_of, other_of, is_same, is_other, at_set, is_it, is_none, long, parents, prevs, lasts, nexts, firsts}
 

@@ -1,15 +1,15 @@
 -- What is read of links, and a node more.
-use Rattle.std.proofs.Common.{◌≡◌, ◌≢◌, ℕ, ◌+◌, ◌<◌, ◌≤◌, ◌==◌, Bool, true, false, cond, zero, suc, refl, sym, ◌∙◌, ap, subst, arith, List, [], ◌∷◌, ◌++◌, length, if◌then◌else◌, get_or, set, length-set}
+use Rattle.std.proofs.Common.{◌≡◌, ◌≢◌, ℕ, ◌+◌, ◌<◌, ◌≤◌, ◌==◌, Bool, true, false, zero, suc, refl, sym, ◌∙◌, ap, subst, arith, List, [], ◌∷◌, ◌++◌, length, if◌then◌else◌, get_or}
 use Rattle.std.proofs.lemmas.Bool.Decides.{nat_tests}
 use Rattle.std.proofs.lemmas.Bool.{false≢true}
 use Rattle.std.proofs.lemmas.Grind.{common_steps}
-use Rattle.std.proofs.lemmas.List.{get_or-map, ext_get_or, get_or_past, length-map}
-use Rattle.std.specs.Prelude.{Option, None, Some, not, ◌||◌, map, nat_le, IsSome, IfSome}
+use Rattle.std.proofs.lemmas.List.{ext_get_or, get_or_past, length-map}
+use Rattle.std.specs.Prelude.{Option, None, Some, ◌||◌, nat_le, IsSome, IfSome}
 use Rattle.sb_arena.specs.declared.links.Link.{Link}
-use Rattle.sb_arena.specs.Forests.{Row, bare_row, row_at, rows_with, after, first_of, next_below, Forest, IsLive, parent_of, next_of, with_child, has}
+use Rattle.sb_arena.specs.Forests.{bare_row, row_at, after, first_of, next_below, Forest, IsLive, parent_of, next_of, with_child, has}
 use Rattle.sb_arena.specs.Links.{no_link, at, linked, chain, kids, row_of, rows_of, Hangs, IsTied, next_linked, next_where}
 use Rattle.sb_arena.proofs.HangLemmas.{alike}
-use Rattle.sb_arena.proofs.LinkTies.{present, kids_are, same_row, row_read, in_l, tied_linked, rows_linked}
+use Rattle.sb_arena.proofs.LinkTies.{kids_are, same_row, row_read, in_l, tied_linked, rows_linked}
 use Rattle.sb_arena.proofs.LinkLaws.{same_of, long}
 
 first_hangs : (g : ℕ → Link) (n : ℕ) (b here : Option ℕ) (xs : List ℕ) (l : Option ℕ) → Hangs g n b here xs l → here ≡ first_of xs

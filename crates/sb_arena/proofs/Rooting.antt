@@ -1,9 +1,9 @@
 -- The nodes of an arena stay below roots.
-use Rattle.std.proofs.Common.{◌≡◌, ℕ, ◌<◌, refl, sym, ◌∙◌, ap, subst, List, [], ◌∷◌, ◌++◌, length}
+use Rattle.std.proofs.Common.{◌≡◌, ℕ, ◌<◌, sym, ◌∙◌, ap, subst, List, [], ◌∷◌, ◌++◌, length}
 use Rattle.std.specs.Prelude.{Option, None, Some}
 use Rattle.std.proofs.lemmas.List.{length-map}
 use Rattle.sb_arena.specs.declared.links.Link.{Link}
-use Rattle.sb_arena.specs.Forests.{Row, bare_row, ancestor, IsRooted, Forest, IsAbove, IsLive, parent_of}
+use Rattle.sb_arena.specs.Forests.{ancestor, IsRooted, Forest, IsAbove, IsLive, parent_of}
 use Rattle.sb_arena.specs.Links.{at, no_link, rows_of, row_of, linked, unlinked as unlinked_links, IsTied}
 use Rattle.sb_arena.proofs.LinkTies.{rows_linked}
 use Rattle.sb_arena.proofs.Readers.{live_in, unlinked, rows_added, parent_present}

@@ -1,14 +1,11 @@
 -- Nodes that are linked below one, after one of them is unlinked.
-use Rattle.std.proofs.Common.{◌≡◌, ◌≢◌, ℕ, ◌+◌, ◌<◌, ◌≤◌, ◌==◌, Bool, true, false, cond, zero, suc, refl, sym, ◌∙◌, ap, subst, arith, List, [], ◌∷◌, ◌++◌, length, if◌then◌else◌, ◌⊎◌, inl, inr}
-use Rattle.std.proofs.lemmas.Bool.Decides.{nat_tests}
+use Rattle.std.proofs.Common.{◌≡◌, ◌≢◌, ℕ, ◌==◌, Bool, true, false, cond, refl, sym, ◌∙◌, ap, subst, List, [], ◌∷◌, if◌then◌else◌, ◌⊎◌, inl, inr}
 use Rattle.std.proofs.lemmas.Bool.{false≢true}
 use Rattle.std.specs.Prelude.{Option, None, Some, not, ◌||◌}
-use Rattle.std.specs.List.{filter}
 use Rattle.sb_arena.specs.declared.links.Link.{Link}
 use Rattle.sb_arena.specs.Links.{Hangs}
 use Rattle.sb_arena.specs.Forests.{without, has}
-use Rattle.sb_arena.proofs.HangLemmas.{ends, alike}
-use Rattle.sb_arena.proofs.LinkLaws.{same_of, other_of, is_same, is_other, is_it, is_none}
+use Rattle.sb_arena.proofs.LinkLaws.{same_of, other_of, is_same, is_other, is_it}
 
 -- what stands before a node that is linked
 abbrev pub Back : (ℕ → Link) → ℕ → Option ℕ → ℕ → Type 0

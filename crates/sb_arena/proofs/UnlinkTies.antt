@@ -1,12 +1,11 @@
 -- Links agree after a node is unlinked, and the rows are those without it.
-use Rattle.std.proofs.Common.{◌≡◌, ◌≢◌, ℕ, ◌+◌, ◌<◌, ◌≤◌, ◌==◌, Bool, true, false, cond, zero, suc, refl, sym, ◌∙◌, ap, subst, arith, List, [], ◌∷◌, ◌++◌, length, if◌then◌else◌, get_or, set, length-set, ◌⊎◌, inl, inr}
-use Rattle.std.proofs.lemmas.Bool.Decides.{nat_tests}
+use Rattle.std.proofs.Common.{◌≡◌, ◌≢◌, ℕ, ◌<◌, ◌==◌, Bool, true, false, cond, refl, sym, ◌∙◌, ap, subst, List, [], ◌∷◌, length, set, length-set, ◌⊎◌, inl, inr}
 use Rattle.std.proofs.lemmas.Bool.{false≢true}
-use Rattle.std.proofs.lemmas.List.{get_or-map, ext_get_or, get_or_past, length-map}
-use Rattle.std.specs.Prelude.{Option, None, Some, not, ◌||◌, map, nat_le, IfSome}
+use Rattle.std.proofs.lemmas.List.{ext_get_or, length-map}
+use Rattle.std.specs.Prelude.{Option, None, Some}
 use Rattle.sb_arena.specs.declared.links.Link.{Link}
 use Rattle.sb_arena.specs.Forests.{Row, bare_row, row_at, rows_without, without, has}
-use Rattle.sb_arena.specs.Links.{no_link, at, with_parent, with_first, with_last, with_next, with_prev, unlinked, joined_on, joined_back, chain, kids, row_of, rows_of, Hangs, IsTied}
+use Rattle.sb_arena.specs.Links.{at, unlinked, joined_on, joined_back, kids, row_of, rows_of, Hangs, IsTied}
 use Rattle.sb_arena.proofs.HangLemmas.{ends, alike}
 use Rattle.sb_arena.proofs.LinkLaws.{same_of, other_of, is_same, is_other, at_set, is_it, is_none, changed, kept}
 use Rattle.sb_arena.proofs.LinkTies.{present, kids_are, same_row, row_read}

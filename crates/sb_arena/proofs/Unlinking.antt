@@ -1,8 +1,8 @@
 -- A node of an arena is unlinked.
-use Rattle.std.proofs.Common.{◌≡◌, ◌≢◌, ℕ, ◌+◌, ◌<◌, ◌≤◌, ◌==◌, Bool, true, false, refl, sym, ◌∙◌, ap, subst, List, length}
-use Rattle.std.specs.Prelude.{Option, None, Some, IfSome, IsSome}
+use Rattle.std.proofs.Common.{◌≡◌, ℕ, ◌<◌, refl, sym, ◌∙◌, ap, List, length}
+use Rattle.std.specs.Prelude.{Option, None, Some, IfSome}
 use Rattle.sb_arena.specs.declared.links.Link.{Link}
-use Rattle.sb_arena.specs.Forests.{Row, row_at, Forest, IsLive, parent_of, without_parent, rows_without, rows_freed}
+use Rattle.sb_arena.specs.Forests.{Forest, IsLive, parent_of, without_parent, rows_without, rows_freed}
 use Rattle.sb_arena.specs.Links.{at, unlinked, rows_of, IsTied}
 use Rattle.sb_arena.proofs.LinkTies.{row_read}
 use Rattle.sb_arena.proofs.Readers.{live_in}

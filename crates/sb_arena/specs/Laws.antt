@@ -1,5 +1,5 @@
 -- Laws of forests: what each change does to parents and values.
-use Rattle.std.specs.Prelude.{◌≡◌, ◌<◌, ℕ, ◌==◌, length, Option, Some, None, if◌then◌else◌}
+use Rattle.std.specs.Prelude.{◌≡◌, ◌<◌, ℕ, ◌==◌, length, Some, None, if◌then◌else◌}
 use Rattle.sb_arena.specs.Forests.{Forest, IsLive, IsSound, parent_of, value_at, node_number, with_child, with_node, with_value, without_node, without_parent}
 
 -- a node that is linked has its parent, and every other node the one that it had

@@ -9,7 +9,7 @@ use Rattle.sb_call.specs.Arguments.{fit, fits_kind}
 use Rattle.sb_call.specs.Tags.{shape_of, tag_of}
 use Rattle.sb_call.specs.declared.tags.ParamKind.{ParamKind}
 use Rattle.sb_call.specs.declared.tags.ParamKind.TheVariants as kind
-use Rattle.sb_block.specs.Copies.{Copied, copied, is_copy, is_end, whole}
+use Rattle.sb_block.specs.Copies.{Copied, copied, is_copy, is_end}
 use Rattle.sb_block.specs.Layout.{most_parameters, tag_word, count_in, end_in, informations}
 use Rattle.sb_block.specs.Packing.{type_of}
 use Rattle.sb_block.specs.Faults.{fault, faults, first_there, where_holds, is_untyped, is_misplaced, is_missized, is_unnamed, first_unnamed, has_shape, type_number, tag_in}

@@ -1,5 +1,5 @@
 -- What each parameter of a copy without a fault has.
-use Rattle.std.proofs.Common.{◌≡◌, ◌∙◌, ℕ, zero, suc, ◌+◌, ◌*◌, ◌/◌, ◌%◌, ◌≤◌, ◌<◌, List, [], ◌∷◌, Bool, true, false, ◌&&◌, length, length-append, length-take, length-drop, drop, arith, refl, sym, ap, map}
+use Rattle.std.proofs.Common.{◌≡◌, ◌∙◌, ℕ, zero, suc, ◌+◌, ◌*◌, ◌/◌, ◌%◌, ◌≤◌, ◌<◌, List, [], ◌∷◌, Bool, true, false, length, length-append, length-take, length-drop, drop, arith, refl, sym, ap, map}
 use Rattle.std.proofs.lemmas.List.{get_or-take, get_or-drop, length-map}
 use Rattle.std.proofs.lemmas.Bool.{and_parts, false≢true, eqb-true}
 use Rattle.std.proofs.lemmas.Bool.Decides.{nat_tests}
@@ -13,7 +13,7 @@ use Rattle.sb_call.specs.declared.arguments.Arg.TheVariants as arg
 use Rattle.sb_call.specs.declared.tags.ParamKind.{ParamKind}
 use Rattle.sb_call.specs.declared.tags.ParamKind.TheVariants as kind
 use Rattle.sb_block.specs.Blocks.{bytes_of}
-use Rattle.sb_block.specs.Calls.{argument_in, call_of}
+use Rattle.sb_block.specs.Calls.{argument_in}
 use Rattle.sb_block.specs.Copies.{Copied, is_copy, is_end}
 use Rattle.sb_block.specs.Faults.{fault, has_shape, is_misplaced, is_missized, type_number, tag_in}
 use Rattle.sb_block.specs.Layout.{tag_word, count_in, end_in, first_offset, information_at, informations}

@@ -8,7 +8,6 @@ use Rattle.std.specs.Prelude.{not, ◌==◌, nat_lt, slice_index, Option, None, 
 use Rattle.std.specs.Option.{option_or}
 use Rattle.std.specs.List.{list_all, position, prefix_len}
 use Rattle.sb_call.specs.Tags.{shape_of, tag_of}
-use Rattle.sb_call.specs.declared.tags.CallTag.{CallTag}
 use Rattle.sb_call.specs.declared.tags.CallTag.TheVariants.{Ping}
 use Rattle.sb_call.specs.declared.tags.ParamKind.{ParamKind}
 use Rattle.sb_call.specs.declared.tags.ParamKind.TheVariants as kind

@@ -1,5 +1,5 @@
 -- Well formed words have no fault.
-use Rattle.std.proofs.Common.{◌≡◌, ◌∙◌, ℕ, suc, ◌+◌, ◌*◌, ◌%◌, ◌≤◌, ◌<◌, List, [], ◌∷◌, Bool, true, false, length, drop, arith, refl, sym}
+use Rattle.std.proofs.Common.{◌≡◌, ◌∙◌, ℕ, suc, ◌+◌, ◌*◌, ◌≤◌, ◌<◌, List, [], ◌∷◌, Bool, true, false, length, drop, arith, refl, sym}
 use Rattle.std.proofs.lemmas.List.{get_or-take, get_or-drop}
 use Rattle.std.proofs.lemmas.Bool.Decides.{nat_tests}
 use Rattle.std.specs.Prelude.{not, nat_lt, slice_index, slice_index_or, None}
@@ -13,7 +13,7 @@ use Rattle.sb_block.specs.Blocks.{bytes_of}
 use Rattle.sb_block.specs.Calls.{argument_in}
 use Rattle.sb_block.specs.Copies.{is_end}
 use Rattle.sb_block.specs.Faults.{first_unnamed, has_shape, is_misplaced, is_missized, is_unnamed, is_untyped, type_number}
-use Rattle.sb_block.specs.Layout.{count_in, end_in, first_offset, information_at, informations}
+use Rattle.sb_block.specs.Layout.{count_in, first_offset, information_at, informations}
 use Rattle.sb_block.specs.Laws.{IsParameter, IsWellFormed, WellFormedWordsHaveNoFault}
 use Rattle.sb_block.specs.Packing.{type_of, offset_of, size_of, words_for, string_in}
 use Rattle.sb_block.proofs.ParameterLemmas.{part_len}

@@ -13,7 +13,7 @@ use Rattle.sb_block.specs.Copies.{whole, is_copy, is_end}
 use Rattle.sb_block.specs.Packing.{offset_of}
 use Rattle.sb_block.specs.Blocks.{block, encodes, has_units, contents_of, informations_of, end_offset}
 use Rattle.sb_block.specs.Layout.{end_in, first_offset, informations}
-use Rattle.sb_block.specs.Faults.{fault, faults, first_there, is_untyped, is_misplaced, is_missized}
+use Rattle.sb_block.specs.Faults.{fault, is_untyped, is_misplaced, is_missized}
 use Rattle.sb_block.specs.Calls.{decoded, call_of, called}
 use Rattle.sb_block.specs.Laws.{BlocksComeBack}
 use Rattle.std.specs.List.{list_all}

@@ -1,5 +1,5 @@
 -- What can be wrong with a copy of a block.
-use Rattle.std.specs.Prelude.{ℕ, Bool, false, ◌+◌, ◌%◌, ◌&&◌, ◌||◌, ◌==◌, not, nat_eq, nat_lt, nat_le, List, [], ◌∷◌, map, Option, None, Some, is_none, option_map, slice_index, unwrap_or, if◌then◌else◌}
+use Rattle.std.specs.Prelude.{ℕ, Bool, false, ◌+◌, ◌%◌, ◌&&◌, ◌||◌, ◌==◌, not, nat_eq, nat_lt, nat_le, List, [], ◌∷◌, map, Option, None, Some, is_none, option_map, unwrap_or, if◌then◌else◌}
 use Rattle.std.specs.List.{position}
 use Rattle.std.specs.Option.{option_or}
 use Rattle.std.specs.Cmp.Lexicographic.{pointwise}

@@ -1,5 +1,5 @@
 -- Laws of histories and of decisions.
-use Rattle.std.proofs.Common.{◌≡◌, ◌∙◌, ℕ, Bool, true, false, if◌then◌else◌, List, [], ◌∷◌, ◌++◌, Option, None, Some, refl, sym, ap, subst}
+use Rattle.std.proofs.Common.{◌≡◌, ◌∙◌, List, [], ◌∷◌, ◌++◌, Option, None, Some, refl, sym, ap, subst}
 use Rattle.std.specs.Prelude.{⊤}
 use Rattle.std.specs.List.{filter}
 use Rattle.sb_call.specs.declared.arguments.Arg.{Arg}
@@ -11,12 +11,11 @@ use Rattle.sb_block.specs.declared.faults.BlockFault.{BlockFault}
 use Rattle.sb_kernel.specs.Namespaces.{Space}
 use Rattle.sb_kernel.specs.Openings.{opening}
 use Rattle.sb_rule.specs.Verdicts.{DecidingRuleIsFirst, verdict_of}
-use Rattle.sb_rule.specs.declared.actions.Action.{Action}
 use Rattle.sb_rule.specs.declared.actions.Action.TheVariants.{Allow, Deny, Alarm, Fake, ReadOnly}
 use Rattle.sb_rule.specs.declared.policies.Policy.{Policy}
 use Rattle.sb_rule.specs.declared.verdicts.Verdict.{Verdict}
 use Rattle.sb_rule.specs.declared.verdicts.Verdict.TheVariants as verdict
-use Rattle.sb_book.specs.Decisions.{by_decoded, by_verdict, decision_of, read_only_args}
+use Rattle.sb_book.specs.Decisions.{by_decoded, by_verdict, decision_of}
 use Rattle.sb_book.specs.Histories.{Setting, IsLegalFrom, space_from, space_after}
 use Rattle.sb_book.specs.Laws.{FrontsAreLegal, Grants, OnlyPerformedCallsCount, PerformedCallsAreAllowed, is_performed}
 use Rattle.sb_book.specs.declared.decisions.Decision.{Decision}

@@ -1,5 +1,5 @@
 -- A legal history with one entry more.
-use Rattle.std.proofs.Common.{◌≡◌, ◌∙◌, ℕ, ◌<◌, List, [], ◌∷◌, ◌++◌, length, refl, ap, subst}
+use Rattle.std.proofs.Common.{◌≡◌, ℕ, ◌<◌, List, [], ◌∷◌, ◌++◌, length, refl, ap, subst}
 use Rattle.std.specs.Prelude.{slice_index}
 use Rattle.sb_block.specs.Copies.{Copied}
 use Rattle.sb_kernel.specs.Namespaces.{Space}

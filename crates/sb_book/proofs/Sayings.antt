@@ -5,7 +5,7 @@ use Rattle.std.specs.Prelude.{slice_get}
 use Rattle.sb_call.specs.declared.arguments.Arg.{Arg}
 use Rattle.sb_call.specs.declared.tags.CallTag.{CallTag}
 use Rattle.sb_block.specs.Calls.{call_of, call_unless}
-use Rattle.sb_block.specs.Copies.{Copied, mark_of}
+use Rattle.sb_block.specs.Copies.{mark_of}
 use Rattle.sb_block.specs.Faults.{fault}
 use Rattle.sb_block.specs.declared.faults.BlockFault.{BlockFault}
 use Rattle.sb_kernel.specs.Namespaces.{Space}

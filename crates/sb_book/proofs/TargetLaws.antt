@@ -1,9 +1,8 @@
 -- The entries of one target, where others are put behind.
-use Rattle.std.proofs.Common.{◌≡◌, ◌≢◌, ◌∙◌, ℕ, cond, List, [], ◌∷◌, ◌++◌, ap, eq-eqb, ne_eqb}
+use Rattle.std.proofs.Common.{◌∙◌, cond, [], ◌∷◌, ◌++◌, ap, eq-eqb, ne_eqb}
 use Rattle.std.proofs.lemmas.List.{append-nil}
 use Rattle.std.proofs.lemmas.List.Elements.{filter-append}
 use Rattle.sb_book.specs.Targets.{TargetsAppend, OwnEntryIsLast, OtherEntriesStay, is_of_target, of_target}
-use Rattle.sb_book.specs.declared.entries.Entry.{Entry}
 
 pub targets_append : TargetsAppend
 targets_append target front rest = filter-append (is_of_target target) front rest

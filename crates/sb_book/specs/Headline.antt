@@ -1,7 +1,6 @@
 -- What each entry of a legal history says: of the copy that was taken, of the policy of its target, and of the namespace before and after it.
 use Rattle.std.specs.Prelude.{◌≡◌, ℕ, ◌+◌, List, take, None, Some, slice_get, ⊤}
 use Rattle.sb_call.specs.declared.arguments.Arg.{Arg}
-use Rattle.sb_call.specs.declared.replies.Reply.{Reply}
 use Rattle.sb_call.specs.declared.tags.CallTag.{CallTag}
 use Rattle.sb_block.specs.Calls.{call_of}
 use Rattle.sb_block.specs.Copies.{Copied, mark_of}

@@ -15,7 +15,7 @@ use Rattle.sb_kernel.specs.Namespaces.{Space}
 use Rattle.sb_book.specs.Decisions.{decision_of, read_only_args}
 use Rattle.sb_book.specs.Histories.{History, IsHistory, Setting, IsLegalHistory, answered, space_from}
 use Rattle.sb_book.specs.declared.decisions.Decision.{Decision}
-use Rattle.sb_book.specs.declared.decisions.Decision.TheVariants.{Refused, Denied, Faked, Performed}
+use Rattle.sb_book.specs.declared.decisions.Decision.TheVariants.{Performed}
 use Rattle.sb_book.specs.declared.entries.Entry.{Entry}
 
 -- every front of a legal history is one

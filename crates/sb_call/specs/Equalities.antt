@@ -4,7 +4,7 @@ use Rattle.std.specs.Bool.{Decides}
 use Rattle.std.specs.Cmp.Lexicographic.{bytes_decides}
 use Rattle.std.proofs.lemmas.Bool.Decides.{nat_tests}
 use Rattle.std.proofs.Common.{rules, ap}
-use Rattle.sb_items.specs.Deciding.{decides_as, decides_never}
+use Rattle.sb_items.specs.Deciding.{decides_never}
 use Rattle.sb_call.specs.contracts.arguments.ArgPartialEq.TheImpl.{eq-value as arg_eq}
 use Rattle.sb_call.specs.contracts.tags.CallTagPartialEq.TheImpl.{eq-value as tag_eq}
 use Rattle.sb_call.specs.declared.arguments.Arg.{Arg}

@@ -1,21 +1,18 @@
 -- The report at the end of a run by threads fits.
-use Rattle.std.proofs.Common.{◌≡◌, ◌∙◌, inl, refl, ap, subst, sym, ℕ, zero, suc, ◌+◌, ◌*◌, ◌/◌, ◌<◌, ◌≤◌, Bool, true, false, ltb, not, ◌&&◌, ◌==◌, List, [], ◌∷◌, ◌++◌, length, map, get_or, Option, None, Some, slice_get, arith}
+use Rattle.std.proofs.Common.{◌≡◌, ◌∙◌, inl, refl, ap, subst, sym, ℕ, zero, suc, ◌+◌, ◌*◌, ◌/◌, ◌<◌, ◌≤◌, Bool, true, false, ltb, ◌==◌, List, [], ◌∷◌, length, map, get_or, Some, slice_get, arith}
 use Rattle.std.proofs.Math.ListN.{get_or-map}
 use Rattle.std.proofs.lemmas.Bool.Decides.{nat_tests}
 use Rattle.std.specs.List.{filter, list_all}
 use Rattle.std.specs.Prelude.{slice_index}
 use mathlib.Core.Option.{some}
 use lib.ListN.{get_elem?}
-use Rattle.sb_actor.specs.Fitting.{Suits}
-use Rattle.sb_actor.specs.Moves.{at, is_clean}
-use Rattle.sb_actor.specs.Places.{clean_channels, mark_at, statement_at}
+use Rattle.sb_actor.specs.Moves.{is_clean}
+use Rattle.sb_actor.specs.Places.{clean_channels}
 use Rattle.sb_actor.specs.Rule.{as_served, calls_of}
 use Rattle.sb_actor.specs.WorkerStages.{WorkerAt, WorkerStage}
 use Rattle.sb_actor.specs.WorkerTable.{is_looking}
-use Rattle.sb_actor.specs.declared.views.Had.{Had}
 use Rattle.sb_actor.specs.declared.views.Served.{Served}
 use Rattle.sb_actor.specs.declared.views.ThreadRecord.{ThreadRecord}
-use Rattle.sb_actor.specs.declared.views.WorkerView.{WorkerView}
 use Rattle.sb_block.specs.Copies.{mark_of}
 use Rattle.sb_block.specs.Replies.{RepliesComeBack}
 use Rattle.sb_book.specs.Histories.{History, IsHistory, setting_of}
@@ -29,18 +26,16 @@ use Rattle.sb_statements.specs.Soundness.{SoundStatements, SoundTargets, channel
 use Rattle.sb_statements.specs.declared.results.StmtResult.{StmtResult}
 use Rattle.sb_statements.specs.declared.scripts.Script.{Script}
 use Rattle.sb_statements.specs.declared.scripts.TargetScript.{TargetScript}
-use Rattle.sb_statements.specs.declared.statements.Statement.{Statement}
 use Rattle.sb_core.specs.Drains.{drained, is_settled, most_passes}
-use Rattle.sb_core.specs.Finishes.{AreHandedBack, FinishesFit, IsClosed, IsPart, ThreadPart, no_part, part_at, parts_at, results_in, seats_of}
-use Rattle.sb_core.specs.Fits.{Answered, OwnReplies, ResultsSuit, by_entry, by_result, is_entry_of}
-use Rattle.sb_core.specs.Fits.{results_at as results_of_thread}
+use Rattle.sb_core.specs.Finishes.{AreHandedBack, FinishesFit, ThreadPart, no_part, part_at, parts_at, results_in}
+use Rattle.sb_core.specs.Fits.{OwnReplies, ResultsSuit, by_entry, by_result, is_entry_of}
 use Rattle.sb_core.specs.Kept.{IsWorld}
 use Rattle.sb_core.specs.Laws.{DrainsSettle}
 use Rattle.sb_core.specs.Results.{result_at}
 use Rattle.sb_core.specs.Runs.{CanFinish, world_of}
-use Rattle.sb_core.specs.Views.{as_own, calls_at, own_calls}
+use Rattle.sb_core.specs.Views.{own_calls}
 use Rattle.sb_core.specs.Words.{some_ready, words_of}
-use Rattle.sb_core.specs.Worlds.{WorldAt, no_worker, worker_at}
+use Rattle.sb_core.specs.Worlds.{WorldAt}
 use Rattle.sb_core.proofs.DrainSteps.{drain_keeps}
 use Rattle.sb_core.proofs.Finishing.{finishing_world, mapped, wanted_at}
 use Rattle.sb_core.proofs.Fitting.{entry_listed, had_results, read, served_entries}

@@ -1,17 +1,15 @@
 -- What the notes of closed sections tell: which stores and shows there are, and from where they come.
-use Rattle.std.proofs.Common.{◌≡◌, ◌≢◌, ◌⊎◌, inl, inr, ⊎_elim, ◌∙◌, refl, ap, subst, sym, ℕ, zero, suc, ◌+◌, ◌*◌, ◌%◌, ◌<◌, ◌≤◌, Bool, true, false, cond, ◌==◌, ltb, if◌then◌else◌, List, [], ◌∷◌, ◌++◌, length, length-append, map, take, drop, get_or, Option, None, Some, slice_get, lit<, lit≤, arith, append_assoc}
+use Rattle.std.proofs.Common.{◌≡◌, ◌⊎◌, inl, inr, ⊎_elim, ◌∙◌, refl, ap, subst, sym, ℕ, zero, suc, ◌+◌, ◌<◌, Bool, true, false, cond, ◌==◌, List, [], ◌∷◌, ◌++◌, length, length-append, map, take, get_or, Option, Some, slice_get, arith, append_assoc}
 use Rattle.std.proofs.lemmas.Bool.Decides.{nat_tests}
-use Rattle.std.proofs.lemmas.List.{append-nil}
 use Rattle.std.specs.List.{filter}
 use Rattle.std.specs.Prelude.{slice_index}
 use mathlib.Core.Option.{some}
 use lib.ListN.{get_elem?}
 use Rattle.sb_actor.specs.Moves.{at}
 use Rattle.sb_actor.specs.Sources.{Has}
-use Rattle.sb_actor.specs.WorkerNotes.{AllServedNotes, CopyShows, EndShows, ServedNotes, reply_stored, shown_at, words_shown}
+use Rattle.sb_actor.specs.WorkerNotes.{AllServedNotes, ServedNotes, reply_stored, shown_at, words_shown}
 use Rattle.sb_actor.specs.declared.views.Served.{Served}
 use Rattle.sb_actor.specs.declared.views.Shown.{Shown}
-use Rattle.sb_block.specs.Replies.{reply_words}
 use Rattle.sb_book.specs.Targets.{is_of_target}
 use Rattle.sb_book.specs.declared.entries.Entry.{Entry}
 use Rattle.sb_statements.specs.declared.scripts.Script.{Script}

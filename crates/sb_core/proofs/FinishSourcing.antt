@@ -1,5 +1,5 @@
 -- No block is invented in the report at the end of a run by threads.
-use Rattle.std.proofs.Common.{◌≡◌, ◌⊎◌, inl, inr, ⊎_elim, ◌∙◌, refl, ap, subst, sym, ℕ, zero, suc, ◌+◌, ◌*◌, ◌%◌, ◌<◌, ◌≤◌, Bool, true, false, ◌==◌, if◌then◌else◌, List, [], ◌∷◌, ◌++◌, length, length-set, map, take, get_or, get_or-set_same, get_or-set_other, Option, None, Some, IfSome, slice_get, lit<, lit≤, arith, append_assoc}
+use Rattle.std.proofs.Common.{◌≡◌, inl, inr, ◌∙◌, refl, ap, subst, sym, ℕ, zero, suc, ◌+◌, ◌*◌, ◌%◌, ◌<◌, ◌≤◌, Bool, true, false, ◌==◌, if◌then◌else◌, List, [], ◌∷◌, ◌++◌, length, length-set, map, take, get_or, get_or-set_same, get_or-set_other, Option, Some, IfSome, slice_get, lit<, arith}
 use Rattle.std.proofs.lemmas.Bool.{and_parts}
 use Rattle.std.proofs.lemmas.Bool.Decides.{nat_tests}
 use Rattle.std.proofs.lemmas.List.{append-nil}
@@ -21,10 +21,7 @@ use Rattle.sb_actor.specs.declared.views.StrayRecord.{StrayRecord}
 use Rattle.sb_actor.specs.declared.views.ThreadRecord.{ThreadRecord}
 use Rattle.sb_actor.specs.declared.views.View.{View}
 use Rattle.sb_actor.specs.declared.views.View.TheVariants.{Worker}
-use Rattle.sb_actor.specs.declared.views.WorkerPlace.TheVariants.{Look}
 use Rattle.sb_actor.specs.declared.views.WorkerView.{WorkerView}
-use Rattle.sb_block.specs.Copies.{Copied}
-use Rattle.sb_block.specs.Replies.{read_reply, reply_words}
 use Rattle.sb_book.specs.Histories.{History, IsLegalFrom, Setting, space_after}
 use Rattle.sb_book.specs.declared.entries.Entry.{Entry}
 use Rattle.sb_call.specs.declared.replies.Reply.{Reply}
@@ -42,9 +39,9 @@ use Rattle.sb_statements.specs.declared.statements.Statement.{Statement}
 use Rattle.sb_statements.specs.declared.statements.Statement.TheVariants as statement
 use Rattle.sb_statements.specs.declared.statements.Word.{Word}
 use Rattle.sb_core.specs.Drains.{drained, most_passes}
-use Rattle.sb_core.specs.Finishes.{AreNoted, FinishesAreSourced, IsClosedNoted, ThreadPart, part_at, parts_at, results_in, seats_of, stray_at, strays_of}
+use Rattle.sb_core.specs.Finishes.{AreNoted, FinishesAreSourced, IsClosedNoted, ThreadPart, part_at, parts_at, results_in, stray_at}
 use Rattle.sb_core.specs.Kept.{IsWorld}
-use Rattle.sb_core.specs.Origins.{AreSourcedCopies, AreSourcedWords, HasBlockSource, HasSource, IsSourced, IsSourcedCopy, IsSourcedReply, Shows, ShowsCall}
+use Rattle.sb_core.specs.Origins.{AreSourcedCopies, AreSourcedWords, HasSource, IsSourcedCopy, IsSourcedReply, Shows, ShowsCall}
 use Rattle.sb_core.specs.Results.{result_at}
 use Rattle.sb_core.specs.Runs.{CanFinish, world_of}
 use Rattle.sb_core.specs.Shared.{Effect, on_worker}
@@ -56,7 +53,7 @@ use Rattle.sb_core.proofs.FinishFitting.{many_parts, of_channel, of_thread, part
 use Rattle.sb_core.proofs.FinishNotes.{CutNotes, IsServedStore, calls_cut, cut_notes, entry_of_call, has_left, has_right, same_word, seat_listed, seat_of, served_stores, stray_listed, strays_from, with_entries, word_shown}
 use Rattle.sb_core.proofs.Finishing.{finishing_world, mapped}
 use Rattle.sb_core.proofs.Keeping.{worker_keeps}
-use Rattle.sb_core.proofs.NotedParts.{AreSourcedStores, IsShown, ShowsResult, ShowsWord, ToldPart, told_part}
+use Rattle.sb_core.proofs.NotedParts.{AreSourcedStores, IsShown, ShowsResult, ToldPart, told_part}
 use Rattle.sb_core.proofs.Sourcing.{block_source, state_source}
 use Rattle.sb_core.proofs.There.{sound_at}
 use Rattle.sb_core.proofs.ThreadSources.{sourced_reply}

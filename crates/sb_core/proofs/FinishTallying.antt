@@ -1,5 +1,5 @@
 -- At the end of a run by threads a channel has no more entries than calls that were handed over there and statements that made it ready.
-use Rattle.std.proofs.Common.{◌≡◌, ◌≢◌, ◌⊎◌, inl, inr, ◌∙◌, refl, ap, subst, sym, ℕ, zero, suc, ◌+◌, ◌*◌, ◌-◌, ◌<◌, ◌≤◌, Bool, true, false, cond, ◌&&◌, ◌||◌, ◌==◌, ltb, if◌then◌else◌, List, [], ◌∷◌, ◌++◌, length, length-set, map, get_or, get_or-set_same, Option, Some, slice_get, lit<, lit≤, arith}
+use Rattle.std.proofs.Common.{◌≡◌, ◌≢◌, inl, inr, ◌∙◌, refl, ap, subst, sym, ℕ, zero, suc, ◌+◌, ◌*◌, ◌-◌, ◌<◌, ◌≤◌, Bool, true, false, cond, ◌&&◌, ◌==◌, if◌then◌else◌, List, [], ◌∷◌, length, length-set, map, get_or, slice_get, lit≤, arith}
 use Rattle.std.proofs.lemmas.Bool.Decides.{nat_tests}
 use Rattle.std.proofs.lemmas.List.Sums.{sum_by-append, sum_by-cons}
 use Rattle.std.specs.List.{sum_by}
@@ -7,20 +7,16 @@ use Rattle.std.specs.Prelude.{slice_index}
 use mathlib.Core.Option.{some}
 use native.Mathlib.Decide.{ℕ_discrete}
 use lib.ListN.{get_elem?}
-use Rattle.sb_actor.specs.Counts.{Counts, owed as owed_at_place, served_on, threes, view_threes}
+use Rattle.sb_actor.specs.Counts.{owed as owed_at_place, served_on, threes, view_threes}
 use Rattle.sb_actor.specs.Moves.{at}
-use Rattle.sb_actor.specs.Places.{clean_channels, statement_at}
-use Rattle.sb_actor.specs.Rule.{sees}
 use Rattle.sb_actor.specs.Sources.{Has}
-use Rattle.sb_actor.specs.WorkerNotes.{WorkNotes, WorkerNotes}
-use Rattle.sb_actor.specs.WorkerStages.{WorkerAt, WorkerStage, Look}
+use Rattle.sb_actor.specs.WorkerStages.{WorkerAt, WorkerStage}
 use Rattle.sb_actor.specs.declared.views.Served.{Served}
 use Rattle.sb_actor.specs.declared.views.StrayRecord.{StrayRecord}
 use Rattle.sb_actor.specs.declared.views.ThreadRecord.{ThreadRecord}
 use Rattle.sb_actor.specs.declared.views.View.TheVariants.{Worker}
 use Rattle.sb_actor.specs.declared.views.WorkerPlace.{WorkerPlace}
 use Rattle.sb_actor.specs.declared.views.WorkerPlace.TheVariants.{Look as Looks}
-use Rattle.sb_actor.specs.declared.views.WorkerView.{WorkerView}
 use Rattle.sb_book.specs.Histories.{History, Setting}
 use Rattle.sb_book.specs.Targets.{is_of_target}
 use Rattle.sb_book.specs.declared.entries.Entry.{Entry}
@@ -30,16 +26,16 @@ use Rattle.sb_statements.specs.declared.results.StmtResult.{StmtResult}
 use Rattle.sb_statements.specs.declared.scripts.Script.{Script}
 use Rattle.sb_statements.specs.declared.scripts.TargetScript.{TargetScript}
 use Rattle.sb_core.specs.Drains.{drained, most_passes}
-use Rattle.sb_core.specs.Finishes.{AreNoted, FinishesAreFew, IsClosedNoted, ThreadPart, no_part, part_at, parts_at, results_in, seats_of, stray_at, strays_of}
+use Rattle.sb_core.specs.Finishes.{AreNoted, FinishesAreFew, IsClosedNoted, ThreadPart, no_part, part_at, parts_at, results_in, stray_at, strays_of}
 use Rattle.sb_core.specs.Kept.{IsWorld}
 use Rattle.sb_core.specs.Runs.{CanFinish, world_of}
-use Rattle.sb_core.specs.Tallies.{ends_on, entries_on, makes_ready, one_if, tally_from, tally_targets, tally_threads}
+use Rattle.sb_core.specs.Tallies.{ends_on, entries_on, one_if, tally_from, tally_targets, tally_threads}
 use Rattle.sb_core.specs.Views.{as_call, calls_at}
 use Rattle.sb_core.specs.Words.{words_of}
-use Rattle.sb_core.specs.Worlds.{WorldAt, no_worker, worker_at, worker_step}
+use Rattle.sb_core.specs.Worlds.{WorldAt, worker_at, worker_step}
 use Rattle.sb_core.proofs.DrainSteps.{drain_keeps}
 use Rattle.sb_core.proofs.FinishFitting.{many_parts, part_results}
-use Rattle.sb_core.proofs.FinishNotes.{IsServedStore, entry_of_call, served_stores}
+use Rattle.sb_core.proofs.FinishNotes.{IsServedStore, entry_of_call}
 use Rattle.sb_core.proofs.FinishSourcing.{closed_stores}
 use Rattle.sb_core.proofs.Finishing.{finishing_world, mapped}
 use Rattle.sb_core.proofs.Keeping.{worker_keeps, worker_setting}

@@ -1,5 +1,5 @@
 -- What the notes of a thread's seats tell: where their stores come from, which values are shown, and how often a channel was made ready.
-use Rattle.std.proofs.Common.{◌≡◌, ◌≢◌, ◌⊎◌, inl, inr, ⊎_elim, ◌∙◌, refl, ap, subst, sym, ℕ, zero, suc, ◌+◌, ◌*◌, ◌<◌, ◌≤◌, Bool, true, false, ◌&&◌, ◌==◌, if◌then◌else◌, List, [], ◌∷◌, ◌++◌, length, map, Option, None, Some, IfSome, slice_get, lit<, lit≤, arith}
+use Rattle.std.proofs.Common.{◌≡◌, ◌≢◌, ◌⊎◌, inl, inr, ⊎_elim, ◌∙◌, refl, ap, subst, sym, ℕ, zero, suc, ◌+◌, ◌<◌, ◌≤◌, Bool, true, false, ◌&&◌, ◌==◌, if◌then◌else◌, List, [], ◌∷◌, ◌++◌, length, map, Option, None, Some, IfSome, slice_get, lit<, lit≤, arith}
 use Rattle.std.proofs.lemmas.Bool.{and_parts}
 use Rattle.std.proofs.lemmas.Bool.Decides.{nat_tests}
 use Rattle.std.proofs.lemmas.List.{append-nil}
@@ -28,10 +28,10 @@ use Rattle.sb_statements.specs.declared.statements.Statement.{Statement}
 use Rattle.sb_statements.specs.declared.statements.Statement.TheVariants as statement
 use Rattle.sb_statements.specs.declared.statements.Word.{Word}
 use Rattle.sb_core.specs.Finishes.{IsNotedPart, ThreadPart, stray_at}
-use Rattle.sb_core.specs.Noting.{AllOwnShows, CallShows, HandNotes, OwnNotes, OwnShows, call_stores, found_there, hand_shows, hand_shows_at, hand_stores, hand_stores_at, noted_from, own_stores, own_stores_at, sending, shown_values, taking, words_from}
+use Rattle.sb_core.specs.Noting.{AllOwnShows, CallShows, HandNotes, OwnNotes, OwnShows, call_stores, found_there, hand_shows, hand_shows_at, hand_stores, hand_stores_at, noted_from, own_stores, own_stores_at, sending, taking, words_from}
 use Rattle.sb_core.specs.Origins.{HasSource, StoresThere}
 use Rattle.sb_core.specs.Results.{is_result_of}
-use Rattle.sb_core.specs.Tallies.{ends_call, ends_on, is_state, makes_ready, one_if}
+use Rattle.sb_core.specs.Tallies.{ends_call, ends_on, makes_ready, one_if}
 use Rattle.sb_core.proofs.FinishNotes.{has_left, has_right, has_split, no_item, same_word}
 use Rattle.sb_core.proofs.Sourcing.{block_source, state_source}
 use Rattle.sb_core.proofs.There.{sound_at}

@@ -1,12 +1,11 @@
 -- Where each clean channel is free and no worker is engaged at one, a drain makes no entry on a clean channel and leaves each of them free.
-use Rattle.std.proofs.Common.{◌≡◌, ◌≢◌, ◌⊎◌, inl, inr, ⊎_elim, ◌∙◌, refl, ap, subst, sym, ℕ, ◌+◌, ◌*◌, ◌<◌, Bool, true, false, cond, ◌&&◌, ◌==◌, if◌then◌else◌, List, [], ◌∷◌, ◌++◌, length, length-set, set, get_or, get_or-set_same, get_or-set_other, Some, is_none, slice_get, arith}
+use Rattle.std.proofs.Common.{◌≡◌, ◌≢◌, ◌⊎◌, inl, inr, ⊎_elim, ◌∙◌, refl, ap, subst, sym, ℕ, ◌+◌, ◌*◌, ◌<◌, Bool, true, false, cond, ◌&&◌, ◌==◌, if◌then◌else◌, List, [], ◌∷◌, ◌++◌, length, length-set, set, get_or-set_same, get_or-set_other, Some, is_none, slice_get, arith}
 use Rattle.std.proofs.lemmas.Bool.Decides.{nat_tests}
 use Rattle.std.proofs.lemmas.List.{append-nil}
 use Rattle.std.proofs.lemmas.List.Elements.{filter-append}
 use Rattle.std.specs.List.{filter}
 use Rattle.std.specs.Prelude.{nat_lt, slice_index}
 use native.Mathlib.Decide.{ℕ_discrete}
-use Rattle.sb_actor.specs.Acts.{ready}
 use Rattle.sb_actor.specs.Moves.{at, is_clean}
 use Rattle.sb_actor.specs.Places.{clean_channels}
 use Rattle.sb_actor.specs.Ranges.{IsSoundStage}
@@ -21,7 +20,7 @@ use Rattle.sb_book.specs.declared.entries.Entry.{Entry}
 use Rattle.sb_statements.specs.Soundness.{SoundStatements}
 use Rattle.sb_statements.specs.declared.scripts.Script.{Script}
 use Rattle.sb_core.specs.Fits.{is_entry_of}
-use Rattle.sb_core.specs.Kept.{IsWorkerOf, IsWorld}
+use Rattle.sb_core.specs.Kept.{IsWorld}
 use Rattle.sb_core.specs.Shared.{Effect, decided, on_worker}
 use Rattle.sb_core.specs.Views.{as_call}
 use Rattle.sb_core.specs.Words.{exchanged, loaded, stored, words_of}

@@ -1,7 +1,7 @@
 -- What the seats of a thread note of its statements: what the steps of each statement, with the result that it had, stored and showed. A store is a
 -- word with its value, and so is what was shown.
-use Rattle.std.specs.Prelude.{◌≡◌, ℕ, ◌+◌, Bool, ◌==◌, ◌&&◌, List, [], ◌∷◌, ◌++◌, length, map, take, Option, Some, None, if◌then◌else◌}
-use Rattle.sb_actor.specs.Acts.{abandoned, acknowledged, busy, free, ready}
+use Rattle.std.specs.Prelude.{◌≡◌, ℕ, ◌+◌, ◌==◌, ◌&&◌, List, [], ◌∷◌, ◌++◌, length, map, take, Option, Some, None, if◌then◌else◌}
+use Rattle.sb_actor.specs.Acts.{abandoned, busy, free, ready}
 use Rattle.sb_actor.specs.Moves.{at}
 use Rattle.sb_actor.specs.Places.{block_of, mark_at, statement_at}
 use Rattle.sb_actor.specs.ThreadStages.{ThreadStage, Try, Fill, Send, Wait, Fetch, Free, Abandon, Stray, Over}

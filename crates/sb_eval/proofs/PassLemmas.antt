@@ -7,7 +7,7 @@ use Rattle.sb_opcode.specs.Groups.{is_act, after_action}
 use Rattle.sb_opcode.specs.Records.{IsPassed}
 use Rattle.sb_opcode.specs.declared.opcodes.Opcode.{Opcode}
 use Rattle.sb_eval.specs.Meaning.{action_from}
-use Rattle.sb_eval.specs.Walking.{Standing, Between, All, One, Decided, Failed, step, moved, is_failed, walk}
+use Rattle.sb_eval.specs.Walking.{Standing, Between, All, One, Decided, Failed, step, is_failed, walk}
 use Rattle.sb_eval.specs.declared.judged.Judged.{Judged}
 use Rattle.sb_eval.proofs.WalkLemmas.{rule_passed}
 

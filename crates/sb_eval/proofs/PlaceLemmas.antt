@@ -8,10 +8,8 @@ use Rattle.std.proofs.lemmas.Bool.Decides.{nat_tests}
 use Rattle.std.proofs.lemmas.List.{drop-drop, drop_all, get_or-drop, length-append, length-drop}
 use Rattle.sb_pattern.specs.declared.cells.Cell.{Cell}
 use Rattle.sb_pattern.specs.declared.cells.Cell.TheVariants.{One, Any}
-use Rattle.sb_opcode.specs.Options.{has, FOLD, EXACT}
-use Rattle.sb_opcode.specs.declared.opcodes.Seek.{Seek}
+use Rattle.sb_opcode.specs.Options.{has, FOLD}
 use Rattle.sb_opcode.specs.declared.opcodes.Seek.TheVariants.{Skip}
-use Rattle.sb_opcode.specs.declared.options.Options.{Options}
 use Rattle.sb_eval.specs.Fragments.{unit_fits, after_fragment, after_first, after_end, after_seek, at_end}
 use Rattle.sb_eval.specs.Meaning.{after_text}
 use Rattle.sb_eval.specs.Places.{FitsAt, FirstFitsAt, SkipLeavesWhatFollows, ForwardTakesTheFirstPlace, ForwardMissesNoPlace, EndIsTheLastPlace, ExactLeavesNothing, StarsFitNowhere}

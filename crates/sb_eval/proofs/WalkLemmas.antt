@@ -1,6 +1,6 @@
 -- The walk over the opcodes of a code gives what the code means.
 use Rattle.std.specs.Prelude.{ℕ, ◌+◌, Bool, true, false, not, ◌&&◌, ◌||◌, List, [], ◌∷◌, length, Option, None, Some, option_and_then, is_some, if◌then◌else◌}
-use Rattle.std.specs.List.{list_all, list_any, onto_first}
+use Rattle.std.specs.List.{list_all, onto_first}
 use Rattle.std.proofs.Common.{◌≡◌, ◌∙◌, cond, suc, refl, ap, sym, arith}
 use Rattle.std.proofs.lemmas.Bool.{and_parts, false≢true}
 use Rattle.sb_call.specs.Arguments.{arg_at}

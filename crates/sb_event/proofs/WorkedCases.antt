@@ -1,5 +1,5 @@
 -- The definitions, tried on worked calls by computation.
-use Rattle.std.specs.Prelude.{◌≡◌, ℕ, List, [], ◌∷◌, codes, refl}
+use Rattle.std.specs.Prelude.{◌≡◌, [], ◌∷◌, codes, refl}
 use Rattle.sb_call.specs.Statuses.{refusal, granting, success, name_exists, invalid_parameter, type_mismatch, name_not_found}
 use Rattle.sb_handles.specs.Effects.{Effect}
 use Rattle.sb_handles.specs.Tables.{no_handles}

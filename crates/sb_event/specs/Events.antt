@@ -1,5 +1,5 @@
 -- The events, and what each call on them does.
-use Rattle.std.specs.Prelude.{◌≡◌, ◌+◌, ℕ, Bool, true, false, ◌||◌, not, ◌==◌, nat_lt, List, [], ◌∷◌, Option, None, Some, if◌then◌else◌}
+use Rattle.std.specs.Prelude.{◌≡◌, ◌+◌, ℕ, Bool, true, ◌||◌, not, ◌==◌, nat_lt, List, [], ◌∷◌, Option, None, Some, if◌then◌else◌}
 use Rattle.std.specs.List.{list_all}
 use Rattle.sb_wide.specs.Names.{is_name_of}
 use Rattle.sb_call.specs.Statuses.{success, name_exists, invalid_parameter, type_mismatch, name_not_found}

@@ -1,10 +1,10 @@
 -- What is found after a file or directory was made or opened.
-use Rattle.std.proofs.Common.{◌≡◌, ◌<◌, ◌≤◌, ◌+◌, ◌-◌, ℕ, zero, suc, Bool, true, false, cond, refl, sym, ◌∙◌, ap, arith, List, [], ◌∷◌, ◌++◌, ◌==◌, nat_eq, length, map, if◌then◌else◌}
+use Rattle.std.proofs.Common.{◌≡◌, ◌<◌, ◌+◌, ◌-◌, ℕ, zero, suc, Bool, true, false, cond, refl, sym, ◌∙◌, ap, arith, List, [], ◌∷◌, ◌++◌, ◌==◌, nat_eq, length, map, if◌then◌else◌}
 use Rattle.std.proofs.lemmas.Bool.{false≢true}
 use Rattle.std.proofs.lemmas.Bool.Decides.{nat_tests}
 use Rattle.std.proofs.lemmas.List.{get_or_append_left}
 use Rattle.std.proofs.lemmas.Map.Keys.{IsDistinct-head, IsDistinct-tail}
-use Rattle.std.specs.Prelude.{Option, None, Some, is_some, not, option_map, slice_index_or, slice_set, ◌&&◌, ◌||◌}
+use Rattle.std.specs.Prelude.{Option, None, Some, not, option_map, slice_index_or, slice_set, ◌&&◌, ◌||◌}
 use Rattle.std.specs.Cmp.Lexicographic.{bytes_decides}
 use Rattle.std.specs.List.{AllByRecursion, IsDistinct}
 use Rattle.std.specs.Map.{lookup}
@@ -15,7 +15,7 @@ use Rattle.sb_names.specs.Keys.{key_of}
 use Rattle.sb_names.specs.Laws.{PutsAreFound, PutsKeepRows}
 use Rattle.sb_names.specs.Maps.{Rows, found, is_key}
 use Rattle.sb_file.specs.Creation.{create_by, is_invalid, object_asked, on_file, open_existing, open_request, opens, replaces, wants_directory, wants_file, was_opened}
-use Rattle.sb_file.specs.Files.{Files, AreObjects, has_parent, is_directory, is_shared_out, object_found, object_of, with_attributes, with_object}
+use Rattle.sb_file.specs.Files.{Files, has_parent, is_directory, is_shared_out, object_found, object_of, with_attributes, with_object}
 use Rattle.sb_file.specs.Laws.{CreatesAreFound, CreatesGiveAttributes, CreatesGrantTheirFile, CreatesKeepNames, CreatesLeaveOthers, OpensLeaveNames, says_made, says_replaced, with_asked}
 use Rattle.sb_file.specs.declared.objects.FileKind.TheVariants as kind
 use Rattle.sb_file.specs.declared.objects.FileObject.{FileObject}

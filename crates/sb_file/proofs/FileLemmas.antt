@@ -1,13 +1,11 @@
 -- Names that lead to objects, and directories that are there.
-use Rattle.std.proofs.Common.{◌≡◌, ◌<◌, ◌≤◌, ◌+◌, ℕ, Bool, true, false, cond, refl, sym, subst, ◌∙◌, ap, arith, List, [], ◌∷◌, ◌++◌, ◌==◌, nat_eq, map, length, length-set, if◌then◌else◌}
-use Rattle.std.proofs.lemmas.Bool.{and_parts, false≢true}
+use Rattle.std.proofs.Common.{◌≡◌, ◌≤◌, ◌+◌, ℕ, Bool, true, false, refl, sym, subst, ◌∙◌, ap, arith, List, [], ◌∷◌, ◌++◌, ◌==◌, nat_eq, length, length-set, if◌then◌else◌}
+use Rattle.std.proofs.lemmas.Bool.{false≢true}
 use Rattle.std.proofs.lemmas.Bool.Decides.{nat_tests}
 use Rattle.std.proofs.lemmas.List.{length-append}
 use Rattle.std.specs.Prelude.{Option, None, Some, IfSome, Result, Ok, Err, is_some, not, option_map, slice_index_or, slice_set}
-use Rattle.std.specs.BTreeMap.{insert_entry}
 use Rattle.std.specs.Cmp.Lexicographic.{slice_cmp}
 use Rattle.std.specs.List.{IsDistinct, list_all}
-use Rattle.std.specs.Map.{lookup}
 use Rattle.std.specs.Ordering.{nat_cmp, match_ordering}
 use Rattle.std.specs.declared.cmp.Ordering.{Ordering}
 use Rattle.std.specs.declared.cmp.Ordering.TheVariants.{Less, Equal, Greater}
@@ -18,7 +16,7 @@ use Rattle.sb_handles.specs.declared.objects.Share.{Share}
 use Rattle.sb_handles.specs.declared.objects.ShareRefused.{ShareRefused}
 use Rattle.sb_handles.specs.declared.objects.ShareRefused.TheVariants as share_refused
 use Rattle.sb_names.specs.Keys.{key_of, parent_of, is_below}
-use Rattle.sb_names.specs.Maps.{Rows, found, is_key, is_there, put}
+use Rattle.sb_names.specs.Maps.{Rows, found, is_there, put}
 use Rattle.sb_names.specs.Numbers.{AreNumbered, PutsKeepNumbers, RenamesKeepNumbers, is_given}
 use Rattle.sb_names.specs.Renames.{renamed_rows, renamed_tree}
 use Rattle.sb_names.specs.Laws.{PutsKeepParents, RenamesKeepParents}

@@ -1,16 +1,15 @@
 -- The conflict that is given is the lowest.
-use Rattle.std.proofs.Common.{◌≡◌, ◌<◌, ◌≤◌, ℕ, Bool, true, false, cond, refl, sym, ◌∙◌, ap, arith, ◌==◌, List, [], ◌∷◌, if◌then◌else◌}
+use Rattle.std.proofs.Common.{◌≡◌, ◌<◌, ◌≤◌, ℕ, Bool, true, false, cond, refl, sym, ◌∙◌, ap, arith, ◌==◌, [], ◌∷◌, if◌then◌else◌}
 use Rattle.std.proofs.lemmas.Bool.{false≢true}
 use Rattle.std.proofs.lemmas.Bool.Decides.{nat_tests}
 use Rattle.std.specs.Prelude.{Option, None, Some, is_some, option_map, ◌&&◌}
 use Rattle.std.specs.List.{AllByRecursion, find}
 use Rattle.std.specs.List.Sorted.{IsStrictlySortedBy}
-use Rattle.std.specs.Map.{keys_of, lookup}
+use Rattle.std.specs.Map.{keys_of}
 use Rattle.std.specs.declared.cmp.Ordering.TheVariants.{Less}
-use Rattle.sb_handles.specs.Agreements.{AgreesOnFiles, file_share, file_share_by, is_file}
+use Rattle.sb_handles.specs.Agreements.{file_share_by, is_file}
 use Rattle.sb_handles.specs.Laws.{ConflictsAreHeld, ConflictsAreOpen, ConflictsAreLowest, HeldHandlesConflict, IsConflicting, NoConflictMeansNone}
 use Rattle.sb_handles.specs.Shares.{Shares, SharesRise, by_object, conflicts, conflict_of, is_conflict, share_on}
-use Rattle.sb_handles.specs.Tables.{Table}
 use Rattle.sb_handles.specs.declared.objects.OpenHandle.{OpenHandle}
 use Rattle.sb_handles.specs.declared.objects.Share.{Share}
 

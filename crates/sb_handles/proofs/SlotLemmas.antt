@@ -1,14 +1,14 @@
 -- Slots by number, and the handles that they hold.
 use Rattle.std.proofs.Common.{◌≡◌, ℕ, ◌+◌, ◌-◌, ◌<◌, ◌≤◌, ◌==◌, Bool, true, false, zero, suc, refl, sym, ◌∙◌, arith, List, [], ◌∷◌, ◌++◌, length, if◌then◌else◌}
 use Rattle.std.proofs.lemmas.Bool.Decides.{nat_tests}
-use Rattle.std.specs.Prelude.{Option, None, Some, map, nat_le, option_map, not, ◌&&◌, slice_set}
+use Rattle.std.specs.Prelude.{Option, None, Some, map, nat_le, option_map, not, ◌&&◌}
 use Rattle.std.proofs.Common.{set, get_or, length-set}
 use Rattle.std.specs.List.{filter, find, list_all, AllByRecursion}
 use Rattle.std.specs.List.Sorted.{IsStrictlySortedBy}
 use Rattle.std.specs.Ordering.{nat_cmp}
 use Rattle.std.specs.declared.cmp.Ordering.TheVariants.{Less}
 use Rattle.sb_handles.specs.Slots.{open_from, slot_of, held_in}
-use Rattle.sb_handles.specs.Tables.{Table, IsTable, is_of, held_by, without_handle}
+use Rattle.sb_handles.specs.Tables.{IsTable, is_of, without_handle}
 use Rattle.sb_handles.specs.declared.objects.Held.{Held}
 use Rattle.sb_handles.specs.declared.objects.OpenHandle.{OpenHandle}
 use Rattle.sb_handles.specs.declared.tables.Slot.{Slot}

@@ -1,5 +1,5 @@
 -- What a handle table holds of the objects of one service.
-use Rattle.std.specs.Prelude.{◌≡◌, ℕ, Bool, true, false, ◌&&◌, ◌==◌, List, Option, None, Some, if◌then◌else◌}
+use Rattle.std.specs.Prelude.{◌≡◌, ℕ, Bool, true, false, ◌&&◌, ◌==◌, Option, None, Some, if◌then◌else◌}
 use Rattle.std.specs.List.{find, count_by}
 use Rattle.sb_handles.specs.Shares.{Shares, share_on}
 use Rattle.sb_handles.specs.Tables.{Table}

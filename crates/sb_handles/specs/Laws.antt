@@ -1,5 +1,5 @@
 -- Laws of handles and shares.
-use Rattle.std.specs.Prelude.{◌≡◌, ◌<◌, ◌+◌, ◌-◌, ℕ, true, false, List, [], ◌∷◌, Option, None, Some, is_some, ◌==◌, ◌&&◌, if◌then◌else◌}
+use Rattle.std.specs.Prelude.{◌≡◌, ◌<◌, ◌+◌, ℕ, true, false, None, Some, is_some, ◌==◌, ◌&&◌, if◌then◌else◌}
 use Rattle.std.specs.List.{find}
 use Rattle.sb_handles.specs.Agreements.{is_file, is_pipe, AgreesOnFiles, pipe_handles}
 use Rattle.sb_handles.specs.Shares.{Shares, SharesRise, conflicts, conflict_of, opened, left, share_on}

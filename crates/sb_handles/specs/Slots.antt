@@ -1,5 +1,5 @@
 -- What a list of slots says of handles. The slots have numbers, one more each, and a slot is empty once its handle is closed.
-use Rattle.std.specs.Prelude.{◌+◌, ◌-◌, ℕ, Bool, false, ◌==◌, List, [], ◌∷◌, Option, None, Some, if◌then◌else◌}
+use Rattle.std.specs.Prelude.{◌+◌, ℕ, ◌==◌, List, [], ◌∷◌, Option, None, Some, if◌then◌else◌}
 use Rattle.sb_handles.specs.declared.objects.Held.{Held}
 use Rattle.sb_handles.specs.declared.objects.OpenHandle.{OpenHandle}
 use Rattle.sb_handles.specs.declared.tables.Slot.{Slot}

@@ -1,5 +1,5 @@
 -- What a kernel keeps after a handle was closed.
-use Rattle.std.proofs.Common.{◌≡◌, ◌∙◌, ℕ, ap, subst, sym, refl, false, Some}
+use Rattle.std.proofs.Common.{◌≡◌, ℕ, ap, refl, false, Some}
 use Rattle.sb_handles.specs.Agreements.{is_file, is_pipe}
 use Rattle.sb_handles.specs.Tables.{Table, IsTable, held_by, without_handle}
 use Rattle.sb_handles.specs.declared.objects.Held.{Held}

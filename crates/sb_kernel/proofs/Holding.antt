@@ -2,10 +2,10 @@
 use Rattle.std.proofs.Common.{◌≡◌, ◌∙◌, ℕ, ◌+◌, ◌≤◌, Bool, true, false, List, [], ◌∷◌, ◌++◌, length, Option, None, Some, refl, sym, ap, subst, arith, ◌⊎◌, inl, inr, ◌==◌, ◌^◌, if◌then◌else◌}
 use Rattle.std.proofs.lemmas.Bool.{and_parts, false≢true}
 use Rattle.std.proofs.lemmas.Bool.Decides.{nat_tests}
-use Rattle.std.specs.Prelude.{◌&&◌, is_some, not, nat_lt}
-use Rattle.std.specs.List.{AllByRecursion, filter, list_all}
+use Rattle.std.specs.Prelude.{is_some, not, nat_lt}
+use Rattle.std.specs.List.{filter, list_all}
 use Rattle.std.specs.Map.{lookup}
-use Rattle.sb_call.specs.Statuses.{success, name_exists}
+use Rattle.sb_call.specs.Statuses.{success}
 use Rattle.sb_handles.specs.Effects as effects
 use Rattle.sb_handles.specs.Tables.{Table, is_of, with_handle, without_handle}
 use Rattle.sb_handles.specs.declared.objects.Held.{Held}

@@ -1,5 +1,5 @@
 -- What each call leaves of the kernel's agreements.
-use Rattle.std.proofs.Common.{◌≡◌, ◌∙◌, ℕ, ◌+◌, ◌≤◌, Bool, true, false, List, length, refl, sym, ap, subst, arith, ◌⊎◌, inl, inr}
+use Rattle.std.proofs.Common.{◌≡◌, ◌∙◌, ℕ, ◌+◌, ◌≤◌, true, false, List, length, refl, sym, ap, subst, arith, inl, inr}
 use Rattle.std.specs.Prelude.{◌^◌, nat_lt}
 use Rattle.sb_wide.specs.Names.{is_name_of}
 use Rattle.sb_handles.specs.Agreements.{AgreesOnFiles, is_file, is_pipe}
@@ -19,14 +19,14 @@ use Rattle.sb_pipe.specs.Laws.{CallsGrantTheirPipe, CallsKeepCounts, GrantsLeave
 use Rattle.sb_pipe.specs.Pipes as pipes
 use Rattle.sb_key.specs.Registry as registry
 use Rattle.sb_event.specs.Events as events
-use Rattle.sb_kernel.specs.Kept.{IsKept, MadeAtMost}
+use Rattle.sb_kernel.specs.Kept.{IsKept}
 use Rattle.sb_statements.specs.Limits.{most_start_lines}
 use Rattle.sb_kernel.specs.Namespaces.{Space}
 use Rattle.sb_file.specs.Creation as creation
 use Rattle.sb_names.specs.Maps.{found}
 use Rattle.sb_kernel.specs.Held.{AreHeld}
 use Rattle.sb_kernel.proofs.Holding.{events_held, files_held, found_held, keys_held, pipes_held, reached_held, renamed_held}
-use Rattle.sb_kernel.proofs.Steps.{IsStep, IsGrant, event_open_step, event_step, file_step, key_open_step, key_step, pipe_step}
+use Rattle.sb_kernel.proofs.Steps.{IsStep, event_open_step, event_step, file_step, key_open_step, key_step, pipe_step}
 
 -- a step on objects of another service leaves the agreement on files
 pub files_kept : (law : GrantsLeaveFiles) (f : files.Files) (kind : Service) (made more : ℕ) (handles after : Table) → is_file kind ≡ false → IsTable handles

@@ -1,5 +1,5 @@
 -- Calls that are refused change nothing.
-use Rattle.std.proofs.Common.{◌≡◌, ◌==◌, ℕ, Bool, true, false, ◌||◌, List, [], ◌∷◌, Option, None, Some, refl, sym, subst, ap, arith}
+use Rattle.std.proofs.Common.{◌≡◌, ℕ, Bool, true, false, ◌||◌, List, [], ◌∷◌, Option, None, Some, refl, sym, subst, ap}
 use Rattle.std.proofs.lemmas.Bool.{false≢true}
 use Rattle.sb_call.specs.Statuses.{success}
 use Rattle.sb_call.specs.declared.arguments.Arg.{Arg}
@@ -18,7 +18,7 @@ use Rattle.sb_key.specs.Registry as registry
 use Rattle.sb_pipe.specs.Laws as pipe_laws
 use Rattle.sb_pipe.specs.Pipes as pipes
 use Rattle.sb_kernel.specs.Laws.{is_done, RefusedCallsChangeNothing, UnheldClosesChangeNothing}
-use Rattle.sb_kernel.specs.Namespaces.{Space, ping, file_create, file_open, file_query, file_rename, pipe_create, key_create, key_open, event_create, event_open, handle_close, close_by, perform}
+use Rattle.sb_kernel.specs.Namespaces.{Space, ping, file_create, file_open, file_query, file_rename, pipe_create, key_create, key_open, event_create, event_open, handle_close, close_by}
 use Rattle.sb_kernel.proofs.Misfits.{asked}
 
 -- neither of two tests holds where their `or` does not

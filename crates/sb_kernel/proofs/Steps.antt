@@ -1,5 +1,5 @@
 -- What each call of a service does to the handles: nothing, or it grants one on an object of its own service.
-use Rattle.std.proofs.Common.{◌≡◌, ◌∙◌, ℕ, ◌+◌, ◌≤◌, Bool, true, false, if◌then◌else◌, List, [], ◌∷◌, length, Option, None, Some, refl, sym, ap, subst, arith, ◌⊎◌, inl, inr, ◌++◌, ◌&&◌, ◌||◌, not, ◌==◌}
+use Rattle.std.proofs.Common.{◌≡◌, ℕ, ◌+◌, ◌≤◌, Bool, true, false, if◌then◌else◌, List, [], ◌∷◌, length, Option, None, Some, refl, arith, ◌⊎◌, inl, inr, ◌&&◌, ◌||◌, not, ◌==◌}
 use Rattle.std.proofs.lemmas.List.{length-set, length-append}
 use Rattle.sb_handles.specs.Effects.{Effect}
 use Rattle.sb_handles.specs.Tables.{Table, with_handle}

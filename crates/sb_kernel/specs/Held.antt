@@ -1,5 +1,5 @@
 -- What a kernel keeps of the handles that targets hold.
-use Rattle.std.specs.Prelude.{◌≡◌, ℕ, ◌+◌, ◌^◌, ◌≤◌, ◌&&◌, Bool, true, nat_lt, List, Some, ⊤}
+use Rattle.std.specs.Prelude.{◌≡◌, ℕ, ◌^◌, ◌≤◌, ◌&&◌, Bool, true, nat_lt, List, Some, ⊤}
 use Rattle.std.specs.List.{AllByRecursion, list_all}
 use Rattle.std.specs.Map.{lookup}
 use Rattle.sb_handles.specs.declared.objects.Held.{Held}

@@ -3,7 +3,6 @@ use Rattle.std.proofs.Common.{◌≡◌, ◌+◌, ℕ, Bool, true, false, refl, 
 use Rattle.std.specs.Prelude.{Option, None, Some, not, ◌&&◌}
 use Rattle.sb_call.specs.Statuses.{path_not_found}
 use Rattle.sb_handles.specs.Effects.{Effect, refused}
-use Rattle.sb_handles.specs.Tables.{Table}
 use Rattle.sb_names.specs.Keys.{key_of}
 use Rattle.std.specs.Map.{lookup}
 use Rattle.sb_names.specs.Laws.{PutsAreFound, PutsKeepRows, PutsKeepTrees}

@@ -1,14 +1,13 @@
 -- What an added name meets: its directory is missing, it is there, or it is new.
-use Rattle.std.proofs.Common.{◌≡◌, ℕ, Bool, true, false, refl, sym, subst, ◌∙◌, ap, List, [], ◌∷◌, ◌++◌, length}
+use Rattle.std.proofs.Common.{◌≡◌, ℕ, true, false, refl, sym, ◌∙◌, ap, List, [], ◌∷◌, ◌++◌}
 use Rattle.std.proofs.lemmas.Bool.{false≢true}
-use Rattle.std.specs.Prelude.{Option, Some, None, is_some, Result, Ok, Err}
+use Rattle.std.specs.Prelude.{Option, Some, None, is_some, Ok, Err}
 use Rattle.std.specs.BTreeMap.{insert_entry}
-use Rattle.std.specs.List.{list_any}
 use Rattle.std.specs.Map.{lookup}
-use Rattle.sb_arena.specs.Forests.{IsLive, IsShallow, HasLiveLinks, value_at}
+use Rattle.sb_arena.specs.Forests.{IsShallow, HasLiveLinks, value_at}
 use Rattle.sb_wide.specs.Names.{is_component}
-use Rattle.sb_names.specs.Keys.{key_of, parent_of, is_backslash}
-use Rattle.sb_names.specs.Maps.{Rows, count_in, found, is_key, is_there}
+use Rattle.sb_names.specs.Keys.{key_of, parent_of}
+use Rattle.sb_names.specs.Maps.{Rows, count_in, is_key, is_there}
 use Rattle.sb_names.specs.Nodes.{Nodes, HasNames, HasNoChild, HasNoneBelow, IsAt, IsChild, IsThere, IsUnnamed, name_of, rows_of}
 use Rattle.sb_names.specs.Trees.{added, has_parent, is_directory_there}
 use Rattle.sb_names.specs.declared.faults.TreeFault.TheVariants as fault

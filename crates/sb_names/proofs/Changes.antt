@@ -1,16 +1,15 @@
 -- What a change of one node does to the names of all, and to the rows.
-use Rattle.std.proofs.Common.{◌≡◌, ◌≢◌, ◌<◌, ◌≤◌, ◌+◌, ◌^◌, ◌==◌, ◌⊎◌, inl, inr, ℕ, Bool, true, false, cond, refl, sym, ◌∙◌, ap, subst, arith, zero, suc, List, [], ◌∷◌, ◌++◌, length, if◌then◌else◌}
+use Rattle.std.proofs.Common.{◌≡◌, ◌≢◌, ◌<◌, ◌+◌, ◌^◌, ◌==◌, ◌⊎◌, inl, inr, ℕ, Bool, true, false, refl, sym, ◌∙◌, ap, subst, arith, zero, suc, List, ◌∷◌, ◌++◌, length, if◌then◌else◌}
 use Rattle.std.proofs.lemmas.Bool.{false≢true}
 use Rattle.std.proofs.lemmas.Bool.Decides.{nat_tests}
 use Rattle.std.specs.Prelude.{Option, Some, None, is_some, ◌&&◌}
 use Rattle.std.specs.BTreeMap.{insert_entry}
-use Rattle.std.specs.Map.{lookup, remove_entry}
-use Rattle.std.specs.List.{list_any}
-use Rattle.sb_arena.specs.Forests.{Forest, IsLive, value_at, parent_of as node_parent, ancestor, IsShallow, HasLiveLinks, IsSound, IsAbove, with_node, with_child, node_number}
+use Rattle.std.specs.Map.{lookup}
+use Rattle.sb_arena.specs.Forests.{IsLive, value_at, parent_of as node_parent, ancestor, IsShallow, HasLiveLinks, IsSound, IsAbove, with_node, with_child, node_number}
 use Rattle.sb_arena.specs.Laws.{AddsLeaveParents, AddsSetValues, LinksSetParents, NumbersAreFree}
 use Rattle.sb_wide.specs.Names.{is_component}
 use Rattle.sb_names.specs.Hashes.{hash_of}
-use Rattle.sb_names.specs.Keys.{key_of, is_backslash}
+use Rattle.sb_names.specs.Keys.{key_of}
 use Rattle.sb_names.specs.Maps.{Rows, Rises, is_key}
 use Rattle.sb_names.specs.Nodes.{Nodes, HasNames, HasNoChild, IsChanged, IsChild, IsIndexed, IsThere, IsUnnamed, KeepsNodes, is_entry, key_at, key_by, name_of, rows_of}
 use Rattle.sb_names.specs.declared.nodes.NameNode.{NameNode}

@@ -1,9 +1,9 @@
 -- The children of a node are counted: by a walk from the first to the last, and among the rows.
-use Rattle.std.proofs.Common.{◌≡◌, ◌≢◌, ◌<◌, ◌≤◌, ◌+◌, ◌^◌, ◌==◌, ◌||◌, ℕ, Bool, true, false, cond, refl, sym, ◌∙◌, ap, subst, arith, zero, suc, List, [], ◌∷◌, ◌++◌, length, if◌then◌else◌}
+use Rattle.std.proofs.Common.{◌≡◌, ◌≢◌, ◌<◌, ◌≤◌, ◌+◌, ◌==◌, ◌||◌, ℕ, Bool, true, false, cond, refl, sym, ◌∙◌, ap, subst, arith, zero, suc, List, [], ◌∷◌, length, if◌then◌else◌}
 use Rattle.std.proofs.lemmas.Bool.{false≢true}
 use Rattle.std.proofs.lemmas.Bool.Decides.{nat_tests}
 use Rattle.std.proofs.lemmas.List.Sums.{sum_by-cons}
-use Rattle.std.specs.Prelude.{Option, Some, None, is_some, ◌&&◌, ⊤}
+use Rattle.std.specs.Prelude.{Option, Some, None, is_some, ◌&&◌}
 use Rattle.std.specs.BTreeMap.{insert_entry}
 use Rattle.std.specs.List.{count_by}
 use Rattle.std.specs.Map.{lookup}
@@ -17,7 +17,7 @@ use Rattle.sb_names.specs.Nodes.{Nodes, HasNames, IsAt, IsUnnamed, name_of, rows
 use Rattle.sb_names.specs.Trees.{children_of as names_in}
 use Rattle.sb_names.specs.Walks.{IsIn, rest_from}
 use Rattle.sb_names.specs.declared.nodes.NameNode.{NameNode}
-use Rattle.sb_names.proofs.Changes.{is_same, is_other, other_of, same_of}
+use Rattle.sb_names.proofs.Changes.{is_same, same_of}
 use Rattle.sb_names.proofs.MapLaws.{is_found, is_key_eq, own_test}
 use Rattle.sb_names.proofs.NodeLemmas.{found_none, live_below, name_root, not_root, one_node, parent_name}
 use Rattle.sb_names.proofs.RisingLemmas.{by_unit, key_test}

@@ -8,7 +8,7 @@ use Rattle.std.specs.List.{list_all}
 use Rattle.std.specs.Map.{lookup}
 use Rattle.sb_names.specs.Keys.{key_of, parent_of, is_below}
 use Rattle.sb_names.specs.Laws.{PutsKeepParents, RenamesKeepParents}
-use Rattle.sb_names.specs.Maps.{Rows, found, is_key, is_there, put}
+use Rattle.sb_names.specs.Maps.{Rows, found, is_key, put}
 use Rattle.sb_names.specs.Nodes.{is_path}
 use Rattle.sb_names.specs.Renames.{is_at_or_below, renamed_key, renamed_rows}
 use Rattle.sb_names.specs.Trees.{AreFolded, IsTree, has_parent_with, is_directory_with, passes}

@@ -1,12 +1,12 @@
 -- A node that is added is hung in its directory.
-use Rattle.std.proofs.Common.{◌≡◌, ◌≢◌, ◌<◌, ◌==◌, ℕ, Bool, true, false, refl, sym, ◌∙◌, ap, subst, List, length, if◌then◌else◌}
+use Rattle.std.proofs.Common.{◌≡◌, ◌≢◌, ◌<◌, ℕ, false, sym, ◌∙◌, ap, subst, length, if◌then◌else◌}
 use Rattle.std.proofs.lemmas.Bool.{false≢true}
 use Rattle.std.specs.Prelude.{Option, Some, None, is_some}
-use Rattle.sb_arena.specs.Forests.{HasLiveLinks, IsAbove, IsLive, IsSound, node_number, parent_of as node_parent, value_at, with_node}
+use Rattle.sb_arena.specs.Forests.{HasLiveLinks, IsLive, IsSound, node_number, parent_of as node_parent, value_at, with_node}
 use Rattle.sb_arena.specs.Laws.{AddsLeaveParents, AddsSetValues, LinksSetParents, NumbersAreFree}
 use Rattle.sb_names.specs.Nodes.{Nodes, IsApart, IsChanged, IsThere, hung}
 use Rattle.sb_names.specs.declared.nodes.NameNode.{NameNode}
-use Rattle.sb_names.proofs.Changes.{added_changes, apart_new, linked_changes, other_of, same_of, is_same, is_other}
+use Rattle.sb_names.proofs.Changes.{apart_new, linked_changes, is_same, is_other}
 use Rattle.sb_names.proofs.NodeLemmas.{live_below}
 
 -- a node that is hung in a directory stands there

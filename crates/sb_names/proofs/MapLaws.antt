@@ -1,8 +1,8 @@
 -- The laws of maps from names.
-use Rattle.std.proofs.Common.{◌≡◌, ℕ, Bool, true, false, cond, refl, sym, subst, ◌∙◌, ap, arith, List, [], ◌∷◌, if◌then◌else◌}
+use Rattle.std.proofs.Common.{◌≡◌, ℕ, Bool, true, false, cond, refl, sym, subst, ◌∙◌, ap, List, [], ◌∷◌, if◌then◌else◌}
 use Rattle.std.specs.List.{IsDistinct}
 use Rattle.std.proofs.lemmas.Bool.{false≢true}
-use Rattle.std.specs.Prelude.{Option, None, Some, is_some}
+use Rattle.std.specs.Prelude.{None, Some, is_some}
 use Rattle.std.specs.BTreeMap.{insert_entry}
 use Rattle.std.specs.Cmp.Lexicographic.{bytes_decides, nat_list_eq_equiv}
 use Rattle.std.proofs.lemmas.Map.{lookup-remove_entry}
@@ -13,8 +13,8 @@ use Rattle.std.specs.declared.cmp.Ordering.{Ordering}
 use Rattle.std.specs.declared.cmp.Ordering.TheVariants.{Less, Equal, Greater}
 use Rattle.sb_names.specs.Keys.{key_of}
 use Rattle.sb_names.specs.Laws.{PutsComeBack, PutsAreFound, PutsKeepRows, OutIsOut}
-use Rattle.sb_names.specs.Maps.{Rows, Rises, is_key}
-use Rattle.sb_names.proofs.RisingLemmas.{by_unit, other_way, own_key, key_test, equal_keys}
+use Rattle.sb_names.specs.Maps.{Rows, is_key}
+use Rattle.sb_names.proofs.RisingLemmas.{by_unit, own_key, key_test, equal_keys}
 
 pub own_test : (key : List ℕ) → is_key key key ≡ true
 own_test key = key_test key key ∙ ap is_eq (own_key key)

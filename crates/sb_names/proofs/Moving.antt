@@ -1,7 +1,6 @@
 -- A node that gets another component and directory: the index has it under its new hash, and each row has its new name.
-use Rattle.std.proofs.Common.{◌≡◌, ◌≢◌, ◌<◌, ◌^◌, ◌==◌, ℕ, Bool, true, false, cond, refl, sym, ◌∙◌, ap, subst, arith, List, [], ◌∷◌, ◌++◌, length, map}
+use Rattle.std.proofs.Common.{◌≡◌, ◌≢◌, ◌==◌, ℕ, Bool, true, false, cond, refl, sym, ◌∙◌, ap, List, ◌∷◌, ◌++◌, map}
 use Rattle.std.proofs.lemmas.Bool.{false≢true}
-use Rattle.std.proofs.lemmas.Bool.Decides.{nat_tests}
 use Rattle.std.specs.Prelude.{Option, Some, None, is_some, not, ◌&&◌, ◌||◌}
 use Rattle.std.specs.BTreeMap.{BTreeMap, IsUnchanged, get, is_at}
 use Rattle.std.specs.Map.{lookup}
@@ -14,7 +13,7 @@ use Rattle.sb_names.specs.Renames.{collected, renamed_key}
 use Rattle.sb_names.specs.declared.nodes.NameNode.{NameNode}
 use Rattle.sb_names.proofs.Changes.{indexed_changed, same_of}
 use Rattle.sb_names.proofs.PutLemmas.{other_pair, out_entry, put_entry}
-use Rattle.sb_names.proofs.RenameLemmas.{live_after, name_after, name_here, rows_renamed}
+use Rattle.sb_names.proofs.RenameLemmas.{live_after, name_after, rows_renamed}
 
 -- a node that is put under another hash has that entry alone, and those of all other nodes are as before
 module _ {V : Type 0} (index index' : ℕ × ℕ → Option V) (u : V) (hash node old : ℕ) (one : HasOneEntry index node old)

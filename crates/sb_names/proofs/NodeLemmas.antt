@@ -1,20 +1,18 @@
 -- The names of nodes: each is the name of the directory, and the component after a `\`. Different nodes have different names.
-use Rattle.std.proofs.Common.{◌≡◌, ◌<◌, ◌≤◌, ◌+◌, ◌||◌, ◌==◌, ℕ, Bool, true, false, cond, refl, sym, ◌∙◌, ap, subst, arith, zero, suc, List, [], ◌∷◌, ◌++◌, length, if◌then◌else◌}
-use Rattle.std.proofs.lemmas.Bool.{false≢true, and_parts}
+use Rattle.std.proofs.Common.{◌≡◌, ◌<◌, ◌≤◌, ◌+◌, ◌==◌, ℕ, Bool, true, false, refl, sym, ◌∙◌, ap, subst, arith, zero, suc, List, [], ◌∷◌, ◌++◌, length, if◌then◌else◌}
+use Rattle.std.proofs.lemmas.Bool.{false≢true}
 use Rattle.std.proofs.lemmas.Bool.Decides.{nat_tests}
 use Rattle.std.proofs.lemmas.List.{append-nil, get_or_past}
-use Rattle.std.specs.Prelude.{Option, Some, None, is_some, ◌&&◌, nat_le}
-use Rattle.std.specs.BTreeMap.{insert_entry}
+use Rattle.std.specs.Prelude.{Option, Some, None, is_some, nat_le}
 use Rattle.std.specs.Map.{lookup}
 use Rattle.std.specs.List.{list_any}
-use Rattle.sb_arena.specs.Forests.{Forest, IsLive, value_at, parent_of as node_parent, ancestor, IsShallow, HasLiveLinks, no_nodes}
-use Rattle.sb_wide.specs.Names.{is_component}
+use Rattle.sb_arena.specs.Forests.{IsLive, value_at, parent_of as node_parent, ancestor, IsShallow, HasLiveLinks, no_nodes}
 use Rattle.sb_names.specs.Keys.{key_of, parent_of, is_backslash}
-use Rattle.sb_names.specs.Maps.{Rows, Rises, is_key}
+use Rattle.sb_names.specs.Maps.{Rises, is_key}
 use Rattle.sb_names.specs.Nodes.{Nodes, HasNames, IsAt, IsChild, HasNoChild, IsUnnamed, key_at, key_by, name_of, name_up, is_path, rows_below, rows_of, with_row}
 use Rattle.sb_names.specs.declared.nodes.NameNode.{NameNode}
 use Rattle.sb_names.proofs.MapLaws.{is_found, own_test, is_key_eq}
-use Rattle.sb_names.proofs.RisingLemmas.{by_unit, rises_put, rises_none}
+use Rattle.sb_names.proofs.RisingLemmas.{rises_put, rises_none}
 use Rattle.sb_names.proofs.NameLemmas.{any_folded, folded_join, folded_path, parent_path, parent_last, path_parent, last_equal, not_nothing, nothing_before, component_plain}
 
 joined : (a b c : List ℕ) → a ++ (b ++ c) ≡ (a ++ b) ++ c

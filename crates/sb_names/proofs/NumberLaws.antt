@@ -1,8 +1,7 @@
 -- Numbers of rows are kept by each change.
-use Rattle.std.proofs.Common.{◌≡◌, ◌+◌, ℕ, Bool, true, false, cond, refl, sym, ◌∙◌, ap, subst, arith, List, [], ◌∷◌, map, nat_eq}
+use Rattle.std.proofs.Common.{◌≡◌, ◌+◌, ℕ, Bool, true, false, cond, refl, sym, subst, arith, List, [], ◌∷◌, map, nat_eq}
 use Rattle.std.proofs.lemmas.Bool.{and_parts}
 use Rattle.std.proofs.lemmas.Bool.Decides.{nat_tests}
-use Rattle.std.specs.Prelude.{◌&&◌}
 use Rattle.std.specs.BTreeMap.{insert_entry}
 use Rattle.std.specs.List.{AllByRecursion, IsDistinct, list_all}
 use Rattle.std.specs.Map.{remove_entry}
@@ -11,7 +10,7 @@ use Rattle.std.specs.declared.cmp.Ordering.{Ordering}
 use Rattle.std.specs.declared.cmp.Ordering.TheVariants.{Less, Equal, Greater}
 use Rattle.sb_names.specs.Keys.{key_of}
 use Rattle.sb_names.specs.Maps.{Rows, is_key}
-use Rattle.sb_names.specs.Numbers.{AreNumbered, OutsKeepNumbers, PutsKeepNumbers, RenamesKeepNumbers, is_given}
+use Rattle.sb_names.specs.Numbers.{OutsKeepNumbers, PutsKeepNumbers, RenamesKeepNumbers, is_given}
 use Rattle.sb_names.specs.Renames.{collected, renamed_key}
 use Rattle.sb_names.proofs.RisingLemmas.{by_unit}
 

@@ -1,19 +1,18 @@
 -- The last component of a name, and whether its directory is there.
-use Rattle.std.proofs.Common.{◌≡◌, ◌+◌, ◌==◌, ℕ, Bool, true, false, refl, sym, ◌∙◌, ap, arith, zero, suc, List, [], ◌∷◌, ◌++◌, length, drop, if◌then◌else◌}
+use Rattle.std.proofs.Common.{◌≡◌, ◌+◌, ℕ, true, false, refl, sym, ◌∙◌, ap, List, [], ◌∷◌, ◌++◌, length, drop}
 use Rattle.std.proofs.lemmas.Bool.{false≢true, and_parts}
-use Rattle.std.proofs.lemmas.Bool.Decides.{nat_tests}
 use Rattle.std.proofs.Math.Seq.{drop-append_seam}
-use Rattle.std.specs.Prelude.{Option, Some, None, is_some, ◌&&◌}
+use Rattle.std.specs.Prelude.{Option, Some, None, is_some}
 use Rattle.std.specs.Map.{lookup}
-use Rattle.std.specs.List.{list_all, list_any, flat_map}
-use Rattle.sb_arena.specs.Forests.{IsLive, IsShallow, HasLiveLinks, value_at}
+use Rattle.std.specs.List.{list_all, list_any}
+use Rattle.sb_arena.specs.Forests.{IsShallow, HasLiveLinks, value_at}
 use Rattle.sb_wide.specs.Names.{NamesArePaths, components_of, is_component, is_name_of, path_of}
 use Rattle.sb_names.specs.Keys.{key_of, parent_of, is_backslash}
-use Rattle.sb_names.specs.Maps.{Rows, found, is_key, is_there}
-use Rattle.sb_names.specs.Nodes.{Nodes, HasNames, IsAt, IsUnnamed, is_path, name_of, rows_of}
+use Rattle.sb_names.specs.Maps.{is_key, is_there}
+use Rattle.sb_names.specs.Nodes.{Nodes, HasNames, IsAt, IsUnnamed, is_path, rows_of}
 use Rattle.sb_names.specs.Trees.{is_directory_there}
 use Rattle.sb_names.specs.declared.nodes.NameNode.{NameNode}
-use Rattle.sb_names.proofs.NameLemmas.{component_plain, parent_last, not_nothing, any_folded}
+use Rattle.sb_names.proofs.NameLemmas.{component_plain, parent_last, any_folded}
 use Rattle.sb_names.proofs.NodeLemmas.{found_node, found_none}
 
 -- a path of components is what stands before the last, and the last

@@ -1,18 +1,17 @@
 -- A node that is added: components stay different, the index has it, and its row is among the rows.
-use Rattle.std.proofs.Common.{◌≡◌, ◌≢◌, ◌<◌, ◌^◌, ◌==◌, ℕ, Bool, true, false, cond, refl, sym, ◌∙◌, ap, subst, arith, List, [], ◌∷◌, ◌++◌, length, if◌then◌else◌}
+use Rattle.std.proofs.Common.{◌≡◌, ◌≢◌, ◌<◌, ◌^◌, ◌==◌, ℕ, Bool, true, false, cond, refl, sym, ◌∙◌, ap, subst, arith, List, [], ◌∷◌, ◌++◌}
 use Rattle.std.proofs.lemmas.Bool.{false≢true}
 use Rattle.std.proofs.lemmas.Bool.Decides.{nat_tests}
 use Rattle.std.specs.Prelude.{Option, Some, None, is_some, not, ◌&&◌, ◌||◌}
 use Rattle.std.specs.BTreeMap.{insert_entry, is_at}
-use Rattle.sb_arena.specs.Forests.{HasLiveLinks, IsLive, IsShallow, IsSound, node_number, parent_of as node_parent, value_at}
-use Rattle.sb_arena.specs.Laws.{NumbersAreFree}
+use Rattle.sb_arena.specs.Forests.{HasLiveLinks, IsLive, IsShallow, parent_of as node_parent, value_at}
 use Rattle.sb_wide.specs.Names.{is_component}
 use Rattle.sb_names.specs.Hashes.{hash_of}
 use Rattle.sb_names.specs.Keys.{key_of}
-use Rattle.sb_names.specs.Nodes.{Nodes, HasNames, HasNoChild, HasNoneBelow, IsChanged, IsIndexed, IsThere, KeepsNodes, is_entry, key_at, name_of, rows_of}
+use Rattle.sb_names.specs.Nodes.{Nodes, HasNames, HasNoChild, HasNoneBelow, IsChanged, IsIndexed, IsThere, is_entry, key_at, name_of, rows_of}
 use Rattle.sb_names.specs.Orders.{by_pair}
 use Rattle.sb_names.specs.declared.nodes.NameNode.{NameNode}
-use Rattle.sb_names.proofs.Changes.{indexed_changed, keeps_nodes, name_new, names_changed, other_of, parent_here, parent_other, rows_added, same_of, value_here}
+use Rattle.sb_names.proofs.Changes.{indexed_changed, name_new, names_changed, other_of, parent_here, parent_other, rows_added, same_of, value_here}
 use Rattle.sb_names.proofs.IndexLemmas.{same_pair}
 use Rattle.sb_names.proofs.Removals.{none_below}
 use Rattle.sb_names.proofs.RisingLemmas.{by_unit}

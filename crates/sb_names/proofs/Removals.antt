@@ -1,7 +1,6 @@
 -- What the removal of a node does to the rows, and when names stand below one.
-use Rattle.std.proofs.Common.{◌≡◌, ◌≢◌, ◌<◌, ◌≤◌, ◌+◌, ◌==◌, ◌⊎◌, inl, inr, ℕ, Bool, true, false, cond, refl, sym, ◌∙◌, ap, subst, arith, zero, suc, List, [], ◌∷◌, ◌++◌, length, if◌then◌else◌}
+use Rattle.std.proofs.Common.{◌≡◌, ◌≢◌, ◌+◌, ◌==◌, ℕ, Bool, true, false, cond, refl, sym, ◌∙◌, ap, subst, arith, zero, suc, List, [], ◌∷◌, length, if◌then◌else◌}
 use Rattle.std.proofs.lemmas.Bool.{false≢true}
-use Rattle.std.proofs.lemmas.Bool.Decides.{nat_tests}
 use Rattle.std.proofs.lemmas.List.Sums.{sum_by-cons}
 use Rattle.std.proofs.lemmas.Map.{lookup-remove_entry}
 use Rattle.std.proofs.lemmas.Map.Keys.{IsDistinct-from_sorted}
@@ -9,10 +8,10 @@ use Rattle.std.specs.Prelude.{Option, Some, None, is_some}
 use Rattle.std.specs.Cmp.Lexicographic.{nat_list_eq_equiv}
 use Rattle.std.specs.List.{AllByRecursion, IsDistinct, count_by}
 use Rattle.std.specs.Map.{keys_of, lookup, remove_entry}
-use Rattle.sb_arena.specs.Forests.{Forest, IsLive, value_at, parent_of as node_parent, ancestor, IsShallow, HasLiveLinks}
+use Rattle.sb_arena.specs.Forests.{IsLive, value_at, parent_of as node_parent, IsShallow, HasLiveLinks}
 use Rattle.sb_names.specs.Keys.{key_of, parent_of}
 use Rattle.sb_names.specs.Maps.{Rows, Rises, count_in, is_key}
-use Rattle.sb_names.specs.Nodes.{Nodes, HasNames, IsAt, IsChanged, IsUnnamed, key_at, key_by, name_of, rows_below, rows_of, with_row}
+use Rattle.sb_names.specs.Nodes.{Nodes, HasNames, IsChanged, IsUnnamed, name_of, rows_below, rows_of, with_row}
 use Rattle.sb_names.specs.declared.nodes.NameNode.{NameNode}
 use Rattle.sb_names.proofs.Changes.{not_above, rows_match, same_of, other_of, value_here, value_other, name_apart}
 use Rattle.sb_names.proofs.MapLaws.{own_test, is_key_eq}

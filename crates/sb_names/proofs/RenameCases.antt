@@ -1,14 +1,14 @@
 -- What a rename meets: the name is missing, the new one lies below it, its directory is missing, it is there, or it is new.
-use Rattle.std.proofs.Common.{◌≡◌, ℕ, Bool, true, false, refl, sym, subst, ◌∙◌, ap, List, [], ◌∷◌, ◌++◌, length, map}
+use Rattle.std.proofs.Common.{◌≡◌, ℕ, true, false, refl, sym, ◌∙◌, ap, List, [], ◌∷◌, ◌++◌, map}
 use Rattle.std.proofs.lemmas.Bool.{false≢true}
-use Rattle.std.specs.Prelude.{Option, Some, None, IfSome, is_some, Result, Ok, Err}
-use Rattle.sb_arena.specs.Forests.{IsShallow, HasLiveLinks, value_at}
+use Rattle.std.specs.Prelude.{Option, Some, None, IfSome, is_some, Ok, Err}
+use Rattle.sb_arena.specs.Forests.{IsShallow, HasLiveLinks}
 use Rattle.sb_arena.specs.declared.arena.NodeId.{NodeId}
 use Rattle.sb_wide.specs.Names.{is_component}
 use Rattle.sb_names.specs.Keys.{key_of, parent_of, is_below}
 use Rattle.sb_names.specs.Maps.{Rows, is_there}
 use Rattle.sb_names.specs.Nodes.{Nodes, HasNames, HasNoChild, IsApart, IsAt, IsChild, IsUnnamed, KeepsRows, name_of, rows_of}
-use Rattle.sb_names.specs.Renames.{collected, renamed_key, renamed_rows, renamed_tree}
+use Rattle.sb_names.specs.Renames.{collected, renamed_key, renamed_tree}
 use Rattle.sb_names.specs.Trees.{has_parent, is_directory_there}
 use Rattle.sb_names.specs.declared.faults.TreeFault.TheVariants as fault
 use Rattle.sb_names.proofs.AddLemmas.{name_gone, name_there, parent_there, whole_key}

@@ -1,5 +1,5 @@
 -- What the renaming and the removal of a name leave of a tree of rows.
-use Rattle.std.proofs.Common.{◌⊎◌, inl, inr, ◌≡◌, ◌≢◌, ◌<◌, ◌≤◌, ◌+◌, ◌==◌, ℕ, Bool, true, false, cond, refl, sym, ◌∙◌, ap, subst, arith, zero, suc, List, [], ◌∷◌, ◌++◌, length, drop, map, if◌then◌else◌}
+use Rattle.std.proofs.Common.{◌⊎◌, inl, inr, ◌≡◌, ◌≢◌, ◌≤◌, ◌+◌, ◌==◌, ℕ, Bool, true, false, cond, refl, sym, ◌∙◌, ap, subst, arith, zero, suc, List, [], ◌∷◌, ◌++◌, length, drop, map, if◌then◌else◌}
 use Rattle.std.proofs.lemmas.Bool.{false≢true, and_parts}
 use Rattle.std.proofs.lemmas.Bool.Decides.{nat_tests}
 use Rattle.std.proofs.lemmas.List.{append-nil, append_cancel_left}
@@ -8,19 +8,18 @@ use Rattle.std.specs.Prelude.{Option, Some, None, Result, Ok, Err, is_some, not,
 use Rattle.std.specs.List.{AllByRecursion, count_by, list_all, list_any}
 use Rattle.std.specs.Map.{keys_of, lookup, remove_entry}
 use Rattle.sb_wide.specs.Names.{is_name_of}
-use Rattle.sb_wide.specs.Wide.{folded}
 use Rattle.sb_names.specs.Keys.{key_of, parent_of, is_backslash, is_below}
 use Rattle.sb_names.specs.Laws.{RemovesKeepTrees, RenamesAddNothing, RenamesAreFound, RenamesKeepTrees, RenamesLeaveNothing}
-use Rattle.sb_names.specs.Maps.{Rows, Rises, count_in, is_key, is_there}
+use Rattle.sb_names.specs.Maps.{Rows, count_in, is_key, is_there}
 use Rattle.sb_names.specs.Nodes.{is_path}
 use Rattle.sb_names.specs.Renames.{collected, is_at_or_below, renamed_key, renamed_rows, renamed_tree}
-use Rattle.sb_names.specs.Trees.{AreFolded, IsTree, has_parent, is_directory_there, removed}
+use Rattle.sb_names.specs.Trees.{AreFolded, IsTree, has_parent, is_directory_there}
 use Rattle.sb_names.specs.declared.faults.TreeFault.{TreeFault}
 use Rattle.sb_names.specs.declared.faults.TreeFault.TheVariants as fault
 use Rattle.sb_names.proofs.MapLaws.{is_found, is_key_eq, own_test}
-use Rattle.sb_names.proofs.NameLemmas.{folded_join, not_nothing, nothing_before, parent_is_path, parent_last, parent_path}
+use Rattle.sb_names.proofs.NameLemmas.{folded_join, nothing_before, parent_is_path, parent_path}
 use Rattle.sb_names.proofs.Removals.{is_out}
-use Rattle.sb_names.proofs.RenameLemmas.{below_more, found_under, has_path, renamed_by_parent, renamed_itself, with_path, within_more}
+use Rattle.sb_names.proofs.RenameLemmas.{below_more, found_under, has_path, with_path, within_more}
 use Rattle.sb_names.proofs.RisingLemmas.{all_put}
 use Rattle.sb_names.proofs.TreeLaws.{keys_again, parent_folded}
 

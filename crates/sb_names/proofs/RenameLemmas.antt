@@ -1,5 +1,5 @@
 -- The rows after a node was renamed: each name that is at or below it begins with the new name, and every other stays.
-use Rattle.std.proofs.Common.{◌≡◌, ◌≢◌, ◌<◌, ◌≤◌, ◌+◌, ◌==◌, ◌⊎◌, inl, inr, ℕ, Bool, true, false, cond, refl, sym, ◌∙◌, ap, subst, arith, zero, suc, List, [], ◌∷◌, ◌++◌, length, drop, map, nat_eq, if◌then◌else◌}
+use Rattle.std.proofs.Common.{◌≡◌, ◌≢◌, ◌+◌, ◌==◌, ℕ, Bool, true, false, cond, refl, sym, ◌∙◌, ap, subst, arith, zero, suc, List, [], ◌∷◌, ◌++◌, length, drop, map, nat_eq, if◌then◌else◌}
 use Rattle.std.proofs.lemmas.Bool.{false≢true}
 use Rattle.std.proofs.lemmas.Bool.Decides.{nat_tests}
 use Rattle.std.proofs.lemmas.List.{append-nil}
@@ -7,16 +7,16 @@ use Rattle.std.proofs.Math.Seq.{drop-append_seam}
 use Rattle.std.specs.Prelude.{Option, Some, None, is_some, ◌&&◌, ◌||◌}
 use Rattle.std.specs.List.{AllByRecursion, list_any}
 use Rattle.std.specs.Map.{keys_of, lookup}
-use Rattle.sb_arena.specs.Forests.{Forest, IsLive, value_at, parent_of as node_parent, ancestor, IsShallow, HasLiveLinks}
+use Rattle.sb_arena.specs.Forests.{IsLive, value_at, parent_of as node_parent, ancestor, IsShallow, HasLiveLinks}
 use Rattle.sb_names.specs.Keys.{key_of, parent_of, is_backslash, is_below}
 use Rattle.sb_names.specs.Maps.{Rows, Rises, is_key}
-use Rattle.sb_names.specs.Nodes.{Nodes, HasNames, IsChanged, IsThere, IsUnnamed, is_path, key_at, key_by, name_of, rows_of}
+use Rattle.sb_names.specs.Nodes.{Nodes, HasNames, IsChanged, IsUnnamed, is_path, key_at, key_by, name_of, rows_of}
 use Rattle.sb_names.specs.Renames.{collected, is_at_or_below, renamed_key}
 use Rattle.sb_names.specs.declared.nodes.NameNode.{NameNode}
 use Rattle.sb_names.proofs.Changes.{name_apart, parent_here, parent_other, rows_match, same_of, other_of, value_here, value_other}
 use Rattle.sb_names.proofs.MapLaws.{is_found, own_test, is_key_eq}
-use Rattle.sb_names.proofs.NameLemmas.{not_nothing, parent_is_path, parent_last, parent_path}
-use Rattle.sb_names.proofs.NodeLemmas.{found_node, key_plain, name_root, name_step, not_root, one_node, rows_rise}
+use Rattle.sb_names.proofs.NameLemmas.{parent_is_path, parent_last, parent_path}
+use Rattle.sb_names.proofs.NodeLemmas.{found_node, key_plain, name_root, name_step, not_root, one_node}
 use Rattle.sb_names.proofs.Removals.{all_rows_named}
 use Rattle.sb_names.proofs.RisingLemmas.{rises_none, rises_put}
 

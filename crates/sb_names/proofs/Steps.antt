@@ -1,13 +1,12 @@
 -- What the calls on an arena change: one node alone.
-use Rattle.std.proofs.Common.{◌≡◌, ◌≢◌, ◌<◌, ◌≤◌, ◌+◌, ◌==◌, ◌||◌, ℕ, Bool, true, false, cond, refl, sym, ◌∙◌, ap, subst, arith, zero, suc, List, [], ◌∷◌, length, if◌then◌else◌}
+use Rattle.std.proofs.Common.{◌≡◌, ◌≢◌, ◌<◌, ◌==◌, ℕ, Bool, true, false, refl, sym, ◌∙◌, ap, subst, zero, suc, List, [], ◌∷◌, length, if◌then◌else◌}
 use Rattle.std.proofs.lemmas.Bool.{false≢true}
-use Rattle.std.proofs.lemmas.Bool.Decides.{nat_tests}
 use Rattle.std.specs.Prelude.{Option, Some, None, is_some}
-use Rattle.sb_arena.specs.Forests.{Forest, Agrees, HasLiveLinks, IsAbove, IsLive, IsShallow, ancestor, children_of, first_of, has, parent_of as node_parent, row_at, value_at, with_child, with_value, without_node, without_parent}
-use Rattle.sb_arena.specs.Laws.{FreesClearValues, LinksSetParents, SetsSetValues, UnlinksClearParents}
+use Rattle.sb_arena.specs.Forests.{Agrees, HasLiveLinks, IsAbove, IsLive, ancestor, children_of, first_of, has, parent_of as node_parent, value_at, with_value, without_node, without_parent}
+use Rattle.sb_arena.specs.Laws.{FreesClearValues, SetsSetValues, UnlinksClearParents}
 use Rattle.sb_names.specs.Nodes.{Nodes, IsApart, IsChanged, IsThere}
 use Rattle.sb_names.specs.declared.nodes.NameNode.{NameNode}
-use Rattle.sb_names.proofs.Changes.{is_same, same_of, other_of}
+use Rattle.sb_names.proofs.Changes.{is_same, same_of}
 use Rattle.sb_names.proofs.NodeLemmas.{live_below}
 
 nothing_in : (xs : List ℕ) → ((x : ℕ) → has x xs ≡ true → ⊥) → xs ≡ []

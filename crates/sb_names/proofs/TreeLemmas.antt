@@ -1,5 +1,5 @@
 -- The rows of nodes are a tree: each name stands in a directory that is there. What a node of a name keeps.
-use Rattle.std.proofs.Common.{◌≡◌, ℕ, Bool, true, false, refl, sym, ◌∙◌, ap, subst, arith, zero, suc, List, [], ◌∷◌, ◌++◌, length}
+use Rattle.std.proofs.Common.{◌≡◌, ℕ, Bool, true, false, refl, sym, ◌∙◌, ap, subst, zero, suc, List, [], ◌∷◌, ◌++◌, length}
 use Rattle.std.proofs.lemmas.Bool.{false≢true}
 use Rattle.std.specs.Prelude.{Option, Some, None, is_some, option_map}
 use Rattle.std.specs.List.{AllByRecursion, list_all}
@@ -8,7 +8,7 @@ use Rattle.sb_arena.specs.Forests.{HasLiveLinks, IsLive, IsShallow, ancestor, pa
 use Rattle.sb_names.specs.Keys.{key_of, parent_of}
 use Rattle.sb_names.specs.Maps.{Rows, found, is_key}
 use Rattle.sb_names.specs.Nodes.{Nodes, HasNames, IsAt, IsUnnamed, key_at, key_by, name_of, object_at, rows_of}
-use Rattle.sb_names.specs.Trees.{AreFolded, IsTree, directory_object, has_parent, is_directory_there, parent_object}
+use Rattle.sb_names.specs.Trees.{AreFolded, IsTree, directory_object, has_parent, parent_object}
 use Rattle.sb_names.specs.declared.nodes.NameNode.{NameNode}
 use Rattle.sb_names.proofs.NameLemmas.{folded_join}
 use Rattle.sb_names.proofs.MapLaws.{own_test}

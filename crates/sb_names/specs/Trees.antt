@@ -1,5 +1,5 @@
 -- A tree of names: a map in which each name stands in a directory that is there, and what may be asked of it.
-use Rattle.std.specs.Prelude.{◌≡◌, ◌+◌, ℕ, Bool, true, false, ◌||◌, not, ◌==◌, List, [], ◌∷◌, ◌++◌, map, length, drop, Option, None, Some, option_map, Result, Ok, Err, ⊤, if◌then◌else◌}
+use Rattle.std.specs.Prelude.{◌≡◌, ℕ, Bool, true, false, not, ◌==◌, List, [], ◌∷◌, Option, None, Some, option_map, Result, Ok, Err, ⊤, if◌then◌else◌}
 use Rattle.std.specs.List.{list_all}
 use Rattle.sb_wide.specs.Names.{is_name_of}
 use Rattle.sb_names.specs.Keys.{key_of, parent_of, is_below}

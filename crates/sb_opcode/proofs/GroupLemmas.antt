@@ -1,10 +1,10 @@
 -- A code without a fault has whole rules.
-use Rattle.std.specs.Prelude.{ℕ, Bool, true, false, not, ◌&&◌, ◌||◌, ◌==◌, nat_lt, List, [], ◌∷◌, ◌++◌, Option, None, Some, option_map, position, is_some, filter}
+use Rattle.std.specs.Prelude.{ℕ, Bool, true, false, not, ◌&&◌, ◌||◌, ◌==◌, nat_lt, List, [], ◌∷◌, Option, None, Some, option_map, position, is_some, filter}
 use Rattle.std.specs.Bool.{beq}
 use Rattle.std.specs.List.{flat_map, list_all, onto_first, position_or_len}
 use Rattle.std.specs.Option.{option_or}
-use Rattle.std.proofs.Common.{◌≡◌, ◌∙◌, cond, eqb, ltb, suc, ◌<◌, length, refl, ap, sym, arith}
-use Rattle.std.proofs.lemmas.Bool.{and_parts, and_from, not_from_false, or_parts, not-true, not-false, eqb-true, false≢true, cases_Bool}
+use Rattle.std.proofs.Common.{◌≡◌, ◌∙◌, cond, length, refl, ap, sym, arith}
+use Rattle.std.proofs.lemmas.Bool.{and_parts, and_from, not_from_false, or_parts, not-true, not-false, eqb-true, false≢true}
 use Rattle.std.proofs.lemmas.Bool.Decides.{nat_tests}
 use Rattle.std.proofs.lemmas.Grind.{common_steps}
 use Rattle.sb_call.specs.declared.tags.CallTag.{CallTag}

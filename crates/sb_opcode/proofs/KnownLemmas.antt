@@ -1,9 +1,9 @@
 -- What stands at the front of packed words is known without a test.
-use Rattle.std.specs.Prelude.{Option, None, Some, option_map, is_some, nat_le, nat_lt, not}
+use Rattle.std.specs.Prelude.{Option, None, Some, option_map, nat_le, nat_lt, not}
 use Rattle.std.specs.List.{list_all}
-use Rattle.std.proofs.Common.{◌≡◌, ◌∙◌, ◌≤◌, ◌<◌, ◌+◌, ◌*◌, ◌/◌, ◌%◌, ◌^◌, ℕ, Bool, true, false, cond, List, [], ◌∷◌, ◌++◌, ◌&&◌, eqb, ltb, length, take, drop, map, refl, ap, sym, subst, arith}
+use Rattle.std.proofs.Common.{◌≡◌, ◌∙◌, ◌≤◌, ◌<◌, ◌+◌, ◌*◌, ◌%◌, ◌^◌, ℕ, Bool, true, false, cond, List, [], ◌∷◌, ◌++◌, ◌&&◌, eqb, length, take, drop, map, refl, ap, sym, subst, arith}
 use Rattle.std.proofs.Math.Nat.{mod-eq_of_lt}
-use Rattle.std.proofs.lemmas.Bool.{and_parts, eqb-true, false≢true}
+use Rattle.std.proofs.lemmas.Bool.{and_parts, false≢true}
 use Rattle.std.proofs.lemmas.Bool.Decides.{nat_tests}
 use Rattle.std.proofs.lemmas.List.{length-map, take_at, drop_at}
 use Rattle.sb_pattern.specs.declared.cells.Cell.{Cell}
@@ -21,7 +21,7 @@ use Rattle.sb_opcode.specs.declared.opcodes.OpKind.TheVariants.{False, True, Num
 use Rattle.sb_opcode.specs.declared.opcodes.Seek.{Seek}
 use Rattle.sb_opcode.specs.declared.opcodes.Seek.TheVariants.{Skip, Forward, ToEnd}
 use Rattle.sb_opcode.proofs.PackingLemmas.{later_packed, first_opcode, not_packed}
-use Rattle.sb_opcode.proofs.RecordLemmas.{none_is_not_some, same_some, unmapped, record_split, cells_back, head_kind, head_options, head_seek, head_skip, few_seeks}
+use Rattle.sb_opcode.proofs.RecordLemmas.{none_is_not_some, unmapped, record_split, cells_back, head_kind, head_options, head_seek, head_skip, few_seeks}
 
 action_back : (a : Action) → action_known (action_number a) ≡ a
 action_back Allow = refl

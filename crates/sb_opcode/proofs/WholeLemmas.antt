@@ -4,11 +4,11 @@ use Rattle.std.specs.Bool.{beq}
 use Rattle.std.specs.List.{list_all, onto_first, prefix_len}
 use Rattle.std.specs.Option.{option_or}
 use Rattle.std.proofs.Common.{◌≡◌, ◌∙◌, cond, ltb, refl, ap, sym, arith}
-use Rattle.std.proofs.lemmas.Bool.{and_parts, and_from, not_from_false, not-true, eqb-true, false≢true}
+use Rattle.std.proofs.lemmas.Bool.{and_parts, and_from, eqb-true, false≢true}
 use Rattle.std.proofs.lemmas.Bool.Decides.{nat_tests}
 use Rattle.std.proofs.lemmas.Nat.{and_assoc}
 use Rattle.sb_call.specs.declared.tags.CallTag.{CallTag}
-use Rattle.sb_opcode.specs.Faults.{fault_of, ends_with_act, goes_on, differs, is_open, is_unfit, is_text_kind, is_misplaced, with_before}
+use Rattle.sb_opcode.specs.Faults.{fault_of, ends_with_act, differs, is_open, is_unfit, is_text_kind, is_misplaced, with_before}
 use Rattle.sb_opcode.specs.Groups.{cut_after, rules_of, groups_of, is_act, is_act_kind, is_last}
 use Rattle.sb_opcode.specs.Options.{has, NEGATE, CLEAR, OR, FOLD, EXACT, has_options}
 use Rattle.sb_opcode.specs.WholeGroups.{ends_with_clear, is_alike, are_alike, is_fit, is_whole_group, acts_at_end, is_whole_rule, FaultlessCodesAreWhole}
@@ -16,7 +16,7 @@ use Rattle.sb_opcode.specs.declared.faults.CodeFault.TheVariants.{NoAction, Open
 use Rattle.sb_opcode.specs.declared.opcodes.Opcode.{Opcode}
 use Rattle.sb_opcode.specs.declared.opcodes.OpKind.{OpKind}
 use Rattle.sb_opcode.specs.declared.opcodes.OpKind.TheVariants.{False, True, Num, Range, Mask, Text, Act}
-use Rattle.sb_opcode.proofs.GroupLemmas.{Faultless, faultless, faultless_rules_are_whole, groups_from, beq_true}
+use Rattle.sb_opcode.proofs.GroupLemmas.{faultless, faultless_rules_are_whole, groups_from, beq_true}
 
 -- opcodes of which none leaves a group open
 abbrev none_open : Option Opcode → List Opcode → Bool

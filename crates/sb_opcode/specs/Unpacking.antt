@@ -1,5 +1,5 @@
 -- Which opcodes words are the packing of. A code is seen as these; no other definition stands on how they are found.
-use Rattle.std.specs.Prelude.{◌≡◌, ◌↔◌, ℕ, ◌/◌, ◌%◌, ◌^◌, Bool, true, false, ◌&&◌, ◌==◌, nat_lt, nat_le, zero, suc, List, [], ◌∷◌, ◌++◌, length, take, drop, map, Option, None, Some, option_map, option_and_then, is_some, unwrap_or, not, if◌then◌else◌}
+use Rattle.std.specs.Prelude.{◌≡◌, ◌↔◌, ℕ, ◌/◌, ◌%◌, ◌^◌, Bool, true, ◌&&◌, ◌==◌, nat_lt, nat_le, zero, suc, List, [], ◌∷◌, ◌++◌, length, take, drop, map, Option, None, Some, option_map, option_and_then, is_some, unwrap_or, not, if◌then◌else◌}
 use Rattle.std.specs.List.{list_all}
 use Rattle.sb_pattern.specs.declared.cells.Cell.{Cell}
 use Rattle.sb_pattern.specs.declared.cells.Cell.TheVariants.{Lit, One, Any}

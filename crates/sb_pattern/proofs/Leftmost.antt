@@ -1,10 +1,10 @@
 -- The fault that reading reports is the leftmost.
 use Rattle.std.specs.Prelude.{Option, None, Some, Result, Ok, Err}
-use Rattle.std.proofs.Common.{◌≡◌, ◌↔◌, ◌∙◌, ◌≤◌, ◌<◌, ℕ, zero, suc, ◌+◌, Bool, true, false, cond, List, [], ◌∷◌, ◌&&◌, ◌||◌, eqb, ltb, length, drop, refl, ap, sym, subst, arith}
+use Rattle.std.proofs.Common.{◌≡◌, ◌∙◌, ◌≤◌, ◌<◌, ℕ, zero, suc, ◌+◌, Bool, true, false, cond, List, [], ◌∷◌, ◌&&◌, ◌||◌, eqb, ltb, length, refl, ap, sym, subst, arith}
 use Rattle.std.proofs.lemmas.Bool.{and_parts, eqb-true, false≢true}
 use Rattle.std.proofs.lemmas.Bool.Decides.{nat_tests}
 use Rattle.sb_pattern.specs.Limits.{most_units}
-use Rattle.sb_pattern.specs.Reading.{begins, star_fault, fault_of, cells_of, unless, reading, is_star_before, is_bad_star, HasNoneBefore, IsFaultOf, FaultsAreLeftmost, FaultlessTextsAreRead}
+use Rattle.sb_pattern.specs.Reading.{begins, star_fault, cells_of, unless, reading, is_star_before, is_bad_star, HasNoneBefore, IsFaultOf, FaultsAreLeftmost, FaultlessTextsAreRead}
 use Rattle.sb_pattern.specs.declared.cells.Cell.{Cell}
 use Rattle.sb_pattern.specs.declared.faults.PatternFault.{PatternFault}
 use Rattle.sb_pattern.specs.declared.faults.PatternFault.TheVariants.{DoubleStar, StarQuestion, TooLong}

@@ -4,7 +4,6 @@ use Rattle.std.proofs.lemmas.List.{length-append}
 use Rattle.std.specs.Prelude.{Option, None, Some, slice_set}
 use Rattle.std.specs.List.{IsDistinct}
 use Rattle.sb_wide.specs.Names.{is_name_of}
-use Rattle.sb_names.specs.Keys.{key_of}
 use Rattle.sb_names.specs.Laws.{NamesFold}
 use Rattle.sb_names.specs.Maps.{Rows, found, put, replaced}
 use Rattle.sb_pipe.specs.Keeping.{IsKept, is_numbered}

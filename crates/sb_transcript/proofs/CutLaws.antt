@@ -1,5 +1,5 @@
 -- Bytes that are cut into lines, and how an output grows by one line after another.
-use Rattle.std.proofs.Common.{◌≡◌, ◌∙◌, ℕ, ◌+◌, ◌-◌, ◌≤◌, List, [], ◌∷◌, ◌++◌, length, take, drop, Option, None, Some, refl, ap, sym, zero, suc, subst, arith, append_assoc}
+use Rattle.std.proofs.Common.{◌≡◌, ◌∙◌, ℕ, ◌+◌, ◌-◌, ◌≤◌, List, [], ◌∷◌, ◌++◌, length, take, drop, Option, None, Some, refl, ap, sym, subst, arith, append_assoc}
 use Rattle.std.proofs.lemmas.List.{append-nil, length-append, length-drop, take-append-drop, take-append-le, drop-append-le, take_all, nil_from_length}
 use Rattle.std.specs.Prelude.{option_map}
 use Rattle.sb_outside.specs.Outside.{GrowsByPrefix, joined}

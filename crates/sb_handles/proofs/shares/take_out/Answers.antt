@@ -1,4 +1,4 @@
-use Rattle.std.proofs.Common.{◌≡◌, sym, ap, ◌∙◌}
+use Rattle.std.proofs.Common.{sym, ap, ◌∙◌}
 use Rattle.std.specs.BTreeMap.{get}
 use Rattle.sb_handles.specs.Shares.{by_object, left}
 use Rattle.sb_handles.proofs.IndexLemmas.{indexed_remove, unshared}

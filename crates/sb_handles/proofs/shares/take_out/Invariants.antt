@@ -1,4 +1,4 @@
-use Rattle.std.proofs.Common.{◌≡◌, ℕ, length}
+use Rattle.std.proofs.Common.{◌≡◌, length}
 use Rattle.std.specs.BTreeMap.{get}
 use Rattle.sb_handles.specs.Indexes.{IsIndexed}
 use Rattle.sb_handles.specs.Shares.{by_object, left}

@@ -1,5 +1,5 @@
 use Rattle.std.proofs.Common.{rules, ◌≡◌, ◌+◌, get_or, None, sym, ◌∙◌, arith}
-use Rattle.std.proofs.lemmas.Grind.{common_steps, elements}
+use Rattle.std.proofs.lemmas.Grind.{common_steps}
 use Rattle.sb_handles.proofs.SlotLemmas.{slot_at}
 use Rattle.sb_handles.proofs.tables.slot_of.Goals as goal
 

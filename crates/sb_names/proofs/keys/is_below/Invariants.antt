@@ -1,4 +1,4 @@
-use Rattle.std.proofs.Common.{◌≡◌, ℕ, length}
+use Rattle.std.proofs.Common.{◌≡◌, length}
 use Rattle.sb_names.specs.Keys.{key_of, is_below}
 use Rattle.sb_names.proofs.keys.is_below.Given as goal
 

@@ -1,4 +1,4 @@
-use Rattle.std.proofs.Common.{◌≡◌, ℕ, length}
+use Rattle.std.proofs.Common.{◌≡◌, length}
 use Rattle.sb_names.specs.Keys.{key_of}
 use Rattle.sb_names.specs.Maps.{is_key}
 use Rattle.sb_names.proofs.keys.is_key.Given as goal

@@ -1,4 +1,4 @@
-use Rattle.std.proofs.Common.{◌≡◌, ◌+◌, ℕ, length, if◌then◌else◌}
+use Rattle.std.proofs.Common.{◌≡◌, ◌+◌, length, if◌then◌else◌}
 use Rattle.std.specs.List.{list_any}
 use Rattle.sb_names.specs.Keys.{parent_of, is_backslash}
 use Rattle.sb_names.proofs.keys.parent_len.Given as goal

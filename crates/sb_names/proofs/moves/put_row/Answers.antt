@@ -1,9 +1,9 @@
 use Rattle.std.proofs.Common.{rules, ◌≡◌, ap, sym, subst, ◌∙◌, arith}
 use Rattle.std.proofs.lemmas.Grind.{common_steps}
-use Rattle.std.specs.Prelude.{Ok, Err, slice_index_or, slice_set}
+use Rattle.std.specs.Prelude.{Ok, slice_index_or, slice_set}
 use Rattle.sb_names.specs.Keys.{key_of}
 use Rattle.sb_names.specs.Maps.{Rises, is_key, put}
-use Rattle.sb_names.specs.Places.{IsReplaced, IsPut}
+use Rattle.sb_names.specs.Places.{IsReplaced}
 use Rattle.sb_names.proofs.RisingLemmas.{rises_put, rises_replaced}
 use Rattle.sb_names.proofs.moves.put_row.Goals as goal
 

@@ -1,4 +1,4 @@
-use Rattle.std.proofs.Common.{◌≡◌, ◌≤◌, ◌-◌, ℕ, length}
+use Rattle.std.proofs.Common.{◌≡◌, ◌≤◌, ◌-◌, length}
 use Rattle.sb_names.proofs.MoveLemmas.{folded_to}
 use Rattle.sb_names.proofs.moves.refolded.Given as goal
 

@@ -1,5 +1,5 @@
 use Rattle.std.proofs.Common.{◌≡◌, ◌∙◌, [], ap, sym, subst}
-use Rattle.std.specs.Prelude.{Some, None}
+use Rattle.std.specs.Prelude.{None}
 use Rattle.sb_arena.specs.Forests.{Agrees, children_of, parent_of as node_parent, without_node}
 use Rattle.sb_names.specs.Nodes.{IsChanged}
 use Rattle.sb_names.proofs.Steps.{taken_changes, unlinked_childless, unlinked_root}

@@ -1,4 +1,4 @@
-use Rattle.std.proofs.Common.{rules, ◌≡◌, ◌∙◌, true, false, sym, ap, subst}
+use Rattle.std.proofs.Common.{rules, ◌≡◌, ◌∙◌, true, false, sym, ap}
 use Rattle.std.specs.List.{list_all}
 use Rattle.sb_opcode.specs.Faults.{fault_of}
 use Rattle.sb_opcode.specs.Packing.{packed, is_sized}

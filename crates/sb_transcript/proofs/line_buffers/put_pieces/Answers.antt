@@ -1,6 +1,5 @@
 use Rattle.std.proofs.Common.{rules, ◌≡◌, ◌∙◌, ◌∷◌, ◌++◌, ◌+◌, length}
-use Rattle.sb_transcript.specs.LineBuffers.{total}
-use Rattle.sb_transcript.proofs.CutLaws.{IsGrown, grown_on, grown_partly, total_left, two_parts}
+use Rattle.sb_transcript.proofs.CutLaws.{grown_on, grown_partly, total_left, two_parts}
 use Rattle.sb_transcript.proofs.line_buffers.put_pieces.Goals as goal
 
 -- a line that was put in part

@@ -1,6 +1,6 @@
-use Rattle.std.proofs.Common.{rules, arith, ◌≡◌, ◌<◌, ◌≤◌, ◌+◌, ◌++◌, ◌∷◌, [], ◌∙◌, sym, length, length-set, Some, None}
+use Rattle.std.proofs.Common.{rules, ◌≡◌, ◌≤◌, ◌+◌, ◌++◌, ◌∷◌, [], ◌∙◌, sym, length, length-set, Some}
 use Rattle.std.proofs.lemmas.Grind.{common_steps}
-use Rattle.std.specs.Prelude.{vec_len, vec_capacity}
+use Rattle.std.specs.Prelude.{vec_capacity}
 use Rattle.sb_arena.specs.Links.{no_link}
 use Rattle.sb_arena.proofs.Readers.{tied_added}
 use Rattle.sb_arena.proofs.Freeing.{reuse_in, reuse_kept, fresh_kept, fresh_whole, fresh_long, no_items}

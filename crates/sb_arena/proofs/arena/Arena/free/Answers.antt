@@ -1,4 +1,4 @@
-use Rattle.std.proofs.Common.{rules, arith, ◌≡◌, ◌∙◌, sym, length, length-set, Some, None, ◌≤◌}
+use Rattle.std.proofs.Common.{rules, arith, ◌≡◌, ◌∙◌, sym, length, length-set, None, ◌≤◌}
 use Rattle.std.specs.Prelude.{vec_len, vec_capacity}
 use Rattle.sb_arena.proofs.Freeing.{free_room, free_kept}
 use Rattle.sb_arena.proofs.arena.Arena.free.Goals as goal

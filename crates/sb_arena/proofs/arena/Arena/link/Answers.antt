@@ -1,5 +1,4 @@
-use Rattle.std.proofs.Common.{rules, ◌≡◌, None}
-use Rattle.sb_arena.specs.Forests.{IsLive, parent_of}
+use Rattle.std.proofs.Common.{rules}
 use Rattle.sb_arena.proofs.Readers.{link_last, link_sound, link_whole}
 use Rattle.sb_arena.proofs.Freeing.{link_kept}
 use Rattle.sb_arena.proofs.Rooting.{link_rooted}

@@ -1,4 +1,4 @@
-use Rattle.std.proofs.Common.{rules, ◌≡◌, None}
+use Rattle.std.proofs.Common.{rules}
 use Rattle.sb_arena.proofs.Readers.{next_all}
 use Rattle.sb_arena.proofs.arena.Arena.next.Goals as goal
 

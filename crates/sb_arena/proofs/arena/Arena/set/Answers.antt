@@ -1,4 +1,4 @@
-use Rattle.std.proofs.Common.{rules, arith, ◌≡◌, ◌∙◌, sym, length, length-set, Some, None, ◌≤◌}
+use Rattle.std.proofs.Common.{◌∙◌, sym, length-set, Some}
 use Rattle.sb_arena.proofs.Freeing.{set_kept}
 use Rattle.sb_arena.proofs.arena.Arena.set.Goals as goal
 

@@ -1,4 +1,4 @@
-use Rattle.std.proofs.Common.{◌≡◌, ◌+◌, refl}
+use Rattle.std.proofs.Common.{◌+◌, refl}
 use Rattle.sb_event.specs.Events.{Events}
 use Rattle.sb_event.specs.declared.rows.EventRow.{EventRow}
 use Rattle.sb_event.proofs.Numbering.{one_more}

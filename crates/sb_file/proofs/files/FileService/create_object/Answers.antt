@@ -1,4 +1,4 @@
-use Rattle.std.proofs.Common.{◌≡◌, ◌<◌, ◌+◌, true, false, length, arith, ◌∙◌, ap, subst, sym}
+use Rattle.std.proofs.Common.{◌≡◌, ◌+◌, true, false, length, arith, ◌∙◌, ap, subst, sym}
 use Rattle.std.proofs.lemmas.List.{length-append}
 use Rattle.std.specs.Prelude.{[], ◌∷◌, is_some}
 use Rattle.sb_names.specs.Maps.{is_there}

@@ -1,8 +1,8 @@
-use Rattle.std.proofs.Common.{rules, ◌≡◌, ◌∙◌, subst, sym}
+use Rattle.std.proofs.Common.{rules, ◌≡◌, subst}
 use Rattle.std.specs.Prelude.{Some}
 use Rattle.sb_names.specs.Trees.{parent_object}
 use Rattle.sb_file.specs.Files.{AreObjects}
-use Rattle.sb_file.proofs.FileLemmas.{parent_is_made, parent_is_object}
+use Rattle.sb_file.proofs.FileLemmas.{parent_is_made}
 use Rattle.sb_file.proofs.files.FileService.has_parent.Goals as goal
 
 pub object_of-requires-clause-low : goal.object_of-requires-clause-low

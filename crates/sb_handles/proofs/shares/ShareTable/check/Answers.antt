@@ -1,6 +1,5 @@
-use Rattle.std.proofs.Common.{rules, ◌≡◌, ◌<◌, ◌^◌, ℕ, true, sym, ap, ◌∙◌}
-use Rattle.std.specs.Prelude.{Option, Some, None, is_some, option_map}
-use Rattle.std.specs.BTreeMap.{get}
+use Rattle.std.proofs.Common.{rules, ◌≡◌, sym, ap, ◌∙◌}
+use Rattle.std.specs.Prelude.{Some, None, option_map}
 use Rattle.std.specs.BTreeMap.Range.{entries_between}
 use Rattle.std.specs.declared.ops.Bound.TheVariants.{Included}
 use Rattle.std.specs.List.{find}

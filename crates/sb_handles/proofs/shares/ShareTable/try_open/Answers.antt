@@ -1,4 +1,4 @@
-use Rattle.std.proofs.Common.{◌≡◌, ℕ, ◌<◌, ◌^◌, Fits, w64, arith, sym, subst}
+use Rattle.std.proofs.Common.{sym, subst}
 use Rattle.std.specs.BTreeMap.{get, is_at}
 use Rattle.std.specs.Map.{lookup}
 use Rattle.sb_handles.specs.Indexes.{IsIndexed}

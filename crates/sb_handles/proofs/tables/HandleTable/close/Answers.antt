@@ -1,8 +1,7 @@
-use Rattle.std.proofs.Common.{rules, ◌≡◌, ◌<◌, ◌≤◌, ◌+◌, ◌-◌, true, Some, None, length, ℕ, arith, ◌==◌, ap, ◌∙◌}
-use Rattle.std.specs.Prelude.{Option}
+use Rattle.std.proofs.Common.{rules, ◌≡◌, ◌+◌, ◌-◌, true, Some, arith, ◌==◌, ap, ◌∙◌}
 use Rattle.sb_handles.specs.Tables.{without_handle}
 use Rattle.sb_handles.specs.Slots.{slot_of}
-use Rattle.sb_handles.proofs.SlotLemmas.{emptied, cleared}
+use Rattle.sb_handles.proofs.SlotLemmas.{cleared}
 use Rattle.sb_handles.proofs.tables.HandleTable.close.Goals as goal
 
 -- src/tables.rt:92:5

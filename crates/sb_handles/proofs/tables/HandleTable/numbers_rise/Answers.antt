@@ -1,4 +1,4 @@
-use Rattle.std.proofs.Common.{sym, subst}
+use Rattle.std.proofs.Common.{subst}
 use Rattle.sb_handles.specs.Tables.{IsTable}
 use Rattle.sb_handles.proofs.SlotLemmas.{slots_rise}
 use Rattle.sb_handles.proofs.tables.HandleTable.numbers_rise.Goals as goal

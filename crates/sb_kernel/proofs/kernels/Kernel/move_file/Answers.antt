@@ -1,5 +1,3 @@
-use Rattle.std.proofs.Common.{◌≡◌, rules}
-use Rattle.sb_file.specs.Files.{AreFiles}
 use Rattle.sb_handles.specs.Tables.{IsTable}
 use Rattle.sb_kernel.proofs.Kept.{file_renamed}
 use Rattle.sb_kernel.specs.Namespaces.{Space}

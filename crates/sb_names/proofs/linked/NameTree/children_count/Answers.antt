@@ -1,4 +1,4 @@
-use Rattle.std.proofs.Common.{◌≡◌, sym}
+use Rattle.std.proofs.Common.{sym}
 use Rattle.sb_names.proofs.ChildLemmas.{children_absent, children_counted}
 use Rattle.sb_names.proofs.linked.NameTree.children_count.Goals as goal
 

@@ -1,4 +1,4 @@
-use Rattle.std.proofs.Common.{◌≡◌, ◌++◌, ℕ, true, length}
+use Rattle.std.proofs.Common.{◌≡◌, ◌++◌, true, length}
 use Rattle.sb_names.specs.Keys.{key_of}
 use Rattle.sb_names.specs.Nodes.{IsAt, is_path, name_of, number_of}
 use Rattle.sb_names.proofs.linked.NameTree.directory.Given as goal

@@ -1,4 +1,4 @@
-use Rattle.std.proofs.Common.{rules, ◌≡◌}
+use Rattle.std.proofs.Common.{rules}
 use Rattle.sb_names.specs.Nodes.{number_of, rows_of}
 use Rattle.sb_names.proofs.RenameCases.{rename_apart, rename_gone, rename_keeps, rename_new, rename_some}
 use Rattle.sb_names.proofs.TakeLemmas.{others_kept}

@@ -4,7 +4,7 @@ use Rattle.std.specs.Prelude.{slice_index_or, slice_set}
 use Rattle.sb_names.specs.Keys.{key_of}
 use Rattle.sb_names.specs.Maps.{Rises, is_key}
 use Rattle.std.specs.Prelude.{Ok, Err}
-use Rattle.sb_names.specs.Places.{IsPut, IsReplaced, IsOut}
+use Rattle.sb_names.specs.Places.{IsPut, IsReplaced}
 use Rattle.sb_names.proofs.RisingLemmas.{rises_put, rises_replaced}
 use Rattle.sb_names.proofs.maps.NameMap.insert.Goals as goal
 

@@ -3,7 +3,7 @@ use Rattle.std.specs.List.{insert}
 use Rattle.std.specs.Map.{lookup}
 use Rattle.std.specs.Prelude.{Err, Ok, is_some, not}
 use Rattle.sb_names.specs.Keys.{key_of}
-use Rattle.sb_names.specs.Maps.{Rises, Rows, is_key, is_there, put}
+use Rattle.sb_names.specs.Maps.{Rises, is_key, is_there, put}
 use Rattle.sb_names.specs.Places.{IsFound, IsPut}
 use Rattle.sb_names.proofs.RisingLemmas.{rises_put}
 use Rattle.sb_names.proofs.maps.NameMap.insert_new.Goals as goal

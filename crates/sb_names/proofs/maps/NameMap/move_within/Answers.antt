@@ -1,4 +1,4 @@
-use Rattle.std.proofs.Common.{◌≡◌, ap, sym, subst, ◌∙◌}
+use Rattle.std.proofs.Common.{ap, sym, subst, ◌∙◌}
 use Rattle.std.specs.Prelude.{not, map}
 use Rattle.std.specs.List.{filter}
 use Rattle.sb_names.specs.Maps.{Rises}

@@ -1,8 +1,8 @@
 use Rattle.std.proofs.Common.{sym, subst, ◌∙◌}
 use Rattle.sb_names.specs.Keys.{key_of}
 use Rattle.sb_names.specs.Maps.{Rises, is_key}
-use Rattle.std.specs.Prelude.{Ok, Err}
-use Rattle.sb_names.specs.Places.{IsPut, IsReplaced, IsOut}
+use Rattle.std.specs.Prelude.{Ok}
+use Rattle.sb_names.specs.Places.{IsOut}
 use Rattle.sb_names.proofs.RisingLemmas.{rises_out}
 use Rattle.sb_names.proofs.maps.NameMap.remove.Goals as goal
 

@@ -2,8 +2,8 @@ use Rattle.std.proofs.Common.{rules, ◌≡◌, ap, subst, ◌∙◌}
 use Rattle.std.specs.Prelude.{slice_index_or, slice_set}
 use Rattle.sb_names.specs.Keys.{key_of}
 use Rattle.sb_names.specs.Maps.{Rises, is_key}
-use Rattle.std.specs.Prelude.{Ok, Err}
-use Rattle.sb_names.specs.Places.{IsPut, IsReplaced, IsOut}
+use Rattle.std.specs.Prelude.{Ok}
+use Rattle.sb_names.specs.Places.{IsReplaced}
 use Rattle.sb_names.proofs.RisingLemmas.{rises_replaced}
 use Rattle.sb_names.proofs.maps.NameMap.replace.Goals as goal
 

@@ -1,5 +1,4 @@
 use Rattle.std.proofs.Common.{rules, ◌≡◌, ◌∙◌, ◌-◌, sym, ap, subst, Some, None, true, false, length}
-use Rattle.std.specs.Prelude.{slice_set}
 use Rattle.sb_pipe.specs.Keeping.{StandsUnder, is_numbered, name_at}
 use Rattle.sb_pipe.specs.Pipes.{Pipes, closed, fewer}
 use Rattle.sb_pipe.proofs.NamedLemmas.{kept_low, stands_under, no_name}

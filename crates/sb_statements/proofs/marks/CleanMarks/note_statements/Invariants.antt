@@ -2,7 +2,7 @@ use Rattle.std.proofs.Common.{◌≡◌, ◌<◌, ◌&&◌, ℕ, length, not}
 use Rattle.std.specs.List.{list_any}
 use Rattle.sb_statements.specs.CleanMarks.{mark_at}
 use Rattle.sb_statements.specs.Limits.{most_targets, most_channels}
-use Rattle.sb_statements.specs.Scripts.{writes_channel, threads_write}
+use Rattle.sb_statements.specs.Scripts.{writes_channel}
 use Rattle.sb_statements.proofs.marks.CleanMarks.note_statements.Given as goal
 
 -- what is left takes away the marks that are still to be taken away
