@@ -1,5 +1,5 @@
 -- How many results there are where one thread has all of them.
-use Rattle.std.proofs.Common.{◌≡◌, ◌<◌, ◌^◌, ◌+◌, ℕ, List, [], ◌∷◌, ◌++◌, length, sym, subst, arith}
+use Rattle.std.proofs.Common.{◌≡◌, ◌<◌, ◌^◌, List, [], ◌∷◌, length, arith}
 use Rattle.sb_book.specs.Reports.{result_count}
 use Rattle.sb_statements.specs.declared.results.StmtResult.{StmtResult}
 

@@ -32,8 +32,7 @@ pub fn adds(alloc: Global, rounds: u64) -> Result<String, Failure> {
 /// Looks for each name in the tree, in these rounds.
 pub fn finds(alloc: Global, rounds: u64) -> Result<String, Failure> {
     let names = names(alloc, OLD)?;
-    let mut tree = directory(alloc)?;
-    add_all(&mut tree, &names)?;
+    let tree = crowd(alloc, &names)?;
     let mut found: u64 = 0;
     for _round in 0..rounds {
         found = found.saturating_add(found_names(&tree, &names));
@@ -45,14 +44,32 @@ pub fn finds(alloc: Global, rounds: u64) -> Result<String, Failure> {
 pub fn renames(alloc: Global, rounds: u64) -> Result<String, Failure> {
     let old = names(alloc, OLD)?;
     let new = names(alloc, NEW)?;
-    let mut tree = directory(alloc)?;
-    add_all(&mut tree, &old)?;
+    let renamed = renamed(alloc, &old, &new, rounds)?;
+    Ok(format!(in alloc; "renamed {renamed}")?)
+}
+
+// How many renames were made.
+fn renamed(alloc: Global, old: &[Wide], new: &[Wide], rounds: u64) -> Result<u64, NoMemory> {
+    let mut tree = crowd(alloc, old)?;
     let mut renamed: u64 = 0;
     for _round in 0..rounds {
-        renamed = renamed.saturating_add(rename_all(&mut tree, &old, &new)?);
-        renamed = renamed.saturating_add(rename_all(&mut tree, &new, &old)?);
+        renamed = renamed.saturating_add(rename_both(&mut tree, old, new)?);
     }
-    Ok(format!(in alloc; "renamed {renamed}")?)
+    Ok(renamed)
+}
+
+// Renames each name, and back again.
+fn rename_both(tree: &mut NameTree, old: &[Wide], new: &[Wide]) -> Result<u64, NoMemory> {
+    let there = rename_all(tree, old, new)?;
+    let back = rename_all(tree, new, old)?;
+    Ok(there.saturating_add(back))
+}
+
+// A tree of the directory and these names.
+fn crowd(alloc: Global, names: &[Wide]) -> Result<NameTree, NoMemory> {
+    let mut tree = directory(alloc)?;
+    add_all(&mut tree, names)?;
+    Ok(tree)
 }
 
 // A tree of the directory `\d` alone.

@@ -54,11 +54,50 @@ pub fn value_of(
     name: &str,
     parts: &[&str],
 ) -> Result<String, RowFault> {
-    match (name, parts) {
-        ("book", parts) => begin(alloc, decisions, parts),
-        ("answer", [mark, text]) => answer_whole(alloc, decisions, mark, text),
-        ("answer_seen", [mark, text, count, end, place, word]) => {
-            let words = changed_block(alloc, (mark, text), (place, word))?;
+    match name {
+        "book" => begin(alloc, decisions, parts),
+        _ => answer_to(alloc, decisions, name, parts),
+    }
+}
+
+fn answer_to(
+    alloc: Global,
+    decisions: &mut Decisions,
+    name: &str,
+    parts: &[&str],
+) -> Result<String, RowFault> {
+    match parts {
+        [mark, text] => answer_named(alloc, decisions, name, (mark, text)),
+        [mark, text, seen @ ..] => answer_changed(alloc, decisions, name, (mark, text), seen),
+        _ => Err(RowFault::Unknown),
+    }
+}
+
+fn answer_named(
+    alloc: Global,
+    decisions: &mut Decisions,
+    name: &str,
+    call: (&str, &str),
+) -> Result<String, RowFault> {
+    match name {
+        "answer" => answer_whole(alloc, decisions, call.0, call.1),
+        _ => Err(RowFault::Unknown),
+    }
+}
+
+fn answer_changed(
+    alloc: Global,
+    decisions: &mut Decisions,
+    name: &str,
+    call: (&str, &str),
+    seen: &[&str],
+) -> Result<String, RowFault> {
+    let [count, end, place, word] = seen else {
+        return Err(RowFault::Unknown);
+    };
+    match name {
+        "answer_seen" => {
+            let words = changed_block(alloc, call, (place, word))?;
             answer_seen(alloc, decisions, (count, end), words)
         }
         _ => Err(RowFault::Unknown),

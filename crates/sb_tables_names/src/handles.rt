@@ -29,44 +29,61 @@ pub fn value_of(
     name: &str,
     parts: &[&str],
 ) -> Result<String, RowFault> {
-    match (name, parts) {
-        ("handles", [""]) => {
-            tables.handles = HandleTable::new(alloc);
-            plain(alloc, "empty")
+    match parts {
+        [text] => value_of_one(alloc, tables, name, text),
+        [first, second] => value_of_two(alloc, tables, name, (first, second)),
+        [object, access, sharing] => checked(alloc, tables, name, object, (access, sharing)),
+        [object, handle, access, sharing] => {
+            opened(alloc, tables, name, (object, handle), (access, sharing))
         }
-        ("shares", [""]) => {
-            tables.shares = ShareTable::new(alloc);
-            plain(alloc, "empty")
-        }
-        ("conflicts", [held, new]) => conflicts(alloc, held, new),
-        _ => table_value(alloc, tables, name, parts),
+        _ => Err(RowFault::Unknown),
     }
 }
 
-fn table_value(
+fn value_of_one(
     alloc: Global,
     tables: &mut Tables,
     name: &str,
-    parts: &[&str],
+    text: &str,
 ) -> Result<String, RowFault> {
-    match handle_value(alloc, &mut tables.handles, name, parts) {
-        Err(RowFault::Unknown) => share_value(alloc, &mut tables.shares, name, parts),
-        value => value,
+    match name {
+        "shares.leave" => leave(alloc, &mut tables.shares, text),
+        _ if text.is_empty() => bare_value(alloc, tables, name),
+        _ => Err(RowFault::Unknown),
     }
 }
 
-// What a call on the handles gives.
-fn handle_value(
+// What a function without arguments gives.
+fn bare_value(alloc: Global, tables: &mut Tables, name: &str) -> Result<String, RowFault> {
+    match name {
+        "handles" => no_handles(alloc, tables),
+        "shares" => no_shares(alloc, tables),
+        "handles.granted" => told(alloc, &tables.handles.granted()),
+        _ => Err(RowFault::Unknown),
+    }
+}
+
+fn no_handles(alloc: Global, tables: &mut Tables) -> Result<String, RowFault> {
+    tables.handles = HandleTable::new(alloc);
+    plain(alloc, "empty")
+}
+
+fn no_shares(alloc: Global, tables: &mut Tables) -> Result<String, RowFault> {
+    tables.shares = ShareTable::new(alloc);
+    plain(alloc, "empty")
+}
+
+fn value_of_two(
     alloc: Global,
-    handles: &mut HandleTable,
+    tables: &mut Tables,
     name: &str,
-    parts: &[&str],
+    texts: (&str, &str),
 ) -> Result<String, RowFault> {
-    match (name, parts) {
-        ("handles.grant", [target, on]) => grant(alloc, handles, target, on),
-        ("handles.lookup", [target, handle]) => lookup(alloc, handles, target, handle),
-        ("handles.close", [target, handle]) => close(alloc, handles, target, handle),
-        ("handles.granted", [""]) => told(alloc, &handles.granted()),
+    match name {
+        "conflicts" => conflicts(alloc, texts.0, texts.1),
+        "handles.grant" => grant(alloc, &mut tables.handles, texts.0, texts.1),
+        "handles.lookup" => lookup(alloc, &tables.handles, texts.0, texts.1),
+        "handles.close" => close(alloc, &mut tables.handles, texts.0, texts.1),
         _ => Err(RowFault::Unknown),
     }
 }
@@ -172,23 +189,43 @@ pub fn told_held(alloc: Global, held: Option<Held>) -> Result<String, RowFault> 
     Ok(format!(in alloc; "{service} {number} {access:#x} {sharing}")?)
 }
 
-// What a call on the shares gives.
-fn share_value(
+// The handle with which this access and sharing of an object conflict.
+fn checked(
     alloc: Global,
-    shares: &mut ShareTable,
+    tables: &Tables,
     name: &str,
-    parts: &[&str],
+    object: &str,
+    asked: (&str, &str),
 ) -> Result<String, RowFault> {
-    match (name, parts) {
-        ("shares.try_open", [object, handle, access, sharing]) => {
-            let asked = numbers_of(access, sharing)?;
-            try_open(alloc, shares, (object, handle), asked)
+    match name {
+        "shares.check" => check(alloc, &tables.shares, object, asked),
+        _ => Err(RowFault::Unknown),
+    }
+}
+
+fn check(
+    alloc: Global,
+    shares: &ShareTable,
+    object: &str,
+    asked: (&str, &str),
+) -> Result<String, RowFault> {
+    let (access, sharing) = numbers_of(asked.0, asked.1)?;
+    told(alloc, &shares.check(number(object)?, access, sharing))
+}
+
+// What an open of an object by a handle gives.
+fn opened(
+    alloc: Global,
+    tables: &mut Tables,
+    name: &str,
+    place: (&str, &str),
+    asked: (&str, &str),
+) -> Result<String, RowFault> {
+    match name {
+        "shares.try_open" => {
+            let asked = numbers_of(asked.0, asked.1)?;
+            try_open(alloc, &mut tables.shares, place, asked)
         }
-        ("shares.check", [object, access, sharing]) => {
-            let asked = numbers_of(access, sharing)?;
-            told(alloc, &shares.check(number(object)?, asked.0, asked.1))
-        }
-        ("shares.leave", [handle]) => leave(alloc, shares, handle),
         _ => Err(RowFault::Unknown),
     }
 }

@@ -10,11 +10,25 @@ use std::fmt::Display;
 
 /// The text of the fault that a row names.
 pub fn value_of(alloc: Global, name: &str, parts: &[&str]) -> Result<String, RowFault> {
-    match (name, parts) {
-        ("message", ["NotHeld"]) => displayed(alloc, &NotHeld),
-        ("message", ["TreeFault", fault]) => tree_message(alloc, fault),
-        ("message", ["ShareRefused", fault]) => share_message(alloc, fault),
-        ("message", ["StartRefused", fault]) => start_message(alloc, fault),
+    match name {
+        "message" => message(alloc, parts),
+        _ => Err(RowFault::Unknown),
+    }
+}
+
+fn message(alloc: Global, parts: &[&str]) -> Result<String, RowFault> {
+    match parts {
+        ["NotHeld"] => displayed(alloc, &NotHeld),
+        [kind, fault] => message_of(alloc, kind, fault),
+        _ => Err(RowFault::Unknown),
+    }
+}
+
+fn message_of(alloc: Global, kind: &str, fault: &str) -> Result<String, RowFault> {
+    match kind {
+        "TreeFault" => tree_message(alloc, fault),
+        "ShareRefused" => share_message(alloc, fault),
+        "StartRefused" => start_message(alloc, fault),
         _ => Err(RowFault::Unknown),
     }
 }

@@ -35,33 +35,61 @@ pub fn value_of(
     name: &str,
     parts: &[&str],
 ) -> Result<String, RowFault> {
-    match (name, parts) {
-        ("parent", [name]) => parent_of(alloc, name),
-        ("is_below", [name, lower]) => told_below(alloc, name, lower),
-        ("tree", [""]) => {
-            names.tree = NameTree::new(alloc);
-            names.plain = PlainTree::new(alloc);
-            plain(alloc, "empty")
-        }
-        ("map", [""]) => {
-            names.map = NameMap::new(alloc);
-            plain(alloc, "empty")
-        }
-        _ => kept_value(alloc, names, name, parts),
+    match parts {
+        [text] => value_of_one(alloc, names, name, text),
+        [text, more] => value_of_two(alloc, names, name, (text, more)),
+        _ => Err(RowFault::Unknown),
     }
 }
 
-// What a call on the tree or on the map gives.
-fn kept_value(
+fn value_of_one(
     alloc: Global,
     names: &mut Names,
     name: &str,
-    parts: &[&str],
+    text: &str,
 ) -> Result<String, RowFault> {
-    match tree_value(alloc, names, name, parts) {
-        Err(RowFault::Unknown) => map_value(alloc, &mut names.map, name, parts),
-        value => value,
+    match name {
+        "parent" => parent_of(alloc, text),
+        "tree" => empty_tree(alloc, names, text),
+        "map" => empty_map(alloc, names, text),
+        "map.find" => found_in(alloc, &names.map, text),
+        "map.remove" => removed_from(alloc, &mut names.map, text),
+        "map.count_in" => counted_in(alloc, &names.map, text),
+        _ => tree_value_at(alloc, names, name, text),
     }
+}
+
+fn value_of_two(
+    alloc: Global,
+    names: &mut Names,
+    name: &str,
+    texts: (&str, &str),
+) -> Result<String, RowFault> {
+    match name {
+        "is_below" => told_below(alloc, texts.0, texts.1),
+        "map.insert" => insert(alloc, &mut names.map, texts.0, texts.1),
+        "map.replace" => replace(alloc, &mut names.map, texts.0, texts.1),
+        _ => tree_value(alloc, names, name, texts),
+    }
+}
+
+// Begins a tree again. The row has no argument.
+fn empty_tree(alloc: Global, names: &mut Names, text: &str) -> Result<String, RowFault> {
+    if !text.is_empty() {
+        return Err(RowFault::Unknown);
+    }
+    names.tree = NameTree::new(alloc);
+    names.plain = PlainTree::new(alloc);
+    plain(alloc, "empty")
+}
+
+// Begins a map again. The row has no argument.
+fn empty_map(alloc: Global, names: &mut Names, text: &str) -> Result<String, RowFault> {
+    if !text.is_empty() {
+        return Err(RowFault::Unknown);
+    }
+    names.map = NameMap::new(alloc);
+    plain(alloc, "empty")
 }
 
 fn told_below(alloc: Global, name: &str, lower: &str) -> Result<String, RowFault> {
@@ -81,20 +109,19 @@ fn told_name(alloc: Global, name: &[u16]) -> Result<String, RowFault> {
     told_line(alloc, &bytes)
 }
 
-// What a call on the tree gives.
+// What a call on the tree with two arguments gives.
 fn tree_value(
     alloc: Global,
     names: &mut Names,
     name: &str,
-    parts: &[&str],
+    texts: (&str, &str),
 ) -> Result<String, RowFault> {
-    match (name, parts) {
-        ("tree.add", [name, object]) => add(alloc, names, name, object),
-        ("tree.rename", [name, to]) => rename(alloc, names, name, to),
-        ("tree.add_numbered", [name, count]) => add_numbered(alloc, names, name, number(count)?),
-        ("tree.find_numbered", [name, count]) => find_numbered(alloc, names, name, number(count)?),
-        ("tree.add_nested", [part, count]) => add_nested(alloc, names, part, number(count)?),
-        (_, [text]) => tree_value_at(alloc, names, name, text),
+    match name {
+        "tree.add" => add(alloc, names, texts.0, texts.1),
+        "tree.rename" => rename(alloc, names, texts.0, texts.1),
+        "tree.add_numbered" => add_numbered(alloc, names, texts.0, texts.1),
+        "tree.find_numbered" => find_numbered(alloc, names, texts.0, texts.1),
+        "tree.add_nested" => add_nested(alloc, names, texts.0, texts.1),
         _ => Err(RowFault::Unknown),
     }
 }
@@ -224,9 +251,9 @@ fn add_numbered(
     alloc: Global,
     names: &mut Names,
     name: &str,
-    count: u64,
+    count: &str,
 ) -> Result<String, RowFault> {
-    for number in 0..count {
+    for number in 0..number(count)? {
         let name = checked(numbered(alloc, name, number)?)?;
         let _wanted = names.plain.add(name.as_units(), number);
         match names.tree.add(name.as_units(), number) {
@@ -242,10 +269,10 @@ fn add_nested(
     alloc: Global,
     names: &mut Names,
     part: &str,
-    count: u64,
+    count: &str,
 ) -> Result<String, RowFault> {
     let mut path = String::new(alloc);
-    for number in 0..count {
+    for number in 0..number(count)? {
         path.push_str(part)?;
         let name = checked(wide(alloc, &path)?)?;
         let _wanted = names.plain.add(name.as_units(), number);
@@ -258,9 +285,14 @@ fn add_nested(
 }
 
 // How many of these names are there with their number as the object, in both trees.
-fn find_numbered(alloc: Global, names: &Names, name: &str, count: u64) -> Result<String, RowFault> {
+fn find_numbered(
+    alloc: Global,
+    names: &Names,
+    name: &str,
+    count: &str,
+) -> Result<String, RowFault> {
     let mut found: u64 = 0;
-    for number in 0..count {
+    for number in 0..number(count)? {
         let name = checked(numbered(alloc, name, number)?)?;
         if is_object(names, name.as_units(), number) {
             found = found.saturating_add(1);
@@ -275,29 +307,13 @@ fn is_object(names: &Names, name: &[u16], object: u64) -> bool
     names.tree.find(name) == Some(object) && names.plain.find(name) == Some(object)
 }
 
-// What a call on the map gives.
-fn map_value(
-    alloc: Global,
-    map: &mut NameMap<u64>,
-    name: &str,
-    parts: &[&str],
-) -> Result<String, RowFault> {
-    match (name, parts) {
-        ("map.insert", [name, value]) => insert(alloc, map, name, number(value)?),
-        ("map.replace", [name, value]) => replace(alloc, map, name, number(value)?),
-        ("map.find", [name]) => found_in(alloc, map, name),
-        ("map.remove", [name]) => removed_from(alloc, map, name),
-        ("map.count_in", [name]) => counted_in(alloc, map, name),
-        _ => Err(RowFault::Unknown),
-    }
-}
-
 fn insert(
     alloc: Global,
     map: &mut NameMap<u64>,
     name: &str,
-    value: u64,
+    value: &str,
 ) -> Result<String, RowFault> {
+    let value = number(value)?;
     let name = wide(alloc, name)?;
     map.insert(name.as_units(), value)?;
     plain(alloc, "done")
@@ -307,8 +323,9 @@ fn replace(
     alloc: Global,
     map: &mut NameMap<u64>,
     name: &str,
-    value: u64,
+    value: &str,
 ) -> Result<String, RowFault> {
+    let value = number(value)?;
     map.replace(wide(alloc, name)?.as_units(), value);
     plain(alloc, "done")
 }

@@ -20,10 +20,33 @@ pub fn value_of(
     name: &str,
     parts: &[&str],
 ) -> Result<String, RowFault> {
-    match (name, parts) {
-        ("kernel", lines) => open(alloc, kernel, lines),
-        ("perform", [target, text]) => performed(alloc, kernel, target, text),
-        ("query_numbered", [name, count]) => query_numbered(alloc, kernel, name, number(count)?),
+    match name {
+        "kernel" => open(alloc, kernel, parts),
+        _ => called(alloc, kernel, name, parts),
+    }
+}
+
+fn called(
+    alloc: Global,
+    kernel: &mut Kernel,
+    name: &str,
+    parts: &[&str],
+) -> Result<String, RowFault> {
+    match parts {
+        [first, second] => called_with(alloc, kernel, name, (first, second)),
+        _ => Err(RowFault::Unknown),
+    }
+}
+
+fn called_with(
+    alloc: Global,
+    kernel: &mut Kernel,
+    name: &str,
+    texts: (&str, &str),
+) -> Result<String, RowFault> {
+    match name {
+        "perform" => performed(alloc, kernel, texts.0, texts.1),
+        "query_numbered" => query_numbered(alloc, kernel, texts.0, number(texts.1)?),
         _ => Err(RowFault::Unknown),
     }
 }
@@ -115,14 +138,51 @@ fn put_files(
 
 fn start_line(alloc: Global, words: &[&str]) -> Result<StartLine, RowFault> {
     match words {
-        ["dir", name] => Ok(StartLine::Dir {
-            name: wide(alloc, name)?,
-        }),
-        ["file", name, attributes] => file_line(alloc, name, number(attributes)?),
-        ["key", name] => Ok(StartLine::Key {
-            name: wide(alloc, name)?,
-        }),
-        ["event", name, kind, initial] => event_line(alloc, name, kind, initial),
+        [word, name] => named_line(alloc, word, name),
+        [word, name, attributes] => numbered_line(alloc, word, name, attributes),
+        [word, name, kind, initial] => kind_line(alloc, word, name, (kind, initial)),
+        _ => Err(RowFault::BadWords),
+    }
+}
+
+fn named_line(alloc: Global, word: &str, name: &str) -> Result<StartLine, RowFault> {
+    match word {
+        "dir" => dir_line(alloc, name),
+        "key" => key_line(alloc, name),
+        _ => Err(RowFault::BadWords),
+    }
+}
+
+fn dir_line(alloc: Global, name: &str) -> Result<StartLine, RowFault> {
+    let name = wide(alloc, name)?;
+    Ok(StartLine::Dir { name })
+}
+
+fn key_line(alloc: Global, name: &str) -> Result<StartLine, RowFault> {
+    let name = wide(alloc, name)?;
+    Ok(StartLine::Key { name })
+}
+
+fn numbered_line(
+    alloc: Global,
+    word: &str,
+    name: &str,
+    attributes: &str,
+) -> Result<StartLine, RowFault> {
+    match word {
+        "file" => file_line(alloc, name, number(attributes)?),
+        _ => Err(RowFault::BadWords),
+    }
+}
+
+fn kind_line(
+    alloc: Global,
+    word: &str,
+    name: &str,
+    numbers: (&str, &str),
+) -> Result<StartLine, RowFault> {
+    match word {
+        "event" => event_line(alloc, name, numbers.0, numbers.1),
         _ => Err(RowFault::BadWords),
     }
 }

@@ -132,8 +132,15 @@ fn refused(fault: &[&str]) -> Result<Decision, RowFault> {
 
 fn denied_by(words: &[&str]) -> Result<Decision, RowFault> {
     match words {
-        ["norule", name] => denied(name, Verdict::NoRule),
+        [word, name] => denied_without(word, name),
         [action, line, name] => denied(name, rule_verdict(action, line)?),
+        _ => Err(RowFault::BadWords),
+    }
+}
+
+fn denied_without(word: &str, name: &str) -> Result<Decision, RowFault> {
+    match word {
+        "norule" => denied(name, Verdict::NoRule),
         _ => Err(RowFault::BadWords),
     }
 }
@@ -189,11 +196,25 @@ fn named_action(word: &str) -> Result<Action, RowFault> {
 // A fault as the code names it, and its values.
 fn block_fault(words: &[&str]) -> Result<BlockFault, RowFault> {
     match words {
-        ["WrongShape"] => Ok(BlockFault::WrongShape),
-        [name, param] if is_of_parameter(name) => fault_at(name, short_number(param)?),
-        [name, value] => fault_of_value(name, number(value)?),
+        [name] => lone_fault(name),
+        [name, value] => fault_with_value(name, value),
         [name, seen, copied] => changed_fault(name, number(seen)?, number(copied)?),
         _ => Err(RowFault::BadWords),
+    }
+}
+
+fn lone_fault(name: &str) -> Result<BlockFault, RowFault> {
+    match name {
+        "WrongShape" => Ok(BlockFault::WrongShape),
+        _ => Err(RowFault::BadWords),
+    }
+}
+
+fn fault_with_value(name: &str, value: &str) -> Result<BlockFault, RowFault> {
+    if is_of_parameter(name) {
+        fault_at(name, short_number(value)?)
+    } else {
+        fault_of_value(name, number(value)?)
     }
 }
 
@@ -240,47 +261,70 @@ fn result_of(words: &[&str]) -> Result<StmtResult, RowFault> {
     let [name, rest @ ..] = words else {
         return Err(RowFault::BadWords);
     };
-    match (*name, rest) {
-        ("Stored", []) => Ok(StmtResult::Stored),
-        ("Found", [value]) => found(value),
-        ("Met", [loads]) => met(loads),
-        ("Unmet", [loads]) => unmet(loads),
+    match *name {
+        "Stored" => stored(rest),
+        "Found" => found(rest),
+        "Met" => met(rest),
+        "Unmet" => unmet(rest),
         _ => called(words),
     }
 }
 
-fn found(value: &str) -> Result<StmtResult, RowFault> {
-    Ok(StmtResult::Found(number(value)?))
+fn stored(words: &[&str]) -> Result<StmtResult, RowFault> {
+    match words {
+        [] => Ok(StmtResult::Stored),
+        _ => Err(RowFault::BadWords),
+    }
+}
+
+fn found(words: &[&str]) -> Result<StmtResult, RowFault> {
+    match words {
+        [value] => Ok(StmtResult::Found(number(value)?)),
+        _ => Err(RowFault::BadWords),
+    }
 }
 
 fn called(words: &[&str]) -> Result<StmtResult, RowFault> {
     Ok(StmtResult::Call(call_result(words)?))
 }
 
-fn met(loads: &str) -> Result<StmtResult, RowFault> {
+fn met(words: &[&str]) -> Result<StmtResult, RowFault> {
+    let [loads] = words else {
+        return Err(RowFault::BadWords);
+    };
     let loads = short_number(loads)?;
     Ok(StmtResult::Met { loads })
 }
 
-fn unmet(loads: &str) -> Result<StmtResult, RowFault> {
+fn unmet(words: &[&str]) -> Result<StmtResult, RowFault> {
+    let [loads] = words else {
+        return Err(RowFault::BadWords);
+    };
     let loads = short_number(loads)?;
     Ok(StmtResult::Unmet { loads })
 }
 
 fn call_result(words: &[&str]) -> Result<CallResult, RowFault> {
     match words {
-        ["NoChannel"] => Ok(CallResult::NoChannel),
-        [name, channel, words @ ..] => on_channel(name, short_number(channel)?, words),
+        [name] => without_channel(name),
+        [name, channel, rest @ ..] => on_channel(name, short_number(channel)?, rest),
+        _ => Err(RowFault::BadWords),
+    }
+}
+
+fn without_channel(name: &str) -> Result<CallResult, RowFault> {
+    match name {
+        "NoChannel" => Ok(CallResult::NoChannel),
         _ => Err(RowFault::BadWords),
     }
 }
 
 fn on_channel(name: &str, channel: u32, words: &[&str]) -> Result<CallResult, RowFault> {
-    match (name, words) {
-        ("Reply", words) => replied_on(channel, words),
-        ("SendLost", [found]) => send_lost(channel, found),
-        ("Foreign", [mark]) => foreign(channel, mark),
-        ("TimedOut", []) => Ok(CallResult::TimedOut { channel }),
+    match name {
+        "Reply" => replied_on(channel, words),
+        "SendLost" => send_lost(channel, words),
+        "Foreign" => foreign(channel, words),
+        "TimedOut" => timed_out(channel, words),
         _ => Err(RowFault::BadWords),
     }
 }
@@ -290,12 +334,25 @@ fn replied_on(channel: u32, words: &[&str]) -> Result<CallResult, RowFault> {
     Ok(CallResult::Reply { channel, reply })
 }
 
-fn send_lost(channel: u32, found: &str) -> Result<CallResult, RowFault> {
+fn send_lost(channel: u32, words: &[&str]) -> Result<CallResult, RowFault> {
+    let [found] = words else {
+        return Err(RowFault::BadWords);
+    };
     let found = number(found)?;
     Ok(CallResult::SendLost { channel, found })
 }
 
-fn foreign(channel: u32, mark: &str) -> Result<CallResult, RowFault> {
+fn foreign(channel: u32, words: &[&str]) -> Result<CallResult, RowFault> {
+    let [mark] = words else {
+        return Err(RowFault::BadWords);
+    };
     let mark = number(mark)?;
     Ok(CallResult::Foreign { channel, mark })
+}
+
+fn timed_out(channel: u32, words: &[&str]) -> Result<CallResult, RowFault> {
+    match words {
+        [] => Ok(CallResult::TimedOut { channel }),
+        _ => Err(RowFault::BadWords),
+    }
 }

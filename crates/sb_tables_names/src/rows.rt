@@ -10,35 +10,77 @@ use std::alloc::Global;
 pub fn value_of(alloc: Global, state: &mut State, row: &str) -> Result<String, RowFault> {
     let (name, rest) = row.split_once(' ').unwrap_or((row, ""));
     let parts = arguments(alloc, rest)?;
-    let parts = parts.as_slice();
-    let value = names::value_of(alloc, &mut state.names, name, parts);
-    if is_known(&value) {
-        return value;
-    }
-    let value = handles::value_of(alloc, &mut state.tables, name, parts);
-    if is_known(&value) {
-        return value;
-    }
-    let value = namespace::value_of(alloc, &mut state.kernel, name, parts);
-    if is_known(&value) {
-        return value;
-    }
-    let value = services::value_of(alloc, &mut state.services, name, parts);
-    if is_known(&value) {
-        return value;
-    }
-    let value = decisions::value_of(alloc, &mut state.decisions, name, parts);
-    if is_known(&value) {
-        return value;
-    }
-    let value = transcripts::value_of(alloc, &mut state.transcript, name, parts);
-    if is_known(&value) {
-        return value;
-    }
-    messages::value_of(alloc, name, parts)
+    name_value(alloc, state, name, parts.as_slice())
 }
 
-// Whether an area has the function.
-fn is_known(value: &Result<String, RowFault>) -> bool {
-    !matches!(value, Err(RowFault::Unknown))
+fn name_value(
+    alloc: Global,
+    state: &mut State,
+    name: &str,
+    parts: &[&str],
+) -> Result<String, RowFault> {
+    match names::value_of(alloc, &mut state.names, name, parts) {
+        Err(RowFault::Unknown) => handle_value(alloc, state, name, parts),
+        value => value,
+    }
+}
+
+fn handle_value(
+    alloc: Global,
+    state: &mut State,
+    name: &str,
+    parts: &[&str],
+) -> Result<String, RowFault> {
+    match handles::value_of(alloc, &mut state.tables, name, parts) {
+        Err(RowFault::Unknown) => namespace_value(alloc, state, name, parts),
+        value => value,
+    }
+}
+
+fn namespace_value(
+    alloc: Global,
+    state: &mut State,
+    name: &str,
+    parts: &[&str],
+) -> Result<String, RowFault> {
+    match namespace::value_of(alloc, &mut state.kernel, name, parts) {
+        Err(RowFault::Unknown) => service_value(alloc, state, name, parts),
+        value => value,
+    }
+}
+
+fn service_value(
+    alloc: Global,
+    state: &mut State,
+    name: &str,
+    parts: &[&str],
+) -> Result<String, RowFault> {
+    match services::value_of(alloc, &mut state.services, name, parts) {
+        Err(RowFault::Unknown) => decision_value(alloc, state, name, parts),
+        value => value,
+    }
+}
+
+fn decision_value(
+    alloc: Global,
+    state: &mut State,
+    name: &str,
+    parts: &[&str],
+) -> Result<String, RowFault> {
+    match decisions::value_of(alloc, &mut state.decisions, name, parts) {
+        Err(RowFault::Unknown) => transcript_value(alloc, state, name, parts),
+        value => value,
+    }
+}
+
+fn transcript_value(
+    alloc: Global,
+    state: &mut State,
+    name: &str,
+    parts: &[&str],
+) -> Result<String, RowFault> {
+    match transcripts::value_of(alloc, &mut state.transcript, name, parts) {
+        Err(RowFault::Unknown) => messages::value_of(alloc, name, parts),
+        value => value,
+    }
 }

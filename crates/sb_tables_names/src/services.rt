@@ -86,14 +86,61 @@ pub fn value_of(
     name: &str,
     parts: &[&str],
 ) -> Result<String, RowFault> {
-    match (name, parts) {
-        ("services", [""]) => emptied(alloc, services),
-        ("service.start", lines) => started(alloc, services, lines),
-        ("service.perform", [target, text]) => performed(alloc, services, target, text),
-        ("service.made", [service]) => told_made(alloc, services, service),
-        ("service.held", [service, target, handle]) => {
-            told_handle(alloc, handles(services, service)?, target, handle)
-        }
+    match name {
+        "service.start" => started(alloc, services, parts),
+        _ => counted_value(alloc, services, name, parts),
+    }
+}
+
+// What a function gives for so many arguments.
+fn counted_value(
+    alloc: Global,
+    services: &mut Services,
+    name: &str,
+    parts: &[&str],
+) -> Result<String, RowFault> {
+    match parts {
+        [text] => value_of_one(alloc, services, name, text),
+        [target, text] => performed_by(alloc, services, name, (target, text)),
+        [service, target, handle] => held(alloc, services, name, service, (target, handle)),
+        _ => Err(RowFault::Unknown),
+    }
+}
+
+fn value_of_one(
+    alloc: Global,
+    services: &mut Services,
+    name: &str,
+    text: &str,
+) -> Result<String, RowFault> {
+    match name {
+        "service.made" => told_made(alloc, services, text),
+        "services" if text.is_empty() => emptied(alloc, services),
+        _ => Err(RowFault::Unknown),
+    }
+}
+
+fn performed_by(
+    alloc: Global,
+    services: &mut Services,
+    name: &str,
+    texts: (&str, &str),
+) -> Result<String, RowFault> {
+    match name {
+        "service.perform" => performed(alloc, services, texts.0, texts.1),
+        _ => Err(RowFault::Unknown),
+    }
+}
+
+fn held(
+    alloc: Global,
+    services: &Services,
+    name: &str,
+    service: &str,
+    place: (&str, &str),
+) -> Result<String, RowFault> {
+    match name {
+        "service.held" => told_handle(alloc, handles(services, service)?, place.0, place.1),
         _ => Err(RowFault::Unknown),
     }
 }

@@ -16,12 +16,12 @@ use std::mem;
 // The names of the targets, whose numbers rows give.
 const TARGETS: [&str; 5] = ["tab", "two_b", "c", "d", "e"];
 
-/// What rows put into the next report, and the report that they made last.
+/// What rows put into the next report, and the report that they made last, or none.
 #[derive(Drop)]
 pub struct Transcript {
     entries: Vec<Entry>,
     results: Vec<TargetResults>,
-    report: Option<SmallReport>,
+    reports: Vec<SmallReport>,
 }
 
 // A report with at most 100 results.
@@ -37,7 +37,7 @@ impl Transcript {
         Transcript {
             entries: Vec::new(alloc),
             results: Vec::new(alloc),
-            report: None,
+            reports: Vec::new(alloc),
         }
     }
 }
@@ -49,20 +49,74 @@ pub fn value_of(
     name: &str,
     parts: &[&str],
 ) -> Result<String, RowFault> {
-    match (name, parts) {
-        ("entry_line", [n, place, decision, reply]) => {
-            told_entry(alloc, n, (place, decision, reply))
+    match name {
+        "put_target" => put_target(alloc, transcript, parts),
+        _ => counted_value(alloc, transcript, name, parts),
+    }
+}
+
+// What a function gives for so many arguments.
+fn counted_value(
+    alloc: Global,
+    transcript: &mut Transcript,
+    name: &str,
+    parts: &[&str],
+) -> Result<String, RowFault> {
+    match parts {
+        [text] => report_value(alloc, transcript, name, text),
+        [place, text] => result_value(alloc, name, place, text),
+        [place, decision, reply] => {
+            entry_value(alloc, transcript, name, (place, decision, reply))
         }
-        ("result_line", [place, text]) => told_result(alloc, place, text),
-        ("put_entry", [place, decision, reply]) => {
-            put_entry(alloc, transcript, (place, decision, reply))
-        }
-        ("put_target", threads) => put_target(alloc, transcript, threads),
-        ("report", [""]) => made(alloc, transcript),
-        (name, parts) => match &transcript.report {
-            Some(report) => report.value_of(alloc, name, parts),
+        [n, place, decision, reply] => line_value(alloc, name, n, (place, decision, reply)),
+        _ => Err(RowFault::Unknown),
+    }
+}
+
+// What a function of a report gives.
+fn report_value(
+    alloc: Global,
+    transcript: &mut Transcript,
+    name: &str,
+    text: &str,
+) -> Result<String, RowFault> {
+    match name {
+        "report" if text.is_empty() => made(alloc, transcript),
+        _ => match transcript.reports.last() {
+            Some(report) => report.value_of(alloc, name, text),
             None => Err(RowFault::Unknown),
         },
+    }
+}
+
+fn result_value(alloc: Global, name: &str, place: &str, text: &str) -> Result<String, RowFault> {
+    match name {
+        "result_line" => told_result(alloc, place, text),
+        _ => Err(RowFault::Unknown),
+    }
+}
+
+fn entry_value(
+    alloc: Global,
+    transcript: &mut Transcript,
+    name: &str,
+    texts: (&str, &str, &str),
+) -> Result<String, RowFault> {
+    match name {
+        "put_entry" => put_entry(alloc, transcript, texts),
+        _ => Err(RowFault::Unknown),
+    }
+}
+
+fn line_value(
+    alloc: Global,
+    name: &str,
+    n: &str,
+    texts: (&str, &str, &str),
+) -> Result<String, RowFault> {
+    match name {
+        "entry_line" => told_entry(alloc, n, texts),
+        _ => Err(RowFault::Unknown),
     }
 }
 
@@ -175,15 +229,22 @@ fn made(alloc: Global, transcript: &mut Transcript) -> Result<String, RowFault> 
     if !is_small(&results) {
         return Err(RowFault::TooMany);
     }
-    let (entry_count, target_count) = (entries.len(), results.len());
     let report = Report {
         entries: Entries::new(entries),
         results: Results::new(results),
         words: AllWords::none(alloc),
         kernel: Kernel::new(alloc),
     };
-    transcript.report = Some(SmallReport { report });
-    Ok(format!(in alloc; "{entry_count} entries, {target_count} targets")?)
+    keep(alloc, transcript, SmallReport { report })
+}
+
+// Keeps a report in the place of the one before, and tells how many entries and targets it has.
+fn keep(alloc: Global, transcript: &mut Transcript, made: SmallReport) -> Result<String, RowFault> {
+    let entries = made.report.entries.len();
+    let targets = made.report.results.len();
+    transcript.reports.clear();
+    transcript.reports.push(made)?;
+    Ok(format!(in alloc; "{entries} entries, {targets} targets")?)
 }
 
 // Whether there are at most 100 results.
@@ -204,12 +265,20 @@ fn is_small(targets: &[TargetResults]) -> bool
 
 impl SmallReport {
     // What a function of the report gives.
-    fn value_of(&self, alloc: Global, name: &str, parts: &[&str]) -> Result<String, RowFault> {
-        match (name, parts) {
-            ("line_count", [""]) => told(alloc, &line_count(&self.report)),
-            ("line", [n]) => self.told_line(alloc, n),
-            ("totals", [""]) => self.told_totals(alloc),
-            ("transcript_lines", [""]) => self.told_lines(alloc),
+    fn value_of(&self, alloc: Global, name: &str, text: &str) -> Result<String, RowFault> {
+        match name {
+            "line" => self.told_line(alloc, text),
+            _ if text.is_empty() => self.whole_value(alloc, name),
+            _ => Err(RowFault::Unknown),
+        }
+    }
+
+    // What a function of the whole report gives.
+    fn whole_value(&self, alloc: Global, name: &str) -> Result<String, RowFault> {
+        match name {
+            "line_count" => told(alloc, &line_count(&self.report)),
+            "totals" => self.told_totals(alloc),
+            "transcript_lines" => self.told_lines(alloc),
             _ => Err(RowFault::Unknown),
         }
     }

@@ -10,8 +10,11 @@ use std::alloc::Global;
 
 /// What a function of codes and calls gives.
 pub fn value_of(alloc: Global, name: &str, parts: &[&str]) -> Result<String, RowFault> {
-    match (name, parts) {
-        ("eval", [call, code, args]) => evaluated(alloc, call, code, args),
+    let [call, code, args] = parts else {
+        return Err(RowFault::Unknown);
+    };
+    match name {
+        "eval" => evaluated(alloc, call, code, args),
         _ => Err(RowFault::Unknown),
     }
 }

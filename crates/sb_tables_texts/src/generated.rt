@@ -9,11 +9,23 @@ use std::alloc::Global;
 
 /// What a function of generated input gives. The arguments are the seed, and the counts of targets and of statements a thread.
 pub fn value_of(alloc: Global, name: &str, parts: &[&str]) -> Result<String, RowFault> {
-    match (name, parts) {
-        ("generated", [seed]) => pairs(alloc, number(seed)?),
-        ("make", [seed, targets, calls]) => {
-            made(alloc, number(seed)?, number(targets)?, number(calls)?)
-        }
+    match name {
+        "generated" => generated(alloc, parts),
+        "make" => made_in(alloc, parts),
+        _ => Err(RowFault::Unknown),
+    }
+}
+
+fn generated(alloc: Global, parts: &[&str]) -> Result<String, RowFault> {
+    match parts {
+        [seed] => pairs(alloc, number(seed)?),
+        _ => Err(RowFault::Unknown),
+    }
+}
+
+fn made_in(alloc: Global, parts: &[&str]) -> Result<String, RowFault> {
+    match parts {
+        [seed, targets, calls] => made(alloc, number(seed)?, number(targets)?, number(calls)?),
         _ => Err(RowFault::Unknown),
     }
 }

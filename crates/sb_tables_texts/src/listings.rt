@@ -14,13 +14,27 @@ use std::alloc::Global;
 
 /// What a function of compiled policies gives. A policy is named `web` and has these rules, the first on line 3.
 pub fn value_of(alloc: Global, name: &str, parts: &[&str]) -> Result<String, RowFault> {
-    match (name, parts) {
-        ("listing", rules) => rules_listed(alloc, rules),
-        ("program_code", [call, rules @ ..]) => rules_code(alloc, call, rules),
-        ("judge", [call, rules @ ..]) => rules_judged(alloc, call, rules),
-        ("judge_targets", [target, numbers, call, lines @ ..]) => {
-            target_judged(alloc, target, numbers, call, lines)
-        }
+    match name {
+        "listing" => rules_listed(alloc, parts),
+        "judge_targets" => lines_judged(alloc, parts),
+        _ => value_for_call(alloc, name, parts),
+    }
+}
+
+fn value_for_call(alloc: Global, name: &str, parts: &[&str]) -> Result<String, RowFault> {
+    let [call, rules @ ..] = parts else {
+        return Err(RowFault::Unknown);
+    };
+    match name {
+        "program_code" => rules_code(alloc, call, rules),
+        "judge" => rules_judged(alloc, call, rules),
+        _ => Err(RowFault::Unknown),
+    }
+}
+
+fn lines_judged(alloc: Global, parts: &[&str]) -> Result<String, RowFault> {
+    match parts {
+        [target, numbers, call, lines @ ..] => target_judged(alloc, target, numbers, call, lines),
         _ => Err(RowFault::Unknown),
     }
 }

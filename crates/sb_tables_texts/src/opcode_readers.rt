@@ -51,54 +51,86 @@ fn words_in<'a>(alloc: Global, text: &'a str) -> Result<Vec<&'a str>, RowFault> 
 }
 
 fn opcode_by(alloc: Global, words: &[&str]) -> Result<Opcode, RowFault> {
+    let [name, rest @ ..] = words else {
+        return Err(RowFault::BadOpcode);
+    };
+    match *name {
+        "false" => opcode(OpKind::False, rest),
+        "true" => opcode(OpKind::True, rest),
+        "action" => action_opcode(rest),
+        _ => parameter_opcode(alloc, name, rest),
+    }
+}
+
+// An opcode that ends with an action.
+fn action_opcode(words: &[&str]) -> Result<Opcode, RowFault> {
     match words {
-        ["false", rest @ ..] => opcode(OpKind::False, rest),
-        ["true", rest @ ..] => opcode(OpKind::True, rest),
-        ["action", action, "line", line, rest @ ..] => opcode(act_of(action, line)?, rest),
-        ["text", param, rest @ ..] => text_opcode(alloc, param, rest),
-        [name, param, rest @ ..] => number_opcode(name, param, rest),
+        [action, "line", line, rest @ ..] => opcode(act_of(action, line)?, rest),
         _ => Err(RowFault::BadOpcode),
     }
 }
 
-// An opcode that looks at a number.
-fn number_opcode(name: &str, param: &str, words: &[&str]) -> Result<Opcode, RowFault> {
-    match (name, words) {
-        ("num", [wanted, rest @ ..]) => looking(OpKind::Num(number(wanted)?), param, rest),
-        ("range", [lo, hi, rest @ ..]) => looking(range_of(lo, hi)?, param, rest),
-        ("mask", [mask, rest @ ..]) => looking(OpKind::Mask(number(mask)?), param, rest),
+// An opcode that looks at the parameter that stands first.
+fn parameter_opcode(alloc: Global, name: &str, words: &[&str]) -> Result<Opcode, RowFault> {
+    let [param, rest @ ..] = words else {
+        return Err(RowFault::BadOpcode);
+    };
+    match name {
+        "text" => text_opcode(alloc, param, rest),
+        "num" => number_opcode(param, rest),
+        "range" => range_opcode(param, rest),
+        "mask" => mask_opcode(param, rest),
+        _ => Err(RowFault::BadOpcode),
+    }
+}
+
+fn number_opcode(param: &str, words: &[&str]) -> Result<Opcode, RowFault> {
+    match words {
+        [wanted, rest @ ..] => looking(OpKind::Num(number(wanted)?), param, rest),
+        _ => Err(RowFault::BadOpcode),
+    }
+}
+
+fn range_opcode(param: &str, words: &[&str]) -> Result<Opcode, RowFault> {
+    match words {
+        [lo, hi, rest @ ..] => looking(range_of(lo, hi)?, param, rest),
+        _ => Err(RowFault::BadOpcode),
+    }
+}
+
+fn mask_opcode(param: &str, words: &[&str]) -> Result<Opcode, RowFault> {
+    match words {
+        [mask, rest @ ..] => looking(OpKind::Mask(number(mask)?), param, rest),
         _ => Err(RowFault::BadOpcode),
     }
 }
 
 // An opcode that looks at a text.
 fn text_opcode(alloc: Global, param: &str, words: &[&str]) -> Result<Opcode, RowFault> {
-    match words {
-        ["skip", skip, cells, rest @ ..] => skipping(alloc, param, (skip, cells), rest),
-        ["forward", cells, rest @ ..] => seeking(alloc, param, (Seek::Forward, cells), rest),
-        ["end", cells, rest @ ..] => seeking(alloc, param, (Seek::ToEnd, cells), rest),
+    let [seek, rest @ ..] = words else {
+        return Err(RowFault::BadOpcode);
+    };
+    match *seek {
+        "skip" => skipping(alloc, param, rest),
+        "forward" => seeking(alloc, param, Seek::Forward, rest),
+        "end" => seeking(alloc, param, Seek::ToEnd, rest),
         _ => Err(RowFault::BadOpcode),
     }
 }
 
-fn skipping(
-    alloc: Global,
-    param: &str,
-    text: (&str, &str),
-    words: &[&str],
-) -> Result<Opcode, RowFault> {
-    let skip = small(text.0)?;
-    seeking(alloc, param, (Seek::Skip(skip), text.1), words)
+fn skipping(alloc: Global, param: &str, words: &[&str]) -> Result<Opcode, RowFault> {
+    match words {
+        [skip, rest @ ..] => seeking(alloc, param, Seek::Skip(small(skip)?), rest),
+        _ => Err(RowFault::BadOpcode),
+    }
 }
 
-fn seeking(
-    alloc: Global,
-    param: &str,
-    text: (Seek, &str),
-    words: &[&str],
-) -> Result<Opcode, RowFault> {
-    let kind = text_of(alloc, text.1, text.0)?;
-    looking(kind, param, words)
+fn seeking(alloc: Global, param: &str, seek: Seek, words: &[&str]) -> Result<Opcode, RowFault> {
+    let [cells, rest @ ..] = words else {
+        return Err(RowFault::BadOpcode);
+    };
+    let kind = text_of(alloc, cells, seek)?;
+    looking(kind, param, rest)
 }
 
 fn range_of(lo: &str, hi: &str) -> Result<OpKind, RowFault> {

@@ -12,13 +12,27 @@ use std::fmt::{Debug, Display};
 
 /// What a function of codes gives.
 pub fn value_of(alloc: Global, name: &str, parts: &[&str]) -> Result<String, RowFault> {
-    match (name, parts) {
-        ("code_words", [code]) => words_of(alloc, code),
-        ("code_records", [code]) => records_of(alloc, code),
-        ("verify", [call, code]) => code_verified(alloc, call, code),
-        ("verify_words", [call, words]) => words_verified(alloc, call, words),
-        ("verify_message", [call, code]) => message(alloc, call, code),
-        ("verify_words_message", [call, words]) => words_message(alloc, call, words),
+    match parts {
+        [code] => value_of_code(alloc, name, code),
+        [call, code] => value_for_call(alloc, name, call, code),
+        _ => Err(RowFault::Unknown),
+    }
+}
+
+fn value_of_code(alloc: Global, name: &str, code: &str) -> Result<String, RowFault> {
+    match name {
+        "code_words" => words_of(alloc, code),
+        "code_records" => records_of(alloc, code),
+        _ => Err(RowFault::Unknown),
+    }
+}
+
+fn value_for_call(alloc: Global, name: &str, call: &str, code: &str) -> Result<String, RowFault> {
+    match name {
+        "verify" => code_verified(alloc, call, code),
+        "verify_words" => words_verified(alloc, call, code),
+        "verify_message" => message(alloc, call, code),
+        "verify_words_message" => words_message(alloc, call, code),
         _ => Err(RowFault::Unknown),
     }
 }

@@ -9,13 +9,19 @@ use std::alloc::Global;
 
 /// What a function of policy texts gives. The arguments are the lines of a text.
 pub fn value_of(alloc: Global, name: &str, parts: &[&str]) -> Result<String, RowFault> {
-    match (name, parts) {
-        ("read_policies", lines) => read(alloc, lines),
-        ("count_policies", lines) => counts(alloc, lines),
-        ("print_policies", lines) => printed(alloc, lines),
-        ("policies_message", ["out of memory"]) => message(alloc, TextRefused::NoMemory),
-        ("policies_message", lines) => message_of(alloc, lines),
+    match name {
+        "read_policies" => read(alloc, parts),
+        "count_policies" => counts(alloc, parts),
+        "print_policies" => printed(alloc, parts),
+        "policies_message" => message_for(alloc, parts),
         _ => Err(RowFault::Unknown),
+    }
+}
+
+fn message_for(alloc: Global, lines: &[&str]) -> Result<String, RowFault> {
+    match lines {
+        ["out of memory"] => message(alloc, TextRefused::NoMemory),
+        lines => message_of(alloc, lines),
     }
 }
 

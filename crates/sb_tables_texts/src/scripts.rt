@@ -12,12 +12,18 @@ use std::alloc::Global;
 /// What a function of script texts gives. The arguments are the lines of a text, whose targets may have the policies
 /// `low`, of number 0, and `web`, of number 1.
 pub fn value_of(alloc: Global, name: &str, parts: &[&str]) -> Result<String, RowFault> {
-    match (name, parts) {
-        ("read_script", lines) => read(alloc, lines),
-        ("count_script", lines) => counts(alloc, lines),
-        ("script_message", ["out of memory"]) => message(alloc, ScriptRefused::NoMemory),
-        ("script_message", lines) => message_of(alloc, lines),
+    match name {
+        "read_script" => read(alloc, parts),
+        "count_script" => counts(alloc, parts),
+        "script_message" => message_for(alloc, parts),
         _ => Err(RowFault::Unknown),
+    }
+}
+
+fn message_for(alloc: Global, lines: &[&str]) -> Result<String, RowFault> {
+    match lines {
+        ["out of memory"] => message(alloc, ScriptRefused::NoMemory),
+        lines => message_of(alloc, lines),
     }
 }
 
