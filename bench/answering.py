@@ -29,4 +29,4 @@ def measure(runs):
         size = (programs.peak("book", ENTRIES, told, folder) - programs.peak("book", 0, none, folder)) / ENTRIES
     print("book: %d answers per second, %d bytes of memory for each entry" % (ENTRIES / seconds, size))
     if size > MOST_BYTES_PER_ENTRY:
-        programs.fail("an entry of the book takes more than %d bytes" % MOST_BYTES_PER_ENTRY)
+        programs.miss("an entry of the book takes more than %d bytes" % MOST_BYTES_PER_ENTRY)

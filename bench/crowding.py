@@ -42,7 +42,7 @@ def measure_directory(runs):
     each = MANY / adds, MANY / finds, 2 * MANY / moves
     print("100,000 names in a directory: %d adds, %d finds, %d renames per second" % each)
     if min(each) < LEAST_A_SECOND:
-        programs.fail("fewer than %d per second" % LEAST_A_SECOND)
+        programs.miss("fewer than %d per second" % LEAST_A_SECOND)
 
 
 def measure_scripts(runs):
@@ -53,7 +53,7 @@ def measure_scripts(runs):
             best = min(programs.replay(folder)[0] for _ in range(runs))
         print("replay: %s, %.3f s" % (told, best))
         if best > most:
-            programs.fail("%s take more than %.2f seconds" % (told, most))
+            programs.miss("%s take more than %.2f seconds" % (told, most))
 
 
 def measure_missing_parent(runs):
@@ -65,7 +65,7 @@ def measure_missing_parent(runs):
     best = min(seconds for seconds, _ in told)
     print("replay: a name of 4 MB whose parent is missing, %.3f s" % best)
     if best > 0.2:
-        programs.fail("a name of 4 MB takes more than 0.20 seconds")
+        programs.miss("a name of 4 MB takes more than 0.20 seconds")
 
 
 def measure(runs):

@@ -11,8 +11,20 @@ SANDBOX = os.path.join(TOP, "out", "sandbox")
 BENCH = os.path.join(TOP, "crates", "sb_bench")
 
 
+# Whether a bound was missed.
+missed = False
+
+
 def fail(message):
+    """Ends with a fault: nothing more is measured."""
     sys.exit("bench: " + message)
+
+
+def miss(message):
+    """Says that a bound was missed. All else is measured still."""
+    global missed
+    missed = True
+    print("MISSED: " + message)
 
 
 def processor_seconds():

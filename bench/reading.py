@@ -56,7 +56,7 @@ def best_of(runs, folder, words, wanted):
 def put_reading(what, size, best):
     print("%s: %d bytes, %.3f seconds, %d bytes per second" % (what, size, best, size / best))
     if best > MOST_SECONDS:
-        programs.fail("a %s of 4 MiB takes more than %d seconds" % (what, MOST_SECONDS))
+        programs.miss("a %s of 4 MiB takes more than %d seconds" % (what, MOST_SECONDS))
 
 
 def measure_policy(runs):

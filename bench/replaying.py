@@ -56,9 +56,9 @@ def measure_events(runs):
     print("best run: %d calls per second, %d steps per second" % (CALLS / best, count / best))
     print("peak of memory: %.1f MiB" % (most / 1024 / 1024))
     if best > MOST_SECONDS:
-        programs.fail("%d calls of event.create take more than %.2f seconds" % (CALLS, MOST_SECONDS))
+        programs.miss("%d calls of event.create take more than %.2f seconds" % (CALLS, MOST_SECONDS))
     if most > MOST_BYTES:
-        programs.fail("more than %d MiB" % (MOST_BYTES // 1024 // 1024))
+        programs.miss("more than %d MiB" % (MOST_BYTES // 1024 // 1024))
 
 
 # What the mixed calls are made of: a call, the rule that decides it, where there is one, and what becomes of it. In both {g} is

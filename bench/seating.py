@@ -4,12 +4,12 @@ import rowing
 
 CRATE = "sb_tables_sections"
 
-# One seat alone makes at least so many steps per second.
+# One seat alone makes at least this number of steps per second.
 LEAST = 15_000_000
 
 
 def steps_per_second(runs, row, steps):
-    """The steps per second of a row in the best run. It makes so many steps."""
+    """The steps per second of a row in the best run, which makes `steps` steps."""
     return steps / rowing.seconds_of(runs, CRATE, row, "steps %d" % steps)
 
 
@@ -17,7 +17,7 @@ def measure_alone(runs, who, row, steps):
     made = steps_per_second(runs, row, steps)
     print("section: %d steps per second of %s alone" % (made, who))
     if made < LEAST:
-        programs.fail("%s alone made fewer than %d steps per second" % (who, LEAST))
+        programs.miss("%s alone made fewer than %d steps per second" % (who, LEAST))
 
 
 def measure(runs):

@@ -9,7 +9,7 @@ import programs
 
 
 def worker_phases(words):
-    """A worker's phases from its look at a ready block of so many words on, without that look."""
+    """A worker's phases from its look at a ready block of `words` words on, without that look."""
     return ["count", "end"] + ["copy"] * words + ["take", "mark", "give"] + ["reply"] * 12 + ["ack"]
 
 

@@ -1,13 +1,17 @@
 // A case: the words of a command line, files and an output in memory, and what goes wrong there.
 
 use crate::faults::RowFault;
+use crate::gates::MeetingGate;
 use crate::pages::{Ends, Page};
-use crate::shows::{Shown, put_outcome};
+use crate::shows::{Shown, put_outcome, put_passed};
 use crate::texts::put_row;
 use sb_items::Copies;
 use sb_outside::{Bytes, FileList, MemFiles, MemSink, Numbers, StoredFile, Text};
-use sb_top::plain_top;
+use sb_top::broker_top;
 use std::alloc::Global;
+use std::mem;
+use std::sync::Wait;
+use std::thread::Threads;
 
 // The output takes so many bytes where no row says otherwise.
 const ROOM: u64 = 2_000_000;
@@ -37,6 +41,8 @@ pub struct Case {
     reads: Vec<u64>,
     puts: Vec<u64>,
     room: u64,
+    // How many targets meet at the gate.
+    meeting: u64,
     shown: Shown,
     counted: Vec<String>,
 }
@@ -51,6 +57,7 @@ impl Case {
             reads: Vec::new(alloc),
             puts: Vec::new(alloc),
             room: ROOM,
+            meeting: 0,
             shown: Shown::ALL,
             counted: Vec::new(alloc),
         }
@@ -68,17 +75,18 @@ impl Case {
             "|" | "%" => self.take_times(1, row),
             "*" => self.take_repeated(rest),
             "$" => self.take_tried(setting),
-            "counts" => Ok(self.counted.push(String::from_str(alloc, rest)?)?),
+            "counts" => self.take_counted(alloc, rest),
             _ => self.take_setting(head, rest),
         }
     }
 
-    // Takes in a row on what goes wrong outside, or on what is printed.
+    // Takes in a row on what goes wrong outside, on the gate, or on what is printed.
     fn take_setting(&mut self, head: &str, rest: &str) -> Result<(), RowFault> {
         match head {
             "fails-read" => self.reads.push(number(rest)?)?,
             "fails-put" => self.puts.push(number(rest)?)?,
             "room" => self.room = number(rest)?,
+            "gate" => self.meeting = number(rest)?,
             "ends" => self.shown.ends = ends(rest)?,
             "status" => self.shown.status = true,
             _ => return Err(RowFault::Unknown),
@@ -95,6 +103,11 @@ impl Case {
 
     fn take_word(&mut self, alloc: Global, word: &str) -> Result<(), RowFault> {
         self.words.push(String::from_str(alloc, word)?)?;
+        Ok(())
+    }
+
+    fn take_counted(&mut self, alloc: Global, end: &str) -> Result<(), RowFault> {
+        self.counted.push(String::from_str(alloc, end)?)?;
         Ok(())
     }
 
@@ -158,22 +171,58 @@ impl Case {
     }
 
     /// Runs the case, and puts how it ended and what it wrote. Gives its files back.
-    pub fn show(mut self, alloc: Global, page: &mut Page) -> Result<Vec<StoredFile>, RowFault> {
+    pub fn show<R: Threads + Wait + Sync>(
+        mut self,
+        rt: &R,
+        alloc: Global,
+        page: &mut Page,
+    ) -> Result<Vec<StoredFile>, RowFault> {
         self.end_file()?;
-        let mut files = MemFiles {
-            files: FileList::new(self.files),
-            fails: Numbers::new(self.reads),
+        let mut files = self.take_files(alloc);
+        let puts = mem::replace(&mut self.puts, Vec::new(alloc));
+        let mut out = MemSink::with_room(alloc, self.room, puts)?;
+        self.run(rt, alloc, &mut files, &mut out, page)?;
+        self.put_written(alloc, out.written(), page)?;
+        Ok(files.files.into_items())
+    }
+
+    // The files that the command reads, which the case then no longer has.
+    fn take_files(&mut self, alloc: Global) -> MemFiles {
+        MemFiles {
+            files: FileList::new(mem::replace(&mut self.files, Vec::new(alloc))),
+            fails: Numbers::new(mem::replace(&mut self.reads, Vec::new(alloc))),
             calls: 0,
             faults: 0,
-        };
-        let mut out = MemSink::with_room(alloc, self.room, self.puts)?;
-        let outcome = plain_top(alloc, &self.words, &mut files, &mut out).unwrap();
-        put_outcome(alloc, &outcome, files.calls, self.shown, page)?;
-        for end in &self.counted {
-            page.put_count(alloc, out.written(), end.as_str())?;
         }
-        page.put_quoted(alloc, out.written(), self.shown.ends)?;
-        Ok(files.files.into_items())
+    }
+
+    // Runs the command, and puts how it ended and what passed the gate.
+    fn run<R: Threads + Wait + Sync>(
+        &self,
+        rt: &R,
+        alloc: Global,
+        files: &mut MemFiles,
+        out: &mut MemSink,
+        page: &mut Page,
+    ) -> Result<(), RowFault> {
+        let gate = MeetingGate::new(alloc, self.meeting)?;
+        let outcome = broker_top(rt, alloc, &self.words, files, out, &gate);
+        put_outcome(alloc, &outcome, files.calls, self.shown, page)?;
+        self.put_gate(alloc, &gate, page)
+    }
+
+    fn put_gate(&self, alloc: Global, gate: &MeetingGate, page: &mut Page) -> Result<(), RowFault> {
+        match self.meeting {
+            0 => Ok(()),
+            _ => put_passed(alloc, gate.passed(), page),
+        }
+    }
+
+    fn put_written(&self, alloc: Global, written: &[u8], page: &mut Page) -> Result<(), RowFault> {
+        for end in &self.counted {
+            page.put_count(alloc, written, end.as_str())?;
+        }
+        Ok(page.put_quoted(alloc, written, self.shown.ends)?)
     }
 }
 

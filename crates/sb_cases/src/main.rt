@@ -1,6 +1,7 @@
-// Runs worked cases of the top call over files and an output in memory, and prints what came of each. The cases stand in
-// files of rows, which the arguments name. What is printed is compared with the file `stdout` of this crate, which holds what
-// is right: it comes from the rules of the texts and from cases that were worked out, and never from a run.
+// Runs worked cases of the top call over files and an output in memory, and prints what came of each. The cases stand in files of rows,
+// which the arguments name. What is printed is compared with the file `stdout` of this crate, which holds what is right: it comes
+// from the rules of the texts and from cases that were worked out, and never from a run. Cases of `run` and `make` start threads, and
+// print what is the same whatever the order of their steps.
 //
 // A case is written in one of the files of `data`, and what it must print at the same place of `stdout`:
 //
@@ -13,17 +14,19 @@
 //     same policy                  the file of this name of the case before
 //     fails-read N, fails-put N    this read or put fails, from 1; `room N`: the output takes N bytes
 //     try | TEXT                   the case is run once for each such row, with its bytes where the row `$` stands
+//     gate N                       the first call of each of the targets 0 to N - 1 is held until those of all have come
 //     ends M N                     only the first M and the last N of the lines that were written are printed
-//     counts TEXT                  so many of the lines that were written end with this
+//     counts TEXT                  it is printed how many of the lines that were written end with TEXT
 //     status                       the status is printed with all that it says
 //     end
 //
 // It prints the name of the case and, once for each row that is tried: the exit code, the count of reads and what a report
-// counts; what is said on standard error, where the command is not done; and the lines that were written, each behind a bar.
+// counts; what is said on standard error, where the command is not done; what passed a gate at which calls are held; and the lines that were written, each behind a bar.
 #![tactic(auto)]
 
 mod cases;
 mod faults;
+mod gates;
 mod pages;
 mod rows;
 mod shows;
@@ -34,6 +37,8 @@ use pages::Page;
 use rows::Rows;
 use std::alloc::Global;
 use std::io::Write;
+use std::sync::Wait;
+use std::thread::Threads;
 use std::{env, fs, io};
 
 fn main(rt: HostRuntime) -> io::Result<()> {
@@ -41,17 +46,22 @@ fn main(rt: HostRuntime) -> io::Result<()> {
     let mut page = Page::new(alloc);
     for name in env::args(&rt)?.skip(1) {
         let text = fs::read_to_string(&rt, name.as_str())?;
-        let count = run_text(alloc, text.as_str(), &mut page)?;
+        let count = run_text(&rt, alloc, text.as_str(), &mut page)?;
         page.put_line(format!(in alloc; "{name} cases {count}")?.as_str())?;
     }
     io::writer(&rt).write_all(page.as_slice())
 }
 
 // Runs the cases of a text, and tells how many there were.
-fn run_text(alloc: Global, text: &str, page: &mut Page) -> io::Result<usize> {
+fn run_text<R: Threads + Wait + Sync>(
+    rt: &R,
+    alloc: Global,
+    text: &str,
+    page: &mut Page,
+) -> io::Result<usize> {
     let mut rows = Rows::new(alloc);
     for (at, line) in text.lines().enumerate() {
-        let taken = rows.take_line(alloc, at.saturating_add(1), line, page);
+        let taken = rows.take_line(rt, alloc, at.saturating_add(1), line, page);
         put_fault(alloc, taken, rows.line(), page)?;
     }
     let ended = rows.end_text(alloc);

@@ -6,6 +6,8 @@ use crate::pages::Page;
 use sb_outside::StoredFile;
 use std::alloc::Global;
 use std::mem;
+use std::sync::Wait;
+use std::thread::Threads;
 
 /// A text of cases, as far as its lines were taken in.
 #[derive(Debug, Drop)]
@@ -47,25 +49,43 @@ impl<'a> Rows<'a> {
     ///
     /// # Errors
     /// The fault of the line, or the first of the case that ends with it. The next case can be taken in all the same.
-    pub fn take_line(
+    pub fn take_line<R: Threads + Wait + Sync>(
         &mut self,
+        rt: &R,
         alloc: Global,
         line: usize,
         row: &'a str,
         page: &mut Page,
     ) -> Result<(), RowFault> {
         self.line = line;
-        match (self.rows.is_empty(), first_word(row)) {
-            (true, "" | "#") => Ok(()),
-            (true, "case") => self.begin(line, row),
-            (true, _) => Err(RowFault::NoCase),
-            (false, "case") => {
-                let ended = self.end_text(alloc);
-                self.begin(line, row)?;
-                ended
-            }
-            (false, "end") => self.end_case(alloc, page),
-            (false, _) => Ok(self.rows.push(row)?),
+        match self.rows.is_empty() {
+            true => self.take_between(line, row),
+            false => self.take_within(rt, alloc, line, row, page),
+        }
+    }
+
+    // Takes in a line between cases.
+    fn take_between(&mut self, line: usize, row: &'a str) -> Result<(), RowFault> {
+        match first_word(row) {
+            "" | "#" => Ok(()),
+            "case" => self.begin(line, row),
+            _ => Err(RowFault::NoCase),
+        }
+    }
+
+    // Takes in a line of a case, or one of the next case, which shows that this one has no end.
+    fn take_within<R: Threads + Wait + Sync>(
+        &mut self,
+        rt: &R,
+        alloc: Global,
+        line: usize,
+        row: &'a str,
+        page: &mut Page,
+    ) -> Result<(), RowFault> {
+        match first_word(row) {
+            "case" => self.begin_anew(alloc, line, row),
+            "end" => self.end_case(rt, alloc, page),
+            _ => Ok(self.rows.push(row)?),
         }
     }
 
@@ -87,16 +107,29 @@ impl<'a> Rows<'a> {
         Ok(self.rows.push(row)?)
     }
 
-    fn end_case(&mut self, alloc: Global, page: &mut Page) -> Result<(), RowFault> {
+    // Begins a case where the one before has no end.
+    fn begin_anew(&mut self, alloc: Global, line: usize, row: &'a str) -> Result<(), RowFault> {
+        let ended = self.end_text(alloc);
+        self.begin(line, row)?;
+        ended
+    }
+
+    fn end_case<R: Threads + Wait + Sync>(
+        &mut self,
+        rt: &R,
+        alloc: Global,
+        page: &mut Page,
+    ) -> Result<(), RowFault> {
         let rows = mem::replace(&mut self.rows, Vec::new(alloc));
-        self.before = self.run(alloc, rows.as_slice(), page)?;
+        self.before = self.run(rt, alloc, rows.as_slice(), page)?;
         self.count = self.count.saturating_add(1);
         Ok(())
     }
 
     // Runs a case, once for each row that is tried, or else once. Gives the files of the last run.
-    fn run(
+    fn run<R: Threads + Wait + Sync>(
         &mut self,
+        rt: &R,
         alloc: Global,
         rows: &[&str],
         page: &mut Page,
@@ -108,12 +141,15 @@ impl<'a> Rows<'a> {
             }
             if let Some(tried) = row.strip_prefix("try ") {
                 page.put_line(row)?;
-                files = Some(self.case_of(alloc, rows, Some(tried))?.show(alloc, page)?);
+                files = Some(
+                    self.case_of(alloc, rows, Some(tried))?
+                        .show(rt, alloc, page)?,
+                );
             }
         }
         match files {
             Some(files) => Ok(files),
-            None => self.case_of(alloc, rows, None)?.show(alloc, page),
+            None => self.case_of(alloc, rows, None)?.show(rt, alloc, page),
         }
     }
 

@@ -1,6 +1,7 @@
 // What is printed of how a case ended.
 
 use crate::faults::RowFault;
+use crate::gates::Passed;
 use crate::pages::{Ends, Page};
 use sb_book::Report;
 use sb_top::{Complaint, Outcome, Status, exit_code};
@@ -44,6 +45,12 @@ pub fn put_outcome(
         page.put_line(format!(in alloc; "status {status:?}")?.as_str())?;
     }
     Ok(())
+}
+
+/// Puts how many calls came to a gate, and how many of them were held until its limit.
+pub fn put_passed(alloc: Global, passed: Passed, page: &mut Page) -> Result<(), RowFault> {
+    let Passed { calls, late } = passed;
+    Ok(page.put_line(format!(in alloc; "gate passes {calls} late {late}")?.as_str())?)
 }
 
 // How many targets, entries and results a report has.

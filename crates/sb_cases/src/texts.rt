@@ -13,9 +13,10 @@ enum Escape {
 
 /// Appends the bytes of a row: of `| TEXT` the text and a line feed, of `% TEXT` those that the text stands for.
 pub fn put_row(row: &str, bytes: &mut Vec<u8>) -> Result<(), RowFault> {
-    match row.split_once(' ').unwrap_or((row, "")) {
-        ("|", line) => put_raw(line, bytes),
-        ("%", line) => put_escaped(line, bytes),
+    let (head, line) = row.split_once(' ').unwrap_or((row, ""));
+    match head {
+        "|" => put_raw(line, bytes),
+        "%" => put_escaped(line, bytes),
         _ => Err(RowFault::Unknown),
     }
 }
@@ -39,15 +40,28 @@ fn put_escaped(line: &str, bytes: &mut Vec<u8>) -> Result<(), RowFault> {
 }
 
 fn after(escape: Escape, byte: u8, bytes: &mut Vec<u8>) -> Result<Escape, RowFault> {
-    match (escape, byte) {
-        (Escape::Outside, b'\\') => Ok(Escape::Begun),
-        (Escape::Outside, _) => put_byte(byte, bytes),
-        (Escape::Begun, b'\\') => put_byte(b'\\', bytes),
-        (Escape::Begun, b'n') => put_byte(b'\n', bytes),
-        (Escape::Begun, b'x') => Ok(Escape::Number),
-        (Escape::Begun, _) => Err(RowFault::BadEscape),
-        (Escape::Number, _) => Ok(Escape::Digit(digit_of(byte)?)),
-        (Escape::Digit(high), _) => put_byte(high << 4 | digit_of(byte)?, bytes),
+    match escape {
+        Escape::Outside => outside(byte, bytes),
+        Escape::Begun => begun(byte, bytes),
+        Escape::Number => Ok(Escape::Digit(digit_of(byte)?)),
+        Escape::Digit(high) => put_byte(high << 4 | digit_of(byte)?, bytes),
+    }
+}
+
+fn outside(byte: u8, bytes: &mut Vec<u8>) -> Result<Escape, RowFault> {
+    match byte {
+        b'\\' => Ok(Escape::Begun),
+        _ => put_byte(byte, bytes),
+    }
+}
+
+// Behind a backslash.
+fn begun(byte: u8, bytes: &mut Vec<u8>) -> Result<Escape, RowFault> {
+    match byte {
+        b'\\' => put_byte(b'\\', bytes),
+        b'n' => put_byte(b'\n', bytes),
+        b'x' => Ok(Escape::Number),
+        _ => Err(RowFault::BadEscape),
     }
 }
 

@@ -1,13 +1,15 @@
 // The program: the words of its command line, real files and standard output, and how it ends.
 #![tactic(auto)]
 
-ghost use Rattle.std.specs.Prelude.{◌≡◌, ◌⊎◌};
+ghost use Rattle.std.specs.Prelude.{◌≡◌, ◌⊎◌, None};
 ghost use Rattle.sb_outside.specs.Outside.{Rose};
-ghost use Rattle.sb_top.specs.Commands.{texts};
+ghost use Rattle.sb_top.specs.Commands.{command_of, texts};
+ghost use Rattle.sb_top.specs.Effects.{effect};
+ghost use Rattle.sb_top.specs.Top.{IsEndOf};
 ghost use Rattle.std.specs.Process.{exit_status};
 ghost use Rattle.sb_top.specs.Exits.{code_of};
 ghost use Rattle.sb_main.specs.Gathering.{gathering_status};
-ghost use Rattle.sb_main.specs.OwnWords.{IsFaulty};
+ghost use Rattle.sb_main.specs.OwnWords.{IsFaulty, own_word_of};
 
 mod hosts;
 mod own_words;
@@ -16,12 +18,14 @@ mod tests;
 
 use hosts::{HostFiles, HostSink};
 use own_words::{OwnWord, own_text, own_word};
-use sb_outside::Sink;
-use sb_top::{Complaint, Status, exit_code, plain_top};
+use sb_outside::{Files, OpenGate, Sink};
+use sb_top::{Complaint, Status, broker_top, exit_code};
 use std::io::ErrorKind;
 use std::process::ExitCode;
-use std::rt::{Env, Files};
-use std::{env, io};
+use std::rt::Env;
+use std::sync::Wait;
+use std::thread::Threads;
+use std::{env, io, rt};
 
 fn main(rt: HostRuntime) -> ExitCode {
     end(&rt, run(&rt))
@@ -38,7 +42,7 @@ fn end<R: Eprint>(rt: &R, status: Status) -> ExitCode
 }
 
 // Gathers the words after the program's name and does what they ask.
-fn run<R: Env + Files + Print + AllocGlobal>(rt: &R) -> Status {
+fn run<R: Env + rt::Files + Print + AllocGlobal + Threads + Wait + Sync>(rt: &R) -> Status {
     let arguments = match env::args(rt) {
         Ok(arguments) => arguments,
         Err(error) => return no_words(error.kind()),
@@ -48,7 +52,11 @@ fn run<R: Env + Files + Print + AllocGlobal>(rt: &R) -> Status {
         return Status::NoMemory;
     };
     match all.as_slice() {
-        [_, words @ ..] => answer(rt, words),
+        [_, words @ ..] => {
+            let mut files = HostFiles::new(rt);
+            let mut out = HostSink::new(io::writer(rt));
+            answer(rt, words, &mut files, &mut out)
+        }
         [] => Status::Usage,
     }
 }
@@ -63,20 +71,23 @@ fn no_words(kind: ErrorKind) -> Status
     }
 }
 
-// Answers the program's own words, and leaves all other words to the top call.
+// Answers the program's own words, and leaves all other words to the top call, over any files and any output.
 #[tactic(auto, using(crate::proofs::Faulty::usage_is_faulty, crate::proofs::Faulty::faulty_is_usage))]
-fn answer<R: Files + Print + AllocGlobal>(rt: &R, words: &[String]) -> Status
+fn answer<R: AllocGlobal + Threads + Wait + Sync, F: Files, K: Sink>(
+    rt: &R,
+    words: &[String],
+    files: &mut F,
+    out: &mut K,
+) -> Status
     ensures usage { result ≡ Status.Usage → IsFaulty (texts words.now) }
     ensures faulty { IsFaulty (texts words.now) → result ≡ Status.Usage }
+    ensures command { own_word_of (texts words.now) ≡ None → IsEndOf (command_of (texts words.now))
+        (effect F.held F.faults K.written K.faults files.old files.new out.old out.new) result }
 {
-    let mut sink = HostSink::new(io::writer(rt));
-    if let Some(word) = own_word(words) {
-        return tell(word, &mut sink);
+    match own_word(words) {
+        Some(word) => tell(word, out),
+        None => broker_top(rt, rt.alloc(), words, files, out, &OpenGate).status,
     }
-    let mut files = HostFiles::new(rt);
-    plain_top(rt.alloc(), words, &mut files, &mut sink)
-        .unwrap()
-        .status
 }
 
 // Puts the text of one of the program's own words.

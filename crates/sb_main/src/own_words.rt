@@ -56,6 +56,15 @@ usage:
       runs SCRIPT under POLICY, step by step as SCHEDULE says, and prints the
       transcript. Without SCHEDULE the steps are made in rounds, at most
       20000000
+  sandbox run POLICY SCRIPT [--workers N]
+      runs SCRIPT under POLICY on threads: one for each thread of SCRIPT, and N
+      workers, from 1 to 8, that serve the targets. Prints the transcript.
+      Without the option N is 2. It may also stand before the files, or be one
+      word, --workers=N
+  sandbox make SEED TARGETS CALLS
+      makes a script from SEED, a number below 2^64, of 1 to 8 TARGETS with two
+      threads of 1 to 4096 CALLS each; runs it under a fixed policy on threads,
+      and prints what was made and the totals, which are the same at each run
   sandbox --help
       prints this text
   sandbox --version

@@ -1,12 +1,14 @@
 -- How a command ends, by how its parts end.
-use Rattle.std.proofs.Common.{◌≡◌, ◌≢◌, ◌∙◌, ℕ, ◌≤◌, ◌⊎◌, Option, None, Some, refl, sym, ap, subst, inl, inr, arith, true≢false}
+use Rattle.std.proofs.Common.{◌≡◌, ◌≢◌, ◌∙◌, ℕ, ◌≤◌, ◌⊎◌, Option, None, Some, refl, sym, ap, subst, inl, inr, arith, true≢false, false}
 use Rattle.std.specs.Prelude.{List, option_map, IfSome, IsSome, Ok}
 use Rattle.sb_outside.specs.Outside.{Held}
+use Rattle.sb_top.specs.Commands.{Command, Check, Make, Replay, Run, needs_threads}
 use Rattle.sb_top.specs.Effects.{IsOrderly}
 use Rattle.sb_top.specs.Ends.{IsEnd, IsExpected, IsFile, IsUnread, IsUnwritten, IsWorkEnd, end_of, expected}
 use Rattle.sb_top.specs.Outcomes.{IsRefusal, IsSilent, MayCome, file_of}
 use Rattle.sb_top.specs.Replay.{run_end, whole_run}
-use Rattle.sb_top.specs.Works.{Wanted, Work, Prints, Runs}
+use Rattle.sb_top.specs.Top.{IsUnreadBy}
+use Rattle.sb_top.specs.Works.{Wanted, Work, Makes, Prints, Runs, Threads}
 use Rattle.sb_top.specs.declared.outcomes.Outcome.{Outcome}
 use Rattle.sb_top.specs.declared.outcomes.Status.{Status}
 use Rattle.sb_top.specs.declared.outcomes.Status.TheVariants.{Done, Usage, WriteFault, NoMemory}
@@ -44,14 +46,20 @@ run_known (Some thread) = λ e. cc
 pub work_names : (work : Work) → file_of (end_of work) ≡ None
 work_names (Prints policies) = refl
 work_names (Runs policies script schedule) = run_names (whole_run policies script schedule).unfinished
+work_names (Threads policies script) = refl
+work_names (Makes seed targets calls) = refl
 
 work_may_come : (rose : Type 0) (work : Work) → MayCome rose (end_of work)
 work_may_come rose (Prints policies) = tt
 work_may_come rose (Runs policies script schedule) = run_may_come rose (whole_run policies script schedule).unfinished
+work_may_come rose (Threads policies script) = tt
+work_may_come rose (Makes seed targets calls) = tt
 
 work_known : (work : Work) → end_of work ≢ Usage
 work_known (Prints policies) = λ e. cc
 work_known (Runs policies script schedule) = run_known (whole_run policies script schedule).unfinished
+work_known (Threads policies script) = λ e. cc
+work_known (Makes seed targets calls) = λ e. cc
 
 -- the status that such work ends with is the expected one
 told_end : (wanted : Held → Wanted) (work : Work) (held : Option Held) (rose : Type 0) (s : Status) → IfSome held (λ h. wanted h ≡ Ok work) → s ≡ end_of work
@@ -124,6 +132,14 @@ refused_orderly held held' reads reads' written puts files files' out s kept cou
       silent = λ h. refl;
     }
 
+-- where there is no file to read
+pub made_orderly : {G S : Type 0} (held : Option Held) (reads : ℕ) (written written' : Option (List ℕ)) (puts puts' : ℕ) (files : G) (out out' : S)
+    (work : Work) (rose : Type 0) (o : Outcome) → puts ≤ puts' → (o.status ≡ Done → puts' ≡ puts) → IsWorkEnd work rose o.status → (IsSilent o.status → out' ≡ out)
+    → IsOrderly (record { files = files; files' = files; out = out; out' = out'; held = held; held' = held; reads = reads; reads' = reads; written = written; written' = written'; puts = puts; puts' = puts' }) o
+made_orderly held reads written written' puts puts' files out out' work rose o counted_sink done_sink end silent =
+    let same : reads ≤ reads = omega arith in
+    shown_orderly held held reads reads written written' puts puts' files files out out' work rose o refl same refl counted_sink done_sink end silent
+
 -- where nothing was done
 pub unchanged : {G S : Type 0} (held : Option Held) (reads : ℕ) (written : Option (List ℕ)) (puts : ℕ) (files : G) (out : S) (o : Outcome)
     → IsOrderly (record { files = files; files' = files; out = out; out' = out; held = held; held' = held; reads = reads; reads' = reads; written = written; written' = written; puts = puts; puts' = puts }) o
@@ -140,3 +156,19 @@ unchanged held reads written puts files out o =
       unread = λ e. refl;
       silent = λ h. refl;
     }
+
+-- ---- commands without files
+
+-- a command that runs on no threads has files
+pub plain_reads : (command : Option Command) (same : Type 0) → needs_threads command ≡ false → IsUnreadBy command same
+plain_reads None same e = tt
+plain_reads (Some (Check policy)) same e = λ none. cc
+plain_reads (Some (Replay policy script None)) same e = λ none. cc
+plain_reads (Some (Replay policy script (Some schedule))) same e = λ none. cc
+plain_reads (Some (Run policy script workers)) same e = λ none. cc
+plain_reads (Some (Make seed targets calls)) same e = λ none. cc
+
+-- files that are as they were
+pub left_alone : (command : Option Command) (same : Type 0) → same → IsUnreadBy command same
+left_alone None same h = tt
+left_alone (Some command) same h = λ none. h

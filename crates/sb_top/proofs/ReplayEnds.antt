@@ -9,7 +9,7 @@ use Rattle.sb_top.specs.Commands.{Replay, replay_files}
 use Rattle.sb_top.specs.Ends.{IsEnd, IsReached}
 use Rattle.sb_top.specs.Outcomes.{IsRefusal}
 use Rattle.sb_top.specs.Reading.{IsNotRead, IsNotScheduled, policies_in, schedule_in, schedule_of, script_in}
-use Rattle.sb_top.specs.Replay.{wanted_replay, wanted_run, wanted_script}
+use Rattle.sb_top.specs.Replay.{wanted_replay, wanted_schedule, wanted_script}
 use Rattle.sb_top.specs.Top.{IsUnprepared}
 use Rattle.sb_top.specs.Works.{Wanted, Runs}
 use Rattle.sb_top.specs.declared.outcomes.Status.{Status}
@@ -17,14 +17,14 @@ use Rattle.sb_top.proofs.Ending.{known}
 use Rattle.sb_top.proofs.Steps.{both_taken, each, reached_next, reached_policies, reached_schedule, reached_script, refused_end, taken}
 
 reached_run : (n : ℕ) (policies : List Policy) (schedule : Option (List ℕ)) (script : Script) (held : Held) → n ≤ 3
-    → IsReached n (wanted_run policies schedule script held)
+    → IsReached n (wanted_schedule policies schedule script held)
 reached_run n policies schedule script held h =
     reached_next n (schedule_of script schedule held) (λ schedule. Ok (Runs policies script schedule)) (reached_schedule n script schedule held h) (λ schedule. tt)
 
 reached_wanted_script : (n : ℕ) (script : List ℕ) (schedule : Option (List ℕ)) (policies : List Policy) (held : Held) → n ≤ 2
     → IsReached n (wanted_script script schedule policies held)
 reached_wanted_script n script schedule policies held h =
-    reached_next n (script_in policies script held) (λ script. wanted_run policies schedule script held) (reached_script n policies script held h)
+    reached_next n (script_in policies script held) (λ script. wanted_schedule policies schedule script held) (reached_script n policies script held h)
     (λ script. reached_run n policies schedule script held (omega arith))
 
 reached_replay : (policy script : List ℕ) (schedule : Option (List ℕ)) (held : Held) → IsReached 1 (wanted_replay policy script schedule held)
@@ -58,16 +58,16 @@ pub script_refused : (policy script : List ℕ) (schedule : Option (List ℕ)) (
 script_refused policy script schedule policies held rose s e h =
     let P : Option Wanted → Type 0 = λ o. IsEnd (replay_files schedule) o rose ⊥ s in
     subst P (sym (replay_from policy script schedule policies held e))
-    (refused_end 2 (replay_files schedule) (script_in policies script) (λ h script. wanted_run policies schedule script h) held rose ⊥ s
+    (refused_end 2 (replay_files schedule) (script_in policies script) (λ h script. wanted_schedule policies schedule script h) held rose ⊥ s
     (lit≤ tt, enough_files 2 schedule (lit≤ tt)) (λ h. reached_wanted_script 2 script schedule policies h (lit≤ tt)) h)
 
 -- and one whose script was read too comes to what its schedule comes to
 run_from : (policy script : List ℕ) (schedule : Option (List ℕ)) (policies : List Policy) (read : Script) (held : Option Held)
     → IfSome held (λ h. policies_in policy h ≡ Ok policies) → IfSome held (λ h. script_in policies script h ≡ Ok read)
-    → option_map (wanted_replay policy script schedule) held ≡ option_map (wanted_run policies schedule read) held
+    → option_map (wanted_replay policy script schedule) held ≡ option_map (wanted_schedule policies schedule read) held
 run_from policy script schedule policies read held e d =
     replay_from policy script schedule policies held e
-    ∙ taken (script_in policies script) (λ h script. wanted_run policies schedule script h) read held d
+    ∙ taken (script_in policies script) (λ h script. wanted_schedule policies schedule script h) read held d
 
 -- a replay whose schedule alone was not read
 named_refused : (policy script name : List ℕ) (policies : List Policy) (read : Script) (held : Option Held) (rose : Type 0) (s : Status)
@@ -100,5 +100,5 @@ pub replay_wanted : (policy script : List ℕ) (schedule : Option (List ℕ)) (p
     → IfSome held (λ h. wanted_replay policy script schedule h ≡ Ok (Runs policies read found))
 replay_wanted policy script schedule policies read found held e d f =
     both_taken (policies_in policy) (λ h policies. wanted_script script schedule policies h) policies (Ok (Runs policies read found)) held e
-    (both_taken (script_in policies script) (λ h script. wanted_run policies schedule script h) read (Ok (Runs policies read found)) held d
+    (both_taken (script_in policies script) (λ h script. wanted_schedule policies schedule script h) read (Ok (Runs policies read found)) held d
     (both_taken (schedule_of read schedule) (λ h schedule. Ok (Runs policies read schedule)) found (Ok (Runs policies read found)) held f (each _ held (λ h. refl))))

@@ -9,7 +9,7 @@ use Rattle.sb_transcript.specs.EntryLines.{entry_line}
 use Rattle.sb_transcript.specs.Laws.{EntriesComeFirst, HasShortNames, TranscriptsTellTheirLines}
 use Rattle.sb_transcript.specs.Transcripts.{transcript}
 use Rattle.sb_top.specs.Ends.{TellsReport}
-use Rattle.sb_top.specs.Works.{Runs}
+use Rattle.sb_top.specs.Works.{Runs, Threads}
 use Rattle.sb_top.specs.Writing.{GrowsBy, TellsEntries}
 
 -- the transcript of each report of a script with short names does
@@ -25,3 +25,8 @@ pub told : (policies : List Policy) (script : Script) (schedule : Schedule) (rep
     → TellsEntries script report (transcript script report) → GrowsBy before (transcript script report) after
     → TellsReport before after report (Runs policies script schedule)
 told policies script schedule report before after tells grows = (transcript script report, grows, tells)
+
+pub threads_told : (policies : List Policy) (script : Script) (report : Report) (before after : Option (List ℕ))
+    → TellsEntries script report (transcript script report) → GrowsBy before (transcript script report) after
+    → TellsReport before after report (Threads policies script)
+threads_told policies script report before after tells grows = (transcript script report, grows, tells)

@@ -1,13 +1,16 @@
 -- How work ends: with which status and which report, and what was written.
-use Rattle.std.specs.Prelude.{◌≡◌, ◌⊎◌, ℕ, ◌≤◌, Bool, true, false, Option, None, Some, IfSome, IsSomeAnd, IsOkAnd, MatchOption, Result, Ok, Err, List, ⊤}
+use Rattle.std.specs.Prelude.{◌≡◌, ◌⊎◌, ℕ, ◌≤◌, Option, None, Some, IfSome, IsSomeAnd, IsOkAnd, MatchOption, Result, Ok, Err, List, [], ⊤}
 use Rattle.sb_book.specs.declared.reports.Report.{Report}
 use Rattle.sb_core.specs.Fits.{Fits}
 use Rattle.sb_outside.specs.Outside.{GrowsByPrefix}
+use Rattle.sb_statements.specs.declared.scripts.Script.{Script}
 use Rattle.sb_transcript.specs.Transcripts.{transcript}
 use Rattle.sb_top.specs.Check.{checked}
+use Rattle.sb_top.specs.Make.{IsMadeReport, made_text}
 use Rattle.sb_top.specs.Outcomes.{MayCome, file_of}
 use Rattle.sb_top.specs.Replay.{IsSoundRun, run_end, whole_run}
-use Rattle.sb_top.specs.Works.{Work, Prints, Runs, Wanted}
+use Rattle.sb_top.specs.Run.{IsThreadsReport}
+use Rattle.sb_top.specs.Works.{Work, Makes, Prints, Reporting, Runs, Scheduled, Threaded, Threads, Unreported, Wanted}
 use Rattle.sb_top.specs.Writing.{GrowsBy, TellsEntries}
 use Rattle.sb_top.specs.declared.outcomes.Status.{Status}
 use Rattle.sb_top.specs.declared.outcomes.Status.TheVariants.{Done, Unfinished, ReadFault, WriteFault, NoMemory}
@@ -16,16 +19,26 @@ use Rattle.sb_top.specs.declared.outcomes.Status.TheVariants.{Done, Unfinished, 
 abbrev pub end_of : Work → Status
 end_of (Prints policies) = Done
 end_of (Runs policies script schedule) = run_end (whole_run policies script schedule).unfinished
+end_of (Threads policies script) = Done
+end_of (Makes seed targets calls) = Done
 
 -- the status that is expected: the one with which the work ends, or the one that refuses it
 abbrev pub expected : Wanted → Status
 expected (Ok work) = end_of work
 expected (Err status) = status
 
--- all that is written: the policies as a text with the listings of their programs, or the transcript of the run
-abbrev pub text_of : Work → List ℕ
-text_of (Prints policies) = checked policies
-text_of (Runs policies script schedule) = transcript script (whole_run policies script schedule).report
+-- the transcript of a report; where there is none, nothing
+abbrev pub transcript_of : Script → Option Report → List ℕ
+transcript_of script None = []
+transcript_of script (Some report) = transcript script report
+
+-- all that is written: the policies as a text with the listings of their programs; the transcript of the run by the schedule; the transcript of the report of a
+-- run on threads; or what was made, and the totals that the verdicts give
+abbrev pub text_of : Work → Option Report → List ℕ
+text_of (Prints policies) report = checked policies
+text_of (Runs policies script schedule) report = transcript script (whole_run policies script schedule).report
+text_of (Threads policies script) report = transcript_of script report
+text_of (Makes seed targets calls) report = made_text seed targets calls
 
 -- n is the number of a file of a command with this many files
 abbrev pub IsFile : ℕ → ℕ → Type 0
@@ -65,12 +78,16 @@ abbrev pub IsReportOf : Report → Work → Type 0
 IsReportOf report (Prints policies) = ⊥
 IsReportOf report (Runs policies script schedule) =
     (report ≡ (whole_run policies script schedule).report) × IsSoundRun policies script (whole_run policies script schedule)
+IsReportOf report (Threads policies script) = IsThreadsReport policies script report
+IsReportOf report (Makes seed targets calls) = IsMadeReport seed targets calls report
 
 -- the report of a run in which no thread is unfinished: it fits the script under its policies
 abbrev pub IsWholeReportOf : Report → Work → Type 0
 IsWholeReportOf report (Prints policies) = ⊥
 IsWholeReportOf report (Runs policies script schedule) =
     IsReportOf report (Runs policies script schedule) × ((whole_run policies script schedule).unfinished ≡ None) × Fits policies script report
+IsWholeReportOf report (Threads policies script) = IsReportOf report (Threads policies script)
+IsWholeReportOf report (Makes seed targets calls) = IsReportOf report (Makes seed targets calls)
 
 -- there is a report, and it is that of the run that is wanted
 abbrev pub HasReport : Option Wanted → Option Report → Type 0
@@ -82,36 +99,45 @@ abbrev pub HasWholeReport : Option Wanted → Option Report → Type 0
 HasWholeReport wanted None = ⊥
 HasWholeReport wanted (Some report) = IfSome wanted (λ w. IsOkAnd w (IsWholeReportOf report))
 
--- there is a report exactly where the command runs a script
-abbrev pub HasReportOfRun : Bool → Option Wanted → Option Report → Type 0
-HasReportOfRun false wanted report = report ≡ None
-HasReportOfRun true wanted report = HasWholeReport wanted report
+-- a check has no report, and other commands have one, in which no thread is unfinished
+abbrev pub HasReportOfRun : Reporting → Option Wanted → Option Report → Type 0
+HasReportOfRun Unreported wanted report = report ≡ None
+HasReportOfRun Scheduled wanted report = HasWholeReport wanted report
+HasReportOfRun Threaded wanted report = HasWholeReport wanted report
+
+-- only a run by a schedule may leave a thread unfinished
+abbrev pub MayLeave : Reporting → Type 0
+MayLeave Unreported = ⊥
+MayLeave Scheduled = ⊤
+MayLeave Threaded = ⊥
 
 -- a report is there exactly with Done and WriteFault of a command that runs a script, and it fits the script; and with Unfinished, which comes of
--- such commands alone
-abbrev pub IsReported : Bool → Option Wanted → Option Report → Status → Type 0
-IsReported runs wanted report Done = HasReportOfRun runs wanted report
-IsReported runs wanted report WriteFault = HasReportOfRun runs wanted report
-IsReported runs wanted report (Unfinished target thread) = (runs ≡ true) × HasReport wanted report
-IsReported runs wanted report status = report ≡ None
+-- runs by a schedule alone
+abbrev pub IsReported : Reporting → Option Wanted → Option Report → Status → Type 0
+IsReported reporting wanted report Done = HasReportOfRun reporting wanted report
+IsReported reporting wanted report WriteFault = HasReportOfRun reporting wanted report
+IsReported reporting wanted report (Unfinished target thread) = MayLeave reporting × HasReport wanted report
+IsReported reporting wanted report status = report ≡ None
 
 -- with Done all was written, with WriteFault a prefix, and with any other status nothing
-abbrev pub IsWritten : Option Wanted → Option (List ℕ) → Option (List ℕ) → Status → Type 0
-IsWritten wanted before after Done = IfSome wanted (λ w. IsOkAnd w (λ work. GrowsBy before (text_of work) after))
-IsWritten wanted before after WriteFault = IfSome wanted (λ w. IsOkAnd w (λ work. GrowsByPrefix before (text_of work) after))
-IsWritten wanted before after status = after ≡ before
+abbrev pub IsWritten : Option Wanted → Option (List ℕ) → Option (List ℕ) → Option Report → Status → Type 0
+IsWritten wanted before after report Done = IfSome wanted (λ w. IsOkAnd w (λ work. GrowsBy before (text_of work report) after))
+IsWritten wanted before after report WriteFault = IfSome wanted (λ w. IsOkAnd w (λ work. GrowsByPrefix before (text_of work report) after))
+IsWritten wanted before after report status = after ≡ before
 
 -- the output grew by a text that tells the entries of this report line by line
 abbrev pub TellsReport : Option (List ℕ) → Option (List ℕ) → Report → Work → Type 0
 TellsReport before after report (Prints policies) = ⊥
 TellsReport before after report (Runs policies script schedule) = (text : List ℕ) × GrowsBy before text after × TellsEntries script report text
+TellsReport before after report (Threads policies script) = (text : List ℕ) × GrowsBy before text after × TellsEntries script report text
+TellsReport before after report (Makes seed targets calls) = ⊥
 
 -- the same where there is a report
 abbrev pub HasToldReport : Option Wanted → Option (List ℕ) → Option (List ℕ) → Option Report → Type 0
 HasToldReport wanted before after None = ⊥
 HasToldReport wanted before after (Some report) = IfSome wanted (λ w. IsOkAnd w (TellsReport before after report))
 
--- with Done of a command that runs a script, the text that was written tells the entries of its report line by line
+-- with Done of a command that writes a transcript, the text that was written tells the entries of its report line by line
 abbrev pub IsTold : Option Wanted → Option (List ℕ) → Option (List ℕ) → Option Report → Status → Type 0
 IsTold wanted before after report Done = HasToldReport wanted before after report
 IsTold wanted before after report status = ⊤

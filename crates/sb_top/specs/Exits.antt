@@ -23,7 +23,7 @@ code_of NoMemory = 11
 -- what is said of a status
 abbrev pub text_of : Status → List ℕ
 text_of Done = codes "done"
-text_of Usage = codes "usage: check POLICY, replay POLICY SCRIPT [SCHEDULE]"
+text_of Usage = codes "usage: check POLICY, replay POLICY SCRIPT [SCHEDULE], run POLICY SCRIPT [--workers N], make SEED TARGETS CALLS"
 text_of (PolicyRefused fault) = codes "policy line " ++ (decimal fault.line ++ (codes " fault " ++ decimal (kind_number fault.kind)))
 text_of (ScriptRefused fault) = codes "script line " ++ (decimal fault.line ++ (codes " fault " ++ decimal (script.kind_number fault.kind)))
 text_of (ScheduleRefused fault) = codes "schedule line " ++ (decimal fault.line ++ (codes " fault " ++ decimal (schedule.kind_number fault.kind)))

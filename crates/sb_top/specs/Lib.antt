@@ -1,4 +1,5 @@
 pub mod CommandLine
+pub mod NumberWords
 pub mod Commands
 pub mod Outcomes
 pub mod Exits
@@ -7,6 +8,9 @@ pub mod Reading
 pub mod Writing
 pub mod Check
 pub mod Replay
+pub mod Run
+pub mod Totals
+pub mod Make
 pub mod Effects
 pub mod Ends
 pub mod Top

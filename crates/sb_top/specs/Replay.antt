@@ -19,12 +19,12 @@ use Rattle.sb_top.specs.declared.outcomes.Status.TheVariants.{Done, Unfinished}
 use Rattle.sb_top.specs.declared.prepared.Prepared.{Prepared}
 
 -- the run of a script that was read, by its schedule
-abbrev pub wanted_run : List Policy → Option (List ℕ) → Script → Held → Wanted
-wanted_run policies schedule script held = schedule_of script schedule held >>= λ schedule. Ok (Runs policies script schedule)
+abbrev pub wanted_schedule : List Policy → Option (List ℕ) → Script → Held → Wanted
+wanted_schedule policies schedule script held = schedule_of script schedule held >>= λ schedule. Ok (Runs policies script schedule)
 
 -- a replay under policies that were read: it reads a script, and then the schedule
 abbrev pub wanted_script : List ℕ → Option (List ℕ) → List Policy → Held → Wanted
-wanted_script script schedule policies held = script_in policies script held >>= λ script. wanted_run policies schedule script held
+wanted_script script schedule policies held = script_in policies script held >>= λ script. wanted_schedule policies schedule script held
 
 -- a replay reads policies, then a script, then the schedule where one is named, and runs the script by it
 abbrev pub wanted_replay : List ℕ → List ℕ → Option (List ℕ) → Held → Wanted

@@ -1,5 +1,5 @@
 // The command `check`: policies are read, and printed with the listings of their programs.
-ghost use Rattle.std.specs.Prelude.{◌≡◌, ◌≤◌, Some, true, false, IfOk, Ok};
+ghost use Rattle.std.specs.Prelude.{◌≡◌, ◌≤◌, Some, true, IfOk, Ok};
 ghost use Rattle.std.specs.List.{list_all};
 ghost use Rattle.sb_outside.specs.Outside.{Rose, joined};
 ghost use Rattle.sb_rule.specs.WellMade.{is_well_made, are_well_made};
@@ -9,7 +9,7 @@ ghost use Rattle.sb_top.specs.Effects.{IsOrderly, effect};
 ghost use Rattle.sb_top.specs.Ends.{IsReported, IsWorkEnd, IsWritten};
 ghost use Rattle.sb_top.specs.Outcomes.{IsSilent};
 ghost use Rattle.sb_top.specs.Top.{IsEndOf, IsReportFor, IsWrittenFor};
-ghost use Rattle.sb_top.specs.Works.{Prints};
+ghost use Rattle.sb_top.specs.Works.{Prints, Unreported};
 
 use crate::outcomes::{Outcome, Status};
 use crate::reading::policies_in;
@@ -55,8 +55,8 @@ fn print<K: Sink>(alloc: Global, policies: &Policies, out: &mut K) -> Outcome
     ensures counted { K.faults out.old ≤ K.faults out.new }
     ensures silent { IsSilent result.status → out.new ≡ out.old }
     ensures ends { IsWorkEnd (Prints policies.now.list) (Rose (K.faults out.old) (K.faults out.new)) result.status }
-    ensures report { IsReported false (Some (Ok (Prints policies.now.list))) result.report result.status }
-    ensures written { IsWritten (Some (Ok (Prints policies.now.list))) (K.written out.old) (K.written out.new) result.status }
+    ensures report { IsReported Unreported (Some (Ok (Prints policies.now.list))) result.report result.status }
+    ensures written { IsWritten (Some (Ok (Prints policies.now.list))) (K.written out.old) (K.written out.new) result.report result.status }
     ensures done_count { result.status ≡ Status.Done → K.faults out.new ≡ K.faults out.old }
 {
     let Ok(texts) = check_texts(alloc, policies) else {
@@ -90,7 +90,7 @@ pub fn check_policy<F: Files, K: Sink>(
         (effect F.held F.faults K.written K.faults files.old files.new out.old out.new) result.status }
     ensures report { IsReportFor (Some (Check policy.now)) (F.held files.old) result }
     ensures written { IsWrittenFor (Some (Check policy.now))
-        (effect F.held F.faults K.written K.faults files.old files.new out.old out.new) result.status }
+        (effect F.held F.faults K.written K.faults files.old files.new out.old out.new) result }
 {
     match policies_in(alloc, files, policy) {
         Ok(policies) => print(alloc, &policies, out),

@@ -37,9 +37,9 @@ impl fmt::Display for Complaint {
     fn fmt<W: fmt::Write>(&self, f: &mut fmt::Formatter<W>) -> fmt::Result {
         match self.status {
             Status::Done => f.write_str("sandbox: done"),
-            Status::Usage => {
-                f.write_str("sandbox: usage: check POLICY, replay POLICY SCRIPT [SCHEDULE]")
-            }
+            Status::Usage => f.write_str(
+                "sandbox: usage: check POLICY, replay POLICY SCRIPT [SCHEDULE], run POLICY SCRIPT [--workers N], make SEED TARGETS CALLS",
+            ),
             Status::PolicyRefused(fault) => {
                 let line = fault.line;
                 let number = fault.kind.number();

@@ -1,5 +1,6 @@
 // Policies, a script that can be run under them, and a schedule of its actors.
 ghost use Rattle.std.specs.Prelude.{◌≡◌, true};
+ghost use Rattle.sb_book.specs.Readiness.{is_ready};
 ghost use Rattle.sb_core.specs.Runs.{CanRun};
 ghost use Rattle.sb_statements.specs.Units.{script_has_units};
 ghost use Rattle.sb_transcript.specs.Laws.{HasShortNames};
@@ -17,6 +18,18 @@ pub struct Prepared {
     /// The schedule.
     pub schedule: Schedule,
     ghost runs: { CanRun policies.list script schedule },
+    ghost units: { script_has_units script ≡ true },
+    ghost short: { HasShortNames script },
+}
+
+/// Policies, and a script that can be run under them on threads.
+#[derive(Debug, Drop)]
+pub struct Readied {
+    /// The policies.
+    pub policies: Policies,
+    /// The script.
+    pub script: Script,
+    ghost ready: { is_ready policies.list script ≡ true },
     ghost units: { script_has_units script ≡ true },
     ghost short: { HasShortNames script },
 }

@@ -9,6 +9,7 @@ ghost use Rattle.sb_top.specs.Effects.{IsOrderly, effect};
 ghost use Rattle.sb_top.specs.Ends.{IsReported, IsTold, IsWorkEnd, IsWritten};
 ghost use Rattle.sb_top.specs.Outcomes.{IsRefusal, IsSilent};
 ghost use Rattle.sb_top.specs.Replay.{IsSoundRun, wanted_replay, whole_run, work_of};
+ghost use Rattle.sb_top.specs.Works.{Scheduled};
 ghost use Rattle.sb_top.specs.Top.{IsEndOf, IsReportFor, IsToldFor, IsUnprepared, IsWrittenFor};
 
 use crate::outcomes::{Outcome, Status};
@@ -89,8 +90,8 @@ fn show<K: Sink>(alloc: Global, prepared: &Prepared, out: &mut K) -> Outcome
     ensures counted { K.faults out.old ≤ K.faults out.new }
     ensures silent { IsSilent result.status → out.new ≡ out.old }
     ensures ends { IsWorkEnd (work_of prepared.now) (Rose (K.faults out.old) (K.faults out.new)) result.status }
-    ensures report { IsReported true (Some (Ok (work_of prepared.now))) result.report result.status }
-    ensures written { IsWritten (Some (Ok (work_of prepared.now))) (K.written out.old) (K.written out.new) result.status }
+    ensures report { IsReported Scheduled (Some (Ok (work_of prepared.now))) result.report result.status }
+    ensures written { IsWritten (Some (Ok (work_of prepared.now))) (K.written out.old) (K.written out.new) result.report result.status }
     ensures told { IsTold (Some (Ok (work_of prepared.now))) (K.written out.old) (K.written out.new) result.report result.status }
     ensures done_count { result.status ≡ Status.Done → K.faults out.new ≡ K.faults out.old }
 {
@@ -140,7 +141,7 @@ pub fn replay_script<F: Files, K: Sink>(
         (effect F.held F.faults K.written K.faults files.old files.new out.old out.new) result.status }
     ensures report { IsReportFor (as_replay policy.now script.now schedule.entry) (F.held files.old) result }
     ensures written { IsWrittenFor (as_replay policy.now script.now schedule.entry)
-        (effect F.held F.faults K.written K.faults files.old files.new out.old out.new) result.status }
+        (effect F.held F.faults K.written K.faults files.old files.new out.old out.new) result }
     ensures told { IsToldFor (as_replay policy.now script.now schedule.entry)
         (effect F.held F.faults K.written K.faults files.old files.new out.old out.new) result }
 {

@@ -1,20 +1,23 @@
-// The top call.
-ghost use Rattle.std.specs.Prelude.{IsSome, IfSome};
-ghost use Rattle.sb_top.specs.Commands.{command_of, texts};
+// The top calls.
+ghost use Rattle.std.specs.Prelude.{◌≡◌, IfSome, IsNone, is_none, true};
+ghost use Rattle.sb_top.specs.Commands.{command_of, needs_threads, texts};
 ghost use Rattle.sb_top.specs.Effects.{IsOrderly, effect};
-ghost use Rattle.sb_top.specs.Top.{IsEndOf, IsReportFor, IsToldFor, IsWrittenFor};
+ghost use Rattle.sb_top.specs.Top.{IsEndOf, IsReportFor, IsToldFor, IsUnreadBy, IsWrittenFor};
 
 use crate::check::check_policy;
-use crate::commands::{CommandWords, command_of};
+use crate::commands::{CommandWords, command_of, needs_threads};
+use crate::make::make_script;
 use crate::outcomes::{Outcome, Status};
 use crate::replay::replay_script;
-use sb_outside::{Files, Sink};
+use crate::run::run_script;
+use sb_outside::{Files, Gate, Sink};
 use sb_wide::NoMemory;
 use std::alloc::Global;
+use std::sync::Wait;
+use std::thread::Threads;
 
-/// All that the program does, over any files and any output: reads the words, and carries out the command that they are.
-///
-/// It always returns an outcome, since no command that waits for another thread exists yet. It waits for nobody.
+/// All that the program does without threads, over any files and any output: reads the words, and carries out the command that they are.
+/// There is no outcome exactly where they are the words of `run` or `make`; then nothing is read, and nothing is put. It waits for nobody.
 #[tactic(auto, using(crate::proofs::Ending::unchanged))]
 pub fn plain_top<F: Files, K: Sink>(
     alloc: Global,
@@ -22,7 +25,9 @@ pub fn plain_top<F: Files, K: Sink>(
     files: &mut F,
     out: &mut K,
 ) -> Option<Outcome>
-    ensures answered { IsSome result }
+    ensures answered { is_none result ≡ needs_threads (command_of (texts words.now)) }
+    ensures unread { IsNone result → files.new ≡ files.old }
+    ensures unwritten { IsNone result → out.new ≡ out.old }
 
     // What the files hold stays, no count of faults falls, without a command nothing is read, and nothing is put except with Done
     // and WriteFault.
@@ -37,18 +42,21 @@ pub fn plain_top<F: Files, K: Sink>(
 
     // The report is that of the run of the script by the schedule under the policies that the texts mean, and its entries are a legal
     // history. With Done and WriteFault no thread is unfinished, and the report fits the script: one result for each statement, for each
-    // thread its own replies, each once, results that suit their statements, and free channels at the end. A check has none.
+    // thread its own replies, each once, results that suit their statements, and each clean channel free at the end. A check has none.
     ensures report { IfSome result (λ o. IsReportFor (command_of (texts words.now)) (F.held files.old) o) }
 
     // With Done the output grew by exactly the transcript of script and report, or of a check by the policies as a text and the listings
     // of their programs; with WriteFault by a prefix of it, and else by nothing.
     ensures written { IfSome result (λ o. IsWrittenFor (command_of (texts words.now))
-        (effect F.held F.faults K.written K.faults files.old files.new out.old out.new) o.status) }
+        (effect F.held F.faults K.written K.faults files.old files.new out.old out.new) o) }
 
-    // With Done of a run, the text that was written falls into its lines, and line n of it is the line of entry n of the report.
+    // With Done of a replay, the text that was written falls into its lines, and line n of it is the line of entry n of the report.
     ensures told { IfSome result (λ o. IsToldFor (command_of (texts words.now))
         (effect F.held F.faults K.written K.faults files.old files.new out.old out.new) o) }
 {
+    if needs_threads(words) {
+        return None;
+    }
     match command_of(alloc, words) {
         Ok(Some(CommandWords::Check { policy })) => Some(check_policy(alloc, policy, files, out)),
         Ok(
@@ -60,6 +68,7 @@ pub fn plain_top<F: Files, K: Sink>(
                 },
             ),
         ) => Some(replay_script(alloc, policy, script, schedule, files, out)),
+        Ok(Some(CommandWords::Run { .. } | CommandWords::Make { .. })) => None,
         Ok(None) => Some(Outcome {
             status: Status::Usage,
             report: None,
@@ -69,4 +78,99 @@ pub fn plain_top<F: Files, K: Sink>(
             report: None,
         }),
     }
+}
+
+// Carries out a command that runs on threads.
+#[tactic(auto, using(crate::proofs::Ending::unchanged, crate::proofs::Ending::made_orderly))]
+fn threads_top<R: Threads + Wait + Sync, F: Files, K: Sink, G: Gate>(
+    rt: &R,
+    alloc: Global,
+    words: &[String],
+    files: &mut F,
+    out: &mut K,
+    gate: &G,
+) -> Outcome
+    requires { needs_threads (command_of (texts words.now)) ≡ true }
+    ensures unread { IsUnreadBy (command_of (texts words.now)) (files.new ≡ files.old) }
+    ensures orderly { IsOrderly (effect F.held F.faults K.written K.faults files.old files.new out.old out.new) result }
+    ensures ends { IsEndOf (command_of (texts words.now))
+        (effect F.held F.faults K.written K.faults files.old files.new out.old out.new) result.status }
+    ensures report { IsReportFor (command_of (texts words.now)) (F.held files.old) result }
+    ensures written { IsWrittenFor (command_of (texts words.now))
+        (effect F.held F.faults K.written K.faults files.old files.new out.old out.new) result }
+    ensures told { IsToldFor (command_of (texts words.now))
+        (effect F.held F.faults K.written K.faults files.old files.new out.old out.new) result }
+{
+    match command_of(alloc, words) {
+        Ok(
+            Some(
+                CommandWords::Run {
+                    policy,
+                    script,
+                    workers,
+                },
+            ),
+        ) => run_script(rt, alloc, policy, script, workers, files, out, gate),
+        Ok(
+            Some(
+                CommandWords::Make {
+                    seed,
+                    targets,
+                    calls,
+                },
+            ),
+        ) => make_script(rt, alloc, seed, targets, calls, out, gate),
+        // Other commands run on no threads.
+        Ok(_) => unreachable!(),
+        Err(NoMemory) => Outcome {
+            status: Status::NoMemory,
+            report: None,
+        },
+    }
+}
+
+/// All that the program does, over any files and any output: reads the words, and carries out the command that they are. A command that
+/// runs on threads waits for them; what it reports and writes is so of every order of steps. A call that a worker judges passes the gate, which no
+/// clause says.
+#[tactic(auto, using(crate::proofs::Ending::plain_reads))]
+pub fn broker_top<R: Threads + Wait + Sync, F: Files, K: Sink, G: Gate>(
+    rt: &R,
+    alloc: Global,
+    words: &[String],
+    files: &mut F,
+    out: &mut K,
+    gate: &G,
+) -> Outcome
+    // What the files hold stays, no count of faults falls, without a command nothing is read, and nothing is put except with Done
+    // and WriteFault.
+    ensures orderly { IsOrderly (effect F.held F.faults K.written K.faults files.old files.new out.old out.new) result }
+
+    // Words that are no command end with Usage, and no others do. A command ends as is expected of what the files hold; or a file of it
+    // that was reached was not read, and the files' count rose; or the output failed where the work would have been done, and its
+    // count rose; or there was no memory. A run on threads is expected to be done.
+    ensures ends { IsEndOf (command_of (texts words.now))
+        (effect F.held F.faults K.written K.faults files.old files.new out.old out.new) result.status }
+
+    // A command without files reads none.
+    ensures unread { IsUnreadBy (command_of (texts words.now)) (files.new ≡ files.old) }
+
+    // The report of a replay is that of the run by the schedule. That of a run on threads fits the script under the policies that the texts
+    // mean, no word of it is invented, and no channel has more entries than calls that were handed over there and statements that made it
+    // ready; so does that of a script that was made. A check has none.
+    ensures report { IsReportFor (command_of (texts words.now)) (F.held files.old) result }
+
+    // With Done the output grew by exactly the transcript of script and report; or of a check by the policies as a text and the listings of
+    // their programs; or by what was made, and the totals that the verdicts on all its calls give. With WriteFault it grew by a prefix of
+    // it, and else by nothing.
+    ensures written { IsWrittenFor (command_of (texts words.now))
+        (effect F.held F.faults K.written K.faults files.old files.new out.old out.new) result }
+
+    // With Done of a replay or a run, the text that was written falls into its lines, and line n of it is the line of entry n of the report.
+    ensures told { IsToldFor (command_of (texts words.now))
+        (effect F.held F.faults K.written K.faults files.old files.new out.old out.new) result }
+{
+    if needs_threads(words) {
+        return threads_top(rt, alloc, words, files, out, gate);
+    }
+    plain_top(alloc, words, files, out).unwrap()
 }

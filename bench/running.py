@@ -1,0 +1,159 @@
+"""Runs by threads: `sandbox run` and `sandbox make`, in seconds of a clock, since they start threads; so these times say little on a
+busy machine.
+
+Each work has a bound of seconds, and one of memory where it says so. A bound holds of the machine whose figures docs/PROVING.md gives,
+with nothing else running. Which thread makes which step differs from run to run; what is checked of a transcript is the same in each.
+"""
+import glob
+import os
+import resource
+import shutil
+import subprocess
+import time
+
+import programs
+import rowing
+import stepping
+import texts
+
+WORKERS = (1, 2, 4, 8)
+ROWS = "sb_tables_runs"
+
+# With eight workers a run takes no longer than with two, except for what two runs differ by in any case.
+MOST_DIFFERENCE = 1.1
+
+# The user as whom a run with few processes is made where this is run by root, for whom the system has no such limit.
+NOBODY = 65534
+MIB = 1024 * 1024
+
+
+def run(folder, words, program=programs.SANDBOX, begin=None):
+    """Runs `sandbox` with these words in a folder, with its output in `transcript`: the seconds by a clock, the bytes of its peak of
+    memory, and its exit status. It does `begin` first, where that is given."""
+    with open(os.path.join(folder, "transcript"), "wb") as out:
+        start = time.monotonic()
+        child = subprocess.Popen([program, *words], cwd=folder, stdout=out, stderr=subprocess.DEVNULL, preexec_fn=begin)
+        _, status, usage = os.wait4(child.pid, 0)
+        seconds = time.monotonic() - start
+    child.returncode = os.waitstatus_to_exitcode(status)
+    return seconds, usage.ru_maxrss * 1024, child.returncode
+
+
+def run_words(workers):
+    return ["run", "policy", "script", "--workers", str(workers)]
+
+
+def best_run(runs, folder, words, lines, last):
+    """The seconds and the peak of memory of the best run of these words. Each transcript has `lines` lines, of which `last` is the last."""
+    measured = []
+    for _ in range(runs):
+        seconds, size, status = run(folder, words)
+        if status != 0:
+            programs.fail("sandbox %s ended with status %d" % (" ".join(words), status))
+        stepping.check_lines(folder, lines, last)
+        measured.append((seconds, size))
+    return min(seconds for seconds, _ in measured), max(size for _, size in measured)
+
+
+def check_bounds(name, best, size, most_seconds, most_bytes=None):
+    print("%s: %.3f seconds by a clock, %.1f MiB" % (name, best, size / MIB))
+    if best > most_seconds:
+        programs.miss("%s take more than %.2f seconds" % (name, most_seconds))
+    if most_bytes and size > most_bytes:
+        programs.miss("%s take more than %d MiB" % (name, most_bytes // MIB))
+
+
+def measure_workers(runs):
+    """Calls per second of 8 targets with 4 threads each of 1,000 pings, by the number of workers."""
+    calls = 8 * 4 * 1000
+    seconds = {}
+    with texts.folder_with(texts.single_policy(["allow ping"]), stepping.pings(8, 1, 1000)) as folder:
+        for workers in WORKERS:
+            best, size = best_run(runs, folder, run_words(workers), 2 * calls + 1, stepping.totals(calls, calls))
+            seconds[workers] = best
+            print("%d pings by %d workers: %d calls per second, %.1f MiB" % (calls, workers, calls / best, size / MIB))
+    if seconds[2] > 0.4:
+        programs.miss("%d pings by 2 workers take more than 0.4 seconds" % calls)
+    if seconds[8] > MOST_DIFFERENCE * seconds[2]:
+        programs.miss("%d pings take longer by 8 workers than by 2" % calls)
+
+
+def measure_channels(runs):
+    """As many calls as a script can have, over as many channels, by two workers."""
+    calls = stepping.MOST_STATEMENTS
+    with texts.folder_with(texts.single_policy(["allow ping"]), stepping.pings(8, 8, 4096)) as folder:
+        best, size = best_run(runs, folder, run_words(2), 2 * calls + 1, stepping.totals(calls, calls))
+    check_bounds("%d pings over 64 channels by 2 workers" % calls, best, size, 8)
+
+
+def measure_made(runs):
+    """Generated work of 8 targets, of which two lines are put. The totals are the same in each run."""
+    calls = 8 * 2 * 4096
+    wanted = None
+    with texts.folder_with([], []) as folder:
+        measured = []
+        for _ in range(runs):
+            seconds, size, status = run(folder, ["make", "1", "8", "4096"])
+            with open(os.path.join(folder, "transcript")) as file:
+                lines = file.read().splitlines()
+            if status != 0 or len(lines) != 2 or lines[0] != "made targets 8 threads 16 calls %d" % calls:
+                programs.fail("make 1 8 4096 ended with status %d and put %r" % (status, lines))
+            if wanted not in (None, lines):
+                programs.fail("make 1 8 4096 put %r and %r" % (wanted, lines))
+            wanted = lines
+            measured.append((seconds, size))
+    best, size = min(seconds for seconds, _ in measured), max(size for _, size in measured)
+    check_bounds("%d generated calls" % calls, best, size, 0.5, 100 * MIB)
+
+
+def processes_of(user):
+    """How many processes and threads a user has."""
+    count = 0
+    for task in glob.glob("/proc/[0-9]*/task/[0-9]*"):
+        try:
+            count += os.stat(task).st_uid == user
+        except FileNotFoundError:
+            pass
+    return count
+
+
+def try_refused_starts():
+    """Runs of 32 threads and 2 workers by a user who may have no more processes than one, two and so on up to all that the run wants: so
+    the system refuses to start all of its threads, then all but one, and none at last. The caller does what they were to do, and the
+    transcript is right each time."""
+    user = os.geteuid() or NOBODY
+    calls = 8 * 4 * 100
+    threads = 8 * 4 + 2
+    with texts.folder_with(texts.single_policy(["allow ping"]), stepping.pings(8, 1, 100)) as folder:
+        program = shutil.copy(programs.SANDBOX, folder)
+        os.chmod(folder, 0o755)
+        for started in range(threads + 1):
+            most = processes_of(user) + 1 + started
+
+            def begin():
+                resource.setrlimit(resource.RLIMIT_NPROC, (most, most))
+                os.setuid(user)
+
+            _, _, status = run(folder, run_words(2), program, begin)
+            if status != 0:
+                programs.fail("a run of which %d threads could be started ended with status %d" % (started, status))
+            stepping.check_lines(folder, 2 * calls + 1, stepping.totals(calls, calls))
+    print("runs of %d threads, of which the system started 0 to %d: all right" % (threads, threads))
+
+
+def check_generated():
+    """1,000 runs of small hostile scripts on 1, 2 and 8 workers, each report checked by plain code: a row of crates/sb_tables_runs
+    with a greater number."""
+    rowing.build(ROWS, "data/generated.rows")
+    rowing.seconds_of(1, ROWS, "generated 1 | 1000", "runs 1000 all right")
+    print("1000 runs of generated hostile scripts: all right")
+
+
+def measure(runs):
+    """Runs by threads, of pings by 1 to 8 workers, of as many calls as there can be, and of generated work; runs in which threads are
+    not started; and runs of hostile scripts."""
+    measure_workers(runs)
+    measure_channels(runs)
+    measure_made(runs)
+    try_refused_starts()
+    check_generated()

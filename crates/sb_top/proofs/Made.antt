@@ -1,0 +1,76 @@
+-- The reports of generated scripts, and their totals.
+use Rattle.std.proofs.Common.{◌≡◌, ◌∙◌, ℕ, zero, suc, ◌+◌, ◌==◌, Bool, true, false, if◌then◌else◌, ◌++◌, ap, sym, refl, subst, List}
+use Rattle.std.specs.List.{list_all}
+use Rattle.sb_book.specs.Readiness.{is_ready}
+use Rattle.sb_book.specs.declared.reports.Report.{Report}
+use Rattle.sb_gen.specs.Calls.{call_of, statement_of, statements_of}
+use Rattle.sb_gen.specs.Generator.{after, kind_of, next, number_of}
+use Rattle.sb_gen.specs.Policies.{AreMade}
+use Rattle.sb_gen.specs.Scripts.{script_of, target_of, targets_of, threads_of}
+use Rattle.sb_rule.specs.declared.policies.Policy.{Policy}
+use Rattle.sb_statements.specs.Units.{script_has_units}
+use Rattle.sb_statements.specs.declared.scripts.Script.{Script}
+use Rattle.sb_statements.specs.declared.statements.Statement.{Statement}
+use Rattle.sb_transcript.specs.Totals.{totals_line}
+use Rattle.sb_top.specs.Make.{made_line, made_policies, made_text, policies_or_none}
+use Rattle.sb_top.specs.Run.{IsThreadsReport}
+use Rattle.sb_top.specs.Totals.{AllClean, TotalsAreOfVerdicts, are_calls, is_call, totals_by}
+use Rattle.sb_top.proofs.Verdicts.{both_true}
+
+-- the policies that were made are those of the text
+are_made : (policies : List Policy) → AreMade policies → policies ≡ made_policies
+unfolding made_policies
+are_made policies made = sym (ap policies_or_none made)
+
+-- ---- each generated statement is a call
+
+either : (test : Bool) (x y : Statement) → is_call x ≡ true → is_call y ≡ true → is_call (if test then x else y) ≡ true
+either true x y h k = h
+either false x y h k = k
+
+kind_is_call : (t kind k : ℕ) → is_call (call_of t kind k) ≡ true
+kind_is_call t kind k =
+    either (kind == 0) _ _ refl (either (kind == 1) _ _ refl (either (kind == 2) _ _ refl (either (kind == 3) _ _ refl
+    (either (kind == 4) _ _ refl (either (kind == 5) _ _ refl (either (kind == 6) _ _ refl refl))))))
+
+statements_are_calls : (t n x : ℕ) → list_all is_call (statements_of t n x) ≡ true
+statements_are_calls t zero x = refl
+statements_are_calls t (suc n) x =
+    both_true (is_call (statement_of t (next x))) (list_all is_call (statements_of t n (next x))) (kind_is_call t (kind_of (next x)) (number_of (next x)))
+    (statements_are_calls t n (next x))
+
+threads_are_calls : (t n x : ℕ) → list_all (λ statements. list_all is_call statements) (threads_of t n x) ≡ true
+threads_are_calls t n x =
+    both_true (list_all is_call (statements_of t n x)) _ (statements_are_calls t n x)
+    (both_true (list_all is_call (statements_of t n (after n x))) true (statements_are_calls t n (after n x)) refl)
+
+targets_are_calls : (t n calls x : ℕ) → list_all (λ target. list_all (λ statements. list_all is_call statements) target.threads) (targets_of t n calls x) ≡ true
+targets_are_calls t zero calls x = refl
+targets_are_calls t (suc n) calls x =
+    both_true (list_all (λ statements. list_all is_call statements) (threads_of t calls x)) _ (threads_are_calls t calls x)
+    (targets_are_calls (t + 1) n calls (after calls (after calls x)))
+
+pub script_is_calls : (seed targets calls : ℕ) → are_calls (script_of seed targets calls) ≡ true
+script_is_calls seed targets calls = targets_are_calls 0 targets calls seed
+
+-- ---- the report of a run of a generated script
+
+pub text_is_sound : (policies : List Policy) → AreMade policies → AreMade made_policies
+text_is_sound policies made = subst AreMade (are_made policies made) made
+
+pub made_report : (seed targets calls : ℕ) (policies : List Policy) (script : Script) (report : Report) → AreMade policies → script ≡ script_of seed targets calls
+    → IsThreadsReport policies script report → IsThreadsReport made_policies (script_of seed targets calls) report
+made_report seed targets calls policies script report made same of_threads =
+    subst (λ p. IsThreadsReport p (script_of seed targets calls) report) (are_made policies made)
+    (subst (λ s. IsThreadsReport policies s report) same of_threads)
+
+pub made_totals : TotalsAreOfVerdicts → (seed targets calls : ℕ) (policies : List Policy) (script : Script) (report : Report)
+    → AreMade policies → script ≡ script_of seed targets calls → is_ready policies script ≡ true → script_has_units script ≡ true
+    → AllClean script → IsThreadsReport policies script report
+    → made_line targets calls ++ totals_line report ≡ made_text seed targets calls
+unfolding made_text
+made_totals law seed targets calls policies script report made same ready units clean of_threads =
+    let all : are_calls script ≡ true = subst (λ s. are_calls s ≡ true) (sym same) (script_is_calls seed targets calls) in
+    let totals = law policies script report ready units all clean of_threads.fits in
+    ap (λ line. made_line targets calls ++ line)
+    (totals ∙ (ap (λ p. totals_by p script) (are_made policies made) ∙ ap (λ s. totals_by made_policies s) same))

@@ -1,0 +1,70 @@
+-- The totals that verdicts over all statements give, where each statement is a call and every channel is clean.
+use Rattle.std.specs.Prelude.{◌≡◌, ℕ, Bool, true, false, List, ◌++◌, length, count_by, sum_by, codes}
+use Rattle.std.specs.List.{list_all}
+use Rattle.sb_book.specs.Decisions.{by_verdict}
+use Rattle.sb_book.specs.Readiness.{is_ready}
+use Rattle.sb_book.specs.declared.decisions.Decision.{Decision}
+use Rattle.sb_book.specs.declared.reports.Report.{Report}
+use Rattle.sb_core.specs.Fits.{Fits}
+use Rattle.sb_rule.specs.Verdicts.{policy_at, verdict_of}
+use Rattle.sb_rule.specs.declared.policies.Policy.{Policy}
+use Rattle.sb_statements.specs.Scripts.{is_clean}
+use Rattle.sb_statements.specs.Units.{script_has_units}
+use Rattle.sb_statements.specs.declared.scripts.Script.{Script}
+use Rattle.sb_statements.specs.declared.scripts.TargetScript.{TargetScript}
+use Rattle.sb_statements.specs.declared.statements.Statement.{Statement}
+use Rattle.sb_statements.specs.declared.statements.Statement.TheVariants.{Call, Store, Exchange, Load, Wait}
+use Rattle.sb_transcript.specs.Totals.{counted, is_denied, is_faked, is_performed, totals_line}
+
+-- a statement is a call on which the verdict of the policy leads to such a decision
+abbrev pub is_decided : (Decision → Bool) → Policy → Statement → Bool
+is_decided is_such policy (Call tag args) = is_such (by_verdict tag args (verdict_of policy tag args))
+is_decided is_such policy (Store target word value) = false
+is_decided is_such policy (Exchange target word from to) = false
+is_decided is_such policy (Load target word) = false
+is_decided is_such policy (Wait target word value most) = false
+
+-- how many statements of a target are
+abbrev pub decided_in : (Decision → Bool) → List Policy → TargetScript → ℕ
+decided_in is_such policies target = sum_by (λ statements. count_by (is_decided is_such (policy_at policies target.policy)) statements) target.threads
+
+-- and of a script
+abbrev pub decided : (Decision → Bool) → List Policy → Script → ℕ
+decided is_such policies script = sum_by (decided_in is_such policies) script.targets
+
+-- how many statements a target has
+abbrev pub statements_in : TargetScript → ℕ
+statements_in target = sum_by (λ statements. length statements) target.threads
+
+-- and a script
+abbrev pub statement_count : Script → ℕ
+statement_count script = sum_by statements_in script.targets
+
+-- as many entries and results as statements; how many calls are performed, faked and denied by their verdicts; and no block is refused
+abbrev pub totals_by : List Policy → Script → List ℕ
+totals_by policies script =
+    counted (codes "total entries ") (statement_count script)
+    ++ (counted (codes " performed ") (decided is_performed policies script) ++ counted (codes " faked ") (decided is_faked policies script)
+    ++ counted (codes " denied ") (decided is_denied policies script) ++ counted (codes " refused ") 0)
+    ++ counted (codes " results ") (statement_count script)
+    ++ codes "\n"
+
+-- each statement is a call
+abbrev pub is_call : Statement → Bool
+is_call (Call tag args) = true
+is_call (Store target word value) = false
+is_call (Exchange target word from to) = false
+is_call (Load target word) = false
+is_call (Wait target word value most) = false
+
+abbrev pub are_calls : Script → Bool
+are_calls script = list_all (λ target. list_all (λ statements. list_all is_call statements) target.threads) script.targets
+
+-- every channel is clean
+abbrev pub AllClean : Script → Type 0
+AllClean script = (target channel : ℕ) → is_clean script target channel ≡ true
+
+-- the totals of every report that fits a script of calls with clean channels are those of the verdicts
+abbrev pub TotalsAreOfVerdicts : Type 0
+TotalsAreOfVerdicts = (policies : List Policy) (script : Script) (report : Report) → is_ready policies script ≡ true → script_has_units script ≡ true
+    → are_calls script ≡ true → AllClean script → Fits policies script report → totals_line report ≡ totals_by policies script
