@@ -8,6 +8,7 @@ import glob
 import os
 import resource
 import shutil
+import statistics
 import subprocess
 import time
 
@@ -43,8 +44,8 @@ def run_words(workers):
     return ["run", "policy", "script", "--workers", str(workers)]
 
 
-def best_run(runs, folder, words, lines, last):
-    """The seconds and the peak of memory of the best run of these words. Each transcript has `lines` lines, of which `last` is the last."""
+def measured_runs(runs, folder, words, lines, last):
+    """The seconds of each run of these words, and the greatest peak of memory. Each transcript has `lines` lines, of which `last` is the last."""
     measured = []
     for _ in range(runs):
         seconds, size, status = run(folder, words)
@@ -52,7 +53,7 @@ def best_run(runs, folder, words, lines, last):
             programs.fail("sandbox %s ended with status %d" % (" ".join(words), status))
         stepping.check_lines(folder, lines, last)
         measured.append((seconds, size))
-    return min(seconds for seconds, _ in measured), max(size for _, size in measured)
+    return [seconds for seconds, _ in measured], max(size for _, size in measured)
 
 
 def check_bounds(name, best, size, most_seconds, most_bytes=None):
@@ -64,17 +65,19 @@ def check_bounds(name, best, size, most_seconds, most_bytes=None):
 
 
 def measure_workers(runs):
-    """Calls per second of 8 targets with 4 threads each of 1,000 pings, by the number of workers."""
+    """Calls per second of 8 targets with 4 threads each of 1,000 pings, by the number of workers. What such a run takes differs from run to
+    run by more than a half, so numbers of workers are compared by the median."""
     calls = 8 * 4 * 1000
-    seconds = {}
+    best, median = {}, {}
     with texts.folder_with(texts.single_policy(["allow ping"]), stepping.pings(8, 1, 1000)) as folder:
         for workers in WORKERS:
-            best, size = best_run(runs, folder, run_words(workers), 2 * calls + 1, stepping.totals(calls, calls))
-            seconds[workers] = best
-            print("%d pings by %d workers: %d calls per second, %.1f MiB" % (calls, workers, calls / best, size / MIB))
-    if seconds[2] > 0.4:
+            seconds, size = measured_runs(runs, folder, run_words(workers), 2 * calls + 1, stepping.totals(calls, calls))
+            best[workers], median[workers] = min(seconds), statistics.median(seconds)
+            print("%d pings by %d workers: %d calls per second, %d by the median, %.1f MiB"
+                  % (calls, workers, calls / best[workers], calls / median[workers], size / MIB))
+    if best[2] > 0.4:
         programs.miss("%d pings by 2 workers take more than 0.4 seconds" % calls)
-    if seconds[8] > MOST_DIFFERENCE * seconds[2]:
+    if median[8] > MOST_DIFFERENCE * median[2]:
         programs.miss("%d pings take longer by 8 workers than by 2" % calls)
 
 
@@ -82,8 +85,8 @@ def measure_channels(runs):
     """As many calls as a script can have, over as many channels, by two workers."""
     calls = stepping.MOST_STATEMENTS
     with texts.folder_with(texts.single_policy(["allow ping"]), stepping.pings(8, 8, 4096)) as folder:
-        best, size = best_run(runs, folder, run_words(2), 2 * calls + 1, stepping.totals(calls, calls))
-    check_bounds("%d pings over 64 channels by 2 workers" % calls, best, size, 8)
+        seconds, size = measured_runs(runs, folder, run_words(2), 2 * calls + 1, stepping.totals(calls, calls))
+    check_bounds("%d pings over 64 channels by 2 workers" % calls, min(seconds), size, 8)
 
 
 def measure_made(runs):
