@@ -98,7 +98,7 @@ def listed_below(text, heading):
 
 
 def different_lists():
-    formats, help_text = text_of("docs/FORMATS.md"), text_of("crates/sb_main/src/own_words.rt")
+    formats, help_text = text_of("docs/FORMATS.md"), text_of("crates/sb_host/src/own_words.rt")
     for heading, listed in [
         ("### Faults of a policy", "faults of a policy"),
         ("### Faults of a script", "faults of a script"),

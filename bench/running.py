@@ -20,6 +20,9 @@ import texts
 WORKERS = (1, 2, 4, 8)
 ROWS = "sb_tables_runs"
 
+# How many times as many runs are made of each number of workers.
+TURNS = 3
+
 # With eight workers a run takes no longer than with two, except for what two runs differ by in any case.
 MOST_DIFFERENCE = 1.1
 
@@ -65,15 +68,18 @@ def check_bounds(name, best, size, most_seconds, most_bytes=None):
 
 
 def measure_workers(runs):
-    """Calls per second of 8 targets with 4 threads each of 1,000 pings, by the number of workers, in the best run and by the median."""
+    """Calls per second of 8 targets with 4 threads each of 1,000 pings, by the number of workers, in the best run and by the median. The numbers of
+    workers take turns, so that what else the machine does falls on each of them alike."""
     calls = 8 * 4 * 1000
-    best, median = {}, {}
+    measured = {workers: [] for workers in WORKERS}
     with texts.folder_with(texts.single_policy(["allow ping"]), stepping.pings(8, 1, 1000)) as folder:
-        for workers in WORKERS:
-            seconds, size = measured_runs(runs, folder, run_words(workers), 2 * calls + 1, stepping.totals(calls, calls))
-            best[workers], median[workers] = min(seconds), statistics.median(seconds)
-            print("%d pings by %d workers: %d calls per second, %d by the median, %.1f MiB"
-                  % (calls, workers, calls / best[workers], calls / median[workers], size / MIB))
+        for _ in range(TURNS * runs):
+            for workers in WORKERS:
+                measured[workers] += measured_runs(1, folder, run_words(workers), 2 * calls + 1, stepping.totals(calls, calls))[0]
+    best = {workers: min(seconds) for workers, seconds in measured.items()}
+    for workers, seconds in measured.items():
+        print("%d pings by %d workers: %d calls per second, %d by the median"
+              % (calls, workers, calls / best[workers], calls / statistics.median(seconds)))
     if best[2] > 0.4:
         programs.miss("%d pings by 2 workers take more than 0.4 seconds" % calls)
     if best[8] > MOST_DIFFERENCE * best[2]:

@@ -20,11 +20,14 @@
 //     status                       the status is printed with all that it says
 //     end
 //
+// A row `far KIND` between cases prints the exit code of a status that no case leads to, and what is said of it.
+//
 // It prints the name of the case and, once for each row that is tried: the exit code, the count of reads and what a report
 // counts; what is said on standard error, where the command is not done; what passed a gate at which calls are held; and the lines that were written, each behind a bar.
 #![tactic(auto)]
 
 mod cases;
+mod far;
 mod faults;
 mod gates;
 mod pages;

@@ -1,6 +1,7 @@
 // The lines of a text of cases.
 
 use crate::cases::{Case, Setting};
+use crate::far::put_far;
 use crate::faults::RowFault;
 use crate::pages::Page;
 use sb_outside::StoredFile;
@@ -59,16 +60,23 @@ impl<'a> Rows<'a> {
     ) -> Result<(), RowFault> {
         self.line = line;
         match self.rows.is_empty() {
-            true => self.take_between(line, row),
+            true => self.take_between(alloc, line, row, page),
             false => self.take_within(rt, alloc, line, row, page),
         }
     }
 
     // Takes in a line between cases.
-    fn take_between(&mut self, line: usize, row: &'a str) -> Result<(), RowFault> {
+    fn take_between(
+        &mut self,
+        alloc: Global,
+        line: usize,
+        row: &'a str,
+        page: &mut Page,
+    ) -> Result<(), RowFault> {
         match first_word(row) {
             "" | "#" => Ok(()),
             "case" => self.begin(line, row),
+            "far" => put_far(alloc, row, page),
             _ => Err(RowFault::NoCase),
         }
     }

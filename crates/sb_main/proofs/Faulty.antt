@@ -1,7 +1,7 @@
 -- Words that the top call takes for no command.
 use Rattle.std.proofs.Common.{◌≡◌, Option, None, Some, refl}
 use Rattle.sb_outside.specs.Outside.{Held}
-use Rattle.sb_top.specs.Commands.{Command}
+use Rattle.sb_commands.specs.Commands.{Command}
 use Rattle.sb_top.specs.Top.{EndsWith}
 use Rattle.sb_top.specs.declared.outcomes.Status.{Status}
 use Rattle.sb_top.specs.declared.outcomes.Status.TheVariants.{Usage}

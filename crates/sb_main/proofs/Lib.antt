@@ -1,2 +1,1 @@
 pub mod Faulty
-pub mod Wholes

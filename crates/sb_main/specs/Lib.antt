@@ -1,3 +1,2 @@
 pub mod Gathering
-pub mod OwnWords
-pub mod Hosts
+pub mod Faulty

@@ -1,23 +1,18 @@
 // The program: the words of its command line, real files and standard output, and how it ends.
 #![tactic(auto)]
 
-ghost use Rattle.std.specs.Prelude.{◌≡◌, ◌⊎◌, None};
+ghost use Rattle.std.specs.Prelude.{◌≡◌, ◌⊎◌, ◌++◌, None, option_map};
 ghost use Rattle.sb_outside.specs.Outside.{Rose};
-ghost use Rattle.sb_top.specs.Commands.{command_of, texts};
+ghost use Rattle.sb_commands.specs.Commands.{command_of, texts};
 ghost use Rattle.sb_top.specs.Effects.{effect};
 ghost use Rattle.sb_top.specs.Top.{IsEndOf};
 ghost use Rattle.std.specs.Process.{exit_status};
 ghost use Rattle.sb_top.specs.Exits.{code_of};
 ghost use Rattle.sb_main.specs.Gathering.{gathering_status};
-ghost use Rattle.sb_main.specs.OwnWords.{IsFaulty, own_word_of};
+ghost use Rattle.sb_host.specs.OwnWords.{own_word_of};
+ghost use Rattle.sb_main.specs.Faulty.{IsFaulty};
 
-mod hosts;
-mod own_words;
-#[cfg(test)]
-mod tests;
-
-use hosts::{HostFiles, HostSink};
-use own_words::{OwnWord, own_text, own_word};
+use sb_host::{HostFiles, HostSink, own_text, own_word};
 use sb_outside::{Files, OpenGate, Sink};
 use sb_top::{Complaint, Status, broker_top, exit_code};
 use std::io::ErrorKind;
@@ -85,18 +80,19 @@ fn answer<R: AllocGlobal + Threads + Wait + Sync, F: Files, K: Sink>(
         (effect F.held F.faults K.written K.faults files.old files.new out.old out.new) result }
 {
     match own_word(words) {
-        Some(word) => tell(word, out),
+        Some(word) => tell(own_text(word).as_bytes(), out),
         None => broker_top(rt, rt.alloc(), words, files, out, &OpenGate).status,
     }
 }
 
-// Puts the text of one of the program's own words.
-fn tell<S: Sink>(word: OwnWord, sink: &mut S) -> Status
-    ensures done { result ≡ Status.Done → S.faults sink.new ≡ S.faults sink.old }
+// Puts a text, which one of the program's own words asks for.
+fn tell<S: Sink>(text: &[u8], sink: &mut S) -> Status
+    ensures done { result ≡ Status.Done → S.written sink.new ≡ option_map (λ w. w ++ text.now) (S.written sink.old) }
+    ensures quiet { result ≡ Status.Done → S.faults sink.new ≡ S.faults sink.old }
     ensures fault { result ≡ Status.WriteFault → Rose (S.faults sink.old) (S.faults sink.new) }
     ensures either { (result ≡ Status.Done) ⊎ (result ≡ Status.WriteFault) }
 {
-    match sink.put(own_text(word).as_bytes()) {
+    match sink.put(text) {
         Ok(()) => Status::Done,
         Err(_) => Status::WriteFault,
     }

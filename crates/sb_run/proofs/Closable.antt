@@ -10,8 +10,8 @@ use Rattle.sb_run.specs.Closings.{AreOutside, AreThreadsOf}
 use Rattle.sb_run.specs.Endings.{AreWorkersOf, CanClose, CanCloseAll, ClosingAt, HasEnded, RunEndAt, WorkersAt, bundled, lent_books}
 use Rattle.sb_run.specs.Gathering.{columns_of, gathered}
 use Rattle.sb_run.specs.Starts.{all_of}
-use Rattle.sb_run.specs.Tasks.{EndAt}
-use Rattle.sb_run.specs.Works.{WorkAt}
+use Rattle.sb_task.specs.Tasks.{EndAt}
+use Rattle.sb_task.specs.Works.{WorkAt}
 use Rattle.sb_run.proofs.Ended.{are_long, are_numbered, are_outside, are_threads, end_count, flat_as, its_thread_count, stray_fits}
 use Rattle.sb_run.proofs.Listed.{below, map_from, map_length}
 use Rattle.sb_run.proofs.Pairs.{pair_at, pairs_length}

@@ -5,8 +5,8 @@ use Rattle.std.specs.Option.{option_to_list}
 use Rattle.sb_run.specs.Endings.{AreKeptWorks, IsKeptWork, apart, with_work}
 use Rattle.sb_run.specs.Gathering.{gathered, gathered_target, spread, with_end, with_target}
 use Rattle.sb_run.specs.Starts.{all_of}
-use Rattle.sb_run.specs.Tasks.{EndAt}
-use Rattle.sb_run.specs.Works.{WorkAt}
+use Rattle.sb_task.specs.Tasks.{EndAt}
+use Rattle.sb_task.specs.Works.{WorkAt}
 use Rattle.sb_run.proofs.Listed.{all_more as lists_more}
 
 pub target_more : (ends : List EndAt) (e : EndAt) → with_end (gathered_target ends) e ≡ gathered_target (ends ++ e ∷ [])

@@ -4,13 +4,13 @@ use Rattle.std.specs.Prelude.{cond, is_some, slice_get}
 use Rattle.sb_pool.specs.declared.protocol.PoolView.{PoolView}
 use Rattle.sb_statements.specs.declared.scripts.Script.{Script}
 use Rattle.sb_run.specs.Crews.{AreHands, EndsAs, started_of}
-use Rattle.sb_run.specs.Fields.{FieldAt}
-use Rattle.sb_run.specs.Hands.{HandAt, IsHand, IsSameHand}
+use Rattle.sb_task.specs.Fields.{FieldAt}
+use Rattle.sb_task.specs.Hands.{HandAt, IsHand, IsSameHand}
 use Rattle.sb_run.specs.Pairing.{AllPairs}
 use Rattle.sb_run.specs.Returns.{HasServed}
-use Rattle.sb_run.specs.Tasks.{EndAt, IsEndOf, IsRunner, IsSameRunner, RunnerAt, TaskAt}
-use Rattle.sb_run.specs.declared.homes.Home.{Home}
-use Rattle.sb_run.proofs.Ending.{same_books}
+use Rattle.sb_task.specs.Tasks.{EndAt, IsEndOf, IsRunner, IsSameRunner, RunnerAt, TaskAt}
+use Rattle.sb_task.specs.declared.homes.Home.{Home}
+use Rattle.sb_task.proofs.Ending.{same_books}
 use Rattle.sb_run.proofs.Pairs.{pair_at}
 
 pub map_get : {X Y : Type 0} (f : X → Y) (xs : List X) (i : ℕ) (x : X) → slice_get xs i ≡ Some x → slice_get (map f xs) i ≡ Some (f x)

@@ -6,10 +6,10 @@ use Rattle.atomic_table.proofs.shared.Shared.TheSendSync as shared
 use Rattle.atomic_table.proofs.send_lease.SendLease.TheSendSync as lease
 use Rattle.sb_run.specs.contracts.returns.HandReturn as HandReturn
 use Rattle.sb_run.specs.contracts.returns.TaskReturn as TaskReturn
-use Rattle.sb_run.specs.contracts.serving.Hand as Hand
-use Rattle.sb_run.specs.contracts.tasks.Ended as Ended
-use Rattle.sb_run.specs.contracts.tasks.Task as Task
-use Rattle.sb_run.specs.contracts.works.Work as Work
+use Rattle.sb_task.specs.contracts.serving.Hand as Hand
+use Rattle.sb_task.specs.contracts.tasks.Ended as Ended
+use Rattle.sb_task.specs.contracts.tasks.Task as Task
+use Rattle.sb_task.specs.contracts.works.Work as Work
 use Rattle.sb_section.specs.contracts.sections.Section as Section
 use Rattle.sb_statements.specs.contracts.scripts.Script as Script
 use Rattle.sb_turn.proofs.Crossing.{turn_crosses}

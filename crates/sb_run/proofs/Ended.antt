@@ -9,8 +9,8 @@ use Rattle.sb_run.specs.Closings.{AreOutside, AreThreadsOf}
 use Rattle.sb_run.specs.Endings.{HasEnded, RunEndAt}
 use Rattle.sb_run.specs.Pairing.{AllPairs}
 use Rattle.sb_run.specs.Starts.{all_of}
-use Rattle.sb_run.specs.Tasks.{EndAt, IsEnd, IsEndOf, IsTask, TaskAt}
-use Rattle.sb_run.specs.ThreadActors.{stray_name}
+use Rattle.sb_task.specs.Tasks.{EndAt, IsEnd, IsEndOf, IsTask, TaskAt}
+use Rattle.sb_task.specs.ThreadActors.{stray_name}
 use Rattle.sb_run.proofs.Listed.{flat_from, map_from, map_length, map_some, pairs_all}
 use Rattle.sb_run.proofs.Pairs.{pair_at, pairs_length}
 use Rattle.sb_run.proofs.Rows.{AreLong}

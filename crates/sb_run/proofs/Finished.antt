@@ -51,8 +51,8 @@ use Rattle.sb_run.specs.Endings.{AreWorkersOf, ClosingAt, HasEnded, HasFinished,
 use Rattle.sb_run.specs.Gathering.{columns_of, gathered}
 use Rattle.sb_run.specs.Pairing.{AllPairs}
 use Rattle.sb_run.specs.Starts.{all_of}
-use Rattle.sb_run.specs.Tasks.{EndAt}
-use Rattle.sb_run.specs.Works.{WorkAt}
+use Rattle.sb_task.specs.Tasks.{EndAt}
+use Rattle.sb_task.specs.Works.{WorkAt}
 use Rattle.sb_run.proofs.Closable.{IsBundle, bundled_length, bundles, is_bundle, worker_kept}
 use Rattle.sb_run.proofs.Ended.{EndsAs, ends_as, its_thread_count, strays_long, target_count}
 use Rattle.sb_run.proofs.Listed.{append_some, below, map_length, map_some, map_twice, pair_of, same_maps, there}

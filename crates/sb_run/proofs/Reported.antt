@@ -8,7 +8,7 @@ use Rattle.sb_turn.specs.Turns.{SeatValue}
 use Rattle.sb_turn.specs.Views.{since}
 use Rattle.sb_run.specs.Endings.{AreWorkersOf, CanCloseAll, HasEnded, HasFinished, IsClosedWith, RunEndAt, WorkersAt, bundled, lent_books}
 use Rattle.sb_run.specs.Gathering.{EndsAt, columns_of, gathered}
-use Rattle.sb_run.specs.Hands.{HandAt}
+use Rattle.sb_task.specs.Hands.{HandAt}
 use Rattle.sb_run.specs.Pairing.{AllPairs}
 use Rattle.sb_run.specs.Turning.{AreAllBooks, AreBooksOf, AreWithout}
 use Rattle.sb_run.proofs.Closable.{can_close_all}

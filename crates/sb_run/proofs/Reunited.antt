@@ -9,13 +9,13 @@ use Rattle.sb_pool.specs.declared.seats.PoolSeat.{PoolSeat}
 use Rattle.sb_turn.specs.Turns.{SeatValue}
 use Rattle.sb_turn.specs.declared.views.Hold.TheVariants.{Without}
 use Rattle.sb_run.specs.Endings.{AreWorkersOf, CanClosePool, HasEnded, RunEndAt, WorkersAt, lent_books, start_of}
-use Rattle.sb_run.specs.Hands.{HandAt, IsSameBook, IsSameHand}
+use Rattle.sb_task.specs.Hands.{HandAt, IsSameBook, IsSameHand}
 use Rattle.sb_run.specs.Pairing.{AllPairs}
 use Rattle.sb_run.specs.Starts.{IsHomeAt, all_of, book_count, books_of}
-use Rattle.sb_run.specs.Tasks.{EndAt, IsEndOf, TaskAt}
+use Rattle.sb_task.specs.Tasks.{EndAt, IsEndOf, TaskAt}
 use Rattle.sb_run.specs.Turning.{AreAllBooks, AreBooksOf, AreWithout}
-use Rattle.sb_run.specs.Works.{WorkAt, home_of}
-use Rattle.sb_run.specs.declared.homes.Home.{Home}
+use Rattle.sb_task.specs.Works.{WorkAt, home_of}
+use Rattle.sb_task.specs.declared.homes.Home.{Home}
 use Rattle.sb_run.proofs.Ended.{flat_ended}
 use Rattle.sb_run.proofs.Listed.{append_from, map_from, map_length, map_some, pairs_append, pairs_by}
 use Rattle.sb_run.proofs.Pairs.{pair_at, pairs_length}

@@ -16,10 +16,10 @@ use Rattle.sb_actor.specs.Places.{or_none, statement_at, threads_of}
 use Rattle.sb_turn.specs.Turns.{SeatValue}
 use Rattle.sb_run.specs.Crews.{AreHands, AreTasksOfTargets}
 use Rattle.sb_run.specs.Endings.{HasEnded, HasFinished}
-use Rattle.sb_run.specs.Hands.{HandAt, IsSameBook, IsSameHand}
+use Rattle.sb_task.specs.Hands.{HandAt, IsSameBook, IsSameHand}
 use Rattle.sb_run.specs.Pairing.{AllPairs}
 use Rattle.sb_run.specs.Starts.{IsStart, StartAt, field_of}
-use Rattle.sb_run.specs.Tasks.{EndAt, IsEndOf}
+use Rattle.sb_task.specs.Tasks.{EndAt, IsEndOf}
 use Rattle.sb_run.proofs.Starting.{sound_if_ready}
 
 -- the caller's seat of the turn may look at the stop word

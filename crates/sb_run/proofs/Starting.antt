@@ -35,18 +35,18 @@ use Rattle.sb_turn.specs.Views as turn_views
 use Rattle.sb_turn.specs.declared.views.BookView.{BookView}
 use Rattle.sb_turn.specs.declared.views.Hold.TheVariants.{Without}
 use Rattle.sb_run.specs.Dealings.{DealtAt, IsDealt, IsManned, IsPrepared, PreparedAt}
-use Rattle.sb_run.specs.Fields.{FieldAt, IsField}
-use Rattle.sb_run.specs.Hands.{HandAt, IsHand}
+use Rattle.sb_task.specs.Fields.{FieldAt, IsField}
+use Rattle.sb_task.specs.Hands.{HandAt, IsHand}
 use Rattle.sb_run.specs.Openings.{AreThreadsIn, IsOpened, IsWorkerOf, OpenedAt}
 use Rattle.sb_run.specs.Pairing.{AllPairs}
 use Rattle.sb_run.specs.Starts.{AreBooksOf, ArePoolSeatsOf, AreTasksOf, IsHomeAt, IsStart, StartAt, all_of, book_count, books_of, field_of}
 use Rattle.sb_run.specs.Supplies.{AreFewEach, AreNewWorkers, AreRows, AreUnused, GivesAllTasks, GivesHands, GivesWorks, IsStrayOf, LinedAt, SupplyAt, thread_total, threads_upto}
-use Rattle.sb_run.specs.Tasks.{IsTask, TaskAt}
-use Rattle.sb_run.specs.ThreadActors.{AreStrays}
-use Rattle.sb_run.specs.Works.{WorkAt, home_of, number_of}
-use Rattle.sb_run.specs.declared.homes.Home.{Home}
+use Rattle.sb_task.specs.Tasks.{IsTask, TaskAt}
+use Rattle.sb_task.specs.ThreadActors.{AreStrays}
+use Rattle.sb_task.specs.Works.{WorkAt, home_of, number_of}
+use Rattle.sb_task.specs.declared.homes.Home.{Home}
 use Rattle.sb_run.proofs.Counted.{few_threads}
-use Rattle.sb_run.proofs.Named.{within}
+use Rattle.sb_task.proofs.Named.{within}
 use Rattle.sb_run.proofs.Opening.{clean_length}
 use Rattle.sb_run.proofs.Pairs.{pair_at, pairs_length}
 use Rattle.sb_run.proofs.Supplying.{all_tasks_length, hands_length, map_get, works_length}

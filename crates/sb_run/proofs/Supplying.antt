@@ -14,14 +14,14 @@ use Rattle.sb_pool.specs.declared.seats.PoolSeat.{PoolSeat}
 use Rattle.sb_section.specs.Seats.{SectionValue, StraySeatValue, ThreadSeatValue, WorkerSeatValue, opened_worker}
 use Rattle.sb_statements.specs.declared.scripts.Script.{Script}
 use Rattle.sb_turn.specs.Turns.{SeatValue}
-use Rattle.sb_run.specs.Hands.{HandAt}
+use Rattle.sb_task.specs.Hands.{HandAt}
 use Rattle.sb_run.specs.Openings.{AreStraysIn}
 use Rattle.sb_run.specs.Pairing.{AllPairs}
 use Rattle.sb_run.specs.Starts.{all_of}
 use Rattle.sb_run.specs.Supplies.{AreRows, GivesAllTasks, GivesHands, GivesTasks, GivesWorks, HaveSome, IsStrayOf, IsUnused, SupplyAt, first_worker_of, with_row}
-use Rattle.sb_run.specs.Tasks.{TaskAt}
-use Rattle.sb_run.specs.Works.{IsWork, WorkAt}
-use Rattle.sb_run.specs.declared.homes.Home.{Home}
+use Rattle.sb_task.specs.Tasks.{TaskAt}
+use Rattle.sb_task.specs.Works.{IsWork, WorkAt}
+use Rattle.sb_task.specs.declared.homes.Home.{Home}
 use Rattle.sb_run.proofs.Opening.{clean_length}
 use Rattle.sb_run.proofs.Pairs.{pair_at}
 

@@ -2,11 +2,11 @@
 use Rattle.std.specs.Prelude.{◌≡◌, ℕ, ⊤, List, slice_get, Some}
 use Rattle.sb_statements.specs.declared.scripts.Script.{Script}
 use Rattle.sb_turn.specs.Turns.{SeatValue}
-use Rattle.sb_run.specs.Fields.{FieldAt, IsField}
-use Rattle.sb_run.specs.Hands.{HandAt, IsHand, IsSameBook, IsSameHand}
+use Rattle.sb_task.specs.Fields.{FieldAt, IsField}
+use Rattle.sb_task.specs.Hands.{HandAt, IsHand, IsSameBook, IsSameHand}
 use Rattle.sb_run.specs.Pairing.{AllPairs}
 use Rattle.sb_run.specs.Returns.{HasServed}
-use Rattle.sb_run.specs.Tasks.{EndAt, IsEndOf, IsRunner, IsTask, TaskAt}
+use Rattle.sb_task.specs.Tasks.{EndAt, IsEndOf, IsRunner, IsTask, TaskAt}
 use Rattle.sb_run.specs.declared.promises.HandHost.{HandHost}
 use Rattle.sb_run.specs.declared.promises.HandHost.TheVariants as hand
 use Rattle.sb_run.specs.declared.promises.TaskHost.{TaskHost}

@@ -9,8 +9,8 @@ use Rattle.sb_run.specs.Openings.{AreInOrder, AreThreadsIn, IsWorkerOf}
 use Rattle.sb_run.specs.Pairing.{AllPairs}
 use Rattle.sb_run.specs.Starts.{StartAt}
 use Rattle.sb_run.specs.Supplies.{AreRows, GivesAllTasks, GivesWorks, SupplyAt, thread_total}
-use Rattle.sb_run.specs.Tasks.{TaskAt}
-use Rattle.sb_run.specs.Works.{WorkAt, home_of}
+use Rattle.sb_task.specs.Tasks.{TaskAt}
+use Rattle.sb_task.specs.Works.{WorkAt, home_of}
 
 -- the sections of all targets, the seats of their workers and threads, the turn, and what is still to be given out
 pub record PreparedAt : Type 0 where

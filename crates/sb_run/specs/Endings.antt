@@ -13,14 +13,14 @@ use Rattle.sb_statements.specs.declared.results.StmtResult.{StmtResult}
 use Rattle.sb_statements.specs.declared.scripts.Script.{Script}
 use Rattle.sb_turn.specs.Turns.{SeatValue, TurnValue}
 use Rattle.sb_run.specs.Closings.{AreAllSeats, AreOutside, AreStraysOf, AreThreadsOf, stray_record, thread_record, with_all}
-use Rattle.sb_run.specs.Hands.{HandAt, IsHand, IsSameHand}
+use Rattle.sb_task.specs.Hands.{HandAt, IsHand, IsSameHand}
 use Rattle.sb_run.specs.Pairing.{AllPairs}
 use Rattle.sb_run.specs.Pooling.{AreAllPoolSeats, AreIdle, ArePoolSeats}
-use Rattle.sb_run.specs.Fields.{FieldAt}
+use Rattle.sb_task.specs.Fields.{FieldAt}
 use Rattle.sb_run.specs.Starts.{IsStart, StartAt, all_of}
-use Rattle.sb_run.specs.Tasks.{EndAt, IsEndOf, TaskAt}
-use Rattle.sb_run.specs.Works.{IsWork, WorkAt, home_of, number_of}
-use Rattle.sb_run.specs.declared.homes.Home.{Home}
+use Rattle.sb_task.specs.Tasks.{EndAt, IsEndOf, TaskAt}
+use Rattle.sb_task.specs.Works.{IsWork, WorkAt, home_of, number_of}
+use Rattle.sb_task.specs.declared.homes.Home.{Home}
 
 -- What is left of a run when all threads have ended: what the actors shared, the caller's seats of the pool and of the turn, what the threads of the script gave
 -- back, by target and thread, and the seats of those who served

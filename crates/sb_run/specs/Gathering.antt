@@ -4,7 +4,7 @@ use Rattle.sb_section.specs.Seats.{StraySeatValue, ThreadSeatValue}
 use Rattle.sb_statements.specs.declared.results.StmtResult.{StmtResult}
 use Rattle.sb_turn.specs.Turns.{SeatValue}
 use Rattle.sb_run.specs.Starts.{all_of}
-use Rattle.sb_run.specs.Tasks.{EndAt}
+use Rattle.sb_task.specs.Tasks.{EndAt}
 
 -- of the threads of one target, in order: results, seats in its section, stray seats and seats of the turn
 pub record TargetEndsAt : Type 0 where

@@ -1,8 +1,8 @@
 -- What a thread of a run gives back to the one that started it.
 use Rattle.std.specs.Prelude.{◌≡◌, ⊤, length}
 use Rattle.sb_statements.specs.declared.scripts.Script.{Script}
-use Rattle.sb_run.specs.Hands.{HandAt, IsSameHand}
-use Rattle.sb_run.specs.Tasks.{IsEndOf, TaskAt}
+use Rattle.sb_task.specs.Hands.{HandAt, IsSameHand}
+use Rattle.sb_task.specs.Tasks.{IsEndOf, TaskAt}
 use Rattle.sb_run.specs.declared.returns.HandReturn.{HandReturn}
 use Rattle.sb_run.specs.declared.returns.HandReturn.TheVariants as hand
 use Rattle.sb_run.specs.declared.returns.TaskReturn.{TaskReturn}

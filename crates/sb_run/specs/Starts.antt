@@ -11,11 +11,11 @@ use Rattle.sb_statements.specs.Actors.{thread_count}
 use Rattle.sb_statements.specs.declared.scripts.Script.{Script}
 use Rattle.sb_turn.specs.Turns.{SeatValue, TurnValue}
 use Rattle.sb_turn.specs.declared.views.Hold.TheVariants.{Without}
-use Rattle.sb_run.specs.Fields.{FieldAt, IsField, IsHome}
-use Rattle.sb_run.specs.Hands.{HandAt, IsHand}
-use Rattle.sb_run.specs.Tasks.{IsTask, TaskAt}
-use Rattle.sb_run.specs.Works.{WorkAt}
-use Rattle.sb_run.specs.declared.homes.Home.{Home}
+use Rattle.sb_task.specs.Fields.{FieldAt, IsField, IsHome}
+use Rattle.sb_task.specs.Hands.{HandAt, IsHand}
+use Rattle.sb_task.specs.Tasks.{IsTask, TaskAt}
+use Rattle.sb_task.specs.Works.{WorkAt}
+use Rattle.sb_task.specs.declared.homes.Home.{Home}
 
 -- the tasks by target and thread; the seats of those who serve; and the caller's seats of the pool and of the turn, by which both are closed
 pub record StartAt : Type 0 where

@@ -9,12 +9,12 @@ use Rattle.sb_statements.specs.Soundness.{channels_of}
 use Rattle.sb_statements.specs.declared.scripts.Script.{Script}
 use Rattle.sb_turn.specs.Turns.{SeatValue}
 use Rattle.sb_turn.specs.declared.views.Hold.TheVariants.{Without}
-use Rattle.sb_run.specs.Hands.{HandAt}
+use Rattle.sb_task.specs.Hands.{HandAt}
 use Rattle.sb_run.specs.Pairing.{AllPairs}
 use Rattle.sb_run.specs.Starts.{all_of}
-use Rattle.sb_run.specs.Tasks.{TaskAt}
-use Rattle.sb_run.specs.Works.{WorkAt}
-use Rattle.sb_run.specs.declared.homes.Home.{Home}
+use Rattle.sb_task.specs.Tasks.{TaskAt}
+use Rattle.sb_task.specs.Works.{WorkAt}
+use Rattle.sb_task.specs.declared.homes.Home.{Home}
 
 -- rows of stray seats, each with one of each section, and seats of the turn
 pub record SupplyAt : Type 0 where

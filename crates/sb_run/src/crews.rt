@@ -1,16 +1,13 @@
 // The threads of a run: they are started, the caller has what could not be started, and all are joined.
 ghost use Rattle.std.specs.Prelude.{◌≡◌, map, IfOk};
 ghost use Rattle.sb_run.specs.Crews.{AreHands, AreTasksOfTargets, CanRun, HasRun};
-ghost use Rattle.sb_run.specs.Hands.{IsSameBook, IsSameHand};
+ghost use Rattle.sb_task.specs.Hands.{IsSameBook, IsSameHand};
 ghost use Rattle.sb_run.specs.Pairing.{AllPairs};
 ghost use Rattle.sb_run.specs.Returns.{HasServed};
-ghost use Rattle.sb_run.specs.Tasks.{IsEndOf};
+ghost use Rattle.sb_task.specs.Tasks.{IsEndOf};
 
-use crate::fields::Field;
 use crate::flags::{Flags, make_flags};
-use crate::serving::Hand;
 use crate::started::StartedHand;
-use crate::tasks::{Ended, Task};
 use crate::teams::{
     Team, is_any_with_caller, join_hands, join_teams, serve_with_each, start_hands, start_teams,
     step_teams,
@@ -18,6 +15,7 @@ use crate::teams::{
 use sb_items::NoMemory;
 use sb_outside::Gate;
 use sb_rule::Judge;
+use sb_task::{Ended, Field, Hand, Task};
 use sb_turn::BookSeat;
 use std::alloc::Global;
 use std::sync::Wait;

@@ -8,15 +8,13 @@ ghost use Rattle.sb_run.specs.Starts.{all_of};
 ghost use Rattle.sb_run.specs.Supplies.{AreFewEach, AreNewWorkers, AreUnused, GivesAllTasks, GivesHands, GivesTasks, GivesWorks, IsUnused, first_worker_of};
 
 use crate::openings::channel_count;
-use crate::serving::Hand;
 use crate::supplies::Supply;
-use crate::tasks::Task;
-use crate::works::Work;
 use sb_actor::{ThreadState, WorkerState, notes_are_of_calls};
 use sb_items::NoMemory;
 use sb_pool::PoolSeat;
 use sb_section::{ThreadSeat, WorkerSeat};
 use sb_statements::{CleanMarks, Script, clean_marks};
+use sb_task::{Hand, Task, Work};
 use sb_turn::BookSeat;
 use std::alloc::Global;
 

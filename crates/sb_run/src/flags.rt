@@ -1,8 +1,7 @@
 // The flags by which those come back whose threads could not be started: one for each, set by the caller alone.
 
-use crate::serving::Hand;
-use crate::tasks::Task;
 use sb_items::NoMemory;
+use sb_task::{Hand, Task};
 use std::alloc::Global;
 use std::sync::atomic::AtomicBool;
 

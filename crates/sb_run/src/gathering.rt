@@ -3,10 +3,10 @@ ghost use Rattle.std.specs.Prelude.{◌≡◌, [], ◌++◌, map, IfOk, OnOk};
 ghost use Rattle.std.specs.Option.{option_to_list};
 ghost use Rattle.sb_run.specs.Gathering.{columns_of, gathered, gathered_target, spread, with_end, with_target};
 
-use crate::tasks::Ended;
 use sb_book::{Results, TargetResults};
 use sb_items::{Items, NoMemory};
 use sb_section::{StraySeat, ThreadSeat};
+use sb_task::Ended;
 use sb_turn::BookSeat;
 use std::alloc::Global;
 use std::marker::Model;

@@ -2,10 +2,10 @@
 ghost use Rattle.std.specs.Prelude.{◌≡◌, [], map};
 ghost use Rattle.sb_pool.specs.Pools.{AreNumbered, IsSeatOf, seen};
 ghost use Rattle.sb_run.specs.Pooling.{AreAllPoolSeats, AreIdle, ArePoolSeats, with_seats};
-ghost use Rattle.sb_run.specs.Works.{home_of, number_of};
+ghost use Rattle.sb_task.specs.Works.{home_of, number_of};
 
-use crate::works::Work;
 use sb_pool::{Pool, PoolSeat};
+use sb_task::Work;
 use std::sync::Wait;
 
 // A seat takes in others, in order.

@@ -1,9 +1,8 @@
 // What is promised of a thread that is started, by which it is known what its join gives.
 
 use crate::returns::{HandReturn, TaskReturn};
-use crate::serving::Hand;
-use crate::tasks::{Ended, Runner, Task};
 use sb_statements::Script;
+use sb_task::{Ended, Hand, Runner, Task};
 use std::snapshot::Snapshot;
 use std::thread::{Promise, PromisedHandle};
 

@@ -1,7 +1,6 @@
 // What a thread gives back to the one that started it.
 
-use crate::serving::Hand;
-use crate::tasks::{Ended, Task};
+use sb_task::{Ended, Hand, Task};
 
 /// What the thread of a task gives back.
 #[derive(Drop)]

@@ -8,7 +8,6 @@ ghost use Rattle.sb_core.specs.Tallies.{AreFew};
 
 use crate::crews::run_crew;
 use crate::endings::{end_run, report_of};
-use crate::fields::Field;
 use crate::starts::{Start, open_run};
 use crossbeam_utils::CachePadded;
 use sb_book::{Book, Report};
@@ -16,6 +15,7 @@ use sb_items::{Items, NoMemory};
 use sb_outside::Gate;
 use sb_rule::{Judge, Policies};
 use sb_statements::Script;
+use sb_task::Field;
 use std::alloc::Global;
 use std::sync::Wait;
 use std::thread::Threads;

@@ -3,23 +3,21 @@
 ghost use Rattle.std.specs.Prelude.{◌≡◌, true, IfOk};
 ghost use Rattle.sb_statements.specs.Soundness.{is_sound};
 ghost use Rattle.sb_run.specs.Crews.{started_of};
-ghost use Rattle.sb_run.specs.Fields.{IsField};
-ghost use Rattle.sb_run.specs.Hands.{IsHand};
+ghost use Rattle.sb_task.specs.Fields.{IsField};
+ghost use Rattle.sb_task.specs.Hands.{IsHand};
 ghost use Rattle.sb_run.specs.Returns.{IsHandReturn, IsTaskReturn};
-ghost use Rattle.sb_run.specs.Tasks.{IsTask};
-ghost use Rattle.sb_run.specs.ThreadActors.{AreSections};
+ghost use Rattle.sb_task.specs.Tasks.{IsTask};
+ghost use Rattle.sb_task.specs.ThreadActors.{AreSections};
 
-use crate::fields::Field;
 use crate::promises::{HandHost, HandPromise, TaskHost, TaskPromise};
 use crate::returns::{HandReturn, TaskReturn};
-use crate::serving::{Hand, attend};
 use crate::started::{StartedHand, StartedTask};
-use crate::tasks::{Runner, Task, run_task};
 use sb_items::NoMemory;
 use sb_outside::Gate;
 use sb_rule::Judge;
 use sb_section::Section;
 use sb_statements::Script;
+use sb_task::{Field, Hand, Runner, Task, attend, run_task};
 use sb_turn::Turn;
 use std::alloc::Global;
 use std::snapshot::Snapshot;

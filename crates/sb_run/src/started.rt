@@ -1,18 +1,16 @@
 // A task that was started, and a pair of seats with which sections are served: by a thread of their own, or by the caller.
 ghost use Rattle.std.specs.Prelude.{◌≡◌, IfOk, OnOk};
 ghost use Rattle.sb_run.specs.Crews.{EndsAs, IsHandHostOf, IsHostOf, started_of};
-ghost use Rattle.sb_run.specs.Hands.{IsHand};
+ghost use Rattle.sb_task.specs.Hands.{IsHand};
 ghost use Rattle.sb_run.specs.Returns.{HasServed};
 
-use crate::fields::Field;
 use crate::promises::{HandHost, TaskHost};
 use crate::returns::{HandReturn, TaskReturn};
-use crate::serving::{Hand, attend_once};
-use crate::tasks::{Ended, Task};
 use sb_items::NoMemory;
 use sb_outside::Gate;
 use sb_rule::Judge;
 use sb_statements::Script;
+use sb_task::{Ended, Field, Hand, Task, attend_once};
 use std::alloc::Global;
 use std::marker::Model;
 use std::mem;
@@ -102,7 +100,7 @@ pub(crate) struct StartedHand {
 
 impl Model for StartedHand {
     ghost use Rattle.sb_run.specs.Crews.{IsHandHostOf};
-    ghost use Rattle.sb_run.specs.Hands.{HandAt};
+    ghost use Rattle.sb_task.specs.Hands.{HandAt};
 
     ghost Value = { HandAt };
 

@@ -4,15 +4,13 @@ ghost use Rattle.sb_run.specs.Crews.{AreHands, AreTasks, AreTasksOfTargets, Ends
 ghost use Rattle.sb_run.specs.Pairing.{AllPairs};
 ghost use Rattle.sb_run.specs.Returns.{HasServed};
 
-use crate::fields::Field;
 use crate::flags::Flags;
-use crate::serving::Hand;
 use crate::spawning::{start_hand, start_task};
 use crate::started::{StartedHand, StartedTask};
-use crate::tasks::{Ended, Task};
 use sb_items::NoMemory;
 use sb_outside::Gate;
 use sb_rule::Judge;
+use sb_task::{Ended, Field, Hand, Task};
 use std::alloc::Global;
 use std::marker::Model;
 use std::sync::Wait;

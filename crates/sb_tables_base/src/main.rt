@@ -4,6 +4,7 @@
 #![tactic(auto)]
 
 mod bytes;
+mod host;
 mod outside;
 mod patterns;
 mod readers_rules;
@@ -14,6 +15,7 @@ mod texts;
 mod written_rules;
 
 use std::alloc::Global;
+use std::rt::Files;
 use std::{env, fs, io};
 
 fn main(rt: HostRuntime) -> io::Result<()> {
@@ -21,18 +23,18 @@ fn main(rt: HostRuntime) -> io::Result<()> {
     for name in env::args(&rt)?.skip(1) {
         let text = fs::read_to_string(&rt, name)?;
         for line in text.as_str().lines() {
-            rt.println(told_line(alloc, line)?)?;
+            rt.println(told_line(&rt, alloc, line)?)?;
         }
     }
     Ok(())
 }
 
 // What is printed of a line: a blank line or a comment as it is, and a row with its value.
-fn told_line(alloc: Global, line: &str) -> io::Result<String> {
+fn told_line<R: Files>(rt: &R, alloc: Global, line: &str) -> io::Result<String> {
     if line.is_empty() || line.starts_with('#') {
         return Ok(String::from_str(alloc, line)?);
     }
-    Ok(match rows::value_of(alloc, line) {
+    Ok(match rows::value_of(rt, alloc, line) {
         Ok(value) => format!(in alloc; "{line} => {value}")?,
         Err(fault) => format!(in alloc; "{line} FAULT {fault}")?,
     })

@@ -170,7 +170,8 @@ fn put_read(
     put_content(out, files.read(alloc, name, most))
 }
 
-fn put_content(out: &mut String, content: Result<Vec<u8>, FileFault>) -> Result<(), RowFault> {
+/// Appends what a read returns.
+pub fn put_content(out: &mut String, content: Result<Vec<u8>, FileFault>) -> Result<(), RowFault> {
     match content {
         Ok(content) => put_shown(out, &content)?,
         Err(fault) => write!(out, "{fault:?}")?,
@@ -245,7 +246,8 @@ fn lines_of(alloc: Global, texts: &str) -> Result<Vec<Bytes>, RowFault> {
     Ok(lines)
 }
 
-fn put_outcome(out: &mut String, outcome: Result<(), SinkFault>) -> Result<(), RowFault> {
+/// Appends what a put returns.
+pub fn put_outcome(out: &mut String, outcome: Result<(), SinkFault>) -> Result<(), RowFault> {
     match outcome {
         Ok(()) => Ok(out.push_str("ok ")?),
         Err(fault) => Ok(write!(out, "{fault:?} ")?),

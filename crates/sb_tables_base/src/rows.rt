@@ -1,15 +1,19 @@
 // The value of a row.
 
-use crate::{outside, patterns, rules, strings, texts};
+use crate::{host, outside, patterns, rules, strings, texts};
 use sb_rows::{RowFault, arguments};
 use std::alloc::Global;
+use std::rt::Files;
 
 /// What the function of a row gives for its arguments. The function is the first word, and the arguments stand behind it,
 /// divided by bars.
-pub fn value_of(alloc: Global, row: &str) -> Result<String, RowFault> {
+pub fn value_of<R: Files>(rt: &R, alloc: Global, row: &str) -> Result<String, RowFault> {
     let (name, rest) = row.split_once(' ').unwrap_or((row, ""));
     let parts = arguments(alloc, rest)?;
-    string_value(alloc, name, parts.as_slice())
+    match host::value_of(rt, alloc, name, parts.as_slice()) {
+        Err(RowFault::Unknown) => string_value(alloc, name, parts.as_slice()),
+        value => value,
+    }
 }
 
 fn string_value(alloc: Global, name: &str, parts: &[&str]) -> Result<String, RowFault> {

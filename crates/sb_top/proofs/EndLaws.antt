@@ -3,7 +3,7 @@ use Rattle.std.proofs.Common.{◌≡◌, ◌≢◌, ◌∙◌, ◌⊎◌, ℕ, O
 use Rattle.std.specs.Prelude.{Ok, Err}
 use Rattle.std.proofs.lemmas.Option.{none-some}
 use Rattle.sb_outside.specs.Outside.{Held, Rose}
-use Rattle.sb_top.specs.Commands.{Command, Check, Make, Replay, Run, command_of, file_count}
+use Rattle.sb_commands.specs.Commands.{Command, Check, Make, Replay, Run, command_of, file_count}
 use Rattle.sb_top.specs.Ends.{IsEnd, IsExpected, IsUnread, IsUnwritten, end_of, expected}
 use Rattle.sb_top.specs.Laws.{RefusalsAreTold, WorkComesToItsEnd}
 use Rattle.sb_top.specs.Outcomes.{file_of}

@@ -2,7 +2,7 @@
 use Rattle.std.proofs.Common.{◌≡◌, ◌≢◌, ◌∙◌, ℕ, ◌≤◌, ◌⊎◌, Option, None, Some, refl, sym, ap, subst, inl, inr, arith, true≢false, false}
 use Rattle.std.specs.Prelude.{List, option_map, IfSome, IsSome, Ok}
 use Rattle.sb_outside.specs.Outside.{Held}
-use Rattle.sb_top.specs.Commands.{Command, Check, Make, Replay, Run, needs_threads}
+use Rattle.sb_commands.specs.Commands.{Command, Check, Make, Replay, Run, needs_threads}
 use Rattle.sb_top.specs.Effects.{IsOrderly}
 use Rattle.sb_top.specs.Ends.{IsEnd, IsExpected, IsFile, IsUnread, IsUnwritten, IsWorkEnd, end_of, expected}
 use Rattle.sb_top.specs.Outcomes.{IsRefusal, IsSilent, MayCome, file_of}

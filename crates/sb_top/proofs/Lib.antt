@@ -2,7 +2,6 @@ pub mod CheckEnds
 pub mod EndLaws
 pub mod Ending
 pub mod Made
-pub mod ReadWords
 pub mod Ready
 pub mod ReplayEnds
 pub mod RunEnds
@@ -10,9 +9,7 @@ pub mod Runs
 pub mod Starved
 pub mod Steps
 pub mod Sums
-pub mod TakenWords
 pub mod Telling
 pub mod Texts
 pub mod Totalling
 pub mod Verdicts
-pub mod WordTests

@@ -5,7 +5,7 @@ use Rattle.sb_outside.specs.Outside.{Held}
 use Rattle.sb_rule.specs.declared.policies.Policy.{Policy}
 use Rattle.sb_statements.specs.declared.schedules.Schedule.{Schedule}
 use Rattle.sb_statements.specs.declared.scripts.Script.{Script}
-use Rattle.sb_top.specs.Commands.{Replay, replay_files}
+use Rattle.sb_commands.specs.Commands.{Replay, replay_files}
 use Rattle.sb_top.specs.Ends.{IsEnd, IsReached}
 use Rattle.sb_top.specs.Outcomes.{IsRefusal}
 use Rattle.sb_top.specs.Reading.{IsNotRead, IsNotScheduled, policies_in, schedule_in, schedule_of, script_in}

@@ -1,7 +1,7 @@
 -- How a command ends that had no memory for its words.
 use Rattle.std.proofs.Common.{◌≡◌, ◌≢◌, List, ℕ, Option, None, Some, refl, inr}
 use Rattle.sb_outside.specs.Outside.{Held}
-use Rattle.sb_top.specs.Commands.{Command, Check, Make, Replay, Run}
+use Rattle.sb_commands.specs.Commands.{Command, Check, Make, Replay, Run}
 use Rattle.sb_top.specs.Effects.{Effect}
 use Rattle.sb_top.specs.Top.{EndsWith, IsEndOf, IsReportFor, IsToldFor, IsWrittenFor}
 use Rattle.sb_top.specs.declared.outcomes.Outcome.{Outcome}

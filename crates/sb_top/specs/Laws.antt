@@ -1,7 +1,7 @@
 -- Laws of how words end over files whose contents are known.
 use Rattle.std.specs.Prelude.{◌≡◌, ◌≢◌, ◌⊎◌, ℕ, List, Some, Ok, Err}
 use Rattle.sb_outside.specs.Outside.{Held, Rose}
-use Rattle.sb_top.specs.Commands.{command_of}
+use Rattle.sb_commands.specs.Commands.{command_of}
 use Rattle.sb_top.specs.Ends.{end_of}
 use Rattle.sb_top.specs.Outcomes.{file_of}
 use Rattle.sb_top.specs.Top.{EndsWith, wanted_of}

@@ -1,6 +1,3 @@
-pub mod CommandLine
-pub mod NumberWords
-pub mod Commands
 pub mod Outcomes
 pub mod Exits
 pub mod Works

@@ -2,7 +2,7 @@
 use Rattle.std.specs.Prelude.{◌≡◌, ◌≢◌, ℕ, List, Option, None, Some, option_map, Ok, Err, ⊤}
 use Rattle.sb_outside.specs.Outside.{Held, Rose}
 use Rattle.sb_top.specs.Check.{wanted_check}
-use Rattle.sb_top.specs.Commands.{Command, Check, Make, Replay, Run, command_of, file_count}
+use Rattle.sb_commands.specs.Commands.{Command, Check, Make, Replay, Run, command_of, file_count}
 use Rattle.sb_top.specs.Effects.{Effect}
 use Rattle.sb_top.specs.Ends.{IsEnd, IsReported, IsTold, IsWritten}
 use Rattle.sb_top.specs.Replay.{wanted_replay}

@@ -4,7 +4,7 @@ ghost use Rattle.std.specs.List.{list_all};
 ghost use Rattle.sb_outside.specs.Outside.{Rose, joined};
 ghost use Rattle.sb_rule.specs.WellMade.{is_well_made, are_well_made};
 ghost use Rattle.sb_top.specs.Check.{checked, listings};
-ghost use Rattle.sb_top.specs.Commands.{Check};
+ghost use Rattle.sb_commands.specs.Commands.{Check};
 ghost use Rattle.sb_top.specs.Effects.{IsOrderly, effect};
 ghost use Rattle.sb_top.specs.Ends.{IsReported, IsWorkEnd, IsWritten};
 ghost use Rattle.sb_top.specs.Outcomes.{IsSilent};

@@ -2,12 +2,9 @@
 #![tactic(auto)]
 
 mod check;
-mod command_line;
-mod commands;
 mod exits;
 mod laws;
 mod make;
-mod number_words;
 mod outcomes;
 mod prepared;
 mod reading;

@@ -9,7 +9,7 @@ ghost use Rattle.sb_schedule.specs.ScheduleTexts as schedules;
 ghost use Rattle.sb_script.specs.ScriptTexts as scripts;
 ghost use Rattle.sb_statements.specs.Actors.{is_step_there};
 ghost use Rattle.sb_statements.specs.Units.{script_has_units};
-ghost use Rattle.sb_top.specs.Commands.{named};
+ghost use Rattle.sb_commands.specs.Commands.{named};
 ghost use Rattle.sb_top.specs.Outcomes.{IsRefusal};
 ghost use Rattle.sb_transcript.specs.Laws.{HasShortNames};
 ghost use Rattle.sb_top.specs.Reading.{IsNotRead, IsNotScheduled, IsTextRefused, text_in, policies_by, policies_in, script_by, script_in, no_schedule, schedule_by, schedule_in, schedule_of, status_of, most_bytes};

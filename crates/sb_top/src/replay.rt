@@ -4,7 +4,7 @@ ghost use Rattle.sb_book.specs.Reports.{result_count};
 ghost use Rattle.sb_core.specs.Runs.{CanRun};
 ghost use Rattle.sb_outside.specs.Outside.{Rose};
 ghost use Rattle.sb_statements.specs.Units.{script_has_units};
-ghost use Rattle.sb_top.specs.Commands.{Replay, as_replay, named};
+ghost use Rattle.sb_commands.specs.Commands.{Replay, as_replay, named};
 ghost use Rattle.sb_top.specs.Effects.{IsOrderly, effect};
 ghost use Rattle.sb_top.specs.Ends.{IsReported, IsTold, IsWorkEnd, IsWritten};
 ghost use Rattle.sb_top.specs.Outcomes.{IsRefusal, IsSilent};

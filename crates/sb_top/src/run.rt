@@ -1,7 +1,7 @@
 // The command `run`: policies and a script are read, the script is run on threads, and its transcript is put line by line.
 ghost use Rattle.std.specs.Prelude.{◌≡◌, ◌≢◌, ◌≤◌, Ok, Some, IfOk, IfErr, IfSome, OnOk, option_map};
 ghost use Rattle.sb_outside.specs.Outside.{Rose};
-ghost use Rattle.sb_top.specs.Commands.{Run};
+ghost use Rattle.sb_commands.specs.Commands.{Run};
 ghost use Rattle.sb_top.specs.Effects.{IsOrderly, effect};
 ghost use Rattle.sb_top.specs.Ends.{IsEnd, IsReported, IsTold, IsWorkEnd, IsWritten};
 ghost use Rattle.sb_top.specs.Outcomes.{IsRefusal, IsSilent};

@@ -1,15 +1,15 @@
 // The top calls.
 ghost use Rattle.std.specs.Prelude.{◌≡◌, IfSome, IsNone, is_none, true};
-ghost use Rattle.sb_top.specs.Commands.{command_of, needs_threads, texts};
+ghost use Rattle.sb_commands.specs.Commands.{command_of, needs_threads, texts};
 ghost use Rattle.sb_top.specs.Effects.{IsOrderly, effect};
 ghost use Rattle.sb_top.specs.Top.{IsEndOf, IsReportFor, IsToldFor, IsUnreadBy, IsWrittenFor};
 
 use crate::check::check_policy;
-use crate::commands::{CommandWords, command_of, needs_threads};
 use crate::make::make_script;
 use crate::outcomes::{Outcome, Status};
 use crate::replay::replay_script;
 use crate::run::run_script;
+use sb_commands::{CommandWords, command_of, needs_threads};
 use sb_outside::{Files, Gate, Sink};
 use sb_wide::NoMemory;
 use std::alloc::Global;

@@ -1,5 +1,5 @@
 use Rattle.std.proofs.Common.{◌∙◌, ap, sym, List, slice_get}
-use Rattle.sb_run.specs.Hands.{HandAt}
+use Rattle.sb_task.specs.Hands.{HandAt}
 use Rattle.sb_run.proofs.crews.look_after.Goals as goal
 
 pub serve_with_each-requires-after_bounds : goal.serve_with_each-requires-after_bounds

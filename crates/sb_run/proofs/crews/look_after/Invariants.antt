@@ -1,5 +1,5 @@
 use Rattle.std.proofs.Common.{◌≡◌}
-use Rattle.sb_run.specs.Hands.{IsSameBook}
+use Rattle.sb_task.specs.Hands.{IsSameBook}
 use Rattle.sb_run.proofs.crews.look_after.Given as goal
 
 abbrev pub invariant-loop : goal.invariant-loop

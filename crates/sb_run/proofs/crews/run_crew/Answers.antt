@@ -1,9 +1,9 @@
 use Rattle.std.proofs.Common.{◌≡◌, sym, subst, map}
 use Rattle.std.proofs.lemmas.Result.{IfOk-weaker}
 use Rattle.sb_run.specs.Crews.{AreHands, AreTasksOfTargets, CanRun}
-use Rattle.sb_run.specs.Fields.{FieldAt}
+use Rattle.sb_task.specs.Fields.{FieldAt}
 use Rattle.sb_run.specs.Pairing.{AllPairs}
-use Rattle.sb_run.specs.Tasks.{IsEndOf}
+use Rattle.sb_task.specs.Tasks.{IsEndOf}
 use Rattle.sb_run.proofs.crews.run_crew.Goals as goal
 
 pub scoped-requires : goal.scoped-requires

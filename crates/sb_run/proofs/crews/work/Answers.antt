@@ -1,6 +1,6 @@
 use Rattle.std.proofs.Common.{◌≡◌, ◌∙◌, ap, sym, subst, map, List, slice_get}
 use Rattle.sb_run.specs.Crews.{EndsAs, started_of}
-use Rattle.sb_run.specs.Hands.{HandAt}
+use Rattle.sb_task.specs.Hands.{HandAt}
 use Rattle.sb_run.specs.Pairing.{AllPairs}
 use Rattle.sb_run.proofs.Crewed.{all_ended}
 use Rattle.sb_run.proofs.crews.work.Goals as goal

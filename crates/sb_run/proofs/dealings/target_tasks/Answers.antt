@@ -2,7 +2,7 @@ use Rattle.std.proofs.Common.{rules, ◌≡◌, ◌++◌, ◌∷◌, ◌∙◌, 
 use Rattle.std.specs.Vec.Iter.{into_iter_items}
 use Rattle.sb_actor.specs.Places.{begun}
 use Rattle.sb_run.specs.Supplies.{GivesTasks}
-use Rattle.sb_run.specs.Tasks.{TaskAt}
+use Rattle.sb_task.specs.Tasks.{TaskAt}
 use Rattle.sb_run.proofs.Pooled.{next_more}
 use Rattle.sb_run.proofs.Supplying.{tasks_more}
 use Rattle.sb_run.proofs.dealings.target_tasks.Goals as goal

@@ -3,7 +3,7 @@ use Rattle.std.proofs.lemmas.List.{length-map, map-append}
 use Rattle.std.specs.Vec.Iter.{into_iter_items}
 use Rattle.sb_section.specs.declared.seats.ThreadSeat.{ThreadSeat}
 use Rattle.sb_run.specs.Supplies.{GivesAllTasks, GivesTasks}
-use Rattle.sb_run.specs.declared.tasks.Task.{Task}
+use Rattle.sb_task.specs.declared.tasks.Task.{Task}
 use Rattle.sb_run.proofs.Pooled.{next_at, next_more}
 use Rattle.sb_run.proofs.Supplying.{books_left, map_get, rows_left, target_more}
 use Rattle.sb_run.proofs.dealings.tasks_of.Goals as goal

@@ -1,7 +1,7 @@
 use Rattle.std.proofs.Common.{◌≡◌, ◌∙◌, subst, sym}
 use Rattle.sb_actor.specs.WorkerStages.{Look}
 use Rattle.sb_run.specs.Supplies.{first_worker_of}
-use Rattle.sb_run.specs.Works.{IsWork}
+use Rattle.sb_task.specs.Works.{IsWork}
 use Rattle.sb_run.proofs.Supplying.{new_work}
 use Rattle.sb_run.proofs.dealings.work_of.Goals as goal
 

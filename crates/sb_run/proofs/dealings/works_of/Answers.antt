@@ -1,7 +1,7 @@
 use Rattle.std.proofs.Common.{rules, ◌≡◌, ◌++◌, ◌∷◌, ◌∙◌, [], ap, length, map, subst, sym}
 use Rattle.std.specs.Vec.Iter.{into_iter_items}
 use Rattle.sb_run.specs.Supplies.{GivesWorks, first_worker_of}
-use Rattle.sb_run.specs.Works.{WorkAt}
+use Rattle.sb_task.specs.Works.{WorkAt}
 use Rattle.sb_run.proofs.Pooled.{next_at, next_more}
 use Rattle.sb_run.proofs.Supplying.{works_more}
 use Rattle.sb_run.proofs.dealings.works_of.Goals as goal

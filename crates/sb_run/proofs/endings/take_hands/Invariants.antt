@@ -1,5 +1,5 @@
 use Rattle.std.proofs.Common.{◌≡◌, ◌++◌, map}
-use Rattle.sb_run.specs.Hands.{HandAt}
+use Rattle.sb_task.specs.Hands.{HandAt}
 use Rattle.sb_run.proofs.endings.take_hands.Given as goal
 
 abbrev pub invariant-loop-hand : goal.invariant-loop-hand

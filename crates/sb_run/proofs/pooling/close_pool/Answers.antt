@@ -2,7 +2,7 @@ use Rattle.std.proofs.Common.{◌∙◌, ap, subst, sym}
 use Rattle.sb_pool.specs.Pools.{seen}
 use Rattle.sb_pool.specs.Views.{IsLast}
 use Rattle.sb_pool.specs.declared.protocol.PoolView.{PoolView}
-use Rattle.sb_run.specs.declared.homes.Home.{Home}
+use Rattle.sb_task.specs.declared.homes.Home.{Home}
 use Rattle.sb_run.proofs.Pooled.{homes_with, is_last, out_with}
 use Rattle.sb_run.proofs.pooling.close_pool.Goals as goal
 

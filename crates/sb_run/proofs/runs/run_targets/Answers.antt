@@ -4,11 +4,11 @@ use Rattle.sb_section.specs.Seats.{SectionValue}
 use Rattle.sb_turn.specs.Turns.{TurnValue}
 use Rattle.sb_run.specs.Crews.{AreHands}
 use Rattle.sb_run.specs.Endings.{HasEnded}
-use Rattle.sb_run.specs.Hands.{IsHand}
+use Rattle.sb_task.specs.Hands.{IsHand}
 use Rattle.sb_run.specs.Starts.{IsStart, StartAt}
-use Rattle.sb_run.specs.Tasks.{IsTask}
-use Rattle.sb_run.specs.declared.tasks.Ended.{Ended}
-use Rattle.sb_run.specs.declared.tasks.Task.{Task}
+use Rattle.sb_task.specs.Tasks.{IsTask}
+use Rattle.sb_task.specs.declared.tasks.Ended.{Ended}
+use Rattle.sb_task.specs.declared.tasks.Task.{Task}
 use Rattle.sb_run.proofs.Running.{has_ended, tasks_of_start}
 use Rattle.sb_run.proofs.runs.run_targets.Goals as goal
 

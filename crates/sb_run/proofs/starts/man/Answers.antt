@@ -1,7 +1,7 @@
 use Rattle.std.proofs.Common.{map, refl, subst, Vec, Global}
 use Rattle.sb_run.specs.Dealings.{DealtAt, IsManned}
 use Rattle.sb_run.specs.Starts.{StartAt}
-use Rattle.sb_run.specs.declared.tasks.Task.{Task}
+use Rattle.sb_task.specs.declared.tasks.Task.{Task}
 use Rattle.sb_run.proofs.Starting.{is_manned}
 use Rattle.sb_run.proofs.starts.man.Goals as goal
 

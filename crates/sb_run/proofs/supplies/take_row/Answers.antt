@@ -2,7 +2,7 @@ use Rattle.std.proofs.Common.{rules, ◌≡◌, ◌<◌, ◌∙◌, ap, length, 
 use Rattle.std.specs.Prelude.{slice_set, vec_len}
 use Rattle.sb_section.specs.declared.seats.StraySeat.{StraySeat}
 use Rattle.sb_run.specs.Supplies.{with_row}
-use Rattle.sb_run.proofs.Named.{at_get, there}
+use Rattle.sb_task.proofs.Named.{at_get, there}
 use Rattle.sb_run.proofs.Supplying.{row_full, row_none, row_step}
 use Rattle.sb_run.proofs.supplies.take_row.Goals as goal
 

@@ -1,6 +1,6 @@
 use Rattle.std.proofs.Common.{◌∙◌, ◌<◌, ap, sym, length, List, rules, slice_get}
-use Rattle.sb_run.specs.Hands.{HandAt}
-use Rattle.sb_run.proofs.Named.{at_get}
+use Rattle.sb_task.specs.Hands.{HandAt}
+use Rattle.sb_task.proofs.Named.{at_get}
 use Rattle.sb_run.proofs.teams.serve_with_each.Goals as goal
 
 pub serve-requires-after_bounds : goal.serve-requires-after_bounds

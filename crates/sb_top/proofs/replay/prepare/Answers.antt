@@ -1,7 +1,7 @@
 use Rattle.std.proofs.Common.{◌≡◌, ◌∙◌}
 use Rattle.sb_outside.specs.Outside.{Rose}
 use Rattle.std.specs.Prelude.{option_map, IfSome, Ok}
-use Rattle.sb_top.specs.Commands.{named}
+use Rattle.sb_commands.specs.Commands.{named}
 use Rattle.sb_top.specs.Reading.{IsNotRead, IsNotScheduled, script_in}
 use Rattle.sb_top.proofs.ReplayEnds.{policies_refused, script_refused, schedule_refused, unprepared}
 use Rattle.sb_top.proofs.replay.prepare.Goals as goal

@@ -1,4 +1,4 @@
-use Rattle.sb_top.specs.Commands.{named, replay_files}
+use Rattle.sb_commands.specs.Commands.{named, replay_files}
 use Rattle.sb_top.specs.Replay.{wanted_replay, work_of}
 use Rattle.sb_top.proofs.Ending.{quiet_end, shown_end, shown_known}
 use Rattle.sb_top.proofs.replay.replay_script.Goals as goal

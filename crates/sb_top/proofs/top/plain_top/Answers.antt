@@ -1,5 +1,5 @@
 use Rattle.std.proofs.Common.{rules, ◌≡◌, Option, Some, refl, subst}
-use Rattle.sb_top.specs.Commands.{Command, Replay, command_of, named, texts}
+use Rattle.sb_commands.specs.Commands.{Command, Replay, command_of, named, texts}
 use Rattle.sb_top.specs.Effects.{effect}
 use Rattle.sb_top.specs.Top.{IsEndOf}
 use Rattle.sb_top.proofs.Starved.{starved_end, starved_report, starved_told, starved_written}

@@ -1,5 +1,5 @@
 use Rattle.std.proofs.Common.{rules, ◌≡◌, Option, Some, refl, subst}
-use Rattle.sb_top.specs.Commands.{Command, Make, Run, command_of, texts}
+use Rattle.sb_commands.specs.Commands.{Command, Make, Run, command_of, texts}
 use Rattle.sb_top.specs.Effects.{effect}
 use Rattle.sb_top.specs.Top.{IsEndOf, IsUnreadBy}
 use Rattle.sb_top.proofs.Ending.{left_alone}

@@ -1,7 +1,7 @@
 use Rattle.std.proofs.Common.{subst}
 use Rattle.sb_run.specs.Crews.{IsHostOf, StartedAt}
-use Rattle.sb_run.specs.Tasks.{IsEndOf, IsRunner}
-use Rattle.sb_run.proofs.Ending.{ends_here}
+use Rattle.sb_task.specs.Tasks.{IsEndOf, IsRunner}
+use Rattle.sb_task.proofs.Ending.{ends_here}
 use Rattle.sb_run.proofs.started.StartedTask.join.Goals as goal
 
 pub returns-in-Caller : goal.returns-in-Caller

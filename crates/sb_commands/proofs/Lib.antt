@@ -1,0 +1,3 @@
+pub mod ReadWords
+pub mod TakenWords
+pub mod WordTests

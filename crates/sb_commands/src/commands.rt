@@ -1,0 +1,205 @@
+// Which command the words are.
+ghost use Rattle.std.specs.Prelude.{◌≡◌, ◌≢◌, IfOk, IfSome, IsErr, None, is_some, option_map};
+ghost use Rattle.sb_commands.specs.Commands.{HasNumbers, command_by, command_of, check_of, replay_of, run_apart, run_by, run_joined, run_of, make_of, is_file_word, meant, needs_threads, texts};
+
+use crate::command_line::{command_line, found_command};
+use crate::number_words::{calls_of, seed_of, targets_of, workers_apart, workers_joined};
+use clap::error::ErrorKind;
+use sb_wide::NoMemory;
+use std::alloc::Global;
+
+/// A command with the names of its files, or with its numbers.
+#[derive(Clone, Copy, Debug)]
+pub enum CommandWords<'a> {
+    /// Policies are read, and printed.
+    Check {
+        policy: &'a str,
+    },
+    /// A script is run under policies, by a schedule where one is named, and its transcript is printed.
+    Replay {
+        policy: &'a str,
+        script: &'a str,
+        schedule: Option<&'a str>,
+    },
+    /// A script is run under policies on threads, by 1 to 8 workers, and its transcript is printed.
+    Run {
+        policy: &'a str,
+        script: &'a str,
+        workers: u32,
+    },
+    /// A script is made from a seed, with 1 to 8 targets and 1 to 4,096 calls a thread, it is run on threads, and its totals are printed.
+    Make {
+        seed: u64,
+        targets: u32,
+        calls: u32,
+    },
+}
+
+// Whether a word names a file: it is not empty and does not begin with `-`.
+fn is_file_word(word: &str) -> bool
+    ensures { result ≡ is_file_word word.now }
+{
+    match word.as_bytes() {
+        [first, ..] => *first != b'-',
+        [] => false,
+    }
+}
+
+// Whether the words behind `check` are `POLICY`.
+fn is_check(words: &[String]) -> bool
+    ensures { result ≡ is_some (check_of (texts words.now)) }
+{
+    match words {
+        [policy] => is_file_word(policy.as_str()),
+        _ => false,
+    }
+}
+
+// Whether the words behind `replay` are `POLICY SCRIPT [SCHEDULE]`.
+fn is_replay(words: &[String]) -> bool
+    ensures { result ≡ is_some (replay_of (texts words.now)) }
+{
+    match words {
+        [policy, script] => is_file_word(policy.as_str()) && is_file_word(script.as_str()),
+        [policy, script, schedule] => {
+            is_file_word(policy.as_str())
+                && is_file_word(script.as_str())
+                && is_file_word(schedule.as_str())
+        }
+        _ => false,
+    }
+}
+
+// Whether two words name the files of a run, for this number of workers, if that is one.
+#[tactic(auto, using(crate::proofs::WordTests::run_by_some))]
+fn is_run_by(policy: &str, script: &str, workers: Option<u32>) -> bool
+    ensures { result ≡ is_some (run_by policy.now script.now workers) }
+{
+    is_file_word(policy) && is_file_word(script) && workers.is_some()
+}
+
+// Whether three words behind `run` are two files and `--workers=N`, which stands before them or behind them.
+#[tactic(auto, using(crate::proofs::WordTests::either_some))]
+fn is_run_joined(first: &str, second: &str, third: &str) -> bool
+    ensures { result ≡ is_some (run_joined first.now second.now third.now) }
+{
+    is_run_by(second, third, workers_joined(first))
+        || is_run_by(first, second, workers_joined(third))
+}
+
+// Whether four words behind `run` are two files and `--workers N`, which stand before them or behind them.
+#[tactic(auto, using(crate::proofs::WordTests::either_some))]
+fn is_run_apart(first: &str, second: &str, third: &str, fourth: &str) -> bool
+    ensures { result ≡ is_some (run_apart first.now second.now third.now fourth.now) }
+{
+    is_run_by(third, fourth, workers_apart(first, second))
+        || is_run_by(first, second, workers_apart(third, fourth))
+}
+
+// Whether the words behind `run` are `POLICY SCRIPT [--workers N]`, the option before the files or behind them.
+#[tactic(auto, using(crate::proofs::WordTests::too_few, crate::proofs::WordTests::too_many))]
+fn is_run(words: &[String]) -> bool
+    ensures { result ≡ is_some (run_of (texts words.now)) }
+{
+    match words {
+        [policy, script] => is_run_by(policy.as_str(), script.as_str(), Some(2)),
+        [first, second, third] => is_run_joined(first.as_str(), second.as_str(), third.as_str()),
+        [first, second, third, fourth] => {
+            is_run_apart(
+                first.as_str(),
+                second.as_str(),
+                third.as_str(),
+                fourth.as_str(),
+            )
+        }
+        _ => false,
+    }
+}
+
+// Whether the words behind `make` are `SEED TARGETS CALLS`.
+#[tactic(auto, using(crate::proofs::WordTests::make_some))]
+fn is_make(words: &[String]) -> bool
+    ensures { result ≡ is_some (make_of (texts words.now)) }
+{
+    match words {
+        [seed, targets, calls] => {
+            seed_of(seed.as_str()).is_some()
+                && targets_of(targets.as_str()).is_some()
+                && calls_of(calls.as_str()).is_some()
+        }
+        _ => false,
+    }
+}
+
+// Whether a name and the words behind it are a command.
+fn is_command_by(name: &str, words: &[String]) -> bool
+    ensures { result ≡ is_some (command_by name.now (texts words.now)) }
+{
+    match name {
+        "check" => is_check(words),
+        "replay" => is_replay(words),
+        "run" => is_run(words),
+        "make" => is_make(words),
+        _ => false,
+    }
+}
+
+// Whether the words are a command.
+fn is_command(words: &[String]) -> bool
+    ensures { result ≡ is_some (command_of (texts words.now)) }
+{
+    match words {
+        [name, words @ ..] => is_command_by(name.as_str(), words),
+        [] => false,
+    }
+}
+
+// Whether a name and the words behind it are a command that runs on threads.
+#[tactic(auto, using(crate::proofs::WordTests::check_is_plain, crate::proofs::WordTests::replay_is_plain, crate::proofs::WordTests::run_is_threaded, crate::proofs::WordTests::make_is_threaded))]
+fn is_threaded_by(name: &str, words: &[String]) -> bool
+    ensures { result ≡ needs_threads (command_by name.now (texts words.now)) }
+{
+    match name {
+        "check" => false,
+        "replay" => false,
+        "run" => is_run(words),
+        "make" => is_make(words),
+        _ => false,
+    }
+}
+
+/// Whether the words are a command that runs on threads: `run` or `make`. It takes no memory.
+pub fn needs_threads(words: &[String]) -> bool
+    ensures { result ≡ needs_threads (command_of (texts words.now)) }
+{
+    match words {
+        [name, words @ ..] => is_threaded_by(name.as_str(), words),
+        [] => false,
+    }
+}
+
+/// The command that the words are: `check POLICY`, `replay POLICY SCRIPT [SCHEDULE]`, `run POLICY SCRIPT [--workers N]` or `make SEED
+/// TARGETS CALLS`. Any other words are no command.
+///
+/// Which words are a command is tested here. Only words that are go to the library for command lines, which gives the
+/// values.
+///
+/// `NoMemory` where there was none to read words that are a command.
+#[tactic(auto, using(crate::proofs::TakenWords::commands_are_taken, crate::proofs::TakenWords::commands_are_read, crate::proofs::ReadWords::line_is_simple))]
+pub fn command_of(alloc: Global, words: &[String]) -> Result<Option<CommandWords<'_>>, NoMemory>
+    ensures exact { IfOk result (λ command. option_map meant command ≡ command_of (texts words.now)) }
+    ensures numbers { IfOk result (λ command. IfSome command HasNumbers) }
+    ensures memory { IsErr result → command_of (texts words.now) ≢ None }
+{
+    if !is_command(words) {
+        return Ok(None);
+    }
+    match command_line(alloc)?.try_get_matches_from(words) {
+        Ok(matches) => Ok(found_command(&matches)),
+        Err(error) => match error.kind() {
+            ErrorKind::OutOfMemory => Err(NoMemory),
+            // The library takes all words that are a command.
+            _ => unreachable!(),
+        },
+    }
+}

@@ -1,5 +1,0 @@
-use Rattle.sb_run.specs.Hands.{IsHand, IsSameHand}
-use Rattle.sb_run.proofs.serving.attend.Given as goal
-
-abbrev pub invariant-loop : goal.invariant-loop
-invariant-loop g l = IsHand l.field l.hand × IsSameHand l.fn.hand l.hand

@@ -1,0 +1,92 @@
+// Rows of files and outputs of the system, and of what the program tells of itself.
+
+use crate::bytes::{bytes, put_shown};
+use crate::outside::{put_content, put_outcome};
+use sb_host::{HostFiles, HostSink, OwnWord, own_text, own_word};
+use sb_outside::{Files, Sink};
+use sb_rows::{RowFault, number, put_between, told};
+use std::alloc::Global;
+use std::io::Cursor;
+use std::rt;
+
+/// What a function of the system's files and outputs, or of the program's own words, gives.
+pub fn value_of<R: rt::Files>(
+    rt: &R,
+    alloc: Global,
+    name: &str,
+    parts: &[&str],
+) -> Result<String, RowFault> {
+    match name {
+        "HostFiles::read" => reads_of(rt, alloc, parts),
+        "HostSink::put" => puts_of(alloc, parts),
+        "own_word" => word_of(alloc, parts),
+        "own_text" => is_within(alloc, parts),
+        _ => Err(RowFault::Unknown),
+    }
+}
+
+// What the reads of `MOST | NAME | ..` return, each with the count of faults behind it.
+fn reads_of<R: rt::Files>(rt: &R, alloc: Global, parts: &[&str]) -> Result<String, RowFault> {
+    let [most, names @ ..] = parts else {
+        return Err(RowFault::BadWords);
+    };
+    let most = number(most)?;
+    let mut files = HostFiles::new(rt);
+    let mut out = String::new(alloc);
+    for name in names {
+        put_between(&mut out, ", ")?;
+        put_content(&mut out, files.read(alloc, name, most))?;
+        write!(out, "faults {}", files.faults)?;
+    }
+    Ok(out)
+}
+
+// The outcome of each put into an output of three bytes, the count of faults, and what the output then holds.
+fn puts_of(alloc: Global, texts: &[&str]) -> Result<String, RowFault> {
+    let mut room = [0u8; 3];
+    let mut out = String::new(alloc);
+    put_all(alloc, texts, &mut room, &mut out)?;
+    put_shown(&mut out, &room)?;
+    Ok(out)
+}
+
+fn put_all(
+    alloc: Global,
+    texts: &[&str],
+    room: &mut [u8],
+    out: &mut String,
+) -> Result<(), RowFault> {
+    let mut sink = HostSink::new(Cursor::new(room));
+    for text in texts {
+        let put = bytes(alloc, text)?;
+        put_outcome(out, sink.put(&put))?;
+    }
+    Ok(write!(out, "faults {} ", sink.faults)?)
+}
+
+// The own word that these words are. A row without arguments has no words.
+fn word_of(alloc: Global, parts: &[&str]) -> Result<String, RowFault> {
+    let mut words = Vec::new(alloc);
+    for part in parts {
+        if !part.is_empty() {
+            words.push(String::from_str(alloc, part)?)?;
+        }
+    }
+    told(alloc, &own_word(&words))
+}
+
+fn named(word: &str) -> Result<OwnWord, RowFault> {
+    match word {
+        "Help" => Ok(OwnWord::Help),
+        "Version" => Ok(OwnWord::Version),
+        _ => Err(RowFault::BadWords),
+    }
+}
+
+// Whether the text of an own word has these words in it.
+fn is_within(alloc: Global, parts: &[&str]) -> Result<String, RowFault> {
+    let [word, part] = parts else {
+        return Err(RowFault::BadWords);
+    };
+    told(alloc, &own_text(named(word)?).contains(*part))
+}

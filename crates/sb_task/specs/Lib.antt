@@ -1,0 +1,9 @@
+pub mod WorkerActors
+pub mod WorkerSteps
+pub mod ThreadActors
+pub mod ThreadSteps
+pub mod Noting
+pub mod Works
+pub mod Hands
+pub mod Fields
+pub mod Tasks
