@@ -20,10 +20,10 @@ import texts
 WORKERS = (1, 2, 4, 8)
 ROWS = "sb_tables_runs"
 
-# How many times as many runs are made of each number of workers.
+# For each number of workers, this many times as many runs are made.
 TURNS = 3
 
-# With eight workers a run takes no longer than with two, except for what two runs differ by in any case.
+# The most that a run by eight workers may take, by a run by two: what two equal runs differ by in any case.
 MOST_DIFFERENCE = 1.1
 
 # The user as whom a run with few processes is made where this is run by root, for whom the system has no such limit.
@@ -83,7 +83,7 @@ def measure_workers(runs):
     if best[2] > 0.4:
         programs.miss("%d pings by 2 workers take more than 0.4 seconds" % calls)
     if best[8] > MOST_DIFFERENCE * best[2]:
-        programs.miss("%d pings take longer by 8 workers than by 2" % calls)
+        programs.miss("%d pings by 8 workers take more than %.1f times as long as by 2" % (calls, MOST_DIFFERENCE))
 
 
 def measure_channels(runs):

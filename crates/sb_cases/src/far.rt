@@ -19,7 +19,7 @@ pub fn put_far(alloc: Global, row: &str, page: &mut Page) -> Result<(), RowFault
     Ok(())
 }
 
-// A fault in the last line that has a number, the last thread, or want of memory.
+// A fault in the last line that has a number, the last thread, or out of memory.
 fn far_status(row: &str) -> Option<Status> {
     match row {
         "far policy" => Some(Status::PolicyRefused(policy_fault())),

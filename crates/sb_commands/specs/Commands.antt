@@ -9,8 +9,8 @@ use Rattle.sb_commands.specs.declared.commands.CommandWords.{CommandWords}
 use Rattle.sb_commands.specs.declared.commands.CommandWords.TheVariants as words
 
 -- a command with the names of its files, or with its numbers: policies are checked; a script is replayed under policies, by a schedule where one is
--- named; a script is run under policies on threads, by this number of workers; or a script of this seed, with so many targets, and calls a thread, is
--- made and run on threads
+-- named; a script is run under policies on threads, by this number of workers; or a script of this seed, with these numbers of targets and of calls a
+-- thread, is made and run on threads
 pub data Command : Type 0 where
   Check : List ℕ → Command
   Replay : List ℕ → List ℕ → Option (List ℕ) → Command

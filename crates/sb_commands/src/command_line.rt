@@ -10,7 +10,7 @@ use crate::number_words::{calls_of, seed_of, targets_of, workers_of};
 use clap::{Arg, ArgAction, ArgMatches, Command};
 use std::alloc::{AllocError, Global};
 
-// A word that a command has to have.
+// A required word.
 fn word<'a>(alloc: Global, name: &'a str) -> Arg<'a>
     ensures rule { rule_of result ≡ word_rule name.entry.now }
     ensures local { result.global ≡ false }
@@ -18,7 +18,7 @@ fn word<'a>(alloc: Global, name: &'a str) -> Arg<'a>
     Arg::new(alloc, name).required(true).action(ArgAction::Set)
 }
 
-// A word that a command may have.
+// An optional word.
 fn further_word<'a>(alloc: Global, name: &'a str) -> Arg<'a>
     ensures rule { rule_of result ≡ further_rule name.entry.now }
     ensures local { result.global ≡ false }

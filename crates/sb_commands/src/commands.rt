@@ -184,7 +184,8 @@ pub fn needs_threads(words: &[String]) -> bool
 /// Which words are a command is tested here. Only words that are go to the library for command lines, which gives the
 /// values.
 ///
-/// `NoMemory` where there was none to read words that are a command.
+/// # Errors
+/// `NoMemory` where there was none to read words that are a command, and never over other words.
 #[tactic(auto, using(crate::proofs::TakenWords::commands_are_taken, crate::proofs::TakenWords::commands_are_read, crate::proofs::ReadWords::line_is_simple))]
 pub fn command_of(alloc: Global, words: &[String]) -> Result<Option<CommandWords<'_>>, NoMemory>
     ensures exact { IfOk result (λ command. option_map meant command ≡ command_of (texts words.now)) }

@@ -17,7 +17,7 @@ fn number_within(low: u32, high: u32, word: &[u8]) -> Option<u32>
 }
 
 /// A number of workers, from 1 to 8.
-pub fn workers_of(word: &[u8]) -> Option<u32>
+pub(crate) fn workers_of(word: &[u8]) -> Option<u32>
     ensures value { result ≡ workers_of word.now }
     ensures within { IfSome result (λ n. (1 ≤ n) × (n ≤ 8)) }
 {
@@ -25,7 +25,7 @@ pub fn workers_of(word: &[u8]) -> Option<u32>
 }
 
 /// The number of workers that the two words `--workers N` give.
-pub fn workers_apart(option: &str, word: &str) -> Option<u32>
+pub(crate) fn workers_apart(option: &str, word: &str) -> Option<u32>
     ensures { result ≡ workers_apart option.now word.now }
 {
     if option == "--workers" {
@@ -35,7 +35,7 @@ pub fn workers_apart(option: &str, word: &str) -> Option<u32>
 }
 
 /// The number of workers that the one word `--workers=N` gives.
-pub fn workers_joined(word: &str) -> Option<u32>
+pub(crate) fn workers_joined(word: &str) -> Option<u32>
     ensures { result ≡ workers_joined word.now }
 {
     match word.as_bytes().strip_prefix(b"--workers=".as_slice()) {
@@ -45,14 +45,14 @@ pub fn workers_joined(word: &str) -> Option<u32>
 }
 
 /// A seed, below 2^64.
-pub fn seed_of(word: &str) -> Option<u64>
+pub(crate) fn seed_of(word: &str) -> Option<u64>
     ensures { result ≡ seed_of word.now }
 {
     decimal_of(word.as_bytes())
 }
 
 /// A number of targets, from 1 to 8.
-pub fn targets_of(word: &str) -> Option<u32>
+pub(crate) fn targets_of(word: &str) -> Option<u32>
     ensures value { result ≡ targets_of word.now }
     ensures within { IfSome result (λ n. (1 ≤ n) × (n ≤ 8)) }
 {
@@ -60,7 +60,7 @@ pub fn targets_of(word: &str) -> Option<u32>
 }
 
 /// A number of statements in each thread, from 1 to 4,096.
-pub fn calls_of(word: &str) -> Option<u32>
+pub(crate) fn calls_of(word: &str) -> Option<u32>
     ensures value { result ≡ calls_of word.now }
     ensures within { IfSome result (λ n. (1 ≤ n) × (n ≤ 4096)) }
 {

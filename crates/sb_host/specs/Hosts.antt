@@ -17,7 +17,7 @@ abbrev pub read_fault : ErrorKind → FileFault
 read_fault kind.OutOfMemory = NoMemory
 read_fault _ = Failed
 
--- the count of faults after an answer: each fault counts but want of memory
+-- the count of faults after an answer: each fault counts, except running out of memory
 abbrev pub count_after : FileFault → ℕ → ℕ
 count_after Missing count = next_count count
 count_after TooLong count = next_count count

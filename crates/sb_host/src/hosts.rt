@@ -26,7 +26,7 @@ impl<R: rt::Files + Drop> HostFiles<R> {
         HostFiles { rt, faults: 0 }
     }
 
-    // Counts the fault, unless it is want of memory.
+    // Counts the fault, unless memory ran out.
     fn counted(&mut self, fault: FileFault) -> FileFault
         ensures fault { result ≡ fault }
         ensures count { self.new.faults ≡ count_after fault self.old.faults }

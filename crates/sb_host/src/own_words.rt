@@ -1,5 +1,5 @@
 // The words that the program answers itself.
-ghost use Rattle.std.specs.Prelude.{◌≡◌, map, string_bytes};
+ghost use Rattle.std.specs.Prelude.{◌≡◌, ◌<◌, length, map, string_bytes};
 ghost use Rattle.sb_host.specs.OwnWords.{own_word_by, own_word_of};
 
 /// What the program tells of itself.
@@ -33,8 +33,10 @@ fn own_word_by(word: &[u8]) -> Option<OwnWord>
     None
 }
 
-/// What is answered to such a word.
-pub fn own_text(word: OwnWord) -> &'static str {
+/// What is answered to such a word: some text.
+pub fn own_text(word: OwnWord) -> &'static str
+    ensures { 0 < length result.now }
+{
     match word {
         OwnWord::Help => HELP,
         OwnWord::Version => VERSION,

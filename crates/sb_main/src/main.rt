@@ -1,15 +1,15 @@
 // The program: the words of its command line, real files and standard output, and how it ends.
 #![tactic(auto)]
 
-ghost use Rattle.std.specs.Prelude.{◌≡◌, ◌⊎◌, ◌++◌, None, option_map};
+ghost use Rattle.std.specs.Prelude.{◌≡◌, ◌⊎◌, ◌<◌, ◌++◌, IsSome, None, length, option_map};
 ghost use Rattle.sb_outside.specs.Outside.{Rose};
 ghost use Rattle.sb_commands.specs.Commands.{command_of, texts};
 ghost use Rattle.sb_top.specs.Effects.{effect};
-ghost use Rattle.sb_top.specs.Top.{IsEndOf};
 ghost use Rattle.std.specs.Process.{exit_status};
 ghost use Rattle.sb_top.specs.Exits.{code_of};
 ghost use Rattle.sb_main.specs.Gathering.{gathering_status};
 ghost use Rattle.sb_host.specs.OwnWords.{own_word_of};
+ghost use Rattle.sb_main.specs.Answers.{IsAnswer, IsTold};
 ghost use Rattle.sb_main.specs.Faulty.{IsFaulty};
 
 use sb_host::{HostFiles, HostSink, own_text, own_word};
@@ -76,8 +76,10 @@ fn answer<R: AllocGlobal + Threads + Wait + Sync, F: Files, K: Sink>(
 ) -> Status
     ensures usage { result ≡ Status.Usage → IsFaulty (texts words.now) }
     ensures faulty { IsFaulty (texts words.now) → result ≡ Status.Usage }
-    ensures command { own_word_of (texts words.now) ≡ None → IsEndOf (command_of (texts words.now))
+    ensures command { own_word_of (texts words.now) ≡ None → IsAnswer (command_of (texts words.now))
         (effect F.held F.faults K.written K.faults files.old files.new out.old out.new) result }
+    ensures own { IsSome (own_word_of (texts words.now)) →
+        IsTold (effect F.held F.faults K.written K.faults files.old files.new out.old out.new) result }
 {
     match own_word(words) {
         Some(word) => tell(own_text(word).as_bytes(), out),

@@ -51,6 +51,6 @@ module _ {A : Type 0} where
   spread_all cs [] = cs
   spread_all cs (row ∷ rows) = spread_all (spread cs row) rows
 
-  -- so many columns of these rows
+  -- this number of columns of these rows
   abbrev pub columns_of : ℕ → List (List A) → List (List A)
   columns_of n rows = spread_all (replicate n []) rows

@@ -10,7 +10,7 @@ use Rattle.sb_run.specs.Pairing.{AllPairs}
 abbrev pub AreInOrder : Script → List SectionValue → Type 0
 AreInOrder script sections = (t : ℕ) (s : SectionValue) → slice_get sections t ≡ Some s → (s.target ≡ t) × (s.clean ≡ clean_channels script t)
 
--- the worker's seat of a section that has made seats for the target's threads, and so many stray ones
+-- the worker's seat of a section that has made seats for the target's threads, and this number of stray ones
 abbrev pub IsWorkerOf : Script → ℕ → SectionValue → WorkerSeatValue → Type 0
 IsWorkerOf script strays s w = (w.table ≡ s.table) × (w.view ≡ opened_worker s.clean (thread_count (slice_get script.targets s.target)) strays)
 

@@ -12,7 +12,7 @@ use Rattle.sb_run.specs.declared.returns.TaskReturn.TheVariants as task
 abbrev pub HasServed : HandAt → HandAt → Type 0
 HasServed old new = IsSameHand old new × (length new.pool.rooms ≡ length old.pool.rooms)
 
--- the thread of a task ended, came back without a step, or was stopped for want of memory
+-- the thread of a task ended, came back without a step, or was stopped since memory ran out
 abbrev pub IsTaskReturn : Script → TaskAt → TaskReturn → Type 0
 IsTaskReturn script x (task.Ended e) = IsEndOf script x e
 IsTaskReturn script x (task.Back y) = y ≡ x

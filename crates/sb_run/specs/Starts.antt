@@ -74,7 +74,7 @@ pub record ArePoolSeatsOf (x : StartAt) : Type 0 where
   pub mine : IsSeatOf x.pool x.seat × ((seen x.seat).number ≡ length x.hands) × ((seen x.seat).out ≡ []) × ((seen x.seat).taken ≡ []) × ((seen x.seat).count ≡ None)
 
 -- The run of a script under its policies can begin: what the actors share is as it should be, the turn has the new book of the script, there is a
--- task for each thread and so many pairs of seats for those who serve, and each work is at home
+-- task for each thread, this number of pairs of seats for those who serve, and each work is at home
 pub record IsStart (policies : List Policy) (script : Script) (workers : ℕ) (x : StartAt) : Type 0 where
   pub field : IsField (field_of (setting_of policies script).policies script x)
   pub book : x.turn.origin.value ≡ new_history (setting_of policies script)

@@ -32,7 +32,7 @@ pub record LinedAt : Type 0 where
 abbrev pub IsStrayOf : ℕ → SectionValue → StraySeatValue → Type 0
 IsStrayOf k s seat = (seat.table ≡ s.table) × (seat.view ≡ fresh_stray s.clean k)
 
--- a row for each of so many threads. The seats of the n-th row are the n-th from behind
+-- a row for each of this number of threads. The seats of the n-th row are the n-th from behind
 pub record AreRows (sections : List SectionValue) (count : ℕ) (rows : List (List StraySeatValue)) : Type 0 where
   pub many : length rows ≡ count
   pub each : (n k : ℕ) (row : List StraySeatValue) → slice_get rows n ≡ Some row → k + (n + 1) ≡ count → AllPairs (IsStrayOf k) sections row
@@ -47,7 +47,7 @@ with_row [] row = []
 with_row (c ∷ cs) [] = c ∷ cs
 with_row (c ∷ cs) (x ∷ row) = (c ++ x ∷ []) ∷ with_row cs row
 
--- how many threads the first so many targets of a script have
+-- how many threads the first targets of a script have, up to this number
 abbrev pub threads_upto : Script → ℕ → ℕ
 threads_upto script zero = 0
 threads_upto script (suc n) = threads_upto script n + thread_count (slice_get script.targets n)

@@ -21,4 +21,5 @@ mod teams;
 mod turning;
 
 pub use runs::run_threads;
+// The actors that make the steps are part of what this crate shows.
 pub use sb_task::{ThreadActor, WorkerActor};

@@ -55,7 +55,7 @@ pub(crate) fn thread_count(script: &Script, target: u32) -> u32
     script.targets.as_slice()[target as usize].threads.len() as u32
 }
 
-// Whether each of the first so many channels of a target is clean.
+// Whether each of the first channels of a target, up to this number, is clean.
 #[tactic(auto, using(crate::proofs::Opening::clean_more))]
 fn clean_marks_of(
     alloc: Global,
@@ -72,7 +72,7 @@ fn clean_marks_of(
     Ok(marks)
 }
 
-// The section of a target, with seats for its threads and so many stray ones.
+// The section of a target, with seats for its threads and this number of stray ones.
 #[tactic(auto, using(crate::proofs::Opening::clean_length))]
 fn open_section(
     alloc: Global,
@@ -131,7 +131,7 @@ fn open_next(
     Ok(())
 }
 
-/// The sections of all targets of a script, each with a seat for each thread of the target and so many stray ones.
+/// The sections of all targets of a script, each with a seat for each thread of the target and this number of stray ones.
 ///
 /// # Errors
 /// `NoMemory` where there was none for them.

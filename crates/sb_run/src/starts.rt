@@ -194,7 +194,7 @@ fn deal(alloc: Global, script: &Script, prepared: Prepared) -> Result<Dealt, NoM
     })
 }
 
-// The pool of the works, with one seat for each of so many who serve, and the caller's.
+// The pool of the works, with one seat for each of those who serve, and the caller's.
 fn open_pool<R: Wait>(
     rt: &R,
     alloc: Global,
@@ -248,7 +248,7 @@ fn man<R: Wait>(rt: &R, alloc: Global, dealt: Dealt, workers: u32) -> Result<Sta
     })
 }
 
-/// A run of a script under its policies before its first step, with so many who serve: 1 to 8.
+/// A run of a script under its policies before its first step, with this number of those who serve: 1 to 8.
 ///
 /// # Errors
 /// `NoMemory` where there was none for the sections, the book, the turn, the pool or the lists of seats.

@@ -46,7 +46,7 @@ fn take_row(alloc: Global, columns: &mut Vec<Vec<StraySeat>>) -> Result<Vec<Stra
     Ok(row)
 }
 
-/// Puts the stray seats of all sections in rows, one for each of so many threads.
+/// Puts the stray seats of all sections in rows, one for each of `count` threads.
 ///
 /// # Errors
 /// `NoMemory` where there was none for the rows.

@@ -1,11 +1,12 @@
 -- One step of the actor of a worker.
-use Rattle.std.specs.Prelude.{◌≡◌, ◌≢◌, ◌⊎◌, true, false, [], ◌∷◌, ◌++◌, Some, None}
+use Rattle.std.specs.Prelude.{◌≡◌, ◌≢◌, ◌⊎◌, ⊤, true, false, [], ◌∷◌, ◌++◌, Option, Some, None}
 use Rattle.sb_actor.specs.WorkerTable.{taken_in, worker_after, worker_plan}
 use Rattle.sb_actor.specs.declared.acts.Act.{Act}
 use Rattle.sb_actor.specs.declared.acts.Act.TheVariants as act
 use Rattle.sb_actor.specs.declared.acts.Seen.TheVariants as seen
 use Rattle.sb_block.specs.Copies.{Copied}
 use Rattle.sb_book.specs.Decisions.{decision_of}
+use Rattle.sb_book.specs.declared.decisions.Decision.{Decision}
 use Rattle.sb_book.specs.Histories.{History, answered, entry_of}
 use Rattle.sb_rule.specs.Verdicts.{policy_at}
 use Rattle.sb_section.specs.Steps.{WorkerSteps}
@@ -83,6 +84,16 @@ pub record FindsNoMemory (x y : WorkerActorAt) : Type 0 where
   pub stops : y.book.view.stops ≡ true
   pub seen : y.book.view.seen ≡ x.book.view.seen
   pub own : y.book.view.own ≡ x.book.view.own
+
+-- memory is asked for by the decision on a copy, where there is none yet, and by the book's answer
+abbrev pub MayAskMemory : Act → Option Decision → Type 0
+MayAskMemory act.Take decision = decision ≡ None
+MayAskMemory act.Mark decision = ⊤
+MayAskMemory act.Give decision = ⊥
+MayAskMemory act.Idle decision = ⊥
+MayAskMemory (act.Load t word) decision = ⊥
+MayAskMemory (act.Store t word value) decision = ⊥
+MayAskMemory (act.Exchange t word from to) decision = ⊥
 
 -- what no step changes
 pub record IsSameActor (x y : WorkerActorAt) : Type 0 where

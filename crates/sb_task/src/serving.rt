@@ -1,8 +1,10 @@
 // What a thread does that serves sections: it draws one, serves it for a while, and hands it back.
-ghost use Rattle.std.specs.Prelude.{◌≡◌, ◌<◌, true, false, length, IfOk, OnOk};
+ghost use Rattle.std.specs.Prelude.{◌≡◌, ◌≢◌, ◌<◌, true, false, length, IfOk, IsTrue, OnOk};
+ghost use mathlib.Core.Logic.{◌↔◌};
 ghost use Rattle.sb_actor.specs.WorkerNotes.{WorkerNotes};
 ghost use Rattle.sb_actor.specs.WorkerTable.{is_looking};
 ghost use Rattle.sb_pool.specs.Pools.{IsSeatOf, seen};
+ghost use Rattle.sb_turn.specs.Views.{looked, stop_word};
 ghost use Rattle.sb_task.specs.Fields.{AreHomes, IsHome};
 ghost use Rattle.sb_task.specs.Hands.{IsHand, IsSameHand};
 ghost use Rattle.sb_task.specs.WorkerSteps.{IsSameActor};
@@ -36,7 +38,8 @@ impl Model for Hand {
     ghost view = { λ x. record { pool = x.seat; book = x.book } };
 }
 
-// Steps of a worker, until it has acknowledged a call, or has looked at each channel and found none ready. True if it found none.
+// Steps of a worker, until it has acknowledged a call, or has looked at each channel and found none ready. True if it found none. In mid-call it keeps
+// its section, and yields where the turn is held.
 fn work_on<'a, J: Judge, G: Gate, R: Wait>(
     rt: &R,
     alloc: Global,
@@ -106,7 +109,8 @@ fn serve<J: Judge, G: Gate, R: Wait>(
     Ok((Work::of(state, seat, book), idle))
 }
 
-// Draws a section, serves it for a while, and hands it back. Others go first where there was nothing to serve; by then they can draw it.
+// Draws a section, serves it for a while, and hands it back. The thread yields where there was no section to draw, and, behind the hand-back, where no
+// channel of the section was ready, so that others can draw it meanwhile.
 fn serve_next<J: Judge, G: Gate, R: Wait>(
     rt: &R,
     alloc: Global,
@@ -131,7 +135,7 @@ fn serve_next<J: Judge, G: Gate, R: Wait>(
     Ok(())
 }
 
-/// One turn of a thread that serves sections: it looks at the stop word, and where that is not set it serves one section for a while. True if
+/// One pass of a thread that serves sections: it looks at the stop word, and where that is not set it serves one section for a while. True if
 /// the stop word was set.
 ///
 /// # Errors
@@ -145,6 +149,8 @@ pub fn attend_once<J: Judge, G: Gate, R: Wait>(
     requires hand { IsHand field.now hand.old }
     ensures hand { OnOk result (IsHand field.now hand.new) }
     ensures same { OnOk result (IsSameHand hand.old hand.new) }
+    ensures looked { OnOk result (hand.new.book.view ≡ looked hand.old.book.view stop_word hand.new.book.view.found) }
+    ensures stopped { IfOk result (λ stopped. IsTrue stopped ↔ (hand.new.book.view.found ≢ 0)) }
 {
     if hand.book.stopped(field.turn) {
         return Ok(true);
@@ -166,6 +172,7 @@ pub fn attend<J: Judge, G: Gate, R: Wait>(
     requires hand { IsHand field.now hand.old }
     ensures hand { OnOk result (IsHand field.now hand.new) }
     ensures same { OnOk result (IsSameHand hand.old hand.new) }
+    ensures stopped { OnOk result ((hand.new.book.view.word ≡ stop_word) × (hand.new.book.view.found ≢ 0)) }
 {
     for _ in rt.forever() {
         if attend_once(rt, alloc, field, hand)? {

@@ -1,10 +1,13 @@
 // A thread before its first step, while it runs, and at its end.
-ghost use Rattle.std.specs.Prelude.{◌≡◌, true, IfOk, OnOk};
+ghost use Rattle.std.specs.Prelude.{◌≡◌, ◌≢◌, true, IfOk, IsTrue, OnErr, OnOk};
+ghost use mathlib.Core.Logic.{◌↔◌};
 ghost use Rattle.sb_actor.specs.Places.{is_finished};
 ghost use Rattle.sb_statements.specs.Soundness.{is_sound};
 ghost use Rattle.sb_task.specs.Hands.{IsSameBook};
 ghost use Rattle.sb_task.specs.Tasks.{IsEnd, IsEndOf, IsRunner, IsSameRunner, IsTask};
 ghost use Rattle.sb_task.specs.ThreadActors.{AreSections};
+ghost use Rattle.sb_task.specs.ThreadSteps.{Steps};
+ghost use Rattle.sb_turn.specs.Views.{looked, stop_word};
 
 use crate::threads::ThreadActor;
 use sb_actor::{Act, ThreadState};
@@ -67,7 +70,7 @@ impl<'a> Model for Runner<'a> {
     ghost view = { λ x. record { actor = x.actor; book = x.book } };
 }
 
-// Whether a step found nothing to go on with: a load that is to be made again, or a round of exchanges that is to begin anew.
+// Whether a step that ended no statement found nothing to go on with: a load that is to be made again, or a round of exchanges that is to begin anew.
 fn is_waiting(before: Act, after: Act) -> bool {
     match (before, after) {
         (Act::Load { word: old, .. }, Act::Load { word: new, .. }) => {
@@ -120,23 +123,29 @@ impl<'a> Runner<'a> {
         self.actor.finished()
     }
 
-    /// Makes the thread's next step. True if it found nothing to go on with; then others were let go first.
+    /// Makes the thread's next step; a finished thread makes none. True if it found nothing to go on with; then the thread has yielded.
     pub fn step(&mut self) -> bool
-        ensures { IsSameRunner self.old self.new }
+        ensures actor { Steps self.old.actor self.new.actor }
+        ensures book { self.new.book ≡ self.old.book }
+        ensures same { IsSameRunner self.old self.new }
     {
         let before = self.actor.act();
+        let ended = self.actor.ended();
         self.actor.step();
-        let waiting = is_waiting(before, self.actor.act());
+        let waiting = self.actor.ended() == ended && is_waiting(before, self.actor.act());
         if waiting {
             yield_now();
         }
         waiting
     }
 
-    /// Whether the stop word is set.
-    pub fn stopped(&mut self, turn: &Turn) -> bool
+    // Whether this look found the stop word set.
+    fn stopped(&mut self, turn: &Turn) -> bool
         requires { self.old.book.table ≡ turn.now.table }
-        ensures { IsSameRunner self.old self.new }
+        ensures actor { self.new.actor ≡ self.old.actor }
+        ensures looked { self.new.book.view ≡ looked self.old.book.view stop_word self.new.book.view.found }
+        ensures set { IsTrue result ↔ (self.new.book.view.found ≢ 0) }
+        ensures same { IsSameRunner self.old self.new }
     {
         self.book.stopped(turn)
     }
@@ -162,6 +171,7 @@ impl<'a> Runner<'a> {
 fn go_through<R: Wait>(rt: &R, turn: &Turn, runner: &mut Runner<'_>) -> Result<(), NoMemory>
     requires { runner.old.book.table ≡ turn.now.table }
     ensures same { IsSameRunner runner.old runner.new }
+    ensures stopped { OnErr result ((runner.new.book.view.word ≡ stop_word) × (runner.new.book.view.found ≢ 0)) }
     ensures finished { OnOk result (is_finished runner.new.actor.script runner.new.actor.thread ≡ true) }
 {
     for _ in rt.forever() {
@@ -179,7 +189,8 @@ fn go_through<R: Wait>(rt: &R, turn: &Turn, runner: &mut Runner<'_>) -> Result<(
 /// Runs a thread to its end.
 ///
 /// # Errors
-/// `NoMemory` where there was none for its results, or the stop word was set before it ended.
+/// `NoMemory` where there was none for its results, in which case the stop word is set; or where it waited and found the stop word set. The seats are
+/// then dropped.
 pub fn run_task<R: Wait>(
     rt: &R,
     alloc: Global,

@@ -253,11 +253,11 @@ impl<'a> ThreadActor<'a> {
         self.state.finished(self.script)
     }
 
-    /// What holds of every actor of a thread. It does nothing: its contract is the facts.
-    pub fn establish_kept(&self)
-        ensures { IsThreadActor self.now }
+    /// How many statements have ended.
+    pub(crate) fn ended(&self) -> usize
+        ensures { result ≡ length self.now.results }
     {
-        let _count = self.strays.len();
+        self.results.len()
     }
 
     /// The results of a finished actor, by place, its seat and its stray seats, in target order. These are the seats that were handed to it, and have

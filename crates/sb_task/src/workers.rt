@@ -10,7 +10,7 @@ ghost use Rattle.sb_rule.specs.Verdicts.{policy_at};
 ghost use Rattle.sb_section.specs.Steps.{IsOnWord};
 ghost use Rattle.sb_turn.specs.declared.views.Hold.TheVariants.{Without};
 ghost use Rattle.sb_task.specs.WorkerActors.{CanServe, decision_on, is_try};
-ghost use Rattle.sb_task.specs.WorkerSteps.{FindsNoMemory, IsSameActor, Steps};
+ghost use Rattle.sb_task.specs.WorkerSteps.{FindsNoMemory, IsSameActor, MayAskMemory, Steps};
 
 use sb_actor::{Act, Seen, WorkerState};
 use sb_book::{Book, Decision, decide};
@@ -86,6 +86,7 @@ fn decide_once<J: Judge, G: Gate, R: Wait>(
     requires before { (decision.old ≡ None) ⊎ (decision.old ≡ decision_on (J.policies judge.now) worker.now.target (taken_in worker.now.stage)) }
     ensures ok { OnOk result (decision.new ≡ decision_on (J.policies judge.now) worker.now.target (taken_in worker.now.stage)) }
     ensures err { OnErr result (decision.new ≡ decision.old) }
+    ensures asked { OnErr result (decision.old ≡ None) }
 {
     if decision.is_some() {
         return Ok(());
@@ -169,6 +170,7 @@ impl<'a, J: Judge, G: Gate> WorkerActor<'a, J, G> {
         requires plan { worker_plan self.old.worker ≡ Take }
         ensures ok { OnOk result (Steps self.old self.new × (self.new.failed ≡ false)) }
         ensures err { OnErr result (FindsNoMemory self.old self.new) }
+        ensures asked { OnErr result (self.old.decision ≡ None) }
         ensures same { IsSameActor self.old self.new }
     {
         let decided = decide_once(
@@ -254,6 +256,7 @@ impl<'a, J: Judge, G: Gate> WorkerActor<'a, J, G> {
         requires { self.old.failed ≡ false }
         ensures ok { OnOk result (Steps self.old self.new × (self.new.failed ≡ false)) }
         ensures err { OnErr result (FindsNoMemory self.old self.new) }
+        ensures asked { OnErr result (MayAskMemory (worker_plan self.old.worker) self.old.decision) }
         ensures same { IsSameActor self.old self.new }
         ensures notes { WorkerNotes self.old.seat.view → WorkerNotes self.new.seat.view }
     {

@@ -18,7 +18,7 @@ policies_or_none (Err fault) = []
 unfoldable pub made_policies : List Policy
 made_policies = policies_or_none (reading policy_text)
 
--- `made targets A threads B calls C`: two threads a target, and so many calls a thread
+-- `made targets A threads B calls C`: two threads a target, each with C calls
 abbrev pub made_line : ℕ → ℕ → List ℕ
 made_line targets calls =
     codes "made targets " ++ (decimal targets ++ (codes " threads " ++ (decimal (targets * 2) ++ (codes " calls " ++ (decimal (targets * 2 * calls) ++ codes "\n")))))

@@ -5,7 +5,7 @@ use Rattle.sb_statements.specs.declared.schedules.Schedule.{Schedule}
 use Rattle.sb_statements.specs.declared.scripts.Script.{Script}
 use Rattle.sb_top.specs.declared.outcomes.Status.{Status}
 
--- policies are printed; a script is run under policies by a schedule, or on threads; or a script of this seed, with so many targets and calls a thread, is
+-- policies are printed; a script is run under policies by a schedule, or on threads; or a script of this seed, with these numbers of targets and of calls a thread, is
 -- made and run on threads
 pub data Work : Type 0 where
   Prints : List Policy → Work

@@ -4,7 +4,7 @@ use Rattle.sb_commands.specs.Commands.{command_of, texts}
 use Rattle.sb_commands.proofs.TakenWords.{commands_are_taken}
 use Rattle.sb_commands.proofs.commands.command_of.Goals as goal
 
--- a refusal other than want of memory does not come
+-- no refusal comes but that memory ran out
 pub unreachable-requires : goal.unreachable-requires
 unreachable-requires c =
     let some : IsSome (command_of (texts c.args.words.now)) = search rules in

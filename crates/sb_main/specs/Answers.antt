@@ -1,0 +1,30 @@
+-- What the program does for its words, over any files and any output.
+use Rattle.std.specs.Prelude.{◌≡◌, ◌⊎◌, ◌<◌, ◌++◌, ℕ, List, Option, length, option_map}
+use Rattle.sb_commands.specs.Commands.{Command}
+use Rattle.sb_outside.specs.Outside.{Rose}
+use Rattle.sb_top.specs.Effects.{Effect, IsOrderly}
+use Rattle.sb_top.specs.Top.{IsEndOf, IsReportFor, IsToldFor, IsWrittenFor}
+use Rattle.sb_top.specs.declared.outcomes.Outcome.{Outcome}
+use Rattle.sb_top.specs.declared.outcomes.Status.{Status}
+use Rattle.sb_top.specs.declared.outcomes.Status.TheVariants.{Done, WriteFault}
+
+-- the status and the effect are those of an outcome with which the top call may end
+pub record IsAnswer {G S : Type 0} (command : Option Command) (e : Effect G S) (s : Status) : Type 0 where
+  pub outcome : Outcome
+  pub its_status : outcome.status ≡ s
+  pub orderly : IsOrderly e outcome
+  pub ends : IsEndOf command e outcome.status
+  pub report : IsReportFor command e.held outcome
+  pub written : IsWrittenFor command e outcome
+  pub told : IsToldFor command e outcome
+
+-- the output grew by a text
+pub record IsPut {G S : Type 0} (e : Effect G S) : Type 0 where
+  pub text : List ℕ
+  pub some : 0 < length text
+  pub grown : e.written' ≡ option_map (λ w. w ++ text) e.written
+
+-- no file was touched, and a text was put, or the output failed
+pub record IsTold {G S : Type 0} (e : Effect G S) (s : Status) : Type 0 where
+  pub unread : e.files' ≡ e.files
+  pub ends : ((s ≡ Done) × IsPut e) ⊎ ((s ≡ WriteFault) × Rose e.puts e.puts')
