@@ -3,7 +3,7 @@ use Rattle.std.specs.Prelude.{◌≡◌, ◌⊎◌, ◌<◌, ◌++◌, ℕ, List
 use Rattle.sb_commands.specs.Commands.{Command}
 use Rattle.sb_outside.specs.Outside.{Rose}
 use Rattle.sb_top.specs.Effects.{Effect, IsOrderly}
-use Rattle.sb_top.specs.Top.{IsEndOf, IsReportFor, IsToldFor, IsWrittenFor}
+use Rattle.sb_top.specs.Top.{IsEndOf, IsReportFor, IsToldFor, IsUnreadBy, IsWrittenFor}
 use Rattle.sb_top.specs.declared.outcomes.Outcome.{Outcome}
 use Rattle.sb_top.specs.declared.outcomes.Status.{Status}
 use Rattle.sb_top.specs.declared.outcomes.Status.TheVariants.{Done, WriteFault}
@@ -14,6 +14,7 @@ pub record IsAnswer {G S : Type 0} (command : Option Command) (e : Effect G S) (
   pub its_status : outcome.status ≡ s
   pub orderly : IsOrderly e outcome
   pub ends : IsEndOf command e outcome.status
+  pub unread : IsUnreadBy command (e.files' ≡ e.files)
   pub report : IsReportFor command e.held outcome
   pub written : IsWrittenFor command e outcome
   pub told : IsToldFor command e outcome
