@@ -2,9 +2,9 @@
 use Rattle.std.proofs.Common.{◌≡◌, ◌≢◌, ℕ, ◌+◌, ◌-◌, ◌<◌, ◌≤◌, ◌==◌, Bool, true, false, cond, zero, suc, refl, sym, ◌∙◌, ap, subst, arith, List, [], ◌∷◌, ◌++◌, length, get_or, set, length-set, ◌⊎◌, inl, inr}
 use Rattle.std.proofs.lemmas.Bool.{false≢true}
 use Rattle.std.proofs.lemmas.Grind.{common_steps}
-use Rattle.std.proofs.lemmas.List.{length-map}
-use Rattle.std.specs.Prelude.{Option, None, Some, ◌||◌, IsSome}
-use Rattle.sb_arena.specs.Forests.{Row, bare_row, row_at, without, Forest, IsLive, IsSound, with_node, has, Single, parent_of, children_of}
+use Rattle.std.proofs.lemmas.List.{length-append, length-map}
+use Rattle.std.specs.Prelude.{Option, None, Some, ◌||◌, IsSome, if◌then◌else◌, slice_index}
+use Rattle.sb_arena.specs.Forests.{Row, bare_row, row_at, without, Forest, IsLive, IsSound, with_node, node_number, has, Single, parent_of, children_of}
 use Rattle.sb_arena.proofs.LinkLaws.{same_of, other_of, is_same, is_other, at_set}
 use Rattle.sb_arena.proofs.LinkTies.{same_row}
 use Rattle.sb_arena.proofs.Readers.{live_present}
@@ -56,6 +56,9 @@ module _ {T : Type 0} (f : Forest T) (sound : IsSound f) (long : length f.rows �
             let d : has p f.free ≡ true = ap (λ k. has k f.free) (sym s) ∙ h in
             same_row (ap (λ r. r.parent) (still p d)) (none d)
         by false n e h = still n h
+
+last_is : (k : ℕ) (rest : List ℕ) (n : ℕ) → (if length (rest ++ n ∷ []) == 0 then k else slice_index (rest ++ n ∷ []) (length (rest ++ n ∷ []) - 1)) ≡ n
+last_is k rest n = grind (arith, common_steps)
 
 below_all : (k : ℕ) (xs : List ℕ) → ((n : ℕ) → has n xs ≡ true → n < k) → Below k xs
 below_all k [] f = tt
@@ -198,6 +201,10 @@ module _ {T : Type 0} (links : List Link) (values : List (Option T)) (free : Lis
     pub reuse_in : n < length values
     reuse_in = (sound.dead n (ap (λ k. has n k) s ∙ has_last n rest)).0
 
+    pub reuse_number : n ≡ node_number f
+    reuse_number =
+        sym (ap node_number (sym e) ∙ ap (λ k. node_number (record { rows = rows_of links; values = values; free = k })) s ∙ last_is (length (rows_of links)) rest n)
+
     pub reuse_kept : (v : T) → IsSound (record { rows = rows_of links; values = set values n (Some v); free = rest })
     reuse_kept v =
         let parts = single_parts rest n (subst (λ k. Single k) s sound.single) in
@@ -255,12 +262,23 @@ module _ {T : Type 0} (links : List Link) (values : List (Option T)) (free : Lis
         ∙ sym (ap (λ k. with_node (record { rows = rows_of links; values = values; free = k }) v) none)
         ∙ ap (λ f. with_node f v) e
 
+    pub fresh_number : length links ≡ node_number f
+    fresh_number =
+        sym (ap node_number (sym e) ∙ ap (λ k. node_number (record { rows = rows_of links; values = values; free = k })) none ∙ length-map links (row_of links))
+
     pub fresh_long : length (links ++ no_link ∷ []) ≡ length (values ++ Some v ∷ [])
     fresh_long = one links no_link ∙ ap (λ k. k + 1) tied.0 ∙ sym (one values (Some v))
       where
         one : {A : Type 0} (xs : List A) (x : A) → length (xs ++ x ∷ []) ≡ length xs + 1
         one xs x = grind (arith, common_steps)
 
-pub no_items : {A : Type 0} (xs : List A) → length xs ≡ 0 → xs ≡ []
-no_items [] h = refl
-no_items (x ∷ xs) h = absurd (omega (arith, h))
+-- nothing was left, and nothing is
+pub none_left : {A : Type 0} (xs ys : List A) → xs ≡ ys ++ [] → length xs ≡ 0 → (xs ≡ []) × (ys ≡ [])
+none_left xs [] e h = (e, refl)
+none_left xs (y ∷ ys) e h = absurd (omega (arith, ap length e, h))
+
+pub room_kept : {A : Type 0} (xs : List A) (x : A) (k : ℕ) → length xs < k → length (xs ++ x ∷ []) ≤ k
+room_kept xs x k h = simp length-append (omega arith)
+
+pub still_room : (n : ℕ) {a b : ℕ} → n ≤ a → a ≤ b → n ≤ b
+still_room n h k = omega arith

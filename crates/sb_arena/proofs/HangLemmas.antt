@@ -1,5 +1,5 @@
 -- Nodes that are linked below one, before and after a node is linked last or is unlinked.
-use Rattle.std.proofs.Common.{◌≡◌, ◌≢◌, ℕ, ◌+◌, refl, sym, ◌∙◌, ap, subst, List, [], ◌∷◌, ◌++◌}
+use Rattle.std.proofs.Common.{◌≡◌, ◌≢◌, ℕ, refl, sym, ◌∙◌, ap, subst, List, [], ◌∷◌, ◌++◌}
 use Rattle.std.specs.Prelude.{Option, None, Some}
 use Rattle.sb_arena.specs.declared.links.Link.{Link}
 use Rattle.sb_arena.specs.Links.{Hangs}

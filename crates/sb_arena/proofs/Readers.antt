@@ -1,12 +1,12 @@
 -- What is read of links, and a node more.
-use Rattle.std.proofs.Common.{◌≡◌, ◌≢◌, ℕ, ◌+◌, ◌<◌, ◌≤◌, ◌==◌, Bool, true, false, zero, suc, refl, sym, ◌∙◌, ap, subst, arith, List, [], ◌∷◌, ◌++◌, length, if◌then◌else◌, get_or}
+use Rattle.std.proofs.Common.{◌≡◌, ℕ, ◌+◌, ◌<◌, ◌≤◌, ◌==◌, Bool, true, false, zero, suc, refl, sym, ◌∙◌, ap, subst, arith, List, [], ◌∷◌, ◌++◌, length, if◌then◌else◌, get_or}
 use Rattle.std.proofs.lemmas.Bool.Decides.{nat_tests}
 use Rattle.std.proofs.lemmas.Bool.{false≢true}
 use Rattle.std.proofs.lemmas.Grind.{common_steps}
-use Rattle.std.proofs.lemmas.List.{ext_get_or, get_or_past, length-map}
+use Rattle.std.proofs.lemmas.List.{ext_get_or, get_or_past, get_or_default, length-map}
 use Rattle.std.specs.Prelude.{Option, None, Some, ◌||◌, nat_le, IsSome, IfSome}
 use Rattle.sb_arena.specs.declared.links.Link.{Link}
-use Rattle.sb_arena.specs.Forests.{bare_row, row_at, after, first_of, next_below, Forest, IsLive, parent_of, next_of, with_child, has}
+use Rattle.sb_arena.specs.Forests.{bare_row, row_at, after, first_of, next_below, Forest, IsLive, value_at, parent_of, next_of, with_child, has}
 use Rattle.sb_arena.specs.Links.{no_link, at, linked, chain, kids, row_of, rows_of, Hangs, IsTied, next_linked, next_where}
 use Rattle.sb_arena.proofs.HangLemmas.{alike}
 use Rattle.sb_arena.proofs.LinkTies.{kids_are, same_row, row_read, in_l, tied_linked, rows_linked}
@@ -122,6 +122,11 @@ module _ {T : Type 0} (links : List Link) (values : List (Option T)) (free : Lis
     (sound : (length links ≡ length values) × IsTied links) where
   pub live_in : (n : ℕ) → IsLive f n → n < length links
   live_in n h = subst (λ k. n < k) (sym sound.0) (live_present values n (subst (λ f. IsLive f n) (sym e) h))
+
+  -- the value of a live node is what stands at its number
+  pub value_read : (n : ℕ) → IsLive f n → (r : Option T) → r ≡ get_or values n r → value_at f n ≡ r
+  value_read n h r w =
+      ap (λ f. value_at f n) (sym e) ∙ get_or_default values n None r (live_present values n (subst (λ f. IsLive f n) (sym e) h)) ∙ sym w
 
   pub next_all : (n : ℕ) → IsLive f n → next_linked (at links n) ≡ next_of f n
   next_all n h = next_read links n sound.1 (live_in n h) ∙ ap (λ f. next_of f n) e

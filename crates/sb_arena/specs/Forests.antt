@@ -1,5 +1,5 @@
 -- A forest: numbered nodes, each with its parent, its children in order, and its value. This is what contracts see of an arena.
-use Rattle.std.specs.Prelude.{◌≡◌, ◌<◌, ℕ, Bool, true, false, zero, suc, List, [], ◌∷◌, ◌++◌, length, Option, Some, None, ◌==◌, ◌||◌, ◌+◌, ◌-◌, take, slice_index, not, IsSome, slice_index_or, slice_set, if◌then◌else◌, refl}
+use Rattle.std.specs.Prelude.{◌≡◌, ◌<◌, ℕ, Bool, true, false, zero, suc, List, [], ◌∷◌, ◌++◌, length, Option, Some, None, ◌==◌, ◌||◌, ◌-◌, take, slice_index, not, IsSome, slice_index_or, slice_set, if◌then◌else◌, refl}
 use Rattle.std.specs.List.{filter}
 use Rattle.std.specs.Coded.{Coded, code_by, coded×, coded_ℕ, coded_list, coded_option}
 

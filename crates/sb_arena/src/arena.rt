@@ -1,9 +1,9 @@
 // An arena: nodes that are linked as trees, each known by its number.
-ghost use Rattle.std.specs.Prelude.{◌≡◌, ◌<◌, ◌^◌, [], Some, None, IfOk, IfErr, OnOk, OnErr, IsSome, is_some, option_map, length};
+ghost use Rattle.std.specs.Prelude.{◌≡◌, ◌<◌, ◌^◌, [], Some, None, IfOk, IfErr, OnOk, OnErr, IsSome, is_some, option_map, length, vec_capacity, ◌≤◌};
 ghost use Rattle.sb_arena.specs.Forests.{no_nodes, with_node, with_child, row_at, value_at, IsLive, parent_of, children_of, next_of, without_parent, node_number, without_node, with_value, IsRooted, IsShallow, IsSound, Agrees, HasLiveLinks, HasSingleChildren, first_of, IsAbove};
 
 use crate::links::{Link, fresh, link_last, link_of, next_linked, unlink_from};
-use std::alloc::Global;
+use std::alloc::{AllocError, Global};
 use std::marker::Model;
 
 /// A node, by its number. A number may be given again after its node was freed.
@@ -51,6 +51,25 @@ fn named(at: Option<u64>) -> Option<NodeId>
         Some(n) => Some(NodeId(n)),
         None => None,
     }
+}
+
+// Makes room for one more node, and for the number of each node among those that are free.
+fn make_room<T>(
+    links: &mut Vec<Link>,
+    values: &mut Vec<Option<T>>,
+    free: &mut Vec<u64>,
+) -> Result<(), AllocError>
+    ensures links { links.new.items ≡ links.old.items }
+    ensures values { values.new.items ≡ values.old.items }
+    ensures free { free.new.items ≡ free.old.items }
+    ensures kept { vec_capacity free.old ≤ vec_capacity free.new }
+    ensures link { OnOk result (length links.new.items < vec_capacity links.new) }
+    ensures value { OnOk result (length values.new.items < vec_capacity values.new) }
+    ensures number { OnOk result (length values.new.items < vec_capacity free.new) }
+{
+    free.reserve(values.as_slice().len() + 1)?;
+    links.reserve(1)?;
+    values.reserve(1)
 }
 
 impl<T> Arena<T> {
@@ -181,22 +200,12 @@ impl<T: Drop> Arena<T> {
             }
             None => {
                 let number = self.links.as_slice().len();
-                if self.free.reserve(number + 1).is_err() {
+                let Ok(()) = make_room(&mut self.links, &mut self.values, &mut self.free) else {
                     return Err(AddRefused { value });
-                }
-                if self.links.push(fresh()).is_err() {
-                    return Err(AddRefused { value });
-                }
-                match self.values.push(Some(value)) {
-                    Ok(()) => Ok(NodeId(number as u64)),
-                    Err(failed) => {
-                        self.links.truncate(number);
-                        match failed.value {
-                            Some(value) => Err(AddRefused { value }),
-                            None => unreachable!(),
-                        }
-                    }
-                }
+                };
+                self.links.push_reserved(fresh());
+                self.values.push_reserved(Some(value));
+                Ok(NodeId(number as u64))
             }
         }
     }
@@ -222,10 +231,7 @@ impl<T: Drop> Arena<T> {
         ensures free { self.new ≡ without_node self.old node.0 }
     {
         let value = self.values[node.0 as usize].take();
-        match self.free.push(node.0) {
-            Ok(()) => {}
-            Err(_) => unreachable!(),
-        }
+        self.free.push_reserved(node.0);
         match value {
             Some(value) => value,
             None => unreachable!(),

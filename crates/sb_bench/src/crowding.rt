@@ -48,21 +48,16 @@ pub fn renames(alloc: Global, rounds: u64) -> Result<String, Failure> {
     Ok(format!(in alloc; "renamed {renamed}")?)
 }
 
-// How many renames were made.
+// How many renames were made, there and back.
 fn renamed(alloc: Global, old: &[Wide], new: &[Wide], rounds: u64) -> Result<u64, NoMemory> {
     let mut tree = crowd(alloc, old)?;
     let mut renamed: u64 = 0;
     for _round in 0..rounds {
-        renamed = renamed.saturating_add(rename_both(&mut tree, old, new)?);
+        let there = rename_all(&mut tree, old, new)?;
+        let back = rename_all(&mut tree, new, old)?;
+        renamed = renamed.saturating_add(there).saturating_add(back);
     }
     Ok(renamed)
-}
-
-// Renames each name, and back again.
-fn rename_both(tree: &mut NameTree, old: &[Wide], new: &[Wide]) -> Result<u64, NoMemory> {
-    let there = rename_all(tree, old, new)?;
-    let back = rename_all(tree, new, old)?;
-    Ok(there.saturating_add(back))
 }
 
 // A tree of the directory and these names.
@@ -97,15 +92,10 @@ fn name(alloc: Global, letter: u16, number: u64) -> Result<Wide, NoMemory> {
         units.push(unit)?;
     }
     for place in [10_000, 1_000, 100, 10, 1] {
-        units.push(digit(number, place))?;
+        let digit = number.checked_div(place).unwrap_or(0) % 10;
+        units.push((digit as u16).wrapping_add(48))?;
     }
     Ok(Wide::new(units))
-}
-
-// The decimal digit of a number at a place, which is no 0.
-fn digit(number: u64, place: u64) -> u16 {
-    let value = number.checked_div(place).unwrap_or(0) % 10;
-    (value as u16).wrapping_add(48)
 }
 
 fn add_all(tree: &mut NameTree, names: &[Wide]) -> Result<u64, NoMemory> {
@@ -133,17 +123,10 @@ fn found_names(tree: &NameTree, names: &[Wide]) -> u64 {
 fn rename_all(tree: &mut NameTree, old: &[Wide], new: &[Wide]) -> Result<u64, NoMemory> {
     let mut renamed: u64 = 0;
     for pair in old.iter().zip(new.iter()) {
-        if rename_one(tree, pair.0.as_units(), pair.1.as_units())? {
+        let (from, to) = (pair.0.as_units(), pair.1.as_units());
+        if is_name(from) && is_name(to) && is_made(tree.rename(from, to))? {
             renamed = renamed.saturating_add(1);
         }
     }
     Ok(renamed)
-}
-
-fn rename_one(tree: &mut NameTree, old: &[u16], new: &[u16]) -> Result<bool, NoMemory> {
-    if is_name(old) && is_name(new) {
-        is_made(tree.rename(old, new))
-    } else {
-        Ok(false)
-    }
 }

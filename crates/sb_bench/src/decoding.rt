@@ -19,7 +19,11 @@ pub fn decodings(alloc: Global, inputs: &Inputs, rounds: u64) -> Result<String, 
     let mut faultless: u64 = 0;
     let mut calls: u64 = 0;
     for _round in 0..rounds {
-        faultless = faultless.saturating_add(faultless_copies(&copies));
+        let found = copies
+            .as_slice()
+            .iter()
+            .filter(|copy| fault_of(copy).is_none());
+        faultless = faultless.saturating_add(found.count() as u64);
         calls = calls.saturating_add(decoded_copies(alloc, &copies)?);
     }
     let many = copies.len();
@@ -99,28 +103,15 @@ pub fn copy_of(block: &[u64], words: Words) -> Result<Taken, Failure> {
     Taken::of(*count, end, words).ok_or(Failure::BadInput)
 }
 
-fn faultless_copies(copies: &[Taken]) -> u64 {
-    copies
-        .iter()
-        .filter(|copy| fault_of(copy).is_none())
-        .count() as u64
-}
-
 // How many copies give a call.
 fn decoded_copies(alloc: Global, copies: &[Taken]) -> Result<u64, NoMemory> {
     let mut calls: u64 = 0;
     for copy in copies {
-        if gives_call(alloc, copy)? {
-            calls = calls.saturating_add(1);
+        match decode(alloc, copy) {
+            Ok(_) => calls = calls.saturating_add(1),
+            Err(BlockRefused::Fault(_)) => {}
+            Err(BlockRefused::NoMemory) => return Err(NoMemory),
         }
     }
     Ok(calls)
-}
-
-fn gives_call(alloc: Global, copy: &Taken) -> Result<bool, NoMemory> {
-    match decode(alloc, copy) {
-        Ok(_) => Ok(true),
-        Err(BlockRefused::Fault(_)) => Ok(false),
-        Err(BlockRefused::NoMemory) => Err(NoMemory),
-    }
 }

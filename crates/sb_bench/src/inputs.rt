@@ -17,7 +17,7 @@ use std::rt::Files;
 const MOST_BYTES: usize = 4_194_304;
 
 /// Policies and a script that is ready for them.
-#[derive(Debug, Drop)]
+#[derive(Drop)]
 pub struct Inputs {
     /// The policies.
     pub policies: Policies,
@@ -69,19 +69,11 @@ pub fn names_of<'a>(
 ) -> Result<Vec<&'a [u16]>, NoMemory> {
     let mut names = Vec::new(alloc);
     for statement in statements {
-        if let Some(name) = name_of(statement) {
-            names.push(name)?;
+        if let Statement::Call { args, .. } = statement {
+            if let [Arg::Str(name), ..] = args.as_slice() {
+                names.push(name.as_units())?;
+            }
         }
     }
     Ok(names)
-}
-
-fn name_of(statement: &Statement) -> Option<&[u16]> {
-    let Statement::Call { args, .. } = statement else {
-        return None;
-    };
-    match args.as_slice() {
-        [Arg::Str(name), ..] => Some(name.as_units()),
-        _ => None,
-    }
 }

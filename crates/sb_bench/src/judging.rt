@@ -12,7 +12,7 @@ use sb_statements::Statement;
 use std::alloc::Global;
 
 // A call whose arguments fit it.
-#[derive(Debug, Drop)]
+#[derive(Drop)]
 struct FitCall {
     tag: CallTag,
     args: Args,

@@ -45,32 +45,28 @@ fn run<R: Env + Files + Print + AllocGlobal>(rt: &R) -> Result<(), Failure> {
     };
     match all.as_slice() {
         [] | [_] => Ok(()),
-        [_, words @ ..] => put_work(rt, words),
+        [_, work, words @ ..] => put_work(rt, work.as_str(), words),
     }
 }
 
 // Does the work of the words `WORK ROUNDS`, or `WORK ROUNDS POLICY SCRIPT` with the names of two files, and puts a line of
 // what came of it.
-fn put_work<R: Files + Print + AllocGlobal>(rt: &R, words: &[String]) -> Result<(), Failure> {
-    let [work, rest @ ..] = words else {
-        return Err(Failure::Usage);
+fn put_work<R: Files + Print + AllocGlobal>(
+    rt: &R,
+    work: &str,
+    words: &[String],
+) -> Result<(), Failure> {
+    let told = match words {
+        [rounds] => work_alone(rt.alloc(), work, count(rounds)?)?,
+        [rounds, policy, script] => {
+            let inputs = read_inputs(rt, policy.as_str(), script.as_str())?;
+            work_on(rt.alloc(), work, count(rounds)?, &inputs)?
+        }
+        _ => return Err(Failure::Usage),
     };
-    let told = done(rt, work.as_str(), rest)?;
     match println!(rt; "{work}: {told}") {
         Ok(()) => Ok(()),
         Err(_) => Err(Failure::WriteFault),
-    }
-}
-
-// Does a work, and says what came of it.
-fn done<R: Files + AllocGlobal>(rt: &R, work: &str, words: &[String]) -> Result<String, Failure> {
-    match words {
-        [rounds] => work_alone(rt.alloc(), work, count(rounds)?),
-        [rounds, policy, script] => {
-            let inputs = read_inputs(rt, policy.as_str(), script.as_str())?;
-            work_on(rt.alloc(), work, count(rounds)?, &inputs)
-        }
-        _ => Err(Failure::Usage),
     }
 }
 

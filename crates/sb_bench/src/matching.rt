@@ -42,14 +42,8 @@ fn push_patterns<'a>(patterns: &mut Vec<&'a Pattern>, rule: &'a Rule) -> Result<
 fn matched_pairs(patterns: &[&Pattern], names: &[&[u16]]) -> u64 {
     let mut pairs: u64 = 0;
     for pattern in patterns {
-        pairs = pairs.saturating_add(matched_names(pattern, names));
+        let matched = names.iter().filter(|name| pattern.matches_plain(name));
+        pairs = pairs.saturating_add(matched.count() as u64);
     }
     pairs
-}
-
-fn matched_names(pattern: &Pattern, names: &[&[u16]]) -> u64 {
-    names
-        .iter()
-        .filter(|name| pattern.matches_plain(name))
-        .count() as u64
 }

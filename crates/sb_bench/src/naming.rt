@@ -89,21 +89,13 @@ fn moves_of<'a>(
 ) -> Result<Vec<(&'a [u16], &'a [u16])>, NoMemory> {
     let mut moves = Vec::new(alloc);
     for statement in statements {
-        if let Some(names) = move_of(statement) {
-            moves.push(names)?;
+        if let Statement::Call { args, .. } = statement {
+            if let [Arg::Str(old), Arg::Str(new)] = args.as_slice() {
+                moves.push((old.as_units(), new.as_units()))?;
+            }
         }
     }
     Ok(moves)
-}
-
-fn move_of(statement: &Statement) -> Option<(&[u16], &[u16])> {
-    let Statement::Call { args, .. } = statement else {
-        return None;
-    };
-    match args.as_slice() {
-        [Arg::Str(old), Arg::Str(new)] => Some((old.as_units(), new.as_units())),
-        _ => None,
-    }
 }
 
 // Makes each rename that can be made, and gives how many these were.

@@ -8,7 +8,10 @@ use std::alloc::Global;
 /// refused.
 pub fn told_outcomes(alloc: Global, entries: &[Entry]) -> Result<String, Failure> {
     let performed = replies_with(0, entries);
-    let succeeded = entries.iter().filter(|entry| is_success(entry)).count();
+    let succeeded = entries
+        .iter()
+        .filter(|entry| entry.reply.outcome == 0 && entry.reply.status < 0x8000_0000)
+        .count();
     let faked = replies_with(3, entries);
     let denied = replies_with(2, entries);
     let refused = replies_with(1, entries);
@@ -22,8 +25,4 @@ fn replies_with(outcome: u64, entries: &[Entry]) -> usize {
         .iter()
         .filter(|entry| entry.reply.outcome == outcome)
         .count()
-}
-
-fn is_success(entry: &Entry) -> bool {
-    entry.reply.outcome == 0 && entry.reply.status < 0x8000_0000
 }

@@ -15,7 +15,7 @@ const FIRST_MARK: u64 = 65536;
 const FAULTS: [(usize, u64); 4] = [(0, 99), (2, 9), (15, u64::MAX), (17, 0)];
 
 /// What is answered next.
-#[derive(Debug, Drop)]
+#[derive(Drop)]
 pub enum Step {
     /// This copy.
     Copy(Taken),

@@ -25,13 +25,24 @@ use std::snapshot::Snapshot;
 /// The append-only history of what the broker decided: every entry so far, and the namespace that they led to. Contracts also see
 /// the policies and channels of the targets and what is there at the start. The entries are always a legal history of that
 /// setting.
-#[derive(Drop)]
 pub struct Book {
     kernel: Kernel,
     entries: Vec<Entry>,
     // The policies and the script with which the book was made, for proofs.
     policies: Snapshot<Policies>,
     script: Snapshot<Script>,
+}
+
+// What a book holds is dropped by one call, which is proved here once and not in each crate that drops a book.
+impl Drop for Book {
+    fn drop(self) {
+        let Book {
+            kernel: _,
+            entries: _,
+            policies: _,
+            script: _,
+        } = self;
+    }
 }
 
 impl Model for Book {
@@ -244,7 +255,13 @@ impl Book {
         ensures entries { result.0 ≡ self.entries }
         ensures space { result.1 ≡ self.space }
     {
-        (Entries::new(self.entries), self.kernel)
+        let Book {
+            kernel,
+            entries,
+            policies: _,
+            script: _,
+        } = self;
+        (Entries::new(entries), kernel)
     }
 
     /// The entries are a legal history of the book's setting, and the namespace is the one that they led to. It changes

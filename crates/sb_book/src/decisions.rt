@@ -12,7 +12,7 @@ use sb_wide::NoMemory;
 use std::alloc::Global;
 
 /// What the broker decides of the copy of a parameter block.
-#[derive(Debug, Drop)]
+#[derive(Debug)]
 pub enum Decision {
     /// The block has a fault, the first that stands in the copy.
     Refused(BlockFault),
@@ -33,6 +33,23 @@ pub enum Decision {
         action: Action,
         args: Args,
     },
+}
+
+// What a decision holds is dropped by one call, as of a book.
+impl Drop for Decision {
+    fn drop(self) {
+        match self {
+            Decision::Refused(_) => {}
+            Decision::Denied { tag: _, verdict: _ } => {}
+            Decision::Faked { tag: _, line: _ } => {}
+            Decision::Performed {
+                tag: _,
+                line: _,
+                action: _,
+                args: _,
+            } => {}
+        }
+    }
 }
 
 // Read data, execute, read EA, read attributes, read control, synchronize, and generic read and execute.

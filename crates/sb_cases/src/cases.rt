@@ -17,7 +17,7 @@ use std::thread::Threads;
 const ROOM: u64 = 2_000_000;
 
 /// What the rows of a case refer to.
-#[derive(Clone, Copy, Debug)]
+#[derive(Clone, Copy)]
 pub struct Setting<'a> {
     /// The files of the case before.
     pub before: &'a [StoredFile],
@@ -26,14 +26,14 @@ pub struct Setting<'a> {
 }
 
 // A file whose rows are still read.
-#[derive(Debug, Drop)]
+#[derive(Drop)]
 struct Begun {
     name: String,
     bytes: Vec<u8>,
 }
 
 /// A case, as far as its rows were taken in.
-#[derive(Debug, Drop)]
+#[derive(Drop)]
 pub struct Case {
     words: Vec<String>,
     files: Vec<StoredFile>,
@@ -73,9 +73,15 @@ impl Case {
             "file" => self.take_file(alloc, rest),
             "same" => self.take_same(alloc, setting, rest),
             "|" | "%" => self.take_times(1, row),
-            "*" => self.take_repeated(rest),
-            "$" => self.take_tried(setting),
-            "counts" => self.take_counted(alloc, rest),
+            "*" => match rest.split_once(' ') {
+                Some((times, repeated)) => self.take_times(number(times)?, repeated),
+                None => Err(RowFault::Unknown),
+            },
+            "$" => match setting.tried {
+                Some(tried) => self.take_times(1, tried),
+                None => Err(RowFault::NoTry),
+            },
+            "counts" => Ok(self.counted.push(String::from_str(alloc, rest)?)?),
             _ => self.take_setting(head, rest),
         }
     }
@@ -87,7 +93,13 @@ impl Case {
             "fails-put" => self.puts.push(number(rest)?)?,
             "room" => self.room = number(rest)?,
             "gate" => self.meeting = number(rest)?,
-            "ends" => self.shown.ends = ends(rest)?,
+            "ends" => {
+                let (first, last) = rest.split_once(' ').unwrap_or((rest, ""));
+                self.shown.ends = Ends {
+                    first: number(first)?,
+                    last: number(last)?,
+                };
+            }
             "status" => self.shown.status = true,
             _ => return Err(RowFault::Unknown),
         }
@@ -103,11 +115,6 @@ impl Case {
 
     fn take_word(&mut self, alloc: Global, word: &str) -> Result<(), RowFault> {
         self.words.push(String::from_str(alloc, word)?)?;
-        Ok(())
-    }
-
-    fn take_counted(&mut self, alloc: Global, end: &str) -> Result<(), RowFault> {
-        self.counted.push(String::from_str(alloc, end)?)?;
         Ok(())
     }
 
@@ -133,20 +140,6 @@ impl Case {
             }
         }
         Err(RowFault::NoSuchFile)
-    }
-
-    fn take_repeated(&mut self, rest: &str) -> Result<(), RowFault> {
-        let Some((times, row)) = rest.split_once(' ') else {
-            return Err(RowFault::Unknown);
-        };
-        self.take_times(number(times)?, row)
-    }
-
-    fn take_tried(&mut self, setting: Setting) -> Result<(), RowFault> {
-        match setting.tried {
-            Some(row) => self.take_times(1, row),
-            None => Err(RowFault::NoTry),
-        }
     }
 
     // Appends the bytes of a row so many times.
@@ -178,22 +171,17 @@ impl Case {
         page: &mut Page,
     ) -> Result<Vec<StoredFile>, RowFault> {
         self.end_file()?;
-        let mut files = self.take_files(alloc);
+        let mut files = MemFiles {
+            files: FileList::new(mem::replace(&mut self.files, Vec::new(alloc))),
+            fails: Numbers::new(mem::replace(&mut self.reads, Vec::new(alloc))),
+            calls: 0,
+            faults: 0,
+        };
         let puts = mem::replace(&mut self.puts, Vec::new(alloc));
         let mut out = MemSink::with_room(alloc, self.room, puts)?;
         self.run(rt, alloc, &mut files, &mut out, page)?;
         self.put_written(alloc, out.written(), page)?;
         Ok(files.files.into_items())
-    }
-
-    // The files that the command reads, which the case then no longer has.
-    fn take_files(&mut self, alloc: Global) -> MemFiles {
-        MemFiles {
-            files: FileList::new(mem::replace(&mut self.files, Vec::new(alloc))),
-            fails: Numbers::new(mem::replace(&mut self.reads, Vec::new(alloc))),
-            calls: 0,
-            faults: 0,
-        }
     }
 
     // Runs the command, and puts how it ended and what passed the gate.
@@ -208,10 +196,6 @@ impl Case {
         let gate = MeetingGate::new(alloc, self.meeting)?;
         let outcome = broker_top(rt, alloc, &self.words, files, out, &gate);
         put_outcome(alloc, &outcome, files.calls, self.shown, page)?;
-        self.put_gate(alloc, &gate, page)
-    }
-
-    fn put_gate(&self, alloc: Global, gate: &MeetingGate, page: &mut Page) -> Result<(), RowFault> {
         match self.meeting {
             0 => Ok(()),
             _ => put_passed(alloc, gate.passed(), page),
@@ -224,15 +208,6 @@ impl Case {
         }
         Ok(page.put_quoted(alloc, written, self.shown.ends)?)
     }
-}
-
-// Two numbers, with a blank between them.
-fn ends(text: &str) -> Result<Ends, RowFault> {
-    let (first, last) = text.split_once(' ').unwrap_or((text, ""));
-    Ok(Ends {
-        first: number(first)?,
-        last: number(last)?,
-    })
 }
 
 fn number(text: &str) -> Result<u64, RowFault> {

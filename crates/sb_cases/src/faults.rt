@@ -5,7 +5,7 @@ use std::alloc::{AllocError, AllocFailed};
 use thiserror::Error;
 
 /// What is wrong with a row.
-#[derive(Clone, Copy, Debug, PartialEq, Eq, Error)]
+#[derive(Clone, Copy, Debug, Error)]
 pub enum RowFault {
     #[error("unknown row")]
     Unknown,

@@ -11,7 +11,7 @@ const TURNS: u32 = 10_000_000;
 
 /// A gate that holds the first call of each of the first targets until the first call of each other of them has come, for a stated number of
 /// turns at most. It lets all other calls pass at once.
-#[derive(Debug, Drop)]
+#[derive(Drop)]
 pub struct MeetingGate {
     // How many calls have come, for each of these targets.
     passes: Vec<AtomicU64>,
@@ -22,7 +22,7 @@ pub struct MeetingGate {
 }
 
 /// What came to a gate.
-#[derive(Clone, Copy, Debug)]
+#[derive(Clone, Copy)]
 pub struct Passed {
     /// How many calls.
     pub calls: u64,

@@ -3,7 +3,7 @@
 use std::alloc::{AllocError, Global};
 
 /// Which lines of a text are printed: so many from its beginning and from its end.
-#[derive(Clone, Copy, Debug)]
+#[derive(Clone, Copy)]
 pub struct Ends {
     pub first: u64,
     pub last: u64,
@@ -18,7 +18,7 @@ impl Ends {
 }
 
 /// Lines of bytes.
-#[derive(Debug, Drop)]
+#[derive(Drop)]
 pub struct Page {
     bytes: Vec<u8>,
 }

@@ -11,7 +11,7 @@ use std::sync::Wait;
 use std::thread::Threads;
 
 /// A text of cases, as far as its lines were taken in.
-#[derive(Debug, Drop)]
+#[derive(Drop)]
 pub struct Rows<'a> {
     // The rows of the case that is begun, that of its name first, and none between cases.
     rows: Vec<&'a str>,
@@ -59,39 +59,21 @@ impl<'a> Rows<'a> {
         page: &mut Page,
     ) -> Result<(), RowFault> {
         self.line = line;
-        match self.rows.is_empty() {
-            true => self.take_between(alloc, line, row, page),
-            false => self.take_within(rt, alloc, line, row, page),
+        if self.rows.is_empty() {
+            return match first_word(row) {
+                "" | "#" => Ok(()),
+                "case" => self.begin(line, row),
+                "far" => put_far(alloc, row, page),
+                _ => Err(RowFault::NoCase),
+            };
         }
-    }
-
-    // Takes in a line between cases.
-    fn take_between(
-        &mut self,
-        alloc: Global,
-        line: usize,
-        row: &'a str,
-        page: &mut Page,
-    ) -> Result<(), RowFault> {
         match first_word(row) {
-            "" | "#" => Ok(()),
-            "case" => self.begin(line, row),
-            "far" => put_far(alloc, row, page),
-            _ => Err(RowFault::NoCase),
-        }
-    }
-
-    // Takes in a line of a case, or one of the next case, which shows that this one has no end.
-    fn take_within<R: Threads + Wait + Sync>(
-        &mut self,
-        rt: &R,
-        alloc: Global,
-        line: usize,
-        row: &'a str,
-        page: &mut Page,
-    ) -> Result<(), RowFault> {
-        match first_word(row) {
-            "case" => self.begin_anew(alloc, line, row),
+            "case" => {
+                // The case before has no end.
+                let ended = self.end_text(alloc);
+                self.begin(line, row)?;
+                ended
+            }
             "end" => self.end_case(rt, alloc, page),
             _ => Ok(self.rows.push(row)?),
         }
@@ -113,13 +95,6 @@ impl<'a> Rows<'a> {
     fn begin(&mut self, line: usize, row: &'a str) -> Result<(), RowFault> {
         self.first = line;
         Ok(self.rows.push(row)?)
-    }
-
-    // Begins a case where the one before has no end.
-    fn begin_anew(&mut self, alloc: Global, line: usize, row: &'a str) -> Result<(), RowFault> {
-        let ended = self.end_text(alloc);
-        self.begin(line, row)?;
-        ended
     }
 
     fn end_case<R: Threads + Wait + Sync>(

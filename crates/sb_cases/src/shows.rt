@@ -8,7 +8,7 @@ use sb_top::{Complaint, Outcome, Status, exit_code};
 use std::alloc::Global;
 
 /// What is printed besides.
-#[derive(Clone, Copy, Debug)]
+#[derive(Clone, Copy)]
 pub struct Shown {
     /// Whether the status is, with all that it says.
     pub status: bool,

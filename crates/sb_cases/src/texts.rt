@@ -3,7 +3,7 @@
 use crate::faults::RowFault;
 
 // How far an escape has been read.
-#[derive(Clone, Copy, Debug)]
+#[derive(Clone, Copy)]
 enum Escape {
     Outside,
     Begun,
@@ -15,16 +15,13 @@ enum Escape {
 pub fn put_row(row: &str, bytes: &mut Vec<u8>) -> Result<(), RowFault> {
     let (head, line) = row.split_once(' ').unwrap_or((row, ""));
     match head {
-        "|" => put_raw(line, bytes),
+        "|" => {
+            bytes.extend_from_slice(line.as_bytes())?;
+            Ok(bytes.extend_from_slice(b"\n")?)
+        }
         "%" => put_escaped(line, bytes),
         _ => Err(RowFault::Unknown),
     }
-}
-
-fn put_raw(line: &str, bytes: &mut Vec<u8>) -> Result<(), RowFault> {
-    bytes.extend_from_slice(line.as_bytes())?;
-    bytes.extend_from_slice(b"\n")?;
-    Ok(())
 }
 
 // `\n` stands for a line feed, `\\` for a backslash and `\xHH` for the byte of that number.
@@ -39,34 +36,23 @@ fn put_escaped(line: &str, bytes: &mut Vec<u8>) -> Result<(), RowFault> {
     }
 }
 
+// Appends the byte that ends a plain byte or an escape, and tells how far the next escape has been read.
 fn after(escape: Escape, byte: u8, bytes: &mut Vec<u8>) -> Result<Escape, RowFault> {
-    match escape {
-        Escape::Outside => outside(byte, bytes),
-        Escape::Begun => begun(byte, bytes),
-        Escape::Number => Ok(Escape::Digit(digit_of(byte)?)),
-        Escape::Digit(high) => put_byte(high << 4 | digit_of(byte)?, bytes),
-    }
-}
-
-fn outside(byte: u8, bytes: &mut Vec<u8>) -> Result<Escape, RowFault> {
-    match byte {
-        b'\\' => Ok(Escape::Begun),
-        _ => put_byte(byte, bytes),
-    }
-}
-
-// Behind a backslash.
-fn begun(byte: u8, bytes: &mut Vec<u8>) -> Result<Escape, RowFault> {
-    match byte {
-        b'\\' => put_byte(b'\\', bytes),
-        b'n' => put_byte(b'\n', bytes),
-        b'x' => Ok(Escape::Number),
-        _ => Err(RowFault::BadEscape),
-    }
-}
-
-fn put_byte(byte: u8, bytes: &mut Vec<u8>) -> Result<Escape, RowFault> {
-    bytes.push(byte)?;
+    let meant = match escape {
+        Escape::Outside => match byte {
+            b'\\' => return Ok(Escape::Begun),
+            _ => byte,
+        },
+        Escape::Begun => match byte {
+            b'\\' => b'\\',
+            b'n' => b'\n',
+            b'x' => return Ok(Escape::Number),
+            _ => return Err(RowFault::BadEscape),
+        },
+        Escape::Number => return Ok(Escape::Digit(digit_of(byte)?)),
+        Escape::Digit(high) => high << 4 | digit_of(byte)?,
+    };
+    bytes.push(meant)?;
     Ok(Escape::Outside)
 }
 

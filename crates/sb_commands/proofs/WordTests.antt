@@ -3,7 +3,8 @@ use Rattle.std.proofs.Common.{◌≡◌, refl, ℕ, ◌<◌, ◌≤◌, arith, l
 use Rattle.std.specs.Prelude.{is_some, option_and_then, option_map, String}
 use Rattle.std.specs.declared.alloc.Global.{Global}
 use Rattle.std.specs.Option.{option_or}
-use Rattle.sb_commands.specs.Commands.{Command, Check, Make, Replay, Run, check_of, is_file_word, make_of, needs_threads, replay_of, run_by, run_of, texts}
+use Rattle.sb_commands.specs.Commands.{Command, Check, Make, Replay, Run, check_of, is_file_word, make_of, meant, needs_threads, replay_of, run_by, run_of, texts}
+use Rattle.sb_commands.specs.declared.commands.CommandWords.{CommandWords}
 use Rattle.sb_commands.specs.NumberWords.{calls_of, default_workers, seed_of, targets_of, workers_apart, workers_joined}
 
 -- the files and the number of workers of a run
@@ -21,14 +22,10 @@ pub either_some : (a b : Option Command) → is_some (option_or a b) ≡ (is_som
 either_some None b = refl
 either_some (Some x) b = refl
 
--- three numbers
-pub make_some : (seed targets calls : Option ℕ)
-    → is_some (option_and_then (λ seed. option_and_then (λ targets. option_map (Make seed targets) calls) targets) seed)
-    ≡ (is_some seed && is_some targets && is_some calls)
-make_some None targets calls = refl
-make_some (Some x) None calls = refl
-make_some (Some x) (Some y) None = refl
-make_some (Some x) (Some y) (Some z) = refl
+-- a value where a command is meant
+pub some_meant : (command : Option CommandWords) → is_some (option_map meant command) ≡ is_some command
+some_meant None = refl
+some_meant (Some x) = refl
 
 -- fewer than two words, and more than four, are no run
 pub too_few : (words : List (String Global)) → length words < 2 → is_some (run_of (texts words)) ≡ false

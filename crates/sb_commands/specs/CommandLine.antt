@@ -1,90 +1,98 @@
--- The command line as the library that reads it sees it, and the command that it finds.
-use Rattle.std.specs.Prelude.{ℕ, List, Option, Some, None, codes, true, nat_eq, option_and_then, option_map, if◌then◌else◌}
+-- The command lines as the library that reads them sees them, and the command that it finds.
+use Rattle.std.specs.Prelude.{ℕ, List, [], ◌∷◌, Option, Some, None, codes, nat_eq, not, option_and_then, option_map, if◌then◌else◌}
 use Rattle.std.specs.Cmp.Lexicographic.{pointwise}
-use Rattle.clap.specs.Words.{App, Row, Rule, Text, first_of, new_app, new_rule, with_rule, with_subcommand}
-use Rattle.clap.specs.Simple.{on_top}
+use Rattle.clap.specs.Words.{App, Rule, Text, new_app, new_rule, with_rule}
 use Rattle.clap.specs.declared.builder.ArgAction.TheVariants.{Set}
-use Rattle.sb_commands.specs.Commands.{Command, Check, Make, Replay, Run}
-use Rattle.sb_commands.specs.NumberWords.{calls_of, default_workers, seed_of, targets_of, workers_of}
+use Rattle.sb_commands.specs.Commands.{Command, Check, Replay, Run, make_of}
+use Rattle.sb_commands.specs.NumberWords.{default_workers, workers_of}
 
--- a word that a command has to have
-abbrev pub word_rule : List ℕ → Rule
-word_rule name = record (new_rule name) { required = true; action = Some Set }
+-- what the library is told of an argument of this name: `--workers N`, a schedule, which a command may have, or a word that it has to have
+abbrev pub rule_by : Text → Rule
+rule_by name =
+    if pointwise nat_eq name (codes "workers") then record (new_rule name) { long = Some name; action = Some Set }
+    else record (new_rule name) { required = not (pointwise nat_eq name (codes "schedule")); action = Some Set }
 
--- a word that a command may have
-abbrev pub further_rule : List ℕ → Rule
-further_rule name = record (new_rule name) { action = Some Set }
+-- the name of a command, if the words are one
+abbrev pub name_of : List Text → Text
+name_of [] = []
+name_of (name ∷ words) = name
 
--- `--workers N`
-abbrev pub workers_rule : Rule
-workers_rule = record (new_rule (codes "workers")) { long = Some (codes "workers"); action = Some Set }
+-- the names of the arguments that a command has, by its own name
+abbrev pub check_arguments : List Text
+check_arguments = codes "policy" ∷ []
 
--- `check POLICY`
-abbrev pub check_command : App
-check_command = with_rule (new_app (codes "check")) (word_rule (codes "policy"))
+abbrev pub replay_arguments : List Text
+replay_arguments = codes "policy" ∷ codes "script" ∷ codes "schedule" ∷ []
 
--- `replay POLICY SCRIPT [SCHEDULE]`
-abbrev pub replay_command : App
-replay_command =
-    with_rule (with_rule (with_rule (new_app (codes "replay")) (word_rule (codes "policy"))) (word_rule (codes "script")))
-    (further_rule (codes "schedule"))
+abbrev pub run_arguments : List Text
+run_arguments = codes "policy" ∷ codes "script" ∷ codes "workers" ∷ []
 
--- `run POLICY SCRIPT [--workers N]`
-abbrev pub run_command : App
-run_command = with_rule (with_rule (with_rule (new_app (codes "run")) (word_rule (codes "policy"))) (word_rule (codes "script"))) workers_rule
+abbrev pub make_arguments : List Text
+make_arguments = codes "seed" ∷ codes "targets" ∷ codes "calls" ∷ []
 
--- `make SEED TARGETS CALLS`
-abbrev pub make_command : App
-make_command =
-    with_rule (with_rule (with_rule (new_app (codes "make")) (word_rule (codes "seed"))) (word_rule (codes "targets"))) (word_rule (codes "calls"))
+abbrev pub arguments_of : Text → List Text
+arguments_of name =
+    if pointwise nat_eq name (codes "check") then check_arguments
+    else (if pointwise nat_eq name (codes "replay") then replay_arguments
+    else (if pointwise nat_eq name (codes "run") then run_arguments else make_arguments))
 
--- a program whose words begin after its name
-abbrev pub program : App
-program = on_top (λ s. record s { no_binary_name = true }) (new_app (codes "sandbox"))
+-- a command line with arguments of these names more
+abbrev pub with_arguments : List Text → App → App
+with_arguments [] line = line
+with_arguments (name ∷ names) line = with_arguments names (with_rule line (rule_by name))
 
--- the program with the commands that run on no threads
-abbrev pub plain_line : App
-plain_line = with_subcommand (with_subcommand program check_command.top) replay_command.top
+-- a command line with these arguments
+abbrev pub line_of : List Text → App
+line_of names = with_arguments names (new_app (codes "sandbox"))
 
--- the program with all commands
-abbrev pub command_line : App
-command_line = with_subcommand (with_subcommand plain_line run_command.top) make_command.top
+-- the command line of a command, whose name stands where a program's would, before its arguments
+abbrev pub command_line : List Text → App
+command_line words = line_of (arguments_of (name_of words))
+
+-- what is found of each argument, by its name
+abbrev pub Values : Type 0
+Values = Text → Option Text
 
 -- `check`, by the values of its files
-abbrev pub found_check : List Row → Option Command
-found_check files = option_map Check (first_of (codes "policy") files)
+abbrev pub found_check : Values → Option Command
+found_check values = option_map Check (values (codes "policy"))
 
 -- `replay`
-abbrev pub found_replay : List Row → Option Command
-found_replay files =
-    option_and_then (λ policy. option_map (λ script. Replay policy script (first_of (codes "schedule") files)) (first_of (codes "script") files))
-    (first_of (codes "policy") files)
+abbrev pub found_replay : Values → Option Command
+found_replay values =
+    option_and_then (λ policy. option_map (λ script. Replay policy script (values (codes "schedule"))) (values (codes "script"))) (values (codes "policy"))
 
 -- the number of workers, where one is given
 abbrev pub workers_by : Option Text → Option ℕ
 workers_by None = Some default_workers
 workers_by (Some word) = workers_of word
 
--- `run`
-abbrev pub found_run : List Row → Option Command
-found_run values =
-    option_and_then (λ policy. option_and_then (λ script. option_map (Run policy script) (workers_by (first_of (codes "workers") values)))
-    (first_of (codes "script") values)) (first_of (codes "policy") values)
+-- `run`, by the values of its files and its option
+abbrev pub run_found : Option Text → Option Text → Option Text → Option Command
+run_found policy script workers =
+    option_and_then (λ policy. option_and_then (λ script. option_map (Run policy script) (workers_by workers)) script) policy
 
--- `make`
-abbrev pub found_make : List Row → Option Command
-found_make values =
-    option_and_then (λ seed. option_and_then (λ targets. option_map (Make seed targets) (option_and_then calls_of (first_of (codes "calls") values)))
-    (option_and_then targets_of (first_of (codes "targets") values))) (option_and_then seed_of (first_of (codes "seed") values))
+abbrev pub found_run : Values → Option Command
+found_run values = run_found (values (codes "policy")) (values (codes "script")) (values (codes "workers"))
+
+-- `make`, by the words of its numbers
+abbrev pub make_by : Text → Text → Text → Option Command
+make_by seed targets calls = make_of (seed ∷ targets ∷ calls ∷ [])
+
+-- and by their values
+abbrev pub make_found : Option Text → Option Text → Option Text → Option Command
+make_found seed targets calls = option_and_then (λ seed. option_and_then (λ targets. option_and_then (make_by seed targets) calls) targets) seed
+
+abbrev pub found_make : Values → Option Command
+found_make values = make_found (values (codes "seed")) (values (codes "targets")) (values (codes "calls"))
 
 -- the command of this name, with its values
-abbrev pub named_command : Text → List Row → Option Command
+abbrev pub named_command : Text → Values → Option Command
 named_command name values =
     if pointwise nat_eq name (codes "check") then found_check values
     else (if pointwise nat_eq name (codes "replay") then found_replay values
-    else (if pointwise nat_eq name (codes "run") then found_run values
-    else (if pointwise nat_eq name (codes "make") then found_make values else None)))
+    else (if pointwise nat_eq name (codes "run") then found_run values else found_make values))
 
--- the command that was found
-abbrev pub found_command : Option (Text × List Row) → Option Command
-found_command found = option_and_then (λ p. named_command p.0 p.1) found
+-- the command that was found in these words
+abbrev pub found_command : List Text → Values → Option Command
+found_command words values = named_command (name_of words) values

@@ -1,105 +1,65 @@
-// The command line as the library that reads it sees it.
-ghost use Rattle.std.specs.Prelude.{◌≡◌, ◌≤◌, IfOk, IfSome, false, option_map};
-ghost use Rattle.clap.specs.Words.{app_of, found_of, rows_of, rule_of, subcommand_rows_of};
-ghost use Rattle.clap.specs.declared.builder.Command.TheViews.{out-Command};
-ghost use Rattle.sb_commands.specs.Commands.{HasNumbers, meant};
-ghost use Rattle.sb_commands.specs.CommandLine.{check_command, command_line, found_check, found_command, found_make, found_replay, found_run, further_rule, make_command, plain_line, replay_command, run_command, word_rule, workers_by, workers_rule};
+// The command lines as the library that reads them sees them: each for the words of one command, whose name stands where a program's would.
+ghost use Rattle.std.specs.Prelude.{◌≡◌, ◌≤◌, IfOk, IfSome, false, map, option_map};
+ghost use Rattle.clap.specs.Words.{app_of, first_value, found_of, rule_of};
+ghost use Rattle.sb_commands.specs.Commands.{HasNumbers, meant, texts};
+ghost use Rattle.sb_commands.specs.CommandLine.{arguments_of, command_line, found_check, found_command, found_make, found_replay, found_run, make_by, name_of, rule_by, workers_by};
 
 use crate::commands::CommandWords;
 use crate::number_words::{calls_of, seed_of, targets_of, workers_of};
 use clap::{Arg, ArgAction, ArgMatches, Command};
 use std::alloc::{AllocError, Global};
 
-// A required word.
-fn word<'a>(alloc: Global, name: &'a str) -> Arg<'a>
-    ensures rule { rule_of result ≡ word_rule name.entry.now }
+// An argument by its name: `--workers N`, a schedule, which a command may have, or a word that it has to have.
+fn argument<'a>(alloc: Global, name: &'a str) -> Arg<'a>
+    ensures rule { rule_of result ≡ rule_by name.entry.now }
     ensures local { result.global ≡ false }
 {
-    Arg::new(alloc, name).required(true).action(ArgAction::Set)
+    if name == "workers" {
+        Arg::new(alloc, name).long(name).action(ArgAction::Set)
+    } else {
+        Arg::new(alloc, name)
+            .required(name != "schedule")
+            .action(ArgAction::Set)
+    }
 }
 
-// An optional word.
-fn further_word<'a>(alloc: Global, name: &'a str) -> Arg<'a>
-    ensures rule { rule_of result ≡ further_rule name.entry.now }
-    ensures local { result.global ≡ false }
+// The name of the command, if the words are one.
+fn name_of(words: &[String]) -> &str
+    ensures { result.now ≡ name_of (texts words.now) }
 {
-    Arg::new(alloc, name).action(ArgAction::Set)
+    match words {
+        [name, ..] => name.as_str(),
+        [] => "",
+    }
 }
 
-// `--workers N`.
-fn workers_option<'a>(alloc: Global) -> Arg<'a>
-    ensures rule { rule_of result ≡ workers_rule }
-    ensures local { result.global ≡ false }
+// The names of a command's arguments.
+fn arguments_of<'a>(name: &str) -> &'a [&'a str]
+    ensures { map (λ argument. argument.now) result.now ≡ arguments_of name.now }
 {
-    Arg::new(alloc, "workers")
-        .long("workers")
-        .action(ArgAction::Set)
+    match name {
+        "check" => &["policy"],
+        "replay" => &["policy", "script", "schedule"],
+        "run" => &["policy", "script", "workers"],
+        _ => &["seed", "targets", "calls"],
+    }
 }
 
-// `check POLICY`.
-fn check_command<'a>(alloc: Global) -> Result<Command<'a>, AllocError>
-    ensures app { IfOk result (λ c. app_of c ≡ check_command) }
-    ensures local { IfOk result (λ c. (out-Command c).has_globals ≡ false) }
+/// The command line of the command that the words name.
+pub(crate) fn command_line<'a>(alloc: Global, words: &[String]) -> Result<Command<'a>, AllocError>
+    ensures { IfOk result (λ c. app_of c ≡ command_line (texts words.now)) }
 {
-    Command::new(alloc, "check").arg(word(alloc, "policy"))
-}
-
-// `replay POLICY SCRIPT [SCHEDULE]`.
-fn replay_command<'a>(alloc: Global) -> Result<Command<'a>, AllocError>
-    ensures app { IfOk result (λ c. app_of c ≡ replay_command) }
-    ensures local { IfOk result (λ c. (out-Command c).has_globals ≡ false) }
-{
-    Command::new(alloc, "replay")
-        .arg(word(alloc, "policy"))?
-        .arg(word(alloc, "script"))?
-        .arg(further_word(alloc, "schedule"))
-}
-
-// `run POLICY SCRIPT [--workers N]`.
-fn run_command<'a>(alloc: Global) -> Result<Command<'a>, AllocError>
-    ensures app { IfOk result (λ c. app_of c ≡ run_command) }
-    ensures local { IfOk result (λ c. (out-Command c).has_globals ≡ false) }
-{
-    Command::new(alloc, "run")
-        .arg(word(alloc, "policy"))?
-        .arg(word(alloc, "script"))?
-        .arg(workers_option(alloc))
-}
-
-// `make SEED TARGETS CALLS`.
-fn make_command<'a>(alloc: Global) -> Result<Command<'a>, AllocError>
-    ensures app { IfOk result (λ c. app_of c ≡ make_command) }
-    ensures local { IfOk result (λ c. (out-Command c).has_globals ≡ false) }
-{
-    Command::new(alloc, "make")
-        .arg(word(alloc, "seed"))?
-        .arg(word(alloc, "targets"))?
-        .arg(word(alloc, "calls"))
-}
-
-// The program with its commands that run on no threads.
-fn plain_line<'a>(alloc: Global) -> Result<Command<'a>, AllocError>
-    ensures app { IfOk result (λ c. app_of c ≡ plain_line) }
-{
-    Command::new(alloc, "sandbox")
-        .no_binary_name(true)
-        .subcommand(check_command(alloc)?)?
-        .subcommand(replay_command(alloc)?)
-}
-
-/// The program with its commands, each with the words that it has to have. Its words begin after the program's name.
-pub(crate) fn command_line<'a>(alloc: Global) -> Result<Command<'a>, AllocError>
-    ensures app { IfOk result (λ c. app_of c ≡ command_line) }
-{
-    plain_line(alloc)?
-        .subcommand(run_command(alloc)?)?
-        .subcommand(make_command(alloc)?)
+    let names = arguments_of(name_of(words));
+    let mut line = Command::new(alloc, "sandbox");
+    for name in names {
+        line = line.arg(argument(alloc, name))?;
+    }
+    Ok(line)
 }
 
 // `check` with the value of its file.
-#[tactic(auto, using(crate::proofs::ReadWords::first_value_rows))]
 fn found_check<'a>(values: &ArgMatches<'a>) -> Option<CommandWords<'a>>
-    ensures meant { option_map meant result ≡ found_check (rows_of (found_of values.now)) }
+    ensures meant { option_map meant result ≡ found_check (first_value (found_of values.now)) }
     ensures numbers { IfSome result HasNumbers }
 {
     let policy = values.get_str("policy")?;
@@ -107,9 +67,8 @@ fn found_check<'a>(values: &ArgMatches<'a>) -> Option<CommandWords<'a>>
 }
 
 // `replay` with the values of its files.
-#[tactic(auto, using(crate::proofs::ReadWords::first_value_rows))]
 fn found_replay<'a>(values: &ArgMatches<'a>) -> Option<CommandWords<'a>>
-    ensures meant { option_map meant result ≡ found_replay (rows_of (found_of values.now)) }
+    ensures meant { option_map meant result ≡ found_replay (first_value (found_of values.now)) }
     ensures numbers { IfSome result HasNumbers }
 {
     let policy = values.get_str("policy")?;
@@ -134,9 +93,8 @@ fn workers_by(word: Option<&str>) -> Option<u32>
 }
 
 // `run` with the values of its files, and the number of workers.
-#[tactic(auto, using(crate::proofs::ReadWords::first_value_rows))]
 fn found_run<'a>(values: &ArgMatches<'a>) -> Option<CommandWords<'a>>
-    ensures meant { option_map meant result ≡ found_run (rows_of (found_of values.now)) }
+    ensures meant { option_map meant result ≡ found_run (first_value (found_of values.now)) }
     ensures numbers { IfSome result HasNumbers }
 {
     let policy = values.get_str("policy")?;
@@ -149,15 +107,14 @@ fn found_run<'a>(values: &ArgMatches<'a>) -> Option<CommandWords<'a>>
     })
 }
 
-// `make` with its numbers.
-#[tactic(auto, using(crate::proofs::ReadWords::first_value_rows))]
-fn found_make<'a>(values: &ArgMatches<'a>) -> Option<CommandWords<'a>>
-    ensures meant { option_map meant result ≡ found_make (rows_of (found_of values.now)) }
+/// `make` by the words of its numbers.
+pub(crate) fn make_by<'a>(seed: &str, targets: &str, calls: &str) -> Option<CommandWords<'a>>
+    ensures meant { option_map meant result ≡ make_by seed.now targets.now calls.now }
     ensures numbers { IfSome result HasNumbers }
 {
-    let seed = seed_of(values.get_str("seed")?)?;
-    let targets = targets_of(values.get_str("targets")?)?;
-    let calls = calls_of(values.get_str("calls")?)?;
+    let seed = seed_of(seed)?;
+    let targets = targets_of(targets)?;
+    let calls = calls_of(calls)?;
     Some(CommandWords::Make {
         seed,
         targets,
@@ -165,18 +122,29 @@ fn found_make<'a>(values: &ArgMatches<'a>) -> Option<CommandWords<'a>>
     })
 }
 
-/// The command that was found, with its values.
-#[tactic(auto, using(crate::proofs::ReadWords::first_value_rows))]
-pub(crate) fn found_command<'a>(matches: &ArgMatches<'a>) -> Option<CommandWords<'a>>
-    ensures meant { option_map meant result ≡ found_command (subcommand_rows_of matches.now) }
+// `make` with its numbers.
+fn found_make<'a>(values: &ArgMatches<'a>) -> Option<CommandWords<'a>>
+    ensures meant { option_map meant result ≡ found_make (first_value (found_of values.now)) }
     ensures numbers { IfSome result HasNumbers }
 {
-    let (name, values) = matches.subcommand()?;
-    match name {
+    let seed = values.get_str("seed")?;
+    let targets = values.get_str("targets")?;
+    let calls = values.get_str("calls")?;
+    make_by(seed, targets, calls)
+}
+
+/// The command that the words name, with its values.
+pub(crate) fn found_command<'a>(
+    words: &[String],
+    values: &ArgMatches<'a>,
+) -> Option<CommandWords<'a>>
+    ensures meant { option_map meant result ≡ found_command (texts words.now) (first_value (found_of values.now)) }
+    ensures numbers { IfSome result HasNumbers }
+{
+    match name_of(words) {
         "check" => found_check(values),
         "replay" => found_replay(values),
         "run" => found_run(values),
-        "make" => found_make(values),
-        _ => None,
+        _ => found_make(values),
     }
 }

@@ -2,8 +2,8 @@
 ghost use Rattle.std.specs.Prelude.{◌≡◌, ◌≢◌, IfOk, IfSome, IsErr, None, is_some, option_map};
 ghost use Rattle.sb_commands.specs.Commands.{HasNumbers, command_by, command_of, check_of, replay_of, run_apart, run_by, run_joined, run_of, make_of, is_file_word, meant, needs_threads, texts};
 
-use crate::command_line::{command_line, found_command};
-use crate::number_words::{calls_of, seed_of, targets_of, workers_apart, workers_joined};
+use crate::command_line::{command_line, found_command, make_by};
+use crate::number_words::{workers_apart, workers_joined};
 use clap::error::ErrorKind;
 use sb_wide::NoMemory;
 use std::alloc::Global;
@@ -97,7 +97,6 @@ fn is_run_apart(first: &str, second: &str, third: &str, fourth: &str) -> bool
 }
 
 // Whether the words behind `run` are `POLICY SCRIPT [--workers N]`, the option before the files or behind them.
-#[tactic(auto, using(crate::proofs::WordTests::too_few, crate::proofs::WordTests::too_many))]
 fn is_run(words: &[String]) -> bool
     ensures { result ≡ is_some (run_of (texts words.now)) }
 {
@@ -117,16 +116,16 @@ fn is_run(words: &[String]) -> bool
 }
 
 // Whether the words behind `make` are `SEED TARGETS CALLS`.
-#[tactic(auto, using(crate::proofs::WordTests::make_some))]
+#[tactic(auto, using(crate::proofs::WordTests::some_meant))]
 fn is_make(words: &[String]) -> bool
     ensures { result ≡ is_some (make_of (texts words.now)) }
 {
     match words {
-        [seed, targets, calls] => {
-            seed_of(seed.as_str()).is_some()
-                && targets_of(targets.as_str()).is_some()
-                && calls_of(calls.as_str()).is_some()
-        }
+        [seed, targets, calls] => make_by(
+            seed.as_str(),
+            targets.as_str(),
+            calls.as_str(),
+        ).is_some(),
         _ => false,
     }
 }
@@ -155,7 +154,6 @@ fn is_command(words: &[String]) -> bool
 }
 
 // Whether a name and the words behind it are a command that runs on threads.
-#[tactic(auto, using(crate::proofs::WordTests::check_is_plain, crate::proofs::WordTests::replay_is_plain, crate::proofs::WordTests::run_is_threaded, crate::proofs::WordTests::make_is_threaded))]
 fn is_threaded_by(name: &str, words: &[String]) -> bool
     ensures { result ≡ needs_threads (command_by name.now (texts words.now)) }
 {
@@ -186,7 +184,6 @@ pub fn needs_threads(words: &[String]) -> bool
 ///
 /// # Errors
 /// `NoMemory` where there was none to read words that are a command, and never over other words.
-#[tactic(auto, using(crate::proofs::TakenWords::commands_are_taken, crate::proofs::TakenWords::commands_are_read, crate::proofs::ReadWords::line_is_simple))]
 pub fn command_of(alloc: Global, words: &[String]) -> Result<Option<CommandWords<'_>>, NoMemory>
     ensures exact { IfOk result (λ command. option_map meant command ≡ command_of (texts words.now)) }
     ensures numbers { IfOk result (λ command. IfSome command HasNumbers) }
@@ -195,8 +192,8 @@ pub fn command_of(alloc: Global, words: &[String]) -> Result<Option<CommandWords
     if !is_command(words) {
         return Ok(None);
     }
-    match command_line(alloc)?.try_get_matches_from(words) {
-        Ok(matches) => Ok(found_command(&matches)),
+    match command_line(alloc, words)?.try_get_matches_from(words) {
+        Ok(values) => Ok(found_command(words, &values)),
         Err(error) => match error.kind() {
             ErrorKind::OutOfMemory => Err(NoMemory),
             // The library takes all words that are a command.

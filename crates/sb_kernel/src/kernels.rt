@@ -33,13 +33,26 @@ use std::marker::Model;
 /// The namespace that the broker keeps: files, pipes, registry keys and events, and the handles that targets hold on them.
 ///
 /// What a call does to it is this project's profile of the Windows services of these names, with the Windows status codes.
-#[derive(Debug, Drop)]
+#[derive(Debug)]
 pub struct Kernel {
     files: FileService,
     pipes: PipeService,
     keys: KeyService,
     events: EventService,
     handles: HandleTable,
+}
+
+// What a namespace holds is dropped by one call, which is proved here once and not in each crate that drops a namespace.
+impl Drop for Kernel {
+    fn drop(self) {
+        let Kernel {
+            files: _,
+            pipes: _,
+            keys: _,
+            events: _,
+            handles: _,
+        } = self;
+    }
 }
 
 impl Model for Kernel {

@@ -91,7 +91,7 @@ impl NameTree {
         }
     }
 
-    #[tactic(auto, using(crate::proofs::AddLemmas::add_gone, crate::proofs::AddLemmas::add_there, crate::proofs::AddLemmas::add_new, crate::proofs::AddLemmas::add_alone, crate::proofs::AddLemmas::at_there))]
+    #[tactic(auto, using(crate::proofs::AddLemmas::add_there, crate::proofs::AddLemmas::at_there))]
     /// Adds a name with its object. Memory apart, it is refused with the first of these that applies.
     ///
     /// # Errors

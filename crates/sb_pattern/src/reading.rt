@@ -1,7 +1,7 @@
 // The cells of a text, and what makes a text no pattern.
-ghost use Rattle.std.specs.Prelude.{◌≡◌, ◌<◌, ◌≤◌, ◌∷◌, [], length, IfOk, MatchOption};
+ghost use Rattle.std.specs.Prelude.{◌≡◌, ◌<◌, ◌≤◌, ◌∷◌, ◌++◌, [], length, IfOk, OnOk, MatchOption};
 ghost use Rattle.sb_pattern.specs.Limits.{most_units};
-ghost use Rattle.sb_pattern.specs.Reading.{cells_of, fault_of, star_fault, text_of};
+ghost use Rattle.sb_pattern.specs.Reading.{cell_of, cell_text, cells_of, fault_of, star_fault, text_of};
 
 use crate::cells::Cell;
 use crate::faults::PatternFault;
@@ -45,17 +45,26 @@ pub(crate) fn fault_of(text: &[u16]) -> Option<PatternFault>
     star_fault(text)
 }
 
+// The cell of a unit.
+fn cell_of(unit: u16) -> Cell
+    ensures { result ≡ cell_of unit }
+{
+    match unit {
+        STAR => Cell::Any,
+        QUESTION => Cell::One,
+        _ => Cell::Lit(unit),
+    }
+}
+
 // The first cell, and the text after it.
 fn next_cell(text: &[u16]) -> Option<(Cell, &[u16])>
     ensures first { MatchOption result (cells_of text.now ≡ []) (λ p. cells_of text.now ≡ p.0 ∷ cells_of p.1.now) }
     ensures shorter { MatchOption result (text.now ≡ []) (λ p. length p.1.now < length text.now) }
 {
-    match text {
-        [SLASH, QUESTION, after @ ..] => Some((Cell::Lit(QUESTION), after)),
-        [STAR, after @ ..] => Some((Cell::Any, after)),
-        [QUESTION, after @ ..] => Some((Cell::One, after)),
-        [unit, after @ ..] => Some((Cell::Lit(*unit), after)),
-        [] => None,
+    match text.split_first() {
+        Some((&SLASH, [QUESTION, after @ ..])) => Some((Cell::Lit(QUESTION), after)),
+        Some((unit, after)) => Some((cell_of(*unit), after)),
+        None => None,
     }
 }
 
@@ -72,18 +81,26 @@ pub(crate) fn cells_of(alloc: Global, text: &[u16]) -> Result<Vec<Cell>, NoMemor
     Ok(cells)
 }
 
+// Appends the text of a cell.
+fn append_cell(units: &mut Vec<u16>, cell: &Cell) -> Result<(), NoMemory>
+    ensures { OnOk result (units.new.items ≡ units.old.items ++ cell_text cell.now) }
+{
+    match cell {
+        Cell::Lit(63) => units.extend_from_slice(&[47, 63])?,
+        Cell::Lit(unit) => units.push(*unit)?,
+        Cell::One => units.push(63)?,
+        Cell::Any => units.push(42)?,
+    }
+    Ok(())
+}
+
 // The text of the cells.
 pub(crate) fn units_of(alloc: Global, cells: &[Cell]) -> Result<Vec<u16>, NoMemory>
     ensures { IfOk result (λ units. units.items ≡ text_of cells.now) }
 {
     let mut units = Vec::new(alloc);
     for cell in cells {
-        match cell {
-            Cell::Lit(63) => units.extend_from_slice(&[47, 63])?,
-            Cell::Lit(unit) => units.push(*unit)?,
-            Cell::One => units.push(63)?,
-            Cell::Any => units.push(42)?,
-        }
+        append_cell(&mut units, cell)?;
     }
     Ok(units)
 }

@@ -1,9 +1,31 @@
 -- Works at places, taken in order.
-use Rattle.std.proofs.Common.{◌≡◌, ℕ, zero, suc, ◌+◌, ◌<◌, ◌≤◌, Option, Some, None, List, [], ◌∷◌, ◌++◌, length, map, refl, sym, ap, ◌∙◌, arith}
+use Rattle.std.proofs.Common.{◌≡◌, ℕ, zero, suc, ◌+◌, ◌<◌, ◌≤◌, Option, Some, None, List, [], ◌∷◌, ◌++◌, append_assoc, length, length-append, map, refl, sym, ap, ◌∙◌, arith}
 use Rattle.std.specs.Prelude.{slice_get, unwrap_or, is_some}
 use Rattle.std.proofs.lemmas.Bool.{false≢true}
+use Rattle.std.proofs.lemmas.List.{append-nil}
 use Rattle.sb_pool.specs.Rooms.{filled}
 use Rattle.sb_pool.specs.Pools.{AreNumbered, AreAllHome}
+
+module _ {A : Type 0} where
+  -- a list that is passed one by one
+  pub passed_one : (all passed left later : List A) (x : A) → all ≡ passed ++ left → left ≡ x ∷ later → all ≡ (passed ++ x ∷ []) ++ later
+  passed_one all passed left later x e f = e ∙ ap (λ l. passed ++ l) f ∙ sym (append_assoc passed (x ∷ []) later)
+
+  pub passed_all : (all passed left : List A) → all ≡ passed ++ left → length left ≡ 0 → all ≡ passed
+  passed_all all passed [] e h = rw append-nil at e
+  passed_all all passed (x ∷ left) e h = absurd (omega (arith, h))
+
+  pub passed_at : (all passed left later : List A) (x : A) → all ≡ passed ++ left → left ≡ x ∷ later → slice_get all (length passed) ≡ Some x
+  passed_at all passed left later x e f = rw (e, f) (here passed)
+    where
+      here : (passed : List A) → slice_get (passed ++ x ∷ later) (length passed) ≡ Some x
+      here [] = refl
+      here (y ∷ passed) = here passed
+
+  pub passed_below : (all passed left later : List A) (x : A) (room : ℕ) → all ≡ passed ++ left → left ≡ x ∷ later → length all ≤ room → length passed < room
+  passed_below all passed left later x room e f h =
+      let long : length all ≡ length passed + (1 + length later) = rw (e, f) (simp length-append (omega arith)) in
+      omega arith
 
 module _ {W : Type 0} where
   pub filled_some : (slots : List (Option W)) (work : W) → filled (slots ++ Some work ∷ []) ≡ filled slots ++ work ∷ []
@@ -16,10 +38,18 @@ module _ {W : Type 0} where
   filled_none (None ∷ slots) = filled_none slots
   filled_none (Some w ∷ slots) = ap (λ l. w ∷ l) (filled_none slots)
 
-  pub filled_few : (slots : List (Option W)) → length (filled slots) ≤ length slots
+  filled_few : (slots : List (Option W)) → length (filled slots) ≤ length slots
   filled_few [] = omega arith
   filled_few (None ∷ slots) = let s = filled_few slots in omega arith
   filled_few (Some work ∷ slots) = let s = filled_few slots in omega arith
+
+  -- while a place is to come, there is room
+  pub filled_below : (slots passed left later : List (Option W)) (slot : Option W) (room : ℕ)
+      → slots ≡ passed ++ left → left ≡ slot ∷ later → length slots ≤ room → length (filled passed) < room
+  filled_below slots passed left later slot room e f h =
+      let few = filled_few passed in
+      let below = passed_below slots passed left later slot room e f h in
+      omega arith
 
 module _ {W H : Type 0} (number : W → ℕ) (home : W → H) where
   -- the first place holds a work

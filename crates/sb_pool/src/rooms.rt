@@ -73,7 +73,6 @@ impl<W: Drop> Rooms<W> {
 }
 
 // The works of the places, put into a vector that has room for them.
-#[tactic(auto, using(crate::proofs::Filling::filled_some, crate::proofs::Filling::filled_none, crate::proofs::Filling::filled_few))]
 fn in_order<W: Drop>(slots: Vec<Option<W>>, works: Vec<W>) -> Vec<W>
     requires empty { works.items ≡ [] }
     requires room { length slots.items ≤ vec_capacity works }

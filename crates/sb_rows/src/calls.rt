@@ -2,7 +2,7 @@
 
 use crate::faults::RowFault;
 use crate::readers::number;
-use crate::units::{quoted, unquoted, words_in};
+use crate::units::{quoted, small, unquoted, words_in};
 use sb_call::{Arg, Args, CallTag, ShortName, tag_of_word};
 use std::alloc::Global;
 use std::str;
@@ -47,12 +47,20 @@ fn call_of(alloc: Global, words: &[&str]) -> Result<(CallTag, Args), RowFault> {
     Ok((tag, args(alloc, rest)?))
 }
 
+/// The number of a parameter, as `p1`.
+pub fn param(word: &str) -> Result<u32, RowFault> {
+    match word.strip_prefix('p') {
+        Some(digits) => small(digits),
+        None => Err(RowFault::BadWords),
+    }
+}
+
 /// A name of a policy or a target.
 pub fn short_name(word: &str) -> Result<ShortName, RowFault> {
     ShortName::new(word.as_bytes()).ok_or(RowFault::BadWords)
 }
 
-/// Appends a word of ASCII.
+/// Appends a word, the bytes of which are UTF-8.
 pub fn put_word(out: &mut String, word: &[u8]) -> Result<(), RowFault> {
     let text = str::from_utf8(word).map_err(|_| RowFault::BadText)?;
     Ok(out.push_str(text)?)

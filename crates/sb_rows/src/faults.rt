@@ -35,9 +35,6 @@ pub enum RowFault {
     /// The function may not be called with these arguments.
     #[error("not in range")]
     NotInRange,
-    /// No call has this name.
-    #[error("no such call")]
-    BadCall,
     /// Words are not an opcode.
     #[error("bad opcode")]
     BadOpcode,

@@ -47,6 +47,11 @@ pub fn quoted(alloc: Global, word: &str) -> Result<Wide, RowFault> {
     }
 }
 
+/// The units of a word, between quotes or without them.
+pub fn word_units(alloc: Global, word: &str) -> Result<Wide, RowFault> {
+    wide(alloc, unquoted(word).unwrap_or(word))
+}
+
 // The letter that a unit is written as, or none where it is written by its number.
 fn letter(unit: u16) -> Option<char> {
     let byte = u8::try_from(unit).ok()?;

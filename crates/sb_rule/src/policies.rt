@@ -55,10 +55,17 @@ impl Copies for Policy {
 pub type PolicyList = Items<Policy>;
 
 /// The policies that targets name by their numbers.
-#[derive(Debug, Drop, PartialEq)]
+#[derive(Debug, PartialEq)]
 pub struct Policies {
     /// The policies, numbered from 0.
     pub list: PolicyList,
+}
+
+// What policies hold is dropped by one call, which is proved here once and not in each crate that drops policies.
+impl Drop for Policies {
+    fn drop(self) {
+        let Policies { list: _ } = self;
+    }
 }
 
 impl Copies for Policies {

@@ -79,7 +79,7 @@ impl Copies for TargetScript {
 pub type Targets = Items<TargetScript>;
 
 /// A script.
-#[derive(Debug, Drop, PartialEq)]
+#[derive(Debug, PartialEq)]
 pub struct Script {
     /// How many loads of its channel's state a call makes at most where the channel is not clean, and how many rounds
     /// over the channels where the target has no clean one. From 1 to 1,000,000 in a script that was read.
@@ -88,6 +88,17 @@ pub struct Script {
     pub start: StartLines,
     /// Its targets.
     pub targets: Targets,
+}
+
+// What a script holds is dropped by one call, which is proved here once and not in each crate that drops a script.
+impl Drop for Script {
+    fn drop(self) {
+        let Script {
+            patience: _,
+            start: _,
+            targets: _,
+        } = self;
+    }
 }
 
 impl Copies for Script {

@@ -1,10 +1,10 @@
 // Rows of files and outputs of the system, and of what the program tells of itself.
 
-use crate::bytes::{bytes, put_shown};
+use crate::bytes::put_shown;
 use crate::outside::{put_content, put_outcome};
 use sb_host::{HostFiles, HostSink, OwnWord, own_text, own_word};
 use sb_outside::{Files, Sink};
-use sb_rows::{RowFault, number, put_between, told};
+use sb_rows::{RowFault, bytes, number, put_between, told};
 use std::alloc::Global;
 use std::io::Cursor;
 use std::rt;

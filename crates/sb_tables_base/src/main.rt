@@ -14,6 +14,7 @@ mod strings;
 mod texts;
 mod written_rules;
 
+use sb_rows::{is_row, told_row};
 use std::alloc::Global;
 use std::rt::Files;
 use std::{env, fs, io};
@@ -31,11 +32,8 @@ fn main(rt: HostRuntime) -> io::Result<()> {
 
 // What is printed of a line: a blank line or a comment as it is, and a row with its value.
 fn told_line<R: Files>(rt: &R, alloc: Global, line: &str) -> io::Result<String> {
-    if line.is_empty() || line.starts_with('#') {
+    if !is_row(line) {
         return Ok(String::from_str(alloc, line)?);
     }
-    Ok(match rows::value_of(rt, alloc, line) {
-        Ok(value) => format!(in alloc; "{line} => {value}")?,
-        Err(fault) => format!(in alloc; "{line} FAULT {fault}")?,
-    })
+    Ok(told_row(alloc, line, rows::value_of(rt, alloc, line))?)
 }

@@ -1,12 +1,12 @@
 // Rows of files and outputs in memory.
 
-use crate::bytes::{bytes, put_shown, shown};
+use crate::bytes::{put_shown, shown};
 use sb_items::Copies;
 use sb_outside::{
     Bytes, FileFault, FileList, Files, MemFiles, MemSink, Numbers, Sink, SinkFault, StoredFile,
     Text, put_lines,
 };
-use sb_rows::{RowFault, displayed, number, numbers, put_between, told};
+use sb_rows::{RowFault, bytes, displayed, number, numbers, put_between, told};
 use std::alloc::Global;
 
 /// What a function of files and outputs gives.
@@ -22,11 +22,11 @@ pub fn value_of(alloc: Global, name: &str, parts: &[&str]) -> Result<String, Row
 fn value_of_one(alloc: Global, name: &str, list: &str) -> Result<String, RowFault> {
     match name {
         "FileList::into_items" => listed(alloc, list),
-        "Bytes::copy" => bytes_copied(alloc, list),
-        "Bytes::len" => bytes_counted(alloc, list),
-        "Bytes::into_items" => bytes_back(alloc, list),
-        "Text::into_string" => text_back(alloc, list),
-        "Numbers::into_items" => numbers_back(alloc, list),
+        "Bytes::copy" => shown(alloc, byte_list(alloc, list)?.copy(alloc)?.as_slice()),
+        "Bytes::len" => told(alloc, &byte_list(alloc, list)?.len()),
+        "Bytes::into_items" => shown(alloc, &byte_list(alloc, list)?.into_items()),
+        "Text::into_string" => Ok(owned(alloc, list)?.into_string()),
+        "Numbers::into_items" => told(alloc, &Numbers::new(numbers(alloc, list)?).into_items()),
         _ => Err(RowFault::Unknown),
     }
 }
@@ -35,9 +35,16 @@ fn value_of_two(alloc: Global, name: &str, first: &str, second: &str) -> Result<
     match name {
         "FileList::find" => found(alloc, first, second),
         "StoredFile::eq" => files_equal(alloc, first, second),
-        "Bytes::eq" => bytes_equal(alloc, first, second),
-        "Text::eq" => texts_equal(alloc, first, second),
-        "Numbers::contains" => is_among(alloc, first, second),
+        "Bytes::eq" => told(
+            alloc,
+            &(byte_list(alloc, first)? == byte_list(alloc, second)?),
+        ),
+        "Text::eq" => told(alloc, &(owned(alloc, first)? == owned(alloc, second)?)),
+        "Numbers::contains" => {
+            let item = number(second)?;
+            let list = Numbers::new(numbers(alloc, first)?);
+            told(alloc, &list.as_slice().contains(&item))
+        }
         "message" => message(alloc, first, second),
         _ => Err(RowFault::Unknown),
     }
@@ -56,51 +63,10 @@ fn value_of_three(
     }
 }
 
-fn bytes_copied(alloc: Global, text: &str) -> Result<String, RowFault> {
-    let copy = byte_list(alloc, text)?.copy(alloc)?;
-    shown(alloc, copy.as_slice())
-}
-
-fn bytes_counted(alloc: Global, text: &str) -> Result<String, RowFault> {
-    told(alloc, &byte_list(alloc, text)?.len())
-}
-
-fn bytes_equal(alloc: Global, a: &str, b: &str) -> Result<String, RowFault> {
-    let a = byte_list(alloc, a)?;
-    let b = byte_list(alloc, b)?;
-    told(alloc, &(a == b))
-}
-
-fn bytes_back(alloc: Global, text: &str) -> Result<String, RowFault> {
-    let items = byte_list(alloc, text)?.into_items();
-    shown(alloc, &items)
-}
-
-fn texts_equal(alloc: Global, a: &str, b: &str) -> Result<String, RowFault> {
-    let a = owned(alloc, a)?;
-    let b = owned(alloc, b)?;
-    told(alloc, &(a == b))
-}
-
 fn files_equal(alloc: Global, a: &str, b: &str) -> Result<String, RowFault> {
     let a = stored_file(alloc, a)?;
     let b = stored_file(alloc, b)?;
     told(alloc, &(a == b))
-}
-
-fn text_back(alloc: Global, text: &str) -> Result<String, RowFault> {
-    Ok(owned(alloc, text)?.into_string())
-}
-
-fn is_among(alloc: Global, text: &str, item: &str) -> Result<String, RowFault> {
-    let item = number(item)?;
-    let list = Numbers::new(numbers(alloc, text)?);
-    told(alloc, &list.as_slice().contains(&item))
-}
-
-fn numbers_back(alloc: Global, text: &str) -> Result<String, RowFault> {
-    let list = Numbers::new(numbers(alloc, text)?);
-    told(alloc, &list.into_items())
 }
 
 fn byte_list(alloc: Global, text: &str) -> Result<Bytes, RowFault> {
@@ -256,25 +222,14 @@ pub fn put_outcome(out: &mut String, outcome: Result<(), SinkFault>) -> Result<(
 
 fn message(alloc: Global, kind: &str, fault: &str) -> Result<String, RowFault> {
     match kind {
-        "FileFault" => file_message(alloc, fault),
-        "SinkFault" => sink_message(alloc, fault),
-        _ => Err(RowFault::Unknown),
-    }
-}
-
-fn file_message(alloc: Global, fault: &str) -> Result<String, RowFault> {
-    match fault {
-        "Missing" => displayed(alloc, &FileFault::Missing),
-        "TooLong" => displayed(alloc, &FileFault::TooLong),
-        "Failed" => displayed(alloc, &FileFault::Failed),
-        "NoMemory" => displayed(alloc, &FileFault::NoMemory),
-        _ => Err(RowFault::Unknown),
-    }
-}
-
-fn sink_message(alloc: Global, fault: &str) -> Result<String, RowFault> {
-    match fault {
-        "Failed" => displayed(alloc, &SinkFault::Failed),
+        "FileFault" => match fault {
+            "Missing" => displayed(alloc, &FileFault::Missing),
+            "TooLong" => displayed(alloc, &FileFault::TooLong),
+            "Failed" => displayed(alloc, &FileFault::Failed),
+            "NoMemory" => displayed(alloc, &FileFault::NoMemory),
+            _ => Err(RowFault::Unknown),
+        },
+        "SinkFault" if fault == "Failed" => displayed(alloc, &SinkFault::Failed),
         _ => Err(RowFault::Unknown),
     }
 }

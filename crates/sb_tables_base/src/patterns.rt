@@ -8,69 +8,43 @@ use std::alloc::Global;
 /// What a function of patterns gives.
 pub fn value_of(alloc: Global, name: &str, parts: &[&str]) -> Result<String, RowFault> {
     match name {
-        "PatternFault::number" => number(alloc, parts),
+        "PatternFault::number" => told(alloc, &fault(parts)?.number()),
         "message" => message(alloc, parts),
-        _ => counted_value(alloc, name, parts),
-    }
-}
-
-// What a function gives for so many arguments.
-fn counted_value(alloc: Global, name: &str, parts: &[&str]) -> Result<String, RowFault> {
-    match parts {
-        [text] => value_of_one(alloc, name, text),
-        [first, second] => value_of_two(alloc, name, first, second),
-        _ => Err(RowFault::Unknown),
+        _ => match parts {
+            [text] => value_of_one(alloc, name, text),
+            [first, second] => value_of_two(alloc, name, first, second),
+            _ => Err(RowFault::Unknown),
+        },
     }
 }
 
 fn value_of_one(alloc: Global, name: &str, text: &str) -> Result<String, RowFault> {
     match name {
         "Pattern::read" => cells(alloc, text),
-        "Pattern::text" => written(alloc, text),
-        "Pattern::copy" => copied(alloc, text),
-        "Pattern::chunks" => chunks(alloc, text),
-        "Chunks::into_items" => chunks_back(alloc, text),
+        "Pattern::text" => text_of(alloc, &pattern(alloc, text)?),
+        "Pattern::copy" => text_of(alloc, &pattern(alloc, text)?.copy(alloc)?),
+        "Pattern::chunks" => {
+            let chunks = pattern(alloc, text)?.chunks(alloc)?;
+            told(alloc, &chunks.as_slice())
+        }
+        "Chunks::into_items" => {
+            let chunks = pattern(alloc, text)?.chunks(alloc)?;
+            told(alloc, &chunks.into_items())
+        }
         _ => Err(RowFault::Unknown),
     }
 }
 
 fn value_of_two(alloc: Global, name: &str, first: &str, second: &str) -> Result<String, RowFault> {
     match name {
-        "Pattern::eq" => equality(alloc, first, second),
-        "Pattern::matches_plain" => matching(alloc, first, second),
+        "Pattern::eq" => told(alloc, &(pattern(alloc, first)? == pattern(alloc, second)?)),
+        "Pattern::matches_plain" => {
+            let pattern = pattern(alloc, first)?;
+            let units = wide(alloc, second)?;
+            told(alloc, &pattern.matches_plain(units.as_units()))
+        }
         _ => Err(RowFault::Unknown),
     }
-}
-
-fn written(alloc: Global, text: &str) -> Result<String, RowFault> {
-    text_of(alloc, &pattern(alloc, text)?)
-}
-
-fn copied(alloc: Global, text: &str) -> Result<String, RowFault> {
-    let pattern = pattern(alloc, text)?;
-    text_of(alloc, &pattern.copy(alloc)?)
-}
-
-fn equality(alloc: Global, a: &str, b: &str) -> Result<String, RowFault> {
-    let a = pattern(alloc, a)?;
-    let b = pattern(alloc, b)?;
-    told(alloc, &(a == b))
-}
-
-fn chunks(alloc: Global, text: &str) -> Result<String, RowFault> {
-    let chunks = pattern(alloc, text)?.chunks(alloc)?;
-    told(alloc, &chunks.as_slice())
-}
-
-fn chunks_back(alloc: Global, text: &str) -> Result<String, RowFault> {
-    let chunks = pattern(alloc, text)?.chunks(alloc)?;
-    told(alloc, &chunks.into_items())
-}
-
-fn matching(alloc: Global, text: &str, units: &str) -> Result<String, RowFault> {
-    let pattern = pattern(alloc, text)?;
-    let units = wide(alloc, units)?;
-    told(alloc, &pattern.matches_plain(units.as_units()))
 }
 
 /// The pattern of a text.
@@ -98,42 +72,19 @@ fn message(alloc: Global, parts: &[&str]) -> Result<String, RowFault> {
         return Err(RowFault::Unknown);
     };
     match *kind {
-        "PatternFault" => fault_message(alloc, words),
-        "PatternRefused" => refusal_message(alloc, words),
+        "PatternFault" => displayed(alloc, &fault(words)?),
+        "PatternRefused" => match words {
+            ["NoMemory"] => displayed(alloc, &PatternRefused::NoMemory),
+            _ => displayed(alloc, &PatternRefused::Fault(fault(words)?)),
+        },
         _ => Err(RowFault::Unknown),
     }
 }
 
-fn fault_message(alloc: Global, words: &[&str]) -> Result<String, RowFault> {
-    displayed(alloc, &fault(words)?)
-}
-
-fn refusal_message(alloc: Global, words: &[&str]) -> Result<String, RowFault> {
-    displayed(alloc, &refusal(words)?)
-}
-
-fn refusal(words: &[&str]) -> Result<PatternRefused, RowFault> {
-    match words {
-        ["NoMemory"] => Ok(PatternRefused::NoMemory),
-        _ => Ok(PatternRefused::Fault(fault(words)?)),
-    }
-}
-
-fn number(alloc: Global, words: &[&str]) -> Result<String, RowFault> {
-    told(alloc, &fault(words)?.number())
-}
-
 fn fault(words: &[&str]) -> Result<PatternFault, RowFault> {
     match words {
-        [name] => lone_fault(name),
+        ["TooLong"] => Ok(PatternFault::TooLong),
         [name, at] => fault_at(name, small(at)?),
-        _ => Err(RowFault::BadWords),
-    }
-}
-
-fn lone_fault(name: &str) -> Result<PatternFault, RowFault> {
-    match name {
-        "TooLong" => Ok(PatternFault::TooLong),
         _ => Err(RowFault::BadWords),
     }
 }

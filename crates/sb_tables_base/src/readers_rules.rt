@@ -1,21 +1,10 @@
 // Readers of rules and policies. Rules are separated by semicolons. `N *` before a rule repeats it N times.
 
 use crate::patterns::pattern;
-use sb_rows::{RowFault, number, quoted, short_name, small, tag, unquoted, words_in};
-use sb_rule::{Action, Cond, Conds, Numbers, Policies, Policy, PolicyList, Rule, Rules, Test};
+use sb_row_values::action;
+use sb_rows::{RowFault, number, param, quoted, short_name, tag, unquoted, words_in};
+use sb_rule::{Cond, Conds, Numbers, Policies, Policy, PolicyList, Rule, Rules, Test};
 use std::alloc::Global;
-
-/// The action that a word names.
-pub fn action(word: &str) -> Result<Action, RowFault> {
-    match word {
-        "allow" => Ok(Action::Allow),
-        "deny" => Ok(Action::Deny),
-        "alarm" => Ok(Action::Alarm),
-        "fake" => Ok(Action::Fake),
-        "readonly" => Ok(Action::ReadOnly),
-        _ => Err(RowFault::BadWords),
-    }
-}
 
 // Numbers, separated by `or`.
 fn one_of(alloc: Global, words: &[&str]) -> Result<Test, RowFault> {
@@ -28,7 +17,10 @@ fn one_of(alloc: Global, words: &[&str]) -> Result<Test, RowFault> {
     Ok(Test::OneOf(numbers))
 }
 
-fn range(text: &str) -> Result<Test, RowFault> {
+fn range(words: &[&str]) -> Result<Test, RowFault> {
+    let [text] = words else {
+        return Err(RowFault::BadWords);
+    };
     let Some((lo, hi)) = text.split_once("..") else {
         return Err(RowFault::BadWords);
     };
@@ -38,7 +30,10 @@ fn range(text: &str) -> Result<Test, RowFault> {
     })
 }
 
-fn like(alloc: Global, word: &str) -> Result<Test, RowFault> {
+fn like(alloc: Global, words: &[&str]) -> Result<Test, RowFault> {
+    let [word] = words else {
+        return Err(RowFault::BadWords);
+    };
     match unquoted(word) {
         Some(text) => Ok(Test::Like(pattern(alloc, text)?)),
         None => Err(RowFault::BadWords),
@@ -51,48 +46,18 @@ fn test(alloc: Global, words: &[&str]) -> Result<Test, RowFault> {
         return Err(RowFault::BadWords);
     };
     match *word {
-        "is" => is_test(alloc, rest),
-        "in" => range_test(rest),
-        "has" => mask_test(rest),
-        "like" => like_test(alloc, rest),
+        "is" => match rest {
+            [word] if unquoted(word).is_some() => Ok(Test::Equal(quoted(alloc, word)?)),
+            numbers => one_of(alloc, numbers),
+        },
+        "in" => range(rest),
+        "has" => match rest {
+            [bits] => Ok(Test::Mask(number(bits)?)),
+            _ => Err(RowFault::BadWords),
+        },
+        "like" => like(alloc, rest),
         _ => Err(RowFault::BadWords),
     }
-}
-
-fn is_test(alloc: Global, words: &[&str]) -> Result<Test, RowFault> {
-    match words {
-        [word] if unquoted(word).is_some() => equal(alloc, word),
-        numbers => one_of(alloc, numbers),
-    }
-}
-
-fn range_test(words: &[&str]) -> Result<Test, RowFault> {
-    match words {
-        [text] => range(text),
-        _ => Err(RowFault::BadWords),
-    }
-}
-
-fn mask_test(words: &[&str]) -> Result<Test, RowFault> {
-    match words {
-        [bits] => mask(bits),
-        _ => Err(RowFault::BadWords),
-    }
-}
-
-fn like_test(alloc: Global, words: &[&str]) -> Result<Test, RowFault> {
-    match words {
-        [word] => like(alloc, word),
-        _ => Err(RowFault::BadWords),
-    }
-}
-
-fn equal(alloc: Global, word: &str) -> Result<Test, RowFault> {
-    Ok(Test::Equal(quoted(alloc, word)?))
-}
-
-fn mask(bits: &str) -> Result<Test, RowFault> {
-    Ok(Test::Mask(number(bits)?))
 }
 
 // A condition on a parameter by its number, as `not p1 has 2`.
@@ -101,24 +66,16 @@ fn cond(alloc: Global, words: &[&str]) -> Result<Cond, RowFault> {
         ["not", rest @ ..] => (true, rest),
         _ => (false, words),
     };
-    let [param, rest @ ..] = words else {
+    let [word, rest @ ..] = words else {
         return Err(RowFault::BadWords);
     };
-    let param = param_of(param)?;
+    let param = param(word)?;
     let test = test(alloc, rest)?;
     Ok(Cond {
         param,
         negated,
         test,
     })
-}
-
-// The number of a parameter, as `p1`.
-fn param_of(word: &str) -> Result<u32, RowFault> {
-    match word.strip_prefix('p') {
-        Some(digits) => small(digits),
-        None => Err(RowFault::BadWords),
-    }
 }
 
 fn conds(alloc: Global, words: &[&str]) -> Result<Conds, RowFault> {

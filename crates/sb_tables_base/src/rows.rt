@@ -10,34 +10,31 @@ use std::rt::Files;
 pub fn value_of<R: Files>(rt: &R, alloc: Global, row: &str) -> Result<String, RowFault> {
     let (name, rest) = row.split_once(' ').unwrap_or((row, ""));
     let parts = arguments(alloc, rest)?;
-    match host::value_of(rt, alloc, name, parts.as_slice()) {
-        Err(RowFault::Unknown) => string_value(alloc, name, parts.as_slice()),
-        value => value,
-    }
+    known_value(rt, alloc, name, parts.as_slice())
 }
 
-fn string_value(alloc: Global, name: &str, parts: &[&str]) -> Result<String, RowFault> {
+fn known_value<R: Files>(
+    rt: &R,
+    alloc: Global,
+    name: &str,
+    parts: &[&str],
+) -> Result<String, RowFault> {
+    match host::value_of(rt, alloc, name, parts) {
+        Err(RowFault::Unknown) => {}
+        value => return value,
+    }
     match strings::value_of(alloc, name, parts) {
-        Err(RowFault::Unknown) => text_value(alloc, name, parts),
-        value => value,
+        Err(RowFault::Unknown) => {}
+        value => return value,
     }
-}
-
-fn text_value(alloc: Global, name: &str, parts: &[&str]) -> Result<String, RowFault> {
     match texts::value_of(alloc, name, parts) {
-        Err(RowFault::Unknown) => outside_value(alloc, name, parts),
-        value => value,
+        Err(RowFault::Unknown) => {}
+        value => return value,
     }
-}
-
-fn outside_value(alloc: Global, name: &str, parts: &[&str]) -> Result<String, RowFault> {
     match outside::value_of(alloc, name, parts) {
-        Err(RowFault::Unknown) => pattern_value(alloc, name, parts),
-        value => value,
+        Err(RowFault::Unknown) => {}
+        value => return value,
     }
-}
-
-fn pattern_value(alloc: Global, name: &str, parts: &[&str]) -> Result<String, RowFault> {
     match patterns::value_of(alloc, name, parts) {
         Err(RowFault::Unknown) => rules::value_of(alloc, name, parts),
         value => value,

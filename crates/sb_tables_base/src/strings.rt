@@ -18,58 +18,27 @@ pub fn value_of(alloc: Global, name: &str, parts: &[&str]) -> Result<String, Row
 
 fn value_of_one(alloc: Global, name: &str, text: &str) -> Result<String, RowFault> {
     match name {
-        "fold" => folded(alloc, text),
-        "is_component" => component_test(alloc, text),
-        "is_name" => name_test(alloc, text),
+        "fold" => told(alloc, &fold(unit(text)?)),
+        "is_component" => told(alloc, &is_component(wide(alloc, text)?.as_units())),
+        "is_name" => told(alloc, &is_name(wide(alloc, text)?.as_units())),
         "quoted_len" => quoted_length(alloc, text),
-        "Wide::len" => length(alloc, text),
-        "message" => message(alloc, text),
+        "Wide::len" => told(alloc, &wide(alloc, text)?.len()),
+        "message" if text == "NoMemory" => displayed(alloc, &NoMemory),
         _ => listed(alloc, name, text),
     }
 }
 
 fn value_of_two(alloc: Global, name: &str, first: &str, second: &str) -> Result<String, RowFault> {
     match name {
-        "same" => comparison(alloc, first, second),
+        "same" => {
+            let a = wide(alloc, first)?;
+            let b = wide(alloc, second)?;
+            told(alloc, &same(a.as_units(), b.as_units()))
+        }
         "quote_into" => quoted(alloc, first, second),
-        "Wide::eq" => equality(alloc, first, second),
+        "Wide::eq" => told(alloc, &(wide(alloc, first)? == wide(alloc, second)?)),
         _ => Err(RowFault::Unknown),
     }
-}
-
-fn message(alloc: Global, fault: &str) -> Result<String, RowFault> {
-    match fault {
-        "NoMemory" => displayed(alloc, &NoMemory),
-        _ => Err(RowFault::Unknown),
-    }
-}
-
-fn folded(alloc: Global, number: &str) -> Result<String, RowFault> {
-    told(alloc, &fold(unit(number)?))
-}
-
-fn component_test(alloc: Global, text: &str) -> Result<String, RowFault> {
-    told(alloc, &is_component(wide(alloc, text)?.as_units()))
-}
-
-fn name_test(alloc: Global, text: &str) -> Result<String, RowFault> {
-    told(alloc, &is_name(wide(alloc, text)?.as_units()))
-}
-
-fn comparison(alloc: Global, a: &str, b: &str) -> Result<String, RowFault> {
-    let a = wide(alloc, a)?;
-    let b = wide(alloc, b)?;
-    told(alloc, &same(a.as_units(), b.as_units()))
-}
-
-fn equality(alloc: Global, a: &str, b: &str) -> Result<String, RowFault> {
-    let a = wide(alloc, a)?;
-    let b = wide(alloc, b)?;
-    told(alloc, &(a == b))
-}
-
-fn length(alloc: Global, text: &str) -> Result<String, RowFault> {
-    told(alloc, &wide(alloc, text)?.len())
 }
 
 fn quoted_length(alloc: Global, text: &str) -> Result<String, RowFault> {
@@ -99,23 +68,9 @@ fn listed(alloc: Global, name: &str, text: &str) -> Result<String, RowFault> {
 fn made(alloc: Global, name: &str, text: &str) -> Result<Wide, RowFault> {
     match name {
         "units" => Ok(units(alloc, text)?),
-        "wide_of" => made_of(alloc, text),
-        "Wide::new" => made_back(alloc, text),
-        "Wide::copy" => copied(alloc, text),
+        "wide_of" => Ok(wide_of(alloc, wide(alloc, text)?.as_units())?),
+        "Wide::new" => Ok(Wide::new(wide(alloc, text)?.into_units())),
+        "Wide::copy" => Ok(wide(alloc, text)?.copy(alloc)?),
         _ => Err(RowFault::Unknown),
     }
-}
-
-fn made_of(alloc: Global, text: &str) -> Result<Wide, RowFault> {
-    let units = wide(alloc, text)?;
-    Ok(wide_of(alloc, units.as_units())?)
-}
-
-fn made_back(alloc: Global, text: &str) -> Result<Wide, RowFault> {
-    Ok(Wide::new(wide(alloc, text)?.into_units()))
-}
-
-fn copied(alloc: Global, text: &str) -> Result<Wide, RowFault> {
-    let units = wide(alloc, text)?;
-    Ok(units.copy(alloc)?)
 }

@@ -1,7 +1,7 @@
 // Rows of texts: lines, tokens, words and numbers.
 
-use crate::bytes::{bytes, put_shown, shown, text};
-use sb_rows::{RowFault, displayed, put_between, put_units, small, told};
+use crate::bytes::{put_shown, shown, text};
+use sb_rows::{RowFault, bytes, displayed, put_between, put_units, small, told};
 use sb_text::{
     ByteLines, Lines, NotUtf8, RawLines, Token, Tokens, Words, decimal_of, line_count, number_of,
     string_of, text_of,
@@ -12,7 +12,7 @@ use std::alloc::Global;
 pub fn value_of(alloc: Global, name: &str, parts: &[&str]) -> Result<String, RowFault> {
     match parts {
         [whole] => value_of_one(alloc, name, whole),
-        ["NotUtf8", line] => value_of_message(alloc, name, line),
+        ["NotUtf8", line] => message(alloc, name, line),
         _ => Err(RowFault::Unknown),
     }
 }
@@ -24,16 +24,14 @@ fn value_of_one(alloc: Global, name: &str, whole: &str) -> Result<String, RowFau
     }
 }
 
-fn value_of_message(alloc: Global, name: &str, line: &str) -> Result<String, RowFault> {
+fn message(alloc: Global, name: &str, line: &str) -> Result<String, RowFault> {
     match name {
-        "message" => message(alloc, line),
+        "message" => {
+            let line = small(line)?;
+            displayed(alloc, &NotUtf8 { line })
+        }
         _ => Err(RowFault::Unknown),
     }
-}
-
-fn message(alloc: Global, line: &str) -> Result<String, RowFault> {
-    let line = small(line)?;
-    displayed(alloc, &NotUtf8 { line })
 }
 
 fn of_text(alloc: Global, name: &str, whole: &str) -> Result<String, RowFault> {

@@ -18,7 +18,10 @@ fn put_test(alloc: Global, out: &mut String, test: &Test) -> Result<(), RowFault
     match test {
         Test::OneOf(numbers) => put_numbers(out, numbers.as_slice()),
         Test::Range { lo, hi } => put_range(out, *lo, *hi),
-        Test::Mask(mask) => put_mask(out, *mask),
+        Test::Mask(mask) => {
+            out.push_str("has ")?;
+            put_number(out, *mask)
+        }
         Test::Equal(text) => put_text(out, "is ", text.as_units()),
         Test::Like(pattern) => put_text(out, "like ", pattern.text(alloc)?.as_units()),
     }
@@ -29,11 +32,6 @@ fn put_range(out: &mut String, lo: u64, hi: u64) -> Result<(), RowFault> {
     put_number(out, lo)?;
     out.push_str("..")?;
     put_number(out, hi)
-}
-
-fn put_mask(out: &mut String, mask: u64) -> Result<(), RowFault> {
-    out.push_str("has ")?;
-    put_number(out, mask)
 }
 
 fn put_text(out: &mut String, word: &str, units: &[u16]) -> Result<(), RowFault> {

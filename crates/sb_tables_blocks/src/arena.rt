@@ -8,22 +8,13 @@ use std::alloc::Global;
 
 /// What a function of the arena gives.
 pub fn value_of(alloc: Global, name: &str, parts: &[&str]) -> Result<String, RowFault> {
-    match parts {
-        [first, second] => value_of_two(alloc, name, first, second),
-        _ => Err(RowFault::Unknown),
-    }
-}
-
-fn value_of_two(alloc: Global, name: &str, first: &str, second: &str) -> Result<String, RowFault> {
+    let [first, second] = parts else {
+        return Err(RowFault::Unknown);
+    };
     match name {
-        "Arena::link" => link(alloc, first, second),
+        "Arena::link" => linked(alloc, number(first)?, number(second)?),
         _ => Err(RowFault::Unknown),
     }
-}
-
-fn link(alloc: Global, first: &str, second: &str) -> Result<String, RowFault> {
-    let (first, second) = (number(first)?, number(second)?);
-    linked(alloc, first, second)
 }
 
 #[tactic(auto, using(crate::proofs::Apart::apart))]

@@ -1,15 +1,15 @@
 // Rows of blocks: calls and replies as words, copies with their faults, and sound scripts.
 
 use crate::readers_blocks::{block_words, put_words, reply_block, taken, taken_with};
-use crate::readers_calls::reply;
 use crate::readers_scripts::script;
-use crate::written_calls::{put_call, put_reply};
+use crate::written_calls::put_call;
 use sb_block::{
-    BlockFault, BlockRefused, Call, Taken, TooBig, Words, decode, encode, encodes, fault_of,
-    read_reply, reply_words,
+    BlockFault, BlockRefused, Call, Taken, TooBig, decode, encode, encodes, fault_of, read_reply,
+    reply_words,
 };
 use sb_call::fits;
-use sb_rows::{RowFault, call, displayed, number, small, told};
+use sb_row_values::{block_fault, put_reply, reply};
+use sb_rows::{RowFault, call, displayed, number, told};
 use sb_statements::sound;
 use std::alloc::Global;
 
@@ -17,27 +17,25 @@ use std::alloc::Global;
 pub fn value_of(alloc: Global, name: &str, parts: &[&str]) -> Result<String, RowFault> {
     match name {
         "message" => message(alloc, parts),
-        _ => counted_value(alloc, name, parts),
-    }
-}
-
-// What a function gives for so many arguments.
-fn counted_value(alloc: Global, name: &str, parts: &[&str]) -> Result<String, RowFault> {
-    match parts {
-        [text] => value_of_one(alloc, name, text),
-        [first, second] => value_of_two(alloc, name, first, second),
-        [count, end, words] => value_of_copy(alloc, name, (count, end, words)),
-        _ => Err(RowFault::Unknown),
+        _ => match parts {
+            [text] => value_of_one(alloc, name, text),
+            [first, second] => value_of_two(alloc, name, first, second),
+            [count, end, words] => value_of_copy(alloc, name, (count, end, words)),
+            _ => Err(RowFault::Unknown),
+        },
     }
 }
 
 fn value_of_one(alloc: Global, name: &str, text: &str) -> Result<String, RowFault> {
     match name {
-        "encodes" => is_encoded(alloc, text),
-        "Words::copy" => words_copied(alloc, text),
-        "reply_words" => written(alloc, text),
+        "encodes" => {
+            let (tag, args) = call(alloc, text)?;
+            told(alloc, &encodes(tag, args.as_slice()))
+        }
+        "Words::copy" => listed(alloc, block_words(text)?.copy().as_slice()),
+        "reply_words" => listed(alloc, &reply_words(&reply(alloc, text)?)),
         "read_reply" => read(alloc, text),
-        "sound" => is_sound(alloc, text),
+        "sound" => told(alloc, &sound(&script(alloc, text)?)),
         _ => Err(RowFault::Unknown),
     }
 }
@@ -45,9 +43,9 @@ fn value_of_one(alloc: Global, name: &str, text: &str) -> Result<String, RowFaul
 fn value_of_two(alloc: Global, name: &str, text: &str, more: &str) -> Result<String, RowFault> {
     match name {
         "encode" => encoded(alloc, text, more),
-        "fault_of" => fault_with(alloc, text, more),
-        "decode" => decoded_with(alloc, text, more),
-        "Words::eq" => words_equal(alloc, text, more),
+        "fault_of" => fault(alloc, &taken_with(alloc, text, more)?),
+        "decode" => decoded(alloc, &taken_with(alloc, text, more)?),
+        "Words::eq" => told(alloc, &(block_words(text)? == block_words(more)?)),
         _ => Err(RowFault::Unknown),
     }
 }
@@ -57,28 +55,16 @@ fn value_of_copy(alloc: Global, name: &str, parts: (&str, &str, &str)) -> Result
     let (count, end, words) = parts;
     match name {
         "Taken::of" => copy(alloc, count, end, words),
-        "fault_of" => fault_in(alloc, count, end, words),
-        "decode" => decoded_in(alloc, count, end, words),
+        "fault_of" => match taken(count, end, words)? {
+            Some(taken) => fault(alloc, &taken),
+            None => Ok(String::from_str(alloc, "no copy")?),
+        },
+        "decode" => match taken(count, end, words)? {
+            Some(taken) => decoded(alloc, &taken),
+            None => Ok(String::from_str(alloc, "no copy")?),
+        },
         _ => Err(RowFault::Unknown),
     }
-}
-
-fn words_copied(alloc: Global, text: &str) -> Result<String, RowFault> {
-    let words = block_words(text)?;
-    listed(alloc, words.copy().as_slice())
-}
-
-fn words_equal(alloc: Global, a: &str, b: &str) -> Result<String, RowFault> {
-    told(alloc, &(block_words(a)? == block_words(b)?))
-}
-
-fn written(alloc: Global, text: &str) -> Result<String, RowFault> {
-    let words = reply_words(&reply(alloc, text)?);
-    listed(alloc, &words)
-}
-
-fn is_sound(alloc: Global, text: &str) -> Result<String, RowFault> {
-    told(alloc, &sound(&script(alloc, text)?))
 }
 
 fn listed(alloc: Global, words: &[u64]) -> Result<String, RowFault> {
@@ -93,13 +79,9 @@ fn encoded(alloc: Global, text: &str, mark: &str) -> Result<String, RowFault> {
     if !fits(tag, args.as_slice()) {
         return Err(RowFault::NotInRange);
     }
-    told_block(alloc, encode(tag, args.as_slice(), mark))
-}
-
-fn told_block(alloc: Global, block: Result<Words, TooBig>) -> Result<String, RowFault> {
-    match block {
+    match encode(tag, args.as_slice(), mark) {
         Ok(words) => counted(alloc, words.as_slice()),
-        Err(TooBig) => Ok(String::from_str(alloc, "TooBig")?),
+        Err(refused) => told(alloc, &refused),
     }
 }
 
@@ -107,11 +89,6 @@ fn counted(alloc: Global, words: &[u64]) -> Result<String, RowFault> {
     let mut out = format!(in alloc; "{} words ", words.len())?;
     put_words(&mut out, words)?;
     Ok(out)
-}
-
-fn is_encoded(alloc: Global, text: &str) -> Result<String, RowFault> {
-    let (tag, args) = call(alloc, text)?;
-    told(alloc, &encodes(tag, args.as_slice()))
 }
 
 // A copy as it is copied once more.
@@ -137,17 +114,6 @@ fn told_copy(alloc: Global, copy: &Taken) -> Result<String, RowFault> {
     Ok(out)
 }
 
-fn fault_in(alloc: Global, count: &str, end: &str, words: &str) -> Result<String, RowFault> {
-    match taken(count, end, words)? {
-        Some(taken) => fault(alloc, &taken),
-        None => Ok(String::from_str(alloc, "no copy")?),
-    }
-}
-
-fn fault_with(alloc: Global, text: &str, changes: &str) -> Result<String, RowFault> {
-    fault(alloc, &taken_with(alloc, text, changes)?)
-}
-
 // The fault with which `decode` refuses a copy.
 fn refusal(alloc: Global, taken: &Taken) -> Result<Option<BlockFault>, RowFault> {
     match decode(alloc, taken) {
@@ -165,17 +131,6 @@ fn fault(alloc: Global, taken: &Taken) -> Result<String, RowFault> {
         return Ok(format!(in alloc; "{fault:?}, but decode refuses with {refused:?}")?);
     }
     told(alloc, &fault)
-}
-
-fn decoded_in(alloc: Global, count: &str, end: &str, words: &str) -> Result<String, RowFault> {
-    match taken(count, end, words)? {
-        Some(taken) => decoded(alloc, &taken),
-        None => Ok(String::from_str(alloc, "no copy")?),
-    }
-}
-
-fn decoded_with(alloc: Global, text: &str, changes: &str) -> Result<String, RowFault> {
-    decoded(alloc, &taken_with(alloc, text, changes)?)
 }
 
 // The call of a copy with its mark, or its fault.
@@ -207,81 +162,11 @@ fn message(alloc: Global, parts: &[&str]) -> Result<String, RowFault> {
     };
     match *kind {
         "TooBig" if words.is_empty() => displayed(alloc, &TooBig),
-        "BlockFault" => fault_message(alloc, words),
-        "BlockRefused" => refusal_message(alloc, words),
+        "BlockFault" => displayed(alloc, &block_fault(words)?),
+        "BlockRefused" => match words {
+            ["NoMemory"] => displayed(alloc, &BlockRefused::NoMemory),
+            _ => displayed(alloc, &BlockRefused::Fault(block_fault(words)?)),
+        },
         _ => Err(RowFault::Unknown),
-    }
-}
-
-fn fault_message(alloc: Global, words: &[&str]) -> Result<String, RowFault> {
-    displayed(alloc, &fault_named(words)?)
-}
-
-fn refusal_message(alloc: Global, words: &[&str]) -> Result<String, RowFault> {
-    displayed(alloc, &refusal_named(words)?)
-}
-
-fn refusal_named(words: &[&str]) -> Result<BlockRefused, RowFault> {
-    match words {
-        ["NoMemory"] => Ok(BlockRefused::NoMemory),
-        _ => Ok(BlockRefused::Fault(fault_named(words)?)),
-    }
-}
-
-fn fault_named(words: &[&str]) -> Result<BlockFault, RowFault> {
-    match words {
-        [name] => lone_fault(name),
-        [name, value] => fault_with_value(name, value),
-        [name, seen, copied] => changed_fault(name, number(seen)?, number(copied)?),
-        _ => Err(RowFault::BadWords),
-    }
-}
-
-fn lone_fault(name: &str) -> Result<BlockFault, RowFault> {
-    match name {
-        "WrongShape" => Ok(BlockFault::WrongShape),
-        _ => Err(RowFault::BadWords),
-    }
-}
-
-fn fault_with_value(name: &str, value: &str) -> Result<BlockFault, RowFault> {
-    if is_of_parameter(name) {
-        fault_at(name, small(value)?)
-    } else {
-        fault_of_value(name, number(value)?)
-    }
-}
-
-fn is_of_parameter(name: &str) -> bool {
-    matches!(name, "BadParamType" | "BadPlace" | "BadSize" | "BadName")
-}
-
-// A fault with the value that was found.
-fn fault_of_value(name: &str, value: u64) -> Result<BlockFault, RowFault> {
-    match name {
-        "TooManyParams" => Ok(BlockFault::TooManyParams(value)),
-        "BadEnd" => Ok(BlockFault::BadEnd(value)),
-        "UnknownTag" => Ok(BlockFault::UnknownTag(value)),
-        _ => Err(RowFault::BadWords),
-    }
-}
-
-// A fault of a parameter.
-fn fault_at(name: &str, param: u32) -> Result<BlockFault, RowFault> {
-    match name {
-        "BadParamType" => Ok(BlockFault::BadParamType(param)),
-        "BadPlace" => Ok(BlockFault::BadPlace(param)),
-        "BadSize" => Ok(BlockFault::BadSize(param)),
-        "BadName" => Ok(BlockFault::BadName(param)),
-        _ => Err(RowFault::BadWords),
-    }
-}
-
-// A fault of a value that was changed after it was seen.
-fn changed_fault(name: &str, seen: u64, copied: u64) -> Result<BlockFault, RowFault> {
-    match name {
-        "CountChanged" => Ok(BlockFault::CountChanged(seen, copied)),
-        "EndChanged" => Ok(BlockFault::EndChanged(seen, copied)),
-        _ => Err(RowFault::BadWords),
     }
 }

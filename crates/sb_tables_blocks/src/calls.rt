@@ -1,14 +1,15 @@
 // Rows of calls, their arguments, answers, scripts and schedules.
 
-use crate::readers_calls::{answer, extended, reply, result, small_status};
 use crate::readers_scripts::{schedule, script, statement_in};
-use crate::written_calls::{
-    put_answer, put_arg, put_args, put_extended, put_reply, put_script, put_statement,
-};
+use crate::written_calls::{put_arg, put_args, put_script, put_statement};
 use sb_call::{
     Answer, CallTag, ShortName, call_word, every_tag, fits, number_of, shape, tag_of, tag_of_word,
 };
 use sb_items::Copies;
+use sb_row_values::{
+    answer, extended, put_answer, put_extended, put_reply, reply, small_status, statement_result,
+    told_answer,
+};
 use sb_rows::{RowFault, arg, args_in, call, number, put_word, short_name, small, tag, told};
 use sb_statements::clean;
 use std::alloc::Global;
@@ -17,7 +18,7 @@ use std::alloc::Global;
 pub fn value_of(alloc: Global, name: &str, parts: &[&str]) -> Result<String, RowFault> {
     match parts {
         [text] => told_one(alloc, name, text),
-        [a, b] => equality(alloc, name, a, b),
+        [a, b] => told(alloc, &are_equal(alloc, name, a, b)?),
         [a, b, c] => told_three(alloc, name, (a, b, c)),
         [status, handle, first, second] => answered(alloc, name, (status, handle), (first, second)),
         _ => Err(RowFault::Unknown),
@@ -27,55 +28,29 @@ pub fn value_of(alloc: Global, name: &str, parts: &[&str]) -> Result<String, Row
 // Rows of one argument.
 fn told_one(alloc: Global, name: &str, text: &str) -> Result<String, RowFault> {
     match name {
-        "every_tag" => tags_told(alloc, text),
-        "sb_call::number_of" => tag_number(alloc, text),
-        "tag_of" => tag_told(alloc, text),
-        "shape" => shape_told(alloc, text),
-        "call_word" => word_of(alloc, text),
+        "sb_call::number_of" => told(alloc, &number_of(tag(text)?)),
+        "tag_of" => told(alloc, &tag_of(number(text)?)),
+        "shape" => told(alloc, &shape(tag(text)?)),
+        "call_word" => told_word(alloc, tag_of(number(text)?).ok_or(RowFault::BadNumber)?),
         "tag_of_word" => told(alloc, &tag_of_word(text.as_bytes())),
-        "fits" => is_fitting(alloc, text),
+        "fits" => {
+            let (tag, args) = call(alloc, text)?;
+            told(alloc, &fits(tag, args.as_slice()))
+        }
         "ShortName::new" => named(alloc, ShortName::new(text.as_bytes())),
-        "ShortName::copy" => name_copied(alloc, text),
-        "StartLines::len" => start_len(alloc, text),
-        "status" => status_told(alloc, text),
+        "ShortName::copy" => named(alloc, Some(short_name(text)?.copy())),
+        "StartLines::len" => told(alloc, &script(alloc, text)?.start.len()),
+        "status" => {
+            let status = status_of(text)?;
+            Ok(format!(in alloc; "{status:08x}")?)
+        }
+        "every_tag" if text.is_empty() => told(alloc, &every_tag()),
         _ => copied(alloc, name, text),
     }
 }
 
-fn tags_told(alloc: Global, text: &str) -> Result<String, RowFault> {
-    if text.is_empty() {
-        told(alloc, &every_tag())
-    } else {
-        Err(RowFault::Unknown)
-    }
-}
-
-fn tag_number(alloc: Global, word: &str) -> Result<String, RowFault> {
-    told(alloc, &number_of(tag(word)?))
-}
-
-fn tag_told(alloc: Global, code: &str) -> Result<String, RowFault> {
-    told(alloc, &tag_of(number(code)?))
-}
-
-fn shape_told(alloc: Global, word: &str) -> Result<String, RowFault> {
-    told(alloc, &shape(tag(word)?))
-}
-
-fn name_copied(alloc: Global, word: &str) -> Result<String, RowFault> {
-    named(alloc, Some(short_name(word)?.copy()))
-}
-
-fn start_len(alloc: Global, text: &str) -> Result<String, RowFault> {
-    told(alloc, &script(alloc, text)?.start.len())
-}
-
 fn is_clean(alloc: Global, text: &str, target: &str, channel: &str) -> Result<String, RowFault> {
     let (target, channel) = (small(target)?, small(channel)?);
-    clean_told(alloc, text, target, channel)
-}
-
-fn clean_told(alloc: Global, text: &str, target: u32, channel: u32) -> Result<String, RowFault> {
     told(alloc, &clean(&script(alloc, text)?, target, channel))
 }
 
@@ -92,28 +67,12 @@ fn put_copy(alloc: Global, name: &str, text: &str, out: &mut String) -> Result<(
         "Args::copy" => put_args_copy(alloc, out, text),
         "Statement::copy" => put_statement_copy(alloc, out, text),
         "Script::copy" => put_script_copy(alloc, out, text),
-        "Extended::copy" => put_extended_copy(out, text),
-        "Answer::copy" => put_answer_copy(alloc, out, text),
-        "Reply::copy" => put_reply_copy(alloc, out, text),
-        "Answer::refusal" => put_refusal(out, text),
+        "Extended::copy" => put_extended(out, extended(text)?.copy().as_slice()),
+        "Answer::copy" => put_answer(out, &answer(alloc, text)?.copy()),
+        "Reply::copy" => put_reply(out, &reply(alloc, text)?.copy()),
+        "Answer::refusal" => put_answer(out, &Answer::refusal(small_status(text)?)),
         _ => Err(RowFault::Unknown),
     }
-}
-
-fn put_extended_copy(out: &mut String, text: &str) -> Result<(), RowFault> {
-    put_extended(out, extended(text)?.copy().as_slice())
-}
-
-fn put_answer_copy(alloc: Global, out: &mut String, text: &str) -> Result<(), RowFault> {
-    put_answer(out, &answer(alloc, text)?.copy())
-}
-
-fn put_reply_copy(alloc: Global, out: &mut String, text: &str) -> Result<(), RowFault> {
-    put_reply(out, &reply(alloc, text)?.copy())
-}
-
-fn put_refusal(out: &mut String, text: &str) -> Result<(), RowFault> {
-    put_answer(out, &Answer::refusal(small_status(text)?))
 }
 
 fn put_arg_copy(alloc: Global, out: &mut String, text: &str) -> Result<(), RowFault> {
@@ -137,39 +96,23 @@ fn put_script_copy(alloc: Global, out: &mut String, text: &str) -> Result<(), Ro
 }
 
 // Rows of comparisons.
-fn equality(alloc: Global, name: &str, a: &str, b: &str) -> Result<String, RowFault> {
-    told(alloc, &are_equal(alloc, name, a, b)?)
-}
-
 fn are_equal(alloc: Global, name: &str, a: &str, b: &str) -> Result<bool, RowFault> {
     match name {
         "Arg::eq" => args_equal(alloc, a, b),
         "Args::eq" => lists_equal(alloc, a, b),
-        "ShortName::eq" => names_equal(a, b),
+        "ShortName::eq" => Ok(short_name(a)? == short_name(b)?),
         "Statement::eq" => statements_equal(alloc, a, b),
         "Script::eq" => scripts_equal(alloc, a, b),
         "Schedule::eq" => schedules_equal(alloc, a, b),
-        "Extended::eq" => words_equal(a, b),
-        "Answer::eq" => answers_equal(alloc, a, b),
+        "Extended::eq" => Ok(extended(a)? == extended(b)?),
+        "Answer::eq" => Ok(answer(alloc, a)? == answer(alloc, b)?),
         "StmtResult::eq" => results_equal(alloc, a, b),
         _ => Err(RowFault::Unknown),
     }
 }
 
-fn names_equal(a: &str, b: &str) -> Result<bool, RowFault> {
-    Ok(short_name(a)? == short_name(b)?)
-}
-
-fn words_equal(a: &str, b: &str) -> Result<bool, RowFault> {
-    Ok(extended(a)? == extended(b)?)
-}
-
-fn answers_equal(alloc: Global, a: &str, b: &str) -> Result<bool, RowFault> {
-    Ok(answer(alloc, a)? == answer(alloc, b)?)
-}
-
 fn results_equal(alloc: Global, a: &str, b: &str) -> Result<bool, RowFault> {
-    Ok(result(alloc, a)? == result(alloc, b)?)
+    Ok(statement_result(alloc, a)? == statement_result(alloc, b)?)
 }
 
 fn args_equal(alloc: Global, a: &str, b: &str) -> Result<bool, RowFault> {
@@ -209,15 +152,12 @@ fn answered(
     answer: (&str, &str),
     words: (&str, &str),
 ) -> Result<String, RowFault> {
-    match name {
-        "Answer::with_words" => with_words(
-            alloc,
-            answer.0,
-            answer.1,
-            (number(words.0)?, number(words.1)?),
-        ),
-        _ => Err(RowFault::Unknown),
+    if name != "Answer::with_words" {
+        return Err(RowFault::Unknown);
     }
+    let (status, handle) = (small_status(answer.0)?, number(answer.1)?);
+    let (first, second) = (number(words.0)?, number(words.1)?);
+    told_answer(alloc, &Answer::with_words(status, handle, first, second))
 }
 
 fn with_word(alloc: Global, status: &str, handle: &str, word: u64) -> Result<String, RowFault> {
@@ -225,29 +165,7 @@ fn with_word(alloc: Global, status: &str, handle: &str, word: u64) -> Result<Str
     told_answer(alloc, &Answer::with_word(status, handle, word))
 }
 
-fn with_words(
-    alloc: Global,
-    status: &str,
-    handle: &str,
-    words: (u64, u64),
-) -> Result<String, RowFault> {
-    let (status, handle) = (small_status(status)?, number(handle)?);
-    let (first, second) = words;
-    told_answer(alloc, &Answer::with_words(status, handle, first, second))
-}
-
-fn told_answer(alloc: Global, answer: &Answer) -> Result<String, RowFault> {
-    let mut out = String::new(alloc);
-    put_answer(&mut out, answer)?;
-    Ok(out)
-}
-
-// Rows of status codes.
-fn status_told(alloc: Global, word: &str) -> Result<String, RowFault> {
-    let status = status_of(word)?;
-    Ok(format!(in alloc; "{status:08x}")?)
-}
-
+// The status code of this name.
 fn status_of(word: &str) -> Result<u32, RowFault> {
     match word {
         "SUCCESS" => Ok(sb_call::SUCCESS),
@@ -265,16 +183,6 @@ fn status_of(word: &str) -> Result<u32, RowFault> {
         "NOT_A_DIRECTORY" => Ok(sb_call::NOT_A_DIRECTORY),
         _ => Err(RowFault::BadWords),
     }
-}
-
-fn is_fitting(alloc: Global, text: &str) -> Result<String, RowFault> {
-    let (tag, args) = call(alloc, text)?;
-    told(alloc, &fits(tag, args.as_slice()))
-}
-
-fn word_of(alloc: Global, code: &str) -> Result<String, RowFault> {
-    let tag = tag_of(number(code)?).ok_or(RowFault::BadNumber)?;
-    told_word(alloc, tag)
 }
 
 fn told_word(alloc: Global, tag: CallTag) -> Result<String, RowFault> {

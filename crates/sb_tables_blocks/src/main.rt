@@ -7,11 +7,11 @@ mod arena;
 mod blocks;
 mod calls;
 mod readers_blocks;
-mod readers_calls;
 mod readers_scripts;
 mod rows;
 mod written_calls;
 
+use sb_rows::{is_row, told_row};
 use std::alloc::Global;
 use std::{env, fs, io};
 
@@ -28,11 +28,8 @@ fn main(rt: HostRuntime) -> io::Result<()> {
 
 // What is printed of a line: a blank line or a comment as it is, and a row with its value.
 fn told_line(alloc: Global, line: &str) -> io::Result<String> {
-    if line.is_empty() || line.starts_with('#') {
+    if !is_row(line) {
         return Ok(String::from_str(alloc, line)?);
     }
-    Ok(match rows::value_of(alloc, line) {
-        Ok(value) => format!(in alloc; "{line} => {value}")?,
-        Err(fault) => format!(in alloc; "{line} FAULT {fault}")?,
-    })
+    Ok(told_row(alloc, line, rows::value_of(alloc, line))?)
 }

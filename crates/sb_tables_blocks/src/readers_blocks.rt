@@ -82,17 +82,13 @@ pub fn put_words(out: &mut String, words: &[u64]) -> Result<(), RowFault> {
         if *word == last {
             times = times.saturating_add(1);
         } else {
-            put_run(out, last, times)?;
+            put_word(out, last, times)?;
+            out.push(' ')?;
             last = *word;
             times = 1;
         }
     }
     put_word(out, last, times)
-}
-
-fn put_run(out: &mut String, word: u64, times: u64) -> Result<(), RowFault> {
-    put_word(out, word, times)?;
-    Ok(out.push(' ')?)
 }
 
 fn put_word(out: &mut String, word: u64, times: u64) -> Result<(), RowFault> {

@@ -1,20 +1,13 @@
 // Readers of scripts and schedules. Their lines are separated by semicolons. `N *` before a line repeats it N times.
 
 use sb_call::ShortName;
-use sb_rows::{RowFault, args, number, quoted, short_name, small, tag, words_in};
+use sb_row_values::start_line;
+use sb_rows::{RowFault, args, number, short_name, small, tag, words_in};
 use sb_statements::{
-    Actor, Schedule, Script, StartLine, StartLines, Statement, Statements, Steps, TargetScript,
-    Targets, Threads, Word,
+    Actor, Schedule, Script, StartLines, Statement, Statements, Steps, TargetScript, Targets,
+    Threads, Word,
 };
 use std::alloc::Global;
-
-// A word: a channel, and a place in it, where place 0 is the state.
-fn word(channel: &str, at: &str) -> Result<Word, RowFault> {
-    Ok(Word {
-        channel: small(channel)?,
-        at: small(at)?,
-    })
-}
 
 fn statement(alloc: Global, words: &[&str]) -> Result<Statement, RowFault> {
     let [name, rest @ ..] = words else {
@@ -27,64 +20,37 @@ fn statement(alloc: Global, words: &[&str]) -> Result<Statement, RowFault> {
 }
 
 fn called(alloc: Global, words: &[&str]) -> Result<Statement, RowFault> {
-    match words {
-        [name, rest @ ..] => call_statement(alloc, name, rest),
-        _ => Err(RowFault::BadWords),
-    }
-}
-
-fn accessed(name: &str, words: &[&str]) -> Result<Statement, RowFault> {
-    match words {
-        [target, channel, at, values @ ..] => access(name, target, word(channel, at)?, values),
-        _ => Err(RowFault::BadWords),
-    }
-}
-
-// A statement on a word.
-fn access(name: &str, target: &str, word: Word, values: &[&str]) -> Result<Statement, RowFault> {
-    match values {
-        [] => load_named(name, target, word),
-        [value] => store_named(name, target, word, value),
-        [first, second] => access_with_two(name, target, word, (first, second)),
-        _ => Err(RowFault::BadWords),
-    }
-}
-
-fn load_named(name: &str, target: &str, word: Word) -> Result<Statement, RowFault> {
-    match name {
-        "load" => load(target, word),
-        _ => Err(RowFault::BadWords),
-    }
-}
-
-fn store_named(name: &str, target: &str, word: Word, value: &str) -> Result<Statement, RowFault> {
-    match name {
-        "store" => store(target, word, value),
-        _ => Err(RowFault::BadWords),
-    }
-}
-
-fn access_with_two(
-    name: &str,
-    target: &str,
-    word: Word,
-    values: (&str, &str),
-) -> Result<Statement, RowFault> {
-    match name {
-        "exchange" => exchange(target, word, values.0, values.1),
-        "wait" => wait(target, word, values.0, values.1),
-        _ => Err(RowFault::BadWords),
-    }
-}
-
-fn call_statement(alloc: Global, name: &str, words: &[&str]) -> Result<Statement, RowFault> {
+    let [name, rest @ ..] = words else {
+        return Err(RowFault::BadWords);
+    };
     let tag = tag(name)?;
-    let args = args(alloc, words)?;
+    let args = args(alloc, rest)?;
     Ok(Statement::Call { tag, args })
 }
 
-fn store(target: &str, word: Word, value: &str) -> Result<Statement, RowFault> {
+// A statement on a word: a channel, and a place in it, where place 0 is the state.
+fn accessed(name: &str, words: &[&str]) -> Result<Statement, RowFault> {
+    let [target, channel, at, values @ ..] = words else {
+        return Err(RowFault::BadWords);
+    };
     let target = small(target)?;
+    let word = Word {
+        channel: small(channel)?,
+        at: small(at)?,
+    };
+    match name {
+        "store" => store(target, word, values),
+        "exchange" => exchange(target, word, values),
+        "load" if values.is_empty() => Ok(Statement::Load { target, word }),
+        "wait" => wait(target, word, values),
+        _ => Err(RowFault::BadWords),
+    }
+}
+
+fn store(target: u32, word: Word, values: &[&str]) -> Result<Statement, RowFault> {
+    let [value] = values else {
+        return Err(RowFault::BadWords);
+    };
     let value = number(value)?;
     Ok(Statement::Store {
         target,
@@ -93,8 +59,10 @@ fn store(target: &str, word: Word, value: &str) -> Result<Statement, RowFault> {
     })
 }
 
-fn exchange(target: &str, word: Word, from: &str, to: &str) -> Result<Statement, RowFault> {
-    let target = small(target)?;
+fn exchange(target: u32, word: Word, values: &[&str]) -> Result<Statement, RowFault> {
+    let [from, to] = values else {
+        return Err(RowFault::BadWords);
+    };
     let (from, to) = (number(from)?, number(to)?);
     Ok(Statement::Exchange {
         target,
@@ -104,13 +72,10 @@ fn exchange(target: &str, word: Word, from: &str, to: &str) -> Result<Statement,
     })
 }
 
-fn load(target: &str, word: Word) -> Result<Statement, RowFault> {
-    let target = small(target)?;
-    Ok(Statement::Load { target, word })
-}
-
-fn wait(target: &str, word: Word, value: &str, most: &str) -> Result<Statement, RowFault> {
-    let target = small(target)?;
+fn wait(target: u32, word: Word, values: &[&str]) -> Result<Statement, RowFault> {
+    let [value, most] = values else {
+        return Err(RowFault::BadWords);
+    };
     let (value, most) = (number(value)?, small(most)?);
     Ok(Statement::Wait {
         target,
@@ -123,73 +88,6 @@ fn wait(target: &str, word: Word, value: &str, most: &str) -> Result<Statement, 
 /// What a thread does. A word is given by target, channel and place.
 pub fn statement_in(alloc: Global, text: &str) -> Result<Statement, RowFault> {
     statement(alloc, words_in(alloc, text)?.as_slice())
-}
-
-// An object that is there at the start.
-fn start_line(alloc: Global, words: &[&str]) -> Result<StartLine, RowFault> {
-    match words {
-        [word, name] => named_line(alloc, word, name),
-        [word, name, attributes] => numbered_line(alloc, word, name, attributes),
-        [word, name, kind, initial] => kind_line(alloc, word, name, (kind, initial)),
-        _ => Err(RowFault::BadWords),
-    }
-}
-
-fn named_line(alloc: Global, word: &str, name: &str) -> Result<StartLine, RowFault> {
-    match word {
-        "dir" => dir_line(alloc, name),
-        "key" => key_line(alloc, name),
-        _ => Err(RowFault::BadWords),
-    }
-}
-
-fn dir_line(alloc: Global, name: &str) -> Result<StartLine, RowFault> {
-    let name = quoted(alloc, name)?;
-    Ok(StartLine::Dir { name })
-}
-
-fn key_line(alloc: Global, name: &str) -> Result<StartLine, RowFault> {
-    let name = quoted(alloc, name)?;
-    Ok(StartLine::Key { name })
-}
-
-fn numbered_line(
-    alloc: Global,
-    word: &str,
-    name: &str,
-    attributes: &str,
-) -> Result<StartLine, RowFault> {
-    match word {
-        "file" => file_line(alloc, name, number(attributes)?),
-        _ => Err(RowFault::BadWords),
-    }
-}
-
-fn kind_line(
-    alloc: Global,
-    word: &str,
-    name: &str,
-    numbers: (&str, &str),
-) -> Result<StartLine, RowFault> {
-    match word {
-        "event" => event_line(alloc, name, numbers.0, numbers.1),
-        _ => Err(RowFault::BadWords),
-    }
-}
-
-fn file_line(alloc: Global, name: &str, attributes: u64) -> Result<StartLine, RowFault> {
-    let name = quoted(alloc, name)?;
-    Ok(StartLine::File { name, attributes })
-}
-
-fn event_line(alloc: Global, name: &str, kind: &str, initial: &str) -> Result<StartLine, RowFault> {
-    let (kind, initial) = (number(kind)?, number(initial)?);
-    let name = quoted(alloc, name)?;
-    Ok(StartLine::Event {
-        name,
-        kind,
-        initial,
-    })
 }
 
 // A target, as far as it was read.
@@ -240,24 +138,20 @@ fn drafted(alloc: Global, text: &str) -> Result<Drafts, RowFault> {
 fn targets_of(alloc: Global, drafts: Vec<Draft>) -> Result<Targets, RowFault> {
     let mut targets = Vec::with_capacity(alloc, drafts.len())?;
     for draft in drafts {
-        targets.push(target_of(draft))?;
+        let Draft {
+            name,
+            policy,
+            channels,
+            threads,
+        } = draft;
+        targets.push(TargetScript {
+            name,
+            policy,
+            channels,
+            threads: Threads::new(threads),
+        })?;
     }
     Ok(Targets::new(targets))
-}
-
-fn target_of(draft: Draft) -> TargetScript {
-    let Draft {
-        name,
-        policy,
-        channels,
-        threads,
-    } = draft;
-    TargetScript {
-        name,
-        policy,
-        channels,
-        threads: Threads::new(threads),
-    }
 }
 
 fn put_text(alloc: Global, line: &str, drafts: &mut Drafts) -> Result<(), RowFault> {
@@ -279,9 +173,9 @@ fn put_line(alloc: Global, words: &[&str], drafts: &mut Drafts) -> Result<(), Ro
         return Err(RowFault::BadWords);
     };
     match *first {
-        "dir" | "file" | "key" | "event" => put_start(alloc, words, drafts),
+        "dir" | "file" | "key" | "event" => Ok(drafts.start.push(start_line(alloc, words)?)?),
         "patience" => put_patience(rest, drafts),
-        "target" => put_target(alloc, rest, drafts),
+        "target" => Ok(drafts.targets.push(draft_of(alloc, rest)?)?),
         "thread" => put_thread(alloc, rest, drafts),
         _ => put_statement(alloc, words, drafts),
     }
@@ -295,17 +189,7 @@ fn put_patience(words: &[&str], drafts: &mut Drafts) -> Result<(), RowFault> {
     Ok(())
 }
 
-fn put_start(alloc: Global, words: &[&str], drafts: &mut Drafts) -> Result<(), RowFault> {
-    let line = start_line(alloc, words)?;
-    Ok(drafts.start.push(line)?)
-}
-
-// Begins a target with a name, the number of its policy and its count of channels.
-fn put_target(alloc: Global, words: &[&str], drafts: &mut Drafts) -> Result<(), RowFault> {
-    let draft = draft_of(alloc, words)?;
-    Ok(drafts.targets.push(draft)?)
-}
-
+// A target without threads: its name, the number of its policy and its count of channels.
 fn draft_of(alloc: Global, words: &[&str]) -> Result<Draft, RowFault> {
     let [name, policy, channels] = words else {
         return Err(RowFault::BadWords);
@@ -320,13 +204,9 @@ fn draft_of(alloc: Global, words: &[&str]) -> Result<Draft, RowFault> {
 }
 
 fn put_thread(alloc: Global, words: &[&str], drafts: &mut Drafts) -> Result<(), RowFault> {
-    match words {
-        [] => put_empty_thread(alloc, drafts),
-        _ => Err(RowFault::BadWords),
+    if !words.is_empty() {
+        return Err(RowFault::BadWords);
     }
-}
-
-fn put_empty_thread(alloc: Global, drafts: &mut Drafts) -> Result<(), RowFault> {
     let draft = drafts.targets.last_mut().ok_or(RowFault::BadWords)?;
     Ok(draft.threads.push(Statements::none(alloc))?)
 }
@@ -360,35 +240,16 @@ pub fn schedule(alloc: Global, text: &str) -> Result<Schedule, RowFault> {
 
 fn put_steps(words: &[&str], schedule: &mut Schedule) -> Result<(), RowFault> {
     match words {
-        [word, count] => put_rounds(word, count, schedule),
-        [word, name, count] => put_named_step(word, name, count, schedule),
+        ["rounds", count] => {
+            schedule.rounds = small(count)?;
+            Ok(())
+        }
+        ["step", name, count] => {
+            let (actor, count) = (actor(name)?, small(count)?);
+            Ok(schedule.steps.push((actor, count))?)
+        }
         _ => Err(RowFault::BadWords),
     }
-}
-
-fn put_named_step(
-    word: &str,
-    name: &str,
-    count: &str,
-    schedule: &mut Schedule,
-) -> Result<(), RowFault> {
-    match word {
-        "step" => put_step(actor(name)?, count, schedule),
-        _ => Err(RowFault::BadWords),
-    }
-}
-
-fn put_step(actor: Actor, count: &str, schedule: &mut Schedule) -> Result<(), RowFault> {
-    let count = small(count)?;
-    Ok(schedule.steps.push((actor, count))?)
-}
-
-fn put_rounds(word: &str, count: &str, schedule: &mut Schedule) -> Result<(), RowFault> {
-    if word != "rounds" {
-        return Err(RowFault::BadWords);
-    }
-    schedule.rounds = small(count)?;
-    Ok(())
 }
 
 fn actor(name: &str) -> Result<Actor, RowFault> {

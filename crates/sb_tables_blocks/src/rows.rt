@@ -9,17 +9,14 @@ use std::alloc::Global;
 pub fn value_of(alloc: Global, row: &str) -> Result<String, RowFault> {
     let (name, rest) = row.split_once(' ').unwrap_or((row, ""));
     let parts = arguments(alloc, rest)?;
-    call_value(alloc, name, parts.as_slice())
+    known_value(alloc, name, parts.as_slice())
 }
 
-fn call_value(alloc: Global, name: &str, parts: &[&str]) -> Result<String, RowFault> {
+fn known_value(alloc: Global, name: &str, parts: &[&str]) -> Result<String, RowFault> {
     match calls::value_of(alloc, name, parts) {
-        Err(RowFault::Unknown) => block_value(alloc, name, parts),
-        value => value,
+        Err(RowFault::Unknown) => {}
+        value => return value,
     }
-}
-
-fn block_value(alloc: Global, name: &str, parts: &[&str]) -> Result<String, RowFault> {
     match blocks::value_of(alloc, name, parts) {
         Err(RowFault::Unknown) => arena::value_of(alloc, name, parts),
         value => value,

@@ -1,6 +1,6 @@
-// Calls, scripts and replies, written in the form in which rows are read.
+// Calls and scripts, written in the form in which rows are read.
 
-use sb_call::{Answer, Arg, CallTag, Reply, call_word};
+use sb_call::{Arg, CallTag, call_word};
 use sb_rows::{RowFault, put_number, put_quoted, put_word};
 use sb_statements::{Script, StartLine, Statement, TargetScript, Word};
 
@@ -28,34 +28,6 @@ pub fn put_call(out: &mut String, tag: CallTag, args: &[Arg]) -> Result<(), RowF
     put_word(out, call_word(tag))?;
     out.push(' ')?;
     put_args(out, args)
-}
-
-/// Appends extended words.
-pub fn put_extended(out: &mut String, words: &[u64]) -> Result<(), RowFault> {
-    out.push('[')?;
-    for (at, word) in words.iter().enumerate() {
-        if at > 0 {
-            out.push(',')?;
-        }
-        write!(out, "{word}")?;
-    }
-    Ok(out.push(']')?)
-}
-
-/// Appends an answer.
-pub fn put_answer(out: &mut String, answer: &Answer) -> Result<(), RowFault> {
-    write!(out, "{:08x} {} ", answer.status, answer.handle)?;
-    put_extended(out, answer.ext.as_slice())
-}
-
-/// Appends a reply.
-pub fn put_reply(out: &mut String, reply: &Reply) -> Result<(), RowFault> {
-    write!(
-        out,
-        "{} {} {:08x} {} ",
-        reply.mark, reply.outcome, reply.status, reply.handle
-    )?;
-    put_extended(out, reply.ext.as_slice())
 }
 
 fn put_access(

@@ -6,17 +6,18 @@ ghost use Rattle.sb_book.specs.Readiness.{is_judged, is_ready};
 ghost use Rattle.sb_kernel.specs.Openings.{is_named, opened};
 
 use crate::namespace::{are_named, put_line};
-use crate::readers_namespace::{Called, blanks, call, plain, short_number, tag, told_line};
+use crate::readers_namespace::{Called, call, plain, told_line};
 use sb_block::{Taken, Words, encode};
 use sb_book::{Book, decide};
 use sb_call::{ShortName, fits};
 use sb_items::Copies;
 use sb_kernel::{Kernel, StartRefused};
-use sb_rows::{RowFault, number};
+use sb_row_values::{action, bare_target};
+use sb_rows::{RowFault, number, small, tag, words_in};
 use sb_rule::{
     Action, Conds, PlainJudge, Policies, Policy, PolicyList, Rule, Rules, all_well_made,
 };
-use sb_statements::{Script, StartLine, StartLines, TargetScript, Targets, Threads, sound};
+use sb_statements::{Script, StartLine, StartLines, TargetScript, Targets, sound};
 use sb_transcript::entry_line;
 use sb_wide::NoMemory;
 use std::alloc::Global;
@@ -56,50 +57,8 @@ pub fn value_of(
 ) -> Result<String, RowFault> {
     match name {
         "book" => begin(alloc, decisions, parts),
-        _ => answer_to(alloc, decisions, name, parts),
-    }
-}
-
-fn answer_to(
-    alloc: Global,
-    decisions: &mut Decisions,
-    name: &str,
-    parts: &[&str],
-) -> Result<String, RowFault> {
-    match parts {
-        [mark, text] => answer_named(alloc, decisions, name, (mark, text)),
-        [mark, text, seen @ ..] => answer_changed(alloc, decisions, name, (mark, text), seen),
-        _ => Err(RowFault::Unknown),
-    }
-}
-
-fn answer_named(
-    alloc: Global,
-    decisions: &mut Decisions,
-    name: &str,
-    call: (&str, &str),
-) -> Result<String, RowFault> {
-    match name {
-        "answer" => answer_whole(alloc, decisions, call.0, call.1),
-        _ => Err(RowFault::Unknown),
-    }
-}
-
-fn answer_changed(
-    alloc: Global,
-    decisions: &mut Decisions,
-    name: &str,
-    call: (&str, &str),
-    seen: &[&str],
-) -> Result<String, RowFault> {
-    let [count, end, place, word] = seen else {
-        return Err(RowFault::Unknown);
-    };
-    match name {
-        "answer_seen" => {
-            let words = changed_block(alloc, call, (place, word))?;
-            answer_seen(alloc, decisions, (count, end), words)
-        }
+        "answer" => answer_whole(alloc, decisions, parts),
+        "answer_seen" => answer_seen(alloc, decisions, parts),
         _ => Err(RowFault::Unknown),
     }
 }
@@ -122,24 +81,31 @@ fn keep(
     plain(alloc, "ready")
 }
 
+// Answers the copy of the block of a call with a mark.
 fn answer_whole(
     alloc: Global,
     decisions: &mut Decisions,
-    mark: &str,
-    text: &str,
+    parts: &[&str],
 ) -> Result<String, RowFault> {
+    let [mark, text] = parts else {
+        return Err(RowFault::Unknown);
+    };
     let words = block(alloc, mark, text)?;
     answer(alloc, decisions, whole_copy(words))
 }
 
-// Answers the copy of these words for which this count and this end were seen.
+// Answers the copy for which this count and this end were seen, of the block of a call with a mark, and with another value at a place.
 fn answer_seen(
     alloc: Global,
     decisions: &mut Decisions,
-    seen: (&str, &str),
-    words: Words,
+    parts: &[&str],
 ) -> Result<String, RowFault> {
-    let (count, end) = (number(seen.0)?, number(seen.1)?);
+    let [mark, text, count, end, place, word] = parts else {
+        return Err(RowFault::Unknown);
+    };
+    let (count, end) = (number(count)?, number(end)?);
+    let (place, word) = (number(place)?, number(word)?);
+    let words = changed(&block(alloc, mark, text)?, place, word);
     answer(alloc, decisions, copy_seen(count, end, words))
 }
 
@@ -147,17 +113,6 @@ fn answer_seen(
 fn whole_copy(words: Words) -> Option<Taken> {
     let (count, end) = (word_at(&words, 2), words.len() as u64);
     Taken::of(count, end, words)
-}
-
-// The block of a call with a mark, and with another value at a place.
-fn changed_block(
-    alloc: Global,
-    call: (&str, &str),
-    change: (&str, &str),
-) -> Result<Words, RowFault> {
-    let (place, word) = (number(change.0)?, number(change.1)?);
-    let words = block(alloc, call.0, call.1)?;
-    Ok(changed(&words, place, word))
 }
 
 // The block of a call with a mark.
@@ -292,35 +247,23 @@ fn begun_with(alloc: Global, opening: Opening) -> Result<Option<Answering>, RowF
 
 // A rule without conditions: its action, its call and its line. None where the text does not begin with an action.
 fn rule(alloc: Global, text: &str) -> Result<Option<Rule>, RowFault> {
-    let words = blanks(alloc, text)?;
+    let words = words_in(alloc, text)?;
     let [word, name, line] = words.as_slice() else {
         return Ok(None);
     };
-    let Some(action) = action(word) else {
+    let Ok(action) = action(word) else {
         return Ok(None);
     };
     Ok(Some(plain_rule(alloc, action, name, line)?))
 }
 
 fn plain_rule(alloc: Global, action: Action, name: &str, line: &str) -> Result<Rule, RowFault> {
-    let (tag, line) = (tag(name)?, short_number(line)?);
+    let (tag, line) = (tag(name)?, small(line)?);
     Ok(Rule {
         tag,
         conds: Conds::none(alloc),
         action,
         line,
-    })
-}
-
-/// The action of a word, as `allow`.
-pub fn action(word: &str) -> Option<Action> {
-    Some(match word {
-        "allow" => Action::Allow,
-        "deny" => Action::Deny,
-        "alarm" => Action::Alarm,
-        "fake" => Action::Fake,
-        "readonly" => Action::ReadOnly,
-        _ => return None,
     })
 }
 
@@ -349,19 +292,9 @@ pub fn script_of(alloc: Global, names: &[&str], lines: Vec<StartLine>) -> Result
 fn targets_of(alloc: Global, names: &[&str]) -> Result<Targets, RowFault> {
     let mut targets = Targets::none(alloc);
     for name in names {
-        targets.push(target_of(alloc, name)?)?;
+        targets.push(bare_target(alloc, name, 0)?)?;
     }
     Ok(targets)
-}
-
-fn target_of(alloc: Global, name: &str) -> Result<TargetScript, RowFault> {
-    let name = ShortName::new(name.as_bytes()).ok_or(RowFault::BadWords)?;
-    Ok(TargetScript {
-        name,
-        policy: 0,
-        channels: 1,
-        threads: Threads::none(alloc),
-    })
 }
 
 // Whether each target names one of so many policies.

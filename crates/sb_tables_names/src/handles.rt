@@ -1,8 +1,8 @@
 // Rows of handles: who holds which, and which accesses share an object. Each row continues from the one before.
 
-use crate::readers_namespace::{blanks, plain, refusal, short_number};
+use crate::readers_namespace::{plain, refusal};
 use sb_handles::{HandleTable, Held, Object, Service, ShareTable};
-use sb_rows::{RowFault, number, told};
+use sb_rows::{RowFault, number, small, told, words_in};
 use std::alloc::Global;
 
 /// The tables that rows change.
@@ -47,7 +47,10 @@ fn value_of_one(
     text: &str,
 ) -> Result<String, RowFault> {
     match name {
-        "shares.leave" => leave(alloc, &mut tables.shares, text),
+        "shares.leave" => {
+            tables.shares.leave(number(text)?);
+            plain(alloc, "done")
+        }
         _ if text.is_empty() => bare_value(alloc, tables, name),
         _ => Err(RowFault::Unknown),
     }
@@ -56,21 +59,17 @@ fn value_of_one(
 // What a function without arguments gives.
 fn bare_value(alloc: Global, tables: &mut Tables, name: &str) -> Result<String, RowFault> {
     match name {
-        "handles" => no_handles(alloc, tables),
-        "shares" => no_shares(alloc, tables),
+        "handles" => {
+            tables.handles = HandleTable::new(alloc);
+            plain(alloc, "empty")
+        }
+        "shares" => {
+            tables.shares = ShareTable::new(alloc);
+            plain(alloc, "empty")
+        }
         "handles.granted" => told(alloc, &tables.handles.granted()),
         _ => Err(RowFault::Unknown),
     }
-}
-
-fn no_handles(alloc: Global, tables: &mut Tables) -> Result<String, RowFault> {
-    tables.handles = HandleTable::new(alloc);
-    plain(alloc, "empty")
-}
-
-fn no_shares(alloc: Global, tables: &mut Tables) -> Result<String, RowFault> {
-    tables.shares = ShareTable::new(alloc);
-    plain(alloc, "empty")
 }
 
 fn value_of_two(
@@ -80,10 +79,20 @@ fn value_of_two(
     texts: (&str, &str),
 ) -> Result<String, RowFault> {
     match name {
-        "conflicts" => conflicts(alloc, texts.0, texts.1),
+        "conflicts" => {
+            let held = access_and_sharing(alloc, texts.0)?;
+            let new = access_and_sharing(alloc, texts.1)?;
+            are_in_conflict(alloc, held, new)
+        }
         "handles.grant" => grant(alloc, &mut tables.handles, texts.0, texts.1),
         "handles.lookup" => lookup(alloc, &tables.handles, texts.0, texts.1),
-        "handles.close" => close(alloc, &mut tables.handles, texts.0, texts.1),
+        "handles.close" => {
+            let (target, handle) = (small(texts.0)?, number(texts.1)?);
+            match tables.handles.close(target, handle) {
+                Ok(held) => told_held(alloc, Some(held)),
+                Err(fault) => refusal(alloc, fault),
+            }
+        }
         _ => Err(RowFault::Unknown),
     }
 }
@@ -94,67 +103,42 @@ fn grant(
     target: &str,
     on: &str,
 ) -> Result<String, RowFault> {
-    let target = short_number(target)?;
+    let target = small(target)?;
     let held = held(alloc, on)?;
-    told_granted(alloc, handles, target, held)
-}
-
-fn told_granted(
-    alloc: Global,
-    handles: &mut HandleTable,
-    target: u32,
-    held: Held,
-) -> Result<String, RowFault> {
     let _granted = handles.granted();
     let handle = handles.grant(target, held)?;
     told(alloc, &handle)
 }
 
-fn lookup(
+/// What a handle of a target stands for.
+pub fn lookup(
     alloc: Global,
     handles: &HandleTable,
     target: &str,
     handle: &str,
 ) -> Result<String, RowFault> {
-    let (target, handle) = (short_number(target)?, number(handle)?);
+    let (target, handle) = (small(target)?, number(handle)?);
     told_held(alloc, handles.lookup(target, handle))
-}
-
-fn close(
-    alloc: Global,
-    handles: &mut HandleTable,
-    target: &str,
-    handle: &str,
-) -> Result<String, RowFault> {
-    let (target, handle) = (short_number(target)?, number(handle)?);
-    match handles.close(target, handle) {
-        Ok(held) => told_held(alloc, Some(held)),
-        Err(fault) => refusal(alloc, fault),
-    }
 }
 
 // What a handle stands for: a service, the number of its object, the access and the sharing.
 fn held(alloc: Global, text: &str) -> Result<Held, RowFault> {
-    held_of(blanks(alloc, text)?.as_slice())
+    held_of(words_in(alloc, text)?.as_slice())
 }
 
 fn held_of(words: &[&str]) -> Result<Held, RowFault> {
-    let [service, number, access, sharing] = words else {
+    let [service, object, access, sharing] = words else {
         return Err(RowFault::BadWords);
     };
-    let object = object_of(service, number)?;
-    let (access, sharing) = (self::number(access)?, self::number(sharing)?);
+    let object = Object {
+        service: service_of(service)?,
+        number: number(object)?,
+    };
+    let (access, sharing) = numbers_of(access, sharing)?;
     Ok(Held {
         object,
         access,
         sharing,
-    })
-}
-
-fn object_of(service: &str, object: &str) -> Result<Object, RowFault> {
-    Ok(Object {
-        service: service_of(service)?,
-        number: number(object)?,
     })
 }
 
@@ -177,8 +161,8 @@ fn service_word(service: Service) -> &'static str {
     }
 }
 
-/// What a handle stands for, in the form in which rows give it.
-pub fn told_held(alloc: Global, held: Option<Held>) -> Result<String, RowFault> {
+// What a handle stands for, in the form in which rows give it.
+fn told_held(alloc: Global, held: Option<Held>) -> Result<String, RowFault> {
     let Some(held) = held else {
         return plain(alloc, "none");
     };
@@ -198,19 +182,15 @@ fn checked(
     asked: (&str, &str),
 ) -> Result<String, RowFault> {
     match name {
-        "shares.check" => check(alloc, &tables.shares, object, asked),
+        "shares.check" => {
+            let (access, sharing) = numbers_of(asked.0, asked.1)?;
+            told(
+                alloc,
+                &tables.shares.check(number(object)?, access, sharing),
+            )
+        }
         _ => Err(RowFault::Unknown),
     }
-}
-
-fn check(
-    alloc: Global,
-    shares: &ShareTable,
-    object: &str,
-    asked: (&str, &str),
-) -> Result<String, RowFault> {
-    let (access, sharing) = numbers_of(asked.0, asked.1)?;
-    told(alloc, &shares.check(number(object)?, access, sharing))
 }
 
 // What an open of an object by a handle gives.
@@ -223,8 +203,12 @@ fn opened(
 ) -> Result<String, RowFault> {
     match name {
         "shares.try_open" => {
-            let asked = numbers_of(asked.0, asked.1)?;
-            try_open(alloc, &mut tables.shares, place, asked)
+            let (access, sharing) = numbers_of(asked.0, asked.1)?;
+            let (object, handle) = numbers_of(place.0, place.1)?;
+            match tables.shares.try_open(object, handle, access, sharing) {
+                Ok(()) => plain(alloc, "done"),
+                Err(refused) => refusal(alloc, refused),
+            }
         }
         _ => Err(RowFault::Unknown),
     }
@@ -235,31 +219,7 @@ fn numbers_of(first: &str, second: &str) -> Result<(u64, u64), RowFault> {
     Ok((number(first)?, number(second)?))
 }
 
-fn try_open(
-    alloc: Global,
-    shares: &mut ShareTable,
-    place: (&str, &str),
-    asked: (u64, u64),
-) -> Result<String, RowFault> {
-    let (object, handle) = numbers_of(place.0, place.1)?;
-    match shares.try_open(object, handle, asked.0, asked.1) {
-        Ok(()) => plain(alloc, "done"),
-        Err(refused) => refusal(alloc, refused),
-    }
-}
-
-fn leave(alloc: Global, shares: &mut ShareTable, handle: &str) -> Result<String, RowFault> {
-    shares.leave(number(handle)?);
-    plain(alloc, "done")
-}
-
 // Whether a new access with its sharing conflicts with an open handle of this access and sharing.
-fn conflicts(alloc: Global, held: &str, new: &str) -> Result<String, RowFault> {
-    let held = access_and_sharing(alloc, held)?;
-    let new = access_and_sharing(alloc, new)?;
-    are_in_conflict(alloc, held, new)
-}
-
 fn are_in_conflict(alloc: Global, held: (u64, u64), new: (u64, u64)) -> Result<String, RowFault> {
     let mut shares = ShareTable::new(alloc);
     match shares.try_open(1, 5, held.0, held.1) {
@@ -269,7 +229,7 @@ fn are_in_conflict(alloc: Global, held: (u64, u64), new: (u64, u64)) -> Result<S
 }
 
 fn access_and_sharing(alloc: Global, text: &str) -> Result<(u64, u64), RowFault> {
-    match blanks(alloc, text)?.as_slice() {
+    match words_in(alloc, text)?.as_slice() {
         [access, sharing] => numbers_of(access, sharing),
         _ => Err(RowFault::BadWords),
     }

@@ -8,14 +8,15 @@ mod handles;
 mod messages;
 mod names;
 mod namespace;
+mod readers_entries;
 mod readers_namespace;
-mod readers_transcripts;
 mod rows;
 mod services;
 mod state;
 mod transcripts;
 
 use crate::state::State;
+use sb_rows::{is_row, told_row};
 use std::alloc::Global;
 use std::rt::{Env, Files};
 use std::{env, fs, io};
@@ -43,11 +44,8 @@ fn print_rows<R: Print + AllocGlobal>(rt: &R, state: &mut State, text: &str) -> 
 
 // What is printed of a line: a blank line or a comment as it is, and a row with its value.
 fn told_line(alloc: Global, state: &mut State, line: &str) -> io::Result<String> {
-    if line.is_empty() || line.starts_with('#') {
+    if !is_row(line) {
         return Ok(String::from_str(alloc, line)?);
     }
-    Ok(match rows::value_of(alloc, state, line) {
-        Ok(value) => format!(in alloc; "{line} => {value}")?,
-        Err(fault) => format!(in alloc; "{line} FAULT {fault}")?,
-    })
+    Ok(told_row(alloc, line, rows::value_of(alloc, state, line))?)
 }

@@ -1,25 +1,19 @@
 // Rows of the texts of faults.
 
-use crate::readers_namespace::short_number;
 use sb_handles::{NotHeld, ShareRefused};
 use sb_kernel::StartRefused;
 use sb_names::TreeFault;
-use sb_rows::{RowFault, number};
+use sb_rows::{RowFault, displayed, number, small};
 use std::alloc::Global;
-use std::fmt::Display;
 
 /// The text of the fault that a row names.
 pub fn value_of(alloc: Global, name: &str, parts: &[&str]) -> Result<String, RowFault> {
     match name {
-        "message" => message(alloc, parts),
-        _ => Err(RowFault::Unknown),
-    }
-}
-
-fn message(alloc: Global, parts: &[&str]) -> Result<String, RowFault> {
-    match parts {
-        ["NotHeld"] => displayed(alloc, &NotHeld),
-        [kind, fault] => message_of(alloc, kind, fault),
+        "message" => match parts {
+            ["NotHeld"] => displayed(alloc, &NotHeld),
+            [kind, fault] => message_of(alloc, kind, fault),
+            _ => Err(RowFault::Unknown),
+        },
         _ => Err(RowFault::Unknown),
     }
 }
@@ -27,47 +21,32 @@ fn message(alloc: Global, parts: &[&str]) -> Result<String, RowFault> {
 fn message_of(alloc: Global, kind: &str, fault: &str) -> Result<String, RowFault> {
     match kind {
         "TreeFault" => tree_message(alloc, fault),
-        "ShareRefused" => share_message(alloc, fault),
-        "StartRefused" => start_message(alloc, fault),
+        "ShareRefused" => match fault {
+            "NoMemory" => displayed(alloc, &ShareRefused::NoMemory),
+            _ => {
+                let handle = number(fault)?;
+                displayed(alloc, &ShareRefused::Conflict { handle })
+            }
+        },
+        "StartRefused" => match fault {
+            "NoMemory" => displayed(alloc, &StartRefused::NoMemory),
+            _ => {
+                let at = small(fault)?;
+                displayed(alloc, &StartRefused::BadStart { at })
+            }
+        },
         _ => Err(RowFault::Unknown),
     }
 }
 
-fn displayed<T: Display>(alloc: Global, fault: &T) -> Result<String, RowFault> {
-    Ok(format!(in alloc; "{fault}")?)
-}
-
 fn tree_message(alloc: Global, fault: &str) -> Result<String, RowFault> {
-    let Some(fault) = tree_fault(fault) else {
-        return Err(RowFault::BadWords);
-    };
-    displayed(alloc, &fault)
-}
-
-fn tree_fault(name: &str) -> Option<TreeFault> {
-    match name {
-        "NoParent" => Some(TreeFault::NoParent),
-        "Exists" => Some(TreeFault::Exists),
-        "Absent" => Some(TreeFault::Absent),
-        "HasChildren" => Some(TreeFault::HasChildren),
-        "IntoItself" => Some(TreeFault::IntoItself),
-        "NoMemory" => Some(TreeFault::NoMemory),
-        _ => None,
+    match fault {
+        "NoParent" => displayed(alloc, &TreeFault::NoParent),
+        "Exists" => displayed(alloc, &TreeFault::Exists),
+        "Absent" => displayed(alloc, &TreeFault::Absent),
+        "HasChildren" => displayed(alloc, &TreeFault::HasChildren),
+        "IntoItself" => displayed(alloc, &TreeFault::IntoItself),
+        "NoMemory" => displayed(alloc, &TreeFault::NoMemory),
+        _ => Err(RowFault::BadWords),
     }
-}
-
-fn share_message(alloc: Global, fault: &str) -> Result<String, RowFault> {
-    if fault == "NoMemory" {
-        return displayed(alloc, &ShareRefused::NoMemory);
-    }
-    let handle = number(fault)?;
-    displayed(alloc, &ShareRefused::Conflict { handle })
-}
-
-fn start_message(alloc: Global, fault: &str) -> Result<String, RowFault> {
-    if fault == "NoMemory" {
-        return displayed(alloc, &StartRefused::NoMemory);
-    }
-    let at = short_number(fault)?;
-    displayed(alloc, &StartRefused::BadStart { at })
 }

@@ -8,6 +8,7 @@ use sb_names::{NameMap, NameTree, PlainTree, TreeFault, is_below, parent};
 use sb_rows::{RowFault, number, told, wide};
 use sb_wide::{Wide, is_name, quote_into};
 use std::alloc::Global;
+use std::fmt::Debug;
 
 /// The tree, the plain one and the map that rows change.
 #[derive(Drop)]
@@ -49,13 +50,29 @@ fn value_of_one(
     text: &str,
 ) -> Result<String, RowFault> {
     match name {
-        "parent" => parent_of(alloc, text),
-        "tree" => empty_tree(alloc, names, text),
-        "map" => empty_map(alloc, names, text),
-        "map.find" => found_in(alloc, &names.map, text),
-        "map.remove" => removed_from(alloc, &mut names.map, text),
-        "map.count_in" => counted_in(alloc, &names.map, text),
-        _ => tree_value_at(alloc, names, name, text),
+        "parent" => told_name(alloc, parent(wide(alloc, text)?.as_units())),
+        "map.find" => told(alloc, &names.map.find(wide(alloc, text)?.as_units())),
+        "map.remove" => told(alloc, &names.map.remove(wide(alloc, text)?.as_units())),
+        "map.count_in" => told(alloc, &names.map.count_in(wide(alloc, text)?.as_units())),
+        "tree.remove" => remove(alloc, names, text),
+        "tree.take_back" => take_back(alloc, names, text),
+        "tree.find" => {
+            let name = named(alloc, text)?;
+            let wanted = names.plain.find(name.as_units());
+            agreed(alloc, &names.tree.find(name.as_units()), &wanted)
+        }
+        "tree.has_parent" => {
+            let name = named(alloc, text)?;
+            let wanted = names.plain.has_parent(name.as_units());
+            agreed(alloc, &names.tree.has_parent(name.as_units()), &wanted)
+        }
+        "tree.children_count" => {
+            let name = named(alloc, text)?;
+            let wanted = names.plain.children_count(name.as_units());
+            agreed(alloc, &names.tree.children_count(name.as_units()), &wanted)
+        }
+        _ if text.is_empty() => emptied(alloc, names, name),
+        _ => Err(RowFault::Unknown),
     }
 }
 
@@ -66,57 +83,17 @@ fn value_of_two(
     texts: (&str, &str),
 ) -> Result<String, RowFault> {
     match name {
-        "is_below" => told_below(alloc, texts.0, texts.1),
+        "is_below" => {
+            let above = wide(alloc, texts.0)?;
+            let lower = wide(alloc, texts.1)?;
+            told(alloc, &is_below(above.as_units(), lower.as_units()))
+        }
         "map.insert" => insert(alloc, &mut names.map, texts.0, texts.1),
-        "map.replace" => replace(alloc, &mut names.map, texts.0, texts.1),
-        _ => tree_value(alloc, names, name, texts),
-    }
-}
-
-// Begins a tree again. The row has no argument.
-fn empty_tree(alloc: Global, names: &mut Names, text: &str) -> Result<String, RowFault> {
-    if !text.is_empty() {
-        return Err(RowFault::Unknown);
-    }
-    names.tree = NameTree::new(alloc);
-    names.plain = PlainTree::new(alloc);
-    plain(alloc, "empty")
-}
-
-// Begins a map again. The row has no argument.
-fn empty_map(alloc: Global, names: &mut Names, text: &str) -> Result<String, RowFault> {
-    if !text.is_empty() {
-        return Err(RowFault::Unknown);
-    }
-    names.map = NameMap::new(alloc);
-    plain(alloc, "empty")
-}
-
-fn told_below(alloc: Global, name: &str, lower: &str) -> Result<String, RowFault> {
-    let name = wide(alloc, name)?;
-    let lower = wide(alloc, lower)?;
-    told(alloc, &is_below(name.as_units(), lower.as_units()))
-}
-
-fn parent_of(alloc: Global, name: &str) -> Result<String, RowFault> {
-    let name = wide(alloc, name)?;
-    told_name(alloc, parent(name.as_units()))
-}
-
-fn told_name(alloc: Global, name: &[u16]) -> Result<String, RowFault> {
-    let mut bytes = Vec::new(alloc);
-    quote_into(&mut bytes, name)?;
-    told_line(alloc, &bytes)
-}
-
-// What a call on the tree with two arguments gives.
-fn tree_value(
-    alloc: Global,
-    names: &mut Names,
-    name: &str,
-    texts: (&str, &str),
-) -> Result<String, RowFault> {
-    match name {
+        "map.replace" => {
+            let value = number(texts.1)?;
+            names.map.replace(wide(alloc, texts.0)?.as_units(), value);
+            plain(alloc, "done")
+        }
         "tree.add" => add(alloc, names, texts.0, texts.1),
         "tree.rename" => rename(alloc, names, texts.0, texts.1),
         "tree.add_numbered" => add_numbered(alloc, names, texts.0, texts.1),
@@ -126,21 +103,26 @@ fn tree_value(
     }
 }
 
-// What a call on the tree with one name gives.
-fn tree_value_at(
-    alloc: Global,
-    names: &mut Names,
-    name: &str,
-    text: &str,
-) -> Result<String, RowFault> {
+// Begins a tree or a map again.
+fn emptied(alloc: Global, names: &mut Names, name: &str) -> Result<String, RowFault> {
     match name {
-        "tree.remove" => remove(alloc, names, text),
-        "tree.take_back" => take_back(alloc, names, text),
-        "tree.find" => found(alloc, names, text),
-        "tree.has_parent" => told_parent(alloc, names, text),
-        "tree.children_count" => told_children(alloc, names, text),
+        "tree" => {
+            names.tree = NameTree::new(alloc);
+            names.plain = PlainTree::new(alloc);
+            plain(alloc, "empty")
+        }
+        "map" => {
+            names.map = NameMap::new(alloc);
+            plain(alloc, "empty")
+        }
         _ => Err(RowFault::Unknown),
     }
+}
+
+fn told_name(alloc: Global, name: &[u16]) -> Result<String, RowFault> {
+    let mut bytes = Vec::new(alloc);
+    quote_into(&mut bytes, name)?;
+    told_line(alloc, &bytes)
 }
 
 // A text that is a name.
@@ -161,46 +143,53 @@ fn named(alloc: Global, text: &str) -> Result<Wide, RowFault>
 }
 
 // What the tree gives, where the plain one gives the same.
-fn agreed(alloc: Global, value: String, wanted: String) -> Result<String, RowFault> {
-    if value.as_bytes() == wanted.as_bytes() {
-        Ok(value)
+fn agreed<T: Debug + PartialEq>(alloc: Global, value: &T, wanted: &T) -> Result<String, RowFault> {
+    if value == wanted {
+        told(alloc, value)
     } else {
         plain(alloc, "differs from the plain tree")
+    }
+}
+
+// What a change of the tree gives, where that of the plain one gives the same.
+fn agreed_change(
+    alloc: Global,
+    value: Result<(), TreeFault>,
+    wanted: Result<(), TreeFault>,
+) -> Result<String, RowFault> {
+    if value != wanted {
+        return plain(alloc, "differs from the plain tree");
+    }
+    match value {
+        Ok(()) => plain(alloc, "done"),
+        Err(fault) => refusal(alloc, fault),
     }
 }
 
 fn add(alloc: Global, names: &mut Names, name: &str, object: &str) -> Result<String, RowFault> {
     let object = number(object)?;
     let name = named(alloc, name)?;
-    let wanted = done(alloc, names.plain.add(name.as_units(), object))?;
-    let value = done(alloc, names.tree.add(name.as_units(), object))?;
-    agreed(alloc, value, wanted)
+    let wanted = names.plain.add(name.as_units(), object);
+    let value = names.tree.add(name.as_units(), object);
+    agreed_change(alloc, value, wanted)
 }
 
 fn rename(alloc: Global, names: &mut Names, name: &str, to: &str) -> Result<String, RowFault> {
     let name = named(alloc, name)?;
     let to = named(alloc, to)?;
-    renamed(alloc, names, name.as_units(), to.as_units())
-}
-
-fn renamed(alloc: Global, names: &mut Names, name: &[u16], to: &[u16]) -> Result<String, RowFault>
-    requires name { is_name_of name.now ≡ true }
-    requires to { is_name_of to.now ≡ true }
-{
-    let wanted = done(alloc, names.plain.rename(name, to))?;
-    let value = done(alloc, names.tree.rename(name, to))?;
-    agreed(alloc, value, wanted)
+    let wanted = names.plain.rename(name.as_units(), to.as_units());
+    let value = names.tree.rename(name.as_units(), to.as_units());
+    agreed_change(alloc, value, wanted)
 }
 
 fn remove(alloc: Global, names: &mut Names, name: &str) -> Result<String, RowFault> {
     let name = named(alloc, name)?;
-    let wanted = taken(alloc, names.plain.remove(name.as_units()))?;
-    let value = taken(alloc, names.tree.remove(name.as_units()))?;
-    agreed(alloc, value, wanted)
-}
-
-fn taken(alloc: Global, result_: Result<u64, TreeFault>) -> Result<String, RowFault> {
-    match result_ {
+    let wanted = names.plain.remove(name.as_units());
+    let value = names.tree.remove(name.as_units());
+    if value != wanted {
+        return plain(alloc, "differs from the plain tree");
+    }
+    match value {
         Ok(object) => told(alloc, &object),
         Err(fault) => refusal(alloc, fault),
     }
@@ -215,34 +204,6 @@ fn take_back(alloc: Global, names: &mut Names, name: &str) -> Result<String, Row
             plain(alloc, "done")
         }
         _ => Err(RowFault::NotInRange),
-    }
-}
-
-fn found(alloc: Global, names: &Names, name: &str) -> Result<String, RowFault> {
-    let name = named(alloc, name)?;
-    let wanted = told(alloc, &names.plain.find(name.as_units()))?;
-    let value = told(alloc, &names.tree.find(name.as_units()))?;
-    agreed(alloc, value, wanted)
-}
-
-fn told_parent(alloc: Global, names: &Names, name: &str) -> Result<String, RowFault> {
-    let name = named(alloc, name)?;
-    let wanted = told(alloc, &names.plain.has_parent(name.as_units()))?;
-    let value = told(alloc, &names.tree.has_parent(name.as_units()))?;
-    agreed(alloc, value, wanted)
-}
-
-fn told_children(alloc: Global, names: &Names, name: &str) -> Result<String, RowFault> {
-    let name = named(alloc, name)?;
-    let wanted = told(alloc, &names.plain.children_count(name.as_units()))?;
-    let value = told(alloc, &names.tree.children_count(name.as_units()))?;
-    agreed(alloc, value, wanted)
-}
-
-fn done(alloc: Global, result_: Result<(), TreeFault>) -> Result<String, RowFault> {
-    match result_ {
-        Ok(()) => plain(alloc, "done"),
-        Err(fault) => refusal(alloc, fault),
     }
 }
 
@@ -317,27 +278,4 @@ fn insert(
     let name = wide(alloc, name)?;
     map.insert(name.as_units(), value)?;
     plain(alloc, "done")
-}
-
-fn replace(
-    alloc: Global,
-    map: &mut NameMap<u64>,
-    name: &str,
-    value: &str,
-) -> Result<String, RowFault> {
-    let value = number(value)?;
-    map.replace(wide(alloc, name)?.as_units(), value);
-    plain(alloc, "done")
-}
-
-fn found_in(alloc: Global, map: &NameMap<u64>, name: &str) -> Result<String, RowFault> {
-    told(alloc, &map.find(wide(alloc, name)?.as_units()))
-}
-
-fn removed_from(alloc: Global, map: &mut NameMap<u64>, name: &str) -> Result<String, RowFault> {
-    told(alloc, &map.remove(wide(alloc, name)?.as_units()))
-}
-
-fn counted_in(alloc: Global, map: &NameMap<u64>, name: &str) -> Result<String, RowFault> {
-    told(alloc, &map.count_in(wide(alloc, name)?.as_units()))
 }

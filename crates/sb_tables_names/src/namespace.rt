@@ -3,12 +3,11 @@ ghost use Rattle.std.specs.Prelude.{◌≡◌};
 ghost use Rattle.std.specs.List.{list_all};
 ghost use Rattle.sb_kernel.specs.Openings.{is_named};
 
-use crate::readers_namespace::{
-    Called, blanks, call, numbered, plain, refusal, short_number, told_answer,
-};
+use crate::readers_namespace::{Called, call, numbered, plain, refusal};
 use sb_call::{Answer, Arg, CallTag, fits};
-use sb_kernel::{Kernel, StartRefused};
-use sb_rows::{RowFault, number, wide};
+use sb_kernel::Kernel;
+use sb_row_values::{start_line, told_answer};
+use sb_rows::{RowFault, number, small, words_in};
 use sb_statements::StartLine;
 use sb_wide::is_name;
 use std::alloc::Global;
@@ -20,67 +19,35 @@ pub fn value_of(
     name: &str,
     parts: &[&str],
 ) -> Result<String, RowFault> {
-    match name {
-        "kernel" => open(alloc, kernel, parts),
-        _ => called(alloc, kernel, name, parts),
+    if name == "kernel" {
+        return open(alloc, kernel, &start_lines(alloc, parts)?);
     }
-}
-
-fn called(
-    alloc: Global,
-    kernel: &mut Kernel,
-    name: &str,
-    parts: &[&str],
-) -> Result<String, RowFault> {
-    match parts {
-        [first, second] => called_with(alloc, kernel, name, (first, second)),
+    let [first, second] = parts else {
+        return Err(RowFault::Unknown);
+    };
+    match name {
+        "perform" => {
+            let target = small(first)?;
+            let called = call(alloc, second)?;
+            answered(alloc, kernel, target, &called)
+        }
+        "query_numbered" => query_numbered(alloc, kernel, first, number(second)?),
         _ => Err(RowFault::Unknown),
     }
 }
 
-fn called_with(
-    alloc: Global,
-    kernel: &mut Kernel,
-    name: &str,
-    texts: (&str, &str),
-) -> Result<String, RowFault> {
-    match name {
-        "perform" => performed(alloc, kernel, texts.0, texts.1),
-        "query_numbered" => query_numbered(alloc, kernel, texts.0, number(texts.1)?),
-        _ => Err(RowFault::Unknown),
+// Opens a namespace with these objects, at most 4,096, each with a name, and tells whether there is one.
+fn open(alloc: Global, kernel: &mut Kernel, lines: &[StartLine]) -> Result<String, RowFault> {
+    if lines.len() > 4096 || !are_named(lines) {
+        return Err(RowFault::NotInRange);
     }
-}
-
-fn open(alloc: Global, kernel: &mut Kernel, lines: &[&str]) -> Result<String, RowFault> {
-    let lines = start_lines(alloc, lines)?;
-    let started = start(alloc, &lines)?;
-    opened(alloc, kernel, started)
-}
-
-// Takes the namespace of an opening, and tells whether there is one.
-fn opened(
-    alloc: Global,
-    kernel: &mut Kernel,
-    started: Result<Kernel, StartRefused>,
-) -> Result<String, RowFault> {
-    match started {
+    match Kernel::start(alloc, lines) {
         Ok(started) => {
             *kernel = started;
             plain(alloc, "opened")
         }
         Err(refused) => refusal(alloc, refused),
     }
-}
-
-fn performed(
-    alloc: Global,
-    kernel: &mut Kernel,
-    target: &str,
-    text: &str,
-) -> Result<String, RowFault> {
-    let target = short_number(target)?;
-    let called = call(alloc, text)?;
-    answered(alloc, kernel, target, &called)
 }
 
 fn answered(
@@ -104,7 +71,7 @@ pub fn start_lines(alloc: Global, texts: &[&str]) -> Result<Vec<StartLine>, RowF
 
 /// Appends the object of a text, or many files with a number behind the name of each; nothing where there is no text.
 pub fn put_line(alloc: Global, text: &str, lines: &mut Vec<StartLine>) -> Result<(), RowFault> {
-    put_line_of(alloc, blanks(alloc, text)?.as_slice(), lines)
+    put_line_of(alloc, words_in(alloc, text)?.as_slice(), lines)
 }
 
 fn put_line_of(alloc: Global, words: &[&str], lines: &mut Vec<StartLine>) -> Result<(), RowFault> {
@@ -113,13 +80,8 @@ fn put_line_of(alloc: Global, words: &[&str], lines: &mut Vec<StartLine>) -> Res
         ["files", count, name, attributes] => {
             put_files(alloc, number(count)?, name, number(attributes)?, lines)
         }
-        words => put_one(alloc, words, lines),
+        words => Ok(lines.push(start_line(alloc, words)?)?),
     }
-}
-
-fn put_one(alloc: Global, words: &[&str], lines: &mut Vec<StartLine>) -> Result<(), RowFault> {
-    let line = start_line(alloc, words)?;
-    Ok(lines.push(line)?)
 }
 
 fn put_files(
@@ -134,72 +96,6 @@ fn put_files(
         lines.push(StartLine::File { name, attributes })?;
     }
     Ok(())
-}
-
-fn start_line(alloc: Global, words: &[&str]) -> Result<StartLine, RowFault> {
-    match words {
-        [word, name] => named_line(alloc, word, name),
-        [word, name, attributes] => numbered_line(alloc, word, name, attributes),
-        [word, name, kind, initial] => kind_line(alloc, word, name, (kind, initial)),
-        _ => Err(RowFault::BadWords),
-    }
-}
-
-fn named_line(alloc: Global, word: &str, name: &str) -> Result<StartLine, RowFault> {
-    match word {
-        "dir" => dir_line(alloc, name),
-        "key" => key_line(alloc, name),
-        _ => Err(RowFault::BadWords),
-    }
-}
-
-fn dir_line(alloc: Global, name: &str) -> Result<StartLine, RowFault> {
-    let name = wide(alloc, name)?;
-    Ok(StartLine::Dir { name })
-}
-
-fn key_line(alloc: Global, name: &str) -> Result<StartLine, RowFault> {
-    let name = wide(alloc, name)?;
-    Ok(StartLine::Key { name })
-}
-
-fn numbered_line(
-    alloc: Global,
-    word: &str,
-    name: &str,
-    attributes: &str,
-) -> Result<StartLine, RowFault> {
-    match word {
-        "file" => file_line(alloc, name, number(attributes)?),
-        _ => Err(RowFault::BadWords),
-    }
-}
-
-fn kind_line(
-    alloc: Global,
-    word: &str,
-    name: &str,
-    numbers: (&str, &str),
-) -> Result<StartLine, RowFault> {
-    match word {
-        "event" => event_line(alloc, name, numbers.0, numbers.1),
-        _ => Err(RowFault::BadWords),
-    }
-}
-
-fn file_line(alloc: Global, name: &str, attributes: u64) -> Result<StartLine, RowFault> {
-    let name = wide(alloc, name)?;
-    Ok(StartLine::File { name, attributes })
-}
-
-fn event_line(alloc: Global, name: &str, kind: &str, initial: &str) -> Result<StartLine, RowFault> {
-    let (kind, initial) = (number(kind)?, number(initial)?);
-    let name = wide(alloc, name)?;
-    Ok(StartLine::Event {
-        name,
-        kind,
-        initial,
-    })
 }
 
 fn is_named(line: &StartLine) -> bool
@@ -218,14 +114,6 @@ pub fn are_named(lines: &[StartLine]) -> bool
     ensures { result ≡ list_all is_named lines.now }
 {
     lines.iter().all(is_named)
-}
-
-// The namespace of an opening, which must have at most 4,096 objects, each with a name.
-fn start(alloc: Global, lines: &[StartLine]) -> Result<Result<Kernel, StartRefused>, RowFault> {
-    if lines.len() > 4096 || !are_named(lines) {
-        return Err(RowFault::NotInRange);
-    }
-    Ok(Kernel::start(alloc, lines))
 }
 
 // The answer to a call whose arguments fit it.

@@ -10,75 +10,35 @@ use std::alloc::Global;
 pub fn value_of(alloc: Global, state: &mut State, row: &str) -> Result<String, RowFault> {
     let (name, rest) = row.split_once(' ').unwrap_or((row, ""));
     let parts = arguments(alloc, rest)?;
-    name_value(alloc, state, name, parts.as_slice())
+    known_value(alloc, state, name, parts.as_slice())
 }
 
-fn name_value(
+fn known_value(
     alloc: Global,
     state: &mut State,
     name: &str,
     parts: &[&str],
 ) -> Result<String, RowFault> {
     match names::value_of(alloc, &mut state.names, name, parts) {
-        Err(RowFault::Unknown) => handle_value(alloc, state, name, parts),
-        value => value,
+        Err(RowFault::Unknown) => {}
+        value => return value,
     }
-}
-
-fn handle_value(
-    alloc: Global,
-    state: &mut State,
-    name: &str,
-    parts: &[&str],
-) -> Result<String, RowFault> {
     match handles::value_of(alloc, &mut state.tables, name, parts) {
-        Err(RowFault::Unknown) => namespace_value(alloc, state, name, parts),
-        value => value,
+        Err(RowFault::Unknown) => {}
+        value => return value,
     }
-}
-
-fn namespace_value(
-    alloc: Global,
-    state: &mut State,
-    name: &str,
-    parts: &[&str],
-) -> Result<String, RowFault> {
     match namespace::value_of(alloc, &mut state.kernel, name, parts) {
-        Err(RowFault::Unknown) => service_value(alloc, state, name, parts),
-        value => value,
+        Err(RowFault::Unknown) => {}
+        value => return value,
     }
-}
-
-fn service_value(
-    alloc: Global,
-    state: &mut State,
-    name: &str,
-    parts: &[&str],
-) -> Result<String, RowFault> {
     match services::value_of(alloc, &mut state.services, name, parts) {
-        Err(RowFault::Unknown) => decision_value(alloc, state, name, parts),
-        value => value,
+        Err(RowFault::Unknown) => {}
+        value => return value,
     }
-}
-
-fn decision_value(
-    alloc: Global,
-    state: &mut State,
-    name: &str,
-    parts: &[&str],
-) -> Result<String, RowFault> {
     match decisions::value_of(alloc, &mut state.decisions, name, parts) {
-        Err(RowFault::Unknown) => transcript_value(alloc, state, name, parts),
-        value => value,
+        Err(RowFault::Unknown) => {}
+        value => return value,
     }
-}
-
-fn transcript_value(
-    alloc: Global,
-    state: &mut State,
-    name: &str,
-    parts: &[&str],
-) -> Result<String, RowFault> {
     match transcripts::value_of(alloc, &mut state.transcript, name, parts) {
         Err(RowFault::Unknown) => messages::value_of(alloc, name, parts),
         value => value,

@@ -3,16 +3,17 @@
 ghost use Rattle.sb_file.specs.Files as files;
 ghost use Rattle.sb_pipe.specs.Pipes as pipes;
 
-use crate::handles::told_held;
+use crate::handles::lookup;
 use crate::namespace::start_lines;
-use crate::readers_namespace::{Called, call, plain, short_number, told_answer};
+use crate::readers_namespace::{Called, call, plain};
 use sb_call::{Answer, Arg, CallTag};
 use sb_event::EventService;
 use sb_file::{FileRequest, FileService};
 use sb_handles::HandleTable;
 use sb_key::KeyService;
 use sb_pipe::PipeService;
-use sb_rows::{RowFault, number, told};
+use sb_row_values::told_answer;
+use sb_rows::{RowFault, small, told};
 use sb_statements::StartLine;
 use sb_wide::is_name;
 use std::alloc::Global;
@@ -87,23 +88,10 @@ pub fn value_of(
     parts: &[&str],
 ) -> Result<String, RowFault> {
     match name {
-        "service.start" => started(alloc, services, parts),
-        _ => counted_value(alloc, services, name, parts),
-    }
-}
-
-// What a function gives for so many arguments.
-fn counted_value(
-    alloc: Global,
-    services: &mut Services,
-    name: &str,
-    parts: &[&str],
-) -> Result<String, RowFault> {
-    match parts {
-        [text] => value_of_one(alloc, services, name, text),
-        [target, text] => performed_by(alloc, services, name, (target, text)),
-        [service, target, handle] => held(alloc, services, name, service, (target, handle)),
-        _ => Err(RowFault::Unknown),
+        "service.start" => start(alloc, services, &start_lines(alloc, parts)?),
+        "service.perform" => performed(alloc, services, parts),
+        "service.held" => held(alloc, services, parts),
+        _ => value_of_one(alloc, services, name, parts),
     }
 }
 
@@ -111,57 +99,33 @@ fn value_of_one(
     alloc: Global,
     services: &mut Services,
     name: &str,
-    text: &str,
+    parts: &[&str],
 ) -> Result<String, RowFault> {
+    let [text] = parts else {
+        return Err(RowFault::Unknown);
+    };
     match name {
-        "service.made" => told_made(alloc, services, text),
-        "services" if text.is_empty() => emptied(alloc, services),
+        "service.made" => told(alloc, &made(services, text)?),
+        "services" if text.is_empty() => {
+            *services = Services::new(alloc);
+            plain(alloc, "empty")
+        }
         _ => Err(RowFault::Unknown),
     }
 }
 
-fn performed_by(
-    alloc: Global,
-    services: &mut Services,
-    name: &str,
-    texts: (&str, &str),
-) -> Result<String, RowFault> {
-    match name {
-        "service.perform" => performed(alloc, services, texts.0, texts.1),
-        _ => Err(RowFault::Unknown),
-    }
+fn held(alloc: Global, services: &Services, parts: &[&str]) -> Result<String, RowFault> {
+    let [service, target, handle] = parts else {
+        return Err(RowFault::Unknown);
+    };
+    lookup(alloc, handles(services, service)?, target, handle)
 }
 
-fn held(
-    alloc: Global,
-    services: &Services,
-    name: &str,
-    service: &str,
-    place: (&str, &str),
-) -> Result<String, RowFault> {
-    match name {
-        "service.held" => told_handle(alloc, handles(services, service)?, place.0, place.1),
-        _ => Err(RowFault::Unknown),
-    }
-}
-
-fn emptied(alloc: Global, services: &mut Services) -> Result<String, RowFault> {
-    *services = Services::new(alloc);
-    plain(alloc, "empty")
-}
-
-fn started(alloc: Global, services: &mut Services, lines: &[&str]) -> Result<String, RowFault> {
-    let lines = start_lines(alloc, lines)?;
-    start(alloc, services, &lines)
-}
-
-fn performed(
-    alloc: Global,
-    services: &mut Services,
-    target: &str,
-    text: &str,
-) -> Result<String, RowFault> {
-    let target = short_number(target)?;
+fn performed(alloc: Global, services: &mut Services, parts: &[&str]) -> Result<String, RowFault> {
+    let [target, text] = parts else {
+        return Err(RowFault::Unknown);
+    };
+    let target = small(target)?;
     let called = call(alloc, text)?;
     answered(alloc, services, target, &called)
 }
@@ -176,20 +140,6 @@ fn answered(
         Ok(answer) => told_answer(alloc, &answer),
         Err(fault) => Err(fault),
     }
-}
-
-fn told_made(alloc: Global, services: &Services, service: &str) -> Result<String, RowFault> {
-    told(alloc, &made(services, service)?)
-}
-
-fn told_handle(
-    alloc: Global,
-    handles: &HandleTable,
-    target: &str,
-    handle: &str,
-) -> Result<String, RowFault> {
-    let (target, handle) = (short_number(target)?, number(handle)?);
-    told_held(alloc, handles.lookup(target, handle))
 }
 
 fn made(services: &Services, service: &str) -> Result<u64, RowFault> {
@@ -245,8 +195,10 @@ fn perform(
     match tag {
         CallTag::FileCreate => services.files.create(target, args),
         CallTag::PipeCreate => services.pipes.create(target, args),
-        CallTag::KeyCreate | CallTag::KeyOpen => services.keys.perform(target, tag, args),
-        CallTag::EventCreate | CallTag::EventOpen => services.events.perform(target, tag, args),
+        CallTag::KeyCreate => services.keys.create(target, args),
+        CallTag::KeyOpen => services.keys.open(target, args),
+        CallTag::EventCreate => services.events.create(target, args),
+        CallTag::EventOpen => services.events.open(target, args),
         _ => Err(RowFault::Unknown),
     }
 }
@@ -314,13 +266,6 @@ impl Pipes {
 }
 
 impl Keys {
-    fn perform(&mut self, target: u32, tag: CallTag, args: &[Arg]) -> Result<Answer, RowFault> {
-        match tag {
-            CallTag::KeyCreate => self.create(target, args),
-            _ => self.open(target, args),
-        }
-    }
-
     fn place(&mut self, name: &[u16]) -> Result<bool, RowFault> {
         if !is_name(name) || self.service.made() > MANY {
             return Err(RowFault::NotInRange);
@@ -360,13 +305,6 @@ impl Keys {
 }
 
 impl Events {
-    fn perform(&mut self, target: u32, tag: CallTag, args: &[Arg]) -> Result<Answer, RowFault> {
-        match tag {
-            CallTag::EventCreate => self.create(target, args),
-            _ => self.open(target, args),
-        }
-    }
-
     fn place(&mut self, name: &[u16], kind: u64, initial: u64) -> Result<bool, RowFault> {
         if !is_name(name) || self.service.made() > MANY {
             return Err(RowFault::NotInRange);

@@ -3,11 +3,12 @@ ghost use Rattle.std.specs.Prelude.{◌≤◌, IsTrue};
 ghost use Rattle.sb_book.specs.Reports.{result_count};
 
 use crate::decisions::script_of;
-use crate::readers_namespace::{blanks, plain, short_number, told_line};
-use crate::readers_transcripts::{entry, statement_result};
+use crate::readers_entries::entry;
+use crate::readers_namespace::{plain, told_line};
 use sb_book::{AllWords, Entries, Entry, Report, Results, TargetResults, ThreadResults};
 use sb_kernel::Kernel;
-use sb_rows::{RowFault, number, told};
+use sb_row_values::statement_result;
+use sb_rows::{RowFault, number, small, told, words_in};
 use sb_statements::{Script, StmtResult};
 use sb_transcript::{entry_line, line, line_count, result_line, totals, transcript_lines};
 use std::alloc::Global;
@@ -50,26 +51,14 @@ pub fn value_of(
     parts: &[&str],
 ) -> Result<String, RowFault> {
     match name {
-        "put_target" => put_target(alloc, transcript, parts),
-        _ => counted_value(alloc, transcript, name, parts),
-    }
-}
-
-// What a function gives for so many arguments.
-fn counted_value(
-    alloc: Global,
-    transcript: &mut Transcript,
-    name: &str,
-    parts: &[&str],
-) -> Result<String, RowFault> {
-    match parts {
-        [text] => report_value(alloc, transcript, name, text),
-        [place, text] => result_value(alloc, name, place, text),
-        [place, decision, reply] => {
-            entry_value(alloc, transcript, name, (place, decision, reply))
+        "put_target" => {
+            transcript.results.push(found_by(alloc, parts)?)?;
+            plain(alloc, "done")
         }
-        [n, place, decision, reply] => line_value(alloc, name, n, (place, decision, reply)),
-        _ => Err(RowFault::Unknown),
+        "put_entry" => put_entry(alloc, transcript, parts),
+        "entry_line" => told_entry(alloc, parts),
+        "result_line" => told_result(alloc, parts),
+        _ => report_value(alloc, transcript, name, parts),
     }
 }
 
@@ -78,8 +67,11 @@ fn report_value(
     alloc: Global,
     transcript: &mut Transcript,
     name: &str,
-    text: &str,
+    parts: &[&str],
 ) -> Result<String, RowFault> {
+    let [text] = parts else {
+        return Err(RowFault::Unknown);
+    };
     match name {
         "report" if text.is_empty() => made(alloc, transcript),
         _ => match transcript.reports.last() {
@@ -89,41 +81,13 @@ fn report_value(
     }
 }
 
-fn result_value(alloc: Global, name: &str, place: &str, text: &str) -> Result<String, RowFault> {
-    match name {
-        "result_line" => told_result(alloc, place, text),
-        _ => Err(RowFault::Unknown),
-    }
-}
-
-fn entry_value(
-    alloc: Global,
-    transcript: &mut Transcript,
-    name: &str,
-    texts: (&str, &str, &str),
-) -> Result<String, RowFault> {
-    match name {
-        "put_entry" => put_entry(alloc, transcript, texts),
-        _ => Err(RowFault::Unknown),
-    }
-}
-
-fn line_value(
-    alloc: Global,
-    name: &str,
-    n: &str,
-    texts: (&str, &str, &str),
-) -> Result<String, RowFault> {
-    match name {
-        "entry_line" => told_entry(alloc, n, texts),
-        _ => Err(RowFault::Unknown),
-    }
-}
-
 // The line of the entry of this number.
-fn told_entry(alloc: Global, n: &str, texts: (&str, &str, &str)) -> Result<String, RowFault> {
+fn told_entry(alloc: Global, parts: &[&str]) -> Result<String, RowFault> {
+    let [n, place, decision, reply] = parts else {
+        return Err(RowFault::Unknown);
+    };
     let n = number(n)?;
-    let entry = entry(alloc, texts.0, texts.1, texts.2)?;
+    let entry = entry(alloc, place, decision, reply)?;
     told_entry_of(alloc, n, &entry)
 }
 
@@ -136,20 +100,13 @@ fn told_entry_of(alloc: Global, n: u64, entry: &Entry) -> Result<String, RowFaul
 fn put_entry(
     alloc: Global,
     transcript: &mut Transcript,
-    texts: (&str, &str, &str),
+    parts: &[&str],
 ) -> Result<String, RowFault> {
-    let entry = entry(alloc, texts.0, texts.1, texts.2)?;
+    let [place, decision, reply] = parts else {
+        return Err(RowFault::Unknown);
+    };
+    let entry = entry(alloc, place, decision, reply)?;
     transcript.entries.push(entry)?;
-    plain(alloc, "done")
-}
-
-fn put_target(
-    alloc: Global,
-    transcript: &mut Transcript,
-    threads: &[&str],
-) -> Result<String, RowFault> {
-    let results = found_by(alloc, threads)?;
-    transcript.results.push(results)?;
     plain(alloc, "done")
 }
 
@@ -159,7 +116,10 @@ fn targets(alloc: Global) -> Result<Script, RowFault> {
 }
 
 // The line of what became of a statement: target, thread and place.
-fn told_result(alloc: Global, place: &str, text: &str) -> Result<String, RowFault> {
+fn told_result(alloc: Global, parts: &[&str]) -> Result<String, RowFault> {
+    let [place, text] = parts else {
+        return Err(RowFault::Unknown);
+    };
     let place = place_of(alloc, place)?;
     let result_ = statement_result(alloc, text)?;
     told_result_at(alloc, place, &result_)
@@ -174,7 +134,7 @@ struct Place {
 }
 
 fn place_of(alloc: Global, text: &str) -> Result<Place, RowFault> {
-    place_in(blanks(alloc, text)?.as_slice())
+    place_in(words_in(alloc, text)?.as_slice())
 }
 
 fn place_in(words: &[&str]) -> Result<Place, RowFault> {
@@ -182,9 +142,9 @@ fn place_in(words: &[&str]) -> Result<Place, RowFault> {
         return Err(RowFault::BadWords);
     };
     Ok(Place {
-        target: short_number(target)?,
-        thread: short_number(thread)?,
-        at: short_number(at)?,
+        target: small(target)?,
+        thread: small(thread)?,
+        at: small(at)?,
     })
 }
 
@@ -197,14 +157,10 @@ fn told_result_at(alloc: Global, place: Place, result_: &StmtResult) -> Result<S
 
 // The results of a target: of each thread the values that its statements found, or `none`. No thread where there is no text.
 fn found_by(alloc: Global, threads: &[&str]) -> Result<TargetResults, RowFault> {
-    match threads {
-        [""] => Ok(TargetResults::none(alloc)),
-        threads => found_in_each(alloc, threads),
-    }
-}
-
-fn found_in_each(alloc: Global, threads: &[&str]) -> Result<TargetResults, RowFault> {
     let mut results = TargetResults::none(alloc);
+    if matches!(threads, [""]) {
+        return Ok(results);
+    }
     for thread in threads {
         results.push(found_in(alloc, thread)?)?;
     }
@@ -222,7 +178,8 @@ fn found_in(alloc: Global, thread: &str) -> Result<ThreadResults, RowFault> {
     Ok(results)
 }
 
-// Makes the report of what was put, with no words and an empty namespace, which no line shows.
+// Makes the report of what was put, with no words and an empty namespace, which no line shows. It is kept in the place of the one
+// before. The value is how many entries and targets it has.
 fn made(alloc: Global, transcript: &mut Transcript) -> Result<String, RowFault> {
     let entries = mem::replace(&mut transcript.entries, Vec::new(alloc));
     let results = mem::replace(&mut transcript.results, Vec::new(alloc));
@@ -235,15 +192,9 @@ fn made(alloc: Global, transcript: &mut Transcript) -> Result<String, RowFault> 
         words: AllWords::none(alloc),
         kernel: Kernel::new(alloc),
     };
-    keep(alloc, transcript, SmallReport { report })
-}
-
-// Keeps a report in the place of the one before, and tells how many entries and targets it has.
-fn keep(alloc: Global, transcript: &mut Transcript, made: SmallReport) -> Result<String, RowFault> {
-    let entries = made.report.entries.len();
-    let targets = made.report.results.len();
+    let (entries, targets) = (report.entries.len(), report.results.len());
     transcript.reports.clear();
-    transcript.reports.push(made)?;
+    transcript.reports.push(SmallReport { report })?;
     Ok(format!(in alloc; "{entries} entries, {targets} targets")?)
 }
 
@@ -277,8 +228,12 @@ impl SmallReport {
     fn whole_value(&self, alloc: Global, name: &str) -> Result<String, RowFault> {
         match name {
             "line_count" => told(alloc, &line_count(&self.report)),
-            "totals" => self.told_totals(alloc),
-            "transcript_lines" => self.told_lines(alloc),
+            "totals" => told_line(alloc, &totals(alloc, &self.report)?),
+            "transcript_lines" => {
+                let targets = targets(alloc)?;
+                let lines = transcript_lines(alloc, &targets, &self.report)?;
+                told_line(alloc, lines.bytes())
+            }
             _ => Err(RowFault::Unknown),
         }
     }
@@ -291,15 +246,5 @@ impl SmallReport {
         }
         let targets = targets(alloc)?;
         told_line(alloc, &line(alloc, &targets, &self.report, n)?)
-    }
-
-    fn told_totals(&self, alloc: Global) -> Result<String, RowFault> {
-        told_line(alloc, &totals(alloc, &self.report)?)
-    }
-
-    fn told_lines(&self, alloc: Global) -> Result<String, RowFault> {
-        let targets = targets(alloc)?;
-        let lines = transcript_lines(alloc, &targets, &self.report)?;
-        told_line(alloc, lines.bytes())
     }
 }

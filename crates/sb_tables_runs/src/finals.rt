@@ -23,23 +23,19 @@ pub fn wrong_words(told: &Told<'_>) -> Option<usize> {
     }
 }
 
+// The state of a clean channel is 1, and that of another is not 3.
 fn are_freed(told: &Told<'_>, target: u32, channels: u32, words: &WordList) -> bool {
     let mut channel: u32 = 0;
     for values in words.as_slice().chunks(65) {
-        if !is_freed(told.clean.is_clean(target, channel), values) {
+        let Some(state) = values.first() else {
+            return false;
+        };
+        if *state == 3 || (*state != 1 && told.clean.is_clean(target, channel)) {
             return false;
         }
         channel = channel.saturating_add(1);
     }
     words.len() as u64 == u64::from(channels) * 65
-}
-
-// The state of a clean channel is 1, and that of another is not 3.
-fn is_freed(clean: bool, values: &[u64]) -> bool {
-    match values {
-        [state, ..] => *state != 3 && (!clean || *state == 1),
-        [] => false,
-    }
 }
 
 /// The place of the first entry on whose channel there are more entries than calls that were handed over there and statements that made
@@ -49,29 +45,20 @@ pub fn wrong_channel(told: &Told<'_>) -> Option<usize> {
 }
 
 fn are_few(told: &Told<'_>, entry: &Entry) -> bool {
-    entries_beside(told, entry) <= tally(told, entry)
-}
-
-// How many entries are on the channel of this one.
-fn entries_beside(told: &Told<'_>, entry: &Entry) -> usize {
-    told.entries
+    let beside = told
+        .entries
         .iter()
-        .filter(|other| is_beside(entry, other))
-        .count()
-}
-
-fn is_beside(entry: &Entry, other: &Entry) -> bool {
-    entry.target == other.target && entry.channel == other.channel
-}
-
-// How many statements handed a call over on the channel of this entry, or made it ready by hand.
-fn tally(told: &Told<'_>, entry: &Entry) -> usize {
-    told.done
+        .filter(|other| other.target == entry.target && other.channel == entry.channel)
+        .count();
+    let handed = told
+        .done
         .iter()
         .filter(|done| ends_there(entry, done) || is_readied(entry, done))
-        .count()
+        .count();
+    beside <= handed
 }
 
+// Whether a statement handed a call over on the channel of the entry.
 fn ends_there(entry: &Entry, done: &Done<'_>) -> bool {
     done.target == entry.target
         && match done.result {

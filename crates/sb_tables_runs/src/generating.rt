@@ -86,11 +86,6 @@ impl Rolls {
     fn channels(&self, target: u64) -> u64 {
         1 + (self.seed / 3).wrapping_add(target) % 3
     }
-
-    // How many of these, from the first on, others write by hand.
-    fn written(&self, target: u64) -> u64 {
-        (self.seed / 9).wrapping_add(target) % 4
-    }
 }
 
 /// The text of the script of a number. Its lines end with `end`.
@@ -124,17 +119,16 @@ fn put_target(out: &mut String, rolls: &mut Rolls, target: u64, end: &str) -> Re
 
 fn put_statement(out: &mut String, rolls: &mut Rolls, end: &str) -> Result<(), RowFault> {
     let target = rolls.below(rolls.targets());
-    let written = rolls.written(target).min(rolls.channels(target));
+    // So many channels of the target, from the first on, are written by hand.
+    let written = ((rolls.seed / 9).wrapping_add(target) % 4).min(rolls.channels(target));
     match rolls.below(8) {
-        0..4 => put_call(out, rolls, end),
+        0..4 => {
+            let call = rolls.word(&CALLS);
+            Ok(write!(out, "call {call}{end}")?)
+        }
         4..6 if written > 0 => put_store(out, rolls, (target, written), end),
         _ => put_load(out, rolls, target, end),
     }
-}
-
-fn put_call(out: &mut String, rolls: &mut Rolls, end: &str) -> Result<(), RowFault> {
-    let call = rolls.word(&CALLS);
-    Ok(write!(out, "call {call}{end}")?)
 }
 
 // Stores a value into one of the first channels of a target, or exchanges it.

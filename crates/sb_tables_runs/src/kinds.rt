@@ -30,7 +30,9 @@ fn suits_call(told: &Told<'_>, done: &Done<'_>, ended: &CallResult) -> bool {
         CallResult::Reply { channel, reply } => {
             *channel < channels(told, target) && reply.mark == done.mark
         }
-        CallResult::NoChannel => !has_clean(told, target),
+        CallResult::NoChannel => {
+            !(0..channels(told, target)).any(|channel| told.clean.is_clean(target, channel))
+        }
         CallResult::SendLost { channel, found } => {
             !told.clean.is_clean(target, *channel) && *found != 2
         }
@@ -47,8 +49,4 @@ fn channels(told: &Told<'_>, target: u32) -> u32 {
         Some(target) => target.channels,
         None => 0,
     }
-}
-
-fn has_clean(told: &Told<'_>, target: u32) -> bool {
-    (0..channels(told, target)).any(|channel| told.clean.is_clean(target, channel))
 }

@@ -18,24 +18,18 @@ mod rows;
 mod sources;
 mod told;
 
-use sb_rows::RowFault;
+use sb_rows::{RowFault, is_row, told_row};
 use std::alloc::AllocError;
-use std::rt::{Env, Files};
+use std::rt::Files;
 use std::sync::Wait;
 use std::thread::Threads;
 use std::{env, fs, io};
 
-fn main(rt: HostRuntime) -> io::Result<()> {
-    print_files(&rt)
-}
-
 // Prints the rows of all files that the arguments name.
-fn print_files<R: Env + Files + Print + AllocGlobal + Threads + Wait + Sync>(
-    rt: &R,
-) -> io::Result<()> {
-    for name in env::args(rt)?.skip(1) {
-        let text = fs::read_to_string(rt, name)?;
-        print_rows(rt, text.as_str())?;
+fn main(rt: HostRuntime) -> io::Result<()> {
+    for name in env::args(&rt)?.skip(1) {
+        let text = fs::read_to_string(&rt, name.as_str())?;
+        print_rows(&rt, text.as_str())?;
     }
     Ok(())
 }
@@ -56,12 +50,11 @@ fn told_line<R: Files + AllocGlobal + Threads + Wait + Sync>(
     line: &str,
 ) -> io::Result<String> {
     let alloc = rt.alloc();
-    if line.is_empty() || line.starts_with('#') {
+    if !is_row(line) {
         return Ok(String::from_str(alloc, line)?);
     }
     match rows::value_of(rt, line) {
-        Ok(value) => Ok(format!(in alloc; "{line} => {value}")?),
         Err(RowFault::NoMemory) => Err(io::Error::from(AllocError)),
-        Err(fault) => Ok(format!(in alloc; "{line} FAULT {fault}")?),
+        value => Ok(told_row(alloc, line, value)?),
     }
 }

@@ -20,23 +20,25 @@ pub fn wrong_reply(told: &Told<'_>) -> Option<usize> {
             }
         }
     }
-    let many = told.entries.len();
-    if clean_entries(told) == clean_replies(told) {
+    let entries = told
+        .entries
+        .iter()
+        .filter(|entry| is_clean_entry(told, entry))
+        .count();
+    let replies = told
+        .done
+        .iter()
+        .filter(|done| is_clean_reply(told, done))
+        .count();
+    if entries == replies {
         None
     } else {
-        Some(many)
+        Some(told.entries.len())
     }
 }
 
 fn is_clean_entry(told: &Told<'_>, entry: &Entry) -> bool {
     told.clean.is_clean(entry.target, entry.channel)
-}
-
-fn clean_entries(told: &Told<'_>) -> usize {
-    told.entries
-        .iter()
-        .filter(|entry| is_clean_entry(told, entry))
-        .count()
 }
 
 // A reply on a clean channel.
@@ -47,13 +49,6 @@ fn is_clean_reply(told: &Told<'_>, done: &Done<'_>) -> bool {
         }
         _ => false,
     }
-}
-
-fn clean_replies(told: &Told<'_>) -> usize {
-    told.done
-        .iter()
-        .filter(|done| is_clean_reply(told, done))
-        .count()
 }
 
 // Whether an entry is that of a result, and comes after those of the thread's calls before.

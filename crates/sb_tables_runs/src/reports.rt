@@ -73,22 +73,18 @@ pub fn generated<R: Threads + Wait + Sync>(
     runs: u64,
 ) -> Result<String, RowFault> {
     for run in 0..runs {
-        let (number, workers) = (seed.wrapping_add(run), workers_of(run));
+        let number = seed.wrapping_add(run);
+        let workers = match run % 3 {
+            0 => 1,
+            1 => 2,
+            _ => 8,
+        };
         let told = told_generated(rt, alloc, number, workers)?;
         if told.as_str() != ALL_RIGHT {
             return Ok(format!(in alloc; "script {number} workers {workers} {told}")?);
         }
     }
     Ok(format!(in alloc; "runs {runs} all right")?)
-}
-
-// How many workers a run has.
-fn workers_of(run: u64) -> u32 {
-    match run % 3 {
-        0 => 1,
-        1 => 2,
-        _ => 8,
-    }
 }
 
 fn told_generated<R: Threads + Wait + Sync>(

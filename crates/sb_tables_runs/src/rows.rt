@@ -20,49 +20,25 @@ pub fn value_of<R: Files + AllocGlobal + Threads + Wait + Sync>(
     let (name, rest) = row.split_once(' ').unwrap_or((row, ""));
     let parts = arguments(rt.alloc(), rest)?;
     match parts.as_slice() {
-        [seed] => of_one(rt, name, seed),
-        [seed, runs] => of_two(rt, name, seed, runs),
-        [policy, script, third] => of_three(rt, name, (policy, script), third),
+        [seed] => match name {
+            "script" => script_text(rt.alloc(), number(seed)?, " / "),
+            _ => Err(RowFault::Unknown),
+        },
+        [seed, runs] => match name {
+            "generated" => generated(rt, rt.alloc(), number(seed)?, number(runs)?),
+            _ => Err(RowFault::Unknown),
+        },
+        [policy, script, third] => match name {
+            "run_threads" => by_threads(rt, (policy, script), small(third)?),
+            "crossed" => crossed(rt, (policy, script), third),
+            _ => Err(RowFault::Unknown),
+        },
         [policy, script, workers, turns] => of_four(rt, name, (policy, script), (workers, turns)),
         _ => Err(RowFault::Unknown),
     }
 }
 
-// The lines of a generated script.
-fn of_one<R: AllocGlobal>(rt: &R, name: &str, seed: &str) -> Result<String, RowFault> {
-    match name {
-        "script" => script_text(rt.alloc(), number(seed)?, " / "),
-        _ => Err(RowFault::Unknown),
-    }
-}
-
-// Generated scripts run by threads, one for each number from a seed on.
-fn of_two<R: AllocGlobal + Threads + Wait + Sync>(
-    rt: &R,
-    name: &str,
-    seed: &str,
-    runs: &str,
-) -> Result<String, RowFault> {
-    match name {
-        "generated" => generated(rt, rt.alloc(), number(seed)?, number(runs)?),
-        _ => Err(RowFault::Unknown),
-    }
-}
-
-// A script run by so many workers, or the report of another checked as if it were of this script.
-fn of_three<R: Files + AllocGlobal + Threads + Wait + Sync>(
-    rt: &R,
-    name: &str,
-    files: (&str, &str),
-    third: &str,
-) -> Result<String, RowFault> {
-    match name {
-        "run_threads" => by_threads(rt, files, small(third)?),
-        "crossed" => crossed(rt, files, third),
-        _ => Err(RowFault::Unknown),
-    }
-}
-
+// A script run by so many workers.
 fn by_threads<R: Files + AllocGlobal + Threads + Wait + Sync>(
     rt: &R,
     files: (&str, &str),
@@ -73,6 +49,7 @@ fn by_threads<R: Files + AllocGlobal + Threads + Wait + Sync>(
     told_checks(rt.alloc(), &inputs, &report)
 }
 
+// The report of another script checked as if it were of this one.
 fn crossed<R: Files + AllocGlobal>(
     rt: &R,
     files: (&str, &str),

@@ -3,7 +3,7 @@
 use crate::done::Done;
 use crate::told::Told;
 use sb_block::{encode, reply_words};
-use sb_book::{Entry, WordList};
+use sb_book::Entry;
 use sb_call::{Arg, CallTag, Reply, fits};
 use sb_statements::{CallResult, Statement, StmtResult, Word};
 
@@ -43,8 +43,12 @@ fn is_given(place: Place, wanted: Wanted) -> bool {
     }
 }
 
-// Whether a statement stores such a value there by hand.
-fn is_stored(done: &Done<'_>, place: Place, wanted: Wanted) -> bool {
+fn is_at(target: u32, word: Word, place: Place) -> bool {
+    target == place.target && word.channel == place.channel && word.at == place.at
+}
+
+// Whether a statement stores such a value there by hand, or the block of its call has it there.
+fn is_written(done: &Done<'_>, place: Place, wanted: Wanted) -> bool {
     match done.statement {
         Statement::Store {
             target,
@@ -56,18 +60,7 @@ fn is_stored(done: &Done<'_>, place: Place, wanted: Wanted) -> bool {
             word,
             to,
             ..
-        } => { is_at(*target, *word, place) && meets(wanted, *to) }
-        _ => false,
-    }
-}
-
-fn is_at(target: u32, word: Word, place: Place) -> bool {
-    target == place.target && word.channel == place.channel && word.at == place.at
-}
-
-// Whether the block of a call of the target has such a value there.
-fn is_of_call(done: &Done<'_>, place: Place, wanted: Wanted) -> bool {
-    match done.statement {
+        } => is_at(*target, *word, place) && meets(wanted, *to),
         Statement::Call { tag, args } => {
             done.target == place.target
                 && has_word(*tag, args.as_slice(), done.mark, place.at, wanted)
@@ -99,10 +92,6 @@ fn is_of_reply(entry: &Entry, place: Place, wanted: Wanted) -> bool {
         && entry.channel == place.channel
         && place.at >= 4
         && is_met_at(&reply_words(&entry.reply), place.at - 4, wanted)
-}
-
-fn is_written(done: &Done<'_>, place: Place, wanted: Wanted) -> bool {
-    is_stored(done, place, wanted) || is_of_call(done, place, wanted)
 }
 
 // Whether such a value has a source there, among the calls and stores of the script and the replies of these entries.
@@ -164,34 +153,23 @@ pub fn unsourced_result(told: &Told<'_>) -> Option<usize> {
 }
 
 fn is_shown(told: &Told<'_>, done: &Done<'_>) -> bool {
+    let target = done.target;
     match done.result {
-        StmtResult::Call(ended) => is_shown_call(told, done.target, ended),
-        StmtResult::Found(value) => is_found(told, done.statement, *value),
-        _ => true,
-    }
-}
-
-fn is_found(told: &Told<'_>, statement: &Statement, value: u64) -> bool {
-    match statement {
-        Statement::Exchange { target, word, .. } | Statement::Load { target, word } => {
-            let place = Place {
-                target: *target,
-                channel: word.channel,
-                at: word.at,
-            };
-            has_source(told, told.entries, place, Wanted::Value(value))
+        StmtResult::Call(CallResult::Reply { channel, reply }) => {
+            is_sourced_reply(told, target, *channel, reply)
         }
-        _ => true,
-    }
-}
-
-fn is_shown_call(told: &Told<'_>, target: u32, ended: &CallResult) -> bool {
-    match ended {
-        CallResult::Reply { channel, reply } => is_sourced_reply(told, target, *channel, reply),
-        CallResult::SendLost { channel, found } => {
+        StmtResult::Call(CallResult::SendLost { channel, found }) => {
             are_shown(told, (target, *channel, 0), &[*found])
         }
-        CallResult::Foreign { channel, mark } => are_shown(told, (target, *channel, 4), &[*mark]),
+        StmtResult::Call(CallResult::Foreign { channel, mark }) => {
+            are_shown(told, (target, *channel, 4), &[*mark])
+        }
+        StmtResult::Found(value) => match done.statement {
+            Statement::Exchange { target, word, .. } | Statement::Load { target, word } => {
+                are_shown(told, (*target, word.channel, word.at), &[*value])
+            }
+            _ => true,
+        },
         _ => true,
     }
 }
@@ -230,16 +208,12 @@ pub fn unsourced_words(told: &Told<'_>) -> Option<usize> {
 }
 
 fn are_sourced_words(told: &Told<'_>, target: usize) -> bool {
-    match (told.words.get(target), u32::try_from(target)) {
-        (Some(words), Ok(number)) => are_sourced_channels(told, number, words),
-        _ => false,
-    }
-}
-
-fn are_sourced_channels(told: &Told<'_>, target: u32, words: &WordList) -> bool {
+    let (Some(words), Ok(number)) = (told.words.get(target), u32::try_from(target)) else {
+        return false;
+    };
     let mut channel: u32 = 0;
     for values in words.as_slice().chunks(65) {
-        if !are_shown(told, (target, channel, 0), values) {
+        if !are_shown(told, (number, channel, 0), values) {
             return false;
         }
         channel = channel.saturating_add(1);

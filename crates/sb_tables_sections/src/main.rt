@@ -13,6 +13,7 @@ mod rows;
 mod scripts;
 mod seats;
 
+use sb_rows::{is_row, told_row};
 use std::alloc::Global;
 use std::rt::{Env, Files};
 use std::thread::Threads;
@@ -40,11 +41,8 @@ fn print_rows<R: Print + AllocGlobal + Threads + Sync>(rt: &R, text: &str) -> io
 
 // What is printed of a line: a blank line or a comment as it is, and a row with its value.
 fn told_line<R: Threads + Sync>(rt: &R, alloc: Global, line: &str) -> io::Result<String> {
-    if line.is_empty() || line.starts_with('#') {
+    if !is_row(line) {
         return Ok(String::from_str(alloc, line)?);
     }
-    Ok(match rows::value_of(rt, alloc, line) {
-        Ok(value) => format!(in alloc; "{line} => {value}")?,
-        Err(fault) => format!(in alloc; "{line} FAULT {fault}")?,
-    })
+    Ok(told_row(alloc, line, rows::value_of(rt, alloc, line))?)
 }

@@ -1,11 +1,10 @@
 // Rows of what a code says of a call.
 
-use crate::call_readers::{call_args, tag_named};
 use crate::opcode_readers::code_of;
 use sb_call::{Arg, CallTag, fits};
 use sb_eval::{Judged, eval};
 use sb_opcode::{Verified, verify};
-use sb_rows::{RowFault, told};
+use sb_rows::{RowFault, args_in, tag, told};
 use std::alloc::Global;
 
 /// What a function of codes and calls gives.
@@ -14,23 +13,16 @@ pub fn value_of(alloc: Global, name: &str, parts: &[&str]) -> Result<String, Row
         return Err(RowFault::Unknown);
     };
     match name {
-        "eval" => evaluated(alloc, call, code, args),
+        "eval" => {
+            let tag = tag(call)?;
+            let args = args_in(alloc, args)?;
+            evaluated(alloc, tag, code, args.as_slice())
+        }
         _ => Err(RowFault::Unknown),
     }
 }
 
-fn evaluated(alloc: Global, call: &str, code: &str, args: &str) -> Result<String, RowFault> {
-    let tag = tag_named(call)?;
-    let args = call_args(alloc, args)?;
-    evaluated_with(alloc, tag, code, &args)
-}
-
-fn evaluated_with(
-    alloc: Global,
-    tag: CallTag,
-    code: &str,
-    args: &[Arg],
-) -> Result<String, RowFault> {
+fn evaluated(alloc: Global, tag: CallTag, code: &str, args: &[Arg]) -> Result<String, RowFault> {
     match verify(tag, code_of(alloc, code)?) {
         Ok(verified) => evaluated_by(alloc, &verified, args),
         Err(refused) => told(alloc, &refused.fault),
@@ -41,14 +33,10 @@ fn evaluated_by(alloc: Global, verified: &Verified, args: &[Arg]) -> Result<Stri
     if !fits(verified.tag(), args) {
         return Err(RowFault::Misfit);
     }
-    judged(alloc, eval(verified, args))
-}
-
-fn judged(alloc: Global, judged: Judged) -> Result<String, RowFault> {
-    Ok(match judged {
+    match eval(verified, args) {
         Judged::Action { at, line, action } => {
-            format!(in alloc; "{action:?} of line {line}, opcode {at}")?
+            Ok(format!(in alloc; "{action:?} of line {line}, opcode {at}")?)
         }
-        Judged::NoMatch => String::from_str(alloc, "no rule")?,
-    })
+        Judged::NoMatch => Ok(String::from_str(alloc, "no rule")?),
+    }
 }

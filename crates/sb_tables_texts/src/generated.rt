@@ -10,29 +10,18 @@ use std::alloc::Global;
 /// What a function of generated input gives. The arguments are the seed, and the counts of targets and of statements a thread.
 pub fn value_of(alloc: Global, name: &str, parts: &[&str]) -> Result<String, RowFault> {
     match name {
-        "generated" => generated(alloc, parts),
-        "make" => made_in(alloc, parts),
-        _ => Err(RowFault::Unknown),
-    }
-}
-
-fn generated(alloc: Global, parts: &[&str]) -> Result<String, RowFault> {
-    match parts {
-        [seed] => pairs(alloc, number(seed)?),
-        _ => Err(RowFault::Unknown),
-    }
-}
-
-fn made_in(alloc: Global, parts: &[&str]) -> Result<String, RowFault> {
-    match parts {
-        [seed, targets, calls] => made(alloc, number(seed)?, number(targets)?, number(calls)?),
+        "generated" => pairs(alloc, parts),
+        "make" => made(alloc, parts),
         _ => Err(RowFault::Unknown),
     }
 }
 
 // The kind and the number of each of the first eight statements.
-fn pairs(alloc: Global, seed: u64) -> Result<String, RowFault> {
-    let mut generator = Generator::new(seed);
+fn pairs(alloc: Global, parts: &[&str]) -> Result<String, RowFault> {
+    let [seed] = parts else {
+        return Err(RowFault::Unknown);
+    };
+    let mut generator = Generator::new(number(seed)?);
     let mut pairs = Vec::new(alloc);
     for _ in 0..8 {
         generator.advance();
@@ -59,9 +48,13 @@ fn made_script(alloc: Global, seed: u64, targets: u32, calls: u32) -> Result<Scr
     Ok(script)
 }
 
-fn made(alloc: Global, seed: u64, targets: u64, calls: u64) -> Result<String, RowFault> {
-    let targets = count(targets, 8)?;
-    let calls = count(calls, 4096)?;
+fn made(alloc: Global, parts: &[&str]) -> Result<String, RowFault> {
+    let [seed, targets, calls] = parts else {
+        return Err(RowFault::Unknown);
+    };
+    let seed = number(seed)?;
+    let targets = count(number(targets)?, 8)?;
+    let calls = count(number(calls)?, 4096)?;
     let script = made_script(alloc, seed, targets, calls)?;
     told_script(alloc, &script)
 }

@@ -1,22 +1,22 @@
 // Rows of compiled policies: their listings, and what they say of calls.
 
-use crate::call_readers::{call_of, tag_named};
-use crate::opcode_readers::{short, told_words};
-use crate::policies::policies_of;
+use crate::opcode_readers::told_words;
+use crate::policies::faultless_policies;
 use crate::row_texts::{text_of, told_lines};
-use sb_call::{Arg, CallTag, ShortName, fits};
+use sb_call::{Arg, CallTag, fits};
 use sb_compile::{Program, Programs, compile};
 use sb_items::Copies;
-use sb_rows::RowFault;
+use sb_row_values::bare_target;
+use sb_rows::{RowFault, call, small, tag};
 use sb_rule::{Judge, Policies, Policy, Verdict, all_well_made, verdict_plain, well_made};
-use sb_statements::{Script, StartLines, TargetScript, Targets, Threads};
+use sb_statements::{Script, StartLines, Targets};
 use std::alloc::Global;
 
 /// What a function of compiled policies gives. A policy is named `web` and has these rules, the first on line 3.
 pub fn value_of(alloc: Global, name: &str, parts: &[&str]) -> Result<String, RowFault> {
     match name {
-        "listing" => rules_listed(alloc, parts),
-        "judge_targets" => lines_judged(alloc, parts),
+        "listing" => listing(alloc, &policy_of(alloc, parts)?),
+        "judge_targets" => target_judged(alloc, parts),
         _ => value_for_call(alloc, name, parts),
     }
 }
@@ -26,35 +26,9 @@ fn value_for_call(alloc: Global, name: &str, parts: &[&str]) -> Result<String, R
         return Err(RowFault::Unknown);
     };
     match name {
-        "program_code" => rules_code(alloc, call, rules),
-        "judge" => rules_judged(alloc, call, rules),
+        "program_code" => code(alloc, call, &policy_of(alloc, rules)?),
+        "judge" => judged(alloc, call, &policy_of(alloc, rules)?),
         _ => Err(RowFault::Unknown),
-    }
-}
-
-fn lines_judged(alloc: Global, parts: &[&str]) -> Result<String, RowFault> {
-    match parts {
-        [target, numbers, call, lines @ ..] => target_judged(alloc, target, numbers, call, lines),
-        _ => Err(RowFault::Unknown),
-    }
-}
-
-fn rules_listed(alloc: Global, rules: &[&str]) -> Result<String, RowFault> {
-    listing(alloc, &policy_of(alloc, rules)?)
-}
-
-fn rules_code(alloc: Global, call: &str, rules: &[&str]) -> Result<String, RowFault> {
-    code(alloc, call, &policy_of(alloc, rules)?)
-}
-
-fn rules_judged(alloc: Global, call: &str, rules: &[&str]) -> Result<String, RowFault> {
-    judged(alloc, call, &policy_of(alloc, rules)?)
-}
-
-fn read(alloc: Global, text: &[u8]) -> Result<Policies, RowFault> {
-    match policies_of(alloc, text)? {
-        Ok(policies) => Ok(policies),
-        Err(_) => Err(RowFault::BadPolicy),
     }
 }
 
@@ -71,7 +45,7 @@ fn web_text(alloc: Global, lines: &[u8]) -> Result<Vec<u8>, RowFault> {
 }
 
 fn first_policy(alloc: Global, text: &[u8]) -> Result<Policy, RowFault> {
-    match read(alloc, text)?.list.as_slice() {
+    match faultless_policies(alloc, text)?.list.as_slice() {
         [policy] => Ok(policy.copy(alloc)?),
         _ => Err(RowFault::BadPolicy),
     }
@@ -82,10 +56,6 @@ fn listing(alloc: Global, policy: &Policy) -> Result<String, RowFault> {
         return Err(RowFault::BadPolicy);
     }
     let program = compile(alloc, policy)?;
-    listed(alloc, &program)
-}
-
-fn listed(alloc: Global, program: &Program) -> Result<String, RowFault> {
     told_lines(alloc, &program.listing(alloc)?)
 }
 
@@ -93,7 +63,7 @@ fn code(alloc: Global, call: &str, policy: &Policy) -> Result<String, RowFault> 
     if !well_made(policy) {
         return Err(RowFault::BadPolicy);
     }
-    let tag = tag_named(call)?;
+    let tag = tag(call)?;
     let program = compile(alloc, policy)?;
     told_code(alloc, &program, tag)
 }
@@ -113,9 +83,9 @@ fn told_verdict(alloc: Global, verdict: Verdict) -> Result<String, RowFault> {
 }
 
 // The verdict of the program of a policy. That of the policy's own rules is to be the same.
-fn judged(alloc: Global, call: &str, policy: &Policy) -> Result<String, RowFault> {
-    let (tag, args) = call_of(alloc, call)?;
-    told_verdict(alloc, verdict_of(alloc, policy, tag, &args)?)
+fn judged(alloc: Global, text: &str, policy: &Policy) -> Result<String, RowFault> {
+    let (tag, args) = call(alloc, text)?;
+    told_verdict(alloc, verdict_of(alloc, policy, tag, args.as_slice())?)
 }
 
 fn verdict_of(
@@ -141,7 +111,7 @@ fn verdict_of(
 fn script_of(alloc: Global, numbers: &str) -> Result<Script, RowFault> {
     let mut targets = Targets::none(alloc);
     for policy in numbers.split_whitespace() {
-        targets.push(target_of(alloc, short(policy)?)?)?;
+        targets.push(bare_target(alloc, "tab", small(policy)?)?)?;
     }
     Ok(Script {
         patience: 1,
@@ -150,32 +120,15 @@ fn script_of(alloc: Global, numbers: &str) -> Result<Script, RowFault> {
     })
 }
 
-fn target_of(alloc: Global, policy: u32) -> Result<TargetScript, RowFault> {
-    let name = ShortName::new(b"tab").ok_or(RowFault::Unknown)?;
-    Ok(TargetScript {
-        name,
-        policy,
-        channels: 1,
-        threads: Threads::none(alloc),
-    })
-}
-
 // What the programs of the policies of a text say of a call of a target, where the targets have policies of these numbers.
-fn target_judged(
-    alloc: Global,
-    target: &str,
-    numbers: &str,
-    call: &str,
-    lines: &[&str],
-) -> Result<String, RowFault> {
-    let target = short(target)?;
-    let policies = policies_in(alloc, lines)?;
+fn target_judged(alloc: Global, parts: &[&str]) -> Result<String, RowFault> {
+    let [target, numbers, call, lines @ ..] = parts else {
+        return Err(RowFault::Unknown);
+    };
+    let target = small(target)?;
+    let policies = faultless_policies(alloc, &text_of(alloc, lines)?)?;
     let script = script_of(alloc, numbers)?;
     judged_by(alloc, &policies, &script, target, call)
-}
-
-fn policies_in(alloc: Global, lines: &[&str]) -> Result<Policies, RowFault> {
-    read(alloc, &text_of(alloc, lines)?)
 }
 
 fn judged_by(
@@ -183,15 +136,15 @@ fn judged_by(
     policies: &Policies,
     script: &Script,
     target: u32,
-    call: &str,
+    text: &str,
 ) -> Result<String, RowFault> {
-    let (tag, args) = call_of(alloc, call)?;
+    let (tag, args) = call(alloc, text)?;
     if !all_well_made(policies) {
         return Err(RowFault::BadPolicy);
     }
-    if target as usize >= script.targets.len() || !fits(tag, &args) {
+    if target as usize >= script.targets.len() || !fits(tag, args.as_slice()) {
         return Err(RowFault::Misfit);
     }
     let programs = Programs::new(alloc, policies, script)?;
-    told_verdict(alloc, programs.judge(target, tag, &args))
+    told_verdict(alloc, programs.judge(target, tag, args.as_slice()))
 }

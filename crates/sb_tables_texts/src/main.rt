@@ -3,7 +3,6 @@
 // holds the same rows with the values that are right.
 #![tactic(auto)]
 
-mod call_readers;
 mod evaluation;
 mod generated;
 mod listings;
@@ -16,6 +15,7 @@ mod rows;
 mod script_values;
 mod scripts;
 
+use sb_rows::{is_row, told_row};
 use std::alloc::Global;
 use std::{env, fs, io};
 
@@ -32,11 +32,8 @@ fn main(rt: HostRuntime) -> io::Result<()> {
 
 // What is printed of a line: a blank line or a comment as it is, and a row with its value.
 fn told_line(alloc: Global, line: &str) -> io::Result<String> {
-    if line.is_empty() || line.starts_with('#') {
+    if !is_row(line) {
         return Ok(String::from_str(alloc, line)?);
     }
-    Ok(match rows::value_of(alloc, line) {
-        Ok(value) => format!(in alloc; "{line} => {value}")?,
-        Err(fault) => format!(in alloc; "{line} FAULT {fault}")?,
-    })
+    Ok(told_row(alloc, line, rows::value_of(alloc, line))?)
 }

@@ -1,11 +1,10 @@
 // Codes: their opcodes as listings show them, and packed words.
 
-use crate::call_readers::unquoted;
 use bitflags::Flags;
 use sb_opcode::{Cells, Code, OpKind, Opcode, Options, Seek};
 use sb_pattern::Cell;
-use sb_rows::{RowFault, number, wide};
-use sb_rule::Action;
+use sb_row_values::action;
+use sb_rows::{RowFault, number, param, quoted, small, unit, words_in};
 use std::alloc::Global;
 
 /// A code of at most 64 opcodes, which are divided by `;`.
@@ -42,14 +41,6 @@ fn opcode_of(alloc: Global, text: &str) -> Result<Opcode, RowFault> {
     opcode_by(alloc, words_in(alloc, text)?.as_slice())
 }
 
-fn words_in<'a>(alloc: Global, text: &'a str) -> Result<Vec<&'a str>, RowFault> {
-    let mut words = Vec::new(alloc);
-    for word in text.split_whitespace() {
-        words.push(word)?;
-    }
-    Ok(words)
-}
-
 fn opcode_by(alloc: Global, words: &[&str]) -> Result<Opcode, RowFault> {
     let [name, rest @ ..] = words else {
         return Err(RowFault::BadOpcode);
@@ -64,104 +55,56 @@ fn opcode_by(alloc: Global, words: &[&str]) -> Result<Opcode, RowFault> {
 
 // An opcode that ends with an action.
 fn action_opcode(words: &[&str]) -> Result<Opcode, RowFault> {
-    match words {
-        [action, "line", line, rest @ ..] => opcode(act_of(action, line)?, rest),
-        _ => Err(RowFault::BadOpcode),
-    }
+    let [action, "line", line, rest @ ..] = words else {
+        return Err(RowFault::BadOpcode);
+    };
+    let (action, line) = (self::action(action)?, small(line)?);
+    opcode(OpKind::Act { action, line }, rest)
 }
 
-// An opcode that looks at the parameter that stands first.
+// An opcode that looks at the parameter that stands first, and has at least one more word.
 fn parameter_opcode(alloc: Global, name: &str, words: &[&str]) -> Result<Opcode, RowFault> {
-    let [param, rest @ ..] = words else {
+    let [param, word, rest @ ..] = words else {
         return Err(RowFault::BadOpcode);
     };
     match name {
-        "text" => text_opcode(alloc, param, rest),
-        "num" => number_opcode(param, rest),
-        "range" => range_opcode(param, rest),
-        "mask" => mask_opcode(param, rest),
+        "text" => text_opcode(alloc, param, word, rest),
+        "num" => looking(OpKind::Num(number(word)?), param, rest),
+        "range" => range_opcode(param, word, rest),
+        "mask" => looking(OpKind::Mask(number(word)?), param, rest),
         _ => Err(RowFault::BadOpcode),
     }
 }
 
-fn number_opcode(param: &str, words: &[&str]) -> Result<Opcode, RowFault> {
-    match words {
-        [wanted, rest @ ..] => looking(OpKind::Num(number(wanted)?), param, rest),
-        _ => Err(RowFault::BadOpcode),
-    }
-}
-
-fn range_opcode(param: &str, words: &[&str]) -> Result<Opcode, RowFault> {
-    match words {
-        [lo, hi, rest @ ..] => looking(range_of(lo, hi)?, param, rest),
-        _ => Err(RowFault::BadOpcode),
-    }
-}
-
-fn mask_opcode(param: &str, words: &[&str]) -> Result<Opcode, RowFault> {
-    match words {
-        [mask, rest @ ..] => looking(OpKind::Mask(number(mask)?), param, rest),
-        _ => Err(RowFault::BadOpcode),
-    }
+fn range_opcode(param: &str, lo: &str, words: &[&str]) -> Result<Opcode, RowFault> {
+    let [hi, rest @ ..] = words else {
+        return Err(RowFault::BadOpcode);
+    };
+    let (lo, hi) = (number(lo)?, number(hi)?);
+    looking(OpKind::Range { lo, hi }, param, rest)
 }
 
 // An opcode that looks at a text.
-fn text_opcode(alloc: Global, param: &str, words: &[&str]) -> Result<Opcode, RowFault> {
-    let [seek, rest @ ..] = words else {
-        return Err(RowFault::BadOpcode);
-    };
-    match *seek {
-        "skip" => skipping(alloc, param, rest),
-        "forward" => seeking(alloc, param, Seek::Forward, rest),
-        "end" => seeking(alloc, param, Seek::ToEnd, rest),
+fn text_opcode(alloc: Global, param: &str, seek: &str, words: &[&str]) -> Result<Opcode, RowFault> {
+    match seek {
+        "skip" => match words {
+            [skip, rest @ ..] => seeking(alloc, param, Seek::Skip(unit(skip)?), rest),
+            _ => Err(RowFault::BadOpcode),
+        },
+        "forward" => seeking(alloc, param, Seek::Forward, words),
+        "end" => seeking(alloc, param, Seek::ToEnd, words),
         _ => Err(RowFault::BadOpcode),
     }
 }
 
-fn skipping(alloc: Global, param: &str, words: &[&str]) -> Result<Opcode, RowFault> {
-    match words {
-        [skip, rest @ ..] => seeking(alloc, param, Seek::Skip(small(skip)?), rest),
-        _ => Err(RowFault::BadOpcode),
-    }
-}
-
+// An opcode with a fragment: the letters of a text, in which `?` is any unit and `*` any run of units.
 fn seeking(alloc: Global, param: &str, seek: Seek, words: &[&str]) -> Result<Opcode, RowFault> {
-    let [cells, rest @ ..] = words else {
+    let [text, rest @ ..] = words else {
         return Err(RowFault::BadOpcode);
     };
-    let kind = text_of(alloc, cells, seek)?;
-    looking(kind, param, rest)
-}
-
-fn range_of(lo: &str, hi: &str) -> Result<OpKind, RowFault> {
-    Ok(OpKind::Range {
-        lo: number(lo)?,
-        hi: number(hi)?,
-    })
-}
-
-fn act_of(action: &str, line: &str) -> Result<OpKind, RowFault> {
-    let action = action_of(action)?;
-    let line = short(line)?;
-    Ok(OpKind::Act { action, line })
-}
-
-fn action_of(word: &str) -> Result<Action, RowFault> {
-    match word {
-        "allow" => Ok(Action::Allow),
-        "deny" => Ok(Action::Deny),
-        "alarm" => Ok(Action::Alarm),
-        "fake" => Ok(Action::Fake),
-        "readonly" => Ok(Action::ReadOnly),
-        _ => Err(RowFault::BadOpcode),
-    }
-}
-
-// A fragment: the letters of a text, in which `?` is any unit and `*` any run of units.
-fn text_of(alloc: Global, text: &str, seek: Seek) -> Result<OpKind, RowFault> {
-    let units = wide(alloc, unquoted(text)?)?;
+    let units = quoted(alloc, text)?;
     let cells = Cells::new(cells_of(alloc, units.as_units())?);
-    Ok(OpKind::Text { cells, seek })
+    looking(OpKind::Text { cells, seek }, param, rest)
 }
 
 fn cells_of(alloc: Global, units: &[u16]) -> Result<Vec<Cell>, RowFault> {
@@ -180,25 +123,9 @@ fn cell_of(unit: u16) -> Cell {
     }
 }
 
-/// A number below 2^32.
-pub fn short(text: &str) -> Result<u32, RowFault> {
-    u32::try_from(number(text)?).map_err(|_| RowFault::BadNumber)
-}
-
-fn small(text: &str) -> Result<u16, RowFault> {
-    u16::try_from(number(text)?).map_err(|_| RowFault::BadNumber)
-}
-
-fn param_of(word: &str) -> Result<u32, RowFault> {
-    match word.strip_prefix('p') {
-        Some(digits) => short(digits),
-        None => Err(RowFault::BadOpcode),
-    }
-}
-
 // An opcode that looks at a parameter.
 fn looking(kind: OpKind, param: &str, words: &[&str]) -> Result<Opcode, RowFault> {
-    let (param, options) = (param_of(param)?, options_of(words)?);
+    let (param, options) = (self::param(param)?, options_of(words)?);
     Ok(Opcode {
         kind,
         param,

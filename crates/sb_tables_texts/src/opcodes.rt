@@ -2,13 +2,12 @@
 
 ghost use Rattle.std.specs.Prelude.{◌≤◌, length, IfOk};
 
-use crate::call_readers::tag_named;
 use crate::opcode_readers::{code_of, packed_words, told_words};
 use sb_call::CallTag;
 use sb_opcode::{Code, Verified, verify, verify_words};
-use sb_rows::RowFault;
+use sb_rows::{RowFault, displayed, tag};
 use std::alloc::Global;
-use std::fmt::{Debug, Display};
+use std::fmt::Debug;
 
 /// What a function of codes gives.
 pub fn value_of(alloc: Global, name: &str, parts: &[&str]) -> Result<String, RowFault> {
@@ -21,33 +20,38 @@ pub fn value_of(alloc: Global, name: &str, parts: &[&str]) -> Result<String, Row
 
 fn value_of_code(alloc: Global, name: &str, code: &str) -> Result<String, RowFault> {
     match name {
-        "code_words" => words_of(alloc, code),
-        "code_records" => records_of(alloc, code),
+        "code_words" => told_words(alloc, code_of(alloc, code)?.words()),
+        "code_records" => told_records(alloc, &code_of(alloc, code)?),
         _ => Err(RowFault::Unknown),
     }
 }
 
 fn value_for_call(alloc: Global, name: &str, call: &str, code: &str) -> Result<String, RowFault> {
     match name {
-        "verify" => code_verified(alloc, call, code),
-        "verify_words" => words_verified(alloc, call, code),
-        "verify_message" => message(alloc, call, code),
-        "verify_words_message" => words_message(alloc, call, code),
+        "verify" => {
+            let tag = tag(call)?;
+            verified(alloc, tag, code_of(alloc, code)?)
+        }
+        "verify_words" => {
+            let tag = tag(call)?;
+            packed_verified(alloc, tag, &few_words(alloc, code)?)
+        }
+        "verify_message" => {
+            let tag = tag(call)?;
+            match verify(tag, code_of(alloc, code)?) {
+                Ok(_) => Err(RowFault::NoFault),
+                Err(error) => displayed(alloc, &error.fault),
+            }
+        }
+        "verify_words_message" => {
+            let tag = tag(call)?;
+            match verify_words(tag, few_words(alloc, code)?) {
+                Ok(_) => Err(RowFault::NoFault),
+                Err(error) => displayed(alloc, &error.fault),
+            }
+        }
         _ => Err(RowFault::Unknown),
     }
-}
-
-fn words_of(alloc: Global, code: &str) -> Result<String, RowFault> {
-    told_words(alloc, code_of(alloc, code)?.words())
-}
-
-fn records_of(alloc: Global, code: &str) -> Result<String, RowFault> {
-    told_records(alloc, &code_of(alloc, code)?)
-}
-
-fn code_verified(alloc: Global, call: &str, code: &str) -> Result<String, RowFault> {
-    let tag = tag_named(call)?;
-    verified(alloc, tag, code_of(alloc, code)?)
 }
 
 // The records of a code. It has no more of them than words.
@@ -102,11 +106,6 @@ fn verified(alloc: Global, tag: CallTag, code: Code) -> Result<String, RowFault>
     }
 }
 
-fn words_verified(alloc: Global, call: &str, words: &str) -> Result<String, RowFault> {
-    let tag = tag_named(call)?;
-    packed_verified(alloc, tag, &few_words(alloc, words)?)
-}
-
 // At most 1000 words.
 fn few_words(alloc: Global, text: &str) -> Result<Vec<u64>, RowFault>
     ensures { IfOk result (λ words. length words.items ≤ 1000) }
@@ -124,25 +123,5 @@ fn packed_verified(alloc: Global, tag: CallTag, given: &[u64]) -> Result<String,
     match verify_words(tag, Vec::from_slice(alloc, given)?) {
         Ok(verified) => accepted(alloc, &verified, given),
         Err(error) => refused(alloc, &error.fault, error.words.as_slice(), given),
-    }
-}
-
-fn shown<F: Display>(alloc: Global, fault: &F) -> Result<String, RowFault> {
-    Ok(format!(in alloc; "{fault}")?)
-}
-
-fn message(alloc: Global, call: &str, code: &str) -> Result<String, RowFault> {
-    let tag = tag_named(call)?;
-    match verify(tag, code_of(alloc, code)?) {
-        Ok(_) => Err(RowFault::NoFault),
-        Err(error) => shown(alloc, &error.fault),
-    }
-}
-
-fn words_message(alloc: Global, call: &str, words: &str) -> Result<String, RowFault> {
-    let tag = tag_named(call)?;
-    match verify_words(tag, few_words(alloc, words)?) {
-        Ok(_) => Err(RowFault::NoFault),
-        Err(error) => shown(alloc, &error.fault),
     }
 }

@@ -2,7 +2,7 @@
 
 use crate::policy_values::told_policies;
 use crate::row_texts::{text_of, told_text};
-use sb_rows::RowFault;
+use sb_rows::{RowFault, displayed};
 use sb_rule::{Policies, all_well_made};
 use sb_ruletext::{TextFault, TextRefused, print_policies, read_policies};
 use std::alloc::Global;
@@ -10,23 +10,43 @@ use std::alloc::Global;
 /// What a function of policy texts gives. The arguments are the lines of a text.
 pub fn value_of(alloc: Global, name: &str, parts: &[&str]) -> Result<String, RowFault> {
     match name {
-        "read_policies" => read(alloc, parts),
-        "count_policies" => counts(alloc, parts),
-        "print_policies" => printed(alloc, parts),
-        "policies_message" => message_for(alloc, parts),
+        "read_policies" => match policies_in(alloc, parts)? {
+            Ok(policies) => told_policies(alloc, &policies),
+            Err(fault) => told_fault(alloc, fault),
+        },
+        "count_policies" => match policies_in(alloc, parts)? {
+            Ok(policies) => told_counts(alloc, &policies),
+            Err(fault) => told_fault(alloc, fault),
+        },
+        "print_policies" => match policies_in(alloc, parts)? {
+            Ok(policies) => told_print(alloc, &policies),
+            Err(fault) => told_fault(alloc, fault),
+        },
+        "policies_message" => message(alloc, parts),
         _ => Err(RowFault::Unknown),
     }
 }
 
-fn message_for(alloc: Global, lines: &[&str]) -> Result<String, RowFault> {
+fn message(alloc: Global, lines: &[&str]) -> Result<String, RowFault> {
     match lines {
-        ["out of memory"] => message(alloc, TextRefused::NoMemory),
-        lines => message_of(alloc, lines),
+        ["out of memory"] => displayed(alloc, &TextRefused::NoMemory),
+        lines => match policies_in(alloc, lines)? {
+            Ok(_) => Err(RowFault::NoFault),
+            Err(fault) => numbered_message(alloc, fault),
+        },
     }
 }
 
-/// What a text is read as.
-pub fn policies_of(alloc: Global, text: &[u8]) -> Result<Result<Policies, TextFault>, RowFault> {
+/// The policies of a text, which has no fault.
+pub fn faultless_policies(alloc: Global, text: &[u8]) -> Result<Policies, RowFault> {
+    match policies_of(alloc, text)? {
+        Ok(policies) => Ok(policies),
+        Err(_) => Err(RowFault::BadPolicy),
+    }
+}
+
+// What a text is read as.
+fn policies_of(alloc: Global, text: &[u8]) -> Result<Result<Policies, TextFault>, RowFault> {
     if text.len() > 1_000_000 {
         return Err(RowFault::TooMany);
     }
@@ -46,20 +66,6 @@ fn policies_in(alloc: Global, lines: &[&str]) -> Result<Result<Policies, TextFau
     policies_of(alloc, &text_of(alloc, lines)?)
 }
 
-fn read(alloc: Global, lines: &[&str]) -> Result<String, RowFault> {
-    match policies_in(alloc, lines)? {
-        Ok(policies) => told_policies(alloc, &policies),
-        Err(fault) => told_fault(alloc, fault),
-    }
-}
-
-fn counts(alloc: Global, lines: &[&str]) -> Result<String, RowFault> {
-    match policies_in(alloc, lines)? {
-        Ok(policies) => told_counts(alloc, &policies),
-        Err(fault) => told_fault(alloc, fault),
-    }
-}
-
 fn told_counts(alloc: Global, policies: &Policies) -> Result<String, RowFault> {
     if !all_well_made(policies) {
         return Err(RowFault::BadPolicy);
@@ -72,29 +78,11 @@ fn told_counts(alloc: Global, policies: &Policies) -> Result<String, RowFault> {
     Ok(format!(in alloc; "policies {policies}, rules {rules}")?)
 }
 
-fn printed(alloc: Global, lines: &[&str]) -> Result<String, RowFault> {
-    match policies_in(alloc, lines)? {
-        Ok(policies) => told_print(alloc, &policies),
-        Err(fault) => told_fault(alloc, fault),
-    }
-}
-
 fn told_print(alloc: Global, policies: &Policies) -> Result<String, RowFault> {
     if !all_well_made(policies) {
         return Err(RowFault::BadPolicy);
     }
     told_text(alloc, &print_policies(alloc, policies)?)
-}
-
-fn message(alloc: Global, refused: TextRefused) -> Result<String, RowFault> {
-    Ok(format!(in alloc; "{refused}")?)
-}
-
-fn message_of(alloc: Global, lines: &[&str]) -> Result<String, RowFault> {
-    match policies_in(alloc, lines)? {
-        Ok(_) => Err(RowFault::NoFault),
-        Err(fault) => numbered_message(alloc, fault),
-    }
 }
 
 fn numbered_message(alloc: Global, fault: TextFault) -> Result<String, RowFault> {

@@ -1,8 +1,7 @@
 // Policies in a short form, which shows what was read: each parameter by its number, and all numbers in hexadecimal.
 
-use crate::row_texts::put_bytes;
 use sb_call::call_word;
-use sb_rows::RowFault;
+use sb_rows::{RowFault, put_between, put_word};
 use sb_rule::{Cond, Policies, Policy, Rule, Test};
 use sb_wide::quote_into;
 use std::alloc::Global;
@@ -20,30 +19,20 @@ pub fn told_policies(alloc: Global, policies: &Policies) -> Result<String, RowFa
 }
 
 fn put_policy(alloc: Global, out: &mut String, policy: &Policy) -> Result<(), RowFault> {
-    put_name(out, policy.name.bytes())?;
+    put_between(out, "; ")?;
+    out.push_str("policy ")?;
+    put_word(out, policy.name.bytes())?;
     for rule in policy.rules.as_slice() {
         put_rule(alloc, out, rule)?;
     }
     Ok(())
 }
 
-fn put_name(out: &mut String, name: &[u8]) -> Result<(), RowFault> {
-    if !out.is_empty() {
-        out.push_str("; ")?;
-    }
-    out.push_str("policy ")?;
-    put_bytes(out, name)
-}
-
-fn put_head(out: &mut String, rule: &Rule) -> Result<(), RowFault> {
-    write!(out, "; {} ", rule.line)?;
-    put_bytes(out, rule.action.word())?;
-    out.push_str(" ")?;
-    put_bytes(out, call_word(rule.tag))
-}
-
 fn put_rule(alloc: Global, out: &mut String, rule: &Rule) -> Result<(), RowFault> {
-    put_head(out, rule)?;
+    write!(out, "; {} ", rule.line)?;
+    put_word(out, rule.action.word())?;
+    out.push_str(" ")?;
+    put_word(out, call_word(rule.tag))?;
     for (at, cond) in rule.conds.as_slice().iter().enumerate() {
         out.push_str(if at == 0 { " when" } else { " and" })?;
         put_cond(alloc, out, cond)?;
@@ -84,5 +73,5 @@ fn put_text(alloc: Global, out: &mut String, word: &str, units: &[u16]) -> Resul
 pub fn put_quoted(alloc: Global, out: &mut String, units: &[u16]) -> Result<(), RowFault> {
     let mut quoted = Vec::new(alloc);
     quote_into(&mut quoted, units)?;
-    put_bytes(out, &quoted)
+    put_word(out, &quoted)
 }

@@ -1,16 +1,7 @@
 // Texts of several lines: as the arguments of a row, and as its value.
 
-use sb_rows::{RowFault, number};
+use sb_rows::{RowFault, number, put_escaped};
 use std::alloc::Global;
-
-// How far an escape has been read.
-#[derive(Clone, Copy, Debug)]
-enum Escape {
-    Outside,
-    Begun,
-    Number,
-    Digit(u8),
-}
 
 /// The bytes of the text that has these lines, with a line feed between each two. In a line `\n` is a line feed, `\r` a
 /// carriage return, `\t` a tab, `\\` a backslash and `\xHH` the byte of this number; `{PIECE*N}` is the piece N times, in
@@ -68,46 +59,6 @@ fn put_decimal(alloc: Global, number: u64, bytes: &mut Vec<u8>) -> Result<(), Ro
     Ok(bytes.extend_from_slice(digits.as_bytes())?)
 }
 
-fn put_escaped(text: &str, bytes: &mut Vec<u8>) -> Result<(), RowFault> {
-    let mut escape = Escape::Outside;
-    for byte in text.as_bytes() {
-        escape = after(escape, *byte, bytes)?;
-    }
-    match escape {
-        Escape::Outside => Ok(()),
-        _ => Err(RowFault::BadEscape),
-    }
-}
-
-// Where an escape stands behind a byte. What the escape means is put when it ends.
-fn after(escape: Escape, byte: u8, bytes: &mut Vec<u8>) -> Result<Escape, RowFault> {
-    match (escape, byte) {
-        (Escape::Outside, b'\\') => Ok(Escape::Begun),
-        (Escape::Outside, _) => put_byte(byte, bytes),
-        (Escape::Begun, b'\\') => put_byte(b'\\', bytes),
-        (Escape::Begun, b'n') => put_byte(b'\n', bytes),
-        (Escape::Begun, b'r') => put_byte(b'\r', bytes),
-        (Escape::Begun, b't') => put_byte(b'\t', bytes),
-        (Escape::Begun, b'x') => Ok(Escape::Number),
-        (Escape::Begun, _) => Err(RowFault::BadEscape),
-        (Escape::Number, _) => Ok(Escape::Digit(digit_of(byte)?)),
-        (Escape::Digit(high), _) => put_byte(high << 4 | digit_of(byte)?, bytes),
-    }
-}
-
-fn put_byte(byte: u8, bytes: &mut Vec<u8>) -> Result<Escape, RowFault> {
-    bytes.push(byte)?;
-    Ok(Escape::Outside)
-}
-
-fn digit_of(byte: u8) -> Result<u8, RowFault> {
-    match byte {
-        b'0'..=b'9' => Ok(byte - b'0'),
-        b'a'..=b'f' => Ok(byte - b'a' + 10),
-        _ => Err(RowFault::BadEscape),
-    }
-}
-
 /// The lines of a text, divided by bars. A text that ends with a line feed ends with a bar.
 pub fn told_lines(alloc: Global, bytes: &[u8]) -> Result<String, RowFault> {
     let Ok(text) = str::from_utf8(bytes) else {
@@ -121,12 +72,4 @@ pub fn told_lines(alloc: Global, bytes: &[u8]) -> Result<String, RowFault> {
 pub fn told_text(alloc: Global, bytes: &[u8]) -> Result<String, RowFault> {
     let lines = told_lines(alloc, bytes)?;
     Ok(lines.as_str().replace(alloc, '\\', "\\\\")?)
-}
-
-/// Appends bytes that are UTF-8.
-pub fn put_bytes(out: &mut String, bytes: &[u8]) -> Result<(), RowFault> {
-    match str::from_utf8(bytes) {
-        Ok(text) => Ok(out.push_str(text)?),
-        Err(_) => Err(RowFault::BadUnit),
-    }
 }

@@ -9,38 +9,26 @@ use std::alloc::Global;
 pub fn value_of(alloc: Global, row: &str) -> Result<String, RowFault> {
     let (name, rest) = row.split_once(' ').unwrap_or((row, ""));
     let parts = arguments(alloc, rest)?;
-    code_value(alloc, name, parts.as_slice())
+    known_value(alloc, name, parts.as_slice())
 }
 
-fn code_value(alloc: Global, name: &str, parts: &[&str]) -> Result<String, RowFault> {
+fn known_value(alloc: Global, name: &str, parts: &[&str]) -> Result<String, RowFault> {
     match opcodes::value_of(alloc, name, parts) {
-        Err(RowFault::Unknown) => eval_value(alloc, name, parts),
-        value => value,
+        Err(RowFault::Unknown) => {}
+        value => return value,
     }
-}
-
-fn eval_value(alloc: Global, name: &str, parts: &[&str]) -> Result<String, RowFault> {
     match evaluation::value_of(alloc, name, parts) {
-        Err(RowFault::Unknown) => listing_value(alloc, name, parts),
-        value => value,
+        Err(RowFault::Unknown) => {}
+        value => return value,
     }
-}
-
-fn listing_value(alloc: Global, name: &str, parts: &[&str]) -> Result<String, RowFault> {
     match listings::value_of(alloc, name, parts) {
-        Err(RowFault::Unknown) => policy_value(alloc, name, parts),
-        value => value,
+        Err(RowFault::Unknown) => {}
+        value => return value,
     }
-}
-
-fn policy_value(alloc: Global, name: &str, parts: &[&str]) -> Result<String, RowFault> {
     match policies::value_of(alloc, name, parts) {
-        Err(RowFault::Unknown) => generated_value(alloc, name, parts),
-        value => value,
+        Err(RowFault::Unknown) => {}
+        value => return value,
     }
-}
-
-fn generated_value(alloc: Global, name: &str, parts: &[&str]) -> Result<String, RowFault> {
     match generated::value_of(alloc, name, parts) {
         Err(RowFault::Unknown) => scripts::value_of(alloc, name, parts),
         value => value,

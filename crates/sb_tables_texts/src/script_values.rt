@@ -2,9 +2,8 @@
 // state and block word i is at place i + 1.
 
 use crate::policy_values::put_quoted;
-use crate::row_texts::put_bytes;
 use sb_call::{Arg, CallTag, call_word};
-use sb_rows::RowFault;
+use sb_rows::{RowFault, put_word};
 use sb_statements::{Script, StartLine, Statement, TargetScript, Word};
 use std::alloc::Global;
 
@@ -46,21 +45,17 @@ fn put_named(alloc: Global, out: &mut String, word: &str, name: &[u16]) -> Resul
 }
 
 fn put_target(alloc: Global, out: &mut String, target: &TargetScript) -> Result<(), RowFault> {
-    put_head(out, target)?;
+    out.push_str("; target ")?;
+    put_word(out, target.name.bytes())?;
+    write!(
+        out,
+        " policy {} channels {}",
+        target.policy, target.channels
+    )?;
     for thread in target.threads.as_slice() {
         put_thread(alloc, out, thread.as_slice())?;
     }
     Ok(())
-}
-
-fn put_head(out: &mut String, target: &TargetScript) -> Result<(), RowFault> {
-    out.push_str("; target ")?;
-    put_bytes(out, target.name.bytes())?;
-    Ok(write!(
-        out,
-        " policy {} channels {}",
-        target.policy, target.channels
-    )?)
 }
 
 fn put_thread(alloc: Global, out: &mut String, thread: &[Statement]) -> Result<(), RowFault> {
@@ -79,7 +74,7 @@ fn put_statement(alloc: Global, out: &mut String, statement: &Statement) -> Resu
             word,
             value,
         } => {
-            put_word(out, "store", *target, *word)?;
+            put_access(out, "store", *target, *word)?;
             Ok(write!(out, " 0x{value:x}")?)
         }
         Statement::Exchange {
@@ -88,42 +83,38 @@ fn put_statement(alloc: Global, out: &mut String, statement: &Statement) -> Resu
             from,
             to,
         } => {
-            put_word(out, "exchange", *target, *word)?;
+            put_access(out, "exchange", *target, *word)?;
             Ok(write!(out, " 0x{from:x} 0x{to:x}")?)
         }
-        Statement::Load { target, word } => put_word(out, "load", *target, *word),
+        Statement::Load { target, word } => put_access(out, "load", *target, *word),
         Statement::Wait {
             target,
             word,
             value,
             most,
         } => {
-            put_word(out, "wait", *target, *word)?;
+            put_access(out, "wait", *target, *word)?;
             Ok(write!(out, " 0x{value:x} {most}")?)
         }
     }
 }
 
-fn put_word(out: &mut String, verb: &str, target: u32, word: Word) -> Result<(), RowFault> {
+fn put_access(out: &mut String, verb: &str, target: u32, word: Word) -> Result<(), RowFault> {
     let Word { channel, at } = word;
     Ok(write!(out, "; {verb} {target} {channel}.{at}")?)
 }
 
 fn put_call(alloc: Global, out: &mut String, tag: CallTag, args: &[Arg]) -> Result<(), RowFault> {
     out.push_str("; call ")?;
-    put_bytes(out, call_word(tag))?;
+    put_word(out, call_word(tag))?;
     for arg in args {
         out.push_str(" ")?;
-        put_arg(alloc, out, arg)?;
+        match arg {
+            Arg::Num(number) => write!(out, "0x{number:x}")?,
+            Arg::Str(text) => put_quoted(alloc, out, text.as_units())?,
+        }
     }
     Ok(())
-}
-
-fn put_arg(alloc: Global, out: &mut String, arg: &Arg) -> Result<(), RowFault> {
-    match arg {
-        Arg::Num(number) => Ok(write!(out, "0x{number:x}")?),
-        Arg::Str(text) => put_quoted(alloc, out, text.as_units()),
-    }
 }
 
 /// How many opening lines, targets, threads and statements a script has.

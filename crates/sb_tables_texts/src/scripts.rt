@@ -1,9 +1,9 @@
 // Rows of texts of scripts.
 
-use crate::policies::policies_of;
+use crate::policies::faultless_policies;
 use crate::row_texts::text_of;
 use crate::script_values::{told_counts, told_script};
-use sb_rows::RowFault;
+use sb_rows::{RowFault, displayed};
 use sb_rule::Policies;
 use sb_script::{ScriptFault, ScriptRefused, read_script};
 use sb_statements::Script;
@@ -13,29 +13,31 @@ use std::alloc::Global;
 /// `low`, of number 0, and `web`, of number 1.
 pub fn value_of(alloc: Global, name: &str, parts: &[&str]) -> Result<String, RowFault> {
     match name {
-        "read_script" => read(alloc, parts),
-        "count_script" => counts(alloc, parts),
-        "script_message" => message_for(alloc, parts),
+        "read_script" => match script_of(alloc, parts)? {
+            Ok(script) => told_script(alloc, &script),
+            Err(fault) => told_fault(alloc, fault),
+        },
+        "count_script" => match script_of(alloc, parts)? {
+            Ok(script) => told_counts(alloc, &script),
+            Err(fault) => told_fault(alloc, fault),
+        },
+        "script_message" => message(alloc, parts),
         _ => Err(RowFault::Unknown),
     }
 }
 
-fn message_for(alloc: Global, lines: &[&str]) -> Result<String, RowFault> {
+fn message(alloc: Global, lines: &[&str]) -> Result<String, RowFault> {
     match lines {
-        ["out of memory"] => message(alloc, ScriptRefused::NoMemory),
-        lines => message_of(alloc, lines),
-    }
-}
-
-fn policies(alloc: Global) -> Result<Policies, RowFault> {
-    match policies_of(alloc, b"sandbox-policy 1\npolicy low\npolicy web\n")? {
-        Ok(policies) => Ok(policies),
-        Err(_) => Err(RowFault::BadPolicy),
+        ["out of memory"] => displayed(alloc, &ScriptRefused::NoMemory),
+        lines => match script_of(alloc, lines)? {
+            Ok(_) => Err(RowFault::NoFault),
+            Err(fault) => numbered_message(alloc, fault),
+        },
     }
 }
 
 fn script_of(alloc: Global, lines: &[&str]) -> Result<Result<Script, ScriptFault>, RowFault> {
-    let policies = policies(alloc)?;
+    let policies = faultless_policies(alloc, b"sandbox-policy 1\npolicy low\npolicy web\n")?;
     let text = text_of(alloc, lines)?;
     script_read(alloc, &text, &policies)
 }
@@ -58,31 +60,6 @@ fn script_read(
 fn told_fault(alloc: Global, fault: ScriptFault) -> Result<String, RowFault> {
     let ScriptFault { line, kind } = fault;
     Ok(format!(in alloc; "line {line} {kind:?}")?)
-}
-
-fn read(alloc: Global, lines: &[&str]) -> Result<String, RowFault> {
-    match script_of(alloc, lines)? {
-        Ok(script) => told_script(alloc, &script),
-        Err(fault) => told_fault(alloc, fault),
-    }
-}
-
-fn counts(alloc: Global, lines: &[&str]) -> Result<String, RowFault> {
-    match script_of(alloc, lines)? {
-        Ok(script) => told_counts(alloc, &script),
-        Err(fault) => told_fault(alloc, fault),
-    }
-}
-
-fn message(alloc: Global, refused: ScriptRefused) -> Result<String, RowFault> {
-    Ok(format!(in alloc; "{refused}")?)
-}
-
-fn message_of(alloc: Global, lines: &[&str]) -> Result<String, RowFault> {
-    match script_of(alloc, lines)? {
-        Ok(_) => Err(RowFault::NoFault),
-        Err(fault) => numbered_message(alloc, fault),
-    }
 }
 
 fn numbered_message(alloc: Global, fault: ScriptFault) -> Result<String, RowFault> {

@@ -8,6 +8,7 @@ mod pools;
 mod rows;
 mod turns;
 
+use sb_rows::{is_row, told_row};
 use std::alloc::Global;
 use std::rt::{Env, Files};
 use std::sync::Wait;
@@ -41,11 +42,8 @@ fn print_rows<R: Print + AllocGlobal + Threads + Wait + Sync>(
 
 // What is printed of a line: a blank line or a comment as it is, and a row with its value.
 fn told_line<R: Threads + Wait + Sync>(rt: &R, alloc: Global, line: &str) -> io::Result<String> {
-    if line.is_empty() || line.starts_with('#') {
+    if !is_row(line) {
         return Ok(String::from_str(alloc, line)?);
     }
-    Ok(match rows::value_of(rt, alloc, line) {
-        Ok(value) => format!(in alloc; "{line} => {value}")?,
-        Err(fault) => format!(in alloc; "{line} FAULT {fault}")?,
-    })
+    Ok(told_row(alloc, line, rows::value_of(rt, alloc, line))?)
 }

@@ -1,8 +1,9 @@
 -- A scan at a place of the line.
-use Rattle.std.proofs.Common.{◌≡◌, ℕ, ◌+◌, ◌<◌, ◌==◌, nat_lt, true, refl, arith, List, [], ◌∷◌, ◌++◌, length, drop, get_or, if◌then◌else◌}
-use Rattle.std.proofs.lemmas.List.{at_drop_more}
+use Rattle.std.proofs.Common.{◌≡◌, ℕ, ◌+◌, ◌<◌, ◌==◌, nat_lt, ◌≤◌, false, true, refl, sym, ap, ◌∙◌, arith, List, [], ◌∷◌, ◌++◌, length, take, drop, get_or, if◌then◌else◌}
+use Rattle.std.proofs.lemmas.Bool.Decides.{nat_tests}
+use Rattle.std.proofs.lemmas.List.{at_drop_more, drop_all, take_more}
 use Rattle.sb_text.specs.Lines.{is_blank}
-use Rattle.sb_text.specs.Tokens.{Word, Bad, Between, InWord, InQuote, AfterQuote, scan}
+use Rattle.sb_text.specs.Tokens.{Lexeme, Word, Bad, Between, InWord, InQuote, AfterQuote, scan}
 
 pub scan_between_at : (s : List ℕ) (n : ℕ) → n < length s → scan Between (drop n s) ≡ (if is_blank (get_or s n 0) then scan Between (drop (n + 1) s) else (if get_or s n 0 == 34 then scan (InQuote []) (drop (n + 1) s) else scan (InWord (get_or s n 0 ∷ [])) (drop (n + 1) s)))
 scan_between_at s n h = at_drop_more (scan Between) s n 0 h
@@ -17,3 +18,56 @@ scan_quote_at w s n h = at_drop_more (scan (InQuote w)) s n 0 h
 pub scan_past_blank : (s : List ℕ) → 0 < length s → is_blank (get_or s 0 0) ≡ true → scan Between (drop 1 s) ≡ scan Between s
 scan_past_blank [] h k = absurd (omega arith)
 scan_past_blank (b ∷ bs) h k = rw (k) refl
+
+other : (b k : ℕ) → (b ≡ k → ⊥) → (b == k) ≡ false
+other b k h = grind (arith, nat_tests)
+
+same : (b k : ℕ) → b ≡ k → (b == k) ≡ true
+same b k h = grind (arith, nat_tests)
+
+-- what a text begins with that begins with no blank
+pub starts_quote : (s : List ℕ) → 0 < length s → get_or s 0 0 ≡ 34 → scan Between s ≡ scan (InQuote []) (drop 1 s)
+starts_quote [] h k = absurd (omega arith)
+starts_quote (b ∷ bs) h k = rw k refl
+
+pub starts_word : (s : List ℕ) → is_blank (get_or s 0 0) ≡ false → (get_or s 0 0 ≡ 34 → ⊥) → 0 < length s → scan Between s ≡ scan (InWord []) s
+starts_word [] k m h = absurd (omega arith)
+starts_word (b ∷ bs) k m h = rw (k, other b 34 m) refl
+
+-- a word goes on, breaks the rules, or ends at a blank
+module _ (s : List ℕ) (n : ℕ) (z : List Lexeme) (begun : scan (InWord (take n s)) (drop n s) ≡ z) where
+  pub word_more : n < length s → is_blank (get_or s n 0) ≡ false → (get_or s n 0 ≡ 34 → ⊥) → scan (InWord (take (n + 1) s)) (drop (n + 1) s) ≡ z
+  word_more h k m = rw (take_more s n 0 h) (sym (rw (k, other _ 34 m) at (scan_word_at (take n s) s n h)) ∙ begun)
+
+  pub word_bad : n < length s → is_blank (get_or s n 0) ≡ false → get_or s n 0 ≡ 34 → z ≡ Bad ∷ []
+  word_bad h k m = sym begun ∙ rw (k, same _ 34 m) at (scan_word_at (take n s) s n h)
+
+  pub word_ends : n < length s → is_blank (get_or s n 0) ≡ true → z ≡ Word (take n s) ∷ scan Between (drop n s)
+  word_ends h k = sym begun ∙ rw k at (scan_word_at (take n s) s n h) ∙ sym (ap (λ ls. Word (take n s) ∷ ls) (rw k at (scan_between_at s n h)))
+
+  pub word_last : length s ≤ n → z ≡ Word (take n s) ∷ scan Between (drop n s)
+  word_last h = sym begun ∙ rw (drop_all n s h) refl
+
+-- a quoted token goes on, ends, or breaks the rules
+module _ (s : List ℕ) (n : ℕ) (z : List Lexeme) (begun : scan (InQuote (take n s)) (drop n s) ≡ z) where
+  pub quote_more : n < length s → (get_or s n 0 ≡ 34 → ⊥) → 32 ≤ get_or s n 0 → scan (InQuote (take (n + 1) s)) (drop (n + 1) s) ≡ z
+  quote_more h m k = rw (take_more s n 0 h) (sym (rw (other _ 34 m, above _ k) at (scan_quote_at (take n s) s n h)) ∙ begun)
+    where
+      above : (b : ℕ) → 32 ≤ b → nat_lt b 32 ≡ false
+      above b k = grind (arith, nat_tests)
+
+  pub quote_ends : n < length s → get_or s n 0 ≡ 34 → scan (AfterQuote (take n s)) (drop (n + 1) s) ≡ z
+  quote_ends h m = sym (rw (same _ 34 m) at (scan_quote_at (take n s) s n h)) ∙ begun
+
+  pub quote_bad : n < length s → get_or s n 0 < 32 → z ≡ Bad ∷ []
+  quote_bad h k = sym begun ∙ rw (other (get_or s n 0) 34 (λ m. omega arith), below _ k) at (scan_quote_at (take n s) s n h)
+    where
+      below : (b : ℕ) → b < 32 → nat_lt b 32 ≡ true
+      below b k = grind (arith, nat_tests)
+
+  pub quote_open : length s ≤ n → z ≡ Bad ∷ []
+  quote_open h = sym begun ∙ rw (drop_all n s h) refl
+
+-- a blank is ASCII
+pub blank_is_low : (b : ℕ) → is_blank b ≡ true → b < 128
+blank_is_low b h = grind (arith, nat_tests)

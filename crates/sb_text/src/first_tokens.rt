@@ -32,7 +32,6 @@ fn without_blanks(text: &str) -> &str
 }
 
 // The word that the text begins with, and what follows it.
-#[tactic(auto, using(crate::proofs::Scans::scan_word_at))]
 fn word<'a>(text: &'a str) -> (Token<'a>, &'a str)
     requires some { 0 < length text.now }
     requires starts { is_blank (slice_index text.now 0) ≡ false }
@@ -51,7 +50,6 @@ fn word<'a>(text: &'a str) -> (Token<'a>, &'a str)
 }
 
 // The text up to the next quote, and what follows that.
-#[tactic(auto, using(crate::proofs::Scans::scan_quote_at))]
 fn quoted<'a>(text: &'a str) -> (Token<'a>, &'a str)
     ensures token { scan (InQuote []) text.now ≡ lexeme_of result.0 ∷ tokens_of result.1.now }
     ensures shorter { length result.1.now ≤ length text.now }

@@ -3,3 +3,4 @@ pub mod Paths
 pub mod Printable
 pub mod Quotes
 pub mod Padding
+pub mod Kept

@@ -1,5 +1,6 @@
 // How units are written between quotes.
 ghost use Rattle.std.specs.Prelude.{◌≡◌, ◌^◌, ◌<◌, ◌++◌, ◌≤◌, length, take, vec_len, OnOk, OnErr};
+ghost use Rattle.std.specs.List.{flat_map};
 ghost use Rattle.sb_wide.specs.Quoting.{quoted, quoted_unit, hex_digit};
 
 use sb_items::NoMemory;
@@ -61,10 +62,19 @@ fn append_quoted(out: &mut Vec<u8>, units: &[u16]) -> Result<(), NoMemory>
     ensures err { OnErr result (take (vec_len out.old) out.new.items ≡ out.old.items) }
 {
     out.push(b'"')?;
+    append_units(out, units)?;
+    out.push(b'"')?;
+    Ok(())
+}
+
+// Appends the units as they stand between quotes. After an error `out` begins with what it held.
+fn append_units(out: &mut Vec<u8>, units: &[u16]) -> Result<(), NoMemory>
+    ensures ok { OnOk result (out.new.items ≡ out.old.items ++ flat_map quoted_unit units.now) }
+    ensures err { OnErr result (take (vec_len out.old) out.new.items ≡ out.old.items) }
+{
     for unit in units {
         append_unit(out, *unit)?;
     }
-    out.push(b'"')?;
     Ok(())
 }
 

@@ -32,3 +32,19 @@ loop-work-preserved g c =
       c.take.ensures.own,
       subst (λ slots. IsGathering g.W.Numbered.number g.W.Numbered.home homes (c.loop-work._work + 1) (seen c.take.new.self) slots) (sym put) more,
     )
+
+-- all works are drawn
+pub establish_all_out-requires-clause-all : goal.establish_all_out-requires-clause-all
+establish_all_out-requires-clause-all g c =
+    let size : c.len-work-end.result ≡ length c.args.rooms = c.len-work-end.ensures in
+    let out = c.loop-work.invariant.1.out in
+    let left = c.loop-work-test.false in
+    let end = c.loop-work.auto._work-end in
+    let long = c.requires.rooms in
+    rw c.loop-work.invariant.1.same (omega (arith, size, out, left, end, long))
+
+pub returns : goal.returns
+returns g c = (
+  c.loop-work.invariant.1.places,
+  λ n below. c.loop-work.invariant.1.placed n (c.establish_all_out.ensures.all n (rw c.loop-work.invariant.1.same below)),
+)

@@ -1,4 +1,7 @@
-use Rattle.std.proofs.Common.{◌∙◌, sym, length-set, Some}
+use Rattle.std.proofs.Common.{◌∙◌, sym, subst, length-set, Some}
+use Rattle.std.proofs.lemmas.Bool.{false≢true}
+use Rattle.std.specs.Prelude.{IsSome}
+use Rattle.sb_arena.proofs.Readers.{value_read}
 use Rattle.sb_arena.proofs.Freeing.{set_kept}
 use Rattle.sb_arena.proofs.arena.Arena.set.Goals as goal
 
@@ -12,3 +15,12 @@ invariant_of-self g c =
       kept,
       c.self.invariant.4,
     )
+
+pub unreachable-requires : goal.unreachable-requires
+unreachable-requires g c =
+    let none = value_read c.self.inside.links.items c.self.inside.values.items c.self.inside.free.items c.args.self.now c.self.view_is (c.self.invariant.0, c.self.invariant.1) c.args.node.0 c.requires c.index_mut.result.now c.index_mut.ensures.value ∙ sym c.in-None.ensures.value in
+    absurd (false≢true (subst (λ o. IsSome o) none c.requires))
+
+pub returns-clause-value : goal.returns-clause-value
+returns-clause-value g c =
+    value_read c.self.inside.links.items c.self.inside.values.items c.self.inside.free.items c.args.self.now c.self.view_is (c.self.invariant.0, c.self.invariant.1) c.args.node.0 c.requires c.index_mut.result.now c.index_mut.ensures.value ∙ sym c.in-Some.ensures.value

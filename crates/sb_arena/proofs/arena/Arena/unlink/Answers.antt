@@ -1,9 +1,16 @@
 use Rattle.std.proofs.Common.{rules, ◌≡◌, Some}
 use Rattle.sb_arena.specs.Links.{at}
+use Rattle.sb_arena.proofs.Readers.{live_in}
 use Rattle.sb_arena.proofs.Unlinking.{unlink_parent, unlink_prev, unlink_next, unlink_sound, unlink_whole}
 use Rattle.sb_arena.proofs.Freeing.{unlink_kept}
 use Rattle.sb_arena.proofs.Rooting.{unlink_rooted}
 use Rattle.sb_arena.proofs.arena.Arena.unlink.Goals as goal
+
+pub link_of-requires : goal.link_of-requires
+link_of-requires g c = rw c.deref.ensures.value (live_in c.self.inside.links.items c.self.inside.values.items c.self.inside.free.items c.args.self.now c.self.view_is (c.self.invariant.0, c.self.invariant.1) c.args.child.0 c.requires)
+
+pub unlink_from-requires-clause-child : goal.unlink_from-requires-clause-child
+unlink_from-requires-clause-child g c = live_in c.self.inside.links.items c.self.inside.values.items c.self.inside.free.items c.args.self.now c.self.view_is (c.self.invariant.0, c.self.invariant.1) c.args.child.0 c.requires
 
 pub unlink_from-requires-clause-parent : goal.unlink_from-requires-clause-parent
 unlink_from-requires-clause-parent g c =
