@@ -71,7 +71,7 @@ noted (stray_store x) b w = (w, x) ∷ []
 noted (stray_exchange from to) b w = if b then (w, to) ∷ [] else []
 noted d b w = []
 
--- a value that a step shows, behind so many stores of its own seat
+-- a value that a step shows, behind this many stores of its own seat
 abbrev pub shown : ℕ → ℕ → ℕ → List Shown
 shown w n before = record { word = w; value = n; before = before } ∷ []
 

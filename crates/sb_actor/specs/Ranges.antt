@@ -21,7 +21,7 @@ IsSoundStage (Give taken reply) = IsReplyTo taken reply
 IsSoundStage (Reply taken reply at) = (at < 12) × IsReplyTo taken reply
 IsSoundStage (Ack taken reply) = IsReplyTo taken reply
 
--- and of a thread with this patience and this block, on so many channels: it is at one of them, its rounds and loads are fewer than the
+-- and of a thread with this patience and this block, on this many channels: it is at one of them, its rounds and loads are fewer than the
 -- patience, and what it fills and fetches lies within the block and the reply
 abbrev pub IsSoundThreadStage : ℕ → ℕ → List ℕ → ThreadStage → Type 0
 IsSoundThreadStage channels patience block (thread.Try c rounds fives) = (c < channels) × (rounds < patience) × (0 < length block)

@@ -11,7 +11,7 @@ use Rattle.sb_actor.specs.declared.views.View.{View}
 use Rattle.sb_actor.specs.declared.views.View.TheVariants.{Worker, Thread, Stray, Spent}
 use Rattle.sb_actor.specs.declared.views.WorkerView.{WorkerView}
 
--- both parts, of so many channels
+-- both parts, of this many channels
 pub record Parts (channels : ℕ) (words : List ℕ) (views : List View) (worker : WorkerView) : Type 0 where
   pub origins : Origins words views worker
   pub counts : Counts channels words views worker

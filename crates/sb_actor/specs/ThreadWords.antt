@@ -4,7 +4,7 @@ use Rattle.sb_actor.specs.ThreadStages.{ThreadStage, Try, Fill, Send, Wait, Fetc
 use Rattle.sb_actor.specs.WorkerTable.{IsWithin}
 use Rattle.sb_actor.specs.declared.acts.Act.{Act}
 
--- in a call each step is on a word of one of so many channels; a statement that names a word says itself which
+-- in a call each step is on a word of one of this many channels; a statement that names a word says itself which
 abbrev pub IsCallWithin : ℕ → ThreadStage → Act → Type 0
 IsCallWithin channels (Try c rounds fives) act = IsWithin channels act
 IsCallWithin channels (Fill c i) act = IsWithin channels act

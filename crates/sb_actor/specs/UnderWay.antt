@@ -22,7 +22,7 @@ IsCallStage (Abandon c) = Unit {0}
 IsCallStage (Stray loads most) = ⊥
 IsCallStage Over = ⊥
 
--- the stage of a statement that names a word and makes at most so many loads
+-- the stage of a statement that names a word and makes at most this many loads
 abbrev pub IsStrayStage : ℕ → ThreadStage → Type 0
 IsStrayStage n (Try c rounds fives) = ⊥
 IsStrayStage n (Fill c i) = ⊥

@@ -12,7 +12,7 @@ use Rattle.sb_actor.specs.declared.views.WorkerPlace.{WorkerPlace}
 use Rattle.sb_actor.specs.declared.views.WorkerPlace.TheVariants.{Look, Count, End, Copy, Copied as Whole, Reply}
 use Rattle.sb_actor.specs.declared.views.WorkerView.{WorkerView}
 
--- a value that was shown, behind so many stores
+-- a value that was shown, behind this many stores
 abbrev pub shown_at : ℕ → ℕ → ℕ → Shown
 shown_at w n before = record { word = w; value = n; before = before }
 
@@ -40,7 +40,7 @@ abbrev pub ServedNotes : ℕ → Served → List Shown → List (ℕ × ℕ) →
 ServedNotes before x shows stores =
     CopyShows x.channel before x.taken shows × ((more : List (ℕ × ℕ)) × (stores ≡ reply_stored x.channel 0 x.reply ++ more) × ((more ≡ []) ⊎ (more ≡ (at x.channel 0, 4) ∷ [])))
 
--- of several, in order, behind so many stores
+-- of several, in order, behind this many stores
 abbrev pub AllServedNotes : ℕ → List Served → List Shown → List (ℕ × ℕ) → Type 0
 AllServedNotes before [] shows stores = (shows ≡ []) × (stores ≡ [])
 AllServedNotes before (x ∷ xs) shows stores =

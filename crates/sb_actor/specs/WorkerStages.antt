@@ -15,7 +15,7 @@ pub data WorkerStage : Type 0 where
   Reply : Copied → List ℕ → ℕ → WorkerStage
   Ack : Copied → List ℕ → WorkerStage
 
--- a worker of a target with so many channels, at one of them
+-- a worker of a target with this many channels, at one of them
 pub record WorkerAt : Type 0 where
   pub target : ℕ
   pub channels : ℕ

@@ -113,11 +113,11 @@ is_looking (Give taken reply) = false
 is_looking (Reply taken reply at) = false
 is_looking (Ack taken reply) = false
 
--- the word of one of so many channels
+-- the word of one of this many channels
 abbrev pub IsWordWithin : ℕ → Word → Type 0
 IsWordWithin channels word = (word.channel < channels) × (word.at ≤ 64)
 
--- a step on a word of one of so many channels, or on the turn
+-- a step on a word of one of this many channels, or on the turn
 abbrev pub IsWithin : ℕ → Act → Type 0
 IsWithin channels (act.Load target word) = IsWordWithin channels word
 IsWithin channels (act.Store target word value) = IsWordWithin channels word

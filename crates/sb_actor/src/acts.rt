@@ -18,7 +18,7 @@ pub const ACKNOWLEDGED: u64 = 4;
 pub const ABANDONED: u64 = 5;
 
 /// The one next step of an actor. Each is atomic. Targets and channels are numbered from 0.
-#[derive(Clone, Copy, Debug, PartialEq, Eq)]
+#[derive(Clone, Copy)]
 pub enum Act {
     /// It loads a word of a target's channels.
     Load {
@@ -49,7 +49,7 @@ pub enum Act {
 }
 
 /// What a step found.
-#[derive(Debug, Drop, PartialEq)]
+#[derive(Drop)]
 pub enum Seen {
     /// The value that a load or an exchange found.
     Value(u64),

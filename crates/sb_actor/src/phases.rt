@@ -1,7 +1,7 @@
 // Where actors stand, as numbers. What belongs to a phase lies in the fields of the actor.
 
 /// Where a worker stands, named by its next step.
-#[derive(Clone, Copy, Debug, PartialEq, Eq)]
+#[derive(Clone, Copy)]
 pub(crate) enum WorkerPhase {
     Look,
     Count,
@@ -15,7 +15,7 @@ pub(crate) enum WorkerPhase {
 }
 
 /// Where a thread stands within its statement, named by its next step.
-#[derive(Clone, Copy, Debug, PartialEq, Eq)]
+#[derive(Clone, Copy)]
 pub(crate) enum ThreadPhase {
     Try,
     Fill,

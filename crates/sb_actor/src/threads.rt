@@ -29,7 +29,7 @@ use std::marker::Model;
 
 /// A thread of a target, which makes its statements one after another: a call tries to take a channel, fills it with its block,
 /// hands it over, waits for the reply, fetches it and frees the channel. Contracts see where it stands with what belongs to that.
-#[derive(Debug, Drop)]
+#[derive(Drop)]
 pub struct ThreadState {
     target: u32,
     thread: u32,

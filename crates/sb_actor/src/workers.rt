@@ -13,7 +13,7 @@ use std::mem;
 
 /// The worker of a target, which serves its channels in turn: it looks for one whose block is whole, copies the block word by
 /// word, has the book answer the copy, and stores the reply. Contracts see where it stands with what belongs to that.
-#[derive(Debug, Drop)]
+#[derive(Drop)]
 pub struct WorkerState {
     target: u32,
     channels: u32,

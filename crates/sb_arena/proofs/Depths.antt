@@ -9,7 +9,7 @@ use Rattle.sb_arena.proofs.ChainLemmas.{Below, few}
 use Rattle.sb_arena.proofs.LinkLaws.{same_of}
 
 module _ (rows : List Row) where
-  -- so many steps up, and then so many more
+  -- this many steps up, and then that many more
   ancestor_more : (j k : ℕ) (o : Option ℕ) → ancestor rows (j + k) o ≡ ancestor rows k (ancestor rows j o)
   ancestor_more zero k None = refl
   ancestor_more zero k (Some n) =
@@ -43,7 +43,7 @@ module _ (rows : List Row) where
           let none : None ≡ Some n = sym (above_none k (suc d - k) (Some n) h) ∙ ap (λ x. ancestor rows x (Some n)) parts ∙ loops in
           absurd (cc)
 
-  -- the first so many nodes on the path upwards
+  -- the first this many nodes on the path upwards
   abbrev path : ℕ → Option ℕ → List ℕ
   path k None = []
   path zero (Some n) = []

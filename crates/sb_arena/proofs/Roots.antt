@@ -1,4 +1,4 @@
--- Each node is so many steps below a root.
+-- Each node is a number of steps below a root.
 use Rattle.std.proofs.Common.{◌≡◌, ◌≢◌, ℕ, ◌<◌, ◌==◌, Bool, true, false, cond, zero, suc, refl, sym, ◌∙◌, ap, List, [], ◌∷◌, ◌++◌, length, set, length-set}
 use Rattle.std.specs.Prelude.{Option, None, Some}
 use Rattle.sb_arena.specs.Forests.{Row, bare_row, row_at, rows_with, rows_without, without, ancestor, IsRooted}

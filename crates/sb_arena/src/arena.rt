@@ -7,18 +7,18 @@ use std::alloc::{AllocError, Global};
 use std::marker::Model;
 
 /// A node, by its number. A number may be given again after its node was freed.
-#[derive(Clone, Copy, Debug, PartialEq, Eq)]
+#[derive(Clone, Copy, Debug)]
 pub struct NodeId(pub u64);
 
 /// Out of memory for a node. The value comes back.
-#[derive(Debug, Drop)]
+#[derive(Drop)]
 pub struct AddRefused<T> {
     /// The value that was to be added.
     pub value: T,
 }
 
 /// Nodes with values, linked as trees: a node has at most one parent, and its children are in order. Only `add` takes memory.
-#[derive(Debug, Drop)]
+#[derive(Drop)]
 pub struct Arena<T> {
     links: Vec<Link>,
     values: Vec<Option<T>>,

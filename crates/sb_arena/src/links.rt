@@ -3,7 +3,7 @@ ghost use Rattle.std.specs.Prelude.{◌≡◌, ◌<◌, ℕ, Some, None, IfSome,
 ghost use Rattle.sb_arena.specs.Links.{no_link, next_linked, at, linked, unlinked, joined_on, joined_back, with_parent, with_first, with_last, with_next, with_prev};
 
 // The links of a node: its parent, its first and last child, and its neighbours among the children of its parent.
-#[derive(Clone, Copy, Debug)]
+#[derive(Clone, Copy)]
 pub(crate) struct Link {
     pub(crate) parent: Option<u64>,
     pub(crate) first: Option<u64>,

@@ -14,7 +14,7 @@ use sb_rule::Judge;
 use sb_wide::NoMemory;
 use std::alloc::Global;
 
-/// Answers so many copies by a new book: those of the first thread's calls, and of the first of them with one of four
+/// Answers this many copies by a new book: those of the first thread's calls, and of the first of them with one of four
 /// faults, in turn and again from the first. A close of handle 0, which is never granted, stands for one of the handle that
 /// was granted last.
 pub fn answers(alloc: Global, inputs: &Inputs, count: u64) -> Result<String, Failure> {
@@ -23,7 +23,7 @@ pub fn answers(alloc: Global, inputs: &Inputs, count: u64) -> Result<String, Fai
     told_outcomes(alloc, book.entries())
 }
 
-/// A new book after so many copies were answered.
+/// A new book after this many copies were answered.
 #[tactic(auto, using(crate::proofs::Ready::ready_made))]
 pub fn answered(
     alloc: Global,
@@ -43,7 +43,7 @@ pub fn answered(
     Ok(book)
 }
 
-// Answers so many copies: those of the steps in turn, and again from the first.
+// Answers this many copies: those of the steps in turn, and again from the first.
 fn answer_steps<J: Judge>(
     alloc: Global,
     judge: &J,

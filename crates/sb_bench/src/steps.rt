@@ -45,7 +45,7 @@ fn step_of(statement: &Statement, mark: u64) -> Result<Step, Failure> {
         return Err(Failure::BadInput);
     };
     match (*tag, args.as_slice()) {
-        (CallTag::HandleClose, [Arg::Num(0)]) => Ok(Step::CloseLast),
+        (CallTag::HandleClose, [arg]) if matches!(arg, Arg::Num(0)) => Ok(Step::CloseLast),
         (tag, args) => Ok(Step::Copy(copy_of_call(tag, args, mark)?)),
     }
 }

@@ -15,7 +15,7 @@ use std::alloc::Global;
 use thiserror::Error;
 
 /// A call with the caller's mark.
-#[derive(Debug, Drop, PartialEq)]
+#[derive(Drop)]
 pub struct Call {
     /// What is to be done.
     pub tag: CallTag,
@@ -26,7 +26,7 @@ pub struct Call {
 }
 
 /// Why a copy gave no call.
-#[derive(Clone, Copy, Debug, PartialEq, Eq, Error)]
+#[derive(Clone, Copy, Debug, Error)]
 pub enum BlockRefused {
     /// The copy has this as its first fault.
     #[error("the block is faulty: {0}")]

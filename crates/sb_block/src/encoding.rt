@@ -18,7 +18,7 @@ use sb_call::{Arg, CallTag, ParamKind, fits, number_of, shape};
 use thiserror::Error;
 
 /// The block of a call would need more than 64 words.
-#[derive(Clone, Copy, Debug, PartialEq, Eq, Error)]
+#[derive(Clone, Copy, Debug, Error)]
 #[error("the call needs more than 64 words")]
 pub struct TooBig;
 

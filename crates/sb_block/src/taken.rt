@@ -12,7 +12,7 @@ use std::marker::Model;
 /// A count above 9 ends the copying at once: the end is then 0 and there are no words. An end
 /// below `16 + count` or above 64 ends it too, and there are no words. Otherwise there are as many
 /// words as the end says. Contracts see a record of count, end and the list of words.
-#[derive(Debug, Drop, PartialEq)]
+#[derive(Drop, PartialEq)]
 pub struct Taken {
     count: u64,
     end: u64,

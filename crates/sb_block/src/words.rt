@@ -6,7 +6,7 @@ use arrayvec::ArrayVec;
 use std::marker::Model;
 
 /// At most 64 words of a block. Contracts see the list of the words.
-#[derive(Debug, Drop)]
+#[derive(Drop)]
 pub struct Words {
     items: ArrayVec<u64, 64>,
 }

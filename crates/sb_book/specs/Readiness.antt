@@ -8,7 +8,7 @@ use Rattle.sb_kernel.specs.Openings.{opened}
 use Rattle.sb_rule.specs.WellMade.{are_well_made}
 use Rattle.sb_rule.specs.declared.policies.Policy.{Policy}
 
--- the policy of a target is one of so many
+-- the policy of a target is one of this many
 abbrev pub is_judged : ℕ → TargetScript → Bool
 is_judged count target = nat_lt target.policy count
 

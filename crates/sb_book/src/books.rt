@@ -18,7 +18,6 @@ use sb_kernel::{Kernel, StartRefused};
 use sb_rule::Policies;
 use sb_statements::{Script, StartLine};
 use std::alloc::Global;
-use std::fmt;
 use std::marker::Model;
 use std::snapshot::Snapshot;
 
@@ -53,16 +52,6 @@ impl Model for Book {
     ghost view = { λ b. record { setting = setting_of b.policies.value.list b.script.value; space = b.kernel; entries = b.entries.items } };
 
     ghost invariant = { λ b. IsHistory (record { setting = setting_of b.policies.value.list b.script.value; space = b.kernel; entries = b.entries.items }) };
-}
-
-// By hand: a snapshot has nothing to show.
-impl fmt::Debug for Book {
-    fn fmt<W: fmt::Write>(&self, f: &mut fmt::Formatter<W>) -> fmt::Result {
-        f.debug_struct("Book")
-            .field("kernel", &self.kernel)
-            .field("entries", &self.entries)
-            .finish()
-    }
 }
 
 // A fault's number alone.

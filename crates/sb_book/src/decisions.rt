@@ -12,7 +12,7 @@ use sb_wide::NoMemory;
 use std::alloc::Global;
 
 /// What the broker decides of the copy of a parameter block.
-#[derive(Debug)]
+#[derive(PartialEq)]
 pub enum Decision {
     /// The block has a fault, the first that stands in the copy.
     Refused(BlockFault),
@@ -35,7 +35,7 @@ pub enum Decision {
     },
 }
 
-// What a decision holds is dropped by one call, as of a book.
+// What a decision holds is dropped by one call, as with a book.
 impl Drop for Decision {
     fn drop(self) {
         match self {

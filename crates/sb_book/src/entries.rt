@@ -6,7 +6,6 @@ use sb_call::Reply;
 use sb_items::Items;
 
 /// One answered block: whose it was, the copy that was taken of it, the decision and the reply.
-#[derive(Debug, Drop)]
 pub struct Entry {
     /// The number of the target, from 0.
     pub target: u32,
@@ -18,6 +17,19 @@ pub struct Entry {
     pub decision: Decision,
     /// What was replied.
     pub reply: Reply,
+}
+
+// By hand, so that it is proved here once and not at each place that drops one.
+impl Drop for Entry {
+    fn drop(self) {
+        let Entry {
+            target: _,
+            channel: _,
+            taken: _,
+            decision: _,
+            reply: _,
+        } = self;
+    }
 }
 
 /// Entries, in the order in which they were answered.

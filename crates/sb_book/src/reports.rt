@@ -22,7 +22,6 @@ pub type AllWords = Items<WordList>;
 
 /// What a run gives: the whole history, one result for each statement that ended, the channel words at its end, and the namespace
 /// that the history led to.
-#[derive(Debug, Drop)]
 pub struct Report {
     /// The whole history.
     pub entries: Entries,
@@ -32,4 +31,16 @@ pub struct Report {
     pub words: AllWords,
     /// The namespace, and the handles to it.
     pub kernel: Kernel,
+}
+
+// By hand, so that it is proved here once and not at each place that drops one.
+impl Drop for Report {
+    fn drop(self) {
+        let Report {
+            entries: _,
+            results: _,
+            words: _,
+            kernel: _,
+        } = self;
+    }
 }

@@ -5,7 +5,7 @@ use arrayvec::ArrayVec;
 use std::marker::Model;
 
 /// The extended words of an answer, at most seven.
-#[derive(Debug, Drop)]
+#[derive(Drop)]
 pub struct Extended {
     items: ArrayVec<u64, 7>,
 }
@@ -95,7 +95,7 @@ impl PartialEq for Extended {
 }
 
 /// What a service answers to a call that it performed.
-#[derive(Debug, Drop, PartialEq)]
+#[derive(Drop, PartialEq)]
 pub struct Answer {
     /// A Windows status code.
     pub status: u32,
@@ -107,7 +107,7 @@ pub struct Answer {
 
 /// What a target is replied to a call. The words are as they stand in the channel, so a reply that
 /// was stored by hand may have any.
-#[derive(Debug, Drop, PartialEq)]
+#[derive(Drop, PartialEq)]
 pub struct Reply {
     /// The mark of the call that is answered.
     pub mark: u64,

@@ -7,7 +7,7 @@ use arrayvec::ArrayVec;
 use std::marker::Model;
 
 /// A name of 1 to 32 of the characters `a` to `z`, `0` to `9` and `_`.
-#[derive(Debug, Drop)]
+#[derive(Drop)]
 pub struct ShortName {
     bytes: ArrayVec<u8, 32>,
 }

@@ -30,7 +30,7 @@ pub enum CallTag {
 }
 
 /// What a parameter of a call is.
-#[derive(Clone, Copy, Debug, PartialEq, Eq)]
+#[derive(Clone, Copy, Debug)]
 pub enum ParamKind {
     /// A wide string without a further rule.
     Text,

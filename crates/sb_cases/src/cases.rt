@@ -13,7 +13,7 @@ use std::mem;
 use std::sync::Wait;
 use std::thread::Threads;
 
-// The output takes so many bytes where no row says otherwise.
+// The output takes this many bytes where no row says otherwise.
 const ROOM: u64 = 2_000_000;
 
 /// What the rows of a case refer to.
@@ -142,7 +142,7 @@ impl Case {
         Err(RowFault::NoSuchFile)
     }
 
-    // Appends the bytes of a row so many times.
+    // Appends the bytes of a row this many times.
     fn take_times(&mut self, times: u64, row: &str) -> Result<(), RowFault> {
         let Some(begun) = &mut self.begun else {
             return Err(RowFault::NoFile);

@@ -6,7 +6,7 @@ use std::sync::Wait;
 use std::sync::atomic::{AtomicU64, Ordering};
 use std::thread::yield_now;
 
-// For so many turns at most a call is held.
+// For this many turns at most a call is held.
 const TURNS: u32 = 10_000_000;
 
 /// A gate that holds the first call of each of the first targets until the first call of each other of them has come, for a stated number of

@@ -2,7 +2,7 @@
 
 use std::alloc::{AllocError, Global};
 
-/// Which lines of a text are printed: so many from its beginning and from its end.
+/// Which lines of a text are printed: this many from its beginning and from its end.
 #[derive(Clone, Copy)]
 pub struct Ends {
     pub first: u64,

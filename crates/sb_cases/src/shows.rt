@@ -37,7 +37,7 @@ pub fn put_outcome(
     let code = exit_code(status);
     let counts = counts(alloc, &outcome.report)?;
     page.put_line(format!(in alloc; "exit {code} reads {reads}{counts}")?.as_str())?;
-    if status != Status::Done {
+    if !matches!(status, Status::Done) {
         let complaint = Complaint { status };
         page.put_line(format!(in alloc; "{complaint}")?.as_str())?;
     }

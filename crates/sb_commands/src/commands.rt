@@ -9,7 +9,7 @@ use sb_wide::NoMemory;
 use std::alloc::Global;
 
 /// A command with the names of its files, or with its numbers.
-#[derive(Clone, Copy, Debug)]
+#[derive(Clone, Copy)]
 pub enum CommandWords<'a> {
     /// Policies are read, and printed.
     Check {

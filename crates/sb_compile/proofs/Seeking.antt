@@ -72,7 +72,7 @@ grows_by test more zero u us h = more u us h
 grows_by test more (suc n) u [] h = ap test (drop-nil n) ∙ h
 grows_by test more (suc n) u (v ∷ us) h = grows_by test more n v us h
 
--- where the rest after the first place of a fragment passes, what follows so many units passes
+-- where the rest after the first place of a fragment passes, what follows this many units passes
 first_passes : (test : List ℕ → Bool) → Grows test → (run : List Cell) (us : List ℕ)
     → holds_of test (after_first true run us) ≡ true → test (drop (length run) us) ≡ true
 first_passes test more run [] h = one_passes (after_fragment true run []) (fragment_rest run []) h
@@ -111,7 +111,7 @@ first_place run later (u ∷ us) free =
     ∙ first_enough test (after_fragment true run (u ∷ us)) (after_first true run us)
     (λ rest e h. ap test (sym (fragment_rest run (u ∷ us) rest e)) ∙ grows_by test more (length run) u us (first_passes test more run us h))
 
--- so many units
+-- this many units
 pub units_none : (us : List ℕ) → after_units 0 us ≡ Some us
 units_none us = let e : leb 0 (length us) ≡ true = grind (arith, nat_tests) in ap (λ b. cond b (Some us) None) e
 
@@ -185,7 +185,7 @@ free_whole (Lit w ∷ run) (u ∷ us) free =
     by true e = e
     by false e = sym (never (eqb (length run) (length us)))
 
--- the last place before which so many units are left
+-- the last place before which this many units are left
 end_step : (run : List Cell) (u : ℕ) (us : List ℕ) (low same high : Bool)
     → leb (length run) (length us) ≡ low → eqb (length run) (suc (length us)) ≡ same → leb (length run) (suc (length us)) ≡ high
     → ((same && is_some (after_fragment true run (u ∷ us))) || is_some (cond low (after_fragment true run (drop (length us - length run) us)) None))

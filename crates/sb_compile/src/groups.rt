@@ -10,7 +10,7 @@ use sb_wide::NoMemory;
 
 // What the opcodes of one condition have in common: the parameter at which they look, and whether what they say is turned
 // round.
-#[derive(Clone, Copy, Debug)]
+#[derive(Clone, Copy)]
 pub(crate) struct Group {
     /// The number of the parameter, from 0.
     pub param: u32,
@@ -54,7 +54,7 @@ pub(crate) fn push(
 }
 
 impl Group {
-    // Appends an opcode of the group, which may be its last.
+    /// Appends an opcode of the group, which may be its last.
     pub fn push(
         self,
         code: &mut Code,

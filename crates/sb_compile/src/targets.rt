@@ -22,7 +22,7 @@ pub type PolicyNumbers = Items<u32>;
 
 /// Judges the calls of targets by the programs of their policies, each compiled once. Contracts see the policies of the
 /// targets, which are well made.
-#[derive(Debug, Drop)]
+#[derive(Drop)]
 pub struct Programs<'a> {
     // The policies that were compiled.
     policies: &'a Policies,

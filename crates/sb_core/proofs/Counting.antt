@@ -1,4 +1,4 @@
--- Lists of the first so many, one more each time.
+-- Lists of the first this many, one more each time.
 use Rattle.std.proofs.Common.{◌≡◌, refl, ℕ, suc, ◌+◌, List, [], ◌∷◌, ◌++◌}
 use native.Mathlib.Numerals.{unary_clauses}
 use Rattle.std.specs.Prelude.{slice_get}
@@ -28,7 +28,7 @@ actors_next targets n = refl
 pub actors_more : (targets : List TargetScript) (n : ℕ) → first_actors targets (n + 1) ≡ first_actors targets n ++ target_actors targets n
 actors_more targets n = simp unary_clauses (actors_next targets n)
 
--- a list of the first so many
+-- a list of the first this many
 listed_next : {X : Type 0} (f : ℕ → X) (g : ℕ → List X) → ((m : ℕ) → g (suc m) ≡ g m ++ f m ∷ []) → (n : ℕ) → g (n + 1) ≡ g n ++ f n ∷ []
 listed_next f g more n = simp unary_clauses (more n)
 

@@ -59,7 +59,7 @@ pub drains_keep : DrainsKeep
 drains_keep script w kept runs =
     let both = both_drained script most_passes w (record { kept = kept; runs = runs }) in (both.kept, both.runs)
 
--- sums of lists of so many, each no longer than so much
+-- sums of lists of this many, each no longer than so much
 runs_sum : (runs : List RunAt) → ((k : ℕ) → k < length runs → length (get_or runs k no_run).results ≤ 4096)
     → results_in (map (λ x. x.results) runs) ≤ length runs * 4096
 runs_sum [] each = lit≤ tt

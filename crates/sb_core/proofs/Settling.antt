@@ -584,7 +584,7 @@ pass_turn w (suc n) kept l idle =
     itself : (n : ℕ) → n ≤ n
     itself n = omega arith
 
--- the first of so many workers that is not idle, if there is one
+-- the first of this many workers that is not idle, if there is one
 first_busy : (w : WorldAt) (n : ℕ)
     → ((u : ℕ) → u < n → is_idle w u ≡ true) ⊎ ((i : ℕ) × (i < n) × (is_idle w i ≡ false) × ((u : ℕ) → u < i → is_idle w u ≡ true))
 first_busy w zero = inl (λ u l. absurd (omega (arith, l)))
@@ -682,7 +682,7 @@ unsettled_falls w kept busy = by_turn w.shared.turn refl
         pass_falls w holder (length w.workers) kept (itself (length w.workers)) l
         (holder_moves (pass_below holder w).shared.turn _ (worker_at (pass_below holder w) holder).stage stays)
 
--- so many passes settle a world with so many steps left
+-- this many passes settle a world with this many steps left
 settled_case : (b : Bool) (u v : WorldAt) → (b ≡ true → is_settled u ≡ true) → (b ≡ false → is_settled v ≡ true) → is_settled (elim b [ true ↦ u | false ↦ v ]) ≡ true
 settled_case true u v f g = f refl
 settled_case false u v f g = g refl

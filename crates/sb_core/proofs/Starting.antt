@@ -36,7 +36,7 @@ ready_sound policies script h =
     let some = and_parts (is_sound script && made) judged all.0 in
     (and_parts (is_sound script) made some.0).0
 
--- lists of the first so many
+-- lists of the first this many
 module _ {X : Type 0} (f : ℕ → X) (g : ℕ → List X) (none : g zero ≡ []) (more : (n : ℕ) → g (suc n) ≡ g n ++ f n ∷ []) where
   pub so_many : (n : ℕ) → length (g n) ≡ n
   so_many zero = ap (λ (l : List X). length l) none

@@ -9,7 +9,7 @@ use Rattle.sb_statements.specs.declared.statements.Word.{Word}
 abbrev pub free_channel : List ℕ
 free_channel = free ∷ replicate 64 0
 
--- the words of so many channels at the start
+-- the words of this many channels at the start
 abbrev pub free_channels : ℕ → List ℕ
 free_channels zero = []
 free_channels (suc n) = free_channels n ++ free_channel

@@ -13,7 +13,7 @@ use sb_rule::Judge;
 use sb_statements::{Actor, Script};
 use std::alloc::Global;
 
-// Steps of one actor, so many.
+// This many steps of one actor.
 fn repeat<J: Judge>(
     alloc: Global,
     judge: &J,
@@ -87,7 +87,7 @@ fn make_round<J: Judge>(
     Ok(())
 }
 
-/// At most so many rounds, while a thread is unfinished. A round is made whole before the threads are looked at again. After an error
+/// At most this many rounds, while a thread is unfinished. A round is made whole before the threads are looked at again. After an error
 /// the world is that of the steps so far.
 ///
 /// # Errors

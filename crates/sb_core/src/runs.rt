@@ -18,7 +18,7 @@ use sb_statements::{Schedule, Script, sound_parts};
 use std::alloc::Global;
 
 /// What a run gives.
-#[derive(Debug, Drop)]
+#[derive(Drop)]
 pub struct Ran {
     /// The history, the results, the channel words and the namespace.
     pub report: Report,

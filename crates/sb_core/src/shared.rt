@@ -17,7 +17,7 @@ use std::alloc::Global;
 use std::marker::Model;
 
 /// The channel words of each target, the target whose worker has the turn, and the book.
-#[derive(Debug, Drop)]
+#[derive(Drop)]
 pub(crate) struct Shared {
     pub(crate) words: Vec<TargetWords>,
     pub(crate) turn: Option<u32>,

@@ -18,7 +18,7 @@ use std::alloc::Global;
 use std::marker::Model;
 
 /// A thread, and the results of its statements that ended, by place.
-#[derive(Debug, Drop)]
+#[derive(Drop)]
 pub(crate) struct ThreadRun {
     state: ThreadState,
     results: Vec<StmtResult>,
@@ -90,7 +90,7 @@ impl ThreadRun {
 }
 
 /// The threads of a target, numbered from 0. Contracts see them as a list.
-#[derive(Debug, Drop)]
+#[derive(Drop)]
 pub(crate) struct TargetThreads {
     runs: Vec<ThreadRun>,
 }

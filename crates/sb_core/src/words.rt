@@ -14,7 +14,7 @@ const CHANNEL: usize = 65;
 /// The words of a target's channels: word j of channel c stands at `c * 65 + j`. Contracts see them as a list.
 ///
 /// Each load, store and exchange stands for one atomic step of the actor that makes it. Actors here take turns, step by step.
-#[derive(Debug, Drop)]
+#[derive(Drop)]
 pub(crate) struct TargetWords {
     words: Vec<u64>,
 }
@@ -47,7 +47,7 @@ fn place_of(word: Word, len: usize) -> usize
 }
 
 impl TargetWords {
-    /// The words of so many free channels.
+    /// The words of this many free channels.
     ///
     /// # Errors
     /// `NoMemory` where there was none for the words.

@@ -29,7 +29,7 @@ use std::marker::Model;
 /// their results. Every number in it is in its range, each thread has one result for each statement that ended, and the turn is with a
 /// worker exactly while that is at Mark or Give. A world that was started with a script stays one of it under its steps and drains, and
 /// so keeps rule S for each target where the strings of the script's calls are made of units (`worlds_of_scripts_keep_rule`).
-#[derive(Debug, Drop)]
+#[derive(Drop)]
 pub struct World {
     pub(crate) shared: Shared,
     pub(crate) workers: Vec<WorkerState>,

@@ -19,7 +19,7 @@ FitsAt fold cells units place =
 abbrev pub FirstFitsAt : Bool → List Cell → List ℕ → ℕ → Type 0
 FirstFitsAt fold cells units place = FitsAt fold cells units place × ((before : ℕ) → before < place → FitsAt fold cells units before → ⊥)
 
--- Skip leaves what follows the fragment, exactly where it fits so many units on
+-- Skip leaves what follows the fragment, exactly where it fits this many units on
 abbrev pub SkipLeavesWhatFollows : Type 0
 SkipLeavesWhatFollows = (fold : Bool) (cells : List Cell) (units rest : List ℕ) (n : ℕ)
     → (after_seek (Skip n) fold cells units ≡ Some rest) ↔ (FitsAt fold cells units n × (rest ≡ drop (n + length cells) units))

@@ -14,10 +14,16 @@ use std::alloc::Global;
 use std::marker::Model;
 
 /// The events that were ever made, each under its name. Names are compared folded, and have no parents.
-#[derive(Debug, Drop)]
 pub struct EventService {
     rows: NameMap<EventRow>,
     made: u64,
+}
+
+// By hand, so that it is proved here once and not at each place that drops one.
+impl Drop for EventService {
+    fn drop(self) {
+        let EventService { rows: _, made: _ } = self;
+    }
 }
 
 impl Model for EventService {

@@ -1,7 +1,7 @@
 // What is kept of an event.
 
 /// An event.
-#[derive(Clone, Copy, Debug, PartialEq, Eq)]
+#[derive(Clone, Copy)]
 pub struct EventRow {
     /// Its number among all events ever made, from 1.
     pub number: u64,

@@ -87,7 +87,7 @@ share_of request = record { access = request.access; sharing = request.sharing }
 abbrev pub object_asked : FileRequest → FileObject
 object_asked request = record { kind = kind_of (wants_directory request); attributes = request.attributes }
 
--- why no handle was granted is a conflict, and no want of memory
+-- why no handle was granted is a conflict, and not that memory ran out
 abbrev pub is_violation : ShareRefused → Bool
 is_violation (share_refused.Conflict handle) = true
 is_violation share_refused.NoMemory = false

@@ -3,7 +3,7 @@ ghost use Rattle.std.specs.Prelude.{◌≡◌};
 ghost use Rattle.sb_file.specs.Files.{is_directory, kind_of, kind_number};
 
 /// A file or a directory.
-#[derive(Clone, Copy, Debug, PartialEq, Eq)]
+#[derive(Clone, Copy)]
 pub enum FileKind {
     /// A file.
     File,
@@ -45,7 +45,7 @@ impl FileKind {
 }
 
 /// A file or directory, apart from its name.
-#[derive(Clone, Copy, Debug, PartialEq, Eq)]
+#[derive(Clone, Copy)]
 pub struct FileObject {
     /// Which of the two it is.
     pub kind: FileKind,

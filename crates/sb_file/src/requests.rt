@@ -27,7 +27,7 @@ const DIRECTORY_OPTION: u64 = 1;
 const NON_DIRECTORY_OPTION: u64 = 0x40;
 
 /// What a file.create asks for beside the name.
-#[derive(Clone, Copy, Debug, PartialEq, Eq)]
+#[derive(Clone, Copy)]
 pub struct FileRequest {
     /// The attributes of what is made, or whose content is replaced, as a mask.
     pub attributes: u64,

@@ -8,7 +8,7 @@ use std::marker::Model;
 const INCREMENT: u64 = 0x9E37_79B9_7F4A_7C15;
 
 /// A number that rises before each statement, and from whose highest bits the statement is made.
-#[derive(Debug, Drop)]
+#[derive(Drop)]
 pub struct Generator {
     number: u64,
 }

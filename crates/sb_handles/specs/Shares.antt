@@ -80,7 +80,7 @@ left shares handle = filter (λ row. not (row.0.1 == handle)) shares
 abbrev pub share_on : Shares → ℕ → ℕ → Option Share
 share_on shares object handle = lookup (λ key. key.0 == object && key.1 == handle) shares
 
--- a refusal that an answer may have: the lowest conflict, or want of memory
+-- a refusal that an answer may have: the lowest conflict, or that memory ran out
 abbrev pub IsRefusal : Option ℕ → ShareRefused → Type 0
 IsRefusal conflict (refused.Conflict handle) = conflict ≡ Some handle
 IsRefusal conflict refused.NoMemory = ⊤

@@ -3,7 +3,7 @@
 use thiserror::Error;
 
 /// The service to which an object belongs.
-#[derive(Clone, Copy, Debug, PartialEq, Eq)]
+#[derive(Clone, Copy)]
 pub enum Service {
     /// Files and directories.
     File,
@@ -16,7 +16,7 @@ pub enum Service {
 }
 
 /// An object of a service.
-#[derive(Clone, Copy, Debug, PartialEq, Eq)]
+#[derive(Clone, Copy)]
 pub struct Object {
     /// The service that made it.
     pub service: Service,
@@ -25,7 +25,7 @@ pub struct Object {
 }
 
 /// What stands behind a handle.
-#[derive(Clone, Copy, Debug, PartialEq, Eq)]
+#[derive(Clone, Copy)]
 pub struct Held {
     /// The object.
     pub object: Object,
@@ -36,7 +36,7 @@ pub struct Held {
 }
 
 /// A handle that a target holds.
-#[derive(Clone, Copy, Debug, PartialEq, Eq)]
+#[derive(Clone, Copy)]
 pub struct OpenHandle {
     /// The number of the target, from 0.
     pub target: u32,
@@ -47,7 +47,7 @@ pub struct OpenHandle {
 }
 
 /// How an open handle stands to others of its object.
-#[derive(Clone, Copy, Debug, PartialEq, Eq)]
+#[derive(Clone, Copy)]
 pub struct Share {
     /// The access of the handle, as a mask.
     pub access: u64,
@@ -56,12 +56,12 @@ pub struct Share {
 }
 
 /// The target holds no handle of that number.
-#[derive(Clone, Copy, Debug, PartialEq, Eq, Error)]
+#[derive(Clone, Copy, Debug, Error)]
 #[error("handle not held")]
 pub struct NotHeld;
 
 /// Why an object was not opened.
-#[derive(Clone, Copy, Debug, PartialEq, Eq, Error)]
+#[derive(Clone, Copy, Debug, Error)]
 pub enum ShareRefused {
     /// An open handle conflicts.
     #[error("conflict with handle {handle}")]

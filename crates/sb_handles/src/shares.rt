@@ -82,12 +82,21 @@ fn take_out(
 /// An access reads, writes or deletes, each also by a generic right; any other takes no part. Sharing is 1 for reading, 2
 /// for writing and 4 for deleting. A new access conflicts with an open handle of the same object where it does what the
 /// handle does not share, or the handle does what the new one does not share.
-#[derive(Debug, Drop)]
 pub struct ShareTable {
     // By object and handle.
     shares: BTreeMap<(u64, u64), Share>,
     // The same by handle and object.
     handles: BTreeMap<(u64, u64), ()>,
+}
+
+// By hand, so that it is proved here once and not at each place that drops one.
+impl Drop for ShareTable {
+    fn drop(self) {
+        let ShareTable {
+            shares: _,
+            handles: _,
+        } = self;
+    }
 }
 
 impl Model for ShareTable {

@@ -9,7 +9,7 @@ use std::alloc::Global;
 use std::marker::Model;
 
 // What stands behind an open handle.
-#[derive(Clone, Copy, Debug)]
+#[derive(Clone, Copy)]
 pub(crate) struct Slot {
     target: u32,
     held: Held,
@@ -18,10 +18,16 @@ pub(crate) struct Slot {
 /// The handles that targets hold, in the order of their granting, and how many were ever granted.
 ///
 /// A handle has the number that it was granted as, from 1, over all targets. No number is granted twice.
-#[derive(Debug, Drop)]
 pub struct HandleTable {
     // The handle of number n stands at place n - 1, and is gone once it is closed.
     slots: Vec<Option<Slot>>,
+}
+
+// By hand, so that it is proved here once and not at each place that drops one.
+impl Drop for HandleTable {
+    fn drop(self) {
+        let HandleTable { slots: _ } = self;
+    }
 }
 
 impl Model for HandleTable {

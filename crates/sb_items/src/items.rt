@@ -7,9 +7,15 @@ use std::alloc::Global;
 use std::marker::Model;
 
 /// A list of values. Contracts see it as the list of what the values are.
-#[derive(Debug, Drop)]
 pub struct Items<T> {
     items: Vec<T>,
+}
+
+// By hand, so that it is proved here once and not at each place that drops one.
+impl<T: Drop> Drop for Items<T> {
+    fn drop(self) {
+        let Items { items: _ } = self;
+    }
 }
 
 impl<T> Model for Items<T> {
@@ -35,7 +41,8 @@ impl<T> Items<T> {
     pub fn into_items(self) -> Vec<T>
         ensures { result.items ≡ self }
     {
-        self.items
+        let Items { items } = self;
+        items
     }
 
     /// The items, in order.

@@ -10,7 +10,7 @@ use Rattle.sb_kernel.specs.Held.{AreHeld}
 use Rattle.sb_kernel.specs.Namespaces.{Space}
 use Rattle.sb_statements.specs.Limits.{most_start_lines}
 
--- each service made at most so many objects
+-- each service made at most this many objects
 pub record MadeAtMost (n : ℕ) (ns : Space) : Type 0 where
   pub files : length ns.files.objects ≤ n
   pub pipes : ns.pipes.made ≤ n

@@ -54,7 +54,7 @@ space_or_empty (Err at) = empty_space
 abbrev pub opening : List StartLine → Space
 opening lines = space_or_empty (opened lines)
 
--- a refusal is the place of the first object that cannot be placed, or want of memory
+-- a refusal is the place of the first object that cannot be placed, or that memory ran out
 abbrev pub IsStartRefused : Result Space ℕ → StartRefused → Type 0
 IsStartRefused wanted (BadStart at) = wanted ≡ Err at
 IsStartRefused wanted refused.NoMemory = ⊤

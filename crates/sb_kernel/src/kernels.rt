@@ -33,7 +33,6 @@ use std::marker::Model;
 /// The namespace that the broker keeps: files, pipes, registry keys and events, and the handles that targets hold on them.
 ///
 /// What a call does to it is this project's profile of the Windows services of these names, with the Windows status codes.
-#[derive(Debug)]
 pub struct Kernel {
     files: FileService,
     pipes: PipeService,

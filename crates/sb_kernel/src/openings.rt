@@ -11,7 +11,7 @@ use std::alloc::Global;
 use thiserror::Error;
 
 /// Why there is no opening namespace.
-#[derive(Clone, Copy, Debug, PartialEq, Eq, Error)]
+#[derive(Clone, Copy, Debug, Error)]
 pub enum StartRefused {
     /// The object at this place, from 0, cannot be placed: its parent is missing or no directory, or its name is taken.
     #[error("object {at} of the opening cannot be placed")]

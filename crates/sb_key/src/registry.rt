@@ -21,10 +21,16 @@ const OPENED_EXISTING_KEY: u64 = 2;
 
 /// The keys that were ever made, each under its name. Names are compared folded; a key of one component stands below the
 /// root, which is always there and is no key.
-#[derive(Debug, Drop)]
 pub struct KeyService {
     names: NameTree,
     made: u64,
+}
+
+// By hand, so that it is proved here once and not at each place that drops one.
+impl Drop for KeyService {
+    fn drop(self) {
+        let KeyService { names: _, made: _ } = self;
+    }
 }
 
 impl Model for KeyService {

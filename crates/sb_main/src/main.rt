@@ -30,7 +30,7 @@ fn main(rt: HostRuntime) -> ExitCode {
 fn end<R: Eprint>(rt: &R, status: Status) -> ExitCode
     ensures { exit_status result ≡ code_of status }
 {
-    if status != Status::Done {
+    if !matches!(status, Status::Done) {
         let _ = rt.eprintln(Complaint { status });
     }
     ExitCode::from(exit_code(status))

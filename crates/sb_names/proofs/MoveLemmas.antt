@@ -2,7 +2,7 @@
 use Rattle.std.proofs.Common.{◌≡◌, ◌<◌, ◌≤◌, ◌+◌, ℕ, zero, suc, refl, ap, arith, List, [], ◌∷◌, ◌++◌, length, take, drop, get_or, set, map}
 use Rattle.sb_wide.specs.Wide.{folded}
 
--- with the first so many units folded
+-- with the first this many units folded
 abbrev pub folded_to : ℕ → List ℕ → List ℕ
 folded_to n us = map folded (take n us) ++ drop n us
 

@@ -32,7 +32,7 @@ key_at f n = key_by (value_at f n)
 abbrev pub object_at : Nodes → ℕ → Option ℕ
 object_at f n = option_map (λ w. w.object) (value_at f n)
 
--- the folded components on the path from the root to a node, each after a `\`, of so many nodes at most
+-- the folded components on the path from the root to a node, each after a `\`, of this many nodes at most
 abbrev pub name_up : Nodes → ℕ → Option ℕ → List ℕ
 name_up f k None = []
 name_up f zero (Some n) = []

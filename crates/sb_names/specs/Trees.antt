@@ -83,7 +83,7 @@ renamed rows from to =
     else (if is_there rows to then Err fault.Exists
     else Ok (moved rows from to))))
 
--- a fault that an answer may have: the one that is wanted, or want of memory
+-- a fault that an answer may have: the one that is wanted, or that memory ran out
 abbrev pub IsFault : Result (Rows ℕ) TreeFault → TreeFault → Type 0
 IsFault wanted fault.NoMemory = ⊤
 IsFault wanted other = wanted ≡ Err other

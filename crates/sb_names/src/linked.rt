@@ -22,12 +22,22 @@ const BACKSLASH: u16 = 92;
 /// The names of objects, each in a directory that is there; the root is there always, and is no name of its own.
 ///
 /// Names are compared folded. Each call walks the components of a name from the root, and finds each by an index.
-#[derive(Debug, Drop)]
 pub struct NameTree {
     pub(crate) nodes: Arena<NameNode>,
     // Each node under the hash of its directory and component.
     pub(crate) index: BTreeMap<(u64, u64), ()>,
     pub(crate) alloc: Global,
+}
+
+// By hand, so that it is proved here once and not at each place that drops one.
+impl Drop for NameTree {
+    fn drop(self) {
+        let NameTree {
+            nodes: _,
+            index: _,
+            alloc: _,
+        } = self;
+    }
 }
 
 impl Model for NameTree {

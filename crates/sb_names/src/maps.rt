@@ -17,10 +17,16 @@ use std::alloc::Global;
 use std::marker::Model;
 
 /// A map from names to values. Names are compared folded, and no spelling is kept.
-#[derive(Debug, Drop)]
 pub struct NameMap<V> {
     // Folded names with their values, in rising order.
     rows: Vec<(Wide, V)>,
+}
+
+// By hand, so that it is proved here once and not at each place that drops one.
+impl<V: Drop> Drop for NameMap<V> {
+    fn drop(self) {
+        let NameMap { rows: _ } = self;
+    }
 }
 
 impl<V> Model for NameMap<V> {

@@ -11,7 +11,7 @@ use crate::maps::place;
 use sb_wide::{NoMemory, Wide, fold};
 use std::alloc::Global;
 
-// A name in the place of the first so many units of a key.
+// A name in the place of the first this many units of a key.
 fn in_place(alloc: Global, key: &[u16], len: usize, to: &[u16]) -> Result<Wide, NoMemory>
     ensures { IfOk result (λ name. name ≡ to.now ++ drop len key.now) }
 {

@@ -71,7 +71,7 @@ plain_record head param first second later =
     if head / 2 ^ 16 == 0 then option_map (λ kind. (opcode_in head param kind, later)) (plain_kind (kind_part head) first second)
     else None
 
--- a record with so many cells, and the words after it
+-- a record with this many cells, and the words after it
 abbrev pub text_record : ℕ → ℕ → ℕ → ℕ → List ℕ → Option (Opcode × List ℕ)
 text_record head param count second later =
     if second == 0 && nat_le count (length later) && list_all is_cell_word (take count later)
@@ -86,7 +86,7 @@ first_record (head ∷ param ∷ first ∷ second ∷ later) =
     else plain_record head param first second later)
 first_record _ = None
 
--- the opcodes of words that are records, at most so many of them
+-- the opcodes of words that are records, at most this many of them
 abbrev pub unpacked_within : ℕ → List ℕ → Option (List Opcode)
 unpacked_within n [] = Some []
 unpacked_within zero (word ∷ words) = None

@@ -20,9 +20,15 @@ use std::marker::Model;
 /// order and the seeks from `Skip` 0 to `ToEnd` 2, and seek and skip are 0 where there are none. The second word is the
 /// parameter. The third and the fourth are the number and 0, `lo` and `hi`, the mask and 0, the number of cells and 0, the
 /// number of the action and the line, or 0 and 0. A cell is one word: a unit is itself, `?` is 65536, `*` is 65537.
-#[derive(Debug, Drop)]
 pub struct Code {
     words: Vec<u64>,
+}
+
+// By hand, so that it is proved here once and not at each place that drops one.
+impl Drop for Code {
+    fn drop(self) {
+        let Code { words: _ } = self;
+    }
 }
 
 impl Model for Code {
@@ -230,7 +236,8 @@ impl Code {
     pub fn into_words(self) -> Vec<u64>
         ensures { result.items ≡ packed self }
     {
-        self.words
+        let Code { words } = self;
+        words
     }
 
     /// The records of the opcodes, in order.

@@ -3,7 +3,7 @@ use thiserror::Error;
 
 /// Why a code is not one for a call. The first of these by their order is told, and the lowest place of it. Places count
 /// opcodes from 0.
-#[derive(Clone, Copy, Debug, PartialEq, Eq, Error)]
+#[derive(Clone, Copy, Debug, Error)]
 pub enum CodeFault {
     /// There is no opcode, or the last is no action.
     #[error("the code does not end with an action")]
@@ -20,7 +20,7 @@ pub enum CodeFault {
 }
 
 /// Why words are no code for a call.
-#[derive(Clone, Copy, Debug, PartialEq, Eq, Error)]
+#[derive(Clone, Copy, Debug, Error)]
 pub enum WordsFault {
     /// The words are the packing of no list of opcodes.
     #[error("not packed opcodes")]

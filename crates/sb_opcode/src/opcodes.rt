@@ -7,9 +7,9 @@ use sb_rule::Action;
 
 /// Where in a string the fragment of a text opcode is to stand. The position is 0 at the beginning of a group, and after
 /// an opcode it is where that opcode's fragment ended.
-#[derive(Clone, Copy, Debug, PartialEq, Eq)]
+#[derive(Clone, Copy, Debug)]
 pub enum Seek {
-    /// So many units after the position.
+    /// This many units after the position.
     Skip(u16),
     /// At the first place from the position on where it fits.
     Forward,
@@ -21,7 +21,6 @@ pub enum Seek {
 pub type Cells = Items<Cell>;
 
 /// What an opcode does.
-#[derive(Debug, Drop, PartialEq)]
 pub enum OpKind {
     /// Never holds.
     False,
@@ -39,8 +38,22 @@ pub enum OpKind {
     Act { action: Action, line: u32 },
 }
 
+// By hand, so that it is proved here once and not at each place that drops one.
+impl Drop for OpKind {
+    fn drop(self) {
+        match self {
+            OpKind::False => {}
+            OpKind::True => {}
+            OpKind::Num(_) => {}
+            OpKind::Range { lo: _, hi: _ } => {}
+            OpKind::Mask(_) => {}
+            OpKind::Text { cells: _, seek: _ } => {}
+            OpKind::Act { action: _, line: _ } => {}
+        }
+    }
+}
+
 /// An opcode: what it does, the parameter of the call that it looks at, and its options.
-#[derive(Debug, Drop, PartialEq)]
 pub struct Opcode {
     /// What it does.
     pub kind: OpKind,
@@ -48,4 +61,15 @@ pub struct Opcode {
     pub param: u32,
     /// The options.
     pub options: Options,
+}
+
+// By hand, so that it is proved here once and not at each place that drops one.
+impl Drop for Opcode {
+    fn drop(self) {
+        let Opcode {
+            kind: _,
+            param: _,
+            options: _,
+        } = self;
+    }
 }

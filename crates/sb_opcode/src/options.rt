@@ -4,7 +4,7 @@ ghost use Rattle.std.specs.Prelude.{⊤, ◌∷◌, [], codes};
 use bitflags::{Flag, Flags, bitflag_items};
 
 /// The options of an opcode, a set of bits. Bits that have no name are kept and mean nothing.
-#[derive(Clone, Copy, Debug, PartialEq, Eq)]
+#[derive(Clone, Copy, Debug)]
 pub struct Options(u8);
 
 bitflag_items! {

@@ -17,7 +17,7 @@ const TEXT: u64 = 5;
 const LAST_CELL: u64 = 65537;
 
 /// What an opcode does, as its record says it: as `OpKind`, but that the cells of a fragment are words.
-#[derive(Clone, Copy, Debug, PartialEq, Eq)]
+#[derive(Clone, Copy, Debug)]
 pub enum RecordKind<'a> {
     /// Never holds.
     False,
@@ -36,7 +36,7 @@ pub enum RecordKind<'a> {
 }
 
 /// An opcode as it stands in words. It takes no memory.
-#[derive(Clone, Copy, Debug, PartialEq, Eq)]
+#[derive(Clone, Copy, Debug)]
 pub struct Record<'a> {
     /// What it does.
     pub kind: RecordKind<'a>,
@@ -221,7 +221,7 @@ fn passed_known(words: &[u64]) -> Option<(bool, &[u64])>
 }
 
 /// The opcodes that are left of packed words, each as its record. Contracts see the list of these opcodes.
-#[derive(Debug, Drop)]
+#[derive(Drop)]
 pub struct Records<'a> {
     rest: &'a [u64],
 }

@@ -13,10 +13,16 @@ use sb_call::CallTag;
 use std::marker::Model;
 
 /// A code without a fault for the calls of one tag.
-#[derive(Debug, Drop)]
 pub struct Verified {
     tag: CallTag,
     code: Code,
+}
+
+// By hand, so that it is proved here once and not at each place that drops one.
+impl Drop for Verified {
+    fn drop(self) {
+        let Verified { tag: _, code: _ } = self;
+    }
 }
 
 impl Model for Verified {
@@ -49,7 +55,7 @@ impl Verified {
 }
 
 /// A code that was refused, and why.
-#[derive(Debug, Drop)]
+#[derive(Drop)]
 pub struct VerifyRefused {
     /// The code, given back.
     pub code: Code,
@@ -73,7 +79,7 @@ pub fn verify(tag: CallTag, code: Code) -> Result<Verified, VerifyRefused>
 }
 
 /// Words that were refused, and why.
-#[derive(Debug, Drop)]
+#[derive(Drop)]
 pub struct WordsRefused {
     /// The words, given back.
     pub words: WordList,

@@ -6,7 +6,7 @@ use std::alloc::Global;
 use thiserror::Error;
 
 /// Why a file was not read.
-#[derive(Clone, Copy, Debug, PartialEq, Eq, Error)]
+#[derive(Clone, Copy, Debug, Error)]
 pub enum FileFault {
     /// There is no file of this name.
     #[error("no such file")]

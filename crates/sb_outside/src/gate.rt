@@ -9,7 +9,7 @@ pub trait Gate: Sync {
 }
 
 /// A gate that lets each call pass at once.
-#[derive(Clone, Copy, Debug)]
+#[derive(Clone, Copy)]
 pub struct OpenGate;
 
 impl Gate for OpenGate {

@@ -8,9 +8,15 @@ use std::marker::Model;
 pub type Bytes = Items<u8>;
 
 /// A text, seen as its bytes.
-#[derive(Debug, Drop)]
 pub struct Text {
     text: String,
+}
+
+// By hand, so that it is proved here once and not at each place that drops one.
+impl Drop for Text {
+    fn drop(self) {
+        let Text { text: _ } = self;
+    }
 }
 
 impl Model for Text {
@@ -50,7 +56,8 @@ impl Text {
     pub fn into_string(self) -> String
         ensures { string_bytes result ≡ self }
     {
-        self.text
+        let Text { text } = self;
+        text
     }
 
     /// The text.

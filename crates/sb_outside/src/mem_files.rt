@@ -8,12 +8,22 @@ use sb_items::Items;
 use std::alloc::Global;
 
 /// A file in memory.
-#[derive(Debug, Drop, PartialEq)]
+#[derive(PartialEq)]
 pub struct StoredFile {
     /// Its name.
     pub name: Text,
     /// Its whole content.
     pub content: Bytes,
+}
+
+// By hand, so that it is proved here once and not at each place that drops one.
+impl Drop for StoredFile {
+    fn drop(self) {
+        let StoredFile {
+            name: _,
+            content: _,
+        } = self;
+    }
 }
 
 /// A list of files in memory.
@@ -32,7 +42,7 @@ fn content_of<'a>(files: &'a [StoredFile], name: &str) -> Option<&'a Bytes>
 }
 
 /// Files in memory. They tell what they hold.
-#[derive(Debug, Drop)]
+#[derive(Drop)]
 pub struct MemFiles {
     /// The files. Of several with equal names the first counts.
     pub files: FileList,

@@ -12,13 +12,25 @@ use std::marker::Model;
 ///
 /// The calls of `put` whose number, from 1, stands in `fails` write nothing and answer `Failed`. A put that does not fit
 /// writes what fits and answers `Failed`. The numbers of calls and of faults stay at their last values.
-#[derive(Debug, Drop)]
 pub struct MemSink {
     bytes: Vec<u8>,
     room: u64,
     fails: Numbers,
     calls: u64,
     faults: u64,
+}
+
+// By hand, so that it is proved here once and not at each place that drops one.
+impl Drop for MemSink {
+    fn drop(self) {
+        let MemSink {
+            bytes: _,
+            room: _,
+            fails: _,
+            calls: _,
+            faults: _,
+        } = self;
+    }
 }
 
 impl Model for MemSink {

@@ -6,7 +6,7 @@ use crate::lists::Bytes;
 use thiserror::Error;
 
 /// Why bytes were not written.
-#[derive(Clone, Copy, Debug, PartialEq, Eq, Error)]
+#[derive(Clone, Copy, Debug, Error)]
 pub enum SinkFault {
     /// The output did not take all of them.
     #[error("the output failed")]

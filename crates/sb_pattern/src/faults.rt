@@ -6,7 +6,7 @@ use sb_wide::NoMemory;
 use thiserror::Error;
 
 /// Why a text is no pattern. Indices count the text's units from 0.
-#[derive(Clone, Copy, Debug, PartialEq, Eq, Error)]
+#[derive(Clone, Copy, Debug, Error)]
 pub enum PatternFault {
     /// The `*` at this index is followed by `*`.
     #[error("two stars at {0}")]
@@ -33,7 +33,7 @@ impl PatternFault {
 }
 
 /// Why there is no pattern of a text.
-#[derive(Clone, Copy, Debug, PartialEq, Eq, Error)]
+#[derive(Clone, Copy, Debug, Error)]
 pub enum PatternRefused {
     /// The text has this fault.
     #[error("no pattern: {0}")]

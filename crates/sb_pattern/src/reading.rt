@@ -86,10 +86,10 @@ fn append_cell(units: &mut Vec<u16>, cell: &Cell) -> Result<(), NoMemory>
     ensures { OnOk result (units.new.items ≡ units.old.items ++ cell_text cell.now) }
 {
     match cell {
-        Cell::Lit(63) => units.extend_from_slice(&[47, 63])?,
+        Cell::Lit(QUESTION) => units.extend_from_slice(&[SLASH, QUESTION])?,
         Cell::Lit(unit) => units.push(*unit)?,
-        Cell::One => units.push(63)?,
-        Cell::Any => units.push(42)?,
+        Cell::One => units.push(QUESTION)?,
+        Cell::Any => units.push(STAR)?,
     }
     Ok(())
 }

@@ -18,12 +18,18 @@ use std::marker::Model;
 /// The pipes, each with its number of instances, and how many were ever made.
 ///
 /// Pipe names have no parents and are compared folded. A pipe is gone with its last handle.
-#[derive(Debug, Drop)]
 pub struct PipeService {
     // The pipes that are there.
     rows: NameMap<PipeRow>,
     // The name under which each pipe was made: that of pipe n at place n - 1, until it is gone.
     names: Vec<Option<Wide>>,
+}
+
+// By hand, so that it is proved here once and not at each place that drops one.
+impl Drop for PipeService {
+    fn drop(self) {
+        let PipeService { rows: _, names: _ } = self;
+    }
 }
 
 impl Model for PipeService {
@@ -237,7 +243,7 @@ impl PipeService {
     /// Makes a pipe of this name and grants a handle on it, or grants one handle more on the pipe that is there. The statuses
     /// are those of Windows' `NtCreateNamedPipeFile`.
     ///
-    /// The mode is 1 to 3, the form 0 or 1, and the instances are 1 to 255: so many handles the pipe may have. Statuses, the
+    /// The mode is 1 to 3, the form 0 or 1, and the instances are 1 to 255: the pipe may have this many handles. Statuses, the
     /// first that applies: invalid parameter where one of them is out of range; access denied where the pipe was made with
     /// others; instance not available where it has as many handles as it may have; success, with the number of its handles
     /// now as the extended word.

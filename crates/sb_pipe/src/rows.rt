@@ -1,7 +1,7 @@
 // What is kept of a pipe.
 
 /// A pipe.
-#[derive(Clone, Copy, Debug, PartialEq, Eq)]
+#[derive(Clone, Copy)]
 pub struct PipeRow {
     /// Its number among all pipes ever made, from 1.
     pub number: u64,

@@ -9,20 +9,27 @@ use crate::rooms::Rooms;
 use crate::seats::{PoolSeat, Queue};
 use std::alloc::{AllocError, Global};
 use std::marker::Model;
+use std::mem;
 use std::sync::Wait;
 
 /// The error of `Pool::new`: out of memory. The works come back.
-#[derive(Debug, Drop)]
+#[derive(Drop)]
 pub struct PoolRefused<W> {
     /// The works that were to be dealt.
     pub works: Vec<W>,
 }
 
 /// A queue of works, which are numbered from 0. Threads draw and hand back works with seats.
-#[derive(Drop)]
 pub struct Pool<W: Numbered> {
     pub(crate) queue: Queue<W>,
     alloc: Global,
+}
+
+// By hand, so that it is proved here once and not at each place that drops one.
+impl<W: Numbered> Drop for Pool<W> {
+    fn drop(self) {
+        let Pool { queue: _, alloc: _ } = self;
+    }
 }
 
 impl<W: Numbered> Model for Pool<W> {
@@ -153,11 +160,8 @@ impl<W: Numbered> Pool<W> {
         ensures homes { map W.home result.items ≡ (seen seat).homes }
     {
         let Pool { queue, alloc } = self;
-        let PoolSeat { pass, rooms } = seat;
-        let seat = PoolSeat {
-            pass,
-            rooms: Rooms::none(alloc),
-        };
+        let mut seat = seat;
+        let rooms = mem::replace(&mut seat.rooms, Rooms::none(alloc));
         gather(rt, &queue, seat, rooms).into_works()
     }
 }

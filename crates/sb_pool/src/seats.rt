@@ -17,11 +17,17 @@ use std::sync::Wait;
 pub(crate) type Queue<W> = RuledArrayQueue<W, PoolView<<W as Numbered>::Home>, OnceEach<W>>;
 
 /// A seat of a pool, for one thread at a time.
-#[derive(Drop)]
 pub struct PoolSeat<W: Numbered> {
     pub(crate) pass: Pass<W, PoolView<W::Home>>,
     // Where the works are put in order at the end: with the seat that keeps count. Another has none.
     pub(crate) rooms: Rooms<W>,
+}
+
+// By hand, so that it is proved here once and not at each place that drops one.
+impl<W: Numbered> Drop for PoolSeat<W> {
+    fn drop(self) {
+        let PoolSeat { pass: _, rooms: _ } = self;
+    }
 }
 
 impl<W: Numbered> PoolSeat<W> {

@@ -6,10 +6,10 @@ use std::alloc::{AllocError, AllocFailed};
 use thiserror::Error;
 
 /// What is wrong with a row.
-#[derive(Clone, Copy, Debug, PartialEq, Eq, Error)]
+#[derive(Clone, Copy, Debug, Error)]
 pub enum RowFault {
     /// No function has this name and this number of arguments.
-    #[error("no such function of so many arguments")]
+    #[error("no function of this name takes that many arguments")]
     Unknown,
     /// A number is neither decimal nor hexadecimal behind `0x`, or too large.
     #[error("bad number")]

@@ -23,7 +23,7 @@ pub fn number(text: &str) -> Result<u64, RowFault> {
     read.map_err(|_| RowFault::BadNumber)
 }
 
-/// Units: the letters of the text, where `{d800}` is the unit of this number and `{61*300}` so many of them.
+/// Units: the letters of the text, where `{d800}` is the unit of this number and `{61*300}` this many of them.
 pub fn wide(alloc: Global, text: &str) -> Result<Wide, RowFault> {
     let mut found = Vec::new(alloc);
     let mut parts = text.split('{');

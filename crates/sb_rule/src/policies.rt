@@ -7,7 +7,7 @@ use sb_items::{Copies, Items, NoMemory};
 use std::alloc::Global;
 
 /// A rule: for the calls of one tag for which all its conditions hold, an action.
-#[derive(Debug, Drop, PartialEq)]
+#[derive(PartialEq)]
 pub struct Rule {
     /// The calls that it is for.
     pub tag: CallTag,
@@ -17,6 +17,18 @@ pub struct Rule {
     pub action: Action,
     /// The line of the policy text on which it stands, from 1.
     pub line: u32,
+}
+
+// By hand, so that it is proved here once and not at each place that drops one.
+impl Drop for Rule {
+    fn drop(self) {
+        let Rule {
+            tag: _,
+            conds: _,
+            action: _,
+            line: _,
+        } = self;
+    }
 }
 
 impl Copies for Rule {
@@ -34,12 +46,19 @@ impl Copies for Rule {
 pub type Rules = Items<Rule>;
 
 /// A policy.
-#[derive(Debug, Drop, PartialEq)]
+#[derive(PartialEq)]
 pub struct Policy {
     /// Its name.
     pub name: ShortName,
     /// Its rules.
     pub rules: Rules,
+}
+
+// By hand, so that it is proved here once and not at each place that drops one.
+impl Drop for Policy {
+    fn drop(self) {
+        let Policy { name: _, rules: _ } = self;
+    }
 }
 
 impl Copies for Policy {
@@ -55,7 +74,7 @@ impl Copies for Policy {
 pub type PolicyList = Items<Policy>;
 
 /// The policies that targets name by their numbers.
-#[derive(Debug, PartialEq)]
+#[derive(PartialEq)]
 pub struct Policies {
     /// The policies, numbered from 0.
     pub list: PolicyList,

@@ -23,7 +23,7 @@ excess (Word w ∷ tokens) = TooMany
 excess (Quoted q ∷ tokens) = TooMany
 excess _ = UnknownWord
 
--- an item, and further ones behind this word: at most so many
+-- an item, and further ones behind this word: at most this many
 unfoldable pub joined_at : {A : Type 0} → ℕ → List ℕ → (List Lexeme → Read A TextKind) → List Lexeme → Read (List A) TextKind
 joined_at zero joint item_at tokens = Err (excess tokens)
 joined_at (suc n) joint item_at tokens = do

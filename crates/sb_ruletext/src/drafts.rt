@@ -16,7 +16,7 @@ use std::marker::Model;
 use std::mem;
 
 /// The policies so far. The last of them is the one to which rules are added.
-#[derive(Debug, Drop)]
+#[derive(Drop)]
 pub(crate) struct Draft {
     before: Vec<Policy>,
     last_name: Option<ShortName>,

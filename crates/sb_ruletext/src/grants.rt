@@ -18,7 +18,7 @@ const RESTRICTED_MASK: u64 = 0x5FED_FF56;
 const OPEN: u64 = 1;
 
 /// What a line `grant GRANT "PATTERN"` grants for the names that its pattern matches.
-#[derive(Clone, Copy, Debug, PartialEq, Eq)]
+#[derive(Clone, Copy)]
 pub(crate) enum Grant {
     /// Everything that calls do with files.
     FilesAny,

@@ -38,7 +38,7 @@ stands_at (suc n) (s ∷ ss) (w ∷ ws) (t ∷ ts) (u ∷ us) x e =
     let l = stands_at n ss ws ts us x e in
     record { section = l.section; worker = l.worker; threads = l.threads; strays = l.strays }
 
--- so many bundles, where there are as many of each
+-- this many bundles, where there are as many of each
 pub bundled_length : (ss : List SectionValue) (ws : List WorkerSeatValue) (ts : List (List ThreadSeatValue)) (us : List (List StraySeatValue)) → length ws ≡ length ss → length ts ≡ length ss → length us ≡ length ss
     → length (bundled ss ws ts us) ≡ length ss
 bundled_length [] ws ts us a b c = refl

@@ -96,7 +96,7 @@ append_assoc : {X : Type 0} (xs ys zs : List X) → (xs ++ ys) ++ zs ≡ xs ++ (
 append_assoc [] ys zs = refl
 append_assoc (x ∷ xs) ys zs = ap (λ l. x ∷ l) (append_assoc xs ys zs)
 
--- all elements of lists, of which the t-th has so many as the t-th target has threads
+-- all elements of lists, of which the t-th has as many as the t-th target has threads
 all_count : {X : Type 0} (script : Script) (n : ℕ) (xss : List (List X)) → ((t : ℕ) (xs : List X) → slice_get xss t ≡ Some xs → length xs ≡ thread_count (slice_get script.targets (n + t)))
     → threads_upto script n + length (all_of xss) ≡ threads_upto script (n + length xss)
 all_count script n [] each = by n

@@ -94,7 +94,7 @@ fn take_hands(
 {
     let mut seats = Vec::new(alloc);
     for hand in hands {
-        let Hand { seat, book } = hand;
+        let (seat, book) = hand.into_parts();
         seats.push(seat)?;
         books.push(book)?;
     }
@@ -122,12 +122,23 @@ fn end_pool<R: Wait>(
 }
 
 /// A section with all its seats.
-#[derive(Drop)]
 struct Closing {
     section: Section,
     worker: WorkerSeat,
     threads: Vec<ThreadSeat>,
     strays: Vec<StraySeat>,
+}
+
+// By hand, so that it is proved here once and not at each place that drops one.
+impl Drop for Closing {
+    fn drop(self) {
+        let Closing {
+            section: _,
+            worker: _,
+            threads: _,
+            strays: _,
+        } = self;
+    }
 }
 
 impl Model for Closing {

@@ -65,12 +65,7 @@ impl TargetEnds {
     fn add(&mut self, end: Ended) -> Result<(), NoMemory>
         ensures { OnOk result (self.new ≡ with_end self.old end) }
     {
-        let Ended {
-            results,
-            seat,
-            strays,
-            book,
-        } = end;
+        let (results, seat, strays, book) = end.into_parts();
         self.results.push(Items::new(results))?;
         self.threads.push(seat)?;
         self.strays.push(strays)?;
@@ -167,7 +162,7 @@ fn spread(
     Ok(longer)
 }
 
-// So many columns without seats.
+// This many columns without seats.
 fn empty_columns(alloc: Global, count: usize) -> Result<Vec<Vec<StraySeat>>, NoMemory>
     ensures { IfOk result (λ v. map (λ c. c.items) v.items ≡ columns_of count []) }
 {
@@ -178,7 +173,7 @@ fn empty_columns(alloc: Global, count: usize) -> Result<Vec<Vec<StraySeat>>, NoM
     Ok(columns)
 }
 
-/// So many columns of these rows.
+/// This many columns of these rows.
 ///
 /// # Errors
 /// `NoMemory` where there was none for them.

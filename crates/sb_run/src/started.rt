@@ -19,12 +19,22 @@ use std::sync::Wait;
 use std::thread::Threads;
 
 /// A task that was started.
-#[derive(Drop)]
 pub(crate) struct StartedTask<'a> {
     // The script and the task as it was started, for proofs.
     script: Snapshot<Script>,
     task: Snapshot<Task>,
     host: TaskHost<'a>,
+}
+
+// By hand, so that it is proved here once and not at each place that drops one.
+impl<'a> Drop for StartedTask<'a> {
+    fn drop(self) {
+        let StartedTask {
+            script: _,
+            task: _,
+            host: _,
+        } = self;
+    }
 }
 
 impl<'a> Model for StartedTask<'a> {
@@ -73,7 +83,11 @@ impl<'a> StartedTask<'a> {
     pub(crate) fn join<R: Threads>(self, rt: &R) -> Result<Ended, NoMemory>
         ensures { IfOk result (λ e. EndsAs self.entry e) }
     {
-        let StartedTask { host, .. } = self;
+        let StartedTask {
+            script: _,
+            task: _,
+            host,
+        } = self;
         match host {
             TaskHost::Thread(child) => match child.join(rt) {
                 TaskReturn::Ended(ended) => Ok(ended),
@@ -91,11 +105,17 @@ impl<'a> StartedTask<'a> {
 }
 
 /// A pair of seats with which sections are served.
-#[derive(Drop)]
 pub(crate) struct StartedHand {
     // The seats as they were, for proofs.
     first: Snapshot<Hand>,
     host: HandHost,
+}
+
+// By hand, so that it is proved here once and not at each place that drops one.
+impl Drop for StartedHand {
+    fn drop(self) {
+        let StartedHand { first: _, host: _ } = self;
+    }
 }
 
 impl Model for StartedHand {
@@ -153,7 +173,7 @@ impl StartedHand {
     pub(crate) fn join<R: Threads>(self, rt: &R) -> Result<Hand, NoMemory>
         ensures { IfOk result (λ h. HasServed self h) }
     {
-        let StartedHand { host, .. } = self;
+        let StartedHand { first: _, host } = self;
         match host {
             HandHost::Thread(child) => match child.join(rt) {
                 HandReturn::Ended(hand) | HandReturn::Back(hand) => Ok(hand),

@@ -77,10 +77,16 @@ pub(crate) fn line_up(alloc: Global, opened: Opened, count: u32) -> Result<Lined
 }
 
 /// Rows of stray seats and seats of the turn that are still to be given out, in order.
-#[derive(Drop)]
 pub(crate) struct Supply {
     rows: IntoIter<Vec<StraySeat>>,
     books: IntoIter<BookSeat>,
+}
+
+// By hand, so that it is proved here once and not at each place that drops one.
+impl Drop for Supply {
+    fn drop(self) {
+        let Supply { rows: _, books: _ } = self;
+    }
 }
 
 impl Model for Supply {

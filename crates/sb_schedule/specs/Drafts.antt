@@ -35,7 +35,7 @@ with_step draft step =
 abbrev pub with_rounds : Drafted → ℕ → Drafted
 with_rounds draft rounds = record draft { rounds = Some rounds }
 
--- the schedule that was read of a text of so many lines; where no line told the rounds, they are missing on the last
+-- the schedule that was read of a text of this many lines; where no line told the rounds, they are missing on the last
 abbrev pub finished : ℕ → Drafted → Result Schedule (LineFault ScheduleKind)
 finished lines draft = elim draft.rounds [
   | None ↦ Err (record { line = lines; kind = NoRounds })

@@ -6,7 +6,7 @@ use sb_text::{LineFault, Refused};
 use thiserror::Error;
 
 /// What is wrong with a line of a schedule text.
-#[derive(Clone, Copy, Debug, PartialEq, Eq, Error)]
+#[derive(Clone, Copy, Debug, Error)]
 pub enum ScheduleKind {
     /// The first line with words is not `sandbox-schedule 1`, a line is neither `step` nor `rounds` or stands behind `rounds`, or
     /// a word is missing or one too many.

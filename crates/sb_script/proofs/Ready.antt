@@ -399,7 +399,7 @@ nothing_fine count = record {
   targets = record { few = refl; differ = refl; judged = refl; each = λ all a. refl };
 }
 
--- a script is ready for so many policies
+-- a script is ready for this many policies
 record IsReady (count : ℕ) (script : Script) : Type 0 where
   sound : is_sound script ≡ true
   judged : list_all (is_judged count) script.targets ≡ true

@@ -45,7 +45,7 @@ new_name_at targets tokens = do
   name ← new_name targets word.0
   Ok (name, word.1)
 
--- the number of a policy, which has 32 bits: of so many policies a script can name no others
+-- the number of a policy, which has 32 bits: of this many policies a script can name no others
 abbrev pub policy_number : ℕ → Result ℕ ScriptKind
 policy_number place = if nat_le place most_32 then Ok place else Err NoSuchPolicy
 

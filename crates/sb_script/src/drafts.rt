@@ -24,7 +24,7 @@ use std::mem;
 const USUAL_PATIENCE: u32 = 10_000;
 
 /// What the heading of a target says.
-#[derive(Debug, Drop)]
+#[derive(Drop)]
 pub(crate) struct Heading {
     /// Its name.
     pub(crate) name: ShortName,
@@ -35,7 +35,7 @@ pub(crate) struct Heading {
 }
 
 /// A target and a channel that a statement names.
-#[derive(Clone, Copy, Debug, PartialEq, Eq)]
+#[derive(Clone, Copy)]
 pub(crate) struct Named {
     /// The line of the statement.
     pub(crate) line: u32,
@@ -101,7 +101,7 @@ fn is_any_named(targets: &[TargetScript], name: &[u8]) -> bool
 }
 
 /// What is so far there of a script. The last target is open for threads, and its last thread for statements.
-#[derive(Debug, Drop)]
+#[derive(Drop)]
 pub(crate) struct Draft {
     patience: Option<u32>,
     start: Placed,

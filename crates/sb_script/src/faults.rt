@@ -6,7 +6,7 @@ use sb_text::{LineFault, Refused};
 use thiserror::Error;
 
 /// What is wrong with a line of a script text.
-#[derive(Clone, Copy, Debug, PartialEq, Eq, Error)]
+#[derive(Clone, Copy, Debug, Error)]
 pub enum ScriptKind {
     /// The text is not UTF-8.
     #[error("the text is not UTF-8")]

@@ -38,7 +38,7 @@ use Rattle.sb_section.specs.Steps.{IsOnWord, seen_of, deed_or, stray_deed_at}
 use Rattle.sb_section.proofs.Acting.{sees_found}
 use Rattle.sb_section.proofs.Moving.{worker_moves, thread_moves, stray_moves}
 
--- a word of one of so many channels
+-- a word of one of this many channels
 pub within_word : (act : Act) (k : ℕ) → IsWithin k act → IsOnWord act → act_word act < k * 65
 within_word (Load t w) k h on = let a = h.0 in let b = h.1 in omega arith
 within_word (Store t w x) k h on = let a = h.0 in let b = h.1 in omega arith

@@ -14,7 +14,7 @@ use Rattle.sb_actor.specs.declared.views.View.TheVariants.{Worker}
 use Rattle.sb_actor.specs.declared.views.WorkerView.{WorkerView}
 use Rattle.sb_section.specs.Holding.{HasRecords}
 
--- the opening words of so many channels
+-- the opening words of this many channels
 abbrev pub IsOpening : ℕ → List ℕ → Type 0
 IsOpening channels words = (length words ≡ channels * 65) × Opened words
 

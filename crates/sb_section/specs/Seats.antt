@@ -52,7 +52,7 @@ stray_in Spent = new_stray (first_worker [])
 abbrev pub IsOf : SectionValue → TableId → List Bool → Type 0
 IsOf section table clean = (table ≡ section.table) × (clean ≡ section.clean)
 
--- the worker's seat once it has made so many seats for threads and stray ones
+-- the worker's seat once it has made this many seats for threads and stray ones
 abbrev pub opened_worker : List Bool → ℕ → ℕ → WorkerView
 opened_worker clean threads strays = record (first_worker clean) { threads = threads; strays = strays }
 

@@ -1,5 +1,5 @@
 // The seats of a section. Each step of an actor is one atomic step of its seat, and waits for nobody.
-ghost use Rattle.std.specs.Prelude.{◌≡◌, ◌++◌, true, length, map, IfSome};
+ghost use Rattle.std.specs.Prelude.{◌≡◌, ◌++◌, true, length, map, [], IfSome};
 ghost use mathlib.Core.Option as raw;
 ghost use Rattle.sb_actor.specs.Laws.{with_thread, with_stray};
 ghost use Rattle.sb_actor.specs.Places.{clean_channels};
@@ -10,6 +10,7 @@ ghost use Rattle.sb_actor.specs.Ties.{HoldsWorker, HoldsThread};
 ghost use Rattle.sb_actor.specs.UnderWay.{IsUnderWay};
 ghost use Rattle.sb_actor.specs.WorkerNotes.{WorkerNotes};
 ghost use Rattle.sb_actor.specs.declared.views.ThreadView.{ThreadView};
+ghost use Rattle.sb_actor.specs.declared.views.View.TheVariants.{Worker, Thread, Stray};
 ghost use Rattle.sb_section.specs.Seats.{IsOf};
 ghost use Rattle.sb_section.specs.Steps.{IsServing, IsCalling, IsByHand, WorkerSteps, ThreadSteps, StraySteps, acknowledged};
 ghost use Rattle.sb_statements.specs.Soundness.{is_sound};
@@ -29,9 +30,15 @@ use std::marker::{Brand, Model};
 
 /// The seat of a section's worker. Contracts see what it knows: which calls it served, what it noted, and the records of the seats
 /// that it took in.
-#[derive(Drop)]
 pub struct WorkerSeat {
     pub(crate) seat: Seat<u64, View>,
+}
+
+// By hand, so that it is proved here once and not at each place that drops one.
+impl Drop for WorkerSeat {
+    fn drop(self) {
+        let WorkerSeat { seat: _ } = self;
+    }
 }
 
 impl Model for WorkerSeat {
@@ -48,9 +55,15 @@ impl Model for WorkerSeat {
 
 /// The seat of a thread of the section's target, for its calls. Contracts see what it knows: the calls that it had on clean
 /// channels, and what it noted.
-#[derive(Drop)]
 pub struct ThreadSeat {
     pub(crate) seat: Seat<u64, View>,
+}
+
+// By hand, so that it is proved here once and not at each place that drops one.
+impl Drop for ThreadSeat {
+    fn drop(self) {
+        let ThreadSeat { seat: _ } = self;
+    }
 }
 
 impl Model for ThreadSeat {
@@ -66,9 +79,15 @@ impl Model for ThreadSeat {
 }
 
 /// A seat for statements that name a word of the section, of a thread of any target.
-#[derive(Drop)]
 pub struct StraySeat {
     pub(crate) seat: Seat<u64, View>,
+}
+
+// By hand, so that it is proved here once and not at each place that drops one.
+impl Drop for StraySeat {
+    fn drop(self) {
+        let StraySeat { seat: _ } = self;
+    }
 }
 
 impl Model for StraySeat {
@@ -102,6 +121,15 @@ fn go_on(script: &Script, actor: &mut ThreadState, seen: Seen) -> Option<StmtRes
 }
 
 impl WorkerSeat {
+    // The seat of the table.
+    pub(crate) fn into_seat(self) -> Seat<u64, View>
+        ensures table { result.table_id ≡ self.table }
+        ensures view { result.me ≡ (Worker self.view, []) }
+    {
+        let WorkerSeat { seat } = self;
+        seat
+    }
+
     /// Makes the worker's next step, which is on a word of this section, as one atomic step. What the seat notes stays, in order,
     /// what the steps for its served calls, and for the one in work, stored and showed. It takes no memory.
     pub fn step(&mut self, section: &Section, actor: &mut WorkerState)
@@ -139,8 +167,7 @@ impl WorkerSeat {
         splits_and_joins_keep_rule();
         splits_and_joins_keep_parts();
         let words = &section.table.shared;
-        let ThreadSeat { seat } = seat;
-        words.join_seat::<Threads>(&mut self.seat, seat);
+        words.join_seat::<Threads>(&mut self.seat, seat.into_seat());
         words.load::<Records>(&mut self.seat, 0);
     }
 
@@ -153,15 +180,23 @@ impl WorkerSeat {
     {
         splits_and_joins_keep_rule();
         splits_and_joins_keep_parts();
-        let StraySeat { seat } = seat;
         section
             .table
             .shared
-            .join_seat::<Strays>(&mut self.seat, seat);
+            .join_seat::<Strays>(&mut self.seat, seat.into_seat());
     }
 }
 
 impl ThreadSeat {
+    // The seat of the table.
+    pub(crate) fn into_seat(self) -> Seat<u64, View>
+        ensures table { result.table_id ≡ self.table }
+        ensures view { result.me ≡ (Thread self.view, []) }
+    {
+        let ThreadSeat { seat } = self;
+        seat
+    }
+
     /// Makes the next step of a thread of this section's target within a call, as one atomic step, and returns the result where it
     /// ended the call. The script is that of the thread. It takes no memory.
     pub fn step(
@@ -195,6 +230,15 @@ impl ThreadSeat {
 }
 
 impl StraySeat {
+    // The seat of the table.
+    pub(crate) fn into_seat(self) -> Seat<u64, View>
+        ensures table { result.table_id ≡ self.table }
+        ensures view { result.me ≡ (Stray self.view, []) }
+    {
+        let StraySeat { seat } = self;
+        seat
+    }
+
     /// Makes the next step of a thread at a store, an exchange, a load or a wait on a word of this section, as one atomic step, and
     /// returns the result where it ended the statement. The script is that of the thread, and the section's clean channels are
     /// those of the script. Meanwhile the thread's own seat stands outside a call. It takes no memory.

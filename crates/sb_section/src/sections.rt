@@ -14,12 +14,22 @@ use std::alloc::Global;
 use std::marker::Model;
 
 /// What a target and its worker share: the words of the target's channels. Nobody waits for another to make a step.
-#[derive(Drop)]
 pub struct Section {
     pub(crate) table: Table<u64, View, Vec<bool>, Channels, Global>,
     target: u32,
     // Room for the words that `close` gives.
     room: Vec<u64>,
+}
+
+// By hand, so that it is proved here once and not at each place that drops one.
+impl Drop for Section {
+    fn drop(self) {
+        let Section {
+            table: _,
+            target: _,
+            room: _,
+        } = self;
+    }
 }
 
 impl Model for Section {
@@ -203,10 +213,9 @@ impl Section {
             target: _,
             room,
         } = self;
-        let WorkerSeat { seat } = worker;
         let mut words = room;
         let count = table.word_count();
-        let closed = table.close_with(seat);
+        let closed = table.close_with(worker.into_seat());
         for place in 0..count {
             words.push_reserved(closed.word(place));
         }

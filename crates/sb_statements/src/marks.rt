@@ -10,7 +10,7 @@ use crate::statements::{Statement, Statements};
 use std::marker::Model;
 
 /// For each of 8 targets and each of its 8 channels whether the channel is clean.
-#[derive(Debug, Drop)]
+#[derive(Drop)]
 pub struct CleanMarks {
     marks: [[bool; 8]; 8],
 }

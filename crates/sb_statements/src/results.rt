@@ -2,7 +2,7 @@
 use sb_call::Reply;
 
 /// What became of a call. Channels are numbered from 0.
-#[derive(Debug, Drop, PartialEq)]
+#[derive(Drop, PartialEq)]
 pub enum CallResult {
     /// A reply came back on this channel.
     Reply { channel: u32, reply: Reply },
@@ -17,7 +17,7 @@ pub enum CallResult {
 }
 
 /// What became of a statement.
-#[derive(Debug, Drop, PartialEq)]
+#[derive(Drop, PartialEq)]
 pub enum StmtResult {
     /// Of a call.
     Call(CallResult),

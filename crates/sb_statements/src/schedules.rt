@@ -3,7 +3,7 @@
 use sb_items::Items;
 
 /// Who makes a step. Targets and threads are numbered from 0.
-#[derive(Clone, Copy, Debug, PartialEq, Eq)]
+#[derive(Clone, Copy, PartialEq, Eq)]
 pub enum Actor {
     /// The worker that serves a target's channels.
     Worker { target: u32 },
@@ -15,10 +15,20 @@ pub enum Actor {
 pub type Steps = Items<(Actor, u32)>;
 
 /// A schedule: the steps, and then how many rounds there are at most, where in each round each actor makes one step.
-#[derive(Debug, Drop, PartialEq)]
+#[derive(PartialEq)]
 pub struct Schedule {
     /// The steps.
     pub steps: Steps,
     /// How many rounds there are at most.
     pub rounds: u32,
+}
+
+// By hand, so that it is proved here once and not at each place that drops one.
+impl Drop for Schedule {
+    fn drop(self) {
+        let Schedule {
+            steps: _,
+            rounds: _,
+        } = self;
+    }
 }

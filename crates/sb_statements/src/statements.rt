@@ -7,7 +7,7 @@ use sb_items::{Copies, Items, NoMemory};
 use std::alloc::Global;
 
 /// A word of a target's channels.
-#[derive(Clone, Copy, Debug, PartialEq, Eq)]
+#[derive(Clone, Copy, PartialEq, Eq)]
 pub struct Word {
     /// The channel, from 0.
     pub channel: u32,
@@ -16,7 +16,7 @@ pub struct Word {
 }
 
 /// What a thread does. Targets are numbered from 0.
-#[derive(Debug, Drop, PartialEq)]
+#[derive(PartialEq)]
 pub enum Statement {
     /// Forwards a call of its own target.
     Call {
@@ -48,6 +48,33 @@ pub enum Statement {
         value: u64,
         most: u32,
     },
+}
+
+// By hand, so that it is proved here once and not at each place that drops one.
+impl Drop for Statement {
+    fn drop(self) {
+        match self {
+            Statement::Call { tag: _, args: _ } => {}
+            Statement::Store {
+                target: _,
+                word: _,
+                value: _,
+            } => {}
+            Statement::Exchange {
+                target: _,
+                word: _,
+                from: _,
+                to: _,
+            } => {}
+            Statement::Load { target: _, word: _ } => {}
+            Statement::Wait {
+                target: _,
+                word: _,
+                value: _,
+                most: _,
+            } => {}
+        }
+    }
 }
 
 impl Copies for Statement {

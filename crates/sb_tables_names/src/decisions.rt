@@ -297,7 +297,7 @@ fn targets_of(alloc: Global, names: &[&str]) -> Result<Targets, RowFault> {
     Ok(targets)
 }
 
-// Whether each target names one of so many policies.
+// Whether each target names one of this many policies.
 fn are_judged(targets: &[TargetScript], count: usize) -> bool
     ensures { result ≡ list_all (is_judged count) targets.now }
 {

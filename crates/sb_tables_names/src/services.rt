@@ -18,7 +18,7 @@ use sb_statements::StartLine;
 use sb_wide::is_name;
 use std::alloc::Global;
 
-// No rows make so many objects.
+// No rows make this many objects.
 const MANY: u64 = 1 << 32;
 
 /// The services that rows change, each with handles of its own.

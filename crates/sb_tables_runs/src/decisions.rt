@@ -7,7 +7,7 @@ use sb_block::{BlockFault, Taken, fault_of};
 use sb_book::{Book, Decision, Entry, decide};
 use sb_call::tag_of;
 use sb_items::Copies;
-use sb_rows::{RowFault, told};
+use sb_rows::RowFault;
 use sb_rule::{PlainJudge, Policies, Policy, PolicyList};
 use sb_statements::TargetScript;
 use std::alloc::Global;
@@ -77,7 +77,7 @@ impl Answering {
             return Ok(false);
         }
         let decision = decide(alloc, &self.judge, entry.target, &entry.taken)?;
-        let decided = told(alloc, &decision)? == told(alloc, &entry.decision)?;
+        let decided = decision == entry.decision;
         let reply = self
             .book
             .answer(entry.target, entry.channel, &entry.taken, decision)?;

@@ -10,7 +10,7 @@ use std::sync::atomic::{AtomicU64, Ordering};
 use std::thread;
 use std::thread::Threads;
 
-// Holds the first call of each of two targets back until the first of the other came, for so many turns at most.
+// Holds the first call of each of two targets back until the first of the other came, for this many turns at most.
 #[derive(Drop)]
 struct MeetingGate {
     turns: u64,
@@ -46,7 +46,7 @@ impl MeetingGate {
     }
 }
 
-/// Runs a script of two targets by so many workers through such a gate. Told are how many calls passed, of target 0 and of all others,
+/// Runs a script of two targets by this many workers through such a gate. Told are how many calls passed, of target 0 and of all others,
 /// and how many of them were held back to the last turn.
 pub fn meeting<R: Threads + Wait + Sync>(
     rt: &R,

@@ -17,7 +17,7 @@ use std::thread::Threads;
 // As many rounds as a replay without a schedule makes at most.
 const MOST_ROUNDS: u32 = 20_000_000;
 
-/// The report of a run by so many workers, from 1 to 8, each call of which passes the gate.
+/// The report of a run by this many workers, from 1 to 8, each call of which passes the gate.
 #[tactic(auto, using(crate::proofs::Ready::ready_made))]
 pub fn report_by_threads<R: Threads + Wait + Sync, G: Gate>(
     rt: &R,
@@ -64,7 +64,7 @@ pub fn report_by_rounds(alloc: Global, inputs: &Inputs) -> Result<Report, RowFau
     }
 }
 
-/// Runs the scripts that are generated from so many numbers, each by 1, 2 or 8 workers. Told are how many runs were made, or the first
+/// Runs the scripts that are generated from this many numbers, each by 1, 2 or 8 workers. Told are how many runs were made, or the first
 /// whose report is not right, with its number, its workers and what the checks tell.
 pub fn generated<R: Threads + Wait + Sync>(
     rt: &R,

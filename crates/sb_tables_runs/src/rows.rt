@@ -38,7 +38,7 @@ pub fn value_of<R: Files + AllocGlobal + Threads + Wait + Sync>(
     }
 }
 
-// A script run by so many workers.
+// A script run by this many workers.
 fn by_threads<R: Files + AllocGlobal + Threads + Wait + Sync>(
     rt: &R,
     files: (&str, &str),
@@ -60,7 +60,7 @@ fn crossed<R: Files + AllocGlobal>(
     told_checks(rt.alloc(), &inputs, &report)
 }
 
-// A script run by so many workers through a gate that holds calls back, for so many turns at most.
+// A script run by this many workers through a gate that holds calls back, for this many turns at most.
 fn of_four<R: Files + AllocGlobal + Threads + Wait + Sync>(
     rt: &R,
     name: &str,

@@ -22,7 +22,7 @@ enum Wanted {
     Value(u64),
     // It is an end item, with this end.
     End(u64),
-    // It says how many extended words there are: so many, or more where these are seven.
+    // It says how many extended words there are: this many, or more where these are seven.
     Count(u64),
 }
 

@@ -57,7 +57,7 @@ pub record IsField (section : SectionValue) (script : Script) : Type 0 where
   pub clean : section.clean ≡ clean_channels script 0
   pub by_hand : section.clean ≡ clean_channels script section.target
 
--- the worker's seat, which made as many seats as this view says, has taken in so many of each kind
+-- the worker's seat, which made as many seats as this view says, has taken in this many of each kind
 pub record IsGathered (section : SectionValue) (made : WorkerView) (threads strays : ℕ) (seat : WorkerSeatValue) : Type 0 where
   pub own : IsOf section seat.table seat.view.clean
   pub desk : IsSameDesk made seat.view

@@ -61,7 +61,7 @@ fn are_ready(policies: &Policies, script: &Script) -> bool
         && is_nothing(script.start.as_slice())
 }
 
-// Whether each target names one of so many policies.
+// Whether each target names one of this many policies.
 fn are_judged(targets: &[TargetScript], count: usize) -> bool
     ensures { result ≡ list_all (is_judged count) targets.now }
 {

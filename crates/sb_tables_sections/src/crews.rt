@@ -258,7 +258,7 @@ fn with_strays<R: Threads + Sync>(
     Ok(gathered)
 }
 
-/// Four threads of so many calls, two of so many stores, and a worker.
+/// Four threads of this many calls, two of this many stores, and a worker.
 pub fn value_of<R: Threads + Sync>(
     rt: &R,
     alloc: Global,

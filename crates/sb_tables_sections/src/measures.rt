@@ -31,7 +31,7 @@ pub fn value_of<R: Threads + Sync>(
     }
 }
 
-// So many looks of a worker at channels that nobody uses, and how many they were.
+// This many looks of a worker at channels that nobody uses, and how many they were.
 #[tactic(auto, using(crate::proofs::Looking::looks_on_word))]
 fn looks(section: &Section, seat: WorkerSeat, channels: u32, steps: u64) -> u64
     requires own { IsOf section.now seat.table seat.view.clean }
@@ -75,7 +75,7 @@ fn wait_once(section: &Section, script: &Script, seat: &mut StraySeat) -> u64
     made
 }
 
-// The same with so many waits.
+// The same with this many waits.
 fn loads(section: &Section, script: &Script, seat: StraySeat, waits: u64) -> u64
     requires sound { is_sound script.now ≡ true }
     requires there { 0 < length script.now.targets }
@@ -126,7 +126,7 @@ fn stray_alone(alloc: Global, waits: u64, most: u32) -> Result<String, RowFault>
     told_steps(alloc, loads(&section, &script, stray, waits))
 }
 
-// So many stray seats, each in a thread of its own.
+// This many stray seats, each in a thread of its own.
 fn all_loads<R: Threads + Sync>(
     rt: &R,
     section: &Section,
@@ -153,7 +153,7 @@ fn all_loads<R: Threads + Sync>(
     Ok(made)
 }
 
-// A worker's seat and so many stray ones, each in a thread of its own.
+// A worker's seat and this many stray ones, each in a thread of its own.
 fn together<R: Threads + Sync>(
     rt: &R,
     alloc: Global,

@@ -41,7 +41,7 @@ pub fn value_of(alloc: Global, parts: &[&str]) -> Result<String, RowFault> {
     told_play(alloc, &script, (small(thread)?, small(worker)?))
 }
 
-// So many steps of the thread, so many of the worker, the store, and then rounds.
+// This many steps of the thread, this many of the worker, the store, and then rounds.
 fn schedule_of(alloc: Global, thread: u32, worker: u32) -> Result<Schedule, RowFault> {
     let mut steps = Steps::none(alloc);
     steps.push((
@@ -144,7 +144,7 @@ fn reply_to(server: &Server, entries: &[Entry]) -> Option<Reply> {
     }
 }
 
-// So many steps of the thread that calls.
+// This many steps of the thread that calls.
 fn calls(
     section: &Section,
     script: &Script,
@@ -162,7 +162,7 @@ fn calls(
     Ok(())
 }
 
-// So many steps of the worker. Its copies are answered as these entries say.
+// This many steps of the worker. Its copies are answered as these entries say.
 fn serves(
     section: &Section,
     server: &mut Server,

@@ -12,7 +12,7 @@ use sb_statements::{
 };
 use std::alloc::Global;
 
-/// A script of one target with one channel and one thread, which loads the state of the channel so many times.
+/// A script of one target with one channel and one thread, which loads the state of the channel this many times.
 pub fn waiting(alloc: Global, loads: u32) -> Result<Script, RowFault> {
     let mut statements = Statements::none(alloc);
     statements.push(Statement::Wait {
@@ -137,7 +137,7 @@ fn only(alloc: Global, statement: Statement) -> Result<Statements, RowFault> {
     Ok(statements)
 }
 
-/// A script of two targets: the first has three channels and four threads of so many calls, the second two threads of so many stores
+/// A script of two targets: the first has three channels and four threads of this many calls, the second two threads of this many stores
 /// into the last of these channels.
 pub fn crew(alloc: Global, calls: u32, stores: u32) -> Result<Script, RowFault> {
     let mut targets = Targets::none(alloc);

@@ -20,11 +20,11 @@ AreAsBefore pool seats all =
     (length all ≡ length seats)
     × ((n : ℕ) (d : Dealt) → slice_get all n ≡ Some d → (s : PoolSeat Work ℕ) × (slice_get seats n ≡ Some s) × IsSeatOf pool d.seat × (seen d.seat ≡ seen s))
 
--- seat n of so many, of this pool, before it takes in another
+-- seat n of this many, of this pool, before it takes in another
 abbrev pub IsSeatAt : PoolValue → List ℕ → ℕ → ℕ → PoolSeat Work ℕ → Type 0
 IsSeatAt pool homes count n seat = IsSeatOf pool seat × (seen seat ≡ fresh_view n homes (cond (n == 0) (Some count) None))
 
--- the seats of so many that come first, in order
+-- the seats of this many that come first, in order
 abbrev pub AreDealt : PoolValue → List ℕ → ℕ → List Dealt → Type 0
 AreDealt pool homes count all = (n : ℕ) (d : Dealt) → slice_get all n ≡ Some d → IsSeatAt pool homes count n d.seat
 
@@ -33,7 +33,7 @@ abbrev pub AreInTurn : PoolValue → Dealt → List Dealt → Type 0
 AreInTurn pool last others =
     (homes : List ℕ) × IsSeatAt pool homes (length others + 1) (length others) last.seat × AreDealt pool homes (length others + 1) others
 
--- The last seat of so many others has taken in all but these, which come last; once it took in the first it keeps the count
+-- The last seat of this many others has taken in all but these, which come last; once it took in the first it keeps the count
 pub record IsTaking (pool : PoolValue) (many : ℕ) (seat : PoolSeat Work ℕ) (left : List Dealt) : Type 0 where
   pub homes : List ℕ
   pub taken : ℕ

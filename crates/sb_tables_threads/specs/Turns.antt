@@ -35,7 +35,7 @@ pub record IsSame (s t : SeatValue) : Type 0 where
 abbrev pub AreFree : TurnValue → List SeatValue → Type 0
 AreFree turn seats = (n : ℕ) (s : SeatValue) → get_elem? seats n ≡ raw.some s → (n < 2 ^ 32) × IsFree turn n s
 
--- seat n of so many, which took in no other
+-- seat n of this many, which took in no other
 pub record IsSeatAt (turn : TurnValue) (count n : ℕ) (s : SeatValue) : Type 0 where
   pub own : s.table ≡ turn.table
   pub without : s.view.hold ≡ Without
@@ -49,7 +49,7 @@ AreInTurn turn last others =
     IsSeatAt turn (length others + 1) (length others) last
     × ((n : ℕ) (s : SeatValue) → get_elem? others n ≡ raw.some s → IsSeatAt turn (length others + 1) n s)
 
--- the last seat of so many others has taken in all but these, which come last; once it took in the first it keeps the count
+-- the last seat of this many others has taken in all but these, which come last; once it took in the first it keeps the count
 pub record IsTaking (turn : TurnValue) (many : ℕ) (seat : SeatValue) (left : List SeatValue) : Type 0 where
   pub taken : ℕ
   pub sized : taken + length left ≡ many

@@ -196,7 +196,7 @@ fn joined(pool: &Pool<Work>, last: Dealt, others: Vec<Dealt>) -> Dealt
     Dealt { seat, draws }
 }
 
-// Deals works by so many threads, in these rounds each, and closes the pool.
+// Deals works by this many threads, in these rounds each, and closes the pool.
 fn closed<R: Threads + Wait + Sync>(
     rt: &R,
     alloc: Global,

@@ -24,10 +24,16 @@ use std::sync::Wait;
 use std::thread::yield_now;
 
 /// The seats of a thread that serves sections: one of the pool, and one of the turn, by which it looks at the stop word.
-#[derive(Drop)]
 pub struct Hand {
     pub seat: PoolSeat<Work>,
     pub book: BookSeat,
+}
+
+// By hand, so that it is proved here once and not at each place that drops one.
+impl Drop for Hand {
+    fn drop(self) {
+        let Hand { seat: _, book: _ } = self;
+    }
 }
 
 impl Model for Hand {
@@ -36,6 +42,17 @@ impl Model for Hand {
     ghost Value = { HandAt };
 
     ghost view = { λ x. record { pool = x.seat; book = x.book } };
+}
+
+impl Hand {
+    /// The seat of the pool and the seat of the turn.
+    pub fn into_parts(self) -> (PoolSeat<Work>, BookSeat)
+        ensures seat { result.0 ≡ self.pool }
+        ensures book { result.1 ≡ self.book }
+    {
+        let Hand { seat, book } = self;
+        (seat, book)
+    }
 }
 
 // Steps of a worker, until it has acknowledged a call, or has looked at each channel and found none ready. True if it found none. In mid-call it keeps

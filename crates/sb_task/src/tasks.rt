@@ -22,12 +22,23 @@ use std::thread::yield_now;
 
 /// A thread before its first step: its seat in the section of its target, its stray seat in each section, and a seat of the turn, by which it
 /// looks at the stop word.
-#[derive(Drop)]
 pub struct Task {
     pub state: ThreadState,
     pub seat: ThreadSeat,
     pub strays: Vec<StraySeat>,
     pub book: BookSeat,
+}
+
+// By hand, so that it is proved here once and not at each place that drops one.
+impl Drop for Task {
+    fn drop(self) {
+        let Task {
+            state: _,
+            seat: _,
+            strays: _,
+            book: _,
+        } = self;
+    }
 }
 
 impl Model for Task {
@@ -38,13 +49,42 @@ impl Model for Task {
     ghost view = { λ x. record { thread = x.state; seat = x.seat; strays = x.strays.items; book = x.book } };
 }
 
+impl Task {
+    /// The state of the thread, its seat, its stray seats and its seat of the turn.
+    pub fn into_parts(self) -> (ThreadState, ThreadSeat, Vec<StraySeat>, BookSeat)
+        ensures state { result.0 ≡ self.thread }
+        ensures seat { result.1 ≡ self.seat }
+        ensures strays { result.2.items ≡ self.strays }
+        ensures book { result.3 ≡ self.book }
+    {
+        let Task {
+            state,
+            seat,
+            strays,
+            book,
+        } = self;
+        (state, seat, strays, book)
+    }
+}
+
 /// What a thread gives back once it has ended.
-#[derive(Drop)]
 pub struct Ended {
     pub results: Vec<StmtResult>,
     pub seat: ThreadSeat,
     pub strays: Vec<StraySeat>,
     pub book: BookSeat,
+}
+
+// By hand, so that it is proved here once and not at each place that drops one.
+impl Drop for Ended {
+    fn drop(self) {
+        let Ended {
+            results: _,
+            seat: _,
+            strays: _,
+            book: _,
+        } = self;
+    }
 }
 
 impl Model for Ended {
@@ -55,11 +95,35 @@ impl Model for Ended {
     ghost view = { λ x. record { results = x.results.items; seat = x.seat; strays = x.strays.items; book = x.book } };
 }
 
+impl Ended {
+    /// The results of the thread, its seat, its stray seats and its seat of the turn.
+    pub fn into_parts(self) -> (Vec<StmtResult>, ThreadSeat, Vec<StraySeat>, BookSeat)
+        ensures results { result.0.items ≡ self.results }
+        ensures seat { result.1 ≡ self.seat }
+        ensures strays { result.2.items ≡ self.strays }
+        ensures book { result.3 ≡ self.book }
+    {
+        let Ended {
+            results,
+            seat,
+            strays,
+            book,
+        } = self;
+        (results, seat, strays, book)
+    }
+}
+
 /// A thread that runs.
-#[derive(Drop)]
 pub struct Runner<'a> {
     actor: ThreadActor<'a>,
     book: BookSeat,
+}
+
+// By hand, so that it is proved here once and not at each place that drops one.
+impl<'a> Drop for Runner<'a> {
+    fn drop(self) {
+        let Runner { actor: _, book: _ } = self;
+    }
 }
 
 impl<'a> Model for Runner<'a> {
@@ -100,13 +164,7 @@ impl<'a> Runner<'a> {
         requires task { IsTask script.now sections.now turn.now task }
         ensures { IfOk result (λ r. IsRunner script.now task r) }
     {
-        let Task {
-            state,
-            seat,
-            strays,
-            book,
-        } = task;
-        let mut book = book;
+        let (state, seat, strays, mut book) = task.into_parts();
         match ThreadActor::new(alloc, script, sections, state, seat, strays) {
             Ok(actor) => Ok(Runner { actor, book }),
             Err(refused) => {

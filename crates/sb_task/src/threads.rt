@@ -30,7 +30,6 @@ use std::snapshot::Snapshot;
 
 /// A thread that makes its steps on the sections of all targets, with a seat for its calls and a stray seat in each section. Contracts see
 /// where it stands, what its seats know, and its results so far.
-#[derive(Drop)]
 pub struct ThreadActor<'a> {
     script: &'a Script,
     sections: &'a [Section],
@@ -41,6 +40,22 @@ pub struct ThreadActor<'a> {
     // The seats as they were handed to the actor, for proofs.
     first: Snapshot<ThreadSeat>,
     first_strays: Snapshot<Vec<StraySeat>>,
+}
+
+// By hand, so that it is proved here once and not at each place that drops one.
+impl<'a> Drop for ThreadActor<'a> {
+    fn drop(self) {
+        let ThreadActor {
+            script: _,
+            sections: _,
+            state: _,
+            seat: _,
+            strays: _,
+            results: _,
+            first: _,
+            first_strays: _,
+        } = self;
+    }
 }
 
 impl<'a> Model for ThreadActor<'a> {
@@ -275,6 +290,16 @@ impl<'a> ThreadActor<'a> {
         ensures notes { OwnNotes self.entry.script self.entry.thread.target self.entry.thread.thread result.0.items [] Over self.entry.first.view.notes result.1.view.notes }
         ensures stray_notes { AllHandNotes self.entry.script self.entry.thread.target self.entry.thread.thread result.0.items self.entry.first_strays result.2.items }
     {
-        (self.results, self.seat, self.strays)
+        let ThreadActor {
+            script: _,
+            sections: _,
+            state: _,
+            seat,
+            strays,
+            results,
+            first: _,
+            first_strays: _,
+        } = self;
+        (results, seat, strays)
     }
 }

@@ -26,7 +26,6 @@ use std::sync::Wait;
 
 /// A worker that serves the channels of a section, with a seat there and a seat of the turn. Contracts see where it stands, what its seats
 /// know, and the book and the decision that it carries.
-#[derive(Drop)]
 pub struct WorkerActor<'a, J: Judge, G: Gate> {
     judge: &'a J,
     gate: &'a G,
@@ -41,6 +40,24 @@ pub struct WorkerActor<'a, J: Judge, G: Gate> {
     decision: Option<Decision>,
     // Whether it has found no memory.
     failed: bool,
+}
+
+// By hand, so that it is proved here once and not at each place that drops one.
+impl<'a, J: Judge, G: Gate> Drop for WorkerActor<'a, J, G> {
+    fn drop(self) {
+        let WorkerActor {
+            judge: _,
+            gate: _,
+            section: _,
+            turn: _,
+            state: _,
+            seat: _,
+            book_seat: _,
+            book: _,
+            decision: _,
+            failed: _,
+        } = self;
+    }
 }
 
 impl<'a, J: Judge, G: Gate> Model for WorkerActor<'a, J, G> {
@@ -293,6 +310,18 @@ impl<'a, J: Judge, G: Gate> WorkerActor<'a, J, G> {
         ensures book { result.2 ≡ self.entry.book }
         ensures serve { CanServe self.entry.section self.entry.turn self.entry.policies result.0 result.1 result.2 }
     {
-        (self.state, self.seat, self.book_seat)
+        let WorkerActor {
+            judge: _,
+            gate: _,
+            section: _,
+            turn: _,
+            state,
+            seat,
+            book_seat,
+            book: _,
+            decision: _,
+            failed: _,
+        } = self;
+        (state, seat, book_seat)
     }
 }

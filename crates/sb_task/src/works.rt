@@ -11,11 +11,21 @@ use std::marker::Model;
 
 /// A worker that looks, its seat in the section of its target, and its seat of the turn, which has not the turn. The entries that this
 /// marked are the calls that the worker's seat served.
-#[derive(Drop)]
 pub struct Work {
     state: WorkerState,
     seat: WorkerSeat,
     book: BookSeat,
+}
+
+// By hand, so that it is proved here once and not at each place that drops one.
+impl Drop for Work {
+    fn drop(self) {
+        let Work {
+            state: _,
+            seat: _,
+            book: _,
+        } = self;
+    }
 }
 
 impl Model for Work {

@@ -9,7 +9,7 @@ use crate::words::Words;
 use std::marker::Model;
 
 /// A line of bytes that says something.
-#[derive(Clone, Copy, Debug, PartialEq, Eq)]
+#[derive(Clone, Copy)]
 pub struct ByteLine<'a> {
     /// The number of the line among all lines, from 1.
     pub number: u32,
@@ -27,7 +27,7 @@ impl<'a> ByteLine<'a> {
 }
 
 /// What is left of bytes: the lines that say something, with their numbers.
-#[derive(Debug, Drop)]
+#[derive(Drop)]
 pub struct ByteLines<'a> {
     rest: &'a [u8],
     passed: u32,

@@ -10,7 +10,7 @@ use crate::tokens::{Token, Tokens};
 use std::marker::Model;
 
 /// A line that says something.
-#[derive(Clone, Copy, Debug, PartialEq, Eq)]
+#[derive(Clone, Copy)]
 pub struct Line<'a> {
     /// The number of the line in its text, from 1.
     pub number: u32,
@@ -46,7 +46,7 @@ impl<'a> Line<'a> {
 }
 
 /// What is left of a text: the lines that say something, with their numbers.
-#[derive(Debug, Drop)]
+#[derive(Drop)]
 pub struct Lines<'a> {
     rest: &'a str,
     passed: u32,

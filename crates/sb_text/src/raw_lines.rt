@@ -6,7 +6,7 @@ use crate::cuts::cut_bytes;
 use std::marker::Model;
 
 /// A line as it stands between LFs.
-#[derive(Clone, Copy, Debug, PartialEq, Eq)]
+#[derive(Clone, Copy)]
 pub struct RawLine<'a> {
     /// The number of the line, from 1.
     pub number: u32,
@@ -17,7 +17,7 @@ pub struct RawLine<'a> {
 }
 
 /// What is left of bytes: their lines as they stand between LFs.
-#[derive(Debug, Drop)]
+#[derive(Drop)]
 pub struct RawLines<'a> {
     rest: &'a [u8],
     passed: u32,

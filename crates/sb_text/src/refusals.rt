@@ -7,7 +7,7 @@ use std::fmt::Display;
 use thiserror::Error;
 
 /// What is wrong with a line of a text.
-#[derive(Clone, Copy, Debug, PartialEq, Eq, Error)]
+#[derive(Clone, Copy, Debug, Error)]
 #[error("line {line}: {kind}")]
 #[error_bound(K: Display)]
 pub struct LineFault<K> {
@@ -18,7 +18,7 @@ pub struct LineFault<K> {
 }
 
 /// Why nothing was read.
-#[derive(Clone, Copy, Debug, PartialEq, Eq, Error)]
+#[derive(Clone, Copy, Debug, Error)]
 #[error_bound(F: Display)]
 pub enum Refused<F> {
     /// This fault was met, and none before it.

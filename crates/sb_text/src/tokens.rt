@@ -9,7 +9,7 @@ use crate::laws::tokens_are_found;
 use std::marker::Model;
 
 /// A token of a line, or bytes that break the rules for tokens.
-#[derive(Clone, Copy, Debug, PartialEq, Eq)]
+#[derive(Clone, Copy)]
 pub enum Token<'a> {
     /// The bytes of a word: neither a blank nor a `"` is among them, and they are not empty.
     Word(&'a [u8]),
@@ -20,7 +20,7 @@ pub enum Token<'a> {
 }
 
 /// What is left of a line: its tokens, the next of them at hand.
-#[derive(Debug, Drop)]
+#[derive(Drop)]
 pub struct Tokens<'a> {
     next: Option<Token<'a>>,
     rest: &'a str,

@@ -9,7 +9,7 @@ use std::str;
 use thiserror::Error;
 
 /// The bytes are not UTF-8.
-#[derive(Clone, Copy, Debug, PartialEq, Eq, Error)]
+#[derive(Clone, Copy, Debug, Error)]
 #[error("line {line} is not UTF-8")]
 pub struct NotUtf8 {
     /// The line, from 1, of the first byte at which the bytes are not UTF-8.

@@ -8,7 +8,7 @@ use crate::blanks::is_blank;
 use std::marker::Model;
 
 /// What is left of a line: its words. A `"` is a byte like any other.
-#[derive(Debug, Drop)]
+#[derive(Drop)]
 pub struct Words<'a> {
     rest: &'a [u8],
 }

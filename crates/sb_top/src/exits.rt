@@ -25,7 +25,7 @@ pub fn exit_code(status: Status) -> u8
 }
 
 /// What the program says of a status on standard error. It is one line.
-#[derive(Clone, Copy, Debug)]
+#[derive(Clone, Copy)]
 pub struct Complaint {
     /// The status that is spoken of.
     pub status: Status,

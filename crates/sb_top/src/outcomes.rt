@@ -6,7 +6,7 @@ use sb_schedule::ScheduleFault;
 use sb_script::ScriptFault;
 
 /// How a command ended. Files are numbered by their place in the command, from 1.
-#[derive(Clone, Copy, Debug, PartialEq, Eq)]
+#[derive(Clone, Copy, Debug)]
 pub enum Status {
     /// All was put.
     Done,
@@ -33,10 +33,19 @@ pub enum Status {
 }
 
 /// The status, and the report of a run with Done, Unfinished and WriteFault.
-#[derive(Debug, Drop)]
 pub struct Outcome {
     /// How the command ended.
     pub status: Status,
     /// What its run gave.
     pub report: Option<Report>,
+}
+
+// By hand, so that it is proved here once and not at each place that drops one.
+impl Drop for Outcome {
+    fn drop(self) {
+        let Outcome {
+            status: _,
+            report: _,
+        } = self;
+    }
 }

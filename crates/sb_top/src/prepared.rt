@@ -9,7 +9,6 @@ use sb_rule::Policies;
 use sb_statements::{Schedule, Script};
 
 /// Policies, a script that can be run under them, and a schedule of its actors.
-#[derive(Debug, Drop)]
 pub struct Prepared {
     /// The policies.
     pub policies: Policies,
@@ -22,8 +21,18 @@ pub struct Prepared {
     ghost short: { HasShortNames script },
 }
 
+// By hand, so that it is proved here once and not at each place that drops one.
+impl Drop for Prepared {
+    fn drop(self) {
+        let Prepared {
+            policies: _,
+            script: _,
+            schedule: _,
+        } = self;
+    }
+}
+
 /// Policies, and a script that can be run under them on threads.
-#[derive(Debug, Drop)]
 pub struct Readied {
     /// The policies.
     pub policies: Policies,
@@ -32,4 +41,14 @@ pub struct Readied {
     ghost ready: { is_ready policies.list script ≡ true },
     ghost units: { script_has_units script ≡ true },
     ghost short: { HasShortNames script },
+}
+
+// By hand, so that it is proved here once and not at each place that drops one.
+impl Drop for Readied {
+    fn drop(self) {
+        let Readied {
+            policies: _,
+            script: _,
+        } = self;
+    }
 }

@@ -20,11 +20,17 @@ use std::snapshot::Snapshot;
 pub(crate) type Words = Shared<Option<Book>, BookView, Snapshot<Book>, OneHolder>;
 
 /// A seat of a turn. It serves the target of its number: all entries that it marks are of that target.
-#[derive(Drop)]
 pub struct BookSeat {
     pub(crate) seat: Seat<Option<Book>, BookView>,
     // One more than the seat's number: what the turn word is while this seat has the turn.
     pub(crate) name: u64,
+}
+
+// By hand, so that it is proved here once and not at each place that drops one.
+impl Drop for BookSeat {
+    fn drop(self) {
+        let BookSeat { seat: _, name: _ } = self;
+    }
 }
 
 impl Model for BookSeat {
@@ -51,6 +57,16 @@ fn mark_as<J: Marking>(words: &Words, seat: &mut Seat<Option<Book>, BookView>, b
 }
 
 impl BookSeat {
+    // The seat of the table.
+    pub(crate) fn into_seat(self) -> Seat<Option<Book>, BookView>
+        ensures table { result.table_id ≡ self.table }
+        ensures view { result.me.0 ≡ self.view }
+        ensures live { result.me.0.live ≡ true }
+    {
+        let BookSeat { seat, name: _ } = self;
+        seat
+    }
+
     // Makes another seat of the one that keeps count.
     pub(crate) fn another(&mut self, words: &Words, number: u32) -> BookSeat
         requires own { (self.old.table ≡ words.now.table_id) × (0 < words.now.table_id.words) }

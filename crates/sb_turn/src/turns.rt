@@ -14,16 +14,22 @@ use std::marker::Model;
 use std::snapshot::Snapshot;
 
 /// Out of memory for a turn. The book comes back.
-#[derive(Debug, Drop)]
+#[derive(Drop)]
 pub struct TurnRefused {
     /// The book that was to be shared.
     pub book: Book,
 }
 
 /// A book that one seat at a time has.
-#[derive(Drop)]
 pub struct Turn {
     pub(crate) table: Table<Option<Book>, BookView, Snapshot<Book>, OneHolder, Global>,
+}
+
+// By hand, so that it is proved here once and not at each place that drops one.
+impl Drop for Turn {
+    fn drop(self) {
+        let Turn { table: _ } = self;
+    }
 }
 
 impl Model for Turn {
@@ -113,8 +119,7 @@ impl Turn {
         ensures own { AreDivided seat.view (since self.origin.value.entries result.entries) }
     {
         let Turn { table } = self;
-        let BookSeat { seat, name: _ } = seat;
-        let mut closed = table.close_with(seat);
+        let mut closed = table.close_with(seat.into_seat());
         let place = closed.take(0);
         closed.free();
         let Some(book) = place else { unreachable!() };

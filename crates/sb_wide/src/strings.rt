@@ -8,9 +8,15 @@ use std::alloc::Global;
 use std::marker::Model;
 
 /// A list of UTF-16 units. A surrogate may stand alone.
-#[derive(Debug, Drop)]
 pub struct Wide {
     units: Vec<u16>,
+}
+
+// By hand, so that it is proved here once and not at each place that drops one.
+impl Drop for Wide {
+    fn drop(self) {
+        let Wide { units: _ } = self;
+    }
 }
 
 impl Model for Wide {
@@ -33,7 +39,8 @@ impl Wide {
     pub fn into_units(self) -> Vec<u16>
         ensures { result.items ≡ self }
     {
-        self.units
+        let Wide { units } = self;
+        units
     }
 
     /// The units.

@@ -1,7 +1,5 @@
-use Rattle.std.proofs.Common.{◌≡◌, ◌<◌, length, [], ◌∷◌, ◌++◌, ap, sym, subst, ◌∙◌, arith}
+use Rattle.std.proofs.Common.{◌≡◌, ◌<◌, length, [], ◌∷◌, ◌++◌, ap, sym, ◌∙◌, arith}
 use Rattle.core.specs.Mem.Slots.{slots_items, slots_counts}
-use Rattle.sb_section.specs.Closing.{HasTakenAll}
-use Rattle.sb_section.specs.Seats.{worker_in}
 use Rattle.sb_section.proofs.Closing.{closes}
 use Rattle.sb_section.proofs.Places.{at_below, read_at, take_all, take_snoc}
 use Rattle.sb_section.proofs.sections.Section.close.Goals as goal
@@ -17,7 +15,6 @@ pub returns : goal.returns
 returns c =
     let xs = slots_items c.close_with-closed.result.words in
     let counts = slots_counts c.close_with-closed.result.words in
-    let all : HasTakenAll (worker_in c.worker.inside.seat.me.0) = subst (λ z. HasTakenAll z.view) (sym c.worker.view_is) c.requires.all in
     let whole : c.loop-place.words.items ≡ xs = c.loop-place.invariant.0 ∙ take_all xs c.loop-place.place (omega arith) in
-    let closed = closes c.self.inside.table.shared.key.items xs _ c.worker.inside.seat.id c.worker.inside.seat.me (worker_in c.worker.inside.seat.me.0) c.worker.invariant all c.close_with-closed.ensures.values.2 in
-    rw (whole, ← c.self.view_is, ← c.worker.view_is) closed
+    let closed = closes c.self.inside.table.shared.key.items xs _ c.into_seat.result.id c.into_seat.result.me c.args.worker.view c.into_seat.ensures.view c.requires.all c.close_with-closed.ensures.values.2 in
+    rw (whole, ← c.self.view_is) closed
