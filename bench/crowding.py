@@ -15,6 +15,9 @@ FILES = 2000
 SCRIPTS = [
     ("two nested names of 1.3 MB", ['dir "\\%s"' % LONG, 'dir "\\%s\\n"' % LONG], ['ping 0 ""'], 0.2),
     ("4,096 events with names of 800 units", ['event "\\%s%04d" 0 0' % ("n" * 795, n) for n in range(CALLS)], ['ping 0 ""'], 0.15),
+    ("the same names falling", ['event "\\%s%04d" 0 0' % ("n" * 795, n) for n in reversed(range(CALLS))], ['ping 0 ""'], 0.15),
+    ("the same names shuffled", ['event "\\%s%04d" 0 0' % ("n" * 795, n * 1597 % CALLS) for n in range(CALLS)], ['ping 0 ""'], 0.15),
+    ("900 directories, each below the one before", ['dir "%s"' % ("\\d" * n) for n in range(1, 901)], ['ping 0 ""'], 0.15),
     ("4,096 opens of one file", ['file "\\f" 0'], ['file.open "\\f" 0x80000000 7 0'] * CALLS, 0.1),
     (
         "4,096 renames of a directory of 2,000 files, with 2,000 names after it",

@@ -1,8 +1,11 @@
-"""Open handles: granting, looking up and closing them."""
+"""Open handles: granting, looking up and closing them, and opening one object again and again."""
 import programs
 
 ROUNDS = 200
 MANY = ROUNDS * 100_000
+
+OPENS = 10 * 65_536
+LEAST_OPENS = 300_000
 
 
 def measure(runs):
@@ -12,3 +15,8 @@ def measure(runs):
     lookups = programs.seconds_spent(runs, "handles-lookup", ROUNDS, "held %d" % MANY, "held 0")
     closes = programs.seconds_spent(runs, "handles-close", ROUNDS, "closed %d" % MANY, "closed 0") - grants
     print("handles: %d grants, %d look-ups, %d closes per second" % (MANY / grants, MANY / lookups, MANY / closes))
+    held = programs.seconds_spent(runs, "opens-held", 10, "opened %d" % OPENS, "opened 0")
+    closed = programs.seconds_spent(runs, "opens-closed", 10, "opened %d" % OPENS, "opened 0")
+    print("one object: %d opens per second that are held, %d that are closed again" % (OPENS / held, OPENS / closed))
+    if min(OPENS / held, OPENS / closed) < LEAST_OPENS:
+        programs.miss("fewer than %d opens per second" % LEAST_OPENS)

@@ -47,13 +47,6 @@ one_more keeps folds events rows name row number next own e is_name are = record
   named = subst AreNamed (sym e) (named_put (key_of name) row events.rows are.named (folds name is_name));
 }
 
-pub as_before : (events : Events) (rows : Rows EventRow) (made : ℕ) → rows ≡ events.rows → made ≡ events.made → AreMade events
-    → AreMade (record { rows = rows; made = made })
-as_before events rows made e n are = record {
-  numbered = subst (λ k. AreNumbered number_of k rows) (sym n) (subst (λ rows. AreNumbered number_of events.made rows) (sym e) are.numbered);
-  named = subst AreNamed (sym e) are.named;
-}
-
 -- one more was made where the name was free
 pub one_more_if_free : PutsKeepNumbers EventRow → NamesFold → (events : Events) (rows : Rows EventRow) (name : List ℕ) (row : EventRow) (number : ℕ)
     → number ≡ events.made + 1 → row.number ≡ events.made + 1 → is_there events.rows name ≡ false → rows ≡ put_new events.rows name row → is_name_of name ≡ true

@@ -8,7 +8,7 @@ ghost use Rattle.sb_event.specs.Events.{AreEvents, no_events, with_event, on_eve
 use crate::rows::EventRow;
 use sb_call::{Answer, INVALID_PARAMETER, NAME_EXISTS, NAME_NOT_FOUND, SUCCESS, TYPE_MISMATCH};
 use sb_handles::{HandleTable, Held, Object, Service};
-use sb_names::{NameMap, names_fold, numbers_are_kept, puts_come_back};
+use sb_names::{NameMap, names_fold, numbers_are_kept};
 use sb_wide::NoMemory;
 use std::alloc::Global;
 use std::marker::Model;
@@ -108,22 +108,14 @@ impl EventService {
     ) -> Result<Answer, NoMemory>
         requires name { is_name_of name.now ≡ true }
         requires absent { found self.old.rows name.now ≡ None }
-        requires granted { handles.old.granted < 2 ^ 63 }
         requires made { self.old.made < 2 ^ 63 }
-        ensures effect { IfOk result (λ a. IsDone (create_by None self.old handles.old target name.now kind initial) self.new handles.new a) }
-        ensures err { OnErr result ((self.new ≡ self.old) × (handles.new ≡ handles.old)) }
+        ensures effect { IfOk result (λ a. IsDone (create_by None self.old handles.old.table target name.now kind initial) self.new handles.new.table a) }
+        ensures err { OnErr result ((self.new ≡ self.old) × (handles.new.table ≡ handles.old.table)) }
     {
-        puts_come_back::<EventRow>();
-        self.events_are_made();
+        handles.reserve()?;
         let number = self.add_next(name, kind, initial)?;
-        match handles.grant(target, on_event(number, 0)) {
-            Ok(handle) => Ok(Answer::with_words(SUCCESS, handle, kind, initial)),
-            Err(error) => {
-                self.rows.remove(name);
-                self.made = number - 1;
-                Err(error)
-            }
-        }
+        let handle = handles.grant_reserved(target, on_event(number, 0));
+        Ok(Answer::with_words(SUCCESS, handle, kind, initial))
     }
 
     /// Makes an event, or opens the one that is there, and grants the target a handle on it with access 0. The first of
@@ -146,10 +138,9 @@ impl EventService {
         initial: u64,
     ) -> Result<Answer, NoMemory>
         requires name { is_name_of name.now ≡ true }
-        requires granted { handles.old.granted < 2 ^ 63 }
         requires made { self.old.made < 2 ^ 63 }
-        ensures effect { IfOk result (λ a. IsDone (create self.old handles.old target name.now kind initial) self.new handles.new a) }
-        ensures err { OnErr result ((self.new ≡ self.old) × (handles.new ≡ handles.old)) }
+        ensures effect { IfOk result (λ a. IsDone (create self.old handles.old.table target name.now kind initial) self.new handles.new.table a) }
+        ensures err { OnErr result ((self.new ≡ self.old) × (handles.new.table ≡ handles.old.table)) }
     {
         if kind > 1 || initial > 1 {
             return Ok(Answer::refusal(INVALID_PARAMETER));
@@ -178,10 +169,9 @@ impl EventService {
         access: u64,
     ) -> Result<Answer, NoMemory>
         requires name { is_name_of name.now ≡ true }
-        requires granted { handles.old.granted < 2 ^ 63 }
-        ensures effect { IfOk result (λ a. IsDone (open_by_name self.old handles.old target name.now access) self.new handles.new a) }
+        ensures effect { IfOk result (λ a. IsDone (open_by_name self.old handles.old.table target name.now access) self.new handles.new.table a) }
         ensures service { self.new ≡ self.old }
-        ensures err { OnErr result (handles.new ≡ handles.old) }
+        ensures err { OnErr result (handles.new.table ≡ handles.old.table) }
     {
         match self.rows.find(name) {
             None => Ok(Answer::refusal(NAME_NOT_FOUND)),

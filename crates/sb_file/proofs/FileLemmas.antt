@@ -55,34 +55,6 @@ parent_there files name h = by (parent_of name) h
     by [] h = refl
     by (u ∷ us) h = found_by (found files.names (u ∷ us)) h
 
--- what stood in a result
-ok_of : {X E : Type 0} (a b : X) (u v : Result X E) → u ≡ Ok a → v ≡ Ok b → u ≡ v → a ≡ b
-ok_of {X} {E} a b u v p q e = sym (ap value_or p) ∙ ap value_or e ∙ ap value_or q
-  where
-    value_or : Result X E → X
-    value_or (Ok x) = x
-    value_or (Err _) = a
-
--- a name that is added where it may be
-pub added_to : (rows more : Rows ℕ) (name : List ℕ) (object : ℕ) → added rows name object ≡ Ok more → has_tree_parent rows name ≡ true → found rows name ≡ None
-    → more ≡ put rows name object
-added_to rows more name object e parent absent =
-    let made : added rows name object ≡ Ok (put rows name object) = rw (parent, absent) refl in
-    sym (ok_of (put rows name object) more (added rows name object) (added rows name object) made e refl)
-
--- a name that is renamed where it may be
-pub renamed_to : (rows more : Rows ℕ) (from to : List ℕ) (number : ℕ) → renamed_tree rows from to ≡ Ok more → found rows from ≡ Some number
-    → is_below (key_of from) (key_of to) ≡ false → has_tree_parent rows to ≡ true → is_there rows to ≡ false → more ≡ renamed_rows rows from to
-renamed_to rows more from to number e there apart parent absent =
-    let made : renamed_tree rows from to ≡ Ok (renamed_rows rows from to) = rw (there, apart, parent, absent) refl in
-    sym (ok_of (renamed_rows rows from to) more (renamed_tree rows from to) (renamed_tree rows from to) made e refl)
-
--- what is found was made
-pub made_if_found : (files : Files) (name : List ℕ) → AreObjects files → (o : Option ℕ) → found files.names name ≡ o
-    → IfSome o (λ number. (1 ≤ number) × (number ≤ length files.objects))
-made_if_found files name are None f = tt
-made_if_found files name are (Some number) f = found_made files name number are f
-
 -- files of which one is opened
 pub files_opened : (files : Files) (shares : Shares) (object handle : ℕ) (share : Share) → shares ≡ opened files.shares object handle share
     → 1 ≤ object → object ≤ length files.objects → AreObjects files → AreObjects (record files { shares = shares })
@@ -173,15 +145,20 @@ shared_out conflict share_refused.NoMemory r v = absurd (false≢true v)
 
 -- files that were renamed
 pub files_renamed : RenamesKeepNumbers → RenamesKeepParents → (files : Files) (more : Rows ℕ) (from to : List ℕ) (number : ℕ)
-    → IsTree files.names → AreFolded files.names → is_name_of from ≡ true → is_name_of to ≡ true → renamed_tree files.names from to ≡ Ok more
-    → found files.names from ≡ Some number → is_below (key_of from) (key_of to) ≡ false → has_parent files to ≡ true → is_there files.names to ≡ false
+    → IsTree files.names → AreFolded files.names → is_name_of from ≡ true → is_name_of to ≡ true → more ≡ renamed_rows files.names from to
+    → found files.names from ≡ Some number → is_below (key_of from) (key_of to) ≡ false → has_parent files to ≡ true → found files.names to ≡ None
     → AreObjects files → AreObjects (record files { names = more })
-files_renamed keeps parents files more from to number tree folded is_from is_to e there apart parent absent are =
-    let same : more ≡ renamed_rows files.names from to = renamed_to files.names more from to number e there apart (parent_there files to parent) absent in record {
-      made = subst (λ rows. AreNumbered (λ n. n) (length files.objects) rows) (sym same) (keeps (length files.objects) files.names from to are.made);
-      parents = with_new_name files are.made.given are.parents parents more from to tree folded is_from is_to e parent;
-      shared = are.shared;
-    }
+files_renamed keeps parents files more from to number tree folded is_from is_to same there apart parent absent are = record {
+  made = subst (λ rows. AreNumbered (λ n. n) (length files.objects) rows) (sym same) (keeps (length files.objects) files.names from to are.made);
+  parents = with_new_name files are.made.given are.parents parents more from to tree folded is_from is_to done parent;
+  shared = are.shared;
+}
+  where
+    done : renamed_tree files.names from to ≡ Ok more
+    done =
+        let has : has_tree_parent files.names to ≡ true = parent_there files to parent in
+        let made : renamed_tree files.names from to ≡ Ok (renamed_rows files.names from to) = rw (there, apart, has, absent) refl in
+        made ∙ ap (λ rows. Ok rows) (sym same)
 
 -- what the object of a parent says of it
 abbrev is_root : Option (Option ℕ) → Bool
@@ -229,16 +206,3 @@ module _ (files : Files) (name : List ℕ) where
             → is_directory_there files path ≡ is_directory (object_of files number).kind
         by [] e = absurd (false≢true (ap is_root e))
         by (u ∷ us) e = by_number (found files.names (u ∷ us)) e
-
-    pub parent_is_made : AreObjects files → (1 ≤ number) × (number ≤ length files.objects)
-    parent_is_made are = by (parent_of name) e
-      where
-        by_number : (path : List ℕ) (o : Option ℕ) → found files.names path ≡ o → Some (Some number) ≡ option_map (λ n. Some n) o
-            → (1 ≤ number) × (number ≤ length files.objects)
-        by_number path None f e = absurd (false≢true (sym (ap is_some e)))
-        by_number path (Some n) f e =
-            subst (λ m. (1 ≤ m) × (m ≤ length files.objects)) (sym (ap (number_or n) e)) (found_made files path n are f)
-
-        by : (path : List ℕ) → Some (Some number) ≡ directory_object files.names path → (1 ≤ number) × (number ≤ length files.objects)
-        by [] e = absurd (false≢true (ap is_root e))
-        by (u ∷ us) e = by_number (u ∷ us) (found files.names (u ∷ us)) refl e

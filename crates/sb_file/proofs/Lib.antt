@@ -6,3 +6,4 @@ pub mod ParentLemmas
 pub mod RenameLaws
 pub mod RowLemmas
 mod WorkedCases
+pub mod SeekLemmas

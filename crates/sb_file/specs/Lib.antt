@@ -1,3 +1,4 @@
 pub mod Creation
 pub mod Files
 pub mod Laws
+pub mod Seeks

@@ -1,16 +1,19 @@
 // What file.create and file.open do.
-ghost use Rattle.std.specs.Prelude.{◌≡◌, ◌<◌, ◌≤◌, ◌+◌, ◌^◌, ◌||◌, ◌==◌, true, None, Some, IfOk, IfErr, OnOk, OnErr, length};
+ghost use Rattle.std.specs.Prelude.{◌≡◌, ◌<◌, ◌≤◌, ◌+◌, ◌^◌, ◌++◌, ◌∷◌, [], true, None, Some, IfOk, IfErr, OnOk, OnErr, length};
 ghost use Rattle.sb_wide.specs.Names.{is_name_of};
 ghost use Rattle.sb_call.specs.Statuses.{refusal, sharing_violation};
 ghost use Rattle.sb_handles.specs.Agreements.{AgreesOnFiles, is_file};
 ghost use Rattle.sb_handles.specs.Effects.{IsDone};
 ghost use Rattle.sb_handles.specs.Shares.{IsRefusal, conflict_of, opened};
 ghost use Rattle.sb_handles.specs.Tables.{with_handle};
-ghost use Rattle.sb_names.specs.Maps.{found};
-ghost use Rattle.sb_file.specs.Files.{Agrees, has_parent, with_object};
-ghost use Rattle.sb_file.specs.Creation.{create, create_by, is_violation, object_asked, open_existing, open_by_name, open_or_create, opens, was_created};
+ghost use Rattle.sb_names.specs.Keys.{key_of, parent_of};
+ghost use Rattle.sb_names.specs.Maps.{found, put};
+ghost use Rattle.sb_names.specs.Nodes.{IsAt, number_of, rows_of};
+ghost use Rattle.sb_file.specs.Files.{Agrees};
+ghost use Rattle.sb_file.specs.Creation.{create, create_by, is_violation, object_asked, on_file, open_by_name, share_of};
 
-use crate::files::{FileService, add_object, set_attributes};
+use crate::files::{FileService, add_object, object_at, set_attributes, sought};
+use crate::objects::FileObject;
 use crate::requests::{
     CREATE_NEW, FileRequest, OPEN_EXISTING, OPEN_OR_CREATE, OVERWRITE, SUPERSEDE, is_invalid,
     object_asked, on_file, replaces, wants_directory, wants_file,
@@ -20,7 +23,7 @@ use sb_call::{
     NOT_A_DIRECTORY, PATH_NOT_FOUND, SHARING_VIOLATION, SUCCESS,
 };
 use sb_handles::{HandleTable, Held, ShareRefused, ShareTable, agreement_is_kept, opens_come_back};
-use sb_names::{numbers_are_kept, parents_are_kept, puts_come_back};
+use sb_names::{NameTree, NodeId, Seek, numbers_are_kept, parents_are_kept};
 use sb_wide::NoMemory;
 
 // What was done, as the extended word.
@@ -40,30 +43,25 @@ fn open(
     held: Held,
 ) -> Result<u64, ShareRefused>
     requires file { is_file held.object.service ≡ true }
-    requires granted { handles.old.granted < 2 ^ 63 }
-    requires agree { AgreesOnFiles shares.old handles.old }
-    ensures handle { IfOk result (λ handle. handle ≡ handles.old.granted + 1) }
+    requires agree { AgreesOnFiles shares.old handles.old.table }
+    ensures handle { IfOk result (λ handle. handle ≡ handles.old.table.granted + 1) }
     ensures free { OnOk result (conflict_of shares.old held.object.number held.access held.sharing ≡ None) }
-    ensures shares { OnOk result (shares.new ≡ opened shares.old held.object.number (handles.old.granted + 1) (record { access = held.access; sharing = held.sharing })) }
-    ensures handles { OnOk result (handles.new ≡ with_handle handles.old target held) }
-    ensures agree { AgreesOnFiles shares.new handles.new }
+    ensures shares { OnOk result (shares.new ≡ opened shares.old held.object.number (handles.old.table.granted + 1) (record { access = held.access; sharing = held.sharing })) }
+    ensures handles { OnOk result (handles.new.table ≡ with_handle handles.old.table target held) }
+    ensures agree { AgreesOnFiles shares.new handles.new.table }
     ensures refused { IfErr result (λ why. IsRefusal (conflict_of shares.old held.object.number held.access held.sharing) why) }
-    ensures err { OnErr result ((shares.new ≡ shares.old) × (handles.new ≡ handles.old)) }
+    ensures err { OnErr result ((shares.new ≡ shares.old) × (handles.new.table ≡ handles.old.table)) }
 {
-    opens_come_back();
     agreement_is_kept();
     handles.numbers_rise();
+    match handles.reserve() {
+        Ok(()) => {}
+        Err(_) => return Err(ShareRefused::NoMemory),
+    }
     let number = handles.granted() + 1;
     match shares.try_open(held.object.number, number, held.access, held.sharing) {
-        Ok(()) => {}
-        Err(refused) => return Err(refused),
-    }
-    match handles.grant(target, held) {
-        Ok(handle) => Ok(handle),
-        Err(_) => {
-            shares.leave(number);
-            Err(ShareRefused::NoMemory)
-        }
+        Ok(()) => Ok(handles.grant_reserved(target, held)),
+        Err(refused) => Err(refused),
     }
 }
 
@@ -78,67 +76,50 @@ fn not_opened(refused: ShareRefused) -> Result<Answer, NoMemory>
     }
 }
 
+// Makes an object under a name that is not there, and grants a handle on it.
+fn create_new(
+    names: &mut NameTree,
+    objects: &mut Vec<FileObject>,
+    shares: &mut ShareTable,
+    handles: &mut HandleTable,
+    target: u32,
+    directory: Option<NodeId>,
+    name: &[u16],
+    request: FileRequest,
+) -> Result<u64, NoMemory>
+    requires name { is_name_of name.now ≡ true }
+    requires at { IsAt names.old (number_of directory) (key_of (parent_of name.now)) }
+    requires absent { found (rows_of names.old) name.now ≡ None }
+    requires made { length objects.old.items < 2 ^ 63 }
+    requires agree { AgreesOnFiles shares.old handles.old.table }
+    ensures handle { IfOk result (λ handle. handle ≡ handles.old.table.granted + 1) }
+    ensures names { OnOk result (rows_of names.new ≡ put (rows_of names.old) name.now (length objects.old.items + 1)) }
+    ensures objects { OnOk result (objects.new.items ≡ objects.old.items ++ object_asked request ∷ []) }
+    ensures shares { OnOk result (shares.new ≡ opened shares.old (length objects.old.items + 1) (handles.old.table.granted + 1) (share_of request)) }
+    ensures handles { OnOk result (handles.new.table ≡ with_handle handles.old.table target (on_file (length objects.old.items + 1) request)) }
+    ensures agree { AgreesOnFiles shares.new handles.new.table }
+    ensures err { OnErr result ((names.new ≡ names.old) × (objects.new.items ≡ objects.old.items) × (shares.new ≡ shares.old) × (handles.new.table ≡ handles.old.table)) }
+{
+    agreement_is_kept();
+    opens_come_back();
+    handles.numbers_rise();
+    handles.reserve()?;
+    let handle = handles.granted() + 1;
+    let held = on_file(objects.as_slice().len() as u64 + 1, request);
+    match shares.try_open(held.object.number, handle, held.access, held.sharing) {
+        Ok(()) => {}
+        Err(_) => return Err(NoMemory),
+    }
+    match add_object(names, objects, directory, name, object_asked(request)) {
+        Ok(_) => Ok(handles.grant_reserved(target, held)),
+        Err(error) => {
+            shares.leave(held.object.number, handle);
+            Err(error)
+        }
+    }
+}
+
 impl FileService {
-    // Makes an object under a name that is not there, and grants a handle on it.
-    fn create_object(
-        &mut self,
-        handles: &mut HandleTable,
-        target: u32,
-        name: &[u16],
-        request: FileRequest,
-    ) -> Result<u64, NoMemory>
-        requires name { is_name_of name.now ≡ true }
-        requires parent { has_parent self.old name.now ≡ true }
-        requires absent { found self.old.names name.now ≡ None }
-        requires granted { handles.old.granted < 2 ^ 63 }
-        requires made { length self.old.objects < 2 ^ 63 }
-        requires agree { Agrees self.old handles.old }
-        ensures handle { IfOk result (λ handle. handle ≡ handles.old.granted + 1) }
-        ensures service { OnOk result (self.new ≡ (opens (with_object self.old name.now (object_asked request)) handles.old target (length self.old.objects + 1) request was_created).service) }
-        ensures handles { OnOk result (handles.new ≡ (opens (with_object self.old name.now (object_asked request)) handles.old target (length self.old.objects + 1) request was_created).handles) }
-        ensures agree { Agrees self.new handles.new }
-        ensures err { OnErr result ((self.new ≡ self.old) × (handles.new ≡ handles.old)) }
-    {
-        numbers_are_kept::<u64>();
-        parents_are_kept();
-        puts_come_back::<u64>();
-        let object = object_asked(request);
-        let number = add_object(&mut self.names, &mut self.objects, name, object)?;
-        match open(&mut self.shares, handles, target, on_file(number, request)) {
-            Ok(handle) => Ok(handle),
-            Err(_) => {
-                self.objects.pop();
-                self.names.take_back(name);
-                Err(NoMemory)
-            }
-        }
-    }
-
-    // file.create of a name that is not there.
-    fn create_absent(
-        &mut self,
-        handles: &mut HandleTable,
-        target: u32,
-        name: &[u16],
-        request: FileRequest,
-    ) -> Result<Answer, NoMemory>
-        requires name { is_name_of name.now ≡ true }
-        requires parent { has_parent self.old name.now ≡ true }
-        requires absent { found self.old.names name.now ≡ None }
-        requires granted { handles.old.granted < 2 ^ 63 }
-        requires made { length self.old.objects < 2 ^ 63 }
-        requires agree { Agrees self.old handles.old }
-        ensures effect { IfOk result (λ a. IsDone (create_by None self.old handles.old target name.now request) self.new handles.new a) }
-        ensures agree { Agrees self.new handles.new }
-        ensures err { OnErr result ((self.new ≡ self.old) × (handles.new ≡ handles.old)) }
-    {
-        if request.disposition == OPEN_EXISTING || request.disposition == OVERWRITE {
-            return Ok(Answer::refusal(NAME_NOT_FOUND));
-        }
-        let handle = self.create_object(handles, target, name, request)?;
-        Ok(Answer::with_word(SUCCESS, handle, WAS_CREATED))
-    }
-
     #[tactic(auto, using(crate::proofs::FileLemmas::shared_out))]
     // file.create of what is there.
     fn create_there(
@@ -151,14 +132,13 @@ impl FileService {
     ) -> Result<Answer, NoMemory>
         requires low { 1 ≤ number }
         requires high { number ≤ length self.old.objects }
-        requires granted { handles.old.granted < 2 ^ 63 }
-        requires agree { Agrees self.old handles.old }
-        ensures effect { IfOk result (λ a. IsDone (create_by (Some number) self.old handles.old target name.now request) self.new handles.new a) }
-        ensures agree { Agrees self.new handles.new }
-        ensures err { OnErr result ((self.new ≡ self.old) × (handles.new ≡ handles.old)) }
+        requires agree { Agrees self.old handles.old.table }
+        ensures effect { IfOk result (λ a. IsDone (create_by (Some number) self.old handles.old.table target name.now request) self.new handles.new.table a) }
+        ensures agree { Agrees self.new handles.new.table }
+        ensures err { OnErr result ((self.new ≡ self.old) × (handles.new.table ≡ handles.old.table)) }
     {
         let disposition = request.disposition;
-        let is_directory = self.object_of(number).kind.is_directory();
+        let is_directory = object_at(&self.objects, number).kind.is_directory();
         if disposition == CREATE_NEW {
             return Ok(Answer::refusal(NAME_COLLISION));
         }
@@ -210,22 +190,38 @@ impl FileService {
         request: FileRequest,
     ) -> Result<Answer, NoMemory>
         requires name { is_name_of name.now ≡ true }
-        requires granted { handles.old.granted < 2 ^ 63 }
         requires made { length self.old.objects < 2 ^ 63 }
-        requires agree { Agrees self.old handles.old }
-        ensures effect { IfOk result (λ a. IsDone (create self.old handles.old target name.now request) self.new handles.new a) }
-        ensures agree { Agrees self.new handles.new }
-        ensures err { OnErr result ((self.new ≡ self.old) × (handles.new ≡ handles.old)) }
+        requires agree { Agrees self.old handles.old.table }
+        ensures effect { IfOk result (λ a. IsDone (create self.old handles.old.table target name.now request) self.new handles.new.table a) }
+        ensures agree { Agrees self.new handles.new.table }
+        ensures err { OnErr result ((self.new ≡ self.old) × (handles.new.table ≡ handles.old.table)) }
     {
         if is_invalid(request) {
             return Ok(Answer::refusal(INVALID_PARAMETER));
         }
-        if !self.has_parent(name) {
-            return Ok(Answer::refusal(PATH_NOT_FOUND));
-        }
-        match self.number_of(name) {
-            Some(number) => self.create_there(handles, target, name, number, request),
-            None => self.create_absent(handles, target, name, request),
+        numbers_are_kept::<u64>();
+        parents_are_kept();
+        let disposition = request.disposition;
+        match sought(&self.names, &self.objects, name) {
+            Seek::NoDirectory => Ok(Answer::refusal(PATH_NOT_FOUND)),
+            Seek::There { object, .. } => self.create_there(handles, target, name, object, request),
+            Seek::Absent { .. } if disposition == OPEN_EXISTING || disposition == OVERWRITE => {
+                Ok(Answer::refusal(NAME_NOT_FOUND))
+            }
+            Seek::Absent { directory, .. } => {
+                let (names, objects) = (&mut self.names, &mut self.objects);
+                let handle = create_new(
+                    names,
+                    objects,
+                    &mut self.shares,
+                    handles,
+                    target,
+                    directory,
+                    name,
+                    request,
+                )?;
+                Ok(Answer::with_word(SUCCESS, handle, WAS_CREATED))
+            }
         }
     }
 
@@ -243,12 +239,11 @@ impl FileService {
         options: u64,
     ) -> Result<Answer, NoMemory>
         requires name { is_name_of name.now ≡ true }
-        requires granted { handles.old.granted < 2 ^ 63 }
         requires made { length self.old.objects < 2 ^ 63 }
-        requires agree { Agrees self.old handles.old }
-        ensures effect { IfOk result (λ a. IsDone (open_by_name self.old handles.old target name.now access sharing options) self.new handles.new a) }
-        ensures agree { Agrees self.new handles.new }
-        ensures err { OnErr result ((self.new ≡ self.old) × (handles.new ≡ handles.old)) }
+        requires agree { Agrees self.old handles.old.table }
+        ensures effect { IfOk result (λ a. IsDone (open_by_name self.old handles.old.table target name.now access sharing options) self.new handles.new.table a) }
+        ensures agree { Agrees self.new handles.new.table }
+        ensures err { OnErr result ((self.new ≡ self.old) × (handles.new.table ≡ handles.old.table)) }
     {
         self.create(
             handles,

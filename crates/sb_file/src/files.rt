@@ -1,18 +1,22 @@
 // The files and directories, and what each call but file.create does.
 ghost use Rattle.std.specs.Prelude.{◌≡◌, ◌<◌, ◌≤◌, ◌+◌, ◌-◌, ◌^◌, ◌++◌, ◌∷◌, [], true, None, IfOk, IfSome, OnOk, OnErr, length, slice_set};
 ghost use Rattle.sb_wide.specs.Names.{is_name_of};
-ghost use Rattle.sb_names.specs.Maps.{count_in, found, put};
-ghost use Rattle.sb_names.specs.Nodes.{rows_of};
-ghost use Rattle.sb_names.specs.Trees.{has_parent as has_tree_parent};
-ghost use Rattle.sb_file.specs.Files.{AreFiles, no_files, object_at, object_of, has_parent, query, rename, can_start, started, closed};
+ghost use Rattle.sb_handles.specs.Laws.{IsOn};
+ghost use Rattle.sb_names.specs.Maps.{found, put};
+ghost use Rattle.sb_names.specs.Keys.{key_of, parent_of};
+ghost use Rattle.sb_names.specs.Nodes.{IsAt, number_of, rows_of};
+ghost use Rattle.sb_file.specs.Seeks.{IsSought, admits};
+ghost use Rattle.sb_file.specs.Files.{AreFiles, no_files, object_at, query, rename, can_start, started, closed};
 
 use crate::objects::{FileKind, FileObject};
 use sb_call::{
     Answer, INVALID_PARAMETER, NAME_COLLISION, NAME_NOT_FOUND, PATH_NOT_FOUND, SHARING_VIOLATION,
     SUCCESS,
 };
-use sb_handles::ShareTable;
-use sb_names::{NameTree, is_below, numbers_are_kept, parents_are_kept, renames_keep_numbers};
+use sb_handles::{ShareTable, handles_are_on_one_object};
+use sb_names::{
+    NameTree, NodeId, Seek, is_below, numbers_are_kept, parents_are_kept, renames_keep_numbers,
+};
 use sb_wide::NoMemory;
 use std::alloc::Global;
 use std::marker::Model;
@@ -57,13 +61,17 @@ impl Model for FileService {
     ghost invariant = { λ s. AreObjects (record { names = rows_of s.names; objects = s.objects.items; shares = s.shares }) };
 }
 
-// The object of a number.
-fn object_at(objects: &[FileObject], number: u64) -> FileObject
-    requires low { 1 ≤ number }
-    requires high { number ≤ length objects.now }
+// The object of a number; a file for one that was not made.
+pub(crate) fn object_at(objects: &[FileObject], number: u64) -> FileObject
     ensures { result ≡ object_at objects.now number }
 {
-    objects[(number - 1) as usize]
+    match objects.get(number.saturating_sub(1) as usize) {
+        Some(object) => *object,
+        None => FileObject {
+            kind: FileKind::File,
+            attributes: 0,
+        },
+    }
 }
 
 // Gives the object of a number other attributes.
@@ -80,27 +88,53 @@ pub(crate) fn set_attributes(objects: &mut Vec<FileObject>, number: u64, attribu
 pub(crate) fn add_object(
     names: &mut NameTree,
     objects: &mut Vec<FileObject>,
+    directory: Option<NodeId>,
     name: &[u16],
     object: FileObject,
 ) -> Result<u64, NoMemory>
     requires name { is_name_of name.now ≡ true }
-    requires parent { has_tree_parent (rows_of names.old) name.now ≡ true }
+    requires at { IsAt names.old (number_of directory) (key_of (parent_of name.now)) }
     requires absent { found (rows_of names.old) name.now ≡ None }
     requires made { length objects.old.items < 2 ^ 63 }
     ensures number { IfOk result (λ number. number ≡ length objects.old.items + 1) }
     ensures names { OnOk result (rows_of names.new ≡ put (rows_of names.old) name.now (length objects.old.items + 1)) }
-    ensures below { OnOk result (count_in (rows_of names.new) name.now ≡ 0) }
     ensures objects { OnOk result (objects.new.items ≡ objects.old.items ++ object ∷ []) }
     ensures err { OnErr result ((names.new ≡ names.old) × (objects.new.items ≡ objects.old.items)) }
 {
     objects.reserve(1)?;
     let number = objects.len() as u64 + 1;
-    match names.add(name, number) {
-        Ok(()) => {}
-        Err(_) => return Err(NoMemory),
-    }
-    let _ = objects.push(object);
+    names.add_at(directory, name, number)?;
+    objects.push_reserved(object);
     Ok(number)
+}
+
+// Whether names may stand in a directory, by its object: it is no file. They may in the root, which has none.
+fn admits(objects: &[FileObject], parent: Option<u64>) -> bool
+    ensures { result ≡ admits objects.now parent }
+{
+    match parent {
+        Some(number) => object_at(objects, number).kind.is_directory(),
+        None => true,
+    }
+}
+
+// Where the path of a name leads, if no file stands in its way.
+#[tactic(auto, using(crate::proofs::SeekLemmas::parent_gone, crate::proofs::SeekLemmas::parent_admits))]
+pub(crate) fn sought(names: &NameTree, objects: &[FileObject], name: &[u16]) -> Seek
+    requires { is_name_of name.now ≡ true }
+    ensures { IsSought names.now objects.now name.now result }
+{
+    let seek = names.seek(name);
+    match seek {
+        Seek::NoDirectory => seek,
+        Seek::Absent { parent, .. } | Seek::There { parent, .. } => {
+            if admits(objects, parent) {
+                seek
+            } else {
+                Seek::NoDirectory
+            }
+        }
+    }
 }
 
 impl FileService {
@@ -130,38 +164,6 @@ impl FileService {
         self.names.establish_tree();
     }
 
-    #[tactic(auto, using(crate::proofs::FileLemmas::found_made))]
-    // The number of the object under a name.
-    pub(crate) fn number_of(&self, name: &[u16]) -> Option<u64>
-        requires { is_name_of name.now ≡ true }
-        ensures found { result ≡ found self.now.names name.now }
-        ensures made { IfSome result (λ number. (1 ≤ number) × (number ≤ length self.now.objects)) }
-    {
-        self.names.find(name)
-    }
-
-    // The object of a number.
-    pub(crate) fn object_of(&self, number: u64) -> FileObject
-        requires low { 1 ≤ number }
-        requires high { number ≤ length self.now.objects }
-        ensures { result ≡ object_of self.now number }
-    {
-        object_at(&self.objects, number)
-    }
-
-    #[tactic(auto, using(crate::proofs::FileLemmas::parent_is_root, crate::proofs::FileLemmas::parent_is_gone))]
-    // Whether the parent of a name is there, and is a directory.
-    pub(crate) fn has_parent(&self, name: &[u16]) -> bool
-        requires { is_name_of name.now ≡ true }
-        ensures { result ≡ has_parent self.now name.now }
-    {
-        match self.names.parent_object(name) {
-            Some(Some(number)) => self.object_of(number).kind.is_directory(),
-            Some(None) => true,
-            None => false,
-        }
-    }
-
     /// Shows the attributes and the kind of what stands under a name. Statuses, the first that applies: path not found
     /// where the parent of the name is not there or is a file; name not found; success, with the attributes and 0 for a
     /// file or 1 for a directory as the extended words.
@@ -169,19 +171,16 @@ impl FileService {
         requires name { is_name_of name.now ≡ true }
         ensures { result ≡ query self.now name.now }
     {
-        if !self.has_parent(name) {
-            return Answer::refusal(PATH_NOT_FOUND);
-        }
-        match self.number_of(name) {
-            Some(number) => {
-                let object = self.object_of(number);
-                Answer::with_words(SUCCESS, 0, object.attributes, object.kind.number())
+        match sought(&self.names, &self.objects, name) {
+            Seek::NoDirectory => Answer::refusal(PATH_NOT_FOUND),
+            Seek::Absent { .. } => Answer::refusal(NAME_NOT_FOUND),
+            Seek::There { object, .. } => {
+                let FileObject { kind, attributes } = object_at(&self.objects, object);
+                Answer::with_words(SUCCESS, 0, attributes, kind.number())
             }
-            None => Answer::refusal(NAME_NOT_FOUND),
         }
     }
 
-    #[tactic(auto, using(crate::proofs::FileLemmas::renamed_to))]
     /// Gives a file or directory, and all below it, a new name: each name begins with `to` in the place of `name`. The
     /// handles stay with their objects. Statuses, the first that applies: path not found where the parent of `name` is not
     /// there or is a file; name not found; invalid parameter where `to` lies below `name`; path not found where the parent
@@ -201,21 +200,19 @@ impl FileService {
         renames_keep_numbers();
         parents_are_kept();
         self.names.establish_tree();
-        if !self.has_parent(name) {
-            return Ok(Answer::refusal(PATH_NOT_FOUND));
-        }
-        let Some(number) = self.number_of(name) else {
-            return Ok(Answer::refusal(NAME_NOT_FOUND));
+        let (node, number) = match sought(&self.names, &self.objects, name) {
+            Seek::NoDirectory => return Ok(Answer::refusal(PATH_NOT_FOUND)),
+            Seek::Absent { .. } => return Ok(Answer::refusal(NAME_NOT_FOUND)),
+            Seek::There { node, object, .. } => (node, object),
         };
         if is_below(name, to) {
             return Ok(Answer::refusal(INVALID_PARAMETER));
         }
-        if !self.has_parent(to) {
-            return Ok(Answer::refusal(PATH_NOT_FOUND));
-        }
-        if self.number_of(to).is_some() {
-            return Ok(Answer::refusal(NAME_COLLISION));
-        }
+        let directory = match sought(&self.names, &self.objects, to) {
+            Seek::NoDirectory => return Ok(Answer::refusal(PATH_NOT_FOUND)),
+            Seek::There { .. } => return Ok(Answer::refusal(NAME_COLLISION)),
+            Seek::Absent { directory, .. } => directory,
+        };
         if self
             .shares
             .check(number, RENAME_ACCESS, RENAME_SHARING)
@@ -223,10 +220,8 @@ impl FileService {
         {
             return Ok(Answer::refusal(SHARING_VIOLATION));
         }
-        match self.names.rename(name, to) {
-            Ok(()) => Ok(Answer::refusal(SUCCESS)),
-            Err(_) => Err(NoMemory),
-        }
+        self.names.rename_at(node, directory, name, to)?;
+        Ok(Answer::refusal(SUCCESS))
     }
 
     /// Whether `start` can place a directory or a file of this name: its parent is there and no file, and the name is free.
@@ -234,10 +229,12 @@ impl FileService {
         requires name { is_name_of name.now ≡ true }
         ensures { result ≡ can_start self.now name.now }
     {
-        self.has_parent(name) && self.number_of(name).is_none()
+        match sought(&self.names, &self.objects, name) {
+            Seek::Absent { .. } => true,
+            _ => false,
+        }
     }
 
-    #[tactic(auto, using(crate::proofs::FileLemmas::parent_there))]
     /// Places a directory or a file of the opening namespace. It answers false, and changes nothing, exactly where the
     /// parent of the name is not there or is a file, or the name is there.
     ///
@@ -253,25 +250,25 @@ impl FileService {
     {
         numbers_are_kept::<u64>();
         parents_are_kept();
-        if !self.has_parent(name) {
+        let Seek::Absent { directory, .. } = sought(&self.names, &self.objects, name) else {
             return Ok(false);
-        }
-        if self.number_of(name).is_some() {
-            return Ok(false);
-        }
+        };
         let object = FileObject {
             kind: FileKind::of(dir),
             attributes,
         };
-        add_object(&mut self.names, &mut self.objects, name, object)?;
+        add_object(&mut self.names, &mut self.objects, directory, name, object)?;
         Ok(true)
     }
 
-    /// Takes a handle that was held on the file or directory of a number out, once the handle table has closed it. It takes
-    /// part in sharing no more.
-    pub fn closed(&mut self, _number: u64, handle: u64)
+    /// Takes a handle out that was held on the file or directory of a number, and is open on no other, once the handle table
+    /// has closed it. It takes part in sharing no more.
+    pub fn closed(&mut self, number: u64, handle: u64)
+        requires { IsOn self.old.shares number handle }
         ensures { self.new ≡ closed self.old handle }
     {
-        self.shares.leave(handle);
+        handles_are_on_one_object();
+        self.shares.shares_rise();
+        self.shares.leave(number, handle);
     }
 }

@@ -4,3 +4,5 @@ pub mod SlotLemmas
 pub mod TableLaws
 pub mod ConflictLaws
 pub mod HistoryLaws
+pub mod Lowest
+pub mod Covering

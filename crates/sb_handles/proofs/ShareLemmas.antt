@@ -38,13 +38,8 @@ module _ {X : Type 0} (p q r : X → Bool) where
       let parts = and_parts (not (p x) || q x) (list_all (λ x. not (p x) || q x) xs) h in
       narrow x (q x) (find p xs) xs refl parts.0 (f x) (find_restricted xs parts.1 f)
 
-module _ {X : Type 0} (p : X → Bool) where
-  -- a filter that all pass
-  pub filter_all : (xs : List X) → list_all p xs ≡ true → filter p xs ≡ xs
-  filter_all [] h = refl
-  filter_all (x ∷ xs) h =
-      let parts = and_parts (p x) (list_all p xs) h in
-      rw (parts.0, filter_all xs parts.1) refl
+abbrev pub handles_of : ℕ → ℕ × ℕ → Bool
+handles_of object key = range_contains by_object (Included (object, 0)) (Included (object, 2 ^ 64 - 1)) key
 
 -- the keys of an object with handles of 64 bits
 pub in_range : (object low high : ℕ × ℕ) (key : ℕ × ℕ) → low ≡ object → high ≡ (object.0, 2 ^ 64 - 1) → object.1 ≡ 0
@@ -62,52 +57,6 @@ left_removed object handle (e ∷ es) = by (is_at (by_object (object, handle)) e
         let same : (e.0.1 == handle) ≡ true = grind (arith, nat_tests, h) in
         rw same refl
     by false h i = rw i refl
-
--- where a handle has no share, all shares are others'
-pub left_none : (m : BTreeMap (ℕ × ℕ) Share) (handle : ℕ) → IsOrdered by_object m
-    → ((object : ℕ) → is_some (get by_object m (object, handle)) ≡ false) → left m.entries handle ≡ m.entries
-left_none m handle ordered none =
-    filter_all (λ row. not (row.0.1 == handle)) m.entries (list_all-from_AllPass (λ row. not (row.0.1 == handle)) m.entries (λ i d l.
-    by (get_or m.entries i d).0 (get_or m.entries i d).1 (All-found pairs_total m ordered i d l) ((get_or m.entries i d).0.1 == handle) refl))
-  where
-    by : (key : ℕ × ℕ) (share : Share) → get by_object m key ≡ Some share → (s : Bool) → s ≡ (key.1 == handle) → not s ≡ true
-    by key share found false e = refl
-    by key share found true e =
-        let same : key.1 ≡ handle = grind (arith, nat_tests, e) in
-        let there : is_some (get by_object m (key.0, handle)) ≡ true = (λ k. is_some (get by_object m (key.0, sym same k))) ∙ ap is_some found in
-        absurd (false≢true (sym (none key.0) ∙ there))
-
-abbrev pub hits : ℕ → ℕ → (ℕ × ℕ) × Share → Bool
-hits access sharing row = conflicts access sharing row.1
-
-abbrev pub handles_of : ℕ → ℕ × ℕ → Bool
-handles_of object key = range_contains by_object (Included (object, 0)) (Included (object, 2 ^ 64 - 1)) key
-
--- the first conflict stands among the handles of the object
-pub seen : (m : BTreeMap (ℕ × ℕ) Share) (object access sharing : ℕ) (rest range : List ((ℕ × ℕ) × Share)) → IsOrdered by_object m
-    → ((key : ℕ × ℕ) → is_some (get by_object m key) ≡ true → key.1 < 2 ^ 64)
-    → range ≡ entries_between by_object (Included (object, 0)) (Included (object, 2 ^ 64 - 1)) m.entries
-    → find (hits access sharing) rest ≡ find (hits access sharing) range
-    → conflict_of m.entries object access sharing ≡ option_map (λ row. row.0.1) (find (hits access sharing) rest)
-seen m object access sharing rest range ordered fits between same =
-    ap (option_map (λ row. row.0.1))
-    (find_restricted (is_conflict object access sharing) (λ row. handles_of object row.0) (hits access sharing) m.entries
-    (list_all-from_AllPass _ m.entries (λ i d l. wide (get_or m.entries i d).0 (get_or m.entries i d).1 (fits (get_or m.entries i d).0 (ap is_some (All-found pairs_total m ordered i d l)))))
-    (λ row h. narrowed row.0 row.1 h)
-    ∙ ap (find (hits access sharing)) (sym between) ∙ sym same)
-  where
-    wide : (key : ℕ × ℕ) (share : Share) → key.1 < 2 ^ 64 → (not (is_conflict object access sharing (key, share)) || handles_of object key) ≡ true
-    wide key share f = by (key.0 == object) refl (conflicts access sharing share)
-      where
-        by : (s : Bool) → s ≡ (key.0 == object) → (t : Bool) → (not (s && t) || handles_of object key) ≡ true
-        by false e t = refl
-        by true e false = refl
-        by true e true = in_range (object, 0) (object, 0) (object, 2 ^ 64 - 1) key refl refl refl ∙ grind (arith, nat_tests, e, f)
-
-    narrowed : (key : ℕ × ℕ) (share : Share) → handles_of object key ≡ true → is_conflict object access sharing (key, share) ≡ conflicts access sharing share
-    narrowed key share h =
-        let both = and_parts (key.0 == object) (nat_le key.1 (2 ^ 64 - 1)) (sym (in_range (object, 0) (object, 0) (object, 2 ^ 64 - 1) key refl refl refl) ∙ h) in
-        rw (both.0) refl
 
 -- the first that passes
 pub first_passes : {X : Type 0} (p : X → Bool) (xs more : List X) (x : X) → xs ≡ x ∷ more → p x ≡ true → find p xs ≡ Some x

@@ -9,14 +9,16 @@ use Rattle.std.specs.List.{filter, find, list_all, count_by, AllByRecursion}
 use Rattle.std.specs.List.Sorted.{IsStrictlySortedBy}
 use Rattle.std.specs.declared.cmp.Ordering.TheVariants.{Less, Equal, Greater}
 use Rattle.std.specs.BTreeMap.{insert_entry, is_at}
-use Rattle.std.specs.Map.{lookup}
+use Rattle.std.specs.Map.{keys_of, lookup, remove_entry}
 use Rattle.std.specs.Ordering.{match_ordering, is_eq}
 use Rattle.std.specs.declared.cmp.Ordering.{Ordering}
-use Rattle.sb_handles.specs.Agreements.{is_pipe, file_share, file_share_by}
-use Rattle.sb_handles.specs.Shares.{Shares, by_object, left, opened, share_on}
+use Rattle.sb_handles.specs.Agreements.{is_file, is_pipe, file_share, file_share_by}
+use Rattle.sb_handles.specs.Shares.{Shares, SharesRise, by_object, left, left_on, opened, share_on}
 use Rattle.sb_handles.specs.declared.objects.Share.{Share}
+use Rattle.sb_handles.proofs.ConflictLaws.{none_lower}
 use Rattle.sb_handles.proofs.IndexLemmas.{same_pair}
-use Rattle.sb_handles.specs.Laws.{NumbersAreNew, GrantsAreHeld, ClosedAreGone, GrantsKeepFiles, GrantsLeaveFiles, ClosesKeepFiles, OpensComeBack, GrantsCount, ClosesCount}
+use Rattle.sb_handles.proofs.ShareLemmas.{left_removed}
+use Rattle.sb_handles.specs.Laws.{NumbersAreNew, GrantsAreHeld, ClosedAreGone, GrantsKeepFiles, GrantsLeaveFiles, ClosesKeepFiles, HeldOnOne, IsOn, OneIsLeft, OpensComeBack, GrantsCount, ClosesCount}
 use Rattle.sb_handles.specs.Tables.{Table, IsTable, is_of, held_by, with_handle, without_handle}
 use Rattle.sb_handles.specs.declared.objects.Held.{Held}
 use Rattle.sb_handles.specs.declared.objects.OpenHandle.{OpenHandle}
@@ -427,6 +429,10 @@ closes_keep_files shares table target number held h agree found object other =
 abbrev other_handle : ℕ → (ℕ × ℕ) × Share → Bool
 other_handle number row = not (row.0.1 == number)
 
+-- a pair stands at its own place
+own_place : (object number : ℕ) → is_at (by_object (object, number)) (object, number) ≡ true
+own_place object number = same_pair object number object number ∙ grind (arith, nat_tests)
+
 -- a handle that has no share of any object is in no row
 in_no_row : (number : ℕ) (shares : Shares) → ((object : ℕ) → share_on shares object number ≡ None) → list_all (other_handle number) shares ≡ true
 in_no_row number [] none = refl
@@ -444,28 +450,89 @@ in_no_row number (row ∷ shares) none = by (row.0.1 == number) refl (none row.0
         let here : on_key row.0.0 number row.0 ≡ true = rw (own, e) refl in
         absurd (false≢true (sym (ap is_some h) ∙ ap (λ b. is_some (cond b (Some row.1) (share_on shares row.0.0 number))) here))
 
-opened_left : (object number : ℕ) (share : Share) (shares : Shares) → list_all (other_handle number) shares ≡ true
-    → left (opened shares object number share) number ≡ shares
-opened_left object number share [] h =
-    let own : (number == number) ≡ true = grind (arith, nat_tests) in
-    rw own refl
-opened_left object number share (row ∷ shares) h =
-    by (by_object (object, number) row.0) refl (and_parts (other_handle number row) (list_all (other_handle number) shares) h) (opened_left object number share shares)
+opened_out : (object number : ℕ) (share : Share) (shares : Shares) → list_all (other_handle number) shares ≡ true
+    → left_on (opened shares object number share) object number ≡ shares
+opened_out object number share [] h = rw (own_place object number) refl
+opened_out object number share (row ∷ shares) h =
+    by (by_object (object, number) row.0) refl (and_parts (other_handle number row) (list_all (other_handle number) shares) h) (opened_out object number share shares)
   where
-    own : (number == number) ≡ true
-    own = grind (arith, nat_tests)
-
     by : (o : Ordering) → by_object (object, number) row.0 ≡ o → (other_handle number row ≡ true) × (list_all (other_handle number) shares ≡ true)
-        → (list_all (other_handle number) shares ≡ true → left (opened shares object number share) number ≡ shares)
-        → left (match_ordering o (((object, number), share) ∷ row ∷ shares) ((row.0, share) ∷ shares) (row ∷ opened shares object number share)) number ≡ row ∷ shares
-    by Less e parts i = rw own (all_stay (other_handle number) (row ∷ shares) h)
+        → (list_all (other_handle number) shares ≡ true → left_on (opened shares object number share) object number ≡ shares)
+        → left_on (match_ordering o (((object, number), share) ∷ row ∷ shares) ((row.0, share) ∷ shares) (row ∷ opened shares object number share)) object number ≡ row ∷ shares
+    by Less e parts i = rw (own_place object number) refl
     by Equal e parts i =
         let same = and_parts (object == row.0.0) (number == row.0.1) (sym (same_pair object number row.0.0 row.0.1) ∙ ap is_eq e) in
         let here : (row.0.1 == number) ≡ true = grind (arith, nat_tests, same.1) in
         absurd (false≢true (sym (ap not here) ∙ parts.0))
-    by Greater e parts i = rw parts.0 (ap (λ more. row ∷ more) (i parts.1))
+    by Greater e parts i = ap (λ o. cond (is_eq o) (opened shares object number share) (row ∷ left_on (opened shares object number share) object number)) e ∙ ap (λ more. row ∷ more) (i parts.1)
 
 pub opens_come_back : OpensComeBack
 opens_come_back shares table object share h agree =
-    opened_left object (table.granted + 1) share shares
+    opened_out object (table.granted + 1) share shares
     (in_no_row (table.granted + 1) shares (λ object. agree object (table.granted + 1) ∙ no_share table object (table.granted + 1) h (omega arith)))
+
+-- the handle of a number is the one that the target holds
+held_at : (target number : ℕ) (held : Held) (handles : List OpenHandle) → IsStrictlySortedBy nat_cmp (map (λ handle. handle.number) handles)
+    → option_map (λ handle. handle.held) (find (is_of target number) handles) ≡ Some held
+    → option_map (λ handle. handle.held) (find (λ handle. handle.number == number) handles) ≡ Some held
+held_at target number held =
+    by_first target number held (λ handles without. option_map (λ handle. handle.held) (find (λ handle. handle.number == number) handles) ≡ Some held)
+    (λ handle handles same e alone. rw e (ap Some same))
+    (λ handle handles without e i. rw e i)
+
+pub held_on_one : HeldOnOne
+held_on_one shares table target number held h agree found other there =
+    by (find (λ handle. handle.number == number) table.handles) (held_at target number held table.handles h.0 found) (sym (ap is_some (agree other number)) ∙ there)
+  where
+    by : (o : Option OpenHandle) → option_map (λ handle. handle.held) o ≡ Some held → is_some (file_share_by other o) ≡ true → other ≡ held.object.number
+    by None e i = absurd (false≢true i)
+    by (Some handle) e i =
+        let same : handle.held ≡ held = ap (λ o. unwrap_or o handle.held) e in
+        let on : (handle.held.object.number == other) ≡ true = here (is_file handle.held.object.service) (handle.held.object.number == other) i in
+        grind (arith, nat_tests, on, same)
+      where
+        here : (s t : Bool) → is_some {T = Share} (if s && t then Some (record { access = handle.held.access; sharing = handle.held.sharing }) else None) ≡ true → t ≡ true
+        here true true q = refl
+        here true false q = absurd (false≢true q)
+        here false t q = absurd (false≢true q)
+
+-- what is open behind a row is open with it
+still_on : (shares : Shares) (row : (ℕ × ℕ) × Share) (object handle : ℕ) → IsOn (row ∷ shares) object handle → IsOn shares object handle
+still_on shares row object handle on other there = on other (by (on_key other handle row.0))
+  where
+    by : (s : Bool) → is_some (cond s (Some row.1) (share_on shares other handle)) ≡ true
+    by true = refl
+    by false = there
+
+others_left : (object handle : ℕ) (shares : Shares) → SharesRise shares → IsOn shares object handle → list_all (other_handle handle) (left_on shares object handle) ≡ true
+unfolding IsStrictlySortedBy
+others_left object handle [] rise on = refl
+others_left object handle (row ∷ shares) rise on =
+    by (is_at (by_object (object, handle)) row.0) (same_pair object handle row.0.0 row.0.1) (others_left object handle shares rise.1 (still_on shares row object handle on))
+  where
+    gone : object ≡ row.0.0 → handle ≡ row.0.1 → (other : ℕ) (o : Option Share) → share_on shares other handle ≡ o → share_on shares other handle ≡ None
+    gone same same' other None e = e
+    gone same same' other (Some share) e =
+        let its_own : other ≡ object = still_on shares row object handle on other (ap is_some e) in
+        let none : share_on shares row.0.0 handle ≡ None = none_lower row.0.0 row.0.1 handle shares rise.0 (omega (arith, same')) in
+        ap (λ n. share_on shares n handle) (its_own ∙ same) ∙ none
+
+    by : (s : Bool) → s ≡ (object == row.0.0 && handle == row.0.1) → list_all (other_handle handle) (left_on shares object handle) ≡ true
+        → list_all (other_handle handle) (cond s shares (row ∷ left_on shares object handle)) ≡ true
+    by true e i =
+        let same : object ≡ row.0.0 = grind (arith, nat_tests, e) in
+        let same' : handle ≡ row.0.1 = grind (arith, nat_tests, e) in
+        in_no_row handle shares (λ other. gone same same' other (share_on shares other handle) refl)
+    by false e i = rw (other (row.0.1 == handle) refl, i) refl
+      where
+        other : (t : Bool) → (row.0.1 == handle) ≡ t → not t ≡ true
+        other false q = refl
+        other true q =
+            let own : on_key row.0.0 handle row.0 ≡ true = grind (arith, nat_tests, q) in
+            let its_own : row.0.0 ≡ object = on row.0.0 (ap (λ b. is_some (cond b (Some row.1) (share_on shares row.0.0 handle))) own) in
+            let here : (object == row.0.0 && handle == row.0.1) ≡ true = grind (arith, nat_tests, q, its_own) in
+            absurd (false≢true (e ∙ here))
+
+pub one_is_left : OneIsLeft
+one_is_left shares object handle rise on =
+    sym (all_stay (other_handle handle) (left_on shares object handle) (others_left object handle shares rise on)) ∙ left_removed object handle shares

@@ -2,7 +2,7 @@
 use Rattle.std.specs.Prelude.{◌≡◌, ◌<◌, ◌+◌, ℕ, true, false, None, Some, is_some, ◌==◌, ◌&&◌, if◌then◌else◌}
 use Rattle.std.specs.List.{find}
 use Rattle.sb_handles.specs.Agreements.{is_file, is_pipe, AgreesOnFiles, pipe_handles}
-use Rattle.sb_handles.specs.Shares.{Shares, SharesRise, conflicts, conflict_of, opened, left, share_on}
+use Rattle.sb_handles.specs.Shares.{Shares, SharesRise, conflicts, conflict_of, opened, left, left_on, share_on}
 use Rattle.sb_handles.specs.Tables.{Table, IsTable, held_by, with_handle, without_handle}
 use Rattle.sb_handles.specs.declared.objects.Held.{Held}
 use Rattle.sb_handles.specs.declared.objects.OpenHandle.{OpenHandle}
@@ -41,10 +41,23 @@ abbrev pub ClosesKeepFiles : Type 0
 ClosesKeepFiles = (shares : Shares) (table : Table) (target number : ℕ) (held : Held) → IsTable table → AgreesOnFiles shares table
     → held_by table target number ≡ Some held → AgreesOnFiles (left shares number) (without_handle table target number)
 
+-- a handle is open on one object at most
+abbrev pub IsOn : Shares → ℕ → ℕ → Type 0
+IsOn shares object handle = (other : ℕ) → is_some (share_on shares other handle) ≡ true → other ≡ object
+
+-- a handle that a target holds is open on its object at most
+abbrev pub HeldOnOne : Type 0
+HeldOnOne = (shares : Shares) (table : Table) (target number : ℕ) (held : Held) → IsTable table → AgreesOnFiles shares table
+    → held_by table target number ≡ Some held → IsOn shares held.object.number number
+
+-- a handle that is open on one object at most is left where its share of the object is taken out
+abbrev pub OneIsLeft : Type 0
+OneIsLeft = (shares : Shares) (object handle : ℕ) → SharesRise shares → IsOn shares object handle → left_on shares object handle ≡ left shares handle
+
 -- what is opened under the number of the next handle, and left again, leaves the shares as they were
 abbrev pub OpensComeBack : Type 0
 OpensComeBack = (shares : Shares) (table : Table) (object : ℕ) (share : Share) → IsTable table → AgreesOnFiles shares table
-    → left (opened shares object (table.granted + 1) share) (table.granted + 1) ≡ shares
+    → left_on (opened shares object (table.granted + 1) share) object (table.granted + 1) ≡ shares
 
 -- a granted handle is one more on its pipe
 abbrev pub GrantsCount : Type 0

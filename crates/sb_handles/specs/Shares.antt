@@ -1,10 +1,10 @@
 -- Which accesses to one object may stand beside one another.
 use Rattle.std.specs.Prelude.{◌≡◌, ℕ, Bool, ◌&&◌, ◌||◌, not, ◌==◌, List, Option, Some, option_map, ⊤}
-use Rattle.std.specs.BTreeMap.{insert_entry}
+use Rattle.std.specs.BTreeMap.{insert_entry, is_at}
 use Rattle.std.specs.declared.cmp.Ordering.{Ordering}
 use Rattle.std.specs.List.{filter, find}
 use Rattle.std.specs.List.Sorted.{IsStrictlySortedBy}
-use Rattle.std.specs.Map.{keys_of, lookup}
+use Rattle.std.specs.Map.{keys_of, lookup, remove_entry}
 use Rattle.std.specs.Ordering.{nat_cmp, ordering_then}
 use Rattle.sb_call.specs.Statuses.{meets}
 use Rattle.sb_handles.specs.declared.objects.Share.{Share}
@@ -75,6 +75,10 @@ opened shares object handle share = insert_entry by_object shares (object, handl
 -- without a handle
 abbrev pub left : Shares → ℕ → Shares
 left shares handle = filter (λ row. not (row.0.1 == handle)) shares
+
+-- without the share that a handle has of an object
+abbrev pub left_on : Shares → ℕ → ℕ → Shares
+left_on shares object handle = remove_entry (is_at (by_object (object, handle))) shares
 
 -- how a handle is open on an object
 abbrev pub share_on : Shares → ℕ → ℕ → Option Share

@@ -1,5 +1,5 @@
 -- The handles that targets hold.
-use Rattle.std.specs.Prelude.{◌≡◌, ◌+◌, ℕ, Bool, true, ◌&&◌, not, ◌==◌, List, [], ◌∷◌, ◌++◌, Option, option_map, map, nat_le}
+use Rattle.std.specs.Prelude.{◌≡◌, ◌<◌, ◌+◌, ℕ, Bool, true, ◌&&◌, not, ◌==◌, List, [], ◌∷◌, ◌++◌, Option, option_map, map, nat_le}
 use Rattle.std.specs.List.{filter, find, list_all}
 use Rattle.std.specs.List.Sorted.{IsStrictlySortedBy}
 use Rattle.std.specs.Ordering.{nat_cmp}
@@ -10,6 +10,15 @@ use Rattle.sb_handles.specs.declared.objects.OpenHandle.{OpenHandle}
 pub record Table : Type 0 where
   pub handles : List OpenHandle
   pub granted : ℕ
+
+-- a table, and how many handles can be granted in all before memory is taken again
+pub record Store : Type 0 where
+  pub table : Table
+  pub capacity : ℕ
+
+-- one more handle can be granted without memory
+abbrev pub HasRoom : Store → Type 0
+HasRoom store = store.table.granted < store.capacity
 
 -- nothing was granted
 abbrev pub no_handles : Table

@@ -1,5 +1,5 @@
 // Laws of handles and shares. None of these functions changes anything: each contract is a law.
-ghost use Rattle.sb_handles.specs.Laws.{NumbersAreNew, GrantsAreHeld, ClosedAreGone, GrantsKeepFiles, GrantsLeaveFiles, ClosesKeepFiles, OpensComeBack, GrantsCount, ClosesCount, ConflictsAreOpen, ConflictsAreLowest, NoConflictMeansNone, ConflictsAreHeld, HeldHandlesConflict};
+ghost use Rattle.sb_handles.specs.Laws.{NumbersAreNew, GrantsAreHeld, ClosedAreGone, GrantsKeepFiles, GrantsLeaveFiles, ClosesKeepFiles, HeldOnOne, OneIsLeft, OpensComeBack, GrantsCount, ClosesCount, ConflictsAreOpen, ConflictsAreLowest, NoConflictMeansNone, ConflictsAreHeld, HeldHandlesConflict};
 ghost use Rattle.sb_handles.specs.Histories.{GrantedNeverFalls, NumbersAreCounted, NumbersRise};
 
 /// The number of a new handle is none that an open handle has.
@@ -33,6 +33,13 @@ pub fn agreement_is_kept()
 #[tactic(auto, using(crate::proofs::TableLaws::opens_come_back))]
 pub fn opens_come_back()
     ensures { OpensComeBack }
+{}
+
+/// A handle that a target holds is open on its object at most, and is left where its share of the object is taken out.
+#[tactic(auto, using(crate::proofs::TableLaws::held_on_one, crate::proofs::TableLaws::one_is_left))]
+pub fn handles_are_on_one_object()
+    ensures held { HeldOnOne }
+    ensures left { OneIsLeft }
 {}
 
 /// A granted handle is one more on its pipe, and a closed one is one fewer.

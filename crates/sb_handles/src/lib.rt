@@ -4,12 +4,14 @@
 
 mod laws;
 mod objects;
+mod sets;
 mod shares;
 mod tables;
 
 pub use laws::{
     agreement_is_kept, closed_are_gone, conflicts_are_held, conflicts_are_lowest, grants_are_held,
-    numbers_are_granted_once, numbers_are_new, opens_come_back, pipe_handles_are_counted,
+    handles_are_on_one_object, numbers_are_granted_once, numbers_are_new, opens_come_back,
+    pipe_handles_are_counted,
 };
 pub use objects::{Held, NotHeld, Object, OpenHandle, Service, Share, ShareRefused};
 pub use shares::ShareTable;

@@ -1,6 +1,6 @@
 // The handles that targets hold.
 ghost use Rattle.std.specs.Prelude.{◌≡◌, ◌<◌, ◌≤◌, ◌+◌, ◌-◌, ◌^◌, Some, None, IfOk, IfSome, OnOk, OnErr, OnSome, length};
-ghost use Rattle.sb_handles.specs.Tables.{no_handles, held_by, with_handle, without_handle, IsTable};
+ghost use Rattle.sb_handles.specs.Tables.{HasRoom, no_handles, held_by, with_handle, without_handle, IsTable};
 ghost use Rattle.sb_handles.specs.Slots.{slot_of};
 
 use crate::objects::{Held, NotHeld};
@@ -32,12 +32,13 @@ impl Drop for HandleTable {
 
 impl Model for HandleTable {
     ghost use Rattle.std.specs.Prelude.{length};
-    ghost use Rattle.sb_handles.specs.Tables.{Table};
+    ghost use Rattle.std.specs.Vec.{vec_capacity};
+    ghost use Rattle.sb_handles.specs.Tables.{Store};
     ghost use Rattle.sb_handles.specs.Slots.{open_from};
 
-    ghost Value = { Table };
+    ghost Value = { Store };
 
-    ghost view = { λ t. record { handles = open_from 1 t.slots.items; granted = length t.slots.items } };
+    ghost view = { λ t. record { table = record { handles = open_from 1 t.slots.items; granted = length t.slots.items }; capacity = vec_capacity t.slots } };
 }
 
 // The slot of a number, where it is open.
@@ -56,7 +57,7 @@ fn slot_of(slots: &[Option<Slot>], number: u64) -> Option<Slot>
 impl HandleTable {
     /// Nothing was granted.
     pub fn new(alloc: Global) -> HandleTable
-        ensures { result ≡ no_handles }
+        ensures { result.table ≡ no_handles }
     {
         HandleTable {
             slots: Vec::new(alloc),
@@ -65,31 +66,64 @@ impl HandleTable {
 
     /// How many handles were ever granted, over all targets. They are fewer than 2^62, since each takes memory.
     pub fn granted(&self) -> u64
-        ensures count { result ≡ self.now.granted }
+        ensures count { result ≡ self.now.table.granted }
         ensures few { result < 2 ^ 62 }
     {
         self.slots.as_slice().len() as u64
     }
 
+    /// A table of the same handles.
+    ///
+    /// # Errors
+    /// `NoMemory` if there is none for it.
+    pub fn copy(&self, alloc: Global) -> Result<HandleTable, NoMemory>
+        ensures { IfOk result (λ copy. copy.table ≡ self.now.table) }
+    {
+        Ok(HandleTable {
+            slots: Vec::from_slice(alloc, &self.slots)?,
+        })
+    }
+
+    /// Takes the memory for one more handle, so that `grant_reserved` can grant it. The handles stay as they are.
+    ///
+    /// # Errors
+    /// `NoMemory` if there is none for a handle.
+    pub fn reserve(&mut self) -> Result<(), NoMemory>
+        ensures table { self.new.table ≡ self.old.table }
+        ensures room { OnOk result (HasRoom self.new) }
+    {
+        self.slots.reserve(1)?;
+        Ok(())
+    }
+
+    /// Grants a handle to a target, for which there is room. Its number is one more than the count of handles ever granted.
     #[tactic(auto, using(crate::proofs::SlotLemmas::one_more))]
+    pub fn grant_reserved(&mut self, target: u32, held: Held) -> u64
+        requires { HasRoom self.old }
+        ensures number { result ≡ self.old.table.granted + 1 }
+        ensures table { self.new.table ≡ with_handle self.old.table target held }
+    {
+        self.slots.push_reserved(Some(Slot { target, held }));
+        self.slots.as_slice().len() as u64
+    }
+
     /// Grants a handle to a target. Its number is one more than the count of handles ever granted.
     ///
     /// # Errors
-    /// `NoMemory` where there was none for the handle; then nothing is changed.
+    /// `NoMemory` if there is none for the handle; then the handles stay as they are.
     pub fn grant(&mut self, target: u32, held: Held) -> Result<u64, NoMemory>
-        requires { self.old.granted < 2 ^ 63 }
-        ensures number { IfOk result (λ number. number ≡ self.old.granted + 1) }
-        ensures ok { OnOk result (self.new ≡ with_handle self.old target held) }
-        ensures err { OnErr result (self.new ≡ self.old) }
+        ensures number { IfOk result (λ number. number ≡ self.old.table.granted + 1) }
+        ensures ok { OnOk result (self.new.table ≡ with_handle self.old.table target held) }
+        ensures err { OnErr result (self.new.table ≡ self.old.table) }
     {
-        self.slots.push(Some(Slot { target, held }))?;
-        Ok(self.slots.len() as u64)
+        self.reserve()?;
+        Ok(self.grant_reserved(target, held))
     }
 
     #[tactic(auto, using(crate::proofs::SlotLemmas::found_slot))]
     /// What a target holds under a number, or nothing where it holds no handle of that number.
     pub fn lookup(&self, target: u32, number: u64) -> Option<Held>
-        ensures { result ≡ held_by self.now target number }
+        ensures { result ≡ held_by self.now.table target number }
     {
         let slot = slot_of(&self.slots, number)?;
         if slot.target == target {
@@ -105,9 +139,9 @@ impl HandleTable {
     /// # Errors
     /// `NotHeld` exactly where the target holds no handle of that number; then nothing is changed.
     pub fn close(&mut self, target: u32, number: u64) -> Result<Held, NotHeld>
-        ensures held { IfOk result (λ held. held_by self.old target number ≡ Some held) }
-        ensures ok { OnOk result (self.new ≡ without_handle self.old target number) }
-        ensures absent { OnErr result (held_by self.old target number ≡ None) }
+        ensures held { IfOk result (λ held. held_by self.old.table target number ≡ Some held) }
+        ensures ok { OnOk result (self.new.table ≡ without_handle self.old.table target number) }
+        ensures absent { OnErr result (held_by self.old.table target number ≡ None) }
         ensures err { OnErr result (self.new ≡ self.old) }
     {
         match slot_of(&self.slots, number) {
@@ -122,7 +156,7 @@ impl HandleTable {
     #[tactic(auto, using(crate::proofs::SlotLemmas::slots_rise))]
     /// The numbers of open handles rise strictly, from 1 to the count of handles ever granted. It changes nothing.
     pub fn numbers_rise(&self)
-        ensures { IsTable self.now }
+        ensures { IsTable self.now.table }
     {
         let _count = self.slots.len();
     }

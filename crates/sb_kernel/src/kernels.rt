@@ -5,6 +5,7 @@ ghost use Rattle.sb_call.specs.Arguments.{fits};
 ghost use Rattle.sb_file.specs.Creation as creation;
 ghost use Rattle.sb_pipe.specs.Pipes as pipes;
 ghost use Rattle.sb_call.specs.declared.tags.CallTag.TheVariants as tag;
+ghost use Rattle.sb_handles.specs.Laws.{HeldOnOne};
 ghost use Rattle.sb_handles.specs.Tables.{IsTable, held_by};
 ghost use Rattle.sb_kernel.specs.Namespaces.{Space, empty_space, on_events, on_files, on_keys, on_pipes, renames, perform, ping, file_create, file_open, file_query, file_rename, pipe_create, key_create, key_open, event_create, event_open, handle_close, close_by};
 ghost use Rattle.sb_kernel.specs.Openings.{placed, is_named};
@@ -22,7 +23,7 @@ use crate::services::{
 use sb_call::{Answer, Arg, CallTag, INVALID_HANDLE, INVALID_PARAMETER, SUCCESS};
 use sb_event::EventService;
 use sb_file::{FileRequest, FileService, agreement_is_kept as files_stay_agreed};
-use sb_handles::{HandleTable, Object, Service};
+use sb_handles::{HandleTable, Object, Service, handles_are_on_one_object};
 use sb_key::KeyService;
 use sb_pipe::{PipeService, agreement_is_kept as pipes_stay_agreed};
 use sb_statements::StartLine;
@@ -60,9 +61,9 @@ impl Model for Kernel {
 
     ghost Value = { Space };
 
-    ghost view = { λ k. record { files = k.files; pipes = k.pipes; keys = k.keys; events = k.events; handles = k.handles } };
+    ghost view = { λ k. record { files = k.files; pipes = k.pipes; keys = k.keys; events = k.events; handles = k.handles.table } };
 
-    ghost invariant = { λ k. IsKept (record { files = k.files; pipes = k.pipes; keys = k.keys; events = k.events; handles = k.handles }) };
+    ghost invariant = { λ k. IsKept (record { files = k.files; pipes = k.pipes; keys = k.keys; events = k.events; handles = k.handles.table }) };
 }
 
 // Ping answers its cookie, and how many units its text has.
@@ -89,6 +90,13 @@ impl Kernel {
             events: EventService::new(alloc),
             handles: HandleTable::new(alloc),
         }
+    }
+
+    /// The handles that targets hold.
+    pub fn handles(&self) -> &HandleTable
+        ensures { result.now.table ≡ self.now.handles }
+    {
+        &self.handles
     }
 
     /// Performs a call of a target, and answers it. The arguments must fit the call. A call that is refused changes nothing.
@@ -432,7 +440,9 @@ impl Kernel {
         ensures other_files { ClosesLeaveFiles }
         ensures pipes_closed { ClosesKeepPipes }
         ensures other_pipes { ClosesLeavePipes }
+        ensures alone { HeldOnOne }
     {
+        handles_are_on_one_object();
         files_stay_agreed();
         pipes_stay_agreed();
         self.handles.numbers_rise();

@@ -1,14 +1,12 @@
 // The keys by their names, and the calls on them.
-ghost use Rattle.std.specs.Prelude.{◌≡◌, ◌+◌, ◌<◌, ◌^◌, true, None, IfOk, OnOk, OnErr};
+ghost use Rattle.std.specs.Prelude.{◌≡◌, ◌<◌, ◌^◌, true, IfOk, OnOk, OnErr};
 ghost use Rattle.sb_wide.specs.Names.{is_name_of};
 ghost use Rattle.sb_handles.specs.Effects.{IsDone};
-ghost use Rattle.sb_names.specs.Maps.{count_in, found};
-ghost use Rattle.sb_names.specs.Trees.{has_parent};
-ghost use Rattle.sb_key.specs.Registry.{AreKeys, no_keys, with_key, on_key, create, create_by, open_by_name, can_start, started};
+ghost use Rattle.sb_key.specs.Registry.{AreKeys, no_keys, on_key, create, open_by_name, can_start, started};
 
 use sb_call::{Answer, Extended, NAME_NOT_FOUND, PATH_NOT_FOUND, SUCCESS};
 use sb_handles::{HandleTable, Held, Object, Service};
-use sb_names::{NameTree, numbers_are_kept, puts_come_back};
+use sb_names::{NameTree, Seek, numbers_are_kept};
 use sb_wide::NoMemory;
 use std::alloc::Global;
 use std::marker::Model;
@@ -84,57 +82,6 @@ impl KeyService {
         self.names.establish_tree();
     }
 
-    // Makes a key under a name that is free and has its parent, with the next number.
-    fn add_next(&mut self, name: &[u16]) -> Result<u64, NoMemory>
-        requires name { is_name_of name.now ≡ true }
-        requires parent { has_parent self.old.names name.now ≡ true }
-        requires absent { found self.old.names name.now ≡ None }
-        requires made { self.old.made < 2 ^ 63 }
-        ensures number { IfOk result (λ number. number ≡ self.old.made + 1) }
-        ensures service { OnOk result (self.new ≡ with_key self.old name.now) }
-        ensures below { OnOk result (count_in self.new.names name.now ≡ 0) }
-        ensures err { OnErr result (self.new ≡ self.old) }
-    {
-        numbers_are_kept::<u64>();
-        let number = self.made + 1;
-        match self.names.add(name, number) {
-            Ok(()) => {
-                self.made = number;
-                Ok(number)
-            }
-            Err(_) => Err(NoMemory),
-        }
-    }
-
-    // Makes a key under a name that is free and has its parent, and grants a handle on it.
-    fn create_new(
-        &mut self,
-        handles: &mut HandleTable,
-        target: u32,
-        name: &[u16],
-        access: u64,
-    ) -> Result<Answer, NoMemory>
-        requires name { is_name_of name.now ≡ true }
-        requires parent { has_parent self.old.names name.now ≡ true }
-        requires absent { found self.old.names name.now ≡ None }
-        requires granted { handles.old.granted < 2 ^ 63 }
-        requires made { self.old.made < 2 ^ 63 }
-        ensures effect { IfOk result (λ a. IsDone (create_by None self.old handles.old target name.now access) self.new handles.new a) }
-        ensures err { OnErr result ((self.new ≡ self.old) × (handles.new ≡ handles.old)) }
-    {
-        puts_come_back::<u64>();
-        self.keys_are_made();
-        let number = self.add_next(name)?;
-        match handles.grant(target, on_key(number, access)) {
-            Ok(handle) => Ok(Answer::with_word(SUCCESS, handle, CREATED_NEW_KEY)),
-            Err(error) => {
-                self.names.take_back(name);
-                self.made = number - 1;
-                Err(error)
-            }
-        }
-    }
-
     /// Makes a key, or opens the one that is there, and grants the target a handle on it with this access. The first of
     /// these that applies is the answer:
     /// - `PATH_NOT_FOUND` where the parent is not there;
@@ -151,18 +98,25 @@ impl KeyService {
         access: u64,
     ) -> Result<Answer, NoMemory>
         requires name { is_name_of name.now ≡ true }
-        requires granted { handles.old.granted < 2 ^ 63 }
         requires made { self.old.made < 2 ^ 63 }
-        ensures effect { IfOk result (λ a. IsDone (create self.old handles.old target name.now access) self.new handles.new a) }
-        ensures err { OnErr result ((self.new ≡ self.old) × (handles.new ≡ handles.old)) }
+        ensures effect { IfOk result (λ a. IsDone (create self.old handles.old.table target name.now access) self.new handles.new.table a) }
+        ensures err { OnErr result ((self.new ≡ self.old) × (handles.new.table ≡ handles.old.table)) }
     {
-        match (self.names.has_parent(name), self.names.find(name)) {
-            (false, _) => Ok(Answer::refusal(PATH_NOT_FOUND)),
-            (true, Some(number)) => {
-                let handle = handles.grant(target, on_key(number, access))?;
+        numbers_are_kept::<u64>();
+        match self.names.seek(name) {
+            Seek::NoDirectory => Ok(Answer::refusal(PATH_NOT_FOUND)),
+            Seek::There { object, .. } => {
+                let handle = handles.grant(target, on_key(object, access))?;
                 Ok(Answer::with_word(SUCCESS, handle, OPENED_EXISTING_KEY))
             }
-            (true, None) => self.create_new(handles, target, name, access),
+            Seek::Absent { directory, .. } => {
+                handles.reserve()?;
+                let number = self.made + 1;
+                self.names.add_at(directory, name, number)?;
+                self.made = number;
+                let handle = handles.grant_reserved(target, on_key(number, access));
+                Ok(Answer::with_word(SUCCESS, handle, CREATED_NEW_KEY))
+            }
         }
     }
 
@@ -182,18 +136,15 @@ impl KeyService {
         access: u64,
     ) -> Result<Answer, NoMemory>
         requires name { is_name_of name.now ≡ true }
-        requires granted { handles.old.granted < 2 ^ 63 }
-        ensures effect { IfOk result (λ a. IsDone (open_by_name self.old handles.old target name.now access) self.new handles.new a) }
+        ensures effect { IfOk result (λ a. IsDone (open_by_name self.old handles.old.table target name.now access) self.new handles.new.table a) }
         ensures service { self.new ≡ self.old }
-        ensures err { OnErr result (handles.new ≡ handles.old) }
+        ensures err { OnErr result (handles.new.table ≡ handles.old.table) }
     {
-        if !self.names.has_parent(name) {
-            return Ok(Answer::refusal(PATH_NOT_FOUND));
-        }
-        match self.names.find(name) {
-            None => Ok(Answer::refusal(NAME_NOT_FOUND)),
-            Some(number) => {
-                let handle = handles.grant(target, on_key(number, access))?;
+        match self.names.seek(name) {
+            Seek::NoDirectory => Ok(Answer::refusal(PATH_NOT_FOUND)),
+            Seek::Absent { .. } => Ok(Answer::refusal(NAME_NOT_FOUND)),
+            Seek::There { object, .. } => {
+                let handle = handles.grant(target, on_key(object, access))?;
                 Ok(Answer {
                     status: SUCCESS,
                     handle,
@@ -208,7 +159,10 @@ impl KeyService {
         requires name { is_name_of name.now ≡ true }
         ensures { result ≡ can_start self.now name.now }
     {
-        self.names.has_parent(name) && self.names.find(name).is_none()
+        match self.names.seek(name) {
+            Seek::Absent { .. } => true,
+            _ => false,
+        }
     }
 
     /// Places a key of the opening namespace. It answers false, and changes nothing, exactly where the parent is not
@@ -223,10 +177,13 @@ impl KeyService {
         ensures service { OnOk result (self.new ≡ started self.old name.now) }
         ensures err { OnErr result (self.new ≡ self.old) }
     {
-        if !self.names.has_parent(name) || self.names.find(name).is_some() {
+        numbers_are_kept::<u64>();
+        let Seek::Absent { directory, .. } = self.names.seek(name) else {
             return Ok(false);
-        }
-        self.add_next(name)?;
+        };
+        let number = self.made + 1;
+        self.names.add_at(directory, name, number)?;
+        self.made = number;
         Ok(true)
     }
 }

@@ -7,8 +7,8 @@ use Rattle.std.specs.Map.{lookup}
 use Rattle.sb_arena.specs.Forests.{IsShallow, HasLiveLinks, value_at}
 use Rattle.sb_wide.specs.Names.{is_component}
 use Rattle.sb_names.specs.Keys.{key_of, parent_of}
-use Rattle.sb_names.specs.Maps.{Rows, count_in, is_key, is_there}
-use Rattle.sb_names.specs.Nodes.{Nodes, HasNames, HasNoChild, HasNoneBelow, IsAt, IsChild, IsThere, IsUnnamed, name_of, rows_of}
+use Rattle.sb_names.specs.Maps.{Rows, is_key, is_there}
+use Rattle.sb_names.specs.Nodes.{Nodes, HasNames, HasNoChild, IsAt, IsChild, IsThere, IsUnnamed, name_of, rows_of}
 use Rattle.sb_names.specs.Trees.{added, has_parent, is_directory_there}
 use Rattle.sb_names.specs.declared.faults.TreeFault.TheVariants as fault
 use Rattle.sb_names.specs.declared.nodes.NameNode.{NameNode}
@@ -32,12 +32,6 @@ module _ (f : Nodes) where
   pub at_itself : (o : Option ℕ) (key : List ℕ) → IsAt f o key → IsAt f o (name_of f o)
   at_itself None key at = name_root f
   at_itself (Some n) key at = (at.0, refl)
-
-  pub add_gone : (name path : List ℕ) (object : ℕ) → path ≡ parent_of name → IsUnnamed f (key_of path) → (path ≡ [] → ⊥)
-      → added (rows_of f) name object ≡ Err fault.NoParent
-  add_gone name path object e none some =
-      let gone : has_parent (rows_of f) name ≡ false = ap (is_directory_there (rows_of f)) (sym e) ∙ directory_gone f path none some in
-      rw gone refl
 
   module _ (names : HasNames f) (shallow : IsShallow f.rows) (live_links : HasLiveLinks f) (name path part : List ℕ) (d : Option ℕ)
       (is_path : path ≡ parent_of name) (whole : name ≡ path ++ 92 ∷ part) (at : IsAt f d (key_of path)) where
@@ -63,15 +57,3 @@ module _ (f : Nodes) where
         let unnamed : IsUnnamed f (key_of name) =
         λ n live same. none n (is_the_child f names shallow live_links d (key_of part) n (at_itself d (key_of path) at) (component_plain part is_part) live (same ∙ whole_key)) in
         ap is_some (found_none f (key_of name) unnamed)
-
-    -- no name stands below one that was added
-    pub add_alone : (f' : Nodes) → HasNoneBelow f' (name_of f d ++ 92 ∷ key_of part) → count_in (rows_of f') name ≡ 0
-    add_alone f' none = none name whole_key
-
-    pub add_there : (object n : ℕ) → IsChild f d (key_of part) n → added (rows_of f) name object ≡ Err fault.Exists
-    add_there object n child = rw (parent_there, name_there n child) refl
-
-    pub add_new : (object : ℕ) → is_component part ≡ true → HasNoChild f d (key_of part) → (rows' : Rows ℕ)
-        → rows' ≡ insert_entry by_unit (rows_of f) (name_of f d ++ 92 ∷ key_of part) object → added (rows_of f) name object ≡ Ok rows'
-    add_new object is_part none rows' e =
-        rw (parent_there, name_gone is_part none) (ap (λ rows. Ok rows) (ap (λ key. insert_entry by_unit (rows_of f) key object) whole_key ∙ sym e))

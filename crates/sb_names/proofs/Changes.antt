@@ -1,6 +1,6 @@
 -- What a change of one node does to the names of all, and to the rows.
 use Rattle.std.proofs.Common.{◌≡◌, ◌≢◌, ◌<◌, ◌+◌, ◌^◌, ◌==◌, ◌⊎◌, inl, inr, ℕ, Bool, true, false, refl, sym, ◌∙◌, ap, subst, arith, zero, suc, List, ◌∷◌, ◌++◌, length, if◌then◌else◌}
-use Rattle.std.proofs.lemmas.Bool.{false≢true}
+use Rattle.std.proofs.lemmas.Bool.{and_parts, false≢true}
 use Rattle.std.proofs.lemmas.Bool.Decides.{nat_tests}
 use Rattle.std.specs.Prelude.{Option, Some, None, is_some, ◌&&◌}
 use Rattle.std.specs.BTreeMap.{insert_entry}
@@ -130,19 +130,24 @@ module _ (f f' : Nodes) (a : ℕ) (v : Option NameNode) (d : Option ℕ) (change
 
   -- the index stays that of all nodes
   pub indexed_changed : {V W : Type 0} (index : ℕ × ℕ → Option V) (index' : ℕ × ℕ → Option W) → IsIndexed index f
-      → ((q : ℕ × ℕ) → q.1 ≢ a → is_some (index' q) ≡ is_some (index q))
-      → ((h : ℕ) → is_some (index' (h, a)) ≡ (is_some v && (h == hash_of d (key_by v))))
+      → ((q : ℕ × ℕ) → q.1 ≢ a → is_some (index q) ≡ true → is_some (index' q) ≡ true)
+      → (is_some v ≡ true → is_some (index' (hash_of d (key_by v), a)) ≡ true)
       → (IsLive f' a → a < 2 ^ 64) → IsIndexed index' f'
-  indexed_changed index index' indexed others here fits = (λ q. entry q.0 q.1 (q.1 == a) refl, λ n live. small n live (n == a) refl)
+  indexed_changed index index' indexed others here fits = (λ q there. entry q.0 q.1 (q.1 == a) refl there, λ n live. small n live (n == a) refl)
     where
-      entry : (h n : ℕ) (b : Bool) → b ≡ (n == a) → is_some (index' (h, n)) ≡ is_entry f' (h, n)
-      entry h n true t =
-          subst (λ m. is_some (index' (h, m)) ≡ is_entry f' (h, m)) (sym (same_of n a t))
-          (here h ∙ sym (λ i. is_some (value_here i) && (h == hash_of (parent_here i) (key_by (value_here i)))))
-      entry h n false t =
+      own : (h : ℕ) → (is_some v && (h == hash_of d (key_by v))) ≡ true → is_some (index' (h, a)) ≡ true
+      own h there =
+          let parts = and_parts (is_some v) (h == hash_of d (key_by v)) there in
+          subst (λ k. is_some (index' (k, a)) ≡ true) (sym (same_of h (hash_of d (key_by v)) (sym parts.1))) (here parts.0)
+
+      entry : (h n : ℕ) (b : Bool) → b ≡ (n == a) → is_entry f' (h, n) ≡ true → is_some (index' (h, n)) ≡ true
+      entry h n true t there =
+          subst (λ m. is_entry f' (h, m) ≡ true → is_some (index' (h, m)) ≡ true) (sym (same_of n a t))
+          (λ at. own h (sym (λ i. is_some (value_here i) && (h == hash_of (parent_here i) (key_by (value_here i)))) ∙ at)) there
+      entry h n false t there =
           let ne : n ≢ a = other_of n a t in
-          others (h, n) ne ∙ indexed.0 (h, n)
-          ∙ sym (λ i. is_some (value_other n ne i) && (h == hash_of (parent_other n ne i) (key_by (value_other n ne i))))
+          others (h, n) ne (indexed.0 (h, n)
+          (sym (λ i. is_some (value_other n ne i) && (h == hash_of (parent_other n ne i) (key_by (value_other n ne i)))) ∙ there))
 
       small : (n : ℕ) → IsLive f' n → (b : Bool) → b ≡ (n == a) → n < 2 ^ 64
       small n live true t = subst (λ m. m < 2 ^ 64) (sym (same_of n a t)) (fits (subst (λ m. IsLive f' m) (same_of n a t) live))

@@ -87,7 +87,7 @@ pub entry_there : {V : Type 0} (f : Nodes) (index : ℕ × ℕ → Option V) →
 entry_there f index indexed n live =
     let hash : ℕ = hash_of (node_parent f n) (key_at f n) in
     let same : (hash == hash) ≡ true = grind (arith, nat_tests) in
-    indexed.0 (hash, n) ∙ (λ i. live i && same i)
+    indexed.0 (hash, n) (λ i. live i && same i)
 
 -- where no node with the hash is the child, no node is
 pub no_child : {X : Type 0} (f : Nodes) (m : BTreeMap (ℕ × ℕ) X) (d : Option ℕ) (key : List ℕ) (hash : ℕ) (rest range : List ((ℕ × ℕ) × X))

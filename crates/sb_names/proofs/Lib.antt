@@ -1,13 +1,12 @@
 pub mod AddLemmas
 pub mod Changes
-pub mod ChildLemmas
 pub mod DirectoryLaws
 mod Extent
+pub mod FoldLemmas
 pub mod Hanging
 pub mod IndexLemmas
 pub mod KeyLemmas
 pub mod MapLaws
-pub mod MoveLemmas
 pub mod Moving
 pub mod NameLemmas
 pub mod Named
@@ -22,7 +21,7 @@ pub mod RenameLaws
 pub mod RenameLemmas
 pub mod RisingLemmas
 pub mod SearchLemmas
+pub mod SeekLemmas
 pub mod Steps
-pub mod TakeLemmas
 pub mod TreeLaws
 pub mod TreeLemmas

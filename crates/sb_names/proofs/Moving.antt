@@ -1,61 +1,45 @@
 -- A node that gets another component and directory: the index has it under its new hash, and each row has its new name.
-use Rattle.std.proofs.Common.{◌≡◌, ◌≢◌, ◌==◌, ℕ, Bool, true, false, cond, refl, sym, ◌∙◌, ap, List, ◌∷◌, ◌++◌, map}
+use Rattle.std.proofs.Common.{◌≡◌, ◌≢◌, ◌==◌, ℕ, Bool, true, false, cond, refl, sym, subst, ◌∙◌, ap, List, ◌∷◌, ◌++◌, map}
 use Rattle.std.proofs.lemmas.Bool.{false≢true}
-use Rattle.std.specs.Prelude.{Option, Some, None, is_some, not, ◌&&◌, ◌||◌}
+use Rattle.std.specs.Prelude.{Option, Some, None, is_some, ◌&&◌}
 use Rattle.std.specs.BTreeMap.{BTreeMap, IsUnchanged, get, is_at}
 use Rattle.std.specs.Map.{lookup}
-use Rattle.sb_arena.specs.Forests.{HasLiveLinks, IsLive, IsShallow, ancestor, parent_of as node_parent, value_at}
+use Rattle.sb_arena.specs.Forests.{HasLiveLinks, IsLive, IsShallow, ancestor, value_at}
 use Rattle.sb_names.specs.Hashes.{hash_of}
 use Rattle.sb_names.specs.Keys.{key_of}
-use Rattle.sb_names.specs.Nodes.{Nodes, HasNames, HasOneEntry, IsApart, IsChanged, IsIndexed, KeepsEntries, KeepsRows, key_at, name_of, rows_of}
+use Rattle.sb_names.specs.Nodes.{Nodes, HasNames, IsApart, IsChanged, IsIndexed, KeepsEntries, KeepsRows, name_of, rows_of}
 use Rattle.sb_names.specs.Orders.{by_pair}
 use Rattle.sb_names.specs.Renames.{collected, renamed_key}
 use Rattle.sb_names.specs.declared.nodes.NameNode.{NameNode}
 use Rattle.sb_names.proofs.Changes.{indexed_changed, same_of}
-use Rattle.sb_names.proofs.PutLemmas.{other_pair, out_entry, put_entry}
+use Rattle.sb_names.proofs.IndexLemmas.{same_pair}
+use Rattle.sb_names.proofs.PutLemmas.{other_pair, own_pair}
 use Rattle.sb_names.proofs.RenameLemmas.{live_after, name_after, rows_renamed}
 
--- a node that is put under another hash has that entry alone, and those of all other nodes are as before
-module _ {V : Type 0} (index index' : ℕ × ℕ → Option V) (u : V) (hash node old : ℕ) (one : HasOneEntry index node old)
+-- a node that is put under another hash has that entry, and those of all other nodes are as before
+module _ {V : Type 0} (index index' : ℕ × ℕ → Option V) (u : V) (hash node old : ℕ)
     (updates : (q : ℕ × ℕ) → index' q ≡ cond (is_at (by_pair (hash, node)) q) (Some u) (index q)) where
-  put_one : (h : ℕ) → is_some (index' (h, node)) ≡ ((h == hash) || (h == old))
-  put_one h = ap is_some (updates (h, node)) ∙ put_entry hash node u h (index (h, node)) ∙ ap (λ b. (h == hash) || b) (one h)
+  pub put_here : is_some (index' (hash, node)) ≡ true
+  put_here = ap is_some (updates (hash, node)) ∙ ap (λ b. is_some (cond b (Some u) (index (hash, node)))) (own_pair hash node)
 
   pub put_others : KeepsEntries index index' node
   put_others q ne = updates q ∙ ap (λ b. cond b (Some u) (index q)) (other_pair hash node q ne)
 
-  -- where the old hash is the same
-  pub put_here : old ≡ hash → HasOneEntry index' node hash
-  put_here same h = put_one h ∙ ap (λ x. (h == hash) || (h == x)) same ∙ by (h == hash)
-    where
-      by : (b : Bool) → (b || b) ≡ b
-      by true = refl
-      by false = refl
-
   -- and where the entry under the old hash is taken out
   module _ (index'' : ℕ × ℕ → Option V) (removes : (q : ℕ × ℕ) → index'' q ≡ cond (is_at (by_pair (old, node)) q) None (index' q)) where
-    pub moved_here : old ≢ hash → HasOneEntry index'' node hash
-    moved_here apart h =
-        ap is_some (removes (h, node)) ∙ out_entry old node h (index' (h, node)) ∙ ap (λ b. not (h == old) && b) (put_one h)
-        ∙ by (h == old) (h == hash) refl refl
+    pub moved_here : old ≢ hash → is_some (index'' (hash, node)) ≡ true
+    moved_here apart = ap is_some (removes (hash, node)) ∙ ap (λ b. is_some (cond b None (index' (hash, node)))) (elsewhere (old == hash) refl) ∙ put_here
       where
-        by : (b c : Bool) → b ≡ (h == old) → c ≡ (h == hash) → (not b && (c || b)) ≡ c
-        by true false s t = refl
-        by false true s t = refl
-        by false false s t = refl
-        by true true s t = absurd (apart (sym (same_of h old s) ∙ same_of h hash t))
+        elsewhere : (b : Bool) → b ≡ (old == hash) → is_at (by_pair (old, node)) (hash, node) ≡ false
+        elsewhere true t = absurd (apart (same_of old hash t))
+        elsewhere false t = same_pair old node hash node ∙ ap (λ b. b && (node == node)) (sym t)
 
     pub moved_others : KeepsEntries index index'' node
     moved_others q ne = removes q ∙ ap (λ b. cond b None (index' q)) (other_pair old node q ne) ∙ put_others q ne
 
 -- an index that is as it was serves as before
 pub same_index : {X : Type 0} (f : Nodes) (m n : BTreeMap (ℕ × ℕ) X) → IsUnchanged m n → IsIndexed (get by_pair m) f → IsIndexed (get by_pair n) f
-same_index f m n same indexed = (λ q. ap (λ es. is_some (lookup (is_at (by_pair q)) es)) same ∙ indexed.0 q, indexed.1)
-
--- a live node has its entry alone
-pub one_entry : {V : Type 0} (f : Nodes) (index : ℕ × ℕ → Option V) → IsIndexed index f → (a : ℕ) → IsLive f a → (old : ℕ)
-    → old ≡ hash_of (node_parent f a) (key_at f a) → HasOneEntry index a old
-one_entry f index indexed a live old hashed h = indexed.0 (h, a) ∙ (λ i. live i && (h == sym hashed i))
+same_index f m n same indexed = (λ q there. ap (λ es. is_some (lookup (is_at (by_pair q)) es)) same ∙ indexed.0 q there, indexed.1)
 
 -- a directory is not below a node where no path to the root says so
 pub apart_on_paths : (f : Nodes) (a : ℕ) (d : Option ℕ) → IsApart f a d
@@ -75,10 +59,10 @@ object_by d (Some w) = w.object
 module _ (f f' : Nodes) (a : ℕ) (w : NameNode) (d : Option ℕ) (part : List ℕ) (changed : IsChanged f f' a (Some w) d) (is_part : w.part ≡ part)
     (live : IsLive f a) where
   pub move_index : {V : Type 0} (index index' : ℕ × ℕ → Option V) (hash : ℕ) → IsIndexed index f → hash ≡ hash_of d (key_of part)
-      → HasOneEntry index' a hash → KeepsEntries index index' a → IsIndexed index' f'
+      → is_some (index' (hash, a)) ≡ true → KeepsEntries index index' a → IsIndexed index' f'
   move_index index index' hash indexed hashed here others =
-      indexed_changed f f' a (Some w) d changed index index' indexed (λ q ne. ap is_some (others q ne))
-      (λ h. here h ∙ ap (λ x. h == x) (hashed ∙ ap (λ us. hash_of d (key_of us)) (sym is_part)))
+      indexed_changed f f' a (Some w) d changed index index' indexed (λ q ne there. ap is_some (others q ne) ∙ there)
+      (λ some. subst (λ h. is_some (index' (h, a)) ≡ true) (hashed ∙ ap (λ us. hash_of d (key_of us)) (sym is_part)) here)
       (λ now. indexed.1 a live)
 
   module _ (names : HasNames f) (names' : HasNames f') (shallow : IsShallow f.rows) (shallow' : IsShallow f'.rows)

@@ -2,21 +2,32 @@
 use Rattle.std.proofs.Common.{◌≡◌, ℕ, true, false, refl, sym, ◌∙◌, ap, List, [], ◌∷◌, ◌++◌, map}
 use Rattle.std.proofs.lemmas.Bool.{false≢true}
 use Rattle.std.specs.Prelude.{Option, Some, None, IfSome, is_some, Ok, Err}
-use Rattle.sb_arena.specs.Forests.{IsShallow, HasLiveLinks}
+use Rattle.std.specs.Map.{lookup}
+use Rattle.sb_arena.specs.Forests.{IsShallow, HasLiveLinks, value_at}
 use Rattle.sb_arena.specs.declared.arena.NodeId.{NodeId}
 use Rattle.sb_wide.specs.Names.{is_component}
 use Rattle.sb_names.specs.Keys.{key_of, parent_of, is_below}
-use Rattle.sb_names.specs.Maps.{Rows, is_there}
-use Rattle.sb_names.specs.Nodes.{Nodes, HasNames, HasNoChild, IsApart, IsAt, IsChild, IsUnnamed, KeepsRows, name_of, rows_of}
-use Rattle.sb_names.specs.Renames.{collected, renamed_key, renamed_tree}
+use Rattle.sb_names.specs.Maps.{Rows, is_key, is_there}
+use Rattle.sb_names.specs.Nodes.{Nodes, HasNames, HasNoChild, IsApart, IsAt, IsChild, IsUnnamed, KeepsAllBut, KeepsOtherNodes, KeepsRows, name_of, rows_of}
+use Rattle.sb_names.specs.Renames.{collected, renamed_key, renamed_rows, renamed_tree}
 use Rattle.sb_names.specs.Trees.{has_parent, is_directory_there}
 use Rattle.sb_names.specs.declared.faults.TreeFault.TheVariants as fault
+use Rattle.sb_names.specs.declared.nodes.NameNode.{NameNode}
 use Rattle.sb_names.proofs.AddLemmas.{name_gone, name_there, parent_there, whole_key}
 use Rattle.sb_names.proofs.Moving.{paths_apart}
-use Rattle.sb_names.proofs.NodeLemmas.{found_none}
+use Rattle.sb_names.proofs.NodeLemmas.{found_node, found_none}
 use Rattle.sb_names.proofs.PathLemmas.{directory_gone}
 use Rattle.sb_names.proofs.RenameLemmas.{not_into_itself}
-use Rattle.sb_names.proofs.TakeLemmas.{is_found_there}
+
+pub others_kept : (f f' : Nodes) (a : ℕ) (key : List ℕ) → name_of f (Some a) ≡ key → KeepsOtherNodes f f' a → KeepsAllBut f f' key
+others_kept f f' a key named others n ne = others n (λ same. ne (ap (λ m. name_of f (Some m)) same ∙ named))
+
+is_found_there : (f : Nodes) → HasNames f → IsShallow f.rows → HasLiveLinks f → (name : List ℕ) (a : ℕ) → IsAt f (Some a) (key_of name) → is_there (rows_of f) name ≡ true
+is_found_there f names shallow live_links name a at = by (value_at f a) refl at.0
+  where
+    by : (o : Option NameNode) → value_at f a ≡ o → is_some o ≡ true → is_there (rows_of f) name ≡ true
+    by None e live = absurd (false≢true live)
+    by (Some w) e live = ap is_some (ap (λ key. lookup (is_key key) (rows_of f)) (sym at.1) ∙ found_node f names shallow live_links a w e)
 
 module _ (f : Nodes) where
   pub rename_absent : (old new : List ℕ) → IsUnnamed f (key_of old) → renamed_tree (rows_of f) old new ≡ Err fault.Absent
@@ -73,6 +84,11 @@ module _ (f : Nodes) where
               name_gone f names shallow live_links new path part d is_path cut here is_part none,
             )
             (ap (λ rows. Ok rows) ((λ i. collected (map (λ row. (renamed_key (sym at.1 i) (is_whole i) row.0, row.1)) (rows_of f))) ∙ sym e))
+
+        pub rename_rows : (rows' : Rows ℕ)
+            → rows' ≡ collected (map (λ row. (renamed_key (name_of f (Some a)) (name_of f d ++ 92 ∷ key_of part) row.0, row.1)) (rows_of f))
+            → rows' ≡ renamed_rows (rows_of f) old new
+        rename_rows rows' e = e ∙ (λ i. collected (map (λ row. (renamed_key (at.1 i) (sym is_whole i) row.0, row.1)) (rows_of f)))
 
         pub rename_keeps : (f' : Nodes) → KeepsRows f f' (name_of f (Some a)) (name_of f d ++ 92 ∷ key_of part) → KeepsRows f f' (key_of old) (key_of new)
         rename_keeps f' keeps n live =

@@ -9,8 +9,8 @@ use Rattle.std.specs.List.{AllByRecursion, count_by, list_all, list_any}
 use Rattle.std.specs.Map.{keys_of, lookup, remove_entry}
 use Rattle.sb_wide.specs.Names.{is_name_of}
 use Rattle.sb_names.specs.Keys.{key_of, parent_of, is_backslash, is_below}
-use Rattle.sb_names.specs.Laws.{RemovesKeepTrees, RenamesAddNothing, RenamesAreFound, RenamesKeepTrees, RenamesLeaveNothing}
-use Rattle.sb_names.specs.Maps.{Rows, count_in, is_key, is_there}
+use Rattle.sb_names.specs.Laws.{RenamesAddNothing, RenamesAreFound, RenamesKeepTrees, RenamesLeaveNothing}
+use Rattle.sb_names.specs.Maps.{Rows, is_key, is_there}
 use Rattle.sb_names.specs.Nodes.{is_path}
 use Rattle.sb_names.specs.Renames.{collected, is_at_or_below, renamed_key, renamed_rows, renamed_tree}
 use Rattle.sb_names.specs.Trees.{AreFolded, IsTree, has_parent, is_directory_there}
@@ -395,62 +395,3 @@ renames_leave_nothing rows rows' old new key tree are_folded new_name done at = 
     by (Some v) e =
         let was = new_key (renamed_key from to) key rows (subst (λ r. Has r key) (sym same.4) (ap is_some e)) in
         absurd (nothing was.0 was.2)
-
--- a key that passes is counted
-one_counted : (test : List ℕ → Bool) (key : List ℕ) (rows : Rows ℕ) → Has rows key → test key ≡ true → count_by (λ row. test row.0) rows ≡ 0 → ⊥
-one_counted test key [] there t h = false≢true there
-one_counted test key (row ∷ rows) there t h =
-    by (is_key key row.0) refl there (test row.0) refl (sym (sum_by-cons (λ row. cond (test row.0) 1 0) row rows) ∙ h) (one_counted test key rows)
-  where
-    by : (b : Bool) → is_key key row.0 ≡ b → is_some (cond b (Some row.1) (lookup (is_key key) rows)) ≡ true → (c : Bool) → test row.0 ≡ c
-        → cond c 1 0 + count_by (λ row. test row.0) rows ≡ 0 → (Has rows key → test key ≡ true → count_by (λ row. test row.0) rows ≡ 0 → ⊥) → ⊥
-    by b s e true u h again = absurd (omega (arith, h))
-    by true s e false u h again = false≢true (sym u ∙ ap test (sym (is_key_eq key row.0 s)) ∙ t)
-    by false s e false u h again =
-        let rest : count_by (λ row. test row.0) rows ≡ 0 = omega (arith, h) in
-        again e t rest
-
-all_out : (P : List ℕ → Type 0) (test : List ℕ → Bool) (rows : Rows ℕ) → AllByRecursion P (keys_of rows) → AllByRecursion P (keys_of (remove_entry test rows))
-all_out P test [] h = tt
-all_out P test (row ∷ rows) h = by (test row.0) (all_out P test rows h.1)
-  where
-    by : (b : Bool) → AllByRecursion P (keys_of (remove_entry test rows)) → AllByRecursion P (keys_of (cond b rows (row ∷ remove_entry test rows)))
-    by true i = h.1
-    by false i = (h.0, i)
-
-pub removes_keep_trees : RemovesKeepTrees
-removes_keep_trees rows rows' name tree are_folded rises done =
-    let known = remove_parts (is_there rows name) (count_in rows name == 0) left rows' done in
-    subst (λ r. IsTree r) known.1
-    (all_tested (has_parent left) left
-    (all_out (λ key. has_parent left key ≡ true) (is_key (key_of name)) rows (all_keys (λ key. has_parent left key ≡ true) rows (stays known.0))))
-  where
-    left : Rows ℕ
-    left = remove_entry (is_key (key_of name)) rows
-
-    none_of : (count_in rows name == 0) ≡ true → count_in rows name ≡ 0
-    none_of t = by (count_in rows name == 0) refl t
-      where
-        by : (b : Bool) → b ≡ (count_in rows name == 0) → b ≡ true → count_in rows name ≡ 0
-        by true e t = grind (arith, nat_tests, e)
-        by false e t = absurd (false≢true t)
-
-    stays : (count_in rows name == 0) ≡ true → (key : List ℕ) → Has rows key → has_parent left key ≡ true
-    stays none key there = by (parent_of key) refl (sym (parent_folded key) ∙ ap parent_of (own_folded rows tree are_folded key there)) (directory_row rows tree are_folded key there)
-      where
-        by : (path : List ℕ) → parent_of key ≡ path → key_of (parent_of key) ≡ parent_of key → ((parent_of key ≡ [] → ⊥) → Has rows (parent_of key)) → is_directory_there left path ≡ true
-        by [] named same row = refl
-        by (u ∷ us) named same row =
-            ap (λ k. is_some (lookup (is_key k) left)) (ap key_of (sym named) ∙ same)
-            ∙ ap is_some (is_out (key_of name) (parent_of key) rows rises)
-            ∙ other (is_key (parent_of key) (key_of name)) refl (row (λ e. not_empty u us (sym named ∙ e)))
-          where
-            not_empty : (u : ℕ) (us : List ℕ) → u ∷ us ≡ [] → ⊥
-            not_empty u us e = absurd (cc)
-
-            other : (b : Bool) → is_key (parent_of key) (key_of name) ≡ b → Has rows (parent_of key)
-                → is_some (if b then None else lookup (is_key (parent_of key)) rows) ≡ true
-            other false t h = h
-            other true t h =
-                absurd (one_counted (λ k. is_key (key_of name) (parent_of k)) key rows there
-                (ap (λ k. is_key k (parent_of key)) (sym (is_key_eq (parent_of key) (key_of name) t)) ∙ own_test (parent_of key)) (none_of none))

@@ -9,18 +9,6 @@ use Rattle.sb_names.specs.declared.nodes.NameNode.{NameNode}
 use Rattle.sb_names.proofs.Changes.{is_same, same_of}
 use Rattle.sb_names.proofs.NodeLemmas.{live_below}
 
-nothing_in : (xs : List ℕ) → ((x : ℕ) → has x xs ≡ true → ⊥) → xs ≡ []
-nothing_in [] none = refl
-nothing_in (x ∷ xs) none = absurd (none x (rw (is_same x) refl))
-
--- a node without a first child is nobody's parent
-pub no_first : (f : Nodes) (a : ℕ) → Agrees f → first_of (children_of f a) ≡ None → (x : ℕ) → node_parent f x ≡ Some a → ⊥
-no_first f a agrees none x e = by (children_of f a) none ((agrees x a).1 e)
-  where
-    by : (xs : List ℕ) → first_of xs ≡ None → has x xs ≡ true → ⊥
-    by [] s t = false≢true t
-    by (y ∷ ys) s t = absurd (cc)
-
 -- a parent has a row
 pub parent_in_rows : (f : Nodes) → HasLiveLinks f → length f.rows ≡ length f.values → (c p : ℕ) → node_parent f c ≡ Some p → p < length f.rows
 parent_in_rows f live_links even c p e = subst (λ k. p < k) (sym even) (live_below f p (live_links c p e).1)
@@ -36,21 +24,6 @@ module _ (unlinks : UnlinksClearParents NameNode) (f : Nodes) (live_links : HasL
   -- a node that is unlinked has no parent
   pub unlinked_root : node_parent (without_parent f c) c ≡ None
   unlinked_root = parent_after c ∙ ap (λ b. if b then None else node_parent f c) (is_same c)
-
-  -- and no children where it had none
-  pub unlinked_childless : ((x : ℕ) → node_parent f x ≡ Some c → ⊥) → Agrees (without_parent f c) → children_of (without_parent f c) c ≡ []
-  unlinked_childless none agrees = nothing_in (children_of (without_parent f c) c) (λ x h. by x (x == c) (sym (parent_after x) ∙ (agrees x c).0 h))
-    where
-      by : (x : ℕ) (b : Bool) → (if b then None else node_parent f x) ≡ Some c → ⊥
-      by x true e = absurd (cc)
-      by x false e = none x e
-
-  -- a node that is unlinked and freed is all that changed
-  pub taken_changes : FreesClearValues NameNode → IsChanged f (without_node (without_parent f c) c) c None None
-  taken_changes frees = record {
-    values = λ n. frees (without_parent f c) c n live;
-    parents = λ n. parent_after n;
-  }
 
   -- a node that is unlinked and set is all that changed
   pub reset_changes : SetsSetValues NameNode → (w : NameNode) → IsChanged f (with_value (without_parent f c) c w) c (Some w) None

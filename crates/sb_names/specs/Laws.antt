@@ -5,7 +5,7 @@ use Rattle.sb_wide.specs.Names.{is_name_of}
 use Rattle.sb_names.specs.Keys.{key_of}
 use Rattle.sb_names.specs.Maps.{Rows, Rises, is_key, is_there, found, put, without}
 use Rattle.sb_names.specs.Renames.{is_at_or_below, renamed_key, renamed_tree}
-use Rattle.sb_names.specs.Trees.{AreFolded, HasParents, IsTree, has_parent, has_parent_with, removed}
+use Rattle.sb_names.specs.Trees.{AreFolded, HasParents, IsTree, has_parent, has_parent_with}
 
 -- what is put under a name that is not there, and taken out again, leaves the rows as they were
 abbrev pub PutsComeBack : Type 0 → Type 0
@@ -30,11 +30,7 @@ OutIsOut V = (rows : Rows V) (name other : List ℕ) → Rises rows
 abbrev pub PutsKeepTrees : Type 0
 PutsKeepTrees = (rows : Rows ℕ) (name : List ℕ) (object : ℕ) → IsTree rows → has_parent rows name ≡ true → IsTree (put rows name object)
 
--- a name that is taken out of a tree leaves a tree
-abbrev pub RemovesKeepTrees : Type 0
-RemovesKeepTrees = (rows rows' : Rows ℕ) (name : List ℕ) → IsTree rows → AreFolded rows → Rises rows → removed rows name ≡ Ok rows' → IsTree rows'
-
--- and so does one that is renamed
+-- a name that is renamed leaves a tree
 abbrev pub RenamesKeepTrees : Type 0
 RenamesKeepTrees = (rows rows' : Rows ℕ) (old new : List ℕ) → IsTree rows → AreFolded rows → is_name_of old ≡ true → is_name_of new ≡ true
     → renamed_tree rows old new ≡ Ok rows' → IsTree rows'

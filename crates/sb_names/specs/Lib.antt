@@ -2,11 +2,10 @@ pub mod Hashes
 pub mod Keys
 pub mod Laws
 pub mod Maps
-pub mod Moves
 pub mod Nodes
 pub mod Numbers
 pub mod Orders
 pub mod Places
 pub mod Renames
+pub mod Seeks
 pub mod Trees
-pub mod Walks

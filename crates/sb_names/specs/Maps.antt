@@ -2,11 +2,10 @@
 use Rattle.std.specs.Prelude.{ℕ, Bool, List, Option, is_some, nat_eq, if◌then◌else◌}
 use Rattle.std.specs.BTreeMap.{insert_entry}
 use Rattle.std.specs.Cmp.Lexicographic.{pointwise, slice_cmp}
-use Rattle.std.specs.List.{count_by}
 use Rattle.std.specs.List.Sorted.{IsStrictlySortedBy}
 use Rattle.std.specs.Map.{keys_of, lookup, remove_entry, set_value}
 use Rattle.std.specs.Ordering.{nat_cmp}
-use Rattle.sb_names.specs.Keys.{key_of, parent_of}
+use Rattle.sb_names.specs.Keys.{key_of}
 
 -- rows of a folded name and what stands under it
 abbrev pub Rows : Type 0 → Type 0
@@ -44,7 +43,3 @@ module _ {V : Type 0} where
   -- without the row of a name
   abbrev pub without : Rows V → List ℕ → Rows V
   without rows name = remove_entry (is_key (key_of name)) rows
-
-  -- how many names stand in the directory of a name
-  abbrev pub count_in : Rows V → List ℕ → ℕ
-  count_in rows name = count_by (λ row. is_key (key_of name) (parent_of row.0)) rows

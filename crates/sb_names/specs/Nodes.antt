@@ -7,7 +7,7 @@ use Rattle.sb_arena.specs.Forests.{Forest, IsAbove, IsLive, value_at, parent_of 
 use Rattle.sb_arena.specs.declared.arena.NodeId.{NodeId}
 use Rattle.sb_wide.specs.Names.{is_component}
 use Rattle.sb_names.specs.Keys.{key_of}
-use Rattle.sb_names.specs.Maps.{Rows, count_in, is_key}
+use Rattle.sb_names.specs.Maps.{Rows, is_key}
 use Rattle.sb_names.specs.Hashes.{hash_of}
 use Rattle.sb_names.specs.Renames.{renamed_key}
 use Rattle.sb_names.specs.declared.nodes.NameNode.{NameNode}
@@ -94,10 +94,6 @@ IsThere f (Some n) = IsLive f n
 abbrev pub IsUnnamed : Nodes → List ℕ → Type 0
 IsUnnamed f key = (n : ℕ) → IsLive f n → name_of f (Some n) ≡ key → ⊥
 
--- no row stands in the directory of this folded name
-abbrev pub HasNoneBelow : Nodes → List ℕ → Type 0
-HasNoneBelow f key = (name : List ℕ) → key_of name ≡ key → count_in (rows_of f) name ≡ 0
-
 -- each node has a component, and no other node of its directory has the same
 pub record HasNames (f : Nodes) : Type 0 where
   pub parts : (n : ℕ) (node : NameNode) → value_at f n ≡ Some node → is_component node.part ≡ true
@@ -107,13 +103,9 @@ pub record HasNames (f : Nodes) : Type 0 where
 abbrev pub is_entry : Nodes → ℕ × ℕ → Bool
 is_entry f q = is_some (value_at f q.1) && (q.0 == hash_of (node_parent f q.1) (key_at f q.1))
 
--- the index has the pair of each live node, and no other
+-- the index has the pair of each live node. It may have others: who looks a node up tests what it finds
 abbrev pub IsIndexed : {V : Type 0} → (ℕ × ℕ → Option V) → Nodes → Type 0
-IsIndexed index f = ((q : ℕ × ℕ) → is_some (index q) ≡ is_entry f q) × ((n : ℕ) → IsLive f n → n < 2 ^ 64)
-
--- an index has one entry of a node, under this hash
-abbrev pub HasOneEntry : {V : Type 0} → (ℕ × ℕ → Option V) → ℕ → ℕ → Type 0
-HasOneEntry index n hash = (h : ℕ) → is_some (index (h, n)) ≡ (h == hash)
+IsIndexed index f = ((q : ℕ × ℕ) → is_entry f q ≡ true → is_some (index q) ≡ true) × ((n : ℕ) → IsLive f n → n < 2 ^ 64)
 
 -- an index has the entries of all nodes but one as before
 abbrev pub KeepsEntries : {V : Type 0} → (ℕ × ℕ → Option V) → (ℕ × ℕ → Option V) → ℕ → Type 0
@@ -153,7 +145,3 @@ hung f a (Some p) = with_child f a p
 abbrev pub IsApart : Nodes → ℕ → Option ℕ → Type 0
 IsApart f a None = ⊤
 IsApart f a (Some p) = IsAbove f a p → ⊥
-
--- no node stands in the directory of this one
-abbrev pub IsChildless : Nodes → ℕ → Type 0
-IsChildless f a = (n : ℕ) → node_parent f n ≡ Some a → ⊥

@@ -1,10 +1,9 @@
 -- A tree of names: a map in which each name stands in a directory that is there, and what may be asked of it.
-use Rattle.std.specs.Prelude.{◌≡◌, ℕ, Bool, true, false, not, ◌==◌, List, [], ◌∷◌, Option, None, Some, option_map, Result, Ok, Err, ⊤, if◌then◌else◌}
+use Rattle.std.specs.Prelude.{◌≡◌, ℕ, Bool, true, false, not, List, [], ◌∷◌, Option, None, Some, option_map, Result, Ok, Err, ⊤, if◌then◌else◌}
 use Rattle.std.specs.List.{list_all}
 use Rattle.sb_wide.specs.Names.{is_name_of}
-use Rattle.sb_names.specs.Keys.{key_of, parent_of, is_below}
-use Rattle.sb_names.specs.Maps.{Rows, found, is_key, is_there, put, without, count_in}
-use Rattle.sb_names.specs.Moves.{moved}
+use Rattle.sb_names.specs.Keys.{key_of, parent_of}
+use Rattle.sb_names.specs.Maps.{Rows, found, is_key, is_there, put}
 use Rattle.sb_names.specs.declared.faults.TreeFault.{TreeFault}
 use Rattle.sb_names.specs.declared.faults.TreeFault.TheVariants as fault
 
@@ -56,32 +55,12 @@ HasParents test rows = list_all (λ row. has_parent_with test rows row.0) rows �
 abbrev pub IsTree : Rows ℕ → Type 0
 IsTree rows = list_all (λ row. has_parent rows row.0) rows ≡ true
 
--- how many names stand in a directory that is there
-abbrev pub children_of : Rows ℕ → List ℕ → Option ℕ
-children_of rows name = if is_there rows name then Some (count_in rows name) else None
-
 -- the rows with one more, or why there is none: the first case that applies
 abbrev pub added : Rows ℕ → List ℕ → ℕ → Result (Rows ℕ) TreeFault
 added rows name object =
     if not (has_parent rows name) then Err fault.NoParent
     else (if is_there rows name then Err fault.Exists
     else Ok (put rows name object))
-
--- the rows without that of a name, or why it stays
-abbrev pub removed : Rows ℕ → List ℕ → Result (Rows ℕ) TreeFault
-removed rows name =
-    if not (is_there rows name) then Err fault.Absent
-    else (if not (count_in rows name == 0) then Err fault.HasChildren
-    else Ok (without rows name))
-
--- the rows with FROM and all below it moved to TO, or why they stay
-abbrev pub renamed : Rows ℕ → List ℕ → List ℕ → Result (Rows ℕ) TreeFault
-renamed rows from to =
-    if not (is_there rows from) then Err fault.Absent
-    else (if is_below (key_of from) (key_of to) then Err fault.IntoItself
-    else (if not (has_parent rows to) then Err fault.NoParent
-    else (if is_there rows to then Err fault.Exists
-    else Ok (moved rows from to))))
 
 -- a fault that an answer may have: the one that is wanted, or that memory ran out
 abbrev pub IsFault : Result (Rows ℕ) TreeFault → TreeFault → Type 0

@@ -6,14 +6,14 @@ ghost use Rattle.std.specs.Ordering.{nat_cmp};
 ghost use Rattle.sb_arena.specs.Forests.{IsLive, node_number, parent_of as node_parent};
 ghost use Rattle.sb_wide.specs.Names.{is_component, is_name_of};
 ghost use Rattle.sb_names.specs.Keys.{key_of};
-ghost use Rattle.sb_names.specs.Maps.{count_in};
 ghost use Rattle.sb_names.specs.Trees.{IsFault, added};
-ghost use Rattle.sb_names.specs.Nodes.{HasNoChild, HasNoneBelow, IsApart, IsChanged, IsThere, KeepsNodes, hung, name_of, number_of, rows_of};
+ghost use Rattle.sb_names.specs.Nodes.{HasNoChild, IsApart, IsChanged, IsThere, KeepsNodes, hung, name_of, number_of, rows_of};
 
 use crate::faults::TreeFault;
 use crate::hashes::hash_of;
-use crate::linked::{NameTree, last_component};
+use crate::linked::NameTree;
 use crate::nodes::NameNode;
+use crate::seeking::Seek;
 use sb_arena::{Arena, NodeId, calls_change_one_value, links_change_one_parent};
 use sb_wide::{NoMemory, wide_of};
 
@@ -56,7 +56,7 @@ fn add_node(
 
 impl NameTree {
     // Adds a node for a component that is not in the directory.
-    fn put_node(
+    pub(crate) fn put_node(
         &mut self,
         directory: Option<NodeId>,
         part: &[u16],
@@ -66,7 +66,6 @@ impl NameTree {
         requires part { is_component part.now ≡ true }
         requires absent { HasNoChild self.old (number_of directory) (key_of part.now) }
         ensures rows { OnOk result (rows_of self.new ≡ insert_entry (slice_cmp nat_cmp) (rows_of self.old) (name_of self.old (number_of directory) ++ 92 ∷ key_of part.now) object) }
-        ensures below { OnOk result (HasNoneBelow self.new (name_of self.old (number_of directory) ++ 92 ∷ key_of part.now)) }
         ensures nodes { OnOk result (KeepsNodes self.old self.new) }
         ensures err { OnErr result (self.new ≡ self.old) }
     {
@@ -77,21 +76,14 @@ impl NameTree {
             part: wide_of(self.alloc, part)?,
             object,
         };
+        // An entry without its node does no harm, so that it is not taken out where there is no memory for the node.
         let number = self.nodes.vacant().0;
         self.index.insert((hash, number), ())?;
-        match add_node(&mut self.nodes, directory, node) {
-            Ok(()) => {
-                self.nodes.establish_forest();
-                Ok(())
-            }
-            Err(error) => {
-                self.index.remove(&(hash, number));
-                Err(error)
-            }
-        }
+        add_node(&mut self.nodes, directory, node)?;
+        self.nodes.establish_forest();
+        Ok(())
     }
 
-    #[tactic(auto, using(crate::proofs::AddLemmas::add_there, crate::proofs::AddLemmas::at_there))]
     /// Adds a name with its object. Memory apart, it is refused with the first of these that applies.
     ///
     /// # Errors
@@ -100,22 +92,17 @@ impl NameTree {
     pub fn add(&mut self, name: &[u16], object: u64) -> Result<(), TreeFault>
         requires { is_name_of name.now ≡ true }
         ensures ok { OnOk result (added (rows_of self.old) name.now object ≡ Ok (rows_of self.new)) }
-        ensures below { OnOk result (count_in (rows_of self.new) name.now ≡ 0) }
         ensures nodes { OnOk result (KeepsNodes self.old self.new) }
         ensures fault { IfErr result (λ fault. IsFault (added (rows_of self.old) name.now object) fault) }
         ensures err { OnErr result (self.new ≡ self.old) }
     {
-        self.establish_names();
-        let (path, part) = last_component(name);
-        let Some(directory) = self.directory(path) else {
-            return Err(TreeFault::NoParent);
-        };
-        if self.child(directory, part).is_some() {
-            return Err(TreeFault::Exists);
-        }
-        match self.put_node(directory, part, object) {
-            Ok(()) => Ok(()),
-            Err(_) => Err(TreeFault::NoMemory),
+        match self.seek(name) {
+            Seek::NoDirectory => Err(TreeFault::NoParent),
+            Seek::There { .. } => Err(TreeFault::Exists),
+            Seek::Absent { directory, .. } => match self.add_at(directory, name, object) {
+                Ok(()) => Ok(()),
+                Err(_) => Err(TreeFault::NoMemory),
+            },
         }
     }
 }

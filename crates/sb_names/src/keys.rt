@@ -1,8 +1,7 @@
 // Names as keys: compared and cut without regard to small and capital letters.
-ghost use Rattle.std.specs.Prelude.{◌≡◌, ◌||◌, length};
+ghost use Rattle.std.specs.Prelude.{◌≡◌, length};
 ghost use Rattle.std.specs.Cmp.Lexicographic.{slice_cmp};
 ghost use Rattle.std.specs.Ordering.{nat_cmp};
-ghost use Rattle.sb_names.specs.Maps.{is_key};
 ghost use Rattle.sb_names.specs.Keys.{key_of, parent_of, is_below, is_backslash};
 
 use sb_wide::fold;
@@ -59,57 +58,6 @@ pub fn parent(name: &[u16]) -> &[u16]
 {
     let (before, _) = name.split_at(parent_len(name));
     before
-}
-
-// Whether a key is that of a name.
-pub(crate) fn is_key(key: &[u16], name: &[u16]) -> bool
-    ensures { result ≡ is_key (key_of name.now) key.now }
-{
-    let mut key = key;
-    let mut name = name;
-    while let Some((unit, more)) = key.split_first() {
-        let Some((other, others)) = name.split_first() else {
-            return false;
-        };
-        if *unit != fold(*other) {
-            return false;
-        }
-        key = more;
-        name = others;
-    }
-    match name.split_first() {
-        Some(_) => false,
-        None => true,
-    }
-}
-
-// Whether a key lies below a name.
-fn is_under(key: &[u16], name: &[u16]) -> bool
-    ensures { result ≡ is_below (key_of name.now) key.now }
-{
-    let mut key = key;
-    let mut name = name;
-    while let Some((other, others)) = name.split_first() {
-        let Some((unit, more)) = key.split_first() else {
-            return false;
-        };
-        if fold(*other) != *unit {
-            return false;
-        }
-        key = more;
-        name = others;
-    }
-    match key.split_first() {
-        Some((unit, _)) => *unit == BACKSLASH,
-        None => false,
-    }
-}
-
-// Whether a key is that of a name, or lies below it.
-pub(crate) fn is_within(key: &[u16], name: &[u16]) -> bool
-    ensures { result ≡ (is_key (key_of name.now) key.now || is_below (key_of name.now) key.now) }
-{
-    is_key(key, name) || is_under(key, name)
 }
 
 /// Whether a name lies below another: it is the other, a `\`, and more.

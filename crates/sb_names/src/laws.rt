@@ -1,6 +1,6 @@
 // Laws of maps from names and of trees of names. None of these functions changes anything: each contract is a law.
 ghost use Rattle.sb_names.specs.Numbers.{OutsKeepNumbers, PutsKeepNumbers, RenamesKeepNumbers};
-ghost use Rattle.sb_names.specs.Laws.{NamesFold, OutIsOut, PutsAreFound, PutsComeBack, PutsKeepParents, PutsKeepRows, PutsKeepTrees, RemovesKeepTrees, RenamesAddNothing, RenamesAreFound, RenamesKeepParents, RenamesKeepTrees, RenamesLeaveNothing};
+ghost use Rattle.sb_names.specs.Laws.{NamesFold, OutIsOut, PutsAreFound, PutsComeBack, PutsKeepParents, PutsKeepRows, PutsKeepTrees, RenamesAddNothing, RenamesAreFound, RenamesKeepParents, RenamesKeepTrees, RenamesLeaveNothing};
 
 use sb_wide::{names_are_paths, paths_are_names};
 
@@ -34,11 +34,10 @@ pub fn puts_keep_trees()
     ensures { PutsKeepTrees }
 {}
 
-/// A name that is taken out of a tree, or renamed in it, leaves a tree.
-#[tactic(auto, using(crate::proofs::RenameLaws::removes_keep_trees, crate::proofs::RenameLaws::renames_keep_trees))]
-pub fn changes_keep_trees()
-    ensures removed { RemovesKeepTrees }
-    ensures renamed { RenamesKeepTrees }
+/// A name that is renamed in a tree leaves a tree.
+#[tactic(auto, using(crate::proofs::RenameLaws::renames_keep_trees))]
+pub fn renames_keep_trees()
+    ensures { RenamesKeepTrees }
 {}
 
 /// Where the object of each directory passes a test, it does so after a name is put into such a directory, or renamed into one.

@@ -1,11 +1,11 @@
 // A tree of names kept as linked nodes: each keeps one component, and its name is the path from the root.
 ghost use Rattle.std.specs.Prelude.{◌≡◌, ◌≤◌, ◌<◌, ◌^◌, not, [], ◌++◌, ◌∷◌, true, false, Some, None, IfSome, IfNone, length};
 ghost use Rattle.std.specs.List.{list_any, prefix_len};
-ghost use Rattle.sb_arena.specs.Forests.{Agrees, HasLiveLinks, HasSingleChildren, IsLive, IsShallow, IsSound, children_of, no_nodes, parent_of as node_parent};
+ghost use Rattle.sb_arena.specs.Forests.{Agrees, HasLiveLinks, HasSingleChildren, IsShallow, IsSound, no_nodes, parent_of as node_parent};
 ghost use Rattle.sb_wide.specs.Names.{is_component, is_name_of};
 ghost use Rattle.sb_names.specs.Keys.{key_of, parent_of, is_backslash};
 ghost use Rattle.sb_names.specs.Maps.{Rises, found};
-ghost use Rattle.sb_names.specs.Trees.{AreFolded, AreNamed, IsTree, children_of as names_in, has_parent, parent_object};
+ghost use Rattle.sb_names.specs.Trees.{AreFolded, AreNamed, IsTree, has_parent, parent_object};
 ghost use Rattle.sb_names.specs.Nodes.{HasNames, HasNoChild, HasOneNodeEach, IsAt, IsChild, IsUnnamed, is_child, is_path, is_same_node, key_at, number_of, object_at, rows_of};
 
 use crate::hashes::hash_of;
@@ -255,34 +255,6 @@ impl NameTree {
         match self.directory(directory) {
             Some(Some(node)) => Some(Some(self.nodes.value(node).object)),
             Some(None) => Some(None),
-            None => None,
-        }
-    }
-
-    #[tactic(auto, using(crate::proofs::ChildLemmas::walk_begins, crate::proofs::ChildLemmas::begins_in, crate::proofs::ChildLemmas::child_live, crate::proofs::ChildLemmas::walk_goes_on, crate::proofs::ChildLemmas::goes_on_in, crate::proofs::ChildLemmas::children_few))]
-    // How many nodes stand in the directory of one.
-    fn nodes_in(&self, node: NodeId) -> u64
-        requires { IsLive self.now node.0 }
-        ensures { result ≡ length (children_of self.now node.0) }
-    {
-        self.establish_names();
-        let mut count = 0;
-        let mut here = self.nodes.first_child(node);
-        while let Some(child) = here {
-            count += 1;
-            here = self.nodes.next(child);
-        }
-        count
-    }
-
-    /// How many names stand in the directory of this name, or None where the name is not there.
-    pub fn children_count(&self, name: &[u16]) -> Option<u64>
-        requires { is_name_of name.now ≡ true }
-        ensures { result ≡ names_in (rows_of self.now) name.now }
-    {
-        self.establish_names();
-        match self.node(name) {
-            Some(node) => Some(self.nodes_in(node)),
             None => None,
         }
     }

@@ -1,17 +1,15 @@
 // A map from names, compared folded, to what stands under each.
 ghost use Rattle.std.specs.Prelude.{◌≡◌, ◌≤◌, ◌+◌, ◌<◌, not, [], Ok, Err, IfOk, OnOk, OnErr, length, option_map};
-ghost use Rattle.std.specs.Vec.{vec_len, vec_capacity};
 ghost use Rattle.std.specs.BTreeMap.{insert_entry};
 ghost use Rattle.std.specs.Cmp.Lexicographic.{slice_cmp};
 ghost use Rattle.std.specs.Ordering.{nat_cmp};
 ghost use Rattle.std.specs.List.Sorted.{IsSearchInRange};
 ghost use Rattle.sb_names.specs.Keys.{key_of};
-ghost use Rattle.sb_names.specs.Maps.{Rises, count_in, found, is_there, put, put_new, replaced, without};
-ghost use Rattle.sb_names.specs.Moves.{moved};
+ghost use Rattle.sb_names.specs.Maps.{Rises, found, is_there, put, put_new, replaced, without};
 ghost use Rattle.sb_names.specs.Places.{IsFound, IsPut, IsReplaced, IsOut};
 
-use crate::keys::{compare, is_key, parent};
-use crate::moves::{drop_within, put_rows, refolded, rows_under};
+use crate::folding::refolded;
+use crate::keys::compare;
 use sb_wide::{NoMemory, Wide, wide_of};
 use std::alloc::Global;
 use std::marker::Model;
@@ -137,31 +135,6 @@ impl<V: Copy> NameMap<V> {
             Ok(at) => Some(self.rows.remove(at).1),
             Err(_) => None,
         }
-    }
-
-    // Gives each row that is `from` or lies below it its new name, with `to` in the place of `from`.
-    pub(crate) fn move_within(&mut self, from: &[u16], to: &[u16]) -> Result<(), NoMemory>
-        ensures ok { OnOk result (self.new ≡ moved self.old from.now to.now) }
-        ensures err { OnErr result (self.new ≡ self.old) }
-    {
-        let more = rows_under(*self.rows.allocator(), &self.rows, from, to)?;
-        self.rows.reserve(more.len())?;
-        drop_within(&mut self.rows, from);
-        put_rows(&mut self.rows, more);
-        Ok(())
-    }
-
-    /// How many names stand in the directory of a name.
-    pub fn count_in(&self, name: &[u16]) -> usize
-        ensures { result ≡ count_in self.now name.now }
-    {
-        let mut count = 0;
-        for row in &self.rows {
-            if is_key(parent(row.0.as_units()), name) {
-                count += 1;
-            }
-        }
-        count
     }
 
     /// The rows rise strictly, so that equal maps are equal lists. It changes nothing.

@@ -1,13 +1,14 @@
 // What renames a name in a tree of linked nodes.
-ghost use Rattle.std.specs.Prelude.{◌≡◌, ◌++◌, ◌∷◌, true, Some, None, Ok, IfErr, OnOk, OnErr, map};
+ghost use Rattle.std.specs.Prelude.{◌≡◌, ◌++◌, ◌∷◌, true, false, Some, None, Ok, IfErr, OnOk, OnErr, is_some, map};
 ghost use Rattle.std.specs.BTreeMap.{IsUnchanged, get};
 ghost use Rattle.sb_arena.specs.Forests.{IsLive};
 ghost use Rattle.sb_wide.specs.Names.{is_component, is_name_of};
-ghost use Rattle.sb_names.specs.Keys.{key_of};
+ghost use Rattle.sb_names.specs.Keys.{is_below, key_of, parent_of};
+ghost use Rattle.sb_names.specs.Maps.{found};
 ghost use Rattle.sb_names.specs.Orders.{by_pair};
-ghost use Rattle.sb_names.specs.Renames.{collected, renamed_key, renamed_tree};
+ghost use Rattle.sb_names.specs.Renames.{collected, renamed_key, renamed_rows, renamed_tree};
 ghost use Rattle.sb_names.specs.Trees.{IsFault};
-ghost use Rattle.sb_names.specs.Nodes.{HasNoChild, HasOneEntry, IsApart, IsChanged, IsThere, KeepsAllBut, KeepsEntries, KeepsOtherNodes, KeepsRows, name_of, number_of, rows_of};
+ghost use Rattle.sb_names.specs.Nodes.{HasNoChild, IsApart, IsAt, IsChanged, IsThere, KeepsAllBut, KeepsEntries, KeepsOtherNodes, KeepsRows, name_of, number_of, rows_of};
 
 use crate::adding::hang;
 use crate::faults::TreeFault;
@@ -42,8 +43,7 @@ fn reindex(
     old_hash: u64,
     hash: u64,
 ) -> Result<(), NoMemory>
-    requires { HasOneEntry (get by_pair index.old) node old_hash }
-    ensures here { OnOk result (HasOneEntry (get by_pair index.new) node hash) }
+    ensures here { OnOk result (is_some (get by_pair index.new (hash, node)) ≡ true) }
     ensures others { OnOk result (KeepsEntries (get by_pair index.old) (get by_pair index.new) node) }
     ensures err { OnErr result (IsUnchanged index.old index.new) }
 {
@@ -84,6 +84,34 @@ impl NameTree {
         move_node(&mut self.nodes, node, directory, renamed);
         self.nodes.establish_forest();
         Ok(())
+    }
+
+    #[tactic(auto, using(crate::proofs::AddLemmas::at_there))]
+    /// Gives a name and all below it a new name, which is not there and does not lie below the old one, in its directory: with
+    /// the node of the old name and the directory of the new one, as `seek` gave them. Objects and nodes stay.
+    ///
+    /// # Errors
+    /// `NoMemory` if there is none for the new component; then nothing is changed.
+    pub fn rename_at(
+        &mut self,
+        node: NodeId,
+        directory: Option<NodeId>,
+        from: &[u16],
+        to: &[u16],
+    ) -> Result<(), NoMemory>
+        requires to { is_name_of to.now ≡ true }
+        requires node { IsAt self.old (Some node.0) (key_of from.now) }
+        requires directory { IsAt self.old (number_of directory) (key_of (parent_of to.now)) }
+        requires outside { is_below (key_of from.now) (key_of to.now) ≡ false }
+        requires absent { found (rows_of self.old) to.now ≡ None }
+        ensures rows { OnOk result (rows_of self.new ≡ renamed_rows (rows_of self.old) from.now to.now) }
+        ensures kept { OnOk result (KeepsRows self.old self.new (key_of from.now) (key_of to.now)) }
+        ensures others { OnOk result (KeepsAllBut self.old self.new (key_of from.now)) }
+        ensures err { OnErr result (self.new ≡ self.old) }
+    {
+        self.establish_names();
+        let (_, part) = last_component(to);
+        self.put_elsewhere(node, directory, part)
     }
 
     #[tactic(auto, using(crate::proofs::RenameCases::rename_absent, crate::proofs::RenameCases::rename_inside, crate::proofs::AddLemmas::at_there))]

@@ -10,7 +10,7 @@ ghost use Rattle.sb_pipe.specs.Pipes.{Agrees, ArePipes, no_pipes, on_pipe, is_in
 use crate::rows::PipeRow;
 use sb_call::{ACCESS_DENIED, Answer, INSTANCE_NOT_AVAILABLE, INVALID_PARAMETER, SUCCESS};
 use sb_handles::{HandleTable, Held, Object, Service, pipe_handles_are_counted};
-use sb_names::{NameMap, names_fold, puts_come_back};
+use sb_names::{NameMap, names_fold};
 use sb_wide::{NoMemory, Wide, wide_of};
 use std::alloc::Global;
 use std::marker::Model;
@@ -100,22 +100,14 @@ fn put_pipe(
     name: &[u16],
     row: PipeRow,
 ) -> Result<u64, NoMemory>
-    requires absent { found rows.old name.now ≡ None }
-    requires granted { handles.old.granted < 2 ^ 63 }
-    ensures handle { IfOk result (λ handle. handle ≡ handles.old.granted + 1) }
+    ensures handle { IfOk result (λ handle. handle ≡ handles.old.table.granted + 1) }
     ensures rows { OnOk result (rows.new ≡ put rows.old name.now row) }
-    ensures handles { OnOk result (handles.new ≡ with_handle handles.old target (on_pipe row.number)) }
-    ensures err { OnErr result ((rows.new ≡ rows.old) × (handles.new ≡ handles.old)) }
+    ensures handles { OnOk result (handles.new.table ≡ with_handle handles.old.table target (on_pipe row.number)) }
+    ensures err { OnErr result ((rows.new ≡ rows.old) × (handles.new.table ≡ handles.old.table)) }
 {
-    puts_come_back::<PipeRow>();
+    handles.reserve()?;
     rows.insert(name, row)?;
-    match handles.grant(target, on_pipe(row.number)) {
-        Ok(handle) => Ok(handle),
-        Err(fault) => {
-            rows.remove(name);
-            Err(fault)
-        }
-    }
+    Ok(handles.grant_reserved(target, on_pipe(row.number)))
 }
 
 #[tactic(auto, using(crate::proofs::DropLemmas::dropped_nowhere, crate::proofs::DropLemmas::dropped_for_another, crate::proofs::DropLemmas::dropped_one, crate::proofs::DropLemmas::dropped_last))]
@@ -185,12 +177,11 @@ impl PipeService {
         row: PipeRow,
     ) -> Result<u64, NoMemory>
         requires there { found self.old.rows name.now ≡ Some row }
-        requires granted { handles.old.granted < 2 ^ 63 }
         requires room { row.handles < row.instances }
-        ensures handle { IfOk result (λ handle. handle ≡ handles.old.granted + 1) }
+        ensures handle { IfOk result (λ handle. handle ≡ handles.old.table.granted + 1) }
         ensures service { OnOk result (self.new ≡ with_instance self.old name.now row) }
-        ensures handles { OnOk result (handles.new ≡ with_handle handles.old target (on_pipe row.number)) }
-        ensures err { OnErr result ((self.new ≡ self.old) × (handles.new ≡ handles.old)) }
+        ensures handles { OnOk result (handles.new.table ≡ with_handle handles.old.table target (on_pipe row.number)) }
+        ensures err { OnErr result ((self.new ≡ self.old) × (handles.new.table ≡ handles.old.table)) }
     {
         let handle = handles.grant(target, on_pipe(row.number))?;
         let more = row.handles + 1;
@@ -216,13 +207,12 @@ impl PipeService {
     ) -> Result<u64, NoMemory>
         requires name { is_name_of name.now ≡ true }
         requires absent { found self.old.rows name.now ≡ None }
-        requires granted { handles.old.granted < 2 ^ 63 }
         requires made { self.old.made < 2 ^ 63 }
         requires few { (1 ≤ instances) × (instances ≤ 255) }
-        ensures handle { IfOk result (λ handle. handle ≡ handles.old.granted + 1) }
+        ensures handle { IfOk result (λ handle. handle ≡ handles.old.table.granted + 1) }
         ensures service { OnOk result (self.new ≡ with_pipe self.old name.now mode form instances) }
-        ensures handles { OnOk result (handles.new ≡ with_handle handles.old target (on_pipe (self.old.made + 1))) }
-        ensures err { OnErr result ((self.new ≡ self.old) × (handles.new ≡ handles.old)) }
+        ensures handles { OnOk result (handles.new.table ≡ with_handle handles.old.table target (on_pipe (self.old.made + 1))) }
+        ensures err { OnErr result ((self.new ≡ self.old) × (handles.new.table ≡ handles.old.table)) }
     {
         names_fold();
         let alloc = *self.names.allocator();
@@ -260,12 +250,11 @@ impl PipeService {
         instances: u64,
     ) -> Result<Answer, NoMemory>
         requires name { is_name_of name.now ≡ true }
-        requires granted { handles.old.granted < 2 ^ 63 }
         requires made { self.old.made < 2 ^ 63 }
-        requires agree { Agrees self.old handles.old }
-        ensures effect { IfOk result (λ a. IsDone (create self.old handles.old target name.now mode form instances) self.new handles.new a) }
-        ensures agree { Agrees self.new handles.new }
-        ensures err { OnErr result ((self.new ≡ self.old) × (handles.new ≡ handles.old)) }
+        requires agree { Agrees self.old handles.old.table }
+        ensures effect { IfOk result (λ a. IsDone (create self.old handles.old.table target name.now mode form instances) self.new handles.new.table a) }
+        ensures agree { Agrees self.new handles.new.table }
+        ensures err { OnErr result ((self.new ≡ self.old) × (handles.new.table ≡ handles.old.table)) }
     {
         if is_invalid(mode, form, instances) {
             return Ok(Answer::refusal(INVALID_PARAMETER));

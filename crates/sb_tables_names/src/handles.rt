@@ -46,13 +46,10 @@ fn value_of_one(
     name: &str,
     text: &str,
 ) -> Result<String, RowFault> {
-    match name {
-        "shares.leave" => {
-            tables.shares.leave(number(text)?);
-            plain(alloc, "done")
-        }
-        _ if text.is_empty() => bare_value(alloc, tables, name),
-        _ => Err(RowFault::Unknown),
+    if text.is_empty() {
+        bare_value(alloc, tables, name)
+    } else {
+        Err(RowFault::Unknown)
     }
 }
 
@@ -84,6 +81,11 @@ fn value_of_two(
             let new = access_and_sharing(alloc, texts.1)?;
             are_in_conflict(alloc, held, new)
         }
+        "shares.leave" => {
+            let (object, handle) = numbers_of(texts.0, texts.1)?;
+            tables.shares.leave(object, handle);
+            plain(alloc, "done")
+        }
         "handles.grant" => grant(alloc, &mut tables.handles, texts.0, texts.1),
         "handles.lookup" => lookup(alloc, &tables.handles, texts.0, texts.1),
         "handles.close" => {
@@ -105,7 +107,6 @@ fn grant(
 ) -> Result<String, RowFault> {
     let target = small(target)?;
     let held = held(alloc, on)?;
-    let _granted = handles.granted();
     let handle = handles.grant(target, held)?;
     told(alloc, &handle)
 }

@@ -1,20 +1,17 @@
-// Rows of names: a tree of names, and a map from names. Each row continues from the one before. Each call on the tree is also
-// made on the plain one, which has to give the same.
+// Rows of names: a tree of names, and a map from names. Each row continues from the one before.
 ghost use Rattle.std.specs.Prelude.{◌≡◌, true, IfOk};
 ghost use Rattle.sb_wide.specs.Names.{is_name_of};
 
 use crate::readers_namespace::{numbered, plain, refusal, told_line};
-use sb_names::{NameMap, NameTree, PlainTree, TreeFault, is_below, parent};
+use sb_names::{NameMap, NameTree, TreeFault, is_below, parent};
 use sb_rows::{RowFault, number, told, wide};
 use sb_wide::{Wide, is_name, quote_into};
 use std::alloc::Global;
-use std::fmt::Debug;
 
-/// The tree, the plain one and the map that rows change.
+/// The tree and the map that rows change.
 #[derive(Drop)]
 pub struct Names {
     tree: NameTree,
-    plain: PlainTree,
     map: NameMap<u64>,
 }
 
@@ -23,7 +20,6 @@ impl Names {
     pub fn new(alloc: Global) -> Names {
         Names {
             tree: NameTree::new(alloc),
-            plain: PlainTree::new(alloc),
             map: NameMap::new(alloc),
         }
     }
@@ -53,24 +49,7 @@ fn value_of_one(
         "parent" => told_name(alloc, parent(wide(alloc, text)?.as_units())),
         "map.find" => told(alloc, &names.map.find(wide(alloc, text)?.as_units())),
         "map.remove" => told(alloc, &names.map.remove(wide(alloc, text)?.as_units())),
-        "map.count_in" => told(alloc, &names.map.count_in(wide(alloc, text)?.as_units())),
-        "tree.remove" => remove(alloc, names, text),
-        "tree.take_back" => take_back(alloc, names, text),
-        "tree.find" => {
-            let name = named(alloc, text)?;
-            let wanted = names.plain.find(name.as_units());
-            agreed(alloc, &names.tree.find(name.as_units()), &wanted)
-        }
-        "tree.has_parent" => {
-            let name = named(alloc, text)?;
-            let wanted = names.plain.has_parent(name.as_units());
-            agreed(alloc, &names.tree.has_parent(name.as_units()), &wanted)
-        }
-        "tree.children_count" => {
-            let name = named(alloc, text)?;
-            let wanted = names.plain.children_count(name.as_units());
-            agreed(alloc, &names.tree.children_count(name.as_units()), &wanted)
-        }
+        "tree.find" => told(alloc, &names.tree.find(named(alloc, text)?.as_units())),
         _ if text.is_empty() => emptied(alloc, names, name),
         _ => Err(RowFault::Unknown),
     }
@@ -108,7 +87,6 @@ fn emptied(alloc: Global, names: &mut Names, name: &str) -> Result<String, RowFa
     match name {
         "tree" => {
             names.tree = NameTree::new(alloc);
-            names.plain = PlainTree::new(alloc);
             plain(alloc, "empty")
         }
         "map" => {
@@ -142,24 +120,8 @@ fn named(alloc: Global, text: &str) -> Result<Wide, RowFault>
     checked(wide(alloc, text)?)
 }
 
-// What the tree gives, where the plain one gives the same.
-fn agreed<T: Debug + PartialEq>(alloc: Global, value: &T, wanted: &T) -> Result<String, RowFault> {
-    if value == wanted {
-        told(alloc, value)
-    } else {
-        plain(alloc, "differs from the plain tree")
-    }
-}
-
-// What a change of the tree gives, where that of the plain one gives the same.
-fn agreed_change(
-    alloc: Global,
-    value: Result<(), TreeFault>,
-    wanted: Result<(), TreeFault>,
-) -> Result<String, RowFault> {
-    if value != wanted {
-        return plain(alloc, "differs from the plain tree");
-    }
+// What a change of the tree gives.
+fn told_change(alloc: Global, value: Result<(), TreeFault>) -> Result<String, RowFault> {
     match value {
         Ok(()) => plain(alloc, "done"),
         Err(fault) => refusal(alloc, fault),
@@ -169,42 +131,13 @@ fn agreed_change(
 fn add(alloc: Global, names: &mut Names, name: &str, object: &str) -> Result<String, RowFault> {
     let object = number(object)?;
     let name = named(alloc, name)?;
-    let wanted = names.plain.add(name.as_units(), object);
-    let value = names.tree.add(name.as_units(), object);
-    agreed_change(alloc, value, wanted)
+    told_change(alloc, names.tree.add(name.as_units(), object))
 }
 
 fn rename(alloc: Global, names: &mut Names, name: &str, to: &str) -> Result<String, RowFault> {
     let name = named(alloc, name)?;
     let to = named(alloc, to)?;
-    let wanted = names.plain.rename(name.as_units(), to.as_units());
-    let value = names.tree.rename(name.as_units(), to.as_units());
-    agreed_change(alloc, value, wanted)
-}
-
-fn remove(alloc: Global, names: &mut Names, name: &str) -> Result<String, RowFault> {
-    let name = named(alloc, name)?;
-    let wanted = names.plain.remove(name.as_units());
-    let value = names.tree.remove(name.as_units());
-    if value != wanted {
-        return plain(alloc, "differs from the plain tree");
-    }
-    match value {
-        Ok(object) => told(alloc, &object),
-        Err(fault) => refusal(alloc, fault),
-    }
-}
-
-fn take_back(alloc: Global, names: &mut Names, name: &str) -> Result<String, RowFault> {
-    let name = named(alloc, name)?;
-    names.plain.take_back(name.as_units());
-    match names.tree.children_count(name.as_units()) {
-        Some(0) => {
-            names.tree.take_back(name.as_units());
-            plain(alloc, "done")
-        }
-        _ => Err(RowFault::NotInRange),
-    }
+    told_change(alloc, names.tree.rename(name.as_units(), to.as_units()))
 }
 
 // Adds a count of names: the name with each number behind it, and that number as the object.
@@ -216,7 +149,6 @@ fn add_numbered(
 ) -> Result<String, RowFault> {
     for number in 0..number(count)? {
         let name = checked(numbered(alloc, name, number)?)?;
-        let _wanted = names.plain.add(name.as_units(), number);
         match names.tree.add(name.as_units(), number) {
             Ok(()) => {}
             Err(fault) => return refusal(alloc, fault),
@@ -236,7 +168,6 @@ fn add_nested(
     for number in 0..number(count)? {
         path.push_str(part)?;
         let name = checked(wide(alloc, &path)?)?;
-        let _wanted = names.plain.add(name.as_units(), number);
         match names.tree.add(name.as_units(), number) {
             Ok(()) => {}
             Err(fault) => return refusal(alloc, fault),
@@ -245,7 +176,7 @@ fn add_nested(
     plain(alloc, "done")
 }
 
-// How many of these names are there with their number as the object, in both trees.
+// How many of these names are there with their number as the object.
 fn find_numbered(
     alloc: Global,
     names: &Names,
@@ -255,17 +186,11 @@ fn find_numbered(
     let mut found: u64 = 0;
     for number in 0..number(count)? {
         let name = checked(numbered(alloc, name, number)?)?;
-        if is_object(names, name.as_units(), number) {
+        if names.tree.find(name.as_units()) == Some(number) {
             found = found.saturating_add(1);
         }
     }
     told(alloc, &found)
-}
-
-fn is_object(names: &Names, name: &[u16], object: u64) -> bool
-    requires { is_name_of name.now ≡ true }
-{
-    names.tree.find(name) == Some(object) && names.plain.find(name) == Some(object)
 }
 
 fn insert(

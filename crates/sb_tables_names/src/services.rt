@@ -34,14 +34,14 @@ pub struct Services {
 struct Files {
     service: FileService,
     handles: HandleTable,
-    ghost agree: { files.Agrees service handles },
+    ghost agree: { files.Agrees service handles.table },
 }
 
 #[derive(Drop)]
 struct Pipes {
     service: PipeService,
     handles: HandleTable,
-    ghost agree: { pipes.Agrees service handles },
+    ghost agree: { pipes.Agrees service handles.table },
 }
 
 #[derive(Drop)]
@@ -226,7 +226,6 @@ impl Files {
         if !is_name(name.as_units()) || self.service.made() > MANY {
             return Err(RowFault::NotInRange);
         }
-        let _granted = self.handles.granted();
         let request = FileRequest {
             attributes: *attributes,
             access: *access,
@@ -256,7 +255,6 @@ impl Pipes {
         if !is_name(name.as_units()) || self.service.made() > MANY {
             return Err(RowFault::NotInRange);
         }
-        let _granted = self.handles.granted();
         let handles = &mut self.handles;
         Ok(
             self.service
@@ -280,7 +278,6 @@ impl Keys {
         if !is_name(name.as_units()) || self.service.made() > MANY {
             return Err(RowFault::NotInRange);
         }
-        let _granted = self.handles.granted();
         let handles = &mut self.handles;
         Ok(
             self.service
@@ -295,7 +292,6 @@ impl Keys {
         if !is_name(name.as_units()) {
             return Err(RowFault::NotInRange);
         }
-        let _granted = self.handles.granted();
         let handles = &mut self.handles;
         Ok(
             self.service
@@ -319,7 +315,6 @@ impl Events {
         if !is_name(name.as_units()) || self.service.made() > MANY {
             return Err(RowFault::NotInRange);
         }
-        let _granted = self.handles.granted();
         let handles = &mut self.handles;
         Ok(
             self.service
@@ -334,7 +329,6 @@ impl Events {
         if !is_name(name.as_units()) {
             return Err(RowFault::NotInRange);
         }
-        let _granted = self.handles.granted();
         let handles = &mut self.handles;
         Ok(
             self.service

@@ -11,4 +11,4 @@ returns-in-Some-clause-ok c =
     let at : slot_of 1 c.self.inside.slots.items c.args.number ≡ Some c.in-Some.slot = search rules in
     let t : (c.in-Some.slot.target == c.args.target) ≡ true = search rules in
     cleared c.args.target (c.args.number - 1) c.args.number c.self.inside.slots.items c.in-Some.slot n at t
-    ∙ ap (λ table. without_handle table c.args.target c.args.number) c.self.view_is
+    ∙ ap (λ store. without_handle store.table c.args.target c.args.number) c.self.view_is

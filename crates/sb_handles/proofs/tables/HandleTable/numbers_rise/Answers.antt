@@ -5,4 +5,4 @@ use Rattle.sb_handles.proofs.tables.HandleTable.numbers_rise.Goals as goal
 
 -- src/tables.rt:112:5
 pub returns : goal.returns
-returns c = subst IsTable c.self.view_is (slots_rise c.self.inside.slots.items)
+returns c = subst (λ store. IsTable store.table) c.self.view_is (slots_rise c.self.inside.slots.items)

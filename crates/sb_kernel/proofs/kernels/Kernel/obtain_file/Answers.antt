@@ -5,6 +5,6 @@ use Rattle.sb_kernel.proofs.kernels.Kernel.obtain_file.Goals as goal
 
 pub invariant_of-self-2 : goal.invariant_of-self-2
 invariant_of-self-2 c =
-    let ns : Space = record { files = c.self.inside.files; pipes = c.self.inside.pipes; keys = c.self.inside.keys; events = c.self.inside.events; handles = c.self.inside.handles } in
+    let ns : Space = record { files = c.self.inside.files; pipes = c.self.inside.pipes; keys = c.self.inside.keys; events = c.self.inside.events; handles = c.self.inside.handles.table } in
     let table : IsTable ns.handles = rw (← c.self.view_is) at c.bounds.ensures.table in
-    file_created c.bounds.ensures.other_files c.bounds.ensures.other_pipes ns c.self.invariant table c.files_are_granted.ensures.grants c.files_are_granted.ensures.refused c.files_are_granted.ensures.stay c.args.target c.args.name.now c.args.request c.requires.access c.requires.sharing c.create.new.self c.create.new.handles c.in_ok-answer.ensures.effect.1 c.in_ok-answer.ensures.effect.2 c.in_ok-answer.ensures.agree
+    file_created c.bounds.ensures.other_files c.bounds.ensures.other_pipes ns c.self.invariant table c.files_are_granted.ensures.grants c.files_are_granted.ensures.refused c.files_are_granted.ensures.stay c.args.target c.args.name.now c.args.request c.requires.access c.requires.sharing c.create.new.self c.create.new.handles.table c.in_ok-answer.ensures.effect.1 c.in_ok-answer.ensures.effect.2 c.in_ok-answer.ensures.agree

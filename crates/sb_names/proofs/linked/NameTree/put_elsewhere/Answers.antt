@@ -6,14 +6,9 @@ use Rattle.sb_names.specs.Keys.{key_of}
 use Rattle.sb_names.specs.Nodes.{HasNoChild, IsApart, KeepsRows, name_of, number_of, rows_of}
 use Rattle.sb_names.specs.Orders.{by_pair}
 use Rattle.sb_names.specs.Renames.{collected, renamed_key}
-use Rattle.sb_names.proofs.Moving.{move_index, move_keeps, move_rows, one_entry, same_index}
+use Rattle.sb_names.proofs.Moving.{move_index, move_keeps, move_rows, same_index}
 use Rattle.sb_names.proofs.PutLemmas.{put_names}
 use Rattle.sb_names.proofs.linked.NameTree.put_elsewhere.Goals as goal
-
-pub reindex-requires : goal.reindex-requires
-reindex-requires c =
-    one_entry c.self.inside.nodes (get by_pair c.self.inside.index) c.self.invariant.1 c.args.node.0
-    (subst (λ g. IsLive g c.args.node.0) (sym c.self.view_is) c.requires.live) c.hash_at-old_hash.result c.hash_at-old_hash.ensures
 
 pub invariant_of-self : goal.invariant_of-self
 invariant_of-self c =

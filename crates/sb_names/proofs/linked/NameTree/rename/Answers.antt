@@ -1,7 +1,6 @@
 use Rattle.std.proofs.Common.{rules}
 use Rattle.sb_names.specs.Nodes.{number_of, rows_of}
-use Rattle.sb_names.proofs.RenameCases.{rename_apart, rename_gone, rename_keeps, rename_new, rename_some}
-use Rattle.sb_names.proofs.TakeLemmas.{others_kept}
+use Rattle.sb_names.proofs.RenameCases.{others_kept, rename_apart, rename_gone, rename_keeps, rename_new, rename_some}
 use Rattle.sb_names.proofs.linked.NameTree.rename.Goals as goal
 
 pub put_elsewhere-requires-clause-apart : goal.put_elsewhere-requires-clause-apart

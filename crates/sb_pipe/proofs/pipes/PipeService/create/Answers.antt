@@ -24,16 +24,16 @@ overflow_add-row c =
 pub returns-in_ok-handle-in-Some-clause-agree : goal.returns-in_ok-handle-in-Some-clause-agree
 returns-in_ok-handle-in-Some-clause-agree c =
     let f : found c.args.self.now.rows c.args.name.now ≡ Some c.in-Some.row = search rules in
-    subst (λ pipes. Agrees pipes c.add_instance.new.handles) (sym c.in_ok-handle-in-Some.ensures.service)
+    subst (λ pipes. Agrees pipes c.add_instance.new.handles.table) (sym c.in_ok-handle-in-Some.ensures.service)
     (subst (Agrees (with_instance c.args.self.now c.args.name.now c.in-Some.row)) (sym c.in_ok-handle-in-Some.ensures.handles)
-    (instance_agrees c.pipe_handles_are_counted.ensures.grants c.args.self.now c.args.handles.now c.args.target c.args.name.now c.in-Some.row
+    (instance_agrees c.pipe_handles_are_counted.ensures.grants c.args.self.now c.args.handles.now.table c.args.target c.args.name.now c.in-Some.row
     c.pipes_are_made.ensures.made c.requires.agree f))
 
 -- src/pipes.rt:204:5
 pub returns-in_ok-handle-in-None-clause-agree : goal.returns-in_ok-handle-in-None-clause-agree
 returns-in_ok-handle-in-None-clause-agree c =
     let f : found c.args.self.now.rows c.args.name.now ≡ None = search rules in
-    subst (λ pipes. Agrees pipes c.add_pipe.new.handles) (sym c.in_ok-handle-in-None.ensures.service)
+    subst (λ pipes. Agrees pipes c.add_pipe.new.handles.table) (sym c.in_ok-handle-in-None.ensures.service)
     (subst (Agrees (with_pipe c.args.self.now c.args.name.now c.args.mode c.args.form c.args.instances)) (sym c.in_ok-handle-in-None.ensures.handles)
-    (pipe_agrees c.pipe_handles_are_counted.ensures.grants c.args.self.now c.args.handles.now c.args.target c.args.name.now c.args.mode c.args.form c.args.instances
+    (pipe_agrees c.pipe_handles_are_counted.ensures.grants c.args.self.now c.args.handles.now.table c.args.target c.args.name.now c.args.mode c.args.form c.args.instances
     c.pipes_are_made.ensures.made c.requires.agree f))

@@ -1,0 +1,17 @@
+use Rattle.std.proofs.Common.{rules, ◌≡◌, ℕ, Bool, false, sym, subst}
+use Rattle.std.specs.BTreeMap.{get}
+use Rattle.sb_handles.specs.Shares.{by_object}
+use Rattle.sb_handles.specs.Sets.{IsLowest, conflicts_by, is_unshared, is_exceeding}
+use Rattle.sb_handles.proofs.Lowest.{lowest_alike, lowest_of_two}
+use Rattle.sb_handles.proofs.Covering.{listed_exactly}
+use Rattle.sb_handles.proofs.sets.Sets.lowest_conflict.Goals as goal
+
+pub returns : goal.returns
+returns c =
+    let p : ℕ → Bool = λ n. conflicts_by c.args.access c.args.sharing (get by_object c.args.shares.now (c.args.object, n)) in
+    subst (IsLowest p) (sym c.lower.ensures)
+    (lowest_alike _ p _
+    (λ n. listed_exactly c.args.self.now (c.args.object, n) c.args.access c.args.sharing (get by_object c.args.shares.now (c.args.object, n))
+    (λ share e. c.requires.listed (c.args.object, n) share e))
+    (lowest_of_two (λ n. is_unshared c.args.self.now (c.args.object, n) c.args.access (p n)) (λ n. is_exceeding c.args.self.now (c.args.object, n) c.args.sharing (p n))
+    c.lowest_unshared.result c.lowest_exceeding.result c.lowest_unshared.ensures c.lowest_exceeding.ensures))

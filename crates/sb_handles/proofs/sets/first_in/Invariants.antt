@@ -1,0 +1,11 @@
+use Rattle.std.proofs.Common.{◌≡◌}
+use Rattle.std.specs.BTreeMap.{get}
+use Rattle.std.specs.List.{find}
+use Rattle.sb_handles.specs.Sets.{conflicts_by}
+use Rattle.sb_handles.specs.Shares.{by_object}
+use Rattle.sb_handles.proofs.sets.first_in.Given as goal
+
+abbrev pub invariant-loop-handle : goal.invariant-loop-handle
+invariant-loop-handle l =
+    find (λ row. conflicts_by l.access l.sharing (get by_object l.shares (l.object, row.0.1))) l.handle-iterator
+    ≡ find (λ row. conflicts_by l.access l.sharing (get by_object l.shares (l.object, row.0.1))) l.initial.handle-iterator

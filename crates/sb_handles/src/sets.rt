@@ -1,0 +1,280 @@
+// The handles of each object by what they do and do not share, so that a conflict is found without a look at all of them.
+ghost use Rattle.std.specs.Prelude.{◌≡◌, ℕ, Bool, Option, true, false, is_some, OnOk};
+ghost use Rattle.std.specs.BTreeMap.{get, is_at};
+ghost use Rattle.sb_handles.specs.Shares.{by_object, takes_part, exceeds, conflicts};
+ghost use Rattle.sb_handles.specs.Sets.{HasShare, HasShares, IsLowest, conflicts_by, is_exceeding, is_met, is_unshared, lower_of};
+ghost use Rattle.sb_handles.specs.declared.objects.Share.{Share};
+
+use crate::objects::Share;
+use sb_call::meets;
+use sb_wide::NoMemory;
+use std::alloc::Global;
+use std::collections::BTreeMap;
+
+// The bits of an access that read data or execute: by themselves or by a generic right.
+const READ_BITS: u64 = 0xB000_0021;
+
+// The bits of an access that write or append data.
+const WRITE_BITS: u64 = 0x5000_0006;
+
+// The bits of an access that delete.
+const DELETE_BITS: u64 = 0x1001_0000;
+
+const SHARE_READ: u64 = 1;
+
+const SHARE_WRITE: u64 = 2;
+
+const SHARE_DELETE: u64 = 4;
+
+// Whether an access reads, writes or deletes: no other takes part in sharing.
+pub(crate) fn takes_part(access: u64) -> bool
+    ensures { result ≡ takes_part access }
+{
+    meets(access, READ_BITS) || meets(access, WRITE_BITS) || meets(access, DELETE_BITS)
+}
+
+// Whether an access does what a sharing does not share.
+fn exceeds(access: u64, sharing: u64) -> bool
+    ensures { result ≡ exceeds access sharing }
+{
+    meets(access, READ_BITS) && !meets(sharing, SHARE_READ)
+        || meets(access, WRITE_BITS) && !meets(sharing, SHARE_WRITE)
+        || meets(access, DELETE_BITS) && !meets(sharing, SHARE_DELETE)
+}
+
+// Whether a new access with its sharing conflicts with an open handle.
+fn conflicts(access: u64, sharing: u64, share: Share) -> bool
+    ensures { result ≡ conflicts access sharing share }
+{
+    takes_part(access)
+        && takes_part(share.access)
+        && (exceeds(access, share.sharing) || exceeds(share.access, sharing))
+}
+
+// Whether a new access conflicts with the handle that is open on an object, if it is.
+fn conflicts_at(
+    shares: &BTreeMap<(u64, u64), Share>,
+    object: u64,
+    handle: u64,
+    access: u64,
+    sharing: u64,
+) -> bool
+    ensures { result ≡ conflicts_by access sharing (get by_object shares.now (object, handle)) }
+{
+    match shares.get(&(object, handle)) {
+        Some(share) => conflicts(access, sharing, *share),
+        None => false,
+    }
+}
+
+// Puts a handle of an object into a set, if it belongs there.
+fn note(set: &mut BTreeMap<(u64, u64), ()>, key: (u64, u64), belongs: bool) -> Result<(), NoMemory>
+    ensures kept { (q : ℕ × ℕ) → is_some (get by_object set.old q) ≡ true → is_some (get by_object set.new q) ≡ true }
+    ensures there { OnOk result (belongs ≡ true → is_some (get by_object set.new key) ≡ true) }
+{
+    if belongs {
+        set.insert(key, ())?;
+    }
+    Ok(())
+}
+
+// The lowest handle of an object in a set with which a new access conflicts, where such a set is to be asked.
+fn first_in(
+    asked: bool,
+    set: &BTreeMap<(u64, u64), ()>,
+    shares: &BTreeMap<(u64, u64), Share>,
+    object: u64,
+    access: u64,
+    sharing: u64,
+) -> Option<u64>
+    ensures { IsLowest (λ handle. is_met asked (get by_object set.now (object, handle)) (conflicts_by access sharing (get by_object shares.now (object, handle)))) result }
+{
+    if !asked {
+        return None;
+    }
+    for ((_, handle), _) in set.range((object, 0)..=(object, u64::MAX)) {
+        if conflicts_at(shares, object, *handle, access, sharing) {
+            return Some(*handle);
+        }
+    }
+    None
+}
+
+// The lower of two handles.
+fn lower(a: Option<u64>, b: Option<u64>) -> Option<u64>
+    ensures { result ≡ lower_of a b }
+{
+    match (a, b) {
+        (Some(a), Some(b)) => Some(if a < b { a } else { b }),
+        (Some(a), None) => Some(a),
+        (None, b) => b,
+    }
+}
+
+// The handles that take part in sharing, each by its object: in the sets of those that read, write and delete, and of those
+// that do not share reading, writing and deleting. A set may have more than these; who asks looks at the share.
+pub(crate) struct Sets {
+    reading: BTreeMap<(u64, u64), ()>,
+    writing: BTreeMap<(u64, u64), ()>,
+    deleting: BTreeMap<(u64, u64), ()>,
+    unread: BTreeMap<(u64, u64), ()>,
+    unwritten: BTreeMap<(u64, u64), ()>,
+    undeleted: BTreeMap<(u64, u64), ()>,
+}
+
+// Written out, so that it is proved once and not at each place that drops one.
+impl Drop for Sets {
+    fn drop(self) {
+        let Sets {
+            reading: _,
+            writing: _,
+            deleting: _,
+            unread: _,
+            unwritten: _,
+            undeleted: _,
+        } = self;
+    }
+}
+
+impl Sets {
+    pub(crate) fn new(alloc: Global) -> Sets {
+        Sets {
+            reading: BTreeMap::new(alloc),
+            writing: BTreeMap::new(alloc),
+            deleting: BTreeMap::new(alloc),
+            unread: BTreeMap::new(alloc),
+            unwritten: BTreeMap::new(alloc),
+            undeleted: BTreeMap::new(alloc),
+        }
+    }
+
+    // Puts a handle of an object into the sets of its share.
+    pub(crate) fn note(&mut self, key: (u64, u64), share: Share) -> Result<(), NoMemory>
+        ensures kept { (q : ℕ × ℕ) (other : Share) → HasShare self.old q other → HasShare self.new q other }
+        ensures there { OnOk result (HasShare self.new key share) }
+    {
+        let Share { access, sharing } = share;
+        let part = takes_part(access);
+        note(&mut self.reading, key, meets(access, READ_BITS))?;
+        note(&mut self.writing, key, meets(access, WRITE_BITS))?;
+        note(&mut self.deleting, key, meets(access, DELETE_BITS))?;
+        note(&mut self.unread, key, part && !meets(sharing, SHARE_READ))?;
+        note(
+            &mut self.unwritten,
+            key,
+            part && !meets(sharing, SHARE_WRITE),
+        )?;
+        note(
+            &mut self.undeleted,
+            key,
+            part && !meets(sharing, SHARE_DELETE),
+        )?;
+        Ok(())
+    }
+
+    // Takes a handle of an object out of all sets.
+    pub(crate) fn forget(&mut self, key: (u64, u64))
+        ensures { (q : ℕ × ℕ) (share : Share) → is_at (by_object key) q ≡ false → HasShare self.old q share → HasShare self.new q share }
+    {
+        self.reading.remove(&key);
+        self.writing.remove(&key);
+        self.deleting.remove(&key);
+        self.unread.remove(&key);
+        self.unwritten.remove(&key);
+        self.undeleted.remove(&key);
+    }
+
+    // The lowest handle of an object that does not share what a new access does.
+    fn lowest_unshared(
+        &self,
+        shares: &BTreeMap<(u64, u64), Share>,
+        object: u64,
+        access: u64,
+        sharing: u64,
+    ) -> Option<u64>
+        ensures { IsLowest (λ handle. is_unshared self.now (object, handle) access (conflicts_by access sharing (get by_object shares.now (object, handle)))) result }
+    {
+        let read = first_in(
+            meets(access, READ_BITS),
+            &self.unread,
+            shares,
+            object,
+            access,
+            sharing,
+        );
+        let written = first_in(
+            meets(access, WRITE_BITS),
+            &self.unwritten,
+            shares,
+            object,
+            access,
+            sharing,
+        );
+        let deleted = first_in(
+            meets(access, DELETE_BITS),
+            &self.undeleted,
+            shares,
+            object,
+            access,
+            sharing,
+        );
+        lower(read, lower(written, deleted))
+    }
+
+    // The lowest handle of an object that does what a new sharing does not share.
+    fn lowest_exceeding(
+        &self,
+        shares: &BTreeMap<(u64, u64), Share>,
+        object: u64,
+        access: u64,
+        sharing: u64,
+    ) -> Option<u64>
+        ensures { IsLowest (λ handle. is_exceeding self.now (object, handle) sharing (conflicts_by access sharing (get by_object shares.now (object, handle)))) result }
+    {
+        let read = first_in(
+            !meets(sharing, SHARE_READ),
+            &self.reading,
+            shares,
+            object,
+            access,
+            sharing,
+        );
+        let written = first_in(
+            !meets(sharing, SHARE_WRITE),
+            &self.writing,
+            shares,
+            object,
+            access,
+            sharing,
+        );
+        let deleted = first_in(
+            !meets(sharing, SHARE_DELETE),
+            &self.deleting,
+            shares,
+            object,
+            access,
+            sharing,
+        );
+        lower(read, lower(written, deleted))
+    }
+
+    // The lowest handle of an object with which a new access conflicts.
+    pub(crate) fn lowest_conflict(
+        &self,
+        shares: &BTreeMap<(u64, u64), Share>,
+        object: u64,
+        access: u64,
+        sharing: u64,
+    ) -> Option<u64>
+        requires { HasShares (get by_object shares.now) self.now }
+        ensures { IsLowest (λ handle. conflicts_by access sharing (get by_object shares.now (object, handle))) result }
+    {
+        if !takes_part(access) {
+            return None;
+        }
+        lower(
+            self.lowest_unshared(shares, object, access, sharing),
+            self.lowest_exceeding(shares, object, access, sharing),
+        )
+    }
+}
