@@ -11,6 +11,7 @@ mod inputs;
 mod judging;
 mod matching;
 mod naming;
+mod opening;
 mod outcomes;
 mod steps;
 mod works;

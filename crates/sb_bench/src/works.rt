@@ -2,7 +2,7 @@
 
 use crate::failures::Failure;
 use crate::inputs::Inputs;
-use crate::{answering, crowding, decoding, holding, judging, matching, naming, writing};
+use crate::{answering, crowding, decoding, holding, judging, matching, naming, opening, writing};
 use std::alloc::Global;
 
 /// Does a work that needs no policy and no script, in these rounds, and says what came of it.
@@ -11,6 +11,8 @@ pub fn work_alone(alloc: Global, work: &str, rounds: u64) -> Result<String, Fail
         "handles-grant" => holding::grants(alloc, rounds),
         "handles-lookup" => holding::lookups(alloc, rounds),
         "handles-close" => holding::closes(alloc, rounds),
+        "opens-held" => opening::held(alloc, rounds),
+        "opens-closed" => opening::closed(alloc, rounds),
         "crowd-add" => crowding::adds(alloc, rounds),
         "crowd-find" => crowding::finds(alloc, rounds),
         "crowd-rename" => crowding::renames(alloc, rounds),

@@ -1,13 +1,10 @@
 -- The codes of a program stand at the numbers of their calls.
 use Rattle.std.specs.Prelude.{Option, None, Some, slice_index_or}
-use Rattle.std.proofs.Common.{◌≡◌, ◌≢◌, ◌∙◌, ℕ, ◌-◌, zero, suc, Bool, true, false, List, [], ◌∷◌, ◌++◌, map, refl, ap, sym}
+use Rattle.std.proofs.Common.{◌≡◌, ◌∙◌, ℕ, ◌-◌, zero, suc, Bool, true, false, List, [], ◌∷◌, ◌++◌, map, refl, ap, sym}
 use Rattle.std.proofs.lemmas.Bool.{and_parts, false≢true}
 use Rattle.sb_call.specs.Tags.{number_of}
 use Rattle.sb_call.specs.declared.tags.CallTag.{CallTag}
 use Rattle.sb_call.specs.declared.tags.CallTag.TheVariants.{Ping, FileCreate, FileOpen, FileQuery, FileRename, PipeCreate, KeyCreate, KeyOpen, EventCreate, EventOpen, HandleClose}
-use Rattle.sb_opcode.specs.Faults.{fault_of}
-use Rattle.sb_opcode.specs.declared.faults.CodeFault.{CodeFault}
-use Rattle.sb_opcode.specs.declared.opcodes.Opcode.{Opcode}
 use Rattle.sb_opcode.specs.Verified.{VerifiedCode}
 use Rattle.sb_call.specs.CallWords.{every_tag}
 use Rattle.sb_compile.specs.Programs.{code_in_call, is_for_tag, are_for}
@@ -50,19 +47,3 @@ pub code_at : (calls : List (Option VerifiedCode)) (i : ℕ) → slice_index_or 
 code_at [] i = refl
 code_at (c ∷ calls) zero = refl
 code_at (c ∷ calls) (suc i) = code_at calls i
-
-abbrev has_opcode : List Opcode → Bool
-has_opcode [] = false
-has_opcode (op ∷ ops) = true
-
-abbrev has_fault : Option CodeFault → Bool
-has_fault None = false
-has_fault (Some fault) = true
-
--- code that is refused has no opcodes, where code with opcodes has no fault
-pub refused_is_none : (tag : CallTag) (ops : List Opcode) (fault : CodeFault) → (ops ≢ [] → fault_of tag ops ≡ None) → fault_of tag ops ≡ Some fault → ops ≡ []
-refused_is_none tag [] fault h e = refl
-refused_is_none tag (op ∷ ops) fault h e = absurd (false≢true (sym (ap has_fault (h some)) ∙ ap has_fault e))
-  where
-    some : (op ∷ ops) ≢ []
-    some e = false≢true (sym (ap has_opcode e))

@@ -21,11 +21,11 @@ use Rattle.sb_rule.specs.declared.conditions.Test.{Test}
 use Rattle.sb_rule.specs.declared.conditions.Test.TheVariants as test
 use Rattle.sb_opcode.specs.Faults.{is_string_at}
 use Rattle.sb_opcode.specs.Options.{OR, FOLD, EXACT}
-use Rattle.sb_opcode.specs.declared.opcodes.Opcode.{Opcode}
-use Rattle.sb_opcode.specs.declared.opcodes.OpKind.TheVariants as op
+use Rattle.sb_opcode.specs.Opcodes.{Opcode}
+use Rattle.sb_opcode.specs.Opcodes as op
 use Rattle.sb_opcode.specs.declared.opcodes.Seek.TheVariants.{Skip}
-use Rattle.sb_eval.specs.Fragments.{after_fragment, at_end}
-use Rattle.sb_eval.specs.Meaning.{one_holds, all_hold, after_opcode, after_all, turned, group_holds}
+use Rattle.sb_opcode.specs.Fragments.{after_fragment, at_end}
+use Rattle.sb_opcode.specs.Meaning.{one_holds, all_hold, after_opcode, after_all, turned, group_holds}
 use Rattle.sb_compile.specs.Compiling.{opcode, here, closed, cond_code, test_code, first_code, later_code, or_true, runs_code}
 use Rattle.sb_compile.proofs.Ends.{are_plain, group_closed}
 use Rattle.sb_compile.proofs.Members.{is_member, are_members, member, members_plain, star_members, here_members, is_placed, is_placed_well}

@@ -8,8 +8,8 @@ use Rattle.sb_rule.specs.WellMade.{is_well_formed}
 use Rattle.sb_rule.specs.declared.conditions.Cond.{Cond}
 use Rattle.sb_rule.specs.declared.policies.Rule.{Rule}
 use Rattle.sb_opcode.specs.Groups.{is_act, is_last, cut_after, rules_of, groups_of}
-use Rattle.sb_opcode.specs.declared.opcodes.Opcode.{Opcode}
-use Rattle.sb_opcode.specs.declared.opcodes.OpKind.TheVariants as op
+use Rattle.sb_opcode.specs.Opcodes.{Opcode}
+use Rattle.sb_opcode.specs.Opcodes as op
 use Rattle.sb_compile.specs.Compiling.{opcode, closed, cond_code, rule_code, test_code}
 use Rattle.sb_compile.proofs.Ends.{is_plain, are_plain, kept}
 use Rattle.sb_compile.proofs.Members.{is_member, are_members, member, members_plain, Group, test_group, is_placed_well, both}

@@ -7,12 +7,12 @@ use Rattle.sb_call.specs.Arguments.{arg_at}
 use Rattle.sb_call.specs.declared.arguments.Arg.{Arg}
 use Rattle.sb_call.specs.declared.arguments.Arg.TheVariants as arg
 use Rattle.sb_opcode.specs.Options.{options_of, has, NEGATE, CLEAR, OR, FOLD, EXACT}
-use Rattle.sb_opcode.specs.declared.opcodes.Opcode.{Opcode}
-use Rattle.sb_opcode.specs.declared.opcodes.OpKind.{OpKind}
-use Rattle.sb_opcode.specs.declared.opcodes.OpKind.TheVariants as op
+use Rattle.sb_opcode.specs.Opcodes.{Opcode}
+use Rattle.sb_opcode.specs.Opcodes.{OpKind}
+use Rattle.sb_opcode.specs.Opcodes as op
 use Rattle.sb_opcode.specs.declared.options.Options.{Options}
-use Rattle.sb_eval.specs.Fragments.{after_seek, at_end}
-use Rattle.sb_eval.specs.Meaning.{units_left, after_opcode, after_all, all_hold, one_holds, is_negated, turned, group_holds}
+use Rattle.sb_opcode.specs.Fragments.{after_seek, at_end}
+use Rattle.sb_opcode.specs.Meaning.{units_left, after_opcode, after_all, all_hold, one_holds, is_negated, turned, group_holds}
 use Rattle.sb_compile.specs.Compiling.{closed, end_bits, with_options}
 
 -- the options of opcodes that do not end a group

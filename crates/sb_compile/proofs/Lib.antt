@@ -18,3 +18,4 @@ pub mod ToldCells
 pub mod ToldOpcodes
 pub mod ToldCodes
 pub mod ListableCode
+pub mod Candidates

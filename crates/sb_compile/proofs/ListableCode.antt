@@ -22,9 +22,9 @@ use Rattle.sb_rule.specs.declared.policies.Policy.{Policy}
 use Rattle.sb_rule.specs.declared.policies.Rule.{Rule}
 use Rattle.sb_opcode.specs.Options.{OR, FOLD, EXACT}
 use Rattle.sb_opcode.specs.Packing.{is_sized_cell}
-use Rattle.sb_opcode.specs.declared.opcodes.Opcode.{Opcode}
-use Rattle.sb_opcode.specs.declared.opcodes.OpKind.{OpKind}
-use Rattle.sb_opcode.specs.declared.opcodes.OpKind.TheVariants as op
+use Rattle.sb_opcode.specs.Opcodes.{Opcode}
+use Rattle.sb_opcode.specs.Opcodes.{OpKind}
+use Rattle.sb_opcode.specs.Opcodes as op
 use Rattle.sb_opcode.specs.declared.opcodes.Seek.TheVariants.{Skip, Forward, ToEnd}
 use Rattle.sb_compile.specs.Compiling.{opcode, is_one, here, first_code, later_code, or_true, runs_code, test_code, with_options, end_bits, closed, cond_code, rule_code, is_for, code_of, code_in, program_of}
 use Rattle.sb_compile.specs.ListingLaws.{is_sized_number, is_told_before, is_fragment, is_listable_kind, has_param, is_listable, AreListable, is_sized_test, is_sized_rule, DifferentCodeIsListedDifferently}

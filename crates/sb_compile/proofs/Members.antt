@@ -18,8 +18,8 @@ use Rattle.sb_rule.specs.declared.conditions.Test.TheVariants as test
 use Rattle.sb_opcode.specs.Faults.{is_unfit, is_number_at, is_string_at, suits}
 use Rattle.sb_opcode.specs.Groups.{is_act}
 use Rattle.sb_opcode.specs.Options.{has, OR, FOLD, EXACT}
-use Rattle.sb_opcode.specs.declared.opcodes.Opcode.{Opcode}
-use Rattle.sb_opcode.specs.declared.opcodes.OpKind.TheVariants as op
+use Rattle.sb_opcode.specs.Opcodes.{Opcode}
+use Rattle.sb_opcode.specs.Opcodes as op
 use Rattle.sb_opcode.specs.declared.opcodes.Seek.TheVariants.{Skip}
 use Rattle.sb_compile.specs.Compiling.{opcode, here, test_code, first_code, later_code, or_true, runs_code}
 use Rattle.sb_compile.proofs.Ends.{is_plain, are_plain}

@@ -9,9 +9,9 @@ use Rattle.sb_pattern.specs.Chunks.{is_any}
 use Rattle.sb_pattern.specs.Matching.{matches}
 use Rattle.sb_pattern.specs.declared.cells.Cell.{Cell}
 use Rattle.sb_pattern.specs.declared.cells.Cell.TheVariants.{Lit, One, Any}
-use Rattle.sb_opcode.specs.declared.opcodes.Opcode.{Opcode}
-use Rattle.sb_eval.specs.Fragments.{after_fragment, after_first, after_end, at_end}
-use Rattle.sb_eval.specs.Meaning.{after_all}
+use Rattle.sb_opcode.specs.Opcodes.{Opcode}
+use Rattle.sb_opcode.specs.Fragments.{after_fragment, after_first, after_end, at_end}
+use Rattle.sb_opcode.specs.Meaning.{after_all}
 use Rattle.sb_compile.specs.Compiling.{first_code, later_code, or_true, runs_code}
 use Rattle.sb_compile.specs.Laws.{PatternOpcodesHoldWhereItMatches}
 use Rattle.sb_compile.proofs.Seeking.{is_free, holds_of, free_first, first_place, skip_free, free_alone, at_the_end, star_matches_all}

@@ -12,7 +12,7 @@ use Rattle.sb_pattern.specs.Matching.{matches, matches_some_rest}
 use Rattle.sb_pattern.specs.declared.cells.Cell.{Cell}
 use Rattle.sb_pattern.specs.declared.cells.Cell.TheVariants.{Lit, One, Any}
 use Rattle.sb_opcode.specs.declared.opcodes.Seek.TheVariants.{Skip}
-use Rattle.sb_eval.specs.Fragments.{unit_fits, after_fragment, after_units, after_first, after_end, after_seek, at_end}
+use Rattle.sb_opcode.specs.Fragments.{unit_fits, after_fragment, after_units, after_first, after_end, after_seek, at_end}
 use Rattle.sb_compile.specs.Compiling.{is_one}
 
 -- cells without `*`

@@ -11,8 +11,8 @@ use Rattle.sb_rule.specs.declared.policies.Rule.{Rule}
 use Rattle.sb_pattern.specs.Chunks.{is_any}
 use Rattle.sb_pattern.specs.declared.cells.Cell.{Cell}
 use Rattle.sb_pattern.specs.declared.cells.Cell.TheVariants.{Lit, One, Any}
-use Rattle.sb_opcode.specs.declared.opcodes.Opcode.{Opcode}
-use Rattle.sb_opcode.specs.declared.opcodes.OpKind.TheVariants as op
+use Rattle.sb_opcode.specs.Opcodes.{Opcode}
+use Rattle.sb_opcode.specs.Opcodes as op
 use Rattle.sb_opcode.specs.declared.opcodes.Seek.TheVariants.{Forward}
 use Rattle.sb_opcode.specs.Options.{OR, FOLD}
 use Rattle.sb_compile.specs.Compiling.{opcode, closed, cond_code, code_of, here, is_for, later_code, rule_code, or_true, runs_code}

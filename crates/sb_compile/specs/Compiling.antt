@@ -16,15 +16,12 @@ use Rattle.sb_rule.specs.declared.conditions.Test.TheVariants as test
 use Rattle.sb_rule.specs.declared.policies.Policy.{Policy}
 use Rattle.sb_rule.specs.declared.policies.Rule.{Rule}
 use Rattle.sb_rule.specs.declared.verdicts.Verdict.{Verdict}
-use Rattle.sb_rule.specs.declared.verdicts.Verdict.TheVariants as verdict
 use Rattle.sb_opcode.specs.Options.{options_of, NEGATE, CLEAR, OR, FOLD, EXACT}
-use Rattle.sb_opcode.specs.declared.opcodes.Opcode.{Opcode}
-use Rattle.sb_opcode.specs.declared.opcodes.OpKind.{OpKind}
-use Rattle.sb_opcode.specs.declared.opcodes.OpKind.TheVariants as op
+use Rattle.sb_opcode.specs.Opcodes.{Opcode}
+use Rattle.sb_opcode.specs.Opcodes.{OpKind}
+use Rattle.sb_opcode.specs.Opcodes as op
 use Rattle.sb_opcode.specs.declared.opcodes.Seek.TheVariants.{Skip, Forward, ToEnd}
-use Rattle.sb_eval.specs.Meaning.{meaning}
-use Rattle.sb_eval.specs.declared.judged.Judged.{Judged}
-use Rattle.sb_eval.specs.declared.judged.Judged.TheVariants as judged
+use Rattle.sb_opcode.specs.Meaning.{meaning}
 
 -- an opcode on a parameter, with these options
 abbrev pub opcode : ℕ → ℕ → OpKind → Opcode
@@ -124,14 +121,9 @@ program_of policy = record { name = policy.name; codes = map (code_of policy.rul
 abbrev pub code_in : Compiled → CallTag → List Opcode
 code_in program tag = slice_index_or program.codes (number_of tag - 1) []
 
--- what a code says is what a policy says: line and action, or that there is no rule
-abbrev pub verdict_by_code : Judged → Verdict
-verdict_by_code (judged.Action at line action) = verdict.Rule line action
-verdict_by_code judged.NoMatch = verdict.NoRule
-
 -- what a program says of a call
 abbrev pub program_verdict : Compiled → CallTag → List Arg → Verdict
-program_verdict program tag args = verdict_by_code (meaning (code_in program tag) args)
+program_verdict program tag args = meaning (code_in program tag) args
 
 -- the policies of targets that name them by their numbers
 abbrev pub policies_of_targets : List Policy → List TargetScript → List Policy

@@ -15,7 +15,7 @@ use Rattle.sb_rule.specs.declared.conditions.Test.TheVariants as test
 use Rattle.sb_rule.specs.declared.policies.Policy.{Policy}
 use Rattle.sb_rule.specs.declared.policies.Rule.{Rule}
 use Rattle.sb_opcode.specs.Faults.{fault_of}
-use Rattle.sb_eval.specs.Meaning.{all_hold, group_holds}
+use Rattle.sb_opcode.specs.Meaning.{all_hold, group_holds}
 use Rattle.sb_compile.specs.Compiling.{test_code, cond_code, code_of, program_of, program_verdict}
 
 -- the program of a well-made policy says of each call whose arguments fit what the policy says

@@ -6,3 +6,4 @@ pub mod Laws
 pub mod Steps
 pub mod Programs
 pub mod Targets
+pub mod Indexed

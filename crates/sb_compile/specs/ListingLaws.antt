@@ -7,9 +7,9 @@ use Rattle.sb_pattern.specs.Reading.{begins_with_one}
 use Rattle.sb_pattern.specs.declared.cells.Cell.{Cell}
 use Rattle.sb_pattern.specs.declared.cells.Cell.TheVariants.{Lit, One, Any}
 use Rattle.sb_opcode.specs.Packing.{is_sized_cell, skip_number}
-use Rattle.sb_opcode.specs.declared.opcodes.Opcode.{Opcode}
-use Rattle.sb_opcode.specs.declared.opcodes.OpKind.{OpKind}
-use Rattle.sb_opcode.specs.declared.opcodes.OpKind.TheVariants.{False, True, Num, Range, Mask, Text, Act}
+use Rattle.sb_opcode.specs.Opcodes.{Opcode}
+use Rattle.sb_opcode.specs.Opcodes.{OpKind}
+use Rattle.sb_opcode.specs.Opcodes.{False, True, Num, Range, Mask, Text, Act}
 use Rattle.sb_rule.specs.WellMade.{is_well_made}
 use Rattle.sb_rule.specs.declared.conditions.Test.{Test}
 use Rattle.sb_rule.specs.declared.conditions.Test.TheVariants as test

@@ -2,7 +2,7 @@
 use Rattle.std.specs.Prelude.{Bool, true, false, ◌&&◌, ◌==◌, List, [], ◌∷◌, Option, None, Some}
 use Rattle.sb_call.specs.Tags.{number_of}
 use Rattle.sb_call.specs.declared.tags.CallTag.{CallTag}
-use Rattle.sb_opcode.specs.declared.opcodes.Opcode.{Opcode}
+use Rattle.sb_opcode.specs.Opcodes.{Opcode}
 use Rattle.sb_opcode.specs.Verified.{VerifiedCode}
 
 -- the opcodes for a call, and none where it has no rules

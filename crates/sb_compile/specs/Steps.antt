@@ -1,6 +1,6 @@
 -- The opcodes of a group one by one.
 use Rattle.std.specs.Prelude.{Bool, true, false, List, [], ◌∷◌, if◌then◌else◌}
-use Rattle.sb_opcode.specs.declared.opcodes.Opcode.{Opcode}
+use Rattle.sb_opcode.specs.Opcodes.{Opcode}
 use Rattle.sb_compile.specs.Compiling.{end_bits, with_options}
 
 -- an opcode of a group, which may be its last

@@ -1,4 +1,5 @@
 // Laws of compiling. None of these functions does anything: each contract is a law.
+ghost use Rattle.sb_compile.specs.Indexed.{CandidatesHaveEachThatHolds, CompiledRulesAreFew};
 ghost use Rattle.sb_compile.specs.Laws.{CompilingKeepsVerdicts, CompiledCodeIsFaultless, GroupsHoldWhereConditionsDo, LetterCaseDoesNotMatter, PatternOpcodesHoldWhereItMatches};
 ghost use Rattle.sb_compile.specs.ListingLaws.{DifferentCodeIsListedDifferently, ListingsDiffer};
 ghost use Rattle.sb_compile.specs.ListingLines.{ListingsAreLines};
@@ -53,4 +54,20 @@ pub fn listings_differ()
     ensures policies { DifferentCodeIsListedDifferently }
 {
     quotes_differ();
+}
+
+/// A rule that is not a candidate does not hold: whatever set has each of the rules that hold of some arguments has the number
+/// of each rule of their code that does.
+pub fn candidates_have_each_that_holds()
+    ensures { CandidatesHaveEachThatHolds }
+{
+    fitting_args();
+    tags_and_numbers();
+}
+
+// The code of at most 256 rules has at most 256.
+pub(crate) fn compiled_rules_are_few()
+    ensures { CompiledRulesAreFew }
+{
+    tags_and_numbers();
 }

@@ -11,7 +11,7 @@ ghost use Rattle.sb_compile.specs.Listing.{seek_text, number_text, kind_text, wo
 
 use bitflags::Flags;
 use sb_call::{CallTag, call_word};
-use sb_opcode::{Code, Options, Record, RecordKind, Records, Seek};
+use sb_opcode::{Code, OpKind, Opcode, Options, Records, Seek};
 use sb_rule::Action;
 use sb_wide::{NoMemory, put_decimal, put_hexadecimal, quote_into};
 
@@ -92,28 +92,28 @@ fn put_act(out: &mut Vec<u8>, action: Action, line: u32) -> Result<(), NoMemory>
     put_decimal(out, u64::from(line))
 }
 
-fn put_kind(out: &mut Vec<u8>, opcode: &Record<'_>) -> Result<(), NoMemory>
+fn put_kind(out: &mut Vec<u8>, opcode: &Opcode<'_>) -> Result<(), NoMemory>
     ensures { OnOk result (out.new.items ≡ out.old.items ++ kind_text (kind_of opcode.now.kind) opcode.now.param) }
 {
     let param = opcode.param;
     match opcode.kind {
-        RecordKind::False => Ok(out.extend_from_slice(b"false")?),
-        RecordKind::True => Ok(out.extend_from_slice(b"true")?),
-        RecordKind::Num(number) => {
+        OpKind::False => Ok(out.extend_from_slice(b"false")?),
+        OpKind::True => Ok(out.extend_from_slice(b"true")?),
+        OpKind::Num(number) => {
             put_param(out, b"num p", param)?;
             put_number(out, number)
         }
-        RecordKind::Range { lo, hi } => {
+        OpKind::Range { lo, hi } => {
             put_param(out, b"range p", param)?;
             put_number(out, lo)?;
             put_number(out, hi)
         }
-        RecordKind::Mask(mask) => {
+        OpKind::Mask(mask) => {
             put_param(out, b"mask p", param)?;
             put_number(out, mask)
         }
-        RecordKind::Text { cells, seek } => put_text(out, param, cells, seek),
-        RecordKind::Act { action, line } => put_act(out, action, line),
+        OpKind::Text { cells, seek } => put_text(out, param, cells, seek),
+        OpKind::Act { action, line } => put_act(out, action, line),
     }
 }
 
@@ -137,7 +137,7 @@ fn put_options(out: &mut Vec<u8>, options: Options) -> Result<(), NoMemory>
 }
 
 // The line of an opcode.
-fn put_opcode(out: &mut Vec<u8>, at: u64, opcode: &Record<'_>) -> Result<(), NoMemory>
+fn put_opcode(out: &mut Vec<u8>, at: u64, opcode: &Opcode<'_>) -> Result<(), NoMemory>
     ensures { OnOk result (out.new.items ≡ out.old.items ++ opcode_line at (opcode_of opcode.now)) }
 {
     put_decimal(out, at)?;

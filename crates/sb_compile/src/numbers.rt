@@ -1,6 +1,6 @@
 // The opcodes of tests of numbers.
 ghost use Rattle.std.specs.Prelude.{◌≡◌, ◌+◌, ◌<◌, ◌≤◌, ◌^◌, ◌++◌, map, length, OnOk};
-ghost use Rattle.sb_opcode.specs.declared.opcodes.OpKind.TheVariants as op;
+ghost use Rattle.sb_opcode.specs.Opcodes as op;
 ghost use Rattle.sb_opcode.specs.Options.{OR};
 ghost use Rattle.sb_compile.specs.Compiling.{opcode, closed, numbers_code};
 ghost use Rattle.sb_compile.specs.Steps.{is_none};

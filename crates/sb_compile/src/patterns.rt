@@ -3,17 +3,16 @@ ghost use Rattle.std.specs.Prelude.{◌≡◌, ◌+◌, ◌<◌, ◌≤◌, ◌^
 ghost use Rattle.std.specs.List.{slice_split, prefix_len};
 ghost use Rattle.sb_pattern.specs.Chunks.{is_any};
 ghost use Rattle.sb_pattern.specs.Limits.{most_units};
-ghost use Rattle.sb_opcode.specs.declared.opcodes.OpKind.TheVariants as op;
+ghost use Rattle.sb_opcode.specs.Opcodes as op;
 ghost use Rattle.sb_opcode.specs.Options.{FOLD};
 ghost use Rattle.sb_compile.specs.Compiling.{opcode, closed, is_one, here, later_code, runs_code};
 ghost use Rattle.sb_compile.specs.Steps.{last_if, is_none};
 
 use crate::groups::{Group, whole_string};
 use bitflags::Flags;
-use sb_opcode::{Cells, Code, OpKind, Options, Seek};
+use sb_opcode::{Code, OpKind, Options, Seek};
 use sb_pattern::Cell;
 use sb_wide::NoMemory;
-use std::alloc::Global;
 
 fn is_star(cell: &Cell) -> bool
     ensures { result ≡ is_any cell.now }
@@ -61,15 +60,8 @@ fn cut_at_star(cells: &[Cell]) -> Option<(&[Cell], &[Cell])>
     Some((run, later))
 }
 
-fn cells_of(alloc: Global, cells: &[Cell]) -> Result<Cells, NoMemory>
-    ensures { IfOk result (λ copy. copy ≡ cells.now) }
-{
-    Ok(Cells::new(Vec::from_slice(alloc, cells)?))
-}
-
 // Appends the opcode of cells that stand where they are sought.
 fn push_run(
-    alloc: Global,
     code: &mut Code,
     group: Group,
     cells: &[Cell],
@@ -79,8 +71,7 @@ fn push_run(
     requires { length code.old + 1 < 2 ^ 32 }
     ensures { OnOk result (code.new ≡ code.old ++ last_if is_last group.negated (opcode group.param FOLD (op.Text cells.now seek)) ∷ []) }
 {
-    let cells = cells_of(alloc, cells)?;
-    group.push(code, Options::FOLD, OpKind::Text { cells, seek }, is_last)
+    group.push_text(code, Options::FOLD, seek, cells, is_last)
 }
 
 // How many `?` the cells begin with.
@@ -97,7 +88,6 @@ fn questions(cells: &[Cell]) -> usize
 
 // Appends the opcode of cells that stand at the position. The `?` that they begin with are skipped.
 fn push_here(
-    alloc: Global,
     code: &mut Code,
     group: Group,
     options: Options,
@@ -110,31 +100,30 @@ fn push_here(
 {
     let skip = questions(cells);
     let (_, cells) = cells.split_at(skip);
-    let cells = cells_of(alloc, cells)?;
     let seek = Seek::Skip(skip as u16);
-    group.push(code, options, OpKind::Text { cells, seek }, is_last)
+    group.push_text(code, options, seek, cells, is_last)
 }
 
 // Appends the opcodes of what follows the first star.
-fn push_later(alloc: Global, code: &mut Code, group: Group, cells: &[Cell]) -> Result<(), NoMemory>
+fn push_later(code: &mut Code, group: Group, cells: &[Cell]) -> Result<(), NoMemory>
     requires { length code.old + length cells.now + 1 < 2 ^ 32 }
     ensures ok { OnOk result (code.new ≡ code.old ++ closed group.negated (later_code group.param (slice_split is_any cells.now))) }
     ensures few { OnOk result (length code.new ≤ length code.old + length cells.now) }
 {
     let mut rest = cells;
     while let Some((run, later)) = cut_at_star(rest) {
-        push_run(alloc, code, group, run, Seek::Forward, is_none(later))?;
+        push_run(code, group, run, Seek::Forward, is_none(later))?;
         rest = later;
     }
     if is_none(rest) {
         return Ok(());
     }
-    push_run(alloc, code, group, rest, Seek::ToEnd, true)
+    push_run(code, group, rest, Seek::ToEnd, true)
 }
 
 // Appends the opcodes of a star and of what follows it.
 #[tactic(auto, using(crate::proofs::Steps::star_pushed))]
-fn push_star(alloc: Global, code: &mut Code, group: Group, later: &[Cell]) -> Result<(), NoMemory>
+fn push_star(code: &mut Code, group: Group, later: &[Cell]) -> Result<(), NoMemory>
     requires { length code.old + length later.now + 1 < 2 ^ 32 }
     ensures ok { OnOk result (code.new ≡ code.old ++ closed group.negated (runs_code group.param ([] ∷ slice_split is_any later.now))) }
     ensures few { OnOk result (length code.new ≤ length code.old + length later.now + 1) }
@@ -146,45 +135,34 @@ fn push_star(alloc: Global, code: &mut Code, group: Group, later: &[Cell]) -> Re
         };
         return all.push(code, Options::empty(), OpKind::True, true);
     }
-    push_later(alloc, code, group, later)
+    push_later(code, group, later)
 }
 
 // Appends the opcodes of cells around the first star.
 #[tactic(auto, using(crate::proofs::Steps::parts_pushed))]
-fn push_parts(
-    alloc: Global,
-    code: &mut Code,
-    group: Group,
-    run: &[Cell],
-    later: &[Cell],
-) -> Result<(), NoMemory>
+fn push_parts(code: &mut Code, group: Group, run: &[Cell], later: &[Cell]) -> Result<(), NoMemory>
     requires room { length code.old + length run.now + length later.now + 1 < 2 ^ 32 }
     requires short { length run.now ≤ most_units }
     ensures ok { OnOk result (code.new ≡ code.old ++ closed group.negated (runs_code group.param (run.now ∷ slice_split is_any later.now))) }
     ensures few { OnOk result (length code.new ≤ length code.old + length run.now + length later.now + 1) }
 {
     if is_none(run) {
-        return push_star(alloc, code, group, later);
+        return push_star(code, group, later);
     }
-    push_here(alloc, code, group, Options::FOLD, run, is_none(later))?;
-    push_later(alloc, code, group, later)?;
+    push_here(code, group, Options::FOLD, run, is_none(later))?;
+    push_later(code, group, later)?;
     Ok(())
 }
 
 // Appends the opcodes of a pattern.
-pub(crate) fn push_pattern(
-    alloc: Global,
-    code: &mut Code,
-    group: Group,
-    cells: &[Cell],
-) -> Result<(), NoMemory>
+pub(crate) fn push_pattern(code: &mut Code, group: Group, cells: &[Cell]) -> Result<(), NoMemory>
     requires room { length code.old + length cells.now + 1 < 2 ^ 32 }
     requires short { length cells.now ≤ most_units }
     ensures ok { OnOk result (code.new ≡ code.old ++ closed group.negated (runs_code group.param (slice_split is_any cells.now))) }
     ensures few { OnOk result (length code.new ≤ length code.old + length cells.now + 1) }
 {
     match cut_at_star(cells) {
-        Some((run, later)) => push_parts(alloc, code, group, run, later),
-        None => push_here(alloc, code, group, whole_string(), cells, true),
+        Some((run, later)) => push_parts(code, group, run, later),
+        None => push_here(code, group, whole_string(), cells, true),
     }
 }

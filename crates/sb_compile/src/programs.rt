@@ -4,16 +4,16 @@ ghost use Rattle.sb_call.specs.Arguments.{fits};
 ghost use Rattle.sb_rule.specs.Verdicts.{verdict_of};
 ghost use Rattle.sb_rule.specs.WellMade.{is_well_made};
 ghost use Rattle.sb_rule.specs.declared.policies.Policy.{Policy};
-ghost use Rattle.sb_compile.specs.Compiling.{code_of, code_in, program_of, program_verdict, verdict_by_code};
+ghost use Rattle.sb_compile.specs.Compiling.{code_of, code_in, program_of, program_verdict};
 ghost use Rattle.sb_compile.specs.Listing.{code_lines, listing_of};
 ghost use Rattle.sb_compile.specs.Programs.{code_in_call, is_for_tag};
 
+use crate::call_codes::CallCode;
 use crate::laws::{compiled_code_is_faultless, compiling_keeps_verdicts};
 use crate::listing::put_code;
 use crate::rules::code_of;
 use sb_call::{Arg, CallTag, ShortName, every_tag, number_of, tags_and_numbers};
-use sb_eval::{Judged, eval};
-use sb_opcode::{Verified, verify};
+use sb_opcode::Verified;
 use sb_rule::{Policy, Verdict};
 use sb_wide::NoMemory;
 use std::alloc::Global;
@@ -23,10 +23,9 @@ use std::marker::Model;
 /// Chromium's Windows sandbox calls a low-level policy.
 pub struct Program {
     name: ShortName,
-    calls: Vec<Option<Verified>>,
+    calls: Vec<Option<CallCode>>,
 }
 
-// By hand, so that it is proved here once and not at each place that drops one.
 impl Drop for Program {
     fn drop(self) {
         let Program { name: _, calls: _ } = self;
@@ -46,19 +45,20 @@ impl Model for Program {
     ghost invariant = { λ p. are_for every_tag p.calls.items ≡ true };
 }
 
-// The verified code of a call. None where the call has no rules: no opcodes are no code, and other code is not refused.
-fn compile_call(alloc: Global, policy: &Policy, tag: CallTag) -> Result<Option<Verified>, NoMemory>
+// The code of a call, which has no fault by the law of compiled code. None if the call has no rules.
+fn compile_call(alloc: Global, policy: &Policy, tag: CallTag) -> Result<Option<CallCode>, NoMemory>
     requires { is_well_made policy.now ≡ true }
     ensures code { IfOk result (λ call. code_in_call call ≡ code_of policy.now.rules tag) }
     ensures tag { IfOk result (λ call. is_for_tag tag call ≡ true) }
     ensures memory { OnErr result (code_of policy.now.rules tag ≢ []) }
 {
     compiled_code_is_faultless();
-    let code = code_of(alloc, policy.rules.as_slice(), tag)?;
-    match verify(tag, code) {
-        Ok(verified) => Ok(Some(verified)),
-        Err(_) => Ok(None),
+    let rules = policy.rules.as_slice();
+    let code = code_of(alloc, rules, tag)?;
+    if code.is_empty() {
+        return Ok(None);
     }
+    Ok(Some(CallCode::new(alloc, rules, tag, code)?))
 }
 
 /// The program of a well-made policy. Each condition becomes a group of opcodes; rules for a call stand in their order, each
@@ -80,27 +80,29 @@ pub fn compile(alloc: Global, policy: &Policy) -> Result<Program, NoMemory>
     })
 }
 
-fn verdict_by_code(judged: Judged) -> Verdict
-    ensures { result ≡ verdict_by_code judged }
-{
-    match judged {
-        Judged::Action { line, action, .. } => Verdict::Rule { line, action },
-        Judged::NoMatch => Verdict::NoRule,
-    }
-}
-
 impl Program {
     /// The verdict of the policy that was compiled: the line and the action of its first rule for the call whose conditions
-    /// hold, and `NoRule` where there is none. The arguments must fit the call. It takes no memory.
+    /// hold, and `NoRule` where there is none. The arguments must fit the call. Does not allocate.
     pub fn judge(&self, tag: CallTag, args: &[Arg]) -> Verdict
         requires { fits tag args.now ≡ true }
         ensures verdict { result ≡ program_verdict self.now tag args.now }
         ensures compiled { (policy : Policy) → is_well_made policy ≡ true → self.now ≡ program_of policy → result ≡ verdict_of policy tag args.now }
     {
         compiling_keeps_verdicts();
-        match self.code(tag) {
-            Some(code) => verdict_by_code(eval(code, args)),
+        match self.call(tag) {
+            Some(call) => call.judge(args),
             None => Verdict::NoRule,
+        }
+    }
+
+    // What there is for a call.
+    fn call(&self, tag: CallTag) -> Option<&CallCode>
+        ensures { MatchOption result (code_in self.now tag ≡ []) (λ call. (call.now.code ≡ code_in self.now tag) × (call.now.tag ≡ tag)) }
+    {
+        tags_and_numbers();
+        match self.calls.get(number_of(tag) as usize - 1) {
+            Some(Some(call)) => Some(call),
+            _ => None,
         }
     }
 
@@ -108,10 +110,9 @@ impl Program {
     pub fn code(&self, tag: CallTag) -> Option<&Verified>
         ensures { MatchOption result (code_in self.now tag ≡ []) (λ code. (code.now.code ≡ code_in self.now tag) × (code.now.tag ≡ tag)) }
     {
-        tags_and_numbers();
-        match self.calls.get(number_of(tag) as usize - 1) {
-            Some(Some(code)) => Some(code),
-            _ => None,
+        match self.call(tag) {
+            Some(call) => Some(call.code()),
+            None => None,
         }
     }
 

@@ -4,45 +4,23 @@ ghost use Rattle.std.specs.List.{flat_map, list_all};
 ghost use Rattle.sb_pattern.specs.declared.cells.Cell.TheVariants.{Lit};
 ghost use Rattle.sb_rule.specs.Limits.{most_rules};
 ghost use Rattle.sb_rule.specs.WellMade.{is_sensible, is_well_made_rule};
-ghost use Rattle.sb_opcode.specs.declared.opcodes.OpKind.TheVariants as op;
+ghost use Rattle.sb_opcode.specs.Opcodes as op;
 ghost use Rattle.sb_opcode.specs.declared.opcodes.Seek.TheVariants.{Skip};
 ghost use Rattle.sb_opcode.specs.Options.{FOLD, EXACT};
 ghost use Rattle.sb_compile.specs.Compiling.{opcode, closed, test_code, cond_code, rule_code, code_of};
 
-use crate::groups::{Group, push, whole_string};
+use crate::groups::{Group, push};
 use crate::numbers::push_numbers;
 use crate::patterns::push_pattern;
 use bitflags::Flags;
 use sb_call::{CallTag, number_of};
-use sb_opcode::{Cells, Code, OpKind, Options, Seek};
-use sb_pattern::Cell;
+use sb_opcode::{Code, OpKind, Options};
 use sb_rule::{Cond, Rule, Test};
 use sb_wide::NoMemory;
 use std::alloc::Global;
 
-// The cells of a string: each unit stands for itself.
-fn literals(alloc: Global, units: &[u16]) -> Result<Cells, NoMemory>
-    ensures { IfOk result (λ cells. cells ≡ map Lit units.now) }
-{
-    let mut cells = Vec::new(alloc);
-    for unit in units {
-        cells.push(Cell::Lit(*unit))?;
-    }
-    Ok(Cells::new(cells))
-}
-
-// Appends the opcode of a string that is to be the same.
-fn push_equal(alloc: Global, code: &mut Code, group: Group, units: &[u16]) -> Result<(), NoMemory>
-    requires { length code.old + 1 < 2 ^ 32 }
-    ensures { OnOk result (code.new ≡ code.old ++ closed group.negated (opcode group.param (bit_or FOLD EXACT) (op.Text (map Lit units.now) (Skip 0)) ∷ [])) }
-{
-    let cells = literals(alloc, units)?;
-    let seek = Seek::Skip(0);
-    group.push(code, whole_string(), OpKind::Text { cells, seek }, true)
-}
-
 // Appends the opcodes of a test.
-fn push_test(alloc: Global, code: &mut Code, group: Group, test: &Test) -> Result<(), NoMemory>
+fn push_test(code: &mut Code, group: Group, test: &Test) -> Result<(), NoMemory>
     requires room { length code.old + 258 < 2 ^ 32 }
     requires sensible { is_sensible test.now ≡ true }
     ensures ok { OnOk result (code.new ≡ code.old ++ closed group.negated (test_code group.param test.now)) }
@@ -55,13 +33,13 @@ fn push_test(alloc: Global, code: &mut Code, group: Group, test: &Test) -> Resul
             group.push(code, Options::empty(), OpKind::Range { lo, hi }, true)
         }
         Test::Mask(mask) => group.push(code, Options::empty(), OpKind::Mask(*mask), true),
-        Test::Equal(text) => push_equal(alloc, code, group, text.as_units()),
-        Test::Like(pattern) => push_pattern(alloc, code, group, pattern.cells()),
+        Test::Equal(text) => group.push_string(code, text.as_units()),
+        Test::Like(pattern) => push_pattern(code, group, pattern.cells()),
     }
 }
 
 // Appends the group of a condition.
-fn push_cond(alloc: Global, code: &mut Code, cond: &Cond) -> Result<(), NoMemory>
+fn push_cond(code: &mut Code, cond: &Cond) -> Result<(), NoMemory>
     requires room { length code.old + 258 < 2 ^ 32 }
     requires sensible { is_sensible cond.now.test ≡ true }
     ensures ok { OnOk result (code.new ≡ code.old ++ cond_code cond.now) }
@@ -71,11 +49,11 @@ fn push_cond(alloc: Global, code: &mut Code, cond: &Cond) -> Result<(), NoMemory
         param: cond.param,
         negated: cond.negated,
     };
-    push_test(alloc, code, group, &cond.test)
+    push_test(code, group, &cond.test)
 }
 
 // Appends the groups of conditions.
-fn push_conds(alloc: Global, code: &mut Code, conds: &[Cond]) -> Result<(), NoMemory>
+fn push_conds(code: &mut Code, conds: &[Cond]) -> Result<(), NoMemory>
     requires room { length code.old + 257 * length conds.now + 1 < 2 ^ 32 }
     requires sensible { list_all (λ c. is_sensible c.test) conds.now ≡ true }
     ensures ok { OnOk result (code.new ≡ code.old ++ flat_map cond_code conds.now) }
@@ -83,7 +61,7 @@ fn push_conds(alloc: Global, code: &mut Code, conds: &[Cond]) -> Result<(), NoMe
 {
     let mut rest = conds;
     while let Some((cond, later)) = rest.split_first() {
-        push_cond(alloc, code, cond)?;
+        push_cond(code, cond)?;
         rest = later;
     }
     Ok(())
@@ -91,13 +69,13 @@ fn push_conds(alloc: Global, code: &mut Code, conds: &[Cond]) -> Result<(), NoMe
 
 #[tactic(auto, using(crate::proofs::Steps::formed_sensible))]
 // Appends the code of a rule: at most 8 conditions of 257 opcodes, and the action.
-fn push_rule(alloc: Global, code: &mut Code, rule: &Rule) -> Result<(), NoMemory>
+fn push_rule(code: &mut Code, rule: &Rule) -> Result<(), NoMemory>
     requires room { length code.old + 2057 < 2 ^ 32 }
     requires made { is_well_made_rule rule.now ≡ true }
     ensures ok { OnOk result (code.new ≡ code.old ++ rule_code rule.now) }
     ensures few { OnOk result (length code.new ≤ length code.old + 2057) }
 {
-    push_conds(alloc, code, rule.conds.as_slice())?;
+    push_conds(code, rule.conds.as_slice())?;
     let (action, line) = (rule.action, rule.line);
     push(code, 0, Options::empty(), OpKind::Act { action, line })
 }
@@ -114,7 +92,7 @@ pub(crate) fn code_of(alloc: Global, rules: &[Rule], tag: CallTag) -> Result<Cod
     let mut rest = rules;
     while let Some((rule, later)) = rest.split_first() {
         if number_of(rule.tag) == number_of(tag) {
-            push_rule(alloc, &mut code, rule)?;
+            push_rule(&mut code, rule)?;
         }
         rest = later;
     }

@@ -3,7 +3,7 @@ use Rattle.std.specs.Prelude.{Bool, false, List, [], ◌∷◌}
 use Rattle.std.proofs.Common.{◌≡◌, refl}
 use Rattle.sb_opcode.specs.Groups.{is_act}
 use Rattle.sb_opcode.specs.Faults.{ends_with_act}
-use Rattle.sb_opcode.specs.declared.opcodes.Opcode.{Opcode}
+use Rattle.sb_opcode.specs.Opcodes.{Opcode}
 
 -- the same, where the opcode before these ends so
 abbrev pub ends_after : Bool → List Opcode → Bool

@@ -14,7 +14,7 @@ use Rattle.sb_opcode.specs.Options.{has, NEGATE, CLEAR, OR, FOLD, EXACT, has_opt
 use Rattle.sb_opcode.specs.WholeGroups.{ends_with_clear, is_alike, are_alike, is_fit, is_whole_group, acts_at_end, is_whole_rule, PartsAreTheList}
 use Rattle.sb_opcode.specs.declared.faults.CodeFault.{CodeFault}
 use Rattle.sb_opcode.specs.declared.faults.CodeFault.TheVariants.{NoAction, OpenGroup, BadParam}
-use Rattle.sb_opcode.specs.declared.opcodes.Opcode.{Opcode}
+use Rattle.sb_opcode.specs.Opcodes.{Opcode}
 
 onto_joins : (op : Opcode) (parts : List (List Opcode)) → flat_map (λ part. part) (onto_first op parts) ≡ op ∷ flat_map (λ part. part) parts
 onto_joins op [] = refl

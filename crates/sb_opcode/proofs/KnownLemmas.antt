@@ -15,9 +15,9 @@ use Rattle.sb_opcode.specs.Options.{options_of}
 use Rattle.sb_opcode.specs.Packing.{cell_word, record_of, is_sized, is_sized_kind, is_sized_cell, seek_number, skip_number}
 use Rattle.sb_opcode.specs.Records.{IsPassed}
 use Rattle.sb_opcode.specs.Unpacking.{kind_part, options_part, seek_part, skip_part, cell_of, is_cell_word, plain_record, text_record, first_record, seek_in, opcode_in, is_packed, opcodes_of, seek_known, action_known, kind_known, does_known, after_known, first_known, passed_known}
-use Rattle.sb_opcode.specs.declared.opcodes.Opcode.{Opcode}
-use Rattle.sb_opcode.specs.declared.opcodes.OpKind.{OpKind}
-use Rattle.sb_opcode.specs.declared.opcodes.OpKind.TheVariants.{False, True, Num, Range, Mask, Text, Act}
+use Rattle.sb_opcode.specs.Opcodes.{Opcode}
+use Rattle.sb_opcode.specs.Opcodes.{OpKind}
+use Rattle.sb_opcode.specs.Opcodes.{False, True, Num, Range, Mask, Text, Act}
 use Rattle.sb_opcode.specs.declared.opcodes.Seek.{Seek}
 use Rattle.sb_opcode.specs.declared.opcodes.Seek.TheVariants.{Skip, Forward, ToEnd}
 use Rattle.sb_opcode.proofs.PackingLemmas.{later_packed, first_opcode, not_packed}

@@ -4,3 +4,8 @@ pub mod KnownLemmas
 pub mod PackingLemmas
 pub mod RecordLemmas
 pub mod WholeLemmas
+pub mod Closed
+pub mod PassLemmas
+pub mod PlaceLemmas
+pub mod WalkLemmas
+pub mod RuleLemmas

@@ -1,5 +1,5 @@
 -- What unpacking gives: it is packing the other way round, and it goes record by record.
-use Rattle.std.specs.Prelude.{◌==◌, Option, None, Some, option_map, option_and_then, is_some, unwrap_or}
+use Rattle.std.specs.Prelude.{◌==◌, ◌↔◌, IsTrue, Option, None, Some, option_map, option_and_then, is_some, unwrap_or}
 use Rattle.std.proofs.Common.{◌≡◌, ◌≢◌, ◌∙◌, ◌≤◌, ◌<◌, ◌+◌, ℕ, zero, suc, true, false, List, [], ◌∷◌, ◌++◌, length, refl, ap, sym, subst, arith}
 use Rattle.std.specs.List.{list_all}
 use Rattle.std.proofs.lemmas.Bool.{and_parts, false≢true}
@@ -7,7 +7,7 @@ use Rattle.std.proofs.lemmas.Bool.Decides.{nat_tests}
 use Rattle.std.proofs.lemmas.List.{length-append, append-nil, append_assoc}
 use Rattle.sb_opcode.specs.Packing.{record_of, head_of, kind_words, packed, is_sized, PackingIsOneToOne}
 use Rattle.sb_opcode.specs.Unpacking.{first_record, unpacked, unpacked_within, is_packed, opcodes_of, PackingComesBack}
-use Rattle.sb_opcode.specs.declared.opcodes.Opcode.{Opcode}
+use Rattle.sb_opcode.specs.Opcodes.{Opcode}
 use Rattle.sb_opcode.proofs.RecordLemmas.{none_is_not_some, same_some, unmapped, records_come_back, record_split}
 
 -- what stands before a record is as long as it
@@ -197,3 +197,14 @@ not_packing words h ops sized e =
 
 pub opcodes_sized : (words : List ℕ) → is_packed words ≡ true → list_all is_sized (opcodes_of words) ≡ true
 opcodes_sized words h = (opcodes_pack words h).1
+
+-- there are words exactly where there are opcodes
+pub empty_words : (words : List ℕ) → is_packed words ≡ true → (IsTrue (length words == 0)) ↔ (opcodes_of words ≡ [])
+empty_words words h = (λ e. none words e, λ e. by (ap packed (sym e) ∙ packing_of_opcodes words h))
+  where
+    none : (words : List ℕ) → IsTrue (length words == 0) → opcodes_of words ≡ []
+    none [] e = refl
+    none (word ∷ words) e = absurd (grind (arith, nat_tests, e))
+
+    by : [] ≡ words → IsTrue (length words == 0)
+    by e = subst (λ l. IsTrue (length l == 0)) e refl

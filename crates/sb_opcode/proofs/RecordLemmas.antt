@@ -14,9 +14,9 @@ use Rattle.sb_rule.specs.declared.actions.Action.TheVariants.{Allow, Deny, Alarm
 use Rattle.sb_opcode.specs.Options.{options_of}
 use Rattle.sb_opcode.specs.Packing.{cell_word, is_sized_cell, record_of, kind_number, kind_words, seek_bits, seek_number, skip_number, is_sized, is_sized_kind}
 use Rattle.sb_opcode.specs.Unpacking.{cell_of, is_cell_word, action_of, plain_kind, plain_record, text_record, first_record, seek_in, seek_part, skip_part, kind_part, options_part, opcode_in, RecordsComeBack}
-use Rattle.sb_opcode.specs.declared.opcodes.Opcode.{Opcode}
-use Rattle.sb_opcode.specs.declared.opcodes.OpKind.{OpKind}
-use Rattle.sb_opcode.specs.declared.opcodes.OpKind.TheVariants.{False, True, Num, Range, Mask, Text, Act}
+use Rattle.sb_opcode.specs.Opcodes.{Opcode}
+use Rattle.sb_opcode.specs.Opcodes.{OpKind}
+use Rattle.sb_opcode.specs.Opcodes.{False, True, Num, Range, Mask, Text, Act}
 use Rattle.sb_opcode.specs.declared.opcodes.Seek.{Seek}
 use Rattle.sb_opcode.specs.declared.opcodes.Seek.TheVariants.{Skip, Forward, ToEnd}
 

@@ -13,9 +13,9 @@ use Rattle.sb_opcode.specs.Groups.{cut_after, rules_of, groups_of, is_act, is_ac
 use Rattle.sb_opcode.specs.Options.{has, NEGATE, CLEAR, OR, FOLD, EXACT, has_options}
 use Rattle.sb_opcode.specs.WholeGroups.{ends_with_clear, is_alike, are_alike, is_fit, is_whole_group, acts_at_end, is_whole_rule, FaultlessCodesAreWhole}
 use Rattle.sb_opcode.specs.declared.faults.CodeFault.TheVariants.{NoAction, OpenGroup, BadParam}
-use Rattle.sb_opcode.specs.declared.opcodes.Opcode.{Opcode}
-use Rattle.sb_opcode.specs.declared.opcodes.OpKind.{OpKind}
-use Rattle.sb_opcode.specs.declared.opcodes.OpKind.TheVariants.{False, True, Num, Range, Mask, Text, Act}
+use Rattle.sb_opcode.specs.Opcodes.{Opcode}
+use Rattle.sb_opcode.specs.Opcodes.{OpKind}
+use Rattle.sb_opcode.specs.Opcodes.{False, True, Num, Range, Mask, Text, Act}
 use Rattle.sb_opcode.proofs.GroupLemmas.{faultless, faultless_rules_are_whole, groups_from, beq_true}
 
 -- opcodes of which none leaves a group open

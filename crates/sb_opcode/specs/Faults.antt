@@ -8,9 +8,9 @@ use Rattle.sb_call.specs.declared.tags.CallTag.{CallTag}
 use Rattle.sb_rule.specs.WellMade.{is_number_kind}
 use Rattle.sb_opcode.specs.Groups.{is_act, is_last}
 use Rattle.sb_opcode.specs.Options.{has, NEGATE, CLEAR, OR, FOLD, EXACT, has_options}
-use Rattle.sb_opcode.specs.declared.opcodes.Opcode.{Opcode}
-use Rattle.sb_opcode.specs.declared.opcodes.OpKind.{OpKind}
-use Rattle.sb_opcode.specs.declared.opcodes.OpKind.TheVariants.{False, True, Num, Range, Mask, Text, Act}
+use Rattle.sb_opcode.specs.Opcodes.{Opcode}
+use Rattle.sb_opcode.specs.Opcodes.{OpKind}
+use Rattle.sb_opcode.specs.Opcodes.{False, True, Num, Range, Mask, Text, Act}
 use Rattle.sb_opcode.specs.declared.faults.CodeFault.{CodeFault}
 use Rattle.sb_opcode.specs.declared.faults.CodeFault.TheVariants.{NoAction, OpenGroup, BadParam}
 

@@ -1,4 +1,5 @@
 pub mod Options
+pub mod Opcodes
 pub mod Packing
 pub mod Unpacking
 pub mod Records
@@ -7,3 +8,8 @@ pub mod Faults
 pub mod WordFaults
 pub mod WholeGroups
 pub mod Verified
+pub mod Fragments
+pub mod Meaning
+pub mod Places
+pub mod Walking
+pub mod Beginnings

@@ -7,9 +7,9 @@ use Rattle.sb_rule.specs.declared.actions.Action.{Action}
 use Rattle.sb_rule.specs.declared.actions.Action.TheVariants as action
 use Rattle.sb_opcode.specs.Options.{options_of}
 use Rattle.sb_opcode.specs.Packing.{record_of, packed, is_sized}
-use Rattle.sb_opcode.specs.declared.opcodes.Opcode.{Opcode}
-use Rattle.sb_opcode.specs.declared.opcodes.OpKind.{OpKind}
-use Rattle.sb_opcode.specs.declared.opcodes.OpKind.TheVariants.{False, True, Num, Range, Mask, Text, Act}
+use Rattle.sb_opcode.specs.Opcodes.{Opcode}
+use Rattle.sb_opcode.specs.Opcodes.{OpKind}
+use Rattle.sb_opcode.specs.Opcodes.{False, True, Num, Range, Mask, Text, Act}
 use Rattle.sb_opcode.specs.declared.opcodes.Seek.{Seek}
 use Rattle.sb_opcode.specs.declared.opcodes.Seek.TheVariants.{Skip, Forward, ToEnd}
 

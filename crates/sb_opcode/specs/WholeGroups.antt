@@ -6,7 +6,7 @@ use Rattle.sb_call.specs.declared.tags.CallTag.{CallTag}
 use Rattle.sb_opcode.specs.Faults.{fault_of, ends_with_act, is_unfit, is_misplaced}
 use Rattle.sb_opcode.specs.Groups.{cut_after, rules_of, groups_of, is_act, is_last}
 use Rattle.sb_opcode.specs.Options.{has, OR, has_options}
-use Rattle.sb_opcode.specs.declared.opcodes.Opcode.{Opcode}
+use Rattle.sb_opcode.specs.Opcodes.{Opcode}
 
 -- CLEAR stands on the last opcode, and on no other
 abbrev pub ends_with_clear : List Opcode → Bool

@@ -4,7 +4,7 @@ use Rattle.std.specs.List.{list_all}
 use Rattle.sb_call.specs.declared.tags.CallTag.{CallTag}
 use Rattle.sb_opcode.specs.Faults.{fault_of}
 use Rattle.sb_opcode.specs.Packing.{packed, is_sized}
-use Rattle.sb_opcode.specs.declared.opcodes.Opcode.{Opcode}
+use Rattle.sb_opcode.specs.Opcodes.{Opcode}
 use Rattle.sb_opcode.specs.declared.faults.WordsFault.{WordsFault}
 use Rattle.sb_opcode.specs.declared.faults.WordsFault.TheVariants.{NotPacked, Code}
 

@@ -6,22 +6,22 @@ ghost use Rattle.sb_opcode.specs.Records.{kind_of, opcode_of};
 
 use crate::codes::Code;
 use crate::faults::CodeFault;
+use crate::opcodes::{OpKind, Opcode};
 use crate::options::Options;
-use crate::records::{Record, RecordKind};
 use bitflags::Flags;
 use sb_call::{CallTag, ParamKind, shape};
 use sb_rule::is_number_kind;
 
-fn is_act(opcode: &Record<'_>) -> bool
+fn is_act(opcode: &Opcode<'_>) -> bool
     ensures { result ≡ is_act (opcode_of opcode.now) }
 {
-    matches!(opcode.kind, RecordKind::Act { .. })
+    matches!(opcode.kind, OpKind::Act { .. })
 }
 
-fn is_text(opcode: &Record<'_>) -> bool
+fn is_text(opcode: &Opcode<'_>) -> bool
     ensures { result ≡ is_text_kind (kind_of opcode.now.kind) }
 {
-    matches!(opcode.kind, RecordKind::Text { .. })
+    matches!(opcode.kind, OpKind::Text { .. })
 }
 
 // Whether the last opcode is an action.
@@ -38,7 +38,7 @@ fn ends_with_act(code: &Code) -> bool
 }
 
 // Whether the group goes on behind an opcode.
-fn goes_on(before: &Option<Record<'_>>) -> bool
+fn goes_on(before: &Option<Opcode<'_>>) -> bool
     ensures { result ≡ goes_on (option_map opcode_of before.now) }
 {
     match before {
@@ -47,7 +47,7 @@ fn goes_on(before: &Option<Record<'_>>) -> bool
     }
 }
 
-fn differs(before: &Option<Record<'_>>, opcode: &Record<'_>) -> bool
+fn differs(before: &Option<Opcode<'_>>, opcode: &Opcode<'_>) -> bool
     ensures { result ≡ differs (option_map opcode_of before.now) (opcode_of opcode.now) }
 {
     match before {
@@ -58,7 +58,7 @@ fn differs(before: &Option<Record<'_>>, opcode: &Record<'_>) -> bool
 }
 
 // Whether the options are none that such an opcode may have.
-fn is_unfit(opcode: &Record<'_>) -> bool
+fn is_unfit(opcode: &Opcode<'_>) -> bool
     ensures { result ≡ is_unfit (opcode_of opcode.now) }
 {
     let options = opcode.options;
@@ -69,7 +69,7 @@ fn is_unfit(opcode: &Record<'_>) -> bool
             && (options.contains(Options::FOLD) || options.contains(Options::EXACT)))
 }
 
-fn is_open(before: &Option<Record<'_>>, opcode: &Record<'_>) -> bool
+fn is_open(before: &Option<Opcode<'_>>, opcode: &Opcode<'_>) -> bool
     ensures { result ≡ is_open (option_map opcode_of before.now, opcode_of opcode.now) }
 {
     (goes_on(before) && (is_act(opcode) || differs(before, opcode))) || is_unfit(opcode)
@@ -110,15 +110,15 @@ fn is_string_at(tag: CallTag, param: u32) -> bool
     }
 }
 
-fn is_misplaced(tag: CallTag, opcode: &Record<'_>) -> bool
+fn is_misplaced(tag: CallTag, opcode: &Opcode<'_>) -> bool
     ensures { result ≡ is_misplaced tag (opcode_of opcode.now) }
 {
     match opcode.kind {
-        RecordKind::Num(_) | RecordKind::Range { .. } | RecordKind::Mask(_) => {
+        OpKind::Num(_) | OpKind::Range { .. } | OpKind::Mask(_) => {
             !is_number_at(tag, opcode.param)
         }
-        RecordKind::Text { .. } => !is_string_at(tag, opcode.param),
-        RecordKind::False | RecordKind::True | RecordKind::Act { .. } => false,
+        OpKind::Text { .. } => !is_string_at(tag, opcode.param),
+        OpKind::False | OpKind::True | OpKind::Act { .. } => false,
     }
 }
 

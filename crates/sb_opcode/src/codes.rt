@@ -1,10 +1,14 @@
 // Codes: opcodes packed in words.
-ghost use Rattle.std.specs.Prelude.{◌≡◌, ◌+◌, ◌*◌, ◌<◌, ◌^◌, ◌++◌, ◌∷◌, [], true, length, map, take, vec_len, nat_lt, OnOk, OnErr};
+ghost use Rattle.std.specs.Prelude.{◌≡◌, ◌+◌, ◌*◌, ◌<◌, ◌^◌, ◌++◌, ◌∷◌, ◌↔◌, [], true, IsTrue, length, map, take, vec_len, nat_lt, OnOk, OnErr};
 ghost use Rattle.std.specs.List.{list_all};
 ghost use Rattle.sb_opcode.specs.Packing.{cell_word, kind_number, seek_number, skip_number, kind_words, head_of, record_of, packed, is_sized, is_sized_kind, is_sized_cell};
-ghost use Rattle.sb_opcode.specs.Unpacking.{is_packed, opcodes_of};
+ghost use Rattle.sb_pattern.specs.declared.cells.Cell.TheVariants.{Lit};
+ghost use Rattle.sb_opcode.specs.declared.opcodes.Seek.TheVariants.{Skip};
+ghost use Rattle.sb_opcode.specs.Records.{kind_of, opcode_of, text_opcode};
+ghost use Rattle.sb_opcode.specs.Unpacking.{cell_of, is_packed, opcodes_of};
 
-use crate::opcodes::{OpKind, Opcode, Seek};
+use crate::opcodes::{Look, OpKind, Opcode, Seek};
+use crate::options::Options;
 use crate::records::{Records, after_record};
 use bitflags::Flags;
 use sb_pattern::Cell;
@@ -24,7 +28,6 @@ pub struct Code {
     words: Vec<u64>,
 }
 
-// By hand, so that it is proved here once and not at each place that drops one.
 impl Drop for Code {
     fn drop(self) {
         let Code { words: _ } = self;
@@ -34,7 +37,7 @@ impl Drop for Code {
 impl Model for Code {
     ghost use Rattle.std.specs.Prelude.{◌≡◌, ◌<◌, ◌^◌, List, true, length};
     ghost use Rattle.sb_opcode.specs.Unpacking.{is_packed, opcodes_of};
-    ghost use Rattle.sb_opcode.specs.declared.opcodes.Opcode.{Opcode};
+    ghost use Rattle.sb_opcode.specs.Opcodes.{Opcode};
 
     ghost Value = { List Opcode };
 
@@ -54,8 +57,16 @@ fn cell_word(cell: Cell) -> u64
     }
 }
 
-fn kind_number(kind: &OpKind) -> u8
-    ensures { result ≡ kind_number kind.now }
+// The word of the cell that a word is.
+fn same_cell_word(word: u64) -> u64
+    ensures word { result ≡ cell_word (cell_of word) }
+    ensures sized { is_sized_cell (cell_of word) ≡ true }
+{
+    if word < 65537 { word } else { 65537 }
+}
+
+fn kind_number(kind: &OpKind<'_>) -> u8
+    ensures { result ≡ kind_number (kind_of kind.now) }
 {
     match kind {
         OpKind::False => 0,
@@ -94,8 +105,9 @@ fn head(kind: u8, options: u8, seek: u16, skip: u16) -> u64
     u64::from(kind) | u64::from(options) << 8 | u64::from(seek) << 16 | u64::from(skip) << 32
 }
 
-fn head_of(opcode: &Opcode) -> u64
-    ensures { result ≡ head_of opcode.now }
+// The first word of an opcode.
+fn head_of(opcode: &Opcode<'_>) -> u64
+    ensures { result ≡ head_of (opcode_of opcode.now) }
 {
     let kind = kind_number(&opcode.kind);
     let options = opcode.options.bits();
@@ -103,6 +115,13 @@ fn head_of(opcode: &Opcode) -> u64
         OpKind::Text { seek, .. } => head(kind, options, seek_number(*seek), skip_number(*seek)),
         _ => head(kind, options, 0, 0),
     }
+}
+
+// The first word of a text opcode with these options.
+fn text_head(options: Options, seek: Seek) -> u64
+    ensures { result ≡ 5 + options.0 * 2 ^ 8 + (seek_number seek * 2 ^ 16 + skip_number seek * 2 ^ 32) }
+{
+    head(5, options.bits(), seek_number(seek), skip_number(seek))
 }
 
 // The number of a skip has 16 bits. It does nothing.
@@ -113,12 +132,12 @@ fn seek_is_sized(seek: Seek)
 }
 
 // A parameter has 32 bits, and the options have 8. It does nothing.
-fn numbers_are_sized(opcode: &Opcode)
-    ensures param { nat_lt opcode.now.param (2 ^ 32) ≡ true }
-    ensures options { nat_lt opcode.now.options.0 (2 ^ 8) ≡ true }
+fn numbers_are_sized(param: u32, options: Options)
+    ensures param { nat_lt param (2 ^ 32) ≡ true }
+    ensures options { nat_lt options.0 (2 ^ 8) ≡ true }
 {
-    let _param = opcode.param;
-    let _options = opcode.options.bits();
+    let _param = param;
+    let _options = options.bits();
 }
 
 fn push_two(words: &mut Vec<u64>, first: u64, second: u64) -> Result<(), NoMemory>
@@ -141,9 +160,33 @@ fn push_cells(words: &mut Vec<u64>, cells: &[Cell]) -> Result<(), NoMemory>
     Ok(())
 }
 
-fn push_kind(words: &mut Vec<u64>, kind: &OpKind) -> Result<(), NoMemory>
-    ensures ok { OnOk result (words.new.items ≡ words.old.items ++ kind_words kind.now) }
-    ensures sized { OnOk result (is_sized_kind kind.now ≡ true) }
+// Appends the cells that words are.
+fn push_words(words: &mut Vec<u64>, cells: &[u64]) -> Result<(), NoMemory>
+    ensures ok { OnOk result (words.new.items ≡ words.old.items ++ map cell_word (map cell_of cells.now)) }
+    ensures sized { OnOk result (list_all is_sized_cell (map cell_of cells.now) ≡ true) }
+    ensures err { OnErr result (take (vec_len words.old) words.new.items ≡ words.old.items) }
+{
+    for cell in cells {
+        words.push(same_cell_word(*cell))?;
+    }
+    Ok(())
+}
+
+// Appends units, each of which stands for itself.
+fn push_units(words: &mut Vec<u64>, units: &[u16]) -> Result<(), NoMemory>
+    ensures ok { OnOk result (words.new.items ≡ words.old.items ++ map cell_word (map Lit units.now)) }
+    ensures sized { OnOk result (list_all is_sized_cell (map Lit units.now) ≡ true) }
+    ensures err { OnErr result (take (vec_len words.old) words.new.items ≡ words.old.items) }
+{
+    for unit in units {
+        words.push(cell_word(Cell::Lit(*unit)))?;
+    }
+    Ok(())
+}
+
+fn push_kind(words: &mut Vec<u64>, kind: &OpKind<'_>) -> Result<(), NoMemory>
+    ensures ok { OnOk result (words.new.items ≡ words.old.items ++ kind_words (kind_of kind.now)) }
+    ensures sized { OnOk result (is_sized_kind (kind_of kind.now) ≡ true) }
     ensures err { OnErr result (take (vec_len words.old) words.new.items ≡ words.old.items) }
 {
     match kind {
@@ -154,21 +197,50 @@ fn push_kind(words: &mut Vec<u64>, kind: &OpKind) -> Result<(), NoMemory>
         OpKind::Text { cells, seek } => {
             seek_is_sized(*seek);
             push_two(words, cells.len() as u64, 0)?;
-            push_cells(words, cells.as_slice())?;
+            push_words(words, cells)?;
             Ok(())
         }
         OpKind::Act { action, line } => push_two(words, action.number(), u64::from(*line)),
     }
 }
 
-fn push_record(words: &mut Vec<u64>, opcode: &Opcode) -> Result<(), NoMemory>
-    ensures ok { OnOk result (words.new.items ≡ words.old.items ++ record_of opcode.now) }
-    ensures sized { OnOk result (is_sized opcode.now ≡ true) }
+fn push_opcode(words: &mut Vec<u64>, opcode: &Opcode<'_>) -> Result<(), NoMemory>
+    ensures ok { OnOk result (words.new.items ≡ words.old.items ++ record_of (opcode_of opcode.now)) }
+    ensures sized { OnOk result (is_sized (opcode_of opcode.now) ≡ true) }
     ensures err { OnErr result (take (vec_len words.old) words.new.items ≡ words.old.items) }
 {
-    numbers_are_sized(opcode);
+    numbers_are_sized(opcode.param, opcode.options);
     push_two(words, head_of(opcode), u64::from(opcode.param))?;
     push_kind(words, &opcode.kind)?;
+    Ok(())
+}
+
+fn push_text(words: &mut Vec<u64>, look: Look, seek: Seek, cells: &[Cell]) -> Result<(), NoMemory>
+    ensures ok { OnOk result (words.new.items ≡ words.old.items ++ record_of (text_opcode look cells.now seek)) }
+    ensures sized { OnOk result (is_sized (text_opcode look cells.now seek) ≡ true) }
+    ensures err { OnErr result (take (vec_len words.old) words.new.items ≡ words.old.items) }
+{
+    numbers_are_sized(look.param, look.options);
+    seek_is_sized(seek);
+    push_two(words, text_head(look.options, seek), u64::from(look.param))?;
+    push_two(words, cells.len() as u64, 0)?;
+    push_cells(words, cells)?;
+    Ok(())
+}
+
+fn push_string(words: &mut Vec<u64>, look: Look, units: &[u16]) -> Result<(), NoMemory>
+    ensures ok { OnOk result (words.new.items ≡ words.old.items ++ record_of (text_opcode look (map Lit units.now) (Skip 0))) }
+    ensures sized { OnOk result (is_sized (text_opcode look (map Lit units.now) (Skip 0)) ≡ true) }
+    ensures err { OnErr result (take (vec_len words.old) words.new.items ≡ words.old.items) }
+{
+    numbers_are_sized(look.param, look.options);
+    push_two(
+        words,
+        text_head(look.options, Seek::Skip(0)),
+        u64::from(look.param),
+    )?;
+    push_two(words, units.len() as u64, 0)?;
+    push_units(words, units)?;
     Ok(())
 }
 
@@ -207,14 +279,54 @@ impl Code {
     /// Appends an opcode. After an error the code is as it was.
     ///
     /// # Errors
-    /// `NoMemory` where there was none for the opcode's words.
-    pub fn push(&mut self, opcode: Opcode) -> Result<(), NoMemory>
+    /// `NoMemory` if there was none for the opcode's words.
+    pub fn push(&mut self, opcode: Opcode<'_>) -> Result<(), NoMemory>
         requires { length self.old + 1 < 2 ^ 32 }
-        ensures ok { OnOk result (self.new ≡ self.old ++ opcode ∷ []) }
+        ensures ok { OnOk result (self.new ≡ self.old ++ opcode_of opcode.entry ∷ []) }
         ensures err { OnErr result (self.new ≡ self.old) }
     {
         let before = self.words.len();
-        match push_record(&mut self.words, &opcode) {
+        match push_opcode(&mut self.words, &opcode) {
+            Ok(()) => Ok(()),
+            Err(error) => {
+                self.words.truncate(before);
+                Err(error)
+            }
+        }
+    }
+
+    #[tactic(auto, using(crate::proofs::PackingLemmas::pushed_opcodes))]
+    /// Appends a text opcode with these cells, which go straight into the words. After an error the code is as it was.
+    ///
+    /// # Errors
+    /// `NoMemory` if there was none for the opcode's words.
+    pub fn push_text(&mut self, look: Look, seek: Seek, cells: &[Cell]) -> Result<(), NoMemory>
+        requires { length self.old + 1 < 2 ^ 32 }
+        ensures ok { OnOk result (self.new ≡ self.old ++ text_opcode look cells.now seek ∷ []) }
+        ensures err { OnErr result (self.new ≡ self.old) }
+    {
+        let before = self.words.len();
+        match push_text(&mut self.words, look, seek, cells) {
+            Ok(()) => Ok(()),
+            Err(error) => {
+                self.words.truncate(before);
+                Err(error)
+            }
+        }
+    }
+
+    #[tactic(auto, using(crate::proofs::PackingLemmas::pushed_opcodes))]
+    /// Appends a text opcode whose fragment is this string and stands at the position. After an error the code is as it was.
+    ///
+    /// # Errors
+    /// `NoMemory` if there was none for the opcode's words.
+    pub fn push_string(&mut self, look: Look, units: &[u16]) -> Result<(), NoMemory>
+        requires { length self.old + 1 < 2 ^ 32 }
+        ensures ok { OnOk result (self.new ≡ self.old ++ text_opcode look (map Lit units.now) (Skip 0) ∷ []) }
+        ensures err { OnErr result (self.new ≡ self.old) }
+    {
+        let before = self.words.len();
+        match push_string(&mut self.words, look, units) {
             Ok(()) => Ok(()),
             Err(error) => {
                 self.words.truncate(before);
@@ -226,7 +338,9 @@ impl Code {
     #[tactic(auto, using(crate::proofs::PackingLemmas::packing_of_opcodes))]
     /// The words: the packing of the opcodes.
     pub fn words(&self) -> &[u64]
-        ensures { result.now ≡ packed self.now }
+        ensures words { result.now ≡ packed self.now }
+        ensures packed { is_packed result.now ≡ true }
+        ensures opcodes { opcodes_of result.now ≡ self.now }
     {
         &self.words
     }
@@ -240,7 +354,15 @@ impl Code {
         words
     }
 
-    /// The records of the opcodes, in order.
+    #[tactic(auto, using(crate::proofs::PackingLemmas::empty_words))]
+    /// Whether there are no opcodes.
+    pub fn is_empty(&self) -> bool
+        ensures { IsTrue result ↔ (self.now ≡ []) }
+    {
+        self.words.is_empty()
+    }
+
+    /// The opcodes, in order.
     pub fn records(&self) -> Records<'_>
         ensures records { result ≡ self.now }
         ensures few { length self.now < 2 ^ 32 }

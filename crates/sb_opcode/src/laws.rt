@@ -1,6 +1,7 @@
-// Laws of codes. None of these functions does anything: each contract is a law.
+// Laws of codes, and of what their opcodes mean. None of these functions does anything: each contract is a law.
 ghost use Rattle.sb_opcode.specs.Packing.{PackingIsOneToOne};
 ghost use Rattle.sb_opcode.specs.Unpacking.{PackingComesBack, RecordsComeBack};
+ghost use Rattle.sb_opcode.specs.Places.{SkipLeavesWhatFollows, ForwardTakesTheFirstPlace, ForwardMissesNoPlace, EndIsTheLastPlace, ExactLeavesNothing, StarsFitNowhere};
 ghost use Rattle.sb_opcode.specs.WholeGroups.{PartsAreTheList, FaultlessCodesAreWhole};
 
 /// Words unpack to opcodes exactly where they are the packing of these, different opcodes are packed differently, and a
@@ -18,4 +19,17 @@ pub fn packing_comes_back()
 pub fn faultless_codes_are_whole()
     ensures parts { PartsAreTheList }
     ensures whole { FaultlessCodesAreWhole }
+{}
+
+/// A fragment fits at a place of a string where it ends within the string and each of its cells fits the unit there. `Skip`
+/// leaves what follows the fragment, exactly where it fits this many units on. `Forward` takes the first place where it fits,
+/// and finds none exactly where it fits nowhere. `ToEnd` leaves nothing, exactly where it fits at the end. With EXACT nothing
+/// is left. A fragment with `*` fits nowhere.
+pub fn fragments_stand_where_they_fit()
+    ensures skip { SkipLeavesWhatFollows }
+    ensures forward { ForwardTakesTheFirstPlace }
+    ensures nowhere { ForwardMissesNoPlace }
+    ensures end { EndIsTheLastPlace }
+    ensures exact { ExactLeavesNothing }
+    ensures stars { StarsFitNowhere }
 {}

@@ -1,8 +1,6 @@
 // What an opcode is.
 
 use crate::options::Options;
-use sb_items::Items;
-use sb_pattern::Cell;
 use sb_rule::Action;
 
 /// Where in a string the fragment of a text opcode is to stand. The position is 0 at the beginning of a group, and after
@@ -17,11 +15,9 @@ pub enum Seek {
     ToEnd,
 }
 
-/// The cells of a fragment.
-pub type Cells = Items<Cell>;
-
-/// What an opcode does.
-pub enum OpKind {
+/// What an opcode does. The cells of a fragment are words: a unit is itself, `?` is 65536, and any greater word is `*`.
+#[derive(Clone, Copy, Debug)]
+pub enum OpKind<'a> {
     /// Never holds.
     False,
     /// Always holds.
@@ -33,43 +29,28 @@ pub enum OpKind {
     /// Holds of the numbers that have a bit of this mask.
     Mask(u64),
     /// Holds of a string in which the fragment stands where it is sought.
-    Text { cells: Cells, seek: Seek },
+    Text { cells: &'a [u64], seek: Seek },
     /// Ends a rule: what the rule does, and the line on which it was written.
     Act { action: Action, line: u32 },
 }
 
-// By hand, so that it is proved here once and not at each place that drops one.
-impl Drop for OpKind {
-    fn drop(self) {
-        match self {
-            OpKind::False => {}
-            OpKind::True => {}
-            OpKind::Num(_) => {}
-            OpKind::Range { lo: _, hi: _ } => {}
-            OpKind::Mask(_) => {}
-            OpKind::Text { cells: _, seek: _ } => {}
-            OpKind::Act { action: _, line: _ } => {}
-        }
-    }
-}
-
-/// An opcode: what it does, the parameter of the call that it looks at, and its options.
-pub struct Opcode {
+/// An opcode: what it does, the parameter of the call that it looks at, and its options. It borrows the cells of its
+/// fragment from the words in which it stands.
+#[derive(Clone, Copy, Debug)]
+pub struct Opcode<'a> {
     /// What it does.
-    pub kind: OpKind,
+    pub kind: OpKind<'a>,
     /// The parameter, from 0. An action, `True` and `False` look at none.
     pub param: u32,
     /// The options.
     pub options: Options,
 }
 
-// By hand, so that it is proved here once and not at each place that drops one.
-impl Drop for Opcode {
-    fn drop(self) {
-        let Opcode {
-            kind: _,
-            param: _,
-            options: _,
-        } = self;
-    }
+/// At what an opcode looks, and how: the parameter and the options.
+#[derive(Clone, Copy, Debug)]
+pub struct Look {
+    /// The parameter, from 0.
+    pub param: u32,
+    /// The options.
+    pub options: Options,
 }

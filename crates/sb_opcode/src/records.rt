@@ -4,7 +4,7 @@ ghost use Rattle.std.specs.List.{list_all};
 ghost use Rattle.sb_opcode.specs.Unpacking.{kind_part, seek_in, plain_kind, plain_record, text_record, first_record, is_cell_word, is_packed, opcodes_of, seek_known, action_known, kind_known, after_known, does_known, first_known, passed_known};
 ghost use Rattle.sb_opcode.specs.Records.{kind_of, opcode_of, IsPassed};
 
-use crate::opcodes::Seek;
+use crate::opcodes::{OpKind, Opcode, Seek};
 use crate::options::Options;
 use bitflags::Flags;
 use sb_rule::Action;
@@ -15,36 +15,6 @@ const TEXT: u64 = 5;
 
 // The highest word of a cell, that of `*`.
 const LAST_CELL: u64 = 65537;
-
-/// What an opcode does, as its record says it: as `OpKind`, but that the cells of a fragment are words.
-#[derive(Clone, Copy, Debug)]
-pub enum RecordKind<'a> {
-    /// Never holds.
-    False,
-    /// Always holds.
-    True,
-    /// Holds of this number.
-    Num(u64),
-    /// Holds of the numbers from `lo` to `hi`, both included.
-    Range { lo: u64, hi: u64 },
-    /// Holds of the numbers that have a bit of this mask.
-    Mask(u64),
-    /// Holds of a string in which the fragment stands where it is sought. Each word is a cell.
-    Text { cells: &'a [u64], seek: Seek },
-    /// Ends a rule: what the rule does, and the line on which it was written.
-    Act { action: Action, line: u32 },
-}
-
-/// An opcode as it stands in words. It takes no memory.
-#[derive(Clone, Copy, Debug)]
-pub struct Record<'a> {
-    /// What it does.
-    pub kind: RecordKind<'a>,
-    /// The parameter, from 0. An action, `True` and `False` look at none.
-    pub param: u32,
-    /// The options.
-    pub options: Options,
-}
 
 fn is_seek(head: u64) -> bool
     ensures { result ≡ is_some (seek_in head) }
@@ -141,19 +111,19 @@ fn action_known(number: u64) -> Action
     }
 }
 
-fn kind_known<'a>(kind: u64, first: u64, second: u64) -> RecordKind<'a>
+fn kind_known<'a>(kind: u64, first: u64, second: u64) -> OpKind<'a>
     ensures { kind_of result ≡ kind_known kind first second }
 {
     match kind {
-        0 => RecordKind::False,
-        1 => RecordKind::True,
-        2 => RecordKind::Num(first),
-        3 => RecordKind::Range {
+        0 => OpKind::False,
+        1 => OpKind::True,
+        2 => OpKind::Num(first),
+        3 => OpKind::Range {
             lo: first,
             hi: second,
         },
-        4 => RecordKind::Mask(first),
-        _ => RecordKind::Act {
+        4 => OpKind::Mask(first),
+        _ => OpKind::Act {
             action: action_known(first),
             line: (second & 0xffff_ffff) as u32,
         },
@@ -174,14 +144,14 @@ fn after_known(head: u64, first: u64, later: &[u64]) -> &[u64]
 }
 
 // What the first opcode of packed words does.
-fn does_known<'a>(head: u64, first: u64, second: u64, later: &'a [u64]) -> RecordKind<'a>
+fn does_known<'a>(head: u64, first: u64, second: u64, later: &'a [u64]) -> OpKind<'a>
     requires { (kind_part head == 5) ≡ true → first ≤ length later.now }
     ensures { kind_of result ≡ does_known head first second later.now }
 {
     if head & 0xff == TEXT {
         let (cells, _) = later.split_at(first as usize);
         let seek = seek_known(head);
-        RecordKind::Text { cells, seek }
+        OpKind::Text { cells, seek }
     } else {
         kind_known(head & 0xff, first, second)
     }
@@ -189,13 +159,13 @@ fn does_known<'a>(head: u64, first: u64, second: u64, later: &'a [u64]) -> Recor
 
 // The first record of packed words, and the words after it. The words are not tested again.
 #[tactic(auto, using(crate::proofs::KnownLemmas::cells_there))]
-fn first_known<'a>(words: &'a [u64]) -> Option<(Record<'a>, &'a [u64])>
+fn first_known<'a>(words: &'a [u64]) -> Option<(Opcode<'a>, &'a [u64])>
     requires { is_packed words.now ≡ true }
     ensures { option_map (λ r. (opcode_of r.0, r.1.now)) result ≡ first_known words.now }
 {
     match words {
         [head, param, first, second, later @ ..] => {
-            let record = Record {
+            let record = Opcode {
                 kind: does_known(*head, *first, *second, later),
                 param: (*param & 0xffff_ffff) as u32,
                 options: Options::from_bits_retain((*head >> 8 & 0xff) as u8),
@@ -208,7 +178,7 @@ fn first_known<'a>(words: &'a [u64]) -> Option<(Record<'a>, &'a [u64])>
 
 // Whether the first opcode of packed words is an action, and the words after it.
 #[tactic(auto, using(crate::proofs::KnownLemmas::cells_there))]
-fn passed_known(words: &[u64]) -> Option<(bool, &[u64])>
+pub(crate) fn passed_known(words: &[u64]) -> Option<(bool, &[u64])>
     requires { is_packed words.now ≡ true }
     ensures { option_map (λ r. (r.0, r.1.now)) result ≡ passed_known words.now }
 {
@@ -229,7 +199,7 @@ pub struct Records<'a> {
 impl<'a> Model for Records<'a> {
     ghost use Rattle.std.specs.Prelude.{◌≡◌, List, true};
     ghost use Rattle.sb_opcode.specs.Unpacking.{is_packed, opcodes_of};
-    ghost use Rattle.sb_opcode.specs.declared.opcodes.Opcode.{Opcode};
+    ghost use Rattle.sb_opcode.specs.Opcodes.{Opcode};
 
     ghost Value = { List Opcode };
 
@@ -249,7 +219,7 @@ impl<'a> Records<'a> {
 
     #[tactic(auto, using(crate::proofs::KnownLemmas::no_opcode))]
     /// The next opcode. Nothing of its words is tested again.
-    pub fn next_record(&mut self) -> Option<Record<'a>>
+    pub fn next_record(&mut self) -> Option<Opcode<'a>>
         ensures { MatchOption result ((self.old ≡ []) × (self.new ≡ [])) (λ r. self.old ≡ opcode_of r ∷ self.new) }
     {
         let (record, later) = first_known(self.rest)?;

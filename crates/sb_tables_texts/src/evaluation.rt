@@ -2,9 +2,9 @@
 
 use crate::opcode_readers::code_of;
 use sb_call::{Arg, CallTag, fits};
-use sb_eval::{Judged, eval};
-use sb_opcode::{Verified, verify};
+use sb_opcode::{Verified, eval, verify};
 use sb_rows::{RowFault, args_in, tag, told};
+use sb_rule::Verdict;
 use std::alloc::Global;
 
 /// What a function of codes and calls gives.
@@ -34,9 +34,7 @@ fn evaluated_by(alloc: Global, verified: &Verified, args: &[Arg]) -> Result<Stri
         return Err(RowFault::Misfit);
     }
     match eval(verified, args) {
-        Judged::Action { at, line, action } => {
-            Ok(format!(in alloc; "{action:?} of line {line}, opcode {at}")?)
-        }
-        Judged::NoMatch => Ok(String::from_str(alloc, "no rule")?),
+        Verdict::Rule { line, action } => Ok(format!(in alloc; "{action:?} of line {line}")?),
+        Verdict::NoRule => Ok(String::from_str(alloc, "no rule")?),
     }
 }

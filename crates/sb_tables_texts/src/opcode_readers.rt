@@ -1,11 +1,26 @@
 // Codes: their opcodes as listings show them, and packed words.
+ghost use Rattle.std.specs.Prelude.{◌+◌, ◌<◌, ◌≤◌, ◌^◌, length, OnOk};
 
 use bitflags::Flags;
-use sb_opcode::{Cells, Code, OpKind, Opcode, Options, Seek};
+use sb_opcode::{Code, Look, OpKind, Opcode, Options, Seek};
 use sb_pattern::Cell;
 use sb_row_values::action;
 use sb_rows::{RowFault, number, param, quoted, small, unit, words_in};
 use std::alloc::Global;
+
+// What an opcode does: one without a fragment, or one with these cells.
+#[derive(Drop)]
+enum ReadKind {
+    Plain(OpKind<'static>),
+    Text { cells: Vec<Cell>, seek: Seek },
+}
+
+// An opcode that was read.
+#[derive(Drop)]
+struct ReadOpcode {
+    kind: ReadKind,
+    look: Look,
+}
 
 /// A code of at most 64 opcodes, which are divided by `;`.
 pub fn code_of(alloc: Global, text: &str) -> Result<Code, RowFault> {
@@ -30,18 +45,35 @@ fn code_of_rows(alloc: Global, rows: &[&str]) -> Result<Code, RowFault> {
     let mut code = Code::new(alloc);
     if rows.len() <= 64 {
         for row in rows {
-            code.push(opcode_of(alloc, row)?)?;
+            push_read(&mut code, opcode_of(alloc, row)?)?;
         }
     }
     Ok(code)
 }
 
+fn push_read(code: &mut Code, opcode: ReadOpcode) -> Result<(), RowFault>
+    requires { length code.old + 1 < 2 ^ 32 }
+    ensures { OnOk result (length code.new ≤ length code.old + 1) }
+{
+    let ReadOpcode { kind, look } = opcode;
+    let Look { param, options } = look;
+    match kind {
+        ReadKind::Plain(kind) => code.push(Opcode {
+            kind,
+            param,
+            options,
+        })?,
+        ReadKind::Text { cells, seek } => code.push_text(look, seek, &cells)?,
+    }
+    Ok(())
+}
+
 // An opcode, written as in a listing.
-fn opcode_of(alloc: Global, text: &str) -> Result<Opcode, RowFault> {
+fn opcode_of(alloc: Global, text: &str) -> Result<ReadOpcode, RowFault> {
     opcode_by(alloc, words_in(alloc, text)?.as_slice())
 }
 
-fn opcode_by(alloc: Global, words: &[&str]) -> Result<Opcode, RowFault> {
+fn opcode_by(alloc: Global, words: &[&str]) -> Result<ReadOpcode, RowFault> {
     let [name, rest @ ..] = words else {
         return Err(RowFault::BadOpcode);
     };
@@ -54,7 +86,7 @@ fn opcode_by(alloc: Global, words: &[&str]) -> Result<Opcode, RowFault> {
 }
 
 // An opcode that ends with an action.
-fn action_opcode(words: &[&str]) -> Result<Opcode, RowFault> {
+fn action_opcode(words: &[&str]) -> Result<ReadOpcode, RowFault> {
     let [action, "line", line, rest @ ..] = words else {
         return Err(RowFault::BadOpcode);
     };
@@ -63,7 +95,7 @@ fn action_opcode(words: &[&str]) -> Result<Opcode, RowFault> {
 }
 
 // An opcode that looks at the parameter that stands first, and has at least one more word.
-fn parameter_opcode(alloc: Global, name: &str, words: &[&str]) -> Result<Opcode, RowFault> {
+fn parameter_opcode(alloc: Global, name: &str, words: &[&str]) -> Result<ReadOpcode, RowFault> {
     let [param, word, rest @ ..] = words else {
         return Err(RowFault::BadOpcode);
     };
@@ -76,7 +108,7 @@ fn parameter_opcode(alloc: Global, name: &str, words: &[&str]) -> Result<Opcode,
     }
 }
 
-fn range_opcode(param: &str, lo: &str, words: &[&str]) -> Result<Opcode, RowFault> {
+fn range_opcode(param: &str, lo: &str, words: &[&str]) -> Result<ReadOpcode, RowFault> {
     let [hi, rest @ ..] = words else {
         return Err(RowFault::BadOpcode);
     };
@@ -85,7 +117,12 @@ fn range_opcode(param: &str, lo: &str, words: &[&str]) -> Result<Opcode, RowFaul
 }
 
 // An opcode that looks at a text.
-fn text_opcode(alloc: Global, param: &str, seek: &str, words: &[&str]) -> Result<Opcode, RowFault> {
+fn text_opcode(
+    alloc: Global,
+    param: &str,
+    seek: &str,
+    words: &[&str],
+) -> Result<ReadOpcode, RowFault> {
     match seek {
         "skip" => match words {
             [skip, rest @ ..] => seeking(alloc, param, Seek::Skip(unit(skip)?), rest),
@@ -98,13 +135,15 @@ fn text_opcode(alloc: Global, param: &str, seek: &str, words: &[&str]) -> Result
 }
 
 // An opcode with a fragment: the letters of a text, in which `?` is any unit and `*` any run of units.
-fn seeking(alloc: Global, param: &str, seek: Seek, words: &[&str]) -> Result<Opcode, RowFault> {
+fn seeking(alloc: Global, param: &str, seek: Seek, words: &[&str]) -> Result<ReadOpcode, RowFault> {
     let [text, rest @ ..] = words else {
         return Err(RowFault::BadOpcode);
     };
     let units = quoted(alloc, text)?;
-    let cells = Cells::new(cells_of(alloc, units.as_units())?);
-    looking(OpKind::Text { cells, seek }, param, rest)
+    let cells = cells_of(alloc, units.as_units())?;
+    let look = look_of(param, rest)?;
+    let kind = ReadKind::Text { cells, seek };
+    Ok(ReadOpcode { kind, look })
 }
 
 fn cells_of(alloc: Global, units: &[u16]) -> Result<Vec<Cell>, RowFault> {
@@ -123,18 +162,20 @@ fn cell_of(unit: u16) -> Cell {
     }
 }
 
-// An opcode that looks at a parameter.
-fn looking(kind: OpKind, param: &str, words: &[&str]) -> Result<Opcode, RowFault> {
+fn look_of(param: &str, words: &[&str]) -> Result<Look, RowFault> {
     let (param, options) = (self::param(param)?, options_of(words)?);
-    Ok(Opcode {
-        kind,
-        param,
-        options,
-    })
+    Ok(Look { param, options })
+}
+
+// An opcode that looks at a parameter.
+fn looking(kind: OpKind<'static>, param: &str, words: &[&str]) -> Result<ReadOpcode, RowFault> {
+    let look = look_of(param, words)?;
+    let kind = ReadKind::Plain(kind);
+    Ok(ReadOpcode { kind, look })
 }
 
 // An opcode that looks at no parameter. A row may give it one all the same, before its options.
-fn opcode(kind: OpKind, words: &[&str]) -> Result<Opcode, RowFault> {
+fn opcode(kind: OpKind<'static>, words: &[&str]) -> Result<ReadOpcode, RowFault> {
     match words {
         [param, rest @ ..] if param.starts_with('p') => looking(kind, param, rest),
         _ => looking(kind, "p0", words),

@@ -1,5 +1,5 @@
 use Rattle.std.proofs.Common.{◌≡◌, ◌+◌, ◌≤◌, ◌++◌, length, map}
-use Rattle.sb_opcode.specs.declared.opcodes.OpKind.TheVariants as op
+use Rattle.sb_opcode.specs.Opcodes as op
 use Rattle.sb_opcode.specs.Options.{OR}
 use Rattle.sb_compile.specs.Compiling.{opcode, closed}
 use Rattle.sb_compile.proofs.numbers.push_choices.Given as goal

@@ -1,7 +1,7 @@
 use Rattle.std.specs.List.{slice_split}
 use Rattle.std.proofs.Common.{arith, ◌++◌}
 use Rattle.sb_pattern.specs.Chunks.{is_any}
-use Rattle.sb_opcode.specs.declared.opcodes.OpKind.TheVariants as op
+use Rattle.sb_opcode.specs.Opcodes as op
 use Rattle.sb_opcode.specs.declared.opcodes.Seek.TheVariants.{Forward}
 use Rattle.sb_opcode.specs.Options.{FOLD}
 use Rattle.sb_compile.specs.Compiling.{opcode, closed, later_code}

@@ -1,0 +1,49 @@
+// One object that is opened many times: by handles held at once, and by handles each closed again.
+
+use crate::failures::Failure;
+use sb_handles::{ShareRefused, ShareTable};
+use sb_wide::NoMemory;
+use std::alloc::Global;
+
+// How many opens there are.
+const MANY: u64 = 65_536;
+
+// Reading, by a generic right.
+const READ: u64 = 0x8000_0000;
+
+// Reading, writing and deleting are shared.
+const ALL: u64 = 7;
+
+/// Opens one object with handles that are all held, in these rounds.
+pub fn held(alloc: Global, rounds: u64) -> Result<String, Failure> {
+    let mut opened: u64 = 0;
+    for _round in 0..rounds {
+        let mut shares = ShareTable::new(alloc);
+        for handle in 0..MANY {
+            opened = opened.saturating_add(open(&mut shares, handle)?);
+        }
+    }
+    Ok(format!(in alloc; "opened {opened}")?)
+}
+
+/// Opens one object with handles each of which is closed before the next, in these rounds.
+pub fn closed(alloc: Global, rounds: u64) -> Result<String, Failure> {
+    let mut opened: u64 = 0;
+    for _round in 0..rounds {
+        let mut shares = ShareTable::new(alloc);
+        for handle in 0..MANY {
+            opened = opened.saturating_add(open(&mut shares, handle)?);
+            shares.leave(1, handle);
+        }
+    }
+    Ok(format!(in alloc; "opened {opened}")?)
+}
+
+// Opens the object under a handle, and gives 1 if no other conflicts.
+fn open(shares: &mut ShareTable, handle: u64) -> Result<u64, NoMemory> {
+    match shares.try_open(1, handle, READ, ALL) {
+        Ok(()) => Ok(1),
+        Err(ShareRefused::Conflict { .. }) => Ok(0),
+        Err(ShareRefused::NoMemory) => Err(NoMemory),
+    }
+}

@@ -1,6 +1,0 @@
-use Rattle.std.proofs.Common.{◌≡◌, map, take}
-use Rattle.sb_pattern.specs.declared.cells.Cell.TheVariants.{Lit}
-use Rattle.sb_compile.proofs.rules.literals.Given as goal
-
-abbrev pub invariant-loop-unit : goal.invariant-loop-unit
-invariant-loop-unit l = l.cells.items ≡ map Lit (take l.unit-index l.units)

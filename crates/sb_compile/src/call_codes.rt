@@ -1,0 +1,128 @@
+// The code of a call, judged by the rules that an index leaves.
+ghost use Rattle.std.specs.Prelude.{◌≡◌, ◌≤◌, true, length, IfOk, None};
+ghost use Rattle.std.specs.List.{list_all};
+ghost use Rattle.sb_call.specs.Arguments.{fits};
+ghost use Rattle.sb_rule.specs.Limits.{most_rules};
+ghost use Rattle.sb_rule.specs.WellMade.{is_well_made_rule};
+ghost use Rattle.sb_opcode.specs.Faults.{fault_of};
+ghost use Rattle.sb_opcode.specs.Groups.{rules_of};
+ghost use Rattle.sb_opcode.specs.Meaning.{meaning};
+ghost use Rattle.sb_compile.specs.Compiling.{code_of};
+ghost use Rattle.sb_compile.specs.Indexed.{HasEachThatHolds, IsIndexed};
+
+use crate::laws::{candidates_have_each_that_holds, compiled_rules_are_few};
+use sb_call::{Arg, CallTag};
+use sb_index::{Index, RuleSet};
+use sb_opcode::{Code, RuleCodes, Verified, eval};
+use sb_rule::{Rule, Verdict};
+use sb_wide::NoMemory;
+use std::alloc::Global;
+use std::marker::Model;
+
+// From this many rules on a code has an index.
+const FEWEST_INDEXED: usize = 4;
+
+/// The code of the rules for a call, with the places of its rules and, if there are several, an index of them.
+pub struct CallCode {
+    rules: RuleCodes,
+    index: Option<Index>,
+}
+
+impl Drop for CallCode {
+    fn drop(self) {
+        let CallCode { rules: _, index: _ } = self;
+    }
+}
+
+impl Model for CallCode {
+    ghost use Rattle.sb_opcode.specs.Verified.{VerifiedCode};
+    ghost use Rattle.sb_compile.specs.Indexed.{IsIndexed};
+
+    ghost Value = { VerifiedCode };
+
+    ghost view = { λ c. c.rules };
+
+    ghost invariant = { λ c. IsIndexed c.rules c.index };
+}
+
+// The index of the rules for a tag, if there are enough of them.
+fn index_of(
+    alloc: Global,
+    rules: &[Rule],
+    tag: CallTag,
+    code: &RuleCodes,
+) -> Result<Option<Index>, NoMemory>
+    requires few { length rules.now ≤ most_rules }
+    requires well_made { list_all is_well_made_rule rules.now ≡ true }
+    requires code { code.now.code ≡ code_of rules.now tag }
+    requires tag { code.now.tag ≡ tag }
+    ensures { IfOk result (λ index. IsIndexed code.now index) }
+{
+    if code.len() < FEWEST_INDEXED {
+        return Ok(None);
+    }
+    Ok(Some(Index::new(alloc, rules, tag)?))
+}
+
+impl CallCode {
+    /// The code that was compiled of the rules for a tag.
+    ///
+    /// # Errors
+    /// `NoMemory` if there was none for the places of the rules or the index.
+    pub fn new(
+        alloc: Global,
+        rules: &[Rule],
+        tag: CallTag,
+        code: Code,
+    ) -> Result<CallCode, NoMemory>
+        requires few { length rules.now ≤ most_rules }
+        requires well_made { list_all is_well_made_rule rules.now ≡ true }
+        requires code { code ≡ code_of rules.now tag }
+        requires faultless { fault_of tag code ≡ None }
+        ensures code { IfOk result (λ call. call.code ≡ code) }
+        ensures tag { IfOk result (λ call. call.tag ≡ tag) }
+    {
+        let code = RuleCodes::new(alloc, Verified::faultless(tag, code))?;
+        let index = index_of(alloc, rules, tag, &code)?;
+        Ok(CallCode { rules: code, index })
+    }
+
+    /// The code.
+    pub fn code(&self) -> &Verified
+        ensures { result.now ≡ self.now }
+    {
+        self.rules.code()
+    }
+
+    /// The verdict of the code on a call whose arguments fit. Does not allocate.
+    pub fn judge(&self, args: &[Arg]) -> Verdict
+        requires { fits self.now.tag args.now ≡ true }
+        ensures { result ≡ meaning self.now.code args.now }
+    {
+        candidates_have_each_that_holds();
+        compiled_rules_are_few();
+        match &self.index {
+            Some(index) => judge_among(&self.rules, &index.candidates(args), args),
+            None => eval(self.rules.code(), args),
+        }
+    }
+}
+
+// The verdict of the first rule in a set that holds.
+fn judge_among(rules: &RuleCodes, set: &RuleSet, args: &[Arg]) -> Verdict
+    requires few { length (rules_of rules.now.code) ≤ most_rules }
+    requires candidates { HasEachThatHolds rules.now.code args.now set.now }
+    ensures { result ≡ meaning rules.now.code args.now }
+{
+    let mut at = 0;
+    while let Some(number) = set.next_from(at) {
+        if number >= rules.len() {
+            return Verdict::NoRule;
+        }
+        match rules.judge_rule(number, args) {
+            Some(verdict) => return verdict,
+            None => at = number + 1,
+        }
+    }
+    Verdict::NoRule
+}

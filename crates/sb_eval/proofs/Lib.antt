@@ -1,4 +1,0 @@
-pub mod Closed
-pub mod PassLemmas
-pub mod PlaceLemmas
-pub mod WalkLemmas

@@ -1,4 +1,0 @@
-pub mod Fragments
-pub mod Meaning
-pub mod Places
-pub mod Walking

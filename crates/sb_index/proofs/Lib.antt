@@ -1,0 +1,4 @@
+pub mod SetLemmas
+pub mod FrontLemmas
+pub mod PassLemmas
+pub mod TableLemmas

@@ -1,0 +1,18 @@
+// Which rules can hold of the arguments of a call. An index gives for arguments a set of rules, and a rule that is not in
+// the set does not hold. It is what packet classification calls bit vectors: a table for each of a few features of the
+// arguments, which has a set of rules for each range of values, and the sets are intersected.
+#![tactic(auto)]
+
+mod buckets;
+mod conditions;
+mod features;
+mod fronts;
+mod indexes;
+mod laws;
+mod questions;
+mod sets;
+mod tables;
+
+pub use indexes::Index;
+pub use laws::rules_that_hold_pass;
+pub use sets::RuleSet;

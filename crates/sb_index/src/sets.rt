@@ -1,0 +1,71 @@
+// Sets of rules by their numbers.
+ghost use Rattle.std.specs.Prelude.{◌≡◌, ◌<◌, ◌≤◌, ℕ, MatchOption};
+ghost use Rattle.sb_index.specs.Sets.{Has};
+
+use std::marker::Model;
+
+/// A set of numbers below 256, seen as its four words.
+#[derive(Drop)]
+pub struct RuleSet {
+    words: [u64; 4],
+}
+
+impl Model for RuleSet {
+    ghost use Rattle.std.specs.Prelude.{List, ℕ};
+
+    ghost Value = { List ℕ };
+
+    ghost view = { λ s. s.words };
+}
+
+impl RuleSet {
+    /// The set without a number.
+    pub fn none() -> RuleSet {
+        RuleSet { words: [0; 4] }
+    }
+
+    #[tactic(auto, using(crate::proofs::SetLemmas::all_has))]
+    /// The set of all numbers below 256.
+    pub fn all() -> RuleSet
+        ensures { (k : ℕ) → k < 256 → Has result k }
+    {
+        RuleSet {
+            words: [u64::MAX; 4],
+        }
+    }
+
+    /// Puts a number into the set.
+    pub fn insert(&mut self, number: usize)
+        requires { number < 256 }
+        ensures added { Has self.new number }
+        ensures kept { (k : ℕ) → Has self.old k → Has self.new k }
+    {
+        self.words[number / 64] |= 1 << (number % 64);
+    }
+
+    /// Takes the numbers out of the set that are not in another.
+    pub fn intersect(&mut self, other: &RuleSet)
+        ensures { (k : ℕ) → Has self.old k → Has other.now k → Has self.new k }
+    {
+        let [a, b, c, d] = self.words;
+        let [e, f, g, h] = other.words;
+        self.words = [a & e, b & f, c & g, d & h];
+    }
+
+    /// The lowest number of the set from one on.
+    pub fn next_from(&self, from: usize) -> Option<usize>
+        ensures { MatchOption result ((k : ℕ) → from ≤ k → k < 256 → Has self.now k → ⊥)
+            (λ number. (from ≤ number) × (number < 256) × ((k : ℕ) → from ≤ k → k < number → Has self.now k → ⊥)) }
+    {
+        let mut at = from;
+        while at < 256 {
+            let whole = self.words[at / 64];
+            let word = whole >> (at % 64);
+            if word != 0 {
+                return Some(at + word.trailing_zeros() as usize);
+            }
+            at = (at / 64 + 1) * 64;
+        }
+        None
+    }
+}

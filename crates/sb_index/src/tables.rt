@@ -1,0 +1,161 @@
+// Tables: a set of rules for each range of the values of one feature.
+ghost use Rattle.std.specs.Prelude.{◌≡◌, ◌≤◌, ◌<◌, ◌+◌, List, length, IfOk};
+ghost use Rattle.sb_call.specs.Arguments.{arg_at};
+ghost use Rattle.sb_rule.specs.Limits.{most_rules};
+ghost use Rattle.sb_index.specs.Questions.{value_of, number_in, units_in};
+ghost use Rattle.sb_call.specs.declared.tags.CallTag.{CallTag};
+ghost use Rattle.sb_rule.specs.declared.policies.Rule.{Rule};
+ghost use Rattle.sb_index.specs.Tables.{AreSlots, HasAllThatHold, IsTable, first_of, last_of};
+
+use crate::conditions::passing;
+use crate::fronts::{key, skipped};
+use crate::laws::rules_that_hold_pass;
+use crate::questions::{Feature, Question};
+use crate::sets::RuleSet;
+use sb_call::{Arg, CallTag};
+use sb_rule::Rule;
+use sb_wide::NoMemory;
+use std::alloc::Global;
+
+/// The values of a feature, divided by bounds, and for each part the rules that may hold of it.
+#[derive(Drop)]
+pub struct Table {
+    /// The feature.
+    pub feature: Feature,
+    /// The bounds: each is the first value of a part.
+    pub bounds: Vec<u64>,
+    /// The sets, one more than there are bounds.
+    pub sets: Vec<RuleSet>,
+}
+
+// The number of a parameter. A string counts as 0.
+fn number_in(args: &[Arg], param: u32) -> u64
+    ensures { result ≡ number_in (arg_at args.now param) }
+{
+    match args.get(param as usize) {
+        Some(Arg::Num(number)) => *number,
+        _ => 0,
+    }
+}
+
+/// The units of the string of a parameter. A number has none.
+pub fn units_in(args: &[Arg], param: u32) -> &[u16]
+    ensures { result.now ≡ units_in (arg_at args.now param) }
+{
+    match args.get(param as usize) {
+        Some(Arg::Str(text)) => text.as_units(),
+        _ => &[],
+    }
+}
+
+fn value_of(feature: Feature, args: &[Arg]) -> u64
+    ensures { result ≡ value_of feature args.now }
+{
+    match feature {
+        Feature::Number { param } => number_in(args, param),
+        Feature::Front { param, skip } => key(skipped(units_in(args, param), skip)),
+    }
+}
+
+fn first_of(bounds: &[u64], slot: usize) -> u64
+    requires { slot ≤ length bounds.now }
+    ensures { result ≡ first_of bounds.now slot }
+{
+    if slot == 0 { 0 } else { bounds[slot - 1] }
+}
+
+fn last_of(bounds: &[u64], slot: usize) -> u64
+    ensures { result ≡ last_of bounds.now slot }
+{
+    if slot < bounds.len() {
+        bounds[slot].saturating_sub(1)
+    } else {
+        u64::MAX
+    }
+}
+
+// The slot of a value.
+fn slot_of(bounds: &[u64], value: u64) -> usize
+    ensures within { result ≤ length bounds.now }
+    ensures first { first_of bounds.now result ≤ value }
+    ensures last { value ≤ last_of bounds.now result }
+{
+    let mut low = 0;
+    let mut high = bounds.len();
+    while low < high {
+        let middle = low + (high - low) / 2;
+        if bounds[middle] <= value {
+            low = middle + 1;
+        } else {
+            high = middle;
+        }
+    }
+    low
+}
+
+// The sets of the slots.
+fn sets_of(
+    alloc: Global,
+    rules: &[Rule],
+    tag: CallTag,
+    feature: Feature,
+    bounds: &[u64],
+) -> Result<Vec<RuleSet>, NoMemory>
+    requires few { length rules.now ≤ most_rules }
+    requires short { length bounds.now ≤ 514 }
+    ensures many { IfOk result (λ sets. length sets.items ≡ length bounds.now + 1) }
+    ensures slots { IfOk result (λ sets. AreSlots rules.now tag feature bounds.now sets.items) }
+{
+    let mut sets = Vec::new(alloc);
+    for slot in 0..bounds.len() + 1 {
+        let first = first_of(bounds, slot);
+        let last = last_of(bounds, slot);
+        sets.push(passing(
+            rules,
+            tag,
+            Question::Within {
+                feature,
+                first,
+                last,
+            },
+        ))?;
+    }
+    Ok(sets)
+}
+
+impl Table {
+    /// The table of a feature with these bounds for the rules of a tag.
+    ///
+    /// # Errors
+    /// `NoMemory` if there was none for the table.
+    pub fn new(
+        alloc: Global,
+        rules: &[Rule],
+        tag: CallTag,
+        feature: Feature,
+        bounds: Vec<u64>,
+    ) -> Result<Table, NoMemory>
+        requires few { length rules.now ≤ most_rules }
+        requires short { length bounds.items ≤ 514 }
+        ensures { IfOk result (λ table. IsTable rules.now tag table) }
+    {
+        let sets = sets_of(alloc, rules, tag, feature, &bounds)?;
+        Ok(Table {
+            feature,
+            bounds,
+            sets,
+        })
+    }
+
+    #[tactic(auto, using(crate::proofs::TableLemmas::narrowed))]
+    /// Takes rules out of a set that do not hold of these arguments, by their feature.
+    pub fn narrow(&self, args: &[Arg], set: &mut RuleSet)
+        ensures { (rules : List Rule) (tag : CallTag) → IsTable rules tag self.now → HasAllThatHold rules tag args.now set.old → HasAllThatHold rules tag args.now set.new }
+    {
+        rules_that_hold_pass();
+        let slot = slot_of(&self.bounds, value_of(self.feature, args));
+        if let Some(slot) = self.sets.get(slot) {
+            set.intersect(slot);
+        }
+    }
+}

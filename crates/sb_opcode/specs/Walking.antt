@@ -1,0 +1,105 @@
+-- Where a walk over opcodes stands, and what each opcode makes of it. Nothing of the meaning of codes stands on this:
+-- that the walk gives that meaning is proved.
+use Rattle.std.specs.Prelude.{Bool, true, false, not, ◌&&◌, List, [], ◌∷◌, Option, None, Some, if◌then◌else◌}
+use Rattle.sb_call.specs.Arguments.{arg_at}
+use Rattle.sb_call.specs.declared.arguments.Arg.{Arg}
+use Rattle.sb_call.specs.declared.arguments.Arg.TheVariants as arg
+use Rattle.sb_opcode.specs.Groups.{is_act, is_last}
+use Rattle.sb_opcode.specs.Options.{has, NEGATE, OR}
+use Rattle.sb_opcode.specs.Opcodes.{Opcode}
+use Rattle.sb_opcode.specs.Meaning.{after_opcode, turned, action_of_rule}
+use Rattle.sb_rule.specs.declared.verdicts.Verdict.{Verdict}
+use Rattle.sb_rule.specs.declared.verdicts.Verdict.TheVariants.{NoRule}
+use Rattle.sb_opcode.specs.declared.effects.Place.{Place}
+use Rattle.sb_opcode.specs.declared.effects.Place.TheVariants as place
+use Rattle.sb_opcode.specs.declared.states.State.{State}
+use Rattle.sb_opcode.specs.declared.states.State.TheVariants as state
+
+-- what an argument is from a place on: a number, or what is left of a string
+abbrev pub arg_from : Place → Arg
+arg_from (place.Number n) = arg.Num n
+arg_from (place.Units us) = arg.Str us.now
+
+-- between groups that all hold; within a group all of whose opcodes are to hold, with what is left of the argument; within
+-- one of which none holds so far; within one that is decided; within a rule that does not hold
+pub data Standing : Type 0 where
+  Between : Standing
+  All : Arg → Standing
+  One : Arg → Standing
+  Decided : Bool → Standing
+  Failed : Standing
+
+abbrev pub standing_of : State → Standing
+standing_of state.Between = Between
+standing_of (state.All left) = All (arg_from left)
+standing_of (state.One whole) = One (arg_from whole)
+standing_of (state.Decided holds) = Decided holds
+standing_of state.Failed = Failed
+
+-- before the first opcode of a group
+abbrev pub begun : List Arg → Opcode → Standing
+begun args op = if has op.options OR then One (arg_at args op.param) else All (arg_at args op.param)
+
+-- before an opcode, within its group
+abbrev pub entered : List Arg → Standing → Opcode → Standing
+entered args Between op = begun args op
+entered args (All left) op = All left
+entered args (One whole) op = One whole
+entered args (Decided holds) op = Decided holds
+entered args Failed op = Failed
+
+-- within a group of which all are to hold, by what is left after an opcode
+abbrev pub all_so_far : Option Arg → Standing
+all_so_far None = Decided false
+all_so_far (Some left) = All left
+
+-- within a group of which one is to hold, by what is left after an opcode
+abbrev pub one_so_far : Arg → Option Arg → Standing
+one_so_far whole None = One whole
+one_so_far whole (Some left) = Decided true
+
+-- after an opcode, within its group
+abbrev pub looked_at : Standing → Opcode → Standing
+looked_at Between op = Between
+looked_at (All left) op = all_so_far (after_opcode op left)
+looked_at (One whole) op = one_so_far whole (after_opcode op whole)
+looked_at (Decided holds) op = Decided holds
+looked_at Failed op = Failed
+
+-- after a group that holds, or does not
+abbrev pub passed : Bool → Standing
+passed holds = if holds then Between else Failed
+
+-- after the last opcode of a group
+abbrev pub closed : Bool → Standing → Standing
+closed negated Between = passed (turned negated true)
+closed negated (All left) = passed (turned negated true)
+closed negated (One whole) = passed (turned negated false)
+closed negated (Decided holds) = passed (turned negated holds)
+closed negated Failed = Failed
+
+-- after an opcode that is no action
+abbrev pub step : List Arg → Standing → Opcode → Standing
+step args s op =
+    if is_last op then closed (has op.options NEGATE) (looked_at (entered args s op) op) else looked_at (entered args s op) op
+
+-- after an opcode; an action ends its rule
+abbrev pub moved : List Arg → Standing → Opcode → Standing
+moved args s op = if is_act op then Between else step args s op
+
+abbrev pub is_failed : Standing → Bool
+is_failed Between = false
+is_failed (All left) = false
+is_failed (One whole) = false
+is_failed (Decided holds) = false
+is_failed Failed = true
+
+-- the first action whose rule does not fail
+abbrev pub walk : List Arg → Standing → List Opcode → Verdict
+walk args s [] = NoRule
+walk args s (op ∷ ops) = if is_act op && not (is_failed s) then action_of_rule (op ∷ []) else walk args (moved args s op) ops
+
+-- what the first rule gives where it does not fail, and nothing of the rules after it
+abbrev pub rule_walk : List Arg → Standing → List Opcode → Verdict
+rule_walk args s [] = NoRule
+rule_walk args s (op ∷ ops) = if is_act op then (if is_failed s then NoRule else action_of_rule (op ∷ [])) else rule_walk args (step args s op) ops
