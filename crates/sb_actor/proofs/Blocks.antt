@@ -1,5 +1,5 @@
 -- The block of a call is a whole block of its thread.
-use Rattle.std.proofs.Common.{◌≡◌, refl, sym, subst, ℕ, suc, ◌+◌, ◌/◌, ◌^◌, ◌<◌, ◌≤◌, Bool, true, false, cond, eqb, ltb, leb, ◌&&◌, List, [], ◌∷◌, length, get_or, Option, None, Some, Ok, arith}
+use Rattle.std.proofs.Common.{◌≡◌, refl, sym, ℕ, ◌+◌, ◌/◌, ◌<◌, ◌≤◌, Bool, true, false, cond, eqb, ltb, leb, ◌&&◌, List, length, get_or, Option, None, Some, Ok, arith}
 use Rattle.std.proofs.lemmas.Bool.Decides.{nat_tests}
 use Rattle.std.specs.List.{list_all}
 use Rattle.sb_block.specs.Blocks.{block, encodes, has_units}
@@ -12,14 +12,7 @@ use Rattle.sb_block.specs.declared.faults.BlockFault.{BlockFault}
 use Rattle.sb_call.specs.declared.arguments.Arg.{Arg}
 use Rattle.sb_call.specs.declared.tags.CallTag.{CallTag}
 use Rattle.sb_actor.specs.Moves.{IsBlock}
-use Rattle.sb_actor.specs.Laws.{BlocksAreWhole}
-use Rattle.sb_actor.specs.Places.{mark_at, block_of, is_call, statement_at}
-use Rattle.sb_actor.specs.UnderWay.{IsWholeAt}
-use Rattle.sb_statements.specs.Limits.{most_statements}
-use Rattle.sb_statements.specs.declared.scripts.Script.{Script}
-use Rattle.sb_statements.specs.declared.statements.Statement.{Statement}
-use Rattle.sb_statements.specs.declared.statements.Statement.TheVariants.{Call}
-use Rattle.sb_wide.specs.Wide.{is_unit}
+use Rattle.sb_actor.specs.Places.{mark_at}
 
 -- a copy that decodes has no fault
 no_fault : (found : Option BlockFault) (call other : Called) → call_unless found call ≡ Ok other → found ≡ None
@@ -53,15 +46,3 @@ blocks_are_whole fetched back tag args k place enc units l =
     let numbers = fetched (whole b) sound in
     let long = is_long (get_or b 2 0) (length b) (omega arith) (ltb 9 (get_or b 2 0)) (leb (16 + get_or b 2 0) (length b) && leb (length b) 64) (eqb (length b) 0) refl refl refl law.0 in
     record { few = long.few; low = long.low; high = long.high; end = sym numbers.1; mark = mark_bears k place l }
-
--- where each unit has 16 bits, all do
-pub units_pass : (us : List ℕ) → ((k : ℕ) → get_or us k 0 < 2 ^ 16) → list_all is_unit us ≡ true
-units_pass [] h = refl
-units_pass (u ∷ us) h =
-    let here : is_unit u ≡ true = grind (arith, nat_tests, h 0) in
-    rw (here, units_pass us (λ k. h (suc k)))
-
--- a call that a place has is a whole block
-pub whole_at : BlocksAreWhole → (script : Script) (t k p : ℕ) (tag : CallTag) (args : List Arg) → ◌≡◌ {A = Option Statement} (Some (Call tag args)) (statement_at script t k p) → encodes tag args ≡ true
-    → p < most_statements → list_all has_units args ≡ true → IsWholeAt script t k p
-whole_at law script t k p tag args e h l units = subst (λ (o : Option Statement). is_call o ≡ true → IsBlock k (block_of (mark_at k p) o)) e (λ _. law tag args k p h units (omega arith))

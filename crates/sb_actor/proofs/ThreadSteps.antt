@@ -6,22 +6,12 @@ use Rattle.std.proofs.lemmas.Grind.{common_steps}
 use mathlib.Core.Option.{Option, none, some, some-injective, some-ne-none}
 use native.Mathlib.Decide.{ℕ_discrete}
 use lib.ListN.{get_elem?}
-use Rattle.sb_actor.specs.declared.views.Served.{Served}
-use Rattle.sb_actor.specs.declared.views.Had.{Had}
-use Rattle.sb_actor.specs.declared.views.Notes.{Notes}
-use Rattle.sb_actor.specs.declared.views.ThreadPlace.{ThreadPlace}
-use Rattle.sb_actor.specs.declared.views.ThreadPlace.TheVariants.{Try, Fill, Wait, Fetch}
-use Rattle.sb_actor.specs.declared.views.ThreadView.{ThreadView}
-use Rattle.sb_actor.specs.declared.views.WorkerPlace.{WorkerPlace}
-use Rattle.sb_actor.specs.declared.views.WorkerPlace.TheVariants.{Look}
-use Rattle.sb_actor.specs.declared.views.WorkerView.{WorkerView}
-use Rattle.sb_actor.specs.declared.views.View.{View}
-use Rattle.sb_actor.specs.declared.views.View.TheVariants.{Worker, Thread, Stray, Spent}
-use Rattle.sb_actor.specs.Moves.{at, is_clean, no_call, IsBlock, Deed, met, wrote, notes_after, thread_result, ThreadMay, take_it, fill, send, wait, fetch, free, abandon}
-use Rattle.sb_actor.specs.Rule.{Mid, idle, filling, ready, acked, owner, seated, Row, row, sees, Chan, Reads, as_served, place, served_at, waiting, Agrees, Last, FitsThread, FitsSeat, RuleAt}
-use Rattle.sb_actor.proofs.Lists.{at_set, take_snoc}
+use Rattle.sb_actor.specs.Views.{Served, Had, ThreadPlace, Try, Fill, Wait, Fetch, ThreadView, WorkerPlace, Look, WorkerView}
+use Rattle.sb_actor.specs.Moves.{at, is_clean, no_call, IsBlock, Deed, met, wrote, thread_result, ThreadMay, take_it, fill, send, wait, fetch, free, abandon}
+use Rattle.sb_actor.specs.Rule.{Mid, idle, filling, ready, acked, owner, Row, row, sees, Chan, Reads, as_served, place, served_at, waiting, Agrees, Last, FitsThread, FitsWorker, Rule}
+use Rattle.sb_actor.proofs.Lists.{at_below, at_set, take_snoc}
 use Rattle.sb_actor.proofs.Rows.{put, put_else, upd, upd_here, upd_else, row_else, row_here, row_at, stands_more, stands_else}
-use Rattle.sb_actor.proofs.Parts.{off, FreeFor, thread_else, record_else, seated_apart, seated_below}
+use Rattle.sb_actor.proofs.Parts.{off, FreeFor, thread_else}
 
 -- the state of a clean channel tells who is at it
 pub state_one : (m : Mid) (p : WorkerPlace) (f : Row) (x : ℕ) → Chan m p f → f 0 ≡ x → x ≡ 1 → (m ≡ idle) × (p ≡ Look)
@@ -45,43 +35,37 @@ was_false n x e = grind (arith, nat_tests)
 abbrev call : ℕ → List ℕ → List ℕ → Had
 call c b r = record { channel = c; block = b; reply = r }
 
-abbrev pub tv : ℕ → List Bool → ThreadPlace → List Had → Notes → ℕ → ℕ → ThreadView
-tv k clean p h nt st fd = record { number = k; clean = clean; place = p; had = h; notes = nt; steps = st; found = fd }
+abbrev pub tv : ℕ → List Bool → ThreadPlace → List Had → ThreadView
+tv k clean p h = record { number = k; clean = clean; place = p; had = h }
 
-module _ (clean : List Bool) (words : List ℕ) (views : List View) (desk : ℕ) (worker : WorkerView) (r : RuleAt clean words views desk worker) (i w : ℕ) where
+module _ (clean : List Bool) (words : List ℕ) (worker : WorkerView) (threads : List ThreadView) (r : Rule clean words worker threads) (i w : ℕ) where
   word_inside : (c j : ℕ) → c < length clean → w ≡ c * 65 + j → j < 65 → w < length words
   word_inside c j lc e lj = let z = r.sized in omega arith
 
   -- a step on a word of channel c
-  thread_move : (c j : ℕ) (v v' : ThreadView) (d : Deed) (b : Bool) (m : Mid) → get_elem? views i ≡ some (Thread v) → c < length clean → w ≡ c * 65 + j → j < 65
+  thread_move : (c j : ℕ) (v v' : ThreadView) (d : Deed) (b : Bool) (m : Mid) → get_elem? threads i ≡ some v → c < length clean → w ≡ c * 65 + j → j < 65
       → (is_clean clean c ≡ true → FreeFor v.number (r.mids c)) → (is_clean clean c ≡ true → FreeFor v.number m)
       → (is_clean clean c ≡ true → Chan m (sees c worker) (put j (wrote d b (get_or words w 0)) (row words c)))
       → Last worker.served c m
-      → FitsThread clean (upd r.mids c m) r.stage worker.served i v'
-      → RuleAt clean (set words w (wrote d b (get_or words w 0))) (set views i (Thread v')) desk worker
+      → FitsThread clean (upd r.mids c m) worker.served i v'
+      → Rule clean (set words w (wrote d b (get_or words w 0))) worker (set threads i v')
   thread_move c j v v' d b m at_i lc is lj was now chan last fits =
       record {
         mids = upd r.mids c m;
-        stage = r.stage;
-        strays = r.strays;
         sized = length-set words w (wrote d b (get_or words w 0)) ∙ r.sized;
         chans = λ x cl. chan_at x cl (ℕ_discrete x c);
         lasts = λ x cl. last_at x cl (ℕ_discrete x c);
         fits_worker =
             record {
               marks = r.fits_worker.marks;
-              records = λ n y e. record_else clean r.mids r.stage worker.served v.number c m now n y (seated_apart clean r.mids r.stage worker.served v.number i n y mine.seat (r.fits_worker.records n y e)) (r.fits_worker.records n y e);
-              stray_records = r.fits_worker.stray_records;
-              unborn_from = r.fits_worker.unborn_from;
-              strays_from = r.fits_worker.strays_from;
-              owners = λ x q cl o. owner_at x q cl o (ℕ_discrete x c);
-              bearers = r.fits_worker.bearers;
-              borne = r.fits_worker.borne;
+              owners = λ x q cl o. let l = owner_at x q cl o (ℕ_discrete x c) in subst (λ z. q < z) (sym (length-set threads i v')) l;
+              bearers = λ q l. r.fits_worker.bearers q (subst (λ z. z ≤ q) (length-set threads i v') l);
+              borne = λ z x e cl. let b = r.fits_worker.borne z x e cl in (b.0, subst (λ y. b.0 < y) (sym (length-set threads i v')) b.1, b.2);
               replied = r.fits_worker.replied;
               replies = r.fits_worker.replies;
             };
-        seats = λ x y e. ⊎_elim (λ (t : (x ≡ i) × (Thread v' ≡ y)). subst (λ (z : ℕ × View). FitsSeat clean (upd r.mids c m) r.stage r.strays desk worker z.0 z.1) (λ q. (sym t.0 q, t.1 q)) fits)
-            (λ (t : (x ≢ i) × (get_elem? views x ≡ some y)). other x t.0 y (r.seats x y t.1)) (at_set views i x (Thread v') y e);
+        fits = λ x y e. ⊎_elim (λ (t : (x ≡ i) × (v' ≡ y)). subst (λ (z : ℕ × ThreadView). FitsThread clean (upd r.mids c m) worker.served z.0 z.1) (λ q. (sym t.0 q, t.1 q)) fits)
+            (λ (t : (x ≢ i) × (get_elem? threads x ≡ some y)). other x t.0 y (r.fits x y t.1)) (at_set threads i x v' y e);
       }
     where
       x' : ℕ
@@ -90,8 +74,8 @@ module _ (clean : List Bool) (words : List ℕ) (views : List View) (desk : ℕ)
       inside : w < length words
       inside = word_inside c j lc is lj
 
-      mine : FitsThread clean r.mids r.stage worker.served i v
-      mine = r.seats i (Thread v) at_i
+      mine : FitsThread clean r.mids worker.served i v
+      mine = r.fits i v at_i
 
       chan_at : (x : ℕ) → is_clean clean x ≡ true → Dec (x ≡ c) → Chan (upd r.mids c m x) (sees x worker) (row (set words w (wrote d b (get_or words w 0))) x)
       chan_at x cl (yes e) =
@@ -104,56 +88,48 @@ module _ (clean : List Bool) (words : List ℕ) (views : List View) (desk : ℕ)
       last_at x cl (yes e) = subst (λ y. Last worker.served y (upd r.mids c m y)) (sym e) (subst (Last worker.served c) (sym (upd_here r.mids c m c refl)) last)
       last_at x cl (no ne) = subst (Last worker.served x) (sym (upd_else r.mids c m x ne)) (r.lasts x cl)
 
-      owner_at : (x q : ℕ) → is_clean clean x ≡ true → owner (upd r.mids c m x) ≡ some q → Dec (x ≡ c) → q < worker.threads
+      owner_at : (x q : ℕ) → is_clean clean x ≡ true → owner (upd r.mids c m x) ≡ some q → Dec (x ≡ c) → q < length threads
       owner_at x q cl o (yes e) = by_free (now (subst (λ y. is_clean clean y ≡ true) e cl)) (sym (ap owner (upd_here r.mids c m x e)) ∙ o)
         where
-          by_free : FreeFor v.number m → owner m ≡ some q → q < worker.threads
+          by_free : FreeFor v.number m → owner m ≡ some q → q < length threads
           by_free (inl f) g = absurd (some-ne-none q (sym g ∙ f))
-          by_free (inr f) g = subst (λ y. y < worker.threads) (some-injective v.number q (sym f ∙ g)) (seated_below clean r.mids r.stage r.strays worker v.number i r.fits_worker mine.seat)
+          by_free (inr f) g = subst (λ y. y < length threads) (some-injective v.number q (sym f ∙ g)) (subst (λ y. y < length threads) (sym mine.number) (at_below threads i v at_i))
       owner_at x q cl o (no ne) = r.fits_worker.owners x q cl (sym (ap owner (upd_else r.mids c m x ne)) ∙ o)
 
-      other : (x : ℕ) → x ≢ i → (y : View) → FitsSeat clean r.mids r.stage r.strays desk worker x y → FitsSeat clean (upd r.mids c m) r.stage r.strays desk worker x y
-      other x ne (Worker u) f = f
-      other x ne (Thread u) f = thread_else clean r.mids r.stage worker.served v.number c m was now x u apart f
-        where
-          apart : u.number ≢ v.number
-          apart e = let here : r.stage v.number ≡ seated x = subst (λ y. r.stage y ≡ seated x) e f.seat in let also : r.stage v.number ≡ seated i = mine.seat in ne (cc (here, also))
-      other x ne (Stray u) f = f
-      other x ne Spent f = tt
+      other : (x : ℕ) → x ≢ i → (u : ThreadView) → FitsThread clean r.mids worker.served x u → FitsThread clean (upd r.mids c m) worker.served x u
+      other x ne u f = thread_else clean r.mids worker.served v.number c m was now x u (λ e. ne (sym f.number ∙ e ∙ mine.number)) f
 
   -- a step that leaves its word as it was
-  thread_look : (v v' : ThreadView) (d : Deed) (b : Bool) → get_elem? views i ≡ some (Thread v) → w < length words → wrote d b (get_or words w 0) ≡ get_or words w 0
-      → FitsThread clean r.mids r.stage worker.served i v'
-      → RuleAt clean (set words w (wrote d b (get_or words w 0))) (set views i (Thread v')) desk worker
+  thread_look : (v v' : ThreadView) (d : Deed) (b : Bool) → get_elem? threads i ≡ some v → w < length words → wrote d b (get_or words w 0) ≡ get_or words w 0
+      → FitsThread clean r.mids worker.served i v'
+      → Rule clean (set words w (wrote d b (get_or words w 0))) worker (set threads i v')
   thread_look v v' d b at_i inside stays fits =
       record {
         mids = r.mids;
-        stage = r.stage;
-        strays = r.strays;
         sized = length-set words w (wrote d b (get_or words w 0)) ∙ r.sized;
         chans = subst (λ ws. (c : ℕ) → is_clean clean c ≡ true → Chan (r.mids c) (sees c worker) (row ws c)) (sym same) r.chans;
         lasts = r.lasts;
-        fits_worker = r.fits_worker;
-        seats = λ x y e. ⊎_elim (λ (t : (x ≡ i) × (Thread v' ≡ y)). subst (λ (z : ℕ × View). FitsSeat clean r.mids r.stage r.strays desk worker z.0 z.1) (λ q. (sym t.0 q, t.1 q)) fits)
-            (λ (t : (x ≢ i) × (get_elem? views x ≡ some y)). r.seats x y t.1) (at_set views i x (Thread v') y e);
+        fits_worker = subst (λ n. FitsWorker clean r.mids n worker) (sym (length-set threads i v')) r.fits_worker;
+        fits = λ x y e. ⊎_elim (λ (t : (x ≡ i) × (v' ≡ y)). subst (λ (z : ℕ × ThreadView). FitsThread clean r.mids worker.served z.0 z.1) (λ q. (sym t.0 q, t.1 q)) fits)
+            (λ (t : (x ≢ i) × (get_elem? threads x ≡ some y)). r.fits x y t.1) (at_set threads i x v' y e);
       }
     where
       same : set words w (wrote d b (get_or words w 0)) ≡ words
       same = ap (set words w) stays ∙ set-get_or words w 0
 
-  module _ (k : ℕ) (h : List Had) (nt : Notes) (st fd : ℕ) where
+  module _ (k : ℕ) (h : List Had) where
     -- the rule after a step from phase p
     abbrev After : ThreadPlace → Deed → Bool → Type 0
-    After p d b = RuleAt clean (set words w (wrote d b (get_or words w 0))) (set views i (Thread (thread_result (tv k clean p h nt st fd) w d b (get_or words w 0)))) desk worker
+    After p d b = Rule clean (set words w (wrote d b (get_or words w 0))) worker (set threads i (thread_result (tv k clean p h) d b (get_or words w 0)))
 
     abbrev Old : ThreadPlace → Type 0
-    Old p = FitsThread clean r.mids r.stage worker.served i (tv k clean p h nt st fd)
+    Old p = FitsThread clean r.mids worker.served i (tv k clean p h)
 
-    no_call_fits : (p : ThreadPlace) (nt' : Notes) (st' fd' : ℕ) → Old p → ((c : ℕ) → place p ≡ some c → is_clean clean c ≡ false) → FitsThread clean r.mids r.stage worker.served i (tv k clean no_call (h ++ []) nt' st' fd')
-    no_call_fits p nt' st' fd' o unclean =
+    no_call_fits : (p : ThreadPlace) → Old p → ((c : ℕ) → place p ≡ some c → is_clean clean c ≡ false) → FitsThread clean r.mids worker.served i (tv k clean no_call (h ++ []))
+    no_call_fits p o unclean =
         record {
           marks = o.marks;
-          seat = o.seat;
+          number = o.number;
           agrees = λ c e cl. absurd (some-ne-none c (sym e));
           only = λ c cl own. absurd (off (sym (unclean c (o.only c cl own)) ∙ cl));
           calls = o.calls ∙ ap (map as_served) (ap (λ l. h ++ l) (nothing (place p) unclean) ∙ sym (append-nil (h ++ [])));
@@ -165,18 +141,18 @@ module _ (clean : List Bool) (words : List ℕ) (views : List View) (desk : ℕ)
         nothing none u = refl
         nothing (some c) u = rw (u c refl)
 
-    take_step : (c : ℕ) (f : Bool) → get_elem? views i ≡ some (Thread (tv k clean (Try c f) h nt st fd)) → c < length clean → w ≡ at c 0 → (b : Bool) → met take_it (get_or words w 0) ≡ b → After (Try c f) take_it b
+    take_step : (c : ℕ) (f : Bool) → get_elem? threads i ≡ some (tv k clean (Try c f) h) → c < length clean → w ≡ at c 0 → (b : Bool) → met take_it (get_or words w 0) ≡ b → After (Try c f) take_it b
     take_step c f at_i lc is true e =
-        let o : Old (Try c f) = r.seats i (Thread (tv k clean (Try c f) h nt st fd)) at_i in
+        let o : Old (Try c f) = r.fits i (tv k clean (Try c f) h) at_i in
         let one : get_or words w 0 ≡ 1 = was_true (get_or words w 0) 1 e in
         let was = λ (cl : is_clean clean c ≡ true). state_one (r.mids c) (sees c worker) (row words c) (get_or words w 0) (r.chans c cl) (row_at words w c 0 is (omega arith)) one in
-        thread_move c 0 (tv k clean (Try c f) h nt st fd) (thread_result (tv k clean (Try c f) h nt st fd) w take_it true (get_or words w 0)) take_it true (filling k []) at_i lc is (omega arith)
+        thread_move c 0 (tv k clean (Try c f) h) (thread_result (tv k clean (Try c f) h) take_it true (get_or words w 0)) take_it true (filling k []) at_i lc is (omega arith)
         (λ cl. inl (ap owner (was cl).0)) (λ cl. inr refl)
         (λ cl. (refl, (was cl).1, omega arith, λ q l. absurd (omega arith)))
         tt
         record {
           marks = o.marks;
-          seat = o.seat;
+          number = o.number;
           agrees = λ x q cl. upd_here r.mids c (filling k []) x (sym (some-injective c x q));
           only = λ x cl own. at_it o x cl own (ℕ_discrete x c);
           calls = o.calls ∙ ap (map as_served) (ap (λ l. h ++ l) (sym (nobody (is_clean clean c))) ∙ ap (λ l. l ++ cond (is_clean clean c) (served_at c (upd r.mids c (filling k []) c)) []) (sym (append-nil h)));
@@ -192,9 +168,9 @@ module _ (clean : List Bool) (words : List ℕ) (views : List View) (desk : ℕ)
         nobody true = ap (served_at c) (upd_here r.mids c (filling k []) c refl)
         nobody false = refl
     take_step c f at_i lc is false e =
-        let o : Old (Try c f) = r.seats i (Thread (tv k clean (Try c f) h nt st fd)) at_i in
-        let stays : FitsThread clean r.mids r.stage worker.served i (thread_result (tv k clean (Try c f) h nt st fd) w take_it false (get_or words w 0)) = by_last (notes_after nt w take_it false (get_or words w 0)) (st + 1) (get_or words w 0) o (ltb (c + 1) (length clean)) in
-        thread_look (tv k clean (Try c f) h nt st fd) (thread_result (tv k clean (Try c f) h nt st fd) w take_it false (get_or words w 0)) take_it false at_i (word_inside c 0 lc is (omega arith)) refl stays
+        let o : Old (Try c f) = r.fits i (tv k clean (Try c f) h) at_i in
+        let stays : FitsThread clean r.mids worker.served i (thread_result (tv k clean (Try c f) h) take_it false (get_or words w 0)) = by_last o (ltb (c + 1) (length clean)) in
+        thread_look (tv k clean (Try c f) h) (thread_result (tv k clean (Try c f) h) take_it false (get_or words w 0)) take_it false at_i (word_inside c 0 lc is (omega arith)) refl stays
       where
         five : Old (Try c f) → (f && eqb (get_or words w 0) 5) ≡ true → (d : ℕ) → d < c + 1 → is_clean clean d ≡ false
         five o both d l = by_place (ℕ_discrete d c)
@@ -213,18 +189,18 @@ module _ (clean : List Bool) (words : List ℕ) (views : List View) (desk : ℕ)
                 by_clean true cl = absurd (state_not_five (r.mids c) (sees c worker) (row words c) (get_or words w 0) (r.chans c cl) (row_at words w c 0 is (omega arith)) found)
                 by_clean false cl = cl
 
-        by_last : (nt' : Notes) (st' fd' : ℕ) → Old (Try c f) → (b : Bool) → FitsThread clean r.mids r.stage worker.served i (tv k clean (cond b (Try (c + 1) (f && eqb (get_or words w 0) 5)) no_call) (h ++ []) nt' st' fd')
-        by_last nt' st' fd' o true =
+        by_last : Old (Try c f) → (b : Bool) → FitsThread clean r.mids worker.served i (tv k clean (cond b (Try (c + 1) (f && eqb (get_or words w 0) 5)) no_call) (h ++ []))
+        by_last o true =
             record {
               marks = o.marks;
-              seat = o.seat;
+              number = o.number;
               agrees = λ x q cl. absurd (some-ne-none x (sym q));
               only = λ x cl own. absurd (some-ne-none x (sym (o.only x cl own)));
               calls = o.calls ∙ ap (map as_served) (sym (append-nil (h ++ [])));
               fives = λ both d l. five o both d l;
               bears = tt;
             }
-        by_last nt' st' fd' o false = no_call_fits (Try c f) nt' st' fd' o (λ x q. absurd (some-ne-none x (sym q)))
+        by_last o false = no_call_fits (Try c f) o (λ x q. absurd (some-ne-none x (sym q)))
 
     same_calls : (xs : List Served) (a b : List Had) → xs ≡ map as_served (h ++ a) → a ≡ b → xs ≡ map as_served ((h ++ []) ++ b)
     same_calls xs a b e q = e ∙ ap (map as_served) (ap (λ l. h ++ l) q ∙ ap (λ l. l ++ b) (sym (append-nil h)))
@@ -243,21 +219,21 @@ module _ (clean : List Bool) (words : List ℕ) (views : List View) (desk : ℕ)
         by_place (yes q) = ap some (sym q)
         by_place (no ne) = sym at_c ∙ o.only x cl (sym (ap owner (upd_else r.mids c m x ne)) ∙ own)
 
-    fill_step : (x c : ℕ) (ws : List ℕ) → get_elem? views i ≡ some (Thread (tv k clean (Fill c ws) h nt st fd)) → c < length clean → w ≡ at c (1 + length ws) → length ws < 64 → After (Fill c ws) (fill x) true
+    fill_step : (x c : ℕ) (ws : List ℕ) → get_elem? threads i ≡ some (tv k clean (Fill c ws) h) → c < length clean → w ≡ at c (1 + length ws) → length ws < 64 → After (Fill c ws) (fill x) true
     fill_step x c ws at_i lc is l6 =
-        let o : Old (Fill c ws) = r.seats i (Thread (tv k clean (Fill c ws) h nt st fd)) at_i in
+        let o : Old (Fill c ws) = r.fits i (tv k clean (Fill c ws) h) at_i in
         let m : Mid = filling k (ws ++ x ∷ []) in
         let more : length (ws ++ x ∷ []) ≤ 64 = grind (arith, common_steps) in
         let lj : 1 + length ws < 65 = omega arith in
         let ne : 0 ≢ 1 + length ws = omega arith in
         let old_chan = λ (cl : is_clean clean c ≡ true). subst (λ (y : Mid). Chan y (sees c worker) (row words c)) (o.agrees c refl cl) (r.chans c cl) in
-        thread_move c (1 + length ws) (tv k clean (Fill c ws) h nt st fd) (thread_result (tv k clean (Fill c ws) h nt st fd) w (fill x) true (get_or words w 0)) (fill x) true m at_i lc is lj
+        thread_move c (1 + length ws) (tv k clean (Fill c ws) h) (thread_result (tv k clean (Fill c ws) h) (fill x) true (get_or words w 0)) (fill x) true m at_i lc is lj
         (λ cl. inr (ap owner (o.agrees c refl cl))) (λ cl. inr refl)
         (λ cl. let ch = old_chan cl in (put_else (1 + length ws) x (row words c) 0 ne ∙ ch.0, ch.1, more, stands_more ws x 1 (row words c) ch.3))
         tt
         record {
           marks = o.marks;
-          seat = o.seat;
+          number = o.number;
           agrees = λ y q cl. upd_here r.mids c m y (sym (some-injective c y q));
           only = keeps_place c (Fill c ws) m refl o;
           calls = same_calls _ _ _ o.calls (wait_nil r.mids c (λ cl. ap (served_at c) (o.agrees c refl cl)) ∙ sym (wait_nil (upd r.mids c m) c (λ cl. ap (served_at c) (upd_here r.mids c m c refl))));
@@ -265,18 +241,18 @@ module _ (clean : List Bool) (words : List ℕ) (views : List View) (desk : ℕ)
           bears = tt;
         }
 
-    send_step : (c : ℕ) (ws : List ℕ) → get_elem? views i ≡ some (Thread (tv k clean (Fill c ws) h nt st fd)) → c < length clean → w ≡ at c 0 → IsBlock k ws → (b : Bool) → met send (get_or words w 0) ≡ b → After (Fill c ws) send b
+    send_step : (c : ℕ) (ws : List ℕ) → get_elem? threads i ≡ some (tv k clean (Fill c ws) h) → c < length clean → w ≡ at c 0 → IsBlock k ws → (b : Bool) → met send (get_or words w 0) ≡ b → After (Fill c ws) send b
     send_step c ws at_i lc is block true e =
-        let o : Old (Fill c ws) = r.seats i (Thread (tv k clean (Fill c ws) h nt st fd)) at_i in
+        let o : Old (Fill c ws) = r.fits i (tv k clean (Fill c ws) h) at_i in
         let m : Mid = ready k ws in
         let old_chan = λ (cl : is_clean clean c ≡ true). subst (λ (y : Mid). Chan y (sees c worker) (row words c)) (o.agrees c refl cl) (r.chans c cl) in
-        thread_move c 0 (tv k clean (Fill c ws) h nt st fd) (thread_result (tv k clean (Fill c ws) h nt st fd) w send true (get_or words w 0)) send true m at_i lc is (omega arith)
+        thread_move c 0 (tv k clean (Fill c ws) h) (thread_result (tv k clean (Fill c ws) h) send true (get_or words w 0)) send true m at_i lc is (omega arith)
         (λ cl. inr (ap owner (o.agrees c refl cl))) (λ cl. inr refl)
         (λ cl. let ch = old_chan cl in (refl, block, subst (Reads ws (put 0 3 (row words c))) (sym ch.1) (stands_else ws (length ws) 1 (row words c) 0 3 (omega arith) ch.3)))
         tt
         record {
           marks = o.marks;
-          seat = o.seat;
+          number = o.number;
           agrees = λ y q cl. inl (upd_here r.mids c m y (sym (some-injective c y q)));
           only = keeps_place c (Fill c ws) m refl o;
           calls = same_calls _ _ _ o.calls (wait_nil r.mids c (λ cl. ap (served_at c) (o.agrees c refl cl)) ∙ sym (wait_nil (upd r.mids c m) c (λ cl. ap (served_at c) (upd_here r.mids c m c refl))));
@@ -284,9 +260,9 @@ module _ (clean : List Bool) (words : List ℕ) (views : List View) (desk : ℕ)
           bears = block;
         }
     send_step c ws at_i lc is block false e =
-        let o : Old (Fill c ws) = r.seats i (Thread (tv k clean (Fill c ws) h nt st fd)) at_i in
-        thread_look (tv k clean (Fill c ws) h nt st fd) (thread_result (tv k clean (Fill c ws) h nt st fd) w send false (get_or words w 0)) send false at_i (word_inside c 0 lc is (omega arith)) refl
-        (no_call_fits (Fill c ws) (notes_after nt w send false (get_or words w 0)) (st + 1) (get_or words w 0) o (λ x q. subst (λ y. is_clean clean y ≡ false) (some-injective c x q) (by_clean o (is_clean clean c) refl)))
+        let o : Old (Fill c ws) = r.fits i (tv k clean (Fill c ws) h) at_i in
+        thread_look (tv k clean (Fill c ws) h) (thread_result (tv k clean (Fill c ws) h) send false (get_or words w 0)) send false at_i (word_inside c 0 lc is (omega arith)) refl
+        (no_call_fits (Fill c ws) o (λ x q. subst (λ y. is_clean clean y ≡ false) (some-injective c x q) (by_clean o (is_clean clean c) refl)))
       where
         by_clean : Old (Fill c ws) → (b : Bool) → is_clean clean c ≡ b → is_clean clean c ≡ false
         by_clean o true cl =
@@ -295,14 +271,14 @@ module _ (clean : List Bool) (words : List ℕ) (views : List View) (desk : ℕ)
             absurd (was_false (get_or words w 0) 2 e two)
         by_clean o false cl = cl
 
-    wait_step : (c : ℕ) (b : List ℕ) → get_elem? views i ≡ some (Thread (tv k clean (Wait c b) h nt st fd)) → c < length clean → w ≡ at c 0 → (hit : Bool) → met wait (get_or words w 0) ≡ hit → After (Wait c b) wait hit
+    wait_step : (c : ℕ) (b : List ℕ) → get_elem? threads i ≡ some (tv k clean (Wait c b) h) → c < length clean → w ≡ at c 0 → (hit : Bool) → met wait (get_or words w 0) ≡ hit → After (Wait c b) wait hit
     wait_step c b at_i lc is true e =
-        let o : Old (Wait c b) = r.seats i (Thread (tv k clean (Wait c b) h nt st fd)) at_i in
+        let o : Old (Wait c b) = r.fits i (tv k clean (Wait c b) h) at_i in
         let four : get_or words w 0 ≡ 4 = was_true (get_or words w 0) 4 e in
-        thread_look (tv k clean (Wait c b) h nt st fd) (thread_result (tv k clean (Wait c b) h nt st fd) w wait true (get_or words w 0)) wait true at_i (word_inside c 0 lc is (omega arith)) refl
+        thread_look (tv k clean (Wait c b) h) (thread_result (tv k clean (Wait c b) h) wait true (get_or words w 0)) wait true at_i (word_inside c 0 lc is (omega arith)) refl
         record {
           marks = o.marks;
-          seat = o.seat;
+          number = o.number;
           agrees = λ y q cl. subst (λ x. Agrees k (Fetch c b []) (r.mids x)) (some-injective c y q) (acked_at four (subst (λ x. is_clean clean x ≡ true) (sym (some-injective c y q)) cl) (o.agrees c refl (subst (λ x. is_clean clean x ≡ true) (sym (some-injective c y q)) cl)));
           only = o.only;
           calls = same_calls _ _ _ o.calls refl;
@@ -317,18 +293,18 @@ module _ (clean : List Bool) (words : List ℕ) (views : List View) (desk : ℕ)
             absurd (omega arith)
         acked_at four cl (inr q) = (q.0, q.1, omega arith, refl)
     wait_step c b at_i lc is false e =
-        let o : Old (Wait c b) = r.seats i (Thread (tv k clean (Wait c b) h nt st fd)) at_i in
-        thread_look (tv k clean (Wait c b) h nt st fd) (thread_result (tv k clean (Wait c b) h nt st fd) w wait false (get_or words w 0)) wait false at_i (word_inside c 0 lc is (omega arith)) refl
-        record { marks = o.marks; seat = o.seat; agrees = o.agrees; only = o.only; calls = same_calls _ _ _ o.calls refl; fives = tt; bears = o.bears }
+        let o : Old (Wait c b) = r.fits i (tv k clean (Wait c b) h) at_i in
+        thread_look (tv k clean (Wait c b) h) (thread_result (tv k clean (Wait c b) h) wait false (get_or words w 0)) wait false at_i (word_inside c 0 lc is (omega arith)) refl
+        record { marks = o.marks; number = o.number; agrees = o.agrees; only = o.only; calls = same_calls _ _ _ o.calls refl; fives = tt; bears = o.bears }
 
-    fetch_step : (c : ℕ) (b ws : List ℕ) → get_elem? views i ≡ some (Thread (tv k clean (Fetch c b ws) h nt st fd)) → c < length clean → w ≡ at c (4 + length ws) → length ws < 12 → After (Fetch c b ws) fetch true
+    fetch_step : (c : ℕ) (b ws : List ℕ) → get_elem? threads i ≡ some (tv k clean (Fetch c b ws) h) → c < length clean → w ≡ at c (4 + length ws) → length ws < 12 → After (Fetch c b ws) fetch true
     fetch_step c b ws at_i lc is l2 =
-        let o : Old (Fetch c b ws) = r.seats i (Thread (tv k clean (Fetch c b ws) h nt st fd)) at_i in
+        let o : Old (Fetch c b ws) = r.fits i (tv k clean (Fetch c b ws) h) at_i in
         let lj : 4 + length ws < 65 = omega arith in
-        thread_look (tv k clean (Fetch c b ws) h nt st fd) (thread_result (tv k clean (Fetch c b ws) h nt st fd) w fetch true (get_or words w 0)) fetch true at_i (word_inside c (4 + length ws) lc is lj) refl
+        thread_look (tv k clean (Fetch c b ws) h) (thread_result (tv k clean (Fetch c b ws) h) fetch true (get_or words w 0)) fetch true at_i (word_inside c (4 + length ws) lc is lj) refl
         record {
           marks = o.marks;
-          seat = o.seat;
+          number = o.number;
           agrees = λ y q cl. subst (λ x. Agrees k (Fetch c b (ws ++ get_or words w 0 ∷ [])) (r.mids x)) (some-injective c y q) (more lj (subst (λ x. is_clean clean x ≡ true) (sym (some-injective c y q)) cl) (o.agrees c refl (subst (λ x. is_clean clean x ≡ true) (sym (some-injective c y q)) cl)));
           only = o.only;
           calls = same_calls _ _ _ o.calls refl;
@@ -345,16 +321,16 @@ module _ (clean : List Bool) (words : List ℕ) (views : List View) (desk : ℕ)
             let both : ws ++ get_or words w 0 ∷ [] ≡ take (length ws + 1) q.0 = ap (λ l. l ++ get_or words w 0 ∷ []) q.3 ∙ take_snoc q.0 (length ws) (get_or words w 0) (omega arith) n in
             (q.0, q.1, omega arith, both ∙ ap (λ z. take z q.0) (sym longer))
 
-    free_step : (c : ℕ) (b ws : List ℕ) → get_elem? views i ≡ some (Thread (tv k clean (Fetch c b ws) h nt st fd)) → c < length clean → w ≡ at c 0 → length ws ≡ 12 → After (Fetch c b ws) free true
+    free_step : (c : ℕ) (b ws : List ℕ) → get_elem? threads i ≡ some (tv k clean (Fetch c b ws) h) → c < length clean → w ≡ at c 0 → length ws ≡ 12 → After (Fetch c b ws) free true
     free_step c b ws at_i lc is l2 =
-        let o : Old (Fetch c b ws) = r.seats i (Thread (tv k clean (Fetch c b ws) h nt st fd)) at_i in
-        thread_move c 0 (tv k clean (Fetch c b ws) h nt st fd) (thread_result (tv k clean (Fetch c b ws) h nt st fd) w free true (get_or words w 0)) free true idle at_i lc is (omega arith)
+        let o : Old (Fetch c b ws) = r.fits i (tv k clean (Fetch c b ws) h) at_i in
+        thread_move c 0 (tv k clean (Fetch c b ws) h) (thread_result (tv k clean (Fetch c b ws) h) free true (get_or words w 0)) free true idle at_i lc is (omega arith)
         (λ cl. inr (ap owner (o.agrees c refl cl).1)) (λ cl. inl refl)
         (λ cl. (refl, (subst (λ (y : Mid). Chan y (sees c worker) (row words c)) (o.agrees c refl cl).1 (r.chans c cl)).2))
         tt
         record {
           marks = o.marks;
-          seat = o.seat;
+          number = o.number;
           agrees = λ x q cl. absurd (some-ne-none x (sym q));
           only = λ x cl own. by_place o x cl own (ℕ_discrete x c);
           calls = o.calls ∙ ap (map as_served) (ap (λ l. h ++ l) (by_clean o (is_clean clean c) refl) ∙ sym (append-nil (h ++ cond (is_clean clean c) (call c b ws ∷ []) [])));
@@ -375,15 +351,15 @@ module _ (clean : List Bool) (words : List ℕ) (views : List View) (desk : ℕ)
             ap (served_at c) q.1 ∙ ap (λ (l : List ℕ). call c b l ∷ []) (sym whole)
         by_clean o false cl = refl
 
-    abandon_step : (c : ℕ) (b : List ℕ) → get_elem? views i ≡ some (Thread (tv k clean (Wait c b) h nt st fd)) → c < length clean → w ≡ at c 0 → is_clean clean c ≡ false → After (Wait c b) abandon true
+    abandon_step : (c : ℕ) (b : List ℕ) → get_elem? threads i ≡ some (tv k clean (Wait c b) h) → c < length clean → w ≡ at c 0 → is_clean clean c ≡ false → After (Wait c b) abandon true
     abandon_step c b at_i lc is unclean =
-        let o : Old (Wait c b) = r.seats i (Thread (tv k clean (Wait c b) h nt st fd)) at_i in
-        thread_move c 0 (tv k clean (Wait c b) h nt st fd) (thread_result (tv k clean (Wait c b) h nt st fd) w abandon true (get_or words w 0)) abandon true idle at_i lc is (omega arith)
+        let o : Old (Wait c b) = r.fits i (tv k clean (Wait c b) h) at_i in
+        thread_move c 0 (tv k clean (Wait c b) h) (thread_result (tv k clean (Wait c b) h) abandon true (get_or words w 0)) abandon true idle at_i lc is (omega arith)
         (λ cl. absurd (off (sym unclean ∙ cl))) (λ cl. inl refl) (λ cl. absurd (off (sym unclean ∙ cl)))
         tt
         record {
           marks = o.marks;
-          seat = o.seat;
+          number = o.number;
           agrees = λ x q cl. absurd (some-ne-none x (sym q));
           only = λ x cl own. by_place o x cl own (ℕ_discrete x c);
           calls = o.calls ∙ ap (map as_served) (ap (λ l. h ++ l) (ap (λ y. cond y (served_at c (r.mids c)) []) unclean) ∙ sym (append-nil (h ++ [])));
@@ -398,7 +374,7 @@ module _ (clean : List Bool) (words : List ℕ) (views : List View) (desk : ℕ)
             absurd (ne (sym same))
 
     -- by phase and deed
-    pub thread_steps : (p : ThreadPlace) (d : Deed) → get_elem? views i ≡ some (Thread (tv k clean p h nt st fd)) → ThreadMay (tv k clean p h nt st fd) p w d → After p d (met d (get_or words w 0))
+    pub thread_steps : (p : ThreadPlace) (d : Deed) → get_elem? threads i ≡ some (tv k clean p h) → ThreadMay (tv k clean p h) p w d → After p d (met d (get_or words w 0))
     thread_steps (Try c f) take_it at_i may = take_step c f at_i may.0 may.1 (met take_it (get_or words w 0)) refl
     thread_steps (Fill c ws) (fill x) at_i may = fill_step x c ws at_i may.0 may.1 may.2
     thread_steps (Fill c ws) send at_i may = send_step c ws at_i may.0 may.1 may.2 (met send (get_or words w 0)) refl

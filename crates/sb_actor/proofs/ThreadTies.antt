@@ -1,4 +1,4 @@
--- The thread's seat goes on as the thread does.
+-- The thread's view goes on as the thread does.
 use Rattle.std.proofs.Common.{◌≡◌, refl, sym, ap, ◌∙◌, subst, ℕ, ◌+◌, ◌<◌, Bool, true, false, cond, eqb, ltb, ◌&&◌, List, [], ◌∷◌, ◌++◌, length, get_or, take, Option, None, Some, arith}
 use Rattle.std.proofs.lemmas.Bool.Decides.{nat_tests}
 use Rattle.sb_block.specs.Replies.{read_reply}
@@ -12,9 +12,7 @@ use Rattle.sb_actor.specs.ThreadStages as stage
 use Rattle.sb_actor.specs.ThreadTable.{ThreadNext, thread_row, goes_on, ends, after_round, after_try, after_fill, after_send, after_wait, after_fetch, reply_by, is_clean_at, has_clean}
 use Rattle.sb_actor.specs.Ties.{thread_place_of, thread_deed, HoldsThread}
 use Rattle.sb_actor.specs.declared.acts.Seen.{Seen}
-use Rattle.sb_actor.specs.declared.views.ThreadPlace.{ThreadPlace}
-use Rattle.sb_actor.specs.declared.views.ThreadPlace.TheVariants.{Try, Fill, Wait, Fetch}
-use Rattle.sb_actor.specs.declared.views.ThreadView.{ThreadView}
+use Rattle.sb_actor.specs.Views.{ThreadPlace, Try, Fill, Wait, Fetch, ThreadView}
 use Rattle.sb_statements.specs.declared.results.CallResult.TheVariants as result
 use Rattle.sb_statements.specs.declared.results.StmtResult.{StmtResult}
 use Rattle.sb_statements.specs.declared.results.StmtResult.TheVariants as ended
@@ -35,12 +33,12 @@ outside block None = refl
 
 module _ (script : Script) (v : ThreadView) (x : ThreadAt) (number : v.number ≡ x.thread) (marks : v.clean ≡ x.clean) (n : ℕ) (seen : Seen) where
   -- the view holds where a thread stands, by its place alone
-  held : (d : Deed) (w : ℕ) (p : ThreadPlace) (s : ThreadStage) → v.place ≡ p → thread_place v.clean p d (met d n) n ≡ thread_place_of x.block s
-      → HoldsThread (thread_view v w d n) (goes_on x s).thread
-  held d w p s e f = record { number = number; clean = marks; place = ap (λ z. thread_place v.clean z d (met d n) n) e ∙ f }
+  held : (d : Deed) (p : ThreadPlace) (s : ThreadStage) → v.place ≡ p → thread_place v.clean p d (met d n) n ≡ thread_place_of x.block s
+      → HoldsThread (thread_view v d n) (goes_on x s).thread
+  held d p s e f = record { number = number; clean = marks; place = ap (λ z. thread_place v.clean z d (met d n) n) e ∙ f }
 
-  over : (d : Deed) (w : ℕ) (p : ThreadPlace) (r : StmtResult) → v.place ≡ p → thread_place v.clean p d (met d n) n ≡ no_call → HoldsThread (thread_view v w d n) (ends script x r).thread
-  over d w p r e f = record { number = number; clean = marks; place = ap (λ z. thread_place v.clean z d (met d n) n) e ∙ f ∙ sym (outside (ends script x r).thread.block (statement_at script x.target x.thread (x.place + 1))) }
+  over : (d : Deed) (p : ThreadPlace) (r : StmtResult) → v.place ≡ p → thread_place v.clean p d (met d n) n ≡ no_call → HoldsThread (thread_view v d n) (ends script x r).thread
+  over d p r e f = record { number = number; clean = marks; place = ap (λ z. thread_place v.clean z d (met d n) n) e ∙ f ∙ sym (outside (ends script x r).thread.block (statement_at script x.target x.thread (x.place + 1))) }
 
   filled : (c i : ℕ) → i < length x.block → Fill c (take i x.block ++ get_or x.block i 0 ∷ []) ≡ thread_place_of x.block (after_fill x c i)
   filled c i l = ap (Fill c) (take_snoc x.block i (get_or x.block i 0) l refl) ∙ by_test (eqb (i + 1) (length x.block)) refl
@@ -49,12 +47,12 @@ module _ (script : Script) (v : ThreadView) (x : ThreadAt) (number : v.number �
       by_test true q = let same : length x.block ≡ i + 1 = grind (arith, nat_tests) in ap (Fill c) (take_whole x.block (i + 1) same)
       by_test false q = refl
 
-  sent : (c w : ℕ) → v.place ≡ Fill c x.block → HoldsThread (thread_view v w send n) (after_send script x c n).thread
-  sent c w e = by_met (eqb n 2) refl
+  sent : (c : ℕ) → v.place ≡ Fill c x.block → HoldsThread (thread_view v send n) (after_send script x c n).thread
+  sent c e = by_met (eqb n 2) refl
     where
-      by_met : (b : Bool) → eqb n 2 ≡ b → HoldsThread (thread_view v w send n) (cond b (goes_on x (stage.Wait c 0)) (ends script x (ended.Call (result.SendLost c n)))).thread
-      by_met true q = held send w (Fill c x.block) (stage.Wait c 0) e (ap (λ b. cond b (Wait c x.block) no_call) q)
-      by_met false q = over send w (Fill c x.block) (ended.Call (result.SendLost c n)) e (ap (λ b. cond b (Wait c x.block) no_call) q)
+      by_met : (b : Bool) → eqb n 2 ≡ b → HoldsThread (thread_view v send n) (cond b (goes_on x (stage.Wait c 0)) (ends script x (ended.Call (result.SendLost c n)))).thread
+      by_met true q = held send (Fill c x.block) (stage.Wait c 0) e (ap (λ b. cond b (Wait c x.block) no_call) q)
+      by_met false q = over send (Fill c x.block) (ended.Call (result.SendLost c n)) e (ap (λ b. cond b (Wait c x.block) no_call) q)
 
   waited : (c loads : ℕ) → thread_place v.clean (Wait c x.block) wait (met wait n) n ≡ thread_place_of x.block (after_wait x c loads n)
   waited c loads = by_met (eqb n 4) (is_clean_at x c) (eqb (loads + 1) x.patience)
@@ -73,9 +71,9 @@ module _ (script : Script) (v : ThreadView) (x : ThreadAt) (number : v.number �
       by_test true = refl
       by_test false = refl
 
-  module _ (c rounds : ℕ) (fives : Bool) (w : ℕ) (e : v.place ≡ Try c fives) (inside : c < length x.clean) where
+  module _ (c rounds : ℕ) (fives : Bool) (e : v.place ≡ Try c fives) (inside : c < length x.clean) where
     abbrev Holds : ThreadNext → Type 0
-    Holds next = HoldsThread (thread_view v w take_it n) next.thread
+    Holds next = HoldsThread (thread_view v take_it n) next.thread
 
     abbrev five : Bool
     five = fives && eqb n 5
@@ -91,27 +89,27 @@ module _ (script : Script) (v : ThreadView) (x : ThreadAt) (number : v.number �
         begins_anew = ap (λ b. cond b (Fill c []) (try_next v.clean c five)) q ∙ ap (λ b. cond b (Try (c + 1) five) no_call) no_more
 
         by_tests : (f a p : Bool) → Holds (cond f (ends script x (ended.Call result.NoChannel)) (cond a (goes_on x (stage.Try 0 rounds true)) (cond p (ends script x (ended.Call result.NoChannel)) (goes_on x (stage.Try 0 (rounds + 1) true)))))
-        by_tests true a p = over take_it w (Try c fives) (ended.Call result.NoChannel) e begins_anew
-        by_tests false true p = held take_it w (Try c fives) (stage.Try 0 rounds true) e begins_anew
-        by_tests false false true = over take_it w (Try c fives) (ended.Call result.NoChannel) e begins_anew
-        by_tests false false false = held take_it w (Try c fives) (stage.Try 0 (rounds + 1) true) e begins_anew
+        by_tests true a p = over take_it (Try c fives) (ended.Call result.NoChannel) e begins_anew
+        by_tests false true p = held take_it (Try c fives) (stage.Try 0 rounds true) e begins_anew
+        by_tests false false true = over take_it (Try c fives) (ended.Call result.NoChannel) e begins_anew
+        by_tests false false false = held take_it (Try c fives) (stage.Try 0 (rounds + 1) true) e begins_anew
 
     tried : Holds (after_try script x c rounds fives n)
     tried = by_met (eqb n 1) refl (eqb (c + 1) (length x.clean)) refl
       where
         by_met : (a : Bool) → eqb n 1 ≡ a → (b : Bool) → eqb (c + 1) (length x.clean) ≡ b → Holds (cond a (goes_on x (stage.Fill c 0)) (cond b (after_round script x rounds five) (goes_on x (stage.Try (c + 1) rounds five))))
-        by_met true q b r = held take_it w (Try c fives) (stage.Fill c 0) e (ap (λ b. cond b (Fill c []) (try_next v.clean c five)) q)
+        by_met true q b r = held take_it (Try c fives) (stage.Fill c 0) e (ap (λ b. cond b (Fill c []) (try_next v.clean c five)) q)
         by_met false q true r = round q r
         by_met false q false r =
             let same = ap length marks in
             let more : ltb (c + 1) (length v.clean) ≡ true = grind (arith, nat_tests) in
-            held take_it w (Try c fives) (stage.Try (c + 1) rounds five) e (ap (λ b. cond b (Fill c []) (try_next v.clean c five)) q ∙ ap (λ b. cond b (Try (c + 1) five) no_call) more)
+            held take_it (Try c fives) (stage.Try (c + 1) rounds five) e (ap (λ b. cond b (Fill c []) (try_next v.clean c five)) q ∙ ap (λ b. cond b (Try (c + 1) five) no_call) more)
 
   -- what the law says of a stage
   record Goes (s : ThreadStage) (d : Deed) : Type 0 where
     may : ThreadMay v v.place (act_word (thread_row script x s).step) d
     writes : act_wrote (thread_row script x s).step n ≡ wrote d (met d n) n
-    holds : HoldsThread (thread_view v (act_word (thread_row script x s).step) d n) ((thread_row script x s).next seen).thread
+    holds : HoldsThread (thread_view v d n) ((thread_row script x s).next seen).thread
 
   there : (c : ℕ) → c < length x.clean → c < length v.clean
   there c i = subst (λ z. c < length z) (sym marks) i
@@ -123,7 +121,7 @@ module _ (script : Script) (v : ThreadView) (x : ThreadAt) (number : v.number �
       record {
         may = subst (λ p. ThreadMay v p (at c 0) take_it) (sym e) (there c h.0, refl);
         writes = refl;
-        holds = subst (λ z. HoldsThread (thread_view v (at c 0) take_it n) (after_try script x c rounds fives z).thread) (sym tell) (tried c rounds fives (at c 0) e h.0);
+        holds = subst (λ z. HoldsThread (thread_view v take_it n) (after_try script x c rounds fives z).thread) (sym tell) (tried c rounds fives e h.0);
       }
   follows (stage.Fill c i) d e h b u q tell =
       let long = b.high in
@@ -132,21 +130,21 @@ module _ (script : Script) (v : ThreadView) (x : ThreadAt) (number : v.number �
       record {
         may = subst (λ p. ThreadMay v p (at c (1 + i)) (fill (get_or x.block i 0))) (sym e) (there c h.0, ap (λ z. at c (1 + z)) (sym size), omega arith);
         writes = refl;
-        holds = held (fill (get_or x.block i 0)) (at c (1 + i)) (Fill c (take i x.block)) (after_fill x c i) e (filled c i h.1);
+        holds = held (fill (get_or x.block i 0)) (Fill c (take i x.block)) (after_fill x c i) e (filled c i h.1);
       }
   follows (stage.Send c) d e h b u q tell =
       subst (Goes (stage.Send c)) (some_same send d q)
       record {
         may = subst (λ p. ThreadMay v p (at c 0) send) (sym e) (there c h, refl, subst (λ z. IsBlock z x.block) (sym number) b);
         writes = refl;
-        holds = subst (λ z. HoldsThread (thread_view v (at c 0) send n) (after_send script x c z).thread) (sym tell) (sent c (at c 0) e);
+        holds = subst (λ z. HoldsThread (thread_view v send n) (after_send script x c z).thread) (sym tell) (sent c e);
       }
   follows (stage.Wait c loads) d e h b u q tell =
       subst (Goes (stage.Wait c loads)) (some_same wait d q)
       record {
         may = subst (λ p. ThreadMay v p (at c 0) wait) (sym e) (there c h.0, refl);
         writes = refl;
-        holds = subst (λ z. HoldsThread (thread_view v (at c 0) wait n) (goes_on x (after_wait x c loads z)).thread) (sym tell) (held wait (at c 0) (Wait c x.block) (after_wait x c loads n) e (waited c loads));
+        holds = subst (λ z. HoldsThread (thread_view v wait n) (goes_on x (after_wait x c loads z)).thread) (sym tell) (held wait (Wait c x.block) (after_wait x c loads n) e (waited c loads));
       }
   follows (stage.Fetch c ws) d e h b u q tell =
       let word : 1 + (3 + length ws) ≡ 4 + length ws = omega arith in
@@ -154,22 +152,22 @@ module _ (script : Script) (v : ThreadView) (x : ThreadAt) (number : v.number �
       record {
         may = subst (λ p. ThreadMay v p (at c (1 + (3 + length ws))) fetch) (sym e) (there c h.0, ap (at c) word, h.1);
         writes = refl;
-        holds = subst (λ z. HoldsThread (thread_view v (at c (1 + (3 + length ws))) fetch n) (goes_on x (after_fetch c (ws ++ z ∷ []))).thread) (sym tell)
-            (held fetch (at c (1 + (3 + length ws))) (Fetch c x.block ws) (after_fetch c (ws ++ n ∷ [])) e (fetched c (ws ++ n ∷ [])));
+        holds = subst (λ z. HoldsThread (thread_view v fetch n) (goes_on x (after_fetch c (ws ++ z ∷ []))).thread) (sym tell)
+            (held fetch (Fetch c x.block ws) (after_fetch c (ws ++ n ∷ [])) e (fetched c (ws ++ n ∷ [])));
       }
   follows (stage.Free c ws) d e h b u q tell =
       subst (Goes (stage.Free c ws)) (some_same free d q)
       record {
         may = subst (λ p. ThreadMay v p (at c 0) free) (sym e) (there c h.0, refl, h.1);
         writes = refl;
-        holds = over free (at c 0) (Fetch c x.block ws) (ended.Call (reply_by c (mark_at x.thread x.place) (read_reply ws))) e refl;
+        holds = over free (Fetch c x.block ws) (ended.Call (reply_by c (mark_at x.thread x.place) (read_reply ws))) e refl;
       }
   follows (stage.Abandon c) d e h b u q tell =
       subst (Goes (stage.Abandon c)) (some_same abandon d q)
       record {
         may = subst (λ p. ThreadMay v p (at c 0) abandon) (sym e) (there c h, refl, subst (λ z. is_clean z c ≡ false) (sym marks) u);
         writes = refl;
-        holds = over abandon (at c 0) (Wait c x.block) (ended.Call (result.TimedOut c)) e refl;
+        holds = over abandon (Wait c x.block) (ended.Call (result.TimedOut c)) e refl;
       }
   follows (stage.Stray loads most) d e h b u q tell = absurd (cc)
   follows stage.Over d e h b u q tell = absurd (cc)

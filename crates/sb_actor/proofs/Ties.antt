@@ -1,4 +1,4 @@
--- The worker's seat goes on as the worker does.
+-- The worker's view goes on as the worker does.
 use Rattle.std.proofs.Common.{◌≡◌, refl, sym, ap, ◌∙◌, subst, ℕ, zero, suc, ◌+◌, ◌%◌, ◌<◌, ◌≤◌, Bool, true, false, cond, eqb, ltb, List, [], ◌∷◌, ◌++◌, length, get_or, take, Option, Some, arith}
 use Rattle.std.proofs.Math.Nat.{mod-eq_of_lt, mod_self}
 use Rattle.std.proofs.lemmas.Bool.Decides.{nat_tests}
@@ -12,9 +12,7 @@ use Rattle.sb_actor.specs.WorkerStages.{WorkerStage, WorkerAt}
 use Rattle.sb_actor.specs.WorkerStages as stage
 use Rattle.sb_actor.specs.WorkerTable.{worker_plan, after_look, after_count, after_end, after_copy, after_reply, at_stage, look_next}
 use Rattle.sb_actor.specs.declared.acts.Seen.{Seen}
-use Rattle.sb_actor.specs.declared.views.WorkerPlace.{WorkerPlace}
-use Rattle.sb_actor.specs.declared.views.WorkerPlace.TheVariants.{Look, Count, End, Copy, Copied as Whole, Reply}
-use Rattle.sb_actor.specs.declared.views.WorkerView.{WorkerView}
+use Rattle.sb_actor.specs.Views.{WorkerPlace, Look, Count, End, Copy, Whole, Reply, WorkerView}
 use Rattle.sb_actor.proofs.Lists.{take_snoc}
 
 pub some_same : (a b : Deed) → ◌≡◌ {A = Option Deed} (Some a) (Some b) → a ≡ b
@@ -58,21 +56,21 @@ module _ (v : WorkerView) (t k ch : ℕ) (l : length v.clean ≡ k) (c : v.chann
   goes_on = ap (λ (z : ℕ × ℕ). cond (ltb (z.0 + 1) z.1) (z.0 + 1) 0) (λ q. (c q, l q)) ∙ next_is ch k i
 
   -- the view after a step that leaves the channel
-  stays : (d : Deed) (p : WorkerPlace) (s : WorkerStage) (w : ℕ) → worker_channel v.clean v.channel d (met d n) ≡ v.channel → v.place ≡ p → worker_place p d (met d n) n ≡ worker_place_of s
-      → HoldsWorker (worker_view v w d n) (W s)
-  stays d p s w same e f = record { channels = l; channel = same ∙ c; place = ap (λ z. worker_place z d (met d n) n) e ∙ f }
+  stays : (d : Deed) (p : WorkerPlace) (s : WorkerStage) → worker_channel v.clean v.channel d (met d n) ≡ v.channel → v.place ≡ p → worker_place p d (met d n) n ≡ worker_place_of s
+      → HoldsWorker (worker_view v d n) (W s)
+  stays d p s same e f = record { channels = l; channel = same ∙ c; place = ap (λ z. worker_place z d (met d n) n) e ∙ f }
 
   -- and after one that goes to the next
-  moves : (d : Deed) (p : WorkerPlace) (w : ℕ) → worker_channel v.clean v.channel d (met d n) ≡ next v.clean v.channel → v.place ≡ p → worker_place p d (met d n) n ≡ Look
-      → HoldsWorker (worker_view v w d n) (look_next (W stage.Look))
-  moves d p w same e f = record { channels = l; channel = same ∙ goes_on; place = ap (λ z. worker_place z d (met d n) n) e ∙ f }
+  moves : (d : Deed) (p : WorkerPlace) → worker_channel v.clean v.channel d (met d n) ≡ next v.clean v.channel → v.place ≡ p → worker_place p d (met d n) n ≡ Look
+      → HoldsWorker (worker_view v d n) (look_next (W stage.Look))
+  moves d p same e f = record { channels = l; channel = same ∙ goes_on; place = ap (λ z. worker_place z d (met d n) n) e ∙ f }
 
-  looks : v.place ≡ Look → HoldsWorker (worker_view v (at ch 0) look n) (after_look (W stage.Look) n)
+  looks : v.place ≡ Look → HoldsWorker (worker_view v look n) (after_look (W stage.Look) n)
   looks e = by_met (eqb n 3) refl
     where
-      by_met : (b : Bool) → eqb n 3 ≡ b → HoldsWorker (worker_view v (at ch 0) look n) (cond b (at_stage (W stage.Look) stage.Count) (look_next (W stage.Look)))
-      by_met true q = stays look Look stage.Count (at ch 0) (ap (λ b. cond b v.channel (next v.clean v.channel)) q) e (ap (λ b. cond b Count Look) q)
-      by_met false q = moves look Look (at ch 0) (ap (λ b. cond b v.channel (next v.clean v.channel)) q) e (ap (λ b. cond b Count Look) q)
+      by_met : (b : Bool) → eqb n 3 ≡ b → HoldsWorker (worker_view v look n) (cond b (at_stage (W stage.Look) stage.Count) (look_next (W stage.Look)))
+      by_met true q = stays look Look stage.Count (ap (λ b. cond b v.channel (next v.clean v.channel)) q) e (ap (λ b. cond b Count Look) q)
+      by_met false q = moves look Look (ap (λ b. cond b v.channel (next v.clean v.channel)) q) e (ap (λ b. cond b Count Look) q)
 
   counts : worker_place Count load_count true n ≡ worker_place_of (after_count n)
   counts = by_test (ltb 9 n)
@@ -122,14 +120,14 @@ module _ (v : WorkerView) (t k ch : ℕ) (l : length v.clean ≡ k) (c : v.chann
       record {
         may = subst (λ p. WorkerMay v p (at ch 0) look) (sym e) (inside, here 0);
         writes = refl;
-        holds = subst (λ z. HoldsWorker (worker_view v (at ch 0) look n) (after_look (W stage.Look) z)) (sym tell) (looks e);
+        holds = subst (λ z. HoldsWorker (worker_view v look n) (after_look (W stage.Look) z)) (sym tell) (looks e);
       }
   follows stage.Count d e h q tell =
       subst (λ z. Follows v (W stage.Count) z n seen) (some_same load_count d q)
       record {
         may = subst (λ p. WorkerMay v p (at ch 3) load_count) (sym e) (inside, here 3);
         writes = refl;
-        holds = subst (λ z. HoldsWorker (worker_view v (at ch 3) load_count n) (at_stage (W stage.Count) (after_count z))) (sym tell) (stays load_count Count (after_count n) (at ch 3) refl e counts);
+        holds = subst (λ z. HoldsWorker (worker_view v load_count n) (at_stage (W stage.Count) (after_count z))) (sym tell) (stays load_count Count (after_count n) refl e counts);
       }
   follows (stage.End x) d e h q tell =
       let word : 1 + (15 + x) ≡ 16 + x = omega arith in
@@ -137,14 +135,14 @@ module _ (v : WorkerView) (t k ch : ℕ) (l : length v.clean ≡ k) (c : v.chann
       record {
         may = subst (λ p. WorkerMay v p (at ch (1 + (15 + x))) load_end) (sym e) (inside, here (1 + (15 + x)) ∙ ap (at v.channel) word, h);
         writes = refl;
-        holds = subst (λ z. HoldsWorker (worker_view v (at ch (1 + (15 + x))) load_end n) (at_stage (W (stage.End x)) (after_end x (offset_of z)))) (sym tell) (stays load_end (End x) (after_end x (offset_of n)) (at ch (1 + (15 + x))) refl e (ends x));
+        holds = subst (λ z. HoldsWorker (worker_view v load_end n) (at_stage (W (stage.End x)) (after_end x (offset_of z)))) (sym tell) (stays load_end (End x) (after_end x (offset_of n)) refl e (ends x));
       }
   follows (stage.Copy x y ws) d e h q tell =
       subst (λ z. Follows v (W (stage.Copy x y ws)) z n seen) (some_same copy d q)
       record {
         may = subst (λ p. WorkerMay v p (at ch (1 + length ws)) copy) (sym e) (inside, here (1 + length ws), h.3, h.2);
         writes = refl;
-        holds = subst (λ z. HoldsWorker (worker_view v (at ch (1 + length ws)) copy n) (at_stage (W (stage.Copy x y ws)) (after_copy x y (ws ++ z ∷ [])))) (sym tell) (stays copy (Copy x y ws) (after_copy x y (ws ++ n ∷ [])) (at ch (1 + length ws)) refl e (copies x y ws));
+        holds = subst (λ z. HoldsWorker (worker_view v copy n) (at_stage (W (stage.Copy x y ws)) (after_copy x y (ws ++ z ∷ [])))) (sym tell) (stays copy (Copy x y ws) (after_copy x y (ws ++ n ∷ [])) refl e (copies x y ws));
       }
   follows (stage.Take x) d e h q tell = absurd (cc)
   follows (stage.Mark x) d e h q tell = absurd (cc)
@@ -154,7 +152,7 @@ module _ (v : WorkerView) (t k ch : ℕ) (l : length v.clean ≡ k) (c : v.chann
       record {
         may = subst (λ p. WorkerMay v p (at ch 4) (answer (get_or r 0 0))) (sym e) (inside, here 4, h.1.mark);
         writes = refl;
-        holds = stays (answer (get_or r 0 0)) (Whole x) (after_reply x r 0) (at ch 4) refl e (first_stored x r h.1.size);
+        holds = stays (answer (get_or r 0 0)) (Whole x) (after_reply x r 0) refl e (first_stored x r h.1.size);
       }
   follows (stage.Reply x r (suc j)) d e h q tell =
       let size = h.1.size in
@@ -165,14 +163,14 @@ module _ (v : WorkerView) (t k ch : ℕ) (l : length v.clean ≡ k) (c : v.chann
       record {
         may = subst (λ p. WorkerMay v p (at ch (1 + (3 + suc j))) (answer (get_or r (suc j) 0))) (sym f) (inside, here (1 + (3 + suc j)) ∙ ap (at v.channel) word, omega arith);
         writes = refl;
-        holds = stays (answer (get_or r (suc j) 0)) (Reply x (take (suc j) r)) (after_reply x r (suc j)) (at ch (1 + (3 + suc j))) refl f (next_stored x r j size h.0);
+        holds = stays (answer (get_or r (suc j) 0)) (Reply x (take (suc j) r)) (after_reply x r (suc j)) refl f (next_stored x r j size h.0);
       }
   follows (stage.Ack x r) d e h q tell =
       subst (λ z. Follows v (W (stage.Ack x r)) z n seen) (some_same acknowledge d q)
       record {
         may = subst (λ p. WorkerMay v p (at ch 0) acknowledge) (sym e) (inside, here 0, h.size);
         writes = refl;
-        holds = moves acknowledge (Reply x r) (at ch 0) refl e refl;
+        holds = moves acknowledge (Reply x r) refl e refl;
       }
 
 pub worker_follows : WorkerFollows

@@ -10,24 +10,12 @@ use native.Mathlib.Decide.{ℕ_discrete}
 use lib.ListN.{get_elem?}
 use Rattle.sb_block.specs.Copies.{Copied, copied, is_end, whole, mark_of}
 use Rattle.sb_block.specs.Packing.{offset_of}
-use Rattle.sb_actor.specs.declared.views.Served.{Served}
-use Rattle.sb_actor.specs.declared.views.Had.{Had}
-use Rattle.sb_actor.specs.declared.views.Notes.{Notes}
-use Rattle.sb_actor.specs.declared.views.ThreadRecord.{ThreadRecord}
-use Rattle.sb_actor.specs.declared.views.StrayRecord.{StrayRecord}
-use Rattle.sb_actor.specs.declared.views.ThreadPlace.{ThreadPlace}
-use Rattle.sb_actor.specs.declared.views.ThreadPlace.TheVariants.{Try, Fill, Wait, Fetch}
-use Rattle.sb_actor.specs.declared.views.ThreadView.{ThreadView}
-use Rattle.sb_actor.specs.declared.views.WorkerPlace.{WorkerPlace}
-use Rattle.sb_actor.specs.declared.views.WorkerPlace.TheVariants.{Look, Count, End, Copy, Copied as Whole, Reply}
-use Rattle.sb_actor.specs.declared.views.WorkerView.{WorkerView}
-use Rattle.sb_actor.specs.declared.views.View.{View}
-use Rattle.sb_actor.specs.declared.views.View.TheVariants.{Worker, Thread, Stray, Spent}
-use Rattle.sb_actor.specs.Moves.{at, is_clean, next, IsBlock, Deed, met, wrote, notes_after, counted, ended_at, copied_to, worker_result, WorkerMay, look, load_count, load_end, copy, answer, acknowledge}
-use Rattle.sb_actor.specs.Rule.{Mid, idle, filling, ready, acked, owner, Row, row, sees, Stands, Chan, Reads, IsReply, is_of, calls_of, as_served, place, served_at, waiting, Agrees, Replies, is_on, Last, FitsThread, FitsWorker, FitsSeat, RuleAt}
-use Rattle.sb_actor.proofs.Lists.{at_set, at_snoc, take_snoc}
+use Rattle.sb_actor.specs.Views.{Served, Had, ThreadPlace, Try, Fill, Wait, Fetch, ThreadView, WorkerPlace, Look, Count, End, Copy, Whole, Reply, WorkerView}
+use Rattle.sb_actor.specs.Moves.{at, is_clean, next, IsBlock, Deed, met, wrote, counted, ended_at, copied_to, worker_result, WorkerMay, look, load_count, load_end, copy, answer, acknowledge}
+use Rattle.sb_actor.specs.Rule.{Mid, idle, filling, ready, acked, owner, Row, row, sees, Stands, Chan, Reads, IsReply, is_of, calls_of, as_served, place, served_at, waiting, Agrees, Replies, is_on, Last, FitsThread, FitsWorker, Rule}
+use Rattle.sb_actor.proofs.Lists.{at_snoc, take_snoc}
 use Rattle.sb_actor.proofs.Rows.{put, put_here, put_else, upd, upd_here, upd_else, row_else, row_here, row_at, stands_more, stands_else}
-use Rattle.sb_actor.proofs.Parts.{off, thread_else, record_else}
+use Rattle.sb_actor.proofs.Parts.{off, thread_else}
 use Rattle.sb_actor.proofs.ThreadSteps.{was_true, was_false}
 
 -- who is at a clean channel in state 3, or at which the worker is engaged
@@ -88,35 +76,34 @@ call c b r = record { channel = c; block = b; reply = r }
 abbrev serve : ℕ → Copied → List ℕ → Served
 serve c t r = record { channel = c; taken = t; reply = r }
 
-abbrev pub wv : List Bool → ℕ → WorkerPlace → List Served → ℕ → ℕ → List ThreadRecord → List StrayRecord → Notes → ℕ → ℕ → WorkerView
-wv cl c p sv n m rc sr nt st fd = record { clean = cl; channel = c; place = p; served = sv; threads = n; strays = m; thread_records = rc; stray_records = sr; notes = nt; steps = st; found = fd }
+abbrev pub wv : List Bool → ℕ → WorkerPlace → List Served → WorkerView
+wv cl c p sv = record { clean = cl; channel = c; place = p; served = sv }
 
 -- words that were copied up to their end are the block
 whole_take : (ws b : List ℕ) (n : ℕ) → ws ≡ take n b → n ≡ length b → ws ≡ b
 whole_take ws b n e l = e ∙ grind (arith, common_steps)
 
-module _ (clean : List Bool) (words : List ℕ) (views : List View) (i w : ℕ) where
+module _ (clean : List Bool) (words : List ℕ) (threads : List ThreadView) (w : ℕ) where
+  abbrev n : ℕ
+  n = length threads
+
   -- a step on a word of channel c, at which the worker stands
-  worker_move : (c j : ℕ) (v v' : WorkerView) (d : Deed) (b : Bool) (r : RuleAt clean words views i v) (mids : ℕ → Mid) → get_elem? views i ≡ some (Worker v)
-      → c < length clean → w ≡ c * 65 + j → j < 65
+  worker_move : (c j : ℕ) (v v' : WorkerView) (d : Deed) (b : Bool) (r : Rule clean words v threads) (mids : ℕ → Mid) → c < length clean → w ≡ c * 65 + j → j < 65
       → ((x : ℕ) → x ≢ c → mids x ≡ r.mids x)
       → ((x : ℕ) → x ≢ c → sees x v' ≡ sees x v)
       → (is_clean clean c ≡ true → Chan (mids c) (sees c v') (put j (wrote d b (get_or words w 0)) (row words c)))
       → ((x : ℕ) → is_clean clean x ≡ true → Last v'.served x (mids x))
-      → FitsWorker clean mids r.stage r.strays v'
-      → ((x : ℕ) (u : ThreadView) → FitsThread clean r.mids r.stage v.served x u → FitsThread clean mids r.stage v'.served x u)
-      → RuleAt clean (set words w (wrote d b (get_or words w 0))) (set views i (Worker v')) i v'
-  worker_move c j v v' d b r mids at_i lc is lj same away chan lasts fits threads =
+      → FitsWorker clean mids n v'
+      → ((x : ℕ) (u : ThreadView) → FitsThread clean r.mids v.served x u → FitsThread clean mids v'.served x u)
+      → Rule clean (set words w (wrote d b (get_or words w 0))) v' threads
+  worker_move c j v v' d b r mids lc is lj same away chan lasts fits each =
       record {
         mids = mids;
-        stage = r.stage;
-        strays = r.strays;
         sized = length-set words w (wrote d b (get_or words w 0)) ∙ r.sized;
         chans = λ x cl. chan_at x cl (ℕ_discrete x c);
         lasts = lasts;
         fits_worker = fits;
-        seats = λ x y e. ⊎_elim (λ (t : (x ≡ i) × (Worker v' ≡ y)). subst (λ (z : ℕ × View). FitsSeat clean mids r.stage r.strays i v' z.0 z.1) (λ q. (sym t.0 q, t.1 q)) (refl, refl))
-            (λ (t : (x ≢ i) × (get_elem? views x ≡ some y)). other x t.0 y (r.seats x y t.1)) (at_set views i x (Worker v') y e);
+        fits = λ x u e. each x u (r.fits x u e);
       }
     where
       inside : w < length words
@@ -129,72 +116,62 @@ module _ (clean : List Bool) (words : List ℕ) (views : List View) (i w : ℕ) 
           subst (λ y. Chan (mids y) (sees y v') (row (set words w (wrote d b (get_or words w 0))) y)) (sym e) there
       chan_at x cl (no ne) = subst (λ (y : Mid × WorkerPlace × Row). Chan y.0 y.1 y.2) (λ q. (sym (same x ne) q, sym (away x ne) q, sym (row_else words w (wrote d b (get_or words w 0)) c x j is lj ne) q)) (r.chans x cl)
 
-      other : (x : ℕ) → x ≢ i → (y : View) → FitsSeat clean r.mids r.stage r.strays i v x y → FitsSeat clean mids r.stage r.strays i v' x y
-      other x ne (Worker u) f = absurd (ne f.0)
-      other x ne (Thread u) f = threads x u f
-      other x ne (Stray u) f = f
-      other x ne Spent f = tt
-
-  module _ (c : ℕ) (sv : List Served) (n m : ℕ) (rc : List ThreadRecord) (sr : List StrayRecord) (nt : Notes) (st fd : ℕ) (lc : c < length clean) where
+  module _ (c : ℕ) (sv : List Served) (lc : c < length clean) where
     abbrev V : WorkerPlace → WorkerView
-    V p = wv clean c p sv n m rc sr nt st fd
+    V p = wv clean c p sv
 
     abbrev After : WorkerPlace → Deed → Bool → Type 0
-    After p d b = RuleAt clean (set words w (wrote d b (get_or words w 0))) (set views i (Worker (worker_result (V p) w d b (get_or words w 0)))) i (worker_result (V p) w d b (get_or words w 0))
+    After p d b = Rule clean (set words w (wrote d b (get_or words w 0))) (worker_result (V p) d b (get_or words w 0)) threads
 
     -- the view after a step at which nothing is served
-    abbrev U : ℕ → WorkerPlace → Deed → Bool → WorkerView
-    U c' p' d b = wv clean c' p' (sv ++ []) n m rc sr (notes_after nt w d b (get_or words w 0)) (st + 1) (get_or words w 0)
+    abbrev U : ℕ → WorkerPlace → WorkerView
+    U c' p' = wv clean c' p' (sv ++ [])
 
-    plain : (j : ℕ) (p p' : WorkerPlace) (c' : ℕ) (d : Deed) (b : Bool) (r : RuleAt clean words views i (V p)) → get_elem? views i ≡ some (Worker (V p)) → w ≡ c * 65 + j → j < 65
+    plain : (j : ℕ) (p p' : WorkerPlace) (c' : ℕ) (d : Deed) (b : Bool) (r : Rule clean words (V p) threads) → w ≡ c * 65 + j → j < 65
         → (c' ≡ c) ⊎ ((p ≡ Look) × (p' ≡ Look)) → Replies p'
-        → (is_clean clean c ≡ true → Chan (r.mids c) (sees c (U c' p' d b)) (put j (wrote d b (get_or words w 0)) (row words c)))
-        → RuleAt clean (set words w (wrote d b (get_or words w 0))) (set views i (Worker (U c' p' d b))) i (U c' p' d b)
-    plain j p p' c' d b r at_i is lj where_to rep chan =
-        worker_move c j (V p) (U c' p' d b) d b r r.mids at_i lc is lj (λ x ne. refl) (λ x ne. elsewhere x ne where_to) chan
+        → (is_clean clean c ≡ true → Chan (r.mids c) (sees c (U c' p')) (put j (wrote d b (get_or words w 0)) (row words c)))
+        → Rule clean (set words w (wrote d b (get_or words w 0))) (U c' p') threads
+    plain j p p' c' d b r is lj where_to rep chan =
+        worker_move c j (V p) (U c' p') d b r r.mids lc is lj (λ x ne. refl) (λ x ne. elsewhere x ne where_to) chan
         (λ x cl. subst (λ l. Last l x (r.mids x)) (sym (append-nil sv)) (r.lasts x cl))
-        (subst (λ l. FitsWorker clean r.mids r.stage r.strays (wv clean c' p' l n m rc sr (notes_after nt w d b (get_or words w 0)) (st + 1) (get_or words w 0))) (sym (append-nil sv))
+        (subst (λ l. FitsWorker clean r.mids n (wv clean c' p' l)) (sym (append-nil sv))
         record {
           marks = r.fits_worker.marks;
-          records = r.fits_worker.records;
-          stray_records = r.fits_worker.stray_records;
-          unborn_from = r.fits_worker.unborn_from;
-          strays_from = r.fits_worker.strays_from;
           owners = r.fits_worker.owners;
           bearers = r.fits_worker.bearers;
           borne = r.fits_worker.borne;
           replied = r.fits_worker.replied;
           replies = rep;
         })
-        (λ x u f. subst (λ l. FitsThread clean r.mids r.stage l x u) (sym (append-nil sv)) f)
+        (λ x u f. subst (λ l. FitsThread clean r.mids l x u) (sym (append-nil sv)) f)
       where
-        elsewhere : (x : ℕ) → x ≢ c → (c' ≡ c) ⊎ ((p ≡ Look) × (p' ≡ Look)) → sees x (U c' p' d b) ≡ sees x (V p)
-        elsewhere x ne (inl e) = sees_else (U c' p' d b) x (λ s. ne (s ∙ e)) ∙ sym (sees_else (V p) x ne)
-        elsewhere x ne (inr e) = sees_look (U c' p' d b) x e.1 ∙ sym (sees_look (V p) x e.0)
+        elsewhere : (x : ℕ) → x ≢ c → (c' ≡ c) ⊎ ((p ≡ Look) × (p' ≡ Look)) → sees x (U c' p') ≡ sees x (V p)
+        elsewhere x ne (inl e) = sees_else (U c' p') x (λ s. ne (s ∙ e)) ∙ sym (sees_else (V p) x ne)
+        elsewhere x ne (inr e) = sees_look (U c' p') x e.1 ∙ sym (sees_look (V p) x e.0)
 
     -- the channel at which the worker is engaged
-    ready_here : (p : WorkerPlace) (r : RuleAt clean words views i (V p)) → p ≢ Look → is_clean clean c ≡ true → AtReady (r.mids c) p (row words c)
+    ready_here : (p : WorkerPlace) (r : Rule clean words (V p) threads) → p ≢ Look → is_clean clean c ≡ true → AtReady (r.mids c) p (row words c)
     ready_here p r e cl = subst (λ y. AtReady (r.mids c) y (row words c)) (sees_here (V p) c refl) (engaged (r.mids c) (sees c (V p)) (row words c) (r.chans c cl) (λ s. e (sym (sees_here (V p) c refl) ∙ s)))
 
     -- a load at the channel: the row stays, and the worker is at another place
-    still : (j : ℕ) (p' : WorkerPlace) (d : Deed) (k : Mid) → w ≡ c * 65 + j → j < 65 → Chan k p' (row words c) → Chan k (sees c (U c p' d true)) (put j (get_or words w 0) (row words c))
+    still : (j : ℕ) (p' : WorkerPlace) (d : Deed) (k : Mid) → w ≡ c * 65 + j → j < 65 → Chan k p' (row words c) → Chan k (sees c (U c p')) (put j (get_or words w 0) (row words c))
     still j p' d k is lj h =
-        subst (λ (y : WorkerPlace × Row). Chan k y.0 y.1) (λ z. (sym (sees_here (U c p' d true) c refl) z, sym (put_same j (get_or words w 0) (row words c) (row_at words w c j is lj)) z)) h
+        subst (λ (y : WorkerPlace × Row). Chan k y.0 y.1) (λ z. (sym (sees_here (U c p') c refl) z, sym (put_same j (get_or words w 0) (row words c) (row_at words w c j is lj)) z)) h
 
-    look_step : (r : RuleAt clean words views i (V Look)) → get_elem? views i ≡ some (Worker (V Look)) → w ≡ at c 0 → (b : Bool) → met look (get_or words w 0) ≡ b → After Look look b
-    look_step r at_i is true e =
+    look_step : (r : Rule clean words (V Look) threads) → w ≡ at c 0 → (b : Bool) → met look (get_or words w 0) ≡ b → After Look look b
+    look_step r is true e =
         let three : row words c 0 ≡ 3 = row_at words w c 0 is (omega arith) ∙ was_true (get_or words w 0) 3 e in
-        plain 0 Look Count c look true r at_i is (omega arith) (inl refl) tt
+        plain 0 Look Count c look true r is (omega arith) (inl refl) tt
         (λ cl.
         let q : AtReady (r.mids c) Look (row words c) = subst (λ y. AtReady (r.mids c) y (row words c)) (sees_look (V Look) c refl) (state_three (r.mids c) (sees c (V Look)) (row words c) (r.chans c cl) three) in
         still 0 Count look (r.mids c) is (omega arith) (at_ready (r.mids c) Count (row words c) q.number q.block q.is three q.whole_block q.reads))
-    look_step r at_i is false e =
-        plain 0 Look Look (next clean c) look false r at_i is (omega arith) (inr (refl, refl)) tt
-        (λ cl. subst (λ (y : WorkerPlace × Row). Chan (r.mids c) y.0 y.1) (λ z. ((sees_look (V Look) c refl ∙ sym (sees_look (U (next clean c) Look look false) c refl)) z, sym (put_same 0 (get_or words w 0) (row words c) (row_at words w c 0 is (omega arith))) z)) (r.chans c cl))
+    look_step r is false e =
+        plain 0 Look Look (next clean c) look false r is (omega arith) (inr (refl, refl)) tt
+        (λ cl. subst (λ (y : WorkerPlace × Row). Chan (r.mids c) y.0 y.1) (λ z. ((sees_look (V Look) c refl ∙ sym (sees_look (U (next clean c) Look) c refl)) z, sym (put_same 0 (get_or words w 0) (row words c) (row_at words w c 0 is (omega arith))) z)) (r.chans c cl))
 
-    count_step : (r : RuleAt clean words views i (V Count)) → get_elem? views i ≡ some (Worker (V Count)) → w ≡ at c 3 → After Count load_count true
-    count_step r at_i is =
-        plain 3 Count (counted (get_or words w 0)) c load_count true r at_i is (omega arith) (inl refl) (quiet (ltb 9 (get_or words w 0)))
+    count_step : (r : Rule clean words (V Count) threads) → w ≡ at c 3 → After Count load_count true
+    count_step r is =
+        plain 3 Count (counted (get_or words w 0)) c load_count true r is (omega arith) (inl refl) (quiet (ltb 9 (get_or words w 0)))
         (λ cl.
         let q = ready_here Count r (λ s. cc) cl in
         let low = q.whole_block.low in
@@ -210,10 +187,10 @@ module _ (clean : List Bool) (words : List ℕ) (views : List View) (i w : ℕ) 
         by_test q found true e = let few = q.whole_block.few in absurd (grind (arith, nat_tests))
         by_test q found false e = at_ready (r.mids c) (End (get_or words w 0)) (row words c) q.number q.block q.is q.state q.whole_block (q.reads, found)
 
-    end_step : (k : ℕ) (r : RuleAt clean words views i (V (End k))) → get_elem? views i ≡ some (Worker (V (End k))) → w ≡ at c (16 + k) → k ≤ 9 → After (End k) load_end true
-    end_step k r at_i is few =
+    end_step : (k : ℕ) (r : Rule clean words (V (End k)) threads) → w ≡ at c (16 + k) → k ≤ 9 → After (End k) load_end true
+    end_step k r is few =
         let lj : 16 + k < 65 = omega arith in
-        plain (16 + k) (End k) (ended_at k (offset_of (get_or words w 0))) c load_end true r at_i is lj (inl refl) (quiet (is_end k (offset_of (get_or words w 0))))
+        plain (16 + k) (End k) (ended_at k (offset_of (get_or words w 0))) c load_end true r is lj (inl refl) (quiet (is_end k (offset_of (get_or words w 0))))
         (λ cl.
         let q = ready_here (End k) r (λ s. cc) cl in
         let rd = q.reads in
@@ -243,10 +220,10 @@ module _ (clean : List Bool) (words : List ℕ) (views : List View) (i w : ℕ) 
             ends_there : (k o l z : ℕ) → k ≡ z → o ≡ l → 16 + z ≤ l → l ≤ 64 → (leb (16 + k) o && leb o 64) ≡ false → ⊥
             ends_there k o l z s e lo hi f = grind (arith, nat_tests)
 
-    copy_step : (k e : ℕ) (ws : List ℕ) (r : RuleAt clean words views i (V (Copy k e ws))) → get_elem? views i ≡ some (Worker (V (Copy k e ws))) → w ≡ at c (1 + length ws) → length ws < e → e ≤ 64 → After (Copy k e ws) copy true
-    copy_step k e ws r at_i is le fit =
+    copy_step : (k e : ℕ) (ws : List ℕ) (r : Rule clean words (V (Copy k e ws)) threads) → w ≡ at c (1 + length ws) → length ws < e → e ≤ 64 → After (Copy k e ws) copy true
+    copy_step k e ws r is le fit =
         let lj : 1 + length ws < 65 = omega arith in
-        plain (1 + length ws) (Copy k e ws) (copied_to k e (ws ++ get_or words w 0 ∷ [])) c copy true r at_i is lj (inl refl) (quiet (eqb (length (ws ++ get_or words w 0 ∷ [])) e))
+        plain (1 + length ws) (Copy k e ws) (copied_to k e (ws ++ get_or words w 0 ∷ [])) c copy true r is lj (inl refl) (quiet (eqb (length (ws ++ get_or words w 0 ∷ [])) e))
         (λ cl.
         let q = ready_here (Copy k e ws) r (λ s. cc) cl in
         let rd = q.reads in
@@ -273,37 +250,37 @@ module _ (clean : List Bool) (words : List ℕ) (views : List View) (i w : ℕ) 
             let short : length us ≢ e = was_false (length us) e t in
             at_ready (r.mids c) (Copy k e us) (row words c) q.number q.block q.is q.state q.whole_block (q.reads.0, same, size, omega arith, front)
 
-    first_answer : (x : ℕ) (t : Copied) (r : RuleAt clean words views i (V (Whole t))) → get_elem? views i ≡ some (Worker (V (Whole t))) → w ≡ at c 4 → x ≡ mark_of t → After (Whole t) (answer x) true
-    first_answer x t r at_i is mark =
-        plain 4 (Whole t) (Reply t (x ∷ [])) c (answer x) true r at_i is (omega arith) (inl refl) (omega arith, omega arith, mark)
+    first_answer : (x : ℕ) (t : Copied) (r : Rule clean words (V (Whole t)) threads) → w ≡ at c 4 → x ≡ mark_of t → After (Whole t) (answer x) true
+    first_answer x t r is mark =
+        plain 4 (Whole t) (Reply t (x ∷ [])) c (answer x) true r is (omega arith) (inl refl) (omega arith, omega arith, mark)
         (λ cl.
         let q = ready_here (Whole t) r (λ s. cc) cl in
-        subst (λ y. Chan (r.mids c) y (put 4 x (row words c))) (sym (sees_here (U c (Reply t (x ∷ [])) (answer x) true) c refl))
+        subst (λ y. Chan (r.mids c) y (put 4 x (row words c))) (sym (sees_here (U c (Reply t (x ∷ []))) c refl))
         (at_ready (r.mids c) (Reply t (x ∷ [])) (put 4 x (row words c)) q.number q.block q.is q.state q.whole_block (q.reads.1, omega arith, omega arith, stands_more [] x 4 (row words c) (λ z l. absurd (omega arith)), mark)))
 
-    next_answer : (x : ℕ) (t : Copied) (a : List ℕ) (r : RuleAt clean words views i (V (Reply t a))) → get_elem? views i ≡ some (Worker (V (Reply t a))) → w ≡ at c (4 + length a) → length a < 12 → After (Reply t a) (answer x) true
-    next_answer x t a r at_i is la =
+    next_answer : (x : ℕ) (t : Copied) (a : List ℕ) (r : Rule clean words (V (Reply t a)) threads) → w ≡ at c (4 + length a) → length a < 12 → After (Reply t a) (answer x) true
+    next_answer x t a r is la =
         let lj : 4 + length a < 65 = omega arith in
         let ne : 0 ≢ 4 + length a = omega arith in
         let old = r.fits_worker.replies in
         let pos : 0 < length a = old.0 in
         let longer : length (a ++ x ∷ []) ≡ length a + 1 = grind (arith, common_steps) in
         let front : get_or (a ++ x ∷ []) 0 0 ≡ get_or a 0 0 = grind (arith, common_steps) in
-        plain (4 + length a) (Reply t a) (Reply t (a ++ x ∷ [])) c (answer x) true r at_i is lj (inl refl) (omega arith, omega arith, front ∙ old.2)
+        plain (4 + length a) (Reply t a) (Reply t (a ++ x ∷ [])) c (answer x) true r is lj (inl refl) (omega arith, omega arith, front ∙ old.2)
         (λ cl.
         let q = ready_here (Reply t a) r (λ s. cc) cl in
         let rd = q.reads in
-        subst (λ y. Chan (r.mids c) y (put (4 + length a) x (row words c))) (sym (sees_here (U c (Reply t (a ++ x ∷ [])) (answer x) true) c refl))
+        subst (λ y. Chan (r.mids c) y (put (4 + length a) x (row words c))) (sym (sees_here (U c (Reply t (a ++ x ∷ []))) c refl))
         (at_ready (r.mids c) (Reply t (a ++ x ∷ [])) (put (4 + length a) x (row words c)) q.number q.block q.is (put_else (4 + length a) x (row words c) 0 ne ∙ q.state) q.whole_block
         (rd.0, omega arith, omega arith, stands_more a x 4 (row words c) rd.3, front ∙ rd.4)))
 
     -- the call that is served at the acknowledgement
-    module _ (t : Copied) (a : List ℕ) (r : RuleAt clean words views i (V (Reply t a))) where
+    module _ (t : Copied) (a : List ℕ) (r : Rule clean words (V (Reply t a)) threads) where
       abbrev served : List Served
       served = sv ++ serve c t a ∷ []
 
       abbrev W : Bool → WorkerView
-      W b = worker_result (V (Reply t a)) w acknowledge b (get_or words w 0)
+      W b = worker_result (V (Reply t a)) acknowledge b (get_or words w 0)
 
       acked_agrees : (k : ℕ) (b : List ℕ) (p : ThreadPlace) → Agrees k p (ready k b) → Agrees k p (acked k b a)
       acked_agrees k b (Try x f) g = tt
@@ -347,39 +324,35 @@ module _ (clean : List Bool) (words : List ℕ) (views : List View) (i w : ℕ) 
       last_here k b same = (filter (is_on c) sv, filter-append (is_on c) sv (serve c t a ∷ []) ∙ ap (λ z. filter (is_on c) sv ++ cond z (serve c t a ∷ []) []) (eq-eqb c c refl) ∙ ap (λ z. filter (is_on c) sv ++ z ∷ []) same)
 
       -- on a channel that is not clean
-      ack_unclean : get_elem? views i ≡ some (Worker (V (Reply t a))) → w ≡ at c 0 → length a ≡ 12 → is_clean clean c ≡ false → (b : Bool) → After (Reply t a) acknowledge b
-      ack_unclean at_i is la un b =
-          worker_move c 0 (V (Reply t a)) (W b) acknowledge b r r.mids at_i lc is (omega arith) (λ x ne. refl)
+      ack_unclean : w ≡ at c 0 → length a ≡ 12 → is_clean clean c ≡ false → (b : Bool) → After (Reply t a) acknowledge b
+      ack_unclean is la un b =
+          worker_move c 0 (V (Reply t a)) (W b) acknowledge b r r.mids lc is (omega arith) (λ x ne. refl)
           (λ x ne. sees_look (W b) x refl ∙ sym (sees_else (V (Reply t a)) x ne))
           (λ cl. absurd (off (sym un ∙ cl)))
           (λ x cl. last_else x (r.mids x) (λ s. off (sym un ∙ subst (λ y. is_clean clean y ≡ true) s cl)) (r.lasts x cl))
           record {
             marks = r.fits_worker.marks;
-            records = λ z y e. let f = r.fits_worker.records z y e in record { seat = f.seat; away = f.away; calls = calls_stay y.number (unclean_call y.number un) ∙ f.calls };
-            stray_records = r.fits_worker.stray_records;
-            unborn_from = r.fits_worker.unborn_from;
-            strays_from = r.fits_worker.strays_from;
             owners = r.fits_worker.owners;
             bearers = λ k l. calls_stay k (unclean_call k un) ∙ r.fits_worker.bearers k l;
             borne = borne_at (λ cl. absurd (off (sym un ∙ cl)));
             replied = replied_at la;
             replies = tt;
           }
-          (λ x u f. record { marks = f.marks; seat = f.seat; agrees = f.agrees; only = f.only; calls = calls_stay u.number (unclean_call u.number un) ∙ f.calls; fives = f.fives; bears = f.bears })
+          (λ x u f. record { marks = f.marks; number = f.number; agrees = f.agrees; only = f.only; calls = calls_stay u.number (unclean_call u.number un) ∙ f.calls; fives = f.fives; bears = f.bears })
 
-      ack_clean : get_elem? views i ≡ some (Worker (V (Reply t a))) → w ≡ at c 0 → length a ≡ 12 → is_clean clean c ≡ true → (b : Bool) → met acknowledge (get_or words w 0) ≡ b → After (Reply t a) acknowledge b
-      ack_clean at_i is la cl false e =
+      ack_clean : w ≡ at c 0 → length a ≡ 12 → is_clean clean c ≡ true → (b : Bool) → met acknowledge (get_or words w 0) ≡ b → After (Reply t a) acknowledge b
+      ack_clean is la cl false e =
           let q = ready_here (Reply t a) r (λ s. cc) cl in
           let three : get_or words w 0 ≡ 3 = sym (row_at words w c 0 is (omega arith)) ∙ q.state in
           absurd (was_false (get_or words w 0) 3 e three)
-      ack_clean at_i is la cl true e =
+      ack_clean is la cl true e =
           let q = ready_here (Reply t a) r (λ s. cc) cl in
           let rd = q.reads in
           let k : Mid = acked q.number q.block a in
           let mark : mark_of t / 65536 ≡ q.number + 1 = ap (λ z. mark_of z / 65536) rd.0 ∙ q.whole_block.mark in
           let mine : owner (r.mids c) ≡ some q.number = ap owner q.is in
           let below : q.number < n = r.fits_worker.owners c q.number cl mine in
-          worker_move c 0 (V (Reply t a)) (W true) acknowledge true r (upd r.mids c k) at_i lc is (omega arith)
+          worker_move c 0 (V (Reply t a)) (W true) acknowledge true r (upd r.mids c k) lc is (omega arith)
           (λ x ne. upd_else r.mids c k x ne)
           (λ x ne. sees_look (W true) x refl ∙ sym (sees_else (V (Reply t a)) x ne))
           (λ _. subst (λ y. Chan y (sees c (W true)) (put 0 4 (row words c))) (sym (upd_here r.mids c k c refl))
@@ -387,14 +360,6 @@ module _ (clean : List Bool) (words : List ℕ) (views : List View) (i w : ℕ) 
           (λ x cx. last_at q x cx (ℕ_discrete x c))
           record {
             marks = r.fits_worker.marks;
-            records = λ z y e.
-                let f = r.fits_worker.records z y e in
-                let apart : y.number ≢ q.number = (λ s. f.away c cl (mine ∙ ap some (sym s))) in
-                let g = record_else clean r.mids r.stage sv q.number c k (λ _. inr refl) z y apart f in
-                record { seat = g.seat; away = g.away; calls = calls_stay y.number (not_mine q.number y.number cl mark apart) ∙ g.calls };
-            stray_records = r.fits_worker.stray_records;
-            unborn_from = r.fits_worker.unborn_from;
-            strays_from = r.fits_worker.strays_from;
             owners = λ x z cx o. owner_at q x z cx o (ℕ_discrete x c);
             bearers = λ z l. calls_stay z (not_mine q.number z cl mark (λ s. omega arith)) ∙ r.fits_worker.bearers z l;
             borne = borne_at (λ _. (q.number, below, mark));
@@ -413,12 +378,12 @@ module _ (clean : List Bool) (words : List ℕ) (views : List View) (i w : ℕ) 
               (subst (Last served c) (sym (upd_here r.mids c (acked q.number q.block a) c refl)) (last_here q.number q.block (ap (λ z. serve c z a) q.reads.0)))
           last_at q x cx (no ne) = subst (Last served x) (sym (upd_else r.mids c (acked q.number q.block a) x ne)) (last_else x (r.mids x) ne (r.lasts x cx))
 
-          thread_at : (q : AtReady (r.mids c) (Reply t a) (row words c)) → mark_of t / 65536 ≡ q.number + 1 → (x : ℕ) (u : ThreadView) → FitsThread clean r.mids r.stage sv x u → Dec (u.number ≡ q.number)
-              → FitsThread clean (upd r.mids c (acked q.number q.block a)) r.stage served x u
+          thread_at : (q : AtReady (r.mids c) (Reply t a) (row words c)) → mark_of t / 65536 ≡ q.number + 1 → (x : ℕ) (u : ThreadView) → FitsThread clean r.mids sv x u → Dec (u.number ≡ q.number)
+              → FitsThread clean (upd r.mids c (acked q.number q.block a)) served x u
           thread_at q mark x u f (no ne) =
               let k : Mid = acked q.number q.block a in
-              let g = thread_else clean r.mids r.stage sv q.number c k (λ _. inr (ap owner q.is)) (λ _. inr refl) x u ne f in
-              record { marks = g.marks; seat = g.seat; agrees = g.agrees; only = g.only; calls = calls_stay u.number (not_mine q.number u.number cl mark ne) ∙ g.calls; fives = g.fives; bears = g.bears }
+              let g = thread_else clean r.mids sv q.number c k (λ _. inr (ap owner q.is)) (λ _. inr refl) x u ne f in
+              record { marks = g.marks; number = g.number; agrees = g.agrees; only = g.only; calls = calls_stay u.number (not_mine q.number u.number cl mark ne) ∙ g.calls; fives = g.fives; bears = g.bears }
           thread_at q mark x u f (yes s) =
               let k : Mid = acked q.number q.block a in
               let here : place u.place ≡ some c = f.only c cl (ap owner q.is ∙ ap some (sym s)) in
@@ -429,7 +394,7 @@ module _ (clean : List Bool) (words : List ℕ) (views : List View) (i w : ℕ) 
               let same : serve c t a ≡ as_served (call c q.block a) = ap (λ z. serve c z a) q.reads.0 in
               record {
                 marks = f.marks;
-                seat = f.seat;
+                number = f.number;
                 agrees = λ y p cy. subst (λ z. Agrees u.number u.place (upd r.mids c k z)) (some-injective c y (sym here ∙ p)) (subst (Agrees u.number u.place) (sym (upd_here r.mids c k c refl)) after);
                 only = λ y cy o. by_place q here f y cy o (ℕ_discrete y c);
                 calls =
@@ -443,24 +408,24 @@ module _ (clean : List Bool) (words : List ℕ) (views : List View) (i w : ℕ) 
                 bears = f.bears;
               }
             where
-              by_place : (q : AtReady (r.mids c) (Reply t a) (row words c)) → place u.place ≡ some c → FitsThread clean r.mids r.stage sv x u → (y : ℕ) → is_clean clean y ≡ true → owner (upd r.mids c (acked q.number q.block a) y) ≡ some u.number → Dec (y ≡ c) → place u.place ≡ some y
+              by_place : (q : AtReady (r.mids c) (Reply t a) (row words c)) → place u.place ≡ some c → FitsThread clean r.mids sv x u → (y : ℕ) → is_clean clean y ≡ true → owner (upd r.mids c (acked q.number q.block a) y) ≡ some u.number → Dec (y ≡ c) → place u.place ≡ some y
               by_place q here f y cy o (yes p) = here ∙ ap some (sym p)
               by_place q here f y cy o (no ne) = f.only y cy (sym (ap owner (upd_else r.mids c (acked q.number q.block a) y ne)) ∙ o)
 
-      ack_step : get_elem? views i ≡ some (Worker (V (Reply t a))) → w ≡ at c 0 → length a ≡ 12 → (b : Bool) → met acknowledge (get_or words w 0) ≡ b → After (Reply t a) acknowledge b
-      ack_step at_i is la b e = by_clean (is_clean clean c) refl
+      ack_step : w ≡ at c 0 → length a ≡ 12 → (b : Bool) → met acknowledge (get_or words w 0) ≡ b → After (Reply t a) acknowledge b
+      ack_step is la b e = by_clean (is_clean clean c) refl
         where
           by_clean : (y : Bool) → is_clean clean c ≡ y → After (Reply t a) acknowledge b
-          by_clean true cl = ack_clean at_i is la cl b e
-          by_clean false un = ack_unclean at_i is la un b
+          by_clean true cl = ack_clean is la cl b e
+          by_clean false un = ack_unclean is la un b
 
     -- by place and kind of step
-    pub worker_steps : (p : WorkerPlace) (d : Deed) (r : RuleAt clean words views i (V p)) → get_elem? views i ≡ some (Worker (V p)) → WorkerMay (V p) p w d → After p d (met d (get_or words w 0))
-    worker_steps Look look r at_i may = look_step r at_i may.1 (met look (get_or words w 0)) refl
-    worker_steps Count load_count r at_i may = count_step r at_i may.1
-    worker_steps (End k) load_end r at_i may = end_step k r at_i may.1 may.2
-    worker_steps (Copy k e ws) copy r at_i may = copy_step k e ws r at_i may.1 may.2 may.3
-    worker_steps (Whole t) (answer x) r at_i may = first_answer x t r at_i may.1 may.2
-    worker_steps (Reply t a) (answer x) r at_i may = next_answer x t a r at_i may.1 may.2
-    worker_steps (Reply t a) acknowledge r at_i may = ack_step t a r at_i may.1 may.2 (met acknowledge (get_or words w 0)) refl
-    worker_steps p d r at_i may = absurd may
+    pub worker_steps : (p : WorkerPlace) (d : Deed) (r : Rule clean words (V p) threads) → WorkerMay (V p) p w d → After p d (met d (get_or words w 0))
+    worker_steps Look look r may = look_step r may.1 (met look (get_or words w 0)) refl
+    worker_steps Count load_count r may = count_step r may.1
+    worker_steps (End k) load_end r may = end_step k r may.1 may.2
+    worker_steps (Copy k e ws) copy r may = copy_step k e ws r may.1 may.2 may.3
+    worker_steps (Whole t) (answer x) r may = first_answer x t r may.1 may.2
+    worker_steps (Reply t a) (answer x) r may = next_answer x t a r may.1 may.2
+    worker_steps (Reply t a) acknowledge r may = ack_step t a r may.1 may.2 (met acknowledge (get_or words w 0)) refl
+    worker_steps p d r may = absurd may

@@ -1,4 +1,4 @@
--- The worker's step on a word is one that its seat may make, and the seat's view goes on as the worker does.
+-- The worker's step on a word is one that a worker in its view may make, and the view goes on as the worker does.
 use Rattle.std.specs.Prelude.{◌≡◌, ℕ, ◌<◌, ◌==◌, Some, if◌then◌else◌}
 use Rattle.sb_actor.specs.Acts.{value_in}
 use Rattle.sb_actor.specs.Moves.{at, Deed, met, wrote, worker_view, WorkerMay}
@@ -9,7 +9,7 @@ use Rattle.sb_actor.specs.WorkerTable.{worker_plan, worker_after}
 use Rattle.sb_actor.specs.declared.acts.Act.{Act}
 use Rattle.sb_actor.specs.declared.acts.Act.TheVariants as act
 use Rattle.sb_actor.specs.declared.acts.Seen.{Seen}
-use Rattle.sb_actor.specs.declared.views.WorkerView.{WorkerView}
+use Rattle.sb_actor.specs.Views.{WorkerView}
 
 -- the word of a step on one, over all channels of the target
 abbrev pub act_word : Act → ℕ
@@ -41,12 +41,12 @@ Tells act.Mark n seen = Unit {0}
 Tells act.Give n seen = Unit {0}
 Tells act.Idle n seen = Unit {0}
 
--- a step that is of a kind and found n: the seat may make it, the word is written as that kind writes it, and the view after it holds
+-- a step that is of a kind and found n: the worker may make it, the word is written as that kind writes it, and the view after it holds
 -- where the worker then stands
 pub record Follows (v : WorkerView) (w : WorkerAt) (d : Deed) (n : ℕ) (seen : Seen) : Type 0 where
   pub may : WorkerMay v v.place (act_word (worker_plan w)) d
   pub writes : act_wrote (worker_plan w) n ≡ wrote d (met d n) n
-  pub holds : HoldsWorker (worker_view v (act_word (worker_plan w)) d n) (worker_after w seen)
+  pub holds : HoldsWorker (worker_view v d n) (worker_after w seen)
 
 abbrev pub WorkerFollows : Type 0
 WorkerFollows = (v : WorkerView) (w : WorkerAt) (d : Deed) (n : ℕ) (seen : Seen) → HoldsWorker v w → w.channel < w.channels → IsSoundStage w.stage

@@ -1,21 +1,11 @@
--- What a step does to its word and to the view of its seat, for each kind of step. These are the rows of the two tables, as a word
+-- What a step does to its word and to the view of its actor, for each kind of step. These are the rows of the two tables, as a word
 -- and a view see them.
 use Rattle.std.specs.Prelude.{◌≡◌, ℕ, ◌+◌, ◌*◌, ◌/◌, ◌<◌, ◌≤◌, Bool, true, false, ◌==◌, ◌&&◌, nat_lt, List, [], ◌∷◌, ◌++◌, length, slice_index, slice_index_or, if◌then◌else◌}
 use Rattle.sb_block.specs.Copies.{copied, is_end, mark_of}
 use Rattle.sb_block.specs.Packing.{offset_of}
-use Rattle.sb_actor.specs.declared.views.Served.{Served}
-use Rattle.sb_actor.specs.declared.views.Had.{Had}
-use Rattle.sb_actor.specs.declared.views.Shown.{Shown}
-use Rattle.sb_actor.specs.declared.views.Notes.{Notes}
-use Rattle.sb_actor.specs.declared.views.ThreadPlace.{ThreadPlace}
-use Rattle.sb_actor.specs.declared.views.ThreadPlace.TheVariants.{Try, Fill, Wait, Fetch}
-use Rattle.sb_actor.specs.declared.views.WorkerPlace.{WorkerPlace}
-use Rattle.sb_actor.specs.declared.views.WorkerPlace.TheVariants.{Look, Count, End, Copy, Copied as Whole, Reply}
-use Rattle.sb_actor.specs.declared.views.ThreadView.{ThreadView}
-use Rattle.sb_actor.specs.declared.views.WorkerView.{WorkerView}
-use Rattle.sb_actor.specs.declared.views.StrayView.{StrayView}
+use Rattle.sb_actor.specs.Views.{Served, Had, ThreadPlace, Try, Fill, Wait, Fetch, WorkerPlace, Look, Count, End, Copy, Whole, Reply, ThreadView, WorkerView}
 
--- the kinds of step: a thread's, the worker's, and those by hand
+-- the kinds of step: a thread's within a call, the worker's, and those of the other statements, which name a word directly
 pub data Deed : Type 0 where
   take_it : Deed
   fill : ℕ → Deed
@@ -58,38 +48,6 @@ wrote (stray_store x) b n = x
 wrote (stray_exchange from to) b n = if b then to else n
 wrote d b n = n
 
--- what a step notes as stored
-abbrev pub noted : Deed → Bool → ℕ → List (ℕ × ℕ)
-noted take_it b w = if b then (w, 2) ∷ [] else []
-noted (fill x) b w = (w, x) ∷ []
-noted send b w = if b then (w, 3) ∷ [] else []
-noted free b w = (w, 1) ∷ []
-noted abandon b w = (w, 5) ∷ []
-noted (answer x) b w = (w, x) ∷ []
-noted acknowledge b w = if b then (w, 4) ∷ [] else []
-noted (stray_store x) b w = (w, x) ∷ []
-noted (stray_exchange from to) b w = if b then (w, to) ∷ [] else []
-noted d b w = []
-
--- a value that a step shows, behind this many stores of its own seat
-abbrev pub shown : ℕ → ℕ → ℕ → List Shown
-shown w n before = record { word = w; value = n; before = before } ∷ []
-
--- what a step shows: what copies and fetches load, and what results name
-abbrev pub shows_of : Deed → Bool → ℕ → ℕ → ℕ → List Shown
-shows_of send b w n before = if b then [] else shown w n before
-shows_of fetch b w n before = shown w n before
-shows_of load_count b w n before = shown w n before
-shows_of load_end b w n before = shown w n before
-shows_of copy b w n before = shown w n before
-shows_of (stray_exchange from to) b w n before = shown w n before
-shows_of stray_load b w n before = shown w n before
-shows_of d b w n before = []
-
--- the notes after a step on word w that found n
-abbrev pub notes_after : Notes → ℕ → Deed → Bool → ℕ → Notes
-notes_after notes w d b n = record { stores = notes.stores ++ noted d b w; shows = notes.shows ++ shows_of d b w n (length notes.stores) }
-
 -- word j of channel c: 0 is its state, and 1 + i is block word i
 abbrev pub at : ℕ → ℕ → ℕ
 at c j = c * 65 + j
@@ -126,18 +84,12 @@ abbrev pub ended : List Bool → ThreadPlace → Deed → List Had
 ended clean (Fetch c block words) free = if is_clean clean c then record { channel = c; block = block; reply = words } ∷ [] else []
 ended clean p d = []
 
-abbrev pub thread_result : ThreadView → ℕ → Deed → Bool → ℕ → ThreadView
-thread_result v w d b n = record v {
-  place = thread_place v.clean v.place d b n;
-  had = v.had ++ ended v.clean v.place d;
-  notes = notes_after v.notes w d b n;
-  steps = v.steps + 1;
-  found = n;
-}
+abbrev pub thread_result : ThreadView → Deed → Bool → ℕ → ThreadView
+thread_result v d b n = record v { place = thread_place v.clean v.place d b n; had = v.had ++ ended v.clean v.place d }
 
--- a thread's view after a step on word w that found n
-abbrev pub thread_view : ThreadView → ℕ → Deed → ℕ → ThreadView
-thread_view v w d n = thread_result v w d (met d n) n
+-- a thread's view after a step that found n
+abbrev pub thread_view : ThreadView → Deed → ℕ → ThreadView
+thread_view v d n = thread_result v d (met d n) n
 
 -- a whole block of the thread with this number: its count and its end say what it is, and its mark bears the number
 pub record IsBlock (number : ℕ) (block : List ℕ) : Type 0 where
@@ -147,7 +99,7 @@ pub record IsBlock (number : ℕ) (block : List ℕ) : Type 0 where
   pub end : offset_of (slice_index block (15 + slice_index block 2)) ≡ length block
   pub mark : slice_index block 1 / 65536 ≡ number + 1
 
--- the step that a thread's seat may make, on word w
+-- the step that a thread may make, on word w
 abbrev pub ThreadMay : ThreadView → ThreadPlace → ℕ → Deed → Type 0
 ThreadMay v (Try c fives) w take_it = (c < length v.clean) × (w ≡ at c 0)
 ThreadMay v (Fill c words) w (fill x) = (c < length v.clean) × (w ≡ at c (1 + length words)) × (length words < 64)
@@ -189,21 +141,18 @@ abbrev pub served_by : ℕ → WorkerPlace → Deed → List Served
 served_by c (Reply taken reply) acknowledge = record { channel = c; taken = taken; reply = reply } ∷ []
 served_by c p d = []
 
-abbrev pub worker_result : WorkerView → ℕ → Deed → Bool → ℕ → WorkerView
-worker_result v w d b n = record v {
+abbrev pub worker_result : WorkerView → Deed → Bool → ℕ → WorkerView
+worker_result v d b n = record v {
   channel = worker_channel v.clean v.channel d b;
   place = worker_place v.place d b n;
   served = v.served ++ served_by v.channel v.place d;
-  notes = notes_after v.notes w d b n;
-  steps = v.steps + 1;
-  found = n;
 }
 
--- the worker's view after a step on word w that found n
-abbrev pub worker_view : WorkerView → ℕ → Deed → ℕ → WorkerView
-worker_view v w d n = worker_result v w d (met d n) n
+-- the worker's view after a step that found n
+abbrev pub worker_view : WorkerView → Deed → ℕ → WorkerView
+worker_view v d n = worker_result v d (met d n) n
 
--- the step that the worker's seat may make, on word w. The first word of a reply is the mark of the copy
+-- the step that the worker may make, on word w. The first word of a reply is the mark of the copy
 abbrev pub WorkerMay : WorkerView → WorkerPlace → ℕ → Deed → Type 0
 WorkerMay v Look w look = (v.channel < length v.clean) × (w ≡ at v.channel 0)
 WorkerMay v Count w load_count = (v.channel < length v.clean) × (w ≡ at v.channel 3)
@@ -214,13 +163,6 @@ WorkerMay v (Reply taken reply) w (answer x) = (v.channel < length v.clean) × (
 WorkerMay v (Reply taken reply) w acknowledge = (v.channel < length v.clean) × (w ≡ at v.channel 0) × (length reply ≡ 12)
 WorkerMay v p w d = ⊥
 
-abbrev pub stray_result : StrayView → ℕ → Deed → Bool → ℕ → StrayView
-stray_result v w d b n = record v { notes = notes_after v.notes w d b n; steps = v.steps + 1; found = n }
-
--- a stray seat's view after a step on word w that found n
-abbrev pub stray_view : StrayView → ℕ → Deed → ℕ → StrayView
-stray_view v w d n = stray_result v w d (met d n) n
-
 -- word w is one of a channel that is there and not clean
 abbrev pub IsUnclean : List Bool → ℕ → Type 0
 IsUnclean clean w = (c j : ℕ) → w ≡ at c j → j < 65 → (c < length clean) × (is_clean clean c ≡ false)
@@ -229,10 +171,10 @@ IsUnclean clean w = (c j : ℕ) → w ≡ at c j → j < 65 → (c < length clea
 abbrev pub IsWord : List Bool → ℕ → Type 0
 IsWord clean w = w < length clean * 65
 
--- the step that a stray seat may make, on word w: it never stores into a clean channel
-abbrev pub StrayMay : StrayView → ℕ → Deed → Type 0
-StrayMay v w (stray_store x) = IsWord v.clean w × IsUnclean v.clean w
-StrayMay v w (stray_exchange from to) = IsWord v.clean w × IsUnclean v.clean w
-StrayMay v w stray_load = IsWord v.clean w
-StrayMay v w stray_wait = IsWord v.clean w
-StrayMay v w d = ⊥
+-- the step of a statement that names word w: it stores into no clean channel
+abbrev pub StrayMay : List Bool → ℕ → Deed → Type 0
+StrayMay clean w (stray_store x) = IsWord clean w × IsUnclean clean w
+StrayMay clean w (stray_exchange from to) = IsWord clean w × IsUnclean clean w
+StrayMay clean w stray_load = IsWord clean w
+StrayMay clean w stray_wait = IsWord clean w
+StrayMay clean w d = ⊥

@@ -89,7 +89,3 @@ is_call (Some (Exchange target word from to)) = false
 is_call (Some (Load target word)) = false
 is_call (Some (Wait target word value most)) = false
 is_call None = false
-
--- the thread is not finished, and its present statement is a call
-abbrev pub is_in_call : Script → ThreadAt → Bool
-is_in_call script x = is_call (statement_at script x.target x.thread x.place)

@@ -1,4 +1,4 @@
--- Rule S: what the words of a section and the views of its seats have in common at every moment. Between words and views stands what
+-- Rule S: what the words of a target and the views of its actors have in common at every moment. Between words and views stands what
 -- the rule knows of each clean channel (`Mid`): the words fit it, and each view fits it. Words never speak of views.
 --
 --   state   who is at the channel                what holds
@@ -8,24 +8,12 @@
 --                                                copy is the block's; once it replies its copy is the whole block, and what it stored stands
 --   4       one thread, in Wait, Fetch or Free   the worker is not engaged there; the last call served there is the block whole, with a reply
 --           (acked)                              whose twelve words stand; the words fetched are the first of them
-use Rattle.std.specs.Prelude.{◌≡◌, ◌≢◌, ◌⊎◌, ℕ, ◌+◌, ◌*◌, ◌/◌, ◌<◌, ◌≤◌, Bool, true, false, cond, ◌==◌, ◌&&◌, nat_lt, List, [], ◌∷◌, ◌++◌, length, slice_index, take, map}
+use Rattle.std.specs.Prelude.{◌≡◌, ◌⊎◌, ℕ, ◌+◌, ◌*◌, ◌/◌, ◌<◌, ◌≤◌, Bool, true, false, cond, ◌==◌, ◌&&◌, nat_lt, List, [], ◌∷◌, ◌++◌, length, slice_index, take, map}
 use Rattle.std.specs.List.{filter}
 use mathlib.Core.Option.{Option, none, some}
 use lib.ListN.{get_elem?}
 use Rattle.sb_block.specs.Copies.{Copied, whole, mark_of}
-use Rattle.sb_actor.specs.declared.views.Served.{Served}
-use Rattle.sb_actor.specs.declared.views.Had.{Had}
-use Rattle.sb_actor.specs.declared.views.ThreadRecord.{ThreadRecord}
-use Rattle.sb_actor.specs.declared.views.StrayRecord.{StrayRecord}
-use Rattle.sb_actor.specs.declared.views.ThreadPlace.{ThreadPlace}
-use Rattle.sb_actor.specs.declared.views.ThreadPlace.TheVariants.{Try, Fill, Wait, Fetch}
-use Rattle.sb_actor.specs.declared.views.ThreadView.{ThreadView}
-use Rattle.sb_actor.specs.declared.views.WorkerPlace.{WorkerPlace}
-use Rattle.sb_actor.specs.declared.views.WorkerPlace.TheVariants.{Look, Count, End, Copy, Copied as Whole, Reply}
-use Rattle.sb_actor.specs.declared.views.WorkerView.{WorkerView}
-use Rattle.sb_actor.specs.declared.views.StrayView.{StrayView}
-use Rattle.sb_actor.specs.declared.views.View.{View}
-use Rattle.sb_actor.specs.declared.views.View.TheVariants.{Worker, Thread, Stray, Spent}
+use Rattle.sb_actor.specs.Views.{Served, Had, ThreadPlace, Try, Fill, Wait, Fetch, ThreadView, WorkerPlace, Look, Count, End, Copy, Whole, Reply, WorkerView}
 use Rattle.sb_actor.specs.Moves.{IsBlock, is_clean}
 
 -- what the rule knows of a clean channel: who is at it, by number, with what
@@ -40,12 +28,6 @@ owner idle = none
 owner (filling k words) = some k
 owner (ready k block) = some k
 owner (acked k block reply) = some k
-
--- what became of a number: it was not given out, it is that of the seat i, or of record n
-pub data Stage : Type 0 where
-  unborn : Stage
-  seated : ℕ → Stage
-  joined : ℕ → Stage
 
 -- the 65 words of a channel, as a function
 abbrev pub Row : Type 0
@@ -142,50 +124,26 @@ Replies (Copy count end words) = Unit {0}
 Replies (Whole taken) = Unit {0}
 Replies (Reply taken reply) = (0 < length reply) × (length reply ≤ 12) × (slice_index reply 0 ≡ mark_of taken)
 
--- what holds of the seats, by what the rule knows of the channels, of the numbers of threads, and of the calls served
-module _ (clean : List Bool) (mids : ℕ → Mid) (stage : ℕ → Stage) (served : List Served) where
-  -- of the seat of a thread
+-- of thread i, by what the rule knows of the channels and of the calls served
+module _ (clean : List Bool) (mids : ℕ → Mid) (served : List Served) where
   pub record FitsThread (i : ℕ) (v : ThreadView) : Type 0 where
+    pub number : v.number ≡ i
     pub marks : v.clean ≡ clean
-    pub seat : stage v.number ≡ seated i
     pub agrees : (c : ℕ) → place v.place ≡ some c → is_clean clean c ≡ true → Agrees v.number v.place (mids c)
     pub only : (c : ℕ) → is_clean clean c ≡ true → owner (mids c) ≡ some v.number → place v.place ≡ some c
     pub calls : calls_of clean v.number served ≡ map as_served (v.had ++ waiting clean mids (place v.place))
     pub fives : Fives clean v.place
     pub bears : Bears v.number v.place
 
-  -- of the record of a thread
-  pub record FitsRecord (n : ℕ) (r : ThreadRecord) : Type 0 where
-    pub seat : stage r.number ≡ joined n
-    pub away : (c : ℕ) → is_clean clean c ≡ true → owner (mids c) ≢ some r.number
-    pub calls : calls_of clean r.number served ≡ map as_served r.had
-
--- of the worker's own seat
-module _ (clean : List Bool) (mids : ℕ → Mid) (stage strays : ℕ → Stage) where
+-- of the worker, beside this many threads
+module _ (clean : List Bool) (mids : ℕ → Mid) (threads : ℕ) where
   pub record FitsWorker (v : WorkerView) : Type 0 where
     pub marks : v.clean ≡ clean
-    pub records : (n : ℕ) (r : ThreadRecord) → get_elem? v.thread_records n ≡ some r → FitsRecord clean mids stage v.served n r
-    pub stray_records : (n : ℕ) (r : StrayRecord) → get_elem? v.stray_records n ≡ some r → strays r.number ≡ joined n
-    pub unborn_from : (k : ℕ) → v.threads ≤ k → stage k ≡ unborn
-    pub strays_from : (k : ℕ) → v.strays ≤ k → strays k ≡ unborn
-    pub owners : (c k : ℕ) → is_clean clean c ≡ true → owner (mids c) ≡ some k → k < v.threads
-    pub bearers : (k : ℕ) → v.threads ≤ k → calls_of clean k v.served ≡ []
-    pub borne : (n : ℕ) (x : Served) → get_elem? v.served n ≡ some x → is_clean clean x.channel ≡ true → (k : ℕ) × (k < v.threads) × (mark_of x.taken / 65536 ≡ k + 1)
+    pub owners : (c k : ℕ) → is_clean clean c ≡ true → owner (mids c) ≡ some k → k < threads
+    pub bearers : (k : ℕ) → threads ≤ k → calls_of clean k v.served ≡ []
+    pub borne : (n : ℕ) (x : Served) → get_elem? v.served n ≡ some x → is_clean clean x.channel ≡ true → (k : ℕ) × (k < threads) × (mark_of x.taken / 65536 ≡ k + 1)
     pub replied : (n : ℕ) (x : Served) → get_elem? v.served n ≡ some x → IsReply x.taken x.reply
     pub replies : Replies v.place
-
--- of a stray seat
-pub record FitsStray (clean : List Bool) (strays : ℕ → Stage) (i : ℕ) (v : StrayView) : Type 0 where
-  pub marks : v.clean ≡ clean
-  pub seat : strays v.number ≡ seated i
-
--- of seat i
-module _ (clean : List Bool) (mids : ℕ → Mid) (stage strays : ℕ → Stage) (desk : ℕ) (worker : WorkerView) where
-  abbrev pub FitsSeat : ℕ → View → Type 0
-  FitsSeat i (Worker v) = (i ≡ desk) × (v ≡ worker)
-  FitsSeat i (Thread v) = FitsThread clean mids stage worker.served i v
-  FitsSeat i (Stray v) = FitsStray clean strays i v
-  FitsSeat i Spent = Unit {0}
 
 -- a call served on channel c
 abbrev pub is_on : ℕ → Served → Bool
@@ -198,17 +156,11 @@ Last served c (filling k words) = Unit {0}
 Last served c (ready k block) = Unit {0}
 Last served c (acked k block reply) = (before : List Served) × (filter (is_on c) served ≡ before ++ as_served (record { channel = c; block = block; reply = reply }) ∷ [])
 
--- the rule, where the worker's seat is number `desk` and its view is known
-pub record RuleAt (clean : List Bool) (words : List ℕ) (views : List View) (desk : ℕ) (worker : WorkerView) : Type 0 where
+-- the rule, over the words of a target with these clean marks, the view of its worker, and those of its threads, in order
+pub record Rule (clean : List Bool) (words : List ℕ) (worker : WorkerView) (threads : List ThreadView) : Type 0 where
   pub mids : ℕ → Mid
-  pub stage : ℕ → Stage
-  pub strays : ℕ → Stage
   pub sized : length words ≡ length clean * 65
   pub chans : (c : ℕ) → is_clean clean c ≡ true → Chan (mids c) (sees c worker) (row words c)
   pub lasts : (c : ℕ) → is_clean clean c ≡ true → Last worker.served c (mids c)
-  pub fits_worker : FitsWorker clean mids stage strays worker
-  pub seats : (i : ℕ) (v : View) → get_elem? views i ≡ some v → FitsSeat clean mids stage strays desk worker i v
-
--- the rule
-abbrev pub Rule : List Bool → List ℕ → List View → Type 0
-Rule clean words views = (desk : ℕ) × (worker : WorkerView) × RuleAt clean words views desk worker
+  pub fits_worker : FitsWorker clean mids (length threads) worker
+  pub fits : (i : ℕ) (v : ThreadView) → get_elem? threads i ≡ some v → FitsThread clean mids worker.served i v

@@ -1,4 +1,4 @@
--- A thread's step within a call is one that its seat may make, and the seat's view goes on as the thread does.
+-- A thread's step within a call is one that a thread in its view may make, and the view goes on as the thread does.
 use Rattle.std.specs.Prelude.{◌≡◌, ℕ, Bool, false, List, length, Some}
 use Rattle.sb_actor.specs.Following.{act_word, act_wrote, Tells}
 use Rattle.sb_actor.specs.Moves.{IsBlock, is_clean, Deed, met, wrote, thread_view, ThreadMay}
@@ -8,7 +8,7 @@ use Rattle.sb_actor.specs.Ties.{thread_deed, HoldsThread}
 use Rattle.sb_actor.specs.ThreadStages.{ThreadStage, Try, Fill, Send, Wait, Fetch, Free, Abandon, Stray, Over, ThreadAt}
 use Rattle.sb_actor.specs.ThreadTable.{thread_plan, thread_after}
 use Rattle.sb_actor.specs.declared.acts.Seen.{Seen}
-use Rattle.sb_actor.specs.declared.views.ThreadView.{ThreadView}
+use Rattle.sb_actor.specs.Views.{ThreadView}
 use Rattle.sb_statements.specs.declared.scripts.Script.{Script}
 
 -- a channel that the thread gives up is not clean
@@ -27,7 +27,7 @@ GivesUp clean Over = Unit {0}
 pub record ThreadGoes (script : Script) (v : ThreadView) (x : ThreadAt) (d : Deed) (n : ℕ) (seen : Seen) : Type 0 where
   pub may : ThreadMay v v.place (act_word (thread_plan script x)) d
   pub writes : act_wrote (thread_plan script x) n ≡ wrote d (met d n) n
-  pub holds : HoldsThread (thread_view v (act_word (thread_plan script x)) d n) (thread_after script x seen).thread
+  pub holds : HoldsThread (thread_view v d n) (thread_after script x seen).thread
 
 abbrev pub ThreadFollows : Type 0
 ThreadFollows = (script : Script) (v : ThreadView) (x : ThreadAt) (d : Deed) (n : ℕ) (seen : Seen) → HoldsThread v x

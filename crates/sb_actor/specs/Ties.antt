@@ -6,13 +6,8 @@ use Rattle.sb_actor.specs.WorkerStages.{WorkerStage, WorkerAt}
 use Rattle.sb_actor.specs.WorkerStages as worker
 use Rattle.sb_actor.specs.ThreadStages.{ThreadStage, ThreadAt}
 use Rattle.sb_actor.specs.ThreadStages as thread
-use Rattle.sb_actor.specs.declared.views.ThreadPlace.{ThreadPlace}
-use Rattle.sb_actor.specs.declared.views.ThreadPlace.TheVariants.{Try, Fill, Wait, Fetch}
-use Rattle.sb_actor.specs.declared.views.WorkerPlace.{WorkerPlace}
-use Rattle.sb_actor.specs.declared.views.WorkerPlace.TheVariants.{Look, Count, End, Copy, Copied as Whole, Reply}
-use Rattle.sb_actor.specs.declared.views.ThreadView.{ThreadView}
-use Rattle.sb_actor.specs.declared.views.WorkerView.{WorkerView}
-use Rattle.sb_actor.specs.Moves.{Deed, take_it, fill, send, wait, fetch, free, abandon, look, load_count, load_end, copy, answer, acknowledge, stray_store, stray_exchange, stray_load, stray_wait, no_call}
+use Rattle.sb_actor.specs.Views.{ThreadPlace, Try, Fill, Wait, Fetch, WorkerPlace, Look, Count, End, Copy, Whole, Reply, ThreadView, WorkerView}
+use Rattle.sb_actor.specs.Moves.{Deed, take_it, fill, send, wait, fetch, free, abandon, look, load_count, load_end, copy, answer, acknowledge, no_call}
 
 -- Take, Mark and Give leave the view at the whole copy
 abbrev pub worker_place_of : WorkerStage → WorkerPlace
@@ -38,7 +33,7 @@ worker_deed (worker.Give taken reply) = None
 worker_deed (worker.Reply taken reply at) = Some (answer (slice_index reply at))
 worker_deed (worker.Ack taken reply) = Some acknowledge
 
--- the worker's seat holds where the worker stands
+-- the worker's view holds where the worker stands
 pub record HoldsWorker (v : WorkerView) (w : WorkerAt) : Type 0 where
   pub channels : length v.clean ≡ w.channels
   pub channel : v.channel ≡ w.channel
@@ -68,16 +63,8 @@ thread_deed block (thread.Abandon c) = Some abandon
 thread_deed block (thread.Stray loads most) = None
 thread_deed block thread.Over = None
 
--- the thread's seat holds where the thread stands
+-- the thread's view holds where the thread stands
 pub record HoldsThread (v : ThreadView) (x : ThreadAt) : Type 0 where
   pub number : v.number ≡ x.thread
   pub clean : v.clean ≡ x.clean
   pub place : v.place ≡ thread_place_of x.block x.stage
-
--- the kind of step of a statement that names a word
-abbrev pub stray_deed : Statement → Option Deed
-stray_deed (statement.Call tag args) = None
-stray_deed (statement.Store target word value) = Some (stray_store value)
-stray_deed (statement.Exchange target word from to) = Some (stray_exchange from to)
-stray_deed (statement.Load target word) = Some stray_load
-stray_deed (statement.Wait target word value most) = Some stray_wait

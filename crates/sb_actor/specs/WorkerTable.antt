@@ -1,5 +1,5 @@
 -- The worker of a target, step by step: a table of phase, step and next phase. One row is one atomic step.
-use Rattle.std.specs.Prelude.{◌≡◌, ◌<◌, ◌≤◌, ℕ, ◌+◌, ◌%◌, Bool, true, false, ◌==◌, nat_lt, List, [], ◌∷◌, ◌++◌, length, slice_index, Option, None, Some, if◌then◌else◌}
+use Rattle.std.specs.Prelude.{◌≡◌, ℕ, ◌+◌, ◌%◌, Bool, true, false, ◌==◌, nat_lt, List, [], ◌∷◌, ◌++◌, length, slice_index, Option, None, Some, if◌then◌else◌}
 use Rattle.sb_block.specs.Copies.{Copied, copied, is_end, mark_of}
 use Rattle.sb_block.specs.Packing.{offset_of}
 use Rattle.sb_block.specs.Replies.{reply_words}
@@ -8,7 +8,6 @@ use Rattle.sb_actor.specs.WorkerStages.{WorkerStage, Look, Count, End, Copy, Tak
 use Rattle.sb_actor.specs.declared.acts.Act.{Act}
 use Rattle.sb_actor.specs.declared.acts.Act.TheVariants as act
 use Rattle.sb_actor.specs.declared.acts.Seen.{Seen}
-use Rattle.sb_statements.specs.declared.statements.Word.{Word}
 
 -- a row: the step, and the worker after it, by what the step found
 pub record WorkerRow : Type 0 where
@@ -112,17 +111,3 @@ is_looking (Mark taken) = false
 is_looking (Give taken reply) = false
 is_looking (Reply taken reply at) = false
 is_looking (Ack taken reply) = false
-
--- the word of one of this many channels
-abbrev pub IsWordWithin : ℕ → Word → Type 0
-IsWordWithin channels word = (word.channel < channels) × (word.at ≤ 64)
-
--- a step on a word of one of this many channels, or on the turn
-abbrev pub IsWithin : ℕ → Act → Type 0
-IsWithin channels (act.Load target word) = IsWordWithin channels word
-IsWithin channels (act.Store target word value) = IsWordWithin channels word
-IsWithin channels (act.Exchange target word from to) = IsWordWithin channels word
-IsWithin channels act.Take = Unit {0}
-IsWithin channels act.Mark = Unit {0}
-IsWithin channels act.Give = Unit {0}
-IsWithin channels act.Idle = Unit {0}

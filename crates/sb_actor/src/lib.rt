@@ -5,10 +5,9 @@
 //
 // What a worker and a thread do is stated as two tables, one row a line: `specs/WorkerTable.antt` and `specs/ThreadTable.antt`.
 //
-// Beside the machines stand the views, which say what the seat of an actor knows, and the rule that channel words and views keep
-// between any two steps (`specs/Rule.antt`), with two further parts: where each word and each shown value comes from
-// (`specs/Sources.antt`), and how many calls may have been served (`specs/Counts.antt`). The laws in `laws` say that each step that a
-// seat may make keeps all three.
+// Beside the machines stand the views (`specs/Views.antt`), which say what is known of an actor, and the rule that the channel words of a
+// target and the views of its actors keep between any two steps (`specs/Rule.antt`). The laws in `laws` say that it holds at the
+// opening, and that each step keeps it.
 #![tactic(auto)]
 
 mod acts;
@@ -16,20 +15,13 @@ mod laws;
 mod phases;
 mod places;
 mod threads;
-mod views;
 mod workers;
 
 pub use acts::{ABANDONED, ACKNOWLEDGED, Act, BUSY, FREE, READY, Seen};
 pub use laws::{
-    blocks_are_whole, clean_channels_are_kept, notes_are_of_calls, results_suit,
-    splits_and_joins_keep_parts, splits_and_joins_keep_rule, starts_in_rule, steps_keep_counts,
-    steps_keep_origins, stray_follows, stray_keeps_rule, thread_follows, thread_keeps_rule,
-    thread_learns, threads_stay_under_way, worker_follows, worker_keeps_rule,
+    blocks_are_whole, clean_channels_are_kept, starts_in_rule, stray_keeps_rule, thread_follows,
+    thread_keeps_rule, worker_follows, worker_keeps_rule,
 };
-pub use places::{establish_block, mark_at};
+pub use places::mark_at;
 pub use threads::ThreadState;
-pub use views::{
-    Had, Notes, Served, Shown, StrayRecord, StrayView, ThreadPlace, ThreadRecord, ThreadView, View,
-    WorkerPlace, WorkerView,
-};
 pub use workers::WorkerState;

@@ -1,15 +1,11 @@
 // The statements of a thread.
 ghost use Rattle.std.specs.Prelude.{◌≡◌, ◌<◌, ◌≤◌, length, true, option_map, IfSome};
-ghost use Rattle.std.specs.List.{list_all};
-ghost use Rattle.sb_wide.specs.Wide.{is_unit};
-ghost use Rattle.sb_actor.specs.UnderWay.{IsWholeAt};
 ghost use Rattle.sb_statements.specs.Limits.{most_statements};
 ghost use Rattle.sb_statements.specs.Soundness.{is_sound, is_statement};
 ghost use Rattle.sb_actor.specs.Places.{statements_of, statement_at, mark_at, clean_upto};
-ghost use Rattle.sb_block.specs.Blocks.{block, encodes, has_units};
+ghost use Rattle.sb_block.specs.Blocks.{block, encodes};
 ghost use Rattle.sb_statements.specs.CleanMarks.{AreCleanMarks};
 
-use crate::laws::blocks_are_whole;
 use arrayvec::ArrayVec;
 use sb_block::{Words, encode};
 use sb_call::{Arg, CallTag};
@@ -96,43 +92,4 @@ pub(crate) fn clean_upto(
         clean.push(marks.is_clean(target, channel));
     }
     clean
-}
-
-// The units of a string have 16 bits.
-fn establish_string(units: &[u16])
-    ensures { list_all is_unit units.now ≡ true }
-{
-    let _units = units.len();
-}
-
-fn establish_arg(arg: &Arg)
-    ensures { has_units arg.now ≡ true }
-{
-    match arg {
-        Arg::Num(_) => {}
-        Arg::Str(text) => establish_string(text.as_units()),
-    }
-}
-
-fn establish_units(args: &[Arg])
-    ensures { list_all has_units args.now ≡ true }
-{
-    let mut args = args;
-    while let Some((arg, more)) = args.split_first() {
-        establish_arg(arg);
-        args = more;
-    }
-}
-
-/// What holds of the statement at a place of a sound script: where it is a call, its block is a whole one, whose mark bears the
-/// thread's number. It reads the call's arguments, and its contract is the fact.
-pub fn establish_block(script: &Script, target: u32, thread: u32, place: u32)
-    requires { is_sound script.now ≡ true }
-    ensures { IsWholeAt script.now target thread place }
-{
-    blocks_are_whole();
-    match sound_statement_at(script, target, thread, place) {
-        Some(Statement::Call { tag: _, args }) => establish_units(args.as_slice()),
-        _ => {}
-    }
 }

@@ -6,9 +6,7 @@ ghost use Rattle.sb_statements.specs.Soundness.{is_sound, channels_of};
 ghost use Rattle.sb_statements.specs.declared.scripts.Script.{Script};
 ghost use Rattle.sb_actor.specs.ThreadStages.{ThreadAt, Try};
 ghost use Rattle.sb_statements.specs.CleanMarks.{AreCleanMarks};
-ghost use Rattle.sb_actor.specs.Places.{statement_at, begins, begun, is_finished, is_in_call};
-ghost use Rattle.sb_actor.specs.Ranges.{IsSoundThreadStage};
-ghost use Rattle.sb_actor.specs.ThreadWords.{IsCallWithin};
+ghost use Rattle.sb_actor.specs.Places.{statement_at, begins, begun, is_finished};
 ghost use Rattle.sb_actor.specs.ThreadTable.{thread_plan, thread_after, stray_row, after_round, after_try, after_send, after_stray_load, reply_by, goes_on, ends, has_clean};
 
 use crate::acts::{
@@ -351,7 +349,7 @@ impl ThreadState {
         None
     }
 
-    // By what a store, an exchange or a load by hand found.
+    // By what a direct store, exchange or load found.
     #[inline(always)]
     fn after_stray(
         &mut self,
@@ -382,7 +380,6 @@ impl ThreadState {
     #[inline(always)]
     pub fn plan(&self, script: &Script) -> Act
         ensures plan { result ≡ thread_plan script.now self.now }
-        ensures within { IsCallWithin (length self.now.clean) self.now.stage result }
     {
         let target = self.target;
         let state = state_word(self.channel);
@@ -458,17 +455,6 @@ impl ThreadState {
         }
     }
 
-    /// What holds of every thread: its target has at most 8 channels, its block has at most 64 words, and its stage is in its ranges.
-    /// It does nothing: its contract is the facts.
-    pub fn establish_sound(&self)
-        ensures few { length self.now.clean ≤ 8 }
-        ensures patience { 0 < self.now.patience }
-        ensures block { length self.now.block ≤ 64 }
-        ensures stage { IsSoundThreadStage (length self.now.clean) self.now.patience self.now.block self.now.stage }
-    {
-        let _patience = self.patience;
-    }
-
     /// The target, from 0.
     pub fn target(&self) -> u32
         ensures { result ≡ self.now.target }
@@ -495,15 +481,5 @@ impl ThreadState {
         ensures { result ≡ is_finished script.now self.now }
     {
         self.place as usize >= statements_of(script, self.target, self.thread).len()
-    }
-
-    /// Whether it is not finished and its present statement is a call. The script is that of `new`.
-    pub fn in_call(&self, script: &Script) -> bool
-        ensures { result ≡ is_in_call script.now self.now }
-    {
-        match statement_at(script, self.target, self.thread, self.place) {
-            Some(Statement::Call { .. }) => true,
-            _ => false,
-        }
     }
 }

@@ -3,7 +3,7 @@ ghost use Rattle.std.specs.Prelude.{◌≡◌, ◌+◌, ◌%◌, ◌<◌, ◌≤
 ghost use Rattle.sb_block.specs.Copies.{copied, is_copy};
 ghost use Rattle.sb_actor.specs.Ranges.{IsSoundStage};
 ghost use Rattle.sb_actor.specs.WorkerStages.{Look};
-ghost use Rattle.sb_actor.specs.WorkerTable.{worker_plan, worker_after, IsAnswer, taken_in, is_looking, IsWithin};
+ghost use Rattle.sb_actor.specs.WorkerTable.{worker_plan, worker_after, IsAnswer, taken_in, is_looking};
 
 use crate::acts::{ACKNOWLEDGED, Act, READY, Seen, block_word, exchange, load, state_word, store};
 use crate::phases::WorkerPhase;
@@ -98,7 +98,6 @@ impl WorkerState {
     #[inline(always)]
     pub fn plan(&self) -> Act
         ensures plan { result ≡ worker_plan self.now }
-        ensures within { IsWithin self.now.channels result }
     {
         let target = self.target;
         let channel = self.channel;

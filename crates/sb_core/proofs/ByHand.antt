@@ -1,5 +1,5 @@
 -- A statement that stores into a word or exchanges it names a channel that is not clean.
-use Rattle.std.proofs.Common.{◌≡◌, ◌∙◌, refl, ap, subst, sym, ℕ, zero, suc, ◌<◌, ◌≤◌, Bool, true, false, not, ◌&&◌, ◌||◌, ◌==◌, List, [], ◌∷◌, length, Option, None, Some, IfSome, slice_get, arith}
+use Rattle.std.proofs.Common.{◌≡◌, ◌∙◌, refl, ap, subst, ℕ, zero, suc, ◌<◌, ◌≤◌, Bool, true, false, not, ◌&&◌, ◌||◌, ◌==◌, List, [], ◌∷◌, length, Option, None, Some, IfSome, slice_get, arith}
 use Rattle.std.proofs.lemmas.Bool.{and_parts}
 use Rattle.std.proofs.lemmas.Bool.Decides.{nat_tests}
 use Rattle.std.specs.List.{list_any}
@@ -10,7 +10,6 @@ use Rattle.sb_actor.specs.Moves.{is_clean as is_marked}
 use Rattle.sb_actor.specs.Places.{clean_channels, or_none, statement_at, threads_of}
 use Rattle.sb_actor.specs.ThreadStages.{ThreadAt}
 use Rattle.sb_actor.specs.ThreadTable.{stray_row}
-use Rattle.sb_actor.specs.declared.views.StrayView.{StrayView}
 use Rattle.sb_statements.specs.Scripts.{is_clean, threads_write, writes_channel}
 use Rattle.sb_statements.specs.Soundness.{channels_of, is_patience, is_statement, has_word}
 use Rattle.sb_statements.specs.declared.scripts.Script.{Script}
@@ -73,37 +72,35 @@ module _ (script : Script) where
   both : (a b : Bool) → a ≡ true → b ≡ true → (a && b) ≡ true
   both a b e f = rw (e, f) refl
 
-  -- a statement by hand is a step that a stray seat of its target may make
+  -- a statement by hand is a step that may be made by hand in its target
   pub by_hand : (x : ThreadAt) (loads most : ℕ) (o : Option Statement) → statement_at script x.target x.thread x.place ≡ o → IfSome o (λ s. is_statement script.targets s ≡ true) → (u : ℕ)
       → names (stray_row script x loads most o).step u ≡ true
-      → (d : Deed) × ((v : StrayView) → v.clean ≡ clean_channels script u → StrayMay v (act_word (stray_row script x loads most o).step) d)
+      → (d : Deed) × (StrayMay (clean_channels script u) (act_word (stray_row script x loads most o).step) d)
       × ((n : ℕ) → wrote d (met d n) n ≡ act_wrote (stray_row script x loads most o).step n)
   by_hand x loads most (Some (statement.Store t word value)) e h u f =
       let w = word_parts t word h in
       let unclean = written x.target x.thread x.place t word.channel (statement.Store t word value) e (both (t == t) (word.channel == word.channel) (self_same t) (self_same word.channel)) in
-      subst (λ z. (d : Deed) × ((v : StrayView) → v.clean ≡ clean_channels script z → StrayMay v (at word.channel word.at) d) × ((n : ℕ) → wrote d (met d n) n ≡ value)) (is_same t u f) (
+      subst (λ z. (d : Deed) × StrayMay (clean_channels script z) (at word.channel word.at) d × ((n : ℕ) → wrote d (met d n) n ≡ value)) (is_same t u f) (
         stray_store value,
-        (λ v m. subst (λ (z : List Bool). IsWord z (at word.channel word.at) × IsUnclean z (at word.channel word.at)) (sym m)
-            (is_word_at t word.channel word.at w.0 w.1, unclean_at t word.channel word.at w.0 w.1 unclean)),
+        (is_word_at t word.channel word.at w.0 w.1, unclean_at t word.channel word.at w.0 w.1 unclean),
         λ n. refl,
       )
   by_hand x loads most (Some (statement.Exchange t word from to)) e h u f =
       let w = word_parts t word h in
       let unclean = written x.target x.thread x.place t word.channel (statement.Exchange t word from to) e (both (t == t) (word.channel == word.channel) (self_same t) (self_same word.channel)) in
-      subst (λ z. (d : Deed) × ((v : StrayView) → v.clean ≡ clean_channels script z → StrayMay v (at word.channel word.at) d)
+      subst (λ z. (d : Deed) × StrayMay (clean_channels script z) (at word.channel word.at) d
       × ((n : ℕ) → wrote d (met d n) n ≡ act_wrote (stray_row script x loads most (Some (statement.Exchange t word from to))).step n)) (is_same t u f) (
         stray_exchange from to,
-        (λ v m. subst (λ (z : List Bool). IsWord z (at word.channel word.at) × IsUnclean z (at word.channel word.at)) (sym m)
-            (is_word_at t word.channel word.at w.0 w.1, unclean_at t word.channel word.at w.0 w.1 unclean)),
+        (is_word_at t word.channel word.at w.0 w.1, unclean_at t word.channel word.at w.0 w.1 unclean),
         λ n. refl,
       )
   by_hand x loads most (Some (statement.Load t word)) e h u f =
       let w = word_parts t word h in
-      subst (λ z. (d : Deed) × ((v : StrayView) → v.clean ≡ clean_channels script z → StrayMay v (at word.channel word.at) d) × ((n : ℕ) → wrote d (met d n) n ≡ n)) (is_same t u f)
-      (stray_load, (λ v m. subst (λ (z : List Bool). IsWord z (at word.channel word.at)) (sym m) (is_word_at t word.channel word.at w.0 w.1)), λ n. refl)
+      subst (λ z. (d : Deed) × StrayMay (clean_channels script z) (at word.channel word.at) d × ((n : ℕ) → wrote d (met d n) n ≡ n)) (is_same t u f)
+      (stray_load, is_word_at t word.channel word.at w.0 w.1, λ n. refl)
   by_hand x loads most (Some (statement.Wait t word value limit)) e h u f =
       let w = word_parts t word (and_parts (has_word script.targets t word) (is_patience limit) h).0 in
-      subst (λ z. (d : Deed) × ((v : StrayView) → v.clean ≡ clean_channels script z → StrayMay v (at word.channel word.at) d) × ((n : ℕ) → wrote d (met d n) n ≡ n)) (is_same t u f)
-      (stray_wait, (λ v m. subst (λ (z : List Bool). IsWord z (at word.channel word.at)) (sym m) (is_word_at t word.channel word.at w.0 w.1)), λ n. refl)
+      subst (λ z. (d : Deed) × StrayMay (clean_channels script z) (at word.channel word.at) d × ((n : ℕ) → wrote d (met d n) n ≡ n)) (is_same t u f)
+      (stray_wait, is_word_at t word.channel word.at w.0 w.1, λ n. refl)
   by_hand x loads most (Some (statement.Call tag args)) e h u f = absurd (cc)
   by_hand x loads most None e h u f = absurd (cc)

@@ -51,10 +51,10 @@ word_else : (s : SharedAt) (a : Act) → IsActThere s.words a → (t i : ℕ) �
     → slice_index (words_of (on_word s a).shared.words t) i ≡ slice_index (words_of s.words t) i
 word_else s (act.Load target word) h t i e = refl
 word_else s (act.Store target word value) h t i e =
-    unwritten s.words target word h.0 (stored (words_of s.words target) word value) (store_else s.words target word h.0 value) t i e
+    unwritten s.words target word h.listed (stored (words_of s.words target) word value) (store_else s.words target word h.listed value) t i e
 word_else s (act.Exchange target word from to) h t i e =
-    unwritten s.words target word h.0 (exchanged (words_of s.words target) word from to)
-    (chosen_else s.words target word h.0 (loaded (words_of s.words target) word == from) to) t i e
+    unwritten s.words target word h.listed (exchanged (words_of s.words target) word from to)
+    (chosen_else s.words target word h.listed (loaded (words_of s.words target) word == from) to) t i e
 word_else s act.Take h t i e = refl
 word_else s act.Mark h t i e = refl
 word_else s act.Give h t i e = refl

@@ -4,8 +4,7 @@ use native.Mathlib.Numerals.{unary_clauses}
 use Rattle.std.specs.Prelude.{slice_get}
 use Rattle.sb_statements.specs.declared.scripts.Script.{Script}
 use Rattle.sb_statements.specs.declared.scripts.TargetScript.{TargetScript}
-use Rattle.sb_statements.specs.declared.schedules.Actor.TheVariants.{Thread}
-use Rattle.sb_core.specs.Actors.{first_actors, first_threads, target_actors}
+use Rattle.sb_core.specs.Actors.{first_actors, target_actors}
 use Rattle.sb_statements.specs.Actors.{thread_count}
 use Rattle.sb_core.specs.Words.{free_channel, free_channels}
 use Rattle.sb_core.specs.Worlds.{first_run, first_runs, first_worker, first_workers, start_threads}
@@ -15,12 +14,6 @@ channels_next n = refl
 
 pub channels_more : (n : ℕ) → free_channels (n + 1) ≡ free_channels n ++ free_channel
 channels_more n = simp unary_clauses (channels_next n)
-
-threads_next : (target n : ℕ) → first_threads target (suc n) ≡ first_threads target n ++ Thread target n ∷ []
-threads_next target n = refl
-
-pub first_threads_more : (target n : ℕ) → first_threads target (n + 1) ≡ first_threads target n ++ Thread target n ∷ []
-first_threads_more target n = simp unary_clauses (threads_next target n)
 
 actors_next : (targets : List TargetScript) (n : ℕ) → first_actors targets (suc n) ≡ first_actors targets n ++ target_actors targets n
 actors_next targets n = refl

@@ -1,8 +1,8 @@
 -- The drain leaves the threads and keeps what a world keeps. And how many results a run has at most.
-use Rattle.std.proofs.Common.{◌≡◌, ◌∙◌, refl, ℕ, zero, suc, ◌+◌, ◌*◌, ◌<◌, ◌≤◌, Bool, true, false, List, [], ◌∷◌, length, length-set, map, get_or, lit≤, arith}
+use Rattle.std.proofs.Common.{◌≡◌, ◌∙◌, refl, ℕ, zero, suc, ◌+◌, ◌*◌, ◌<◌, ◌≤◌, Bool, true, false, List, [], ◌∷◌, length, map, get_or, lit≤, arith}
 use Rattle.std.proofs.lemmas.List.Sums.{sum_by-cons}
 use Rattle.sb_book.specs.Reports.{result_count, thread_count as results_in}
-use Rattle.sb_statements.specs.Soundness.{SoundTargets}
+use Rattle.sb_statements.specs.Soundness.{SoundStatements, SoundTargets}
 use Rattle.sb_statements.specs.declared.results.StmtResult.{StmtResult}
 use Rattle.sb_statements.specs.declared.scripts.Script.{Script}
 use Rattle.sb_core.specs.Drains.{drained, drained_by, is_settled, most_passes, one_pass, pass_below}
@@ -13,8 +13,8 @@ use Rattle.sb_core.specs.Runs.{most_results}
 use Rattle.sb_core.specs.Threads.{RunAt, no_run}
 use Rattle.sb_core.specs.Worlds.{WorldAt, run_at, threads_at}
 use Rattle.sb_core.proofs.Bounds.{few_statements, few_targets, few_threads}
-use Rattle.sb_core.proofs.Keeping.{worker_keeps}
-use Rattle.sb_core.proofs.Running.{worker_runs}
+use Rattle.sb_core.proofs.Running.{step_keeps}
+use Rattle.sb_core.proofs.Stepping.{kept_along, leads_drain}
 
 pass_threads : (n : ℕ) (w : WorldAt) → (pass_below n w).threads ≡ w.threads
 pass_threads zero w = refl
@@ -38,26 +38,11 @@ pub record Both (script : Script) (w : WorldAt) : Type 0 where
   pub kept : IsWorld w
   pub runs : IsRunning script w
 
-module _ (script : Script) where
-  both_pass : (n : ℕ) (w : WorldAt) → Both script w → n ≤ length w.workers → Both script (pass_below n w) × (length (pass_below n w).workers ≡ length w.workers)
-  both_pass zero w both l = (both, refl)
-  both_pass (suc n) w both l =
-      let before = both_pass n w both (omega (arith, l)) in
-      let same = before.1 in
-      let there : n < length (pass_below n w).workers = omega (arith, same, l) in (
-        record { kept = worker_keeps (pass_below n w) n before.0.kept there; runs = worker_runs script (pass_below n w) n before.0.kept before.0.runs there },
-        length-set (pass_below n w).workers n _ ∙ same,
-      )
-
-  both_drained : (n : ℕ) (w : WorldAt) → Both script w → Both script (drained_by n w)
-  both_drained zero w both = both
-  both_drained (suc n) w both =
-      let within : length w.workers ≤ length w.workers = omega arith in
-      chosen (Both script) (is_settled w) w (drained_by n (one_pass w)) both (both_drained n (one_pass w) (both_pass (length w.workers) w both within).0)
-
-pub drains_keep : DrainsKeep
-drains_keep script w kept runs =
-    let both = both_drained script most_passes w (record { kept = kept; runs = runs }) in (both.kept, both.runs)
+pub drains_keep : SoundStatements → DrainsKeep
+drains_keep law script w kept runs =
+    let both = kept_along script (Both script) (λ v actor b e. let next = step_keeps law script v actor b.kept b.runs e in record { kept = next.0; runs = next.1 })
+    w (drained w) (leads_drain script w kept runs) (record { kept = kept; runs = runs }) in
+    (both.kept, both.runs)
 
 -- sums of lists of this many, each no longer than so much
 runs_sum : (runs : List RunAt) → ((k : ℕ) → k < length runs → length (get_or runs k no_run).results ≤ 4096)

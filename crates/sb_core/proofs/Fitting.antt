@@ -15,12 +15,7 @@ use Rattle.sb_actor.specs.Rule.{Chan, FitsThread, Mid, acked, as_served, calls_o
 use Rattle.sb_actor.specs.Ties.{thread_place_of}
 use Rattle.sb_actor.specs.WorkerStages.{WorkerStage, WorkerAt, Look, Count, End, Copy, Take, Mark, Give, Reply, Ack}
 use Rattle.sb_actor.specs.WorkerTable.{is_looking}
-use Rattle.sb_actor.specs.declared.views.Had.{Had}
-use Rattle.sb_actor.specs.declared.views.Served.{Served}
-use Rattle.sb_actor.specs.declared.views.ThreadPlace.{ThreadPlace}
-use Rattle.sb_actor.specs.declared.views.View.{View}
-use Rattle.sb_actor.specs.declared.views.View.TheVariants as view
-use Rattle.sb_actor.specs.declared.views.WorkerView.{WorkerView}
+use Rattle.sb_actor.specs.Views.{Had, Served, ThreadPlace}
 use Rattle.sb_block.specs.Copies.{mark_of}
 use Rattle.sb_block.specs.Replies.{RepliesComeBack, read_reply}
 use Rattle.sb_book.specs.Histories.{IsHistory, setting_of}
@@ -46,14 +41,15 @@ use Rattle.sb_core.specs.Results.{AreAllResults}
 use Rattle.sb_core.specs.Runs.{CanRun, ended, played}
 use Rattle.sb_core.specs.Threads.{RunAt, first_unfinished, no_run}
 use Rattle.sb_book.specs.Targets.{is_of_target}
-use Rattle.sb_core.specs.Views.{AreViews, HasUnits, OwnCall, as_call, as_own, calls_at, in_work, own_calls}
+use Rattle.sb_core.specs.Views.{AreViews, HasUnits, OwnCall, TargetViews, as_call, as_own, calls_at, in_work, own_calls}
 use Rattle.sb_core.specs.Words.{some_ready, words_of}
 use Rattle.sb_core.specs.Worlds.{WorldAt, no_worker, run_at, threads_at, worker_at}
 use Rattle.sb_core.proofs.Draining.{drained_threads}
 use Rattle.sb_core.proofs.Judging.{none_behind, over_is}
+use Rattle.sb_core.proofs.Belonging.{of_end, of_run}
 use Rattle.sb_core.proofs.RunLaws.{each_finished, finished_runs_are_whole, good_end, no_run_past, results_at, runs_are_legal, runs_keep_words}
-use Rattle.sb_core.proofs.Ruling.{Ruled, ruled_end, ruled_played}
-use Rattle.sb_core.proofs.Seating.{SeatLaws}
+use Rattle.sb_core.proofs.Ruling.{Ruled, ruled_of}
+use Rattle.sb_core.proofs.ViewSteps.{RuleLaws}
 use Rattle.sb_core.proofs.Short.{AreShort, legal_short}
 use Rattle.sb_core.proofs.Starting.{clean_length}
 use Rattle.sb_core.proofs.There.{as_many}
@@ -131,7 +127,7 @@ each_of p (x ∷ xs) d e zero l = (and_parts (p x) (list_all p xs) e).0
 each_of p (x ∷ xs) d e (suc i) l = each_of p xs d (and_parts (p x) (list_all p xs) e).1 i (omega (arith, l))
 
 -- a target whose worker looks and whose threads are outside calls
-module _ (script : Script) (t : ℕ) (words : List ℕ) (entries : List Entry) (x : WorkerAt) (runs : List RunAt) (views : List View)
+module _ (script : Script) (t : ℕ) (words : List ℕ) (entries : List Entry) (x : WorkerAt) (runs : List RunAt) (views : TargetViews)
     (h : AreViews script t words (calls_at t entries) x runs views) (come : RepliesComeBack) (short : AreShort entries) (looks : is_looking x.stage ≡ true)
     (numbers : (k : ℕ) → k < length runs → (get_or runs k no_run).thread.thread ≡ k)
     (outside : (k : ℕ) → k < length runs → thread_place_of (get_or runs k no_run).thread.block (get_or runs k no_run).thread.stage ≡ no_call) where
@@ -139,62 +135,53 @@ module _ (script : Script) (t : ℕ) (words : List ℕ) (entries : List Entry) (
   clean = clean_channels script t
 
   -- all entries of the target are served
-  all_served : h.rule.1.served ≡ calls_at t entries
+  all_served : views.worker.served ≡ calls_at t entries
   all_served =
-      let own = h.worker in
-      let seat = h.rule.2.seats own.0 (view.Worker own.1) own.2 in
-      ap (λ (v : WorkerView). v.served) (sym seat.1)
-      ∙ sym (own.3.serves ∙ (ap (λ (z : List Served). own.1.served ++ z) (none_in_work x.channel x.stage looks) ∙ append-nil own.1.served))
-
-  many_threads : h.rule.1.threads ≡ length runs
-  many_threads =
-      let own = h.worker in
-      let seat = h.rule.2.seats own.0 (view.Worker own.1) own.2 in
-      ap (λ (v : WorkerView). v.threads) (sym seat.1) ∙ own.3.counts
+      sym (h.worker.serves ∙ (ap (λ (z : List Served). views.worker.served ++ z) (none_in_work x.channel x.stage looks) ∙ append-nil views.worker.served))
 
   -- the calls of a thread are its results
   pub own_results : (k : ℕ) → k < length runs → map by_entry (filter (is_entry_of script t k) entries) ≡ map by_result (own_calls script t k (get_or runs k no_run).results)
   own_results k l =
-      let seat = h.threads k l in
-      let v = seat.1 in
-      let fits : FitsThread clean h.rule.2.mids h.rule.2.stage h.rule.1.served seat.0 v = h.rule.2.seats seat.0 (view.Thread v) seat.2 in
-      let away : v.place ≡ no_call = seat.3.holds.place ∙ outside k l in
-      let number : v.number ≡ k = seat.3.holds.number ∙ numbers k l in
+      let view = h.threads k l in
+      let v = view.0 in
+      let fits : FitsThread clean h.rule.mids views.worker.served k v = h.rule.fits k v view.1 in
+      let away : v.place ≡ no_call = view.2.holds.place ∙ outside k l in
+      let number : v.number ≡ k = view.2.holds.number ∙ numbers k l in
       let calls : calls_of clean k (calls_at t entries) ≡ map as_served v.had =
       ap (λ (z : ℕ × List Served). calls_of clean z.0 z.1) (λ j. (sym number j, sym all_served j))
-      ∙ (fits.calls ∙ ap (λ (z : List Had). map as_served z) (ap (λ (p : ThreadPlace). v.had ++ waiting clean h.rule.2.mids (place p)) away ∙ append-nil v.had)) in
-      sym (served_entries come script t k entries short) ∙ (ap (λ (z : List Served). map read z) calls ∙ (had_results v.had ∙ ap (λ (z : List OwnCall). map by_result z) seat.3.has))
+      ∙ (fits.calls ∙ ap (λ (z : List Had). map as_served z) (ap (λ (p : ThreadPlace). v.had ++ waiting clean h.rule.mids (place p)) away ∙ append-nil v.had)) in
+      sym (served_entries come script t k entries short) ∙ (ap (λ (z : List Served). map read z) calls ∙ (had_results v.had ∙ ap (λ (z : List OwnCall). map by_result z) view.2.has))
 
   -- each entry on a clean channel is one of a thread
   pub one_of_thread : (i : ℕ) (e : Entry) → slice_get entries i ≡ Some e → (e.target == t) ≡ true → is_clean clean e.channel ≡ true
       → (k : ℕ) × (k < length runs) × (mark_of e.taken / 65536 ≡ k + 1)
   one_of_thread i e q f cl =
       let listed = entry_listed t entries i e q f in
-      let borne = h.rule.2.fits_worker.borne listed.0 (as_call e) (subst (λ (z : List Served). get_elem? z listed.0 ≡ some (as_call e)) (sym all_served) listed.1) cl in
-      (borne.0, subst (λ n. borne.0 < n) many_threads borne.1, borne.2)
+      let borne = h.rule.fits_worker.borne listed.0 (as_call e) (subst (λ (z : List Served). get_elem? z listed.0 ≡ some (as_call e)) (sym all_served) listed.1) cl in
+      (borne.0, subst (λ n. borne.0 < n) h.many borne.1, borne.2)
 
   -- each clean channel is free
   pub freed : (c : ℕ) → is_clean clean c ≡ true → slice_index words (at c 0) ≡ 1
-  freed c cl = by_mid (h.rule.2.mids c) refl (h.rule.2.chans c cl)
+  freed c cl = by_mid (h.rule.mids c) refl (h.rule.chans c cl)
     where
-      nobody : (k : ℕ) → owner (h.rule.2.mids c) ≡ some k → ⊥
+      nobody : (k : ℕ) → owner (h.rule.mids c) ≡ some k → ⊥
       nobody k e =
-          let low : k < length runs = subst (λ n. k < n) many_threads (h.rule.2.fits_worker.owners c k cl e) in
-          let seat = h.threads k low in
-          let v = seat.1 in
-          let fits : FitsThread clean h.rule.2.mids h.rule.2.stage h.rule.1.served seat.0 v = h.rule.2.seats seat.0 (view.Thread v) seat.2 in
-          let number : v.number ≡ k = seat.3.holds.number ∙ numbers k low in
+          let low : k < length runs = subst (λ n. k < n) h.many (h.rule.fits_worker.owners c k cl e) in
+          let view = h.threads k low in
+          let v = view.0 in
+          let fits : FitsThread clean h.rule.mids views.worker.served k v = h.rule.fits k v view.1 in
+          let number : v.number ≡ k = view.2.holds.number ∙ numbers k low in
           let there = fits.only c cl (e ∙ ap (λ z. some z) (sym number)) in
-          some-ne-none c (sym there ∙ ap (λ (p : ThreadPlace). place p) (seat.3.holds.place ∙ outside k low))
+          some-ne-none c (sym there ∙ ap (λ (p : ThreadPlace). place p) (view.2.holds.place ∙ outside k low))
 
-      by_mid : (m : Mid) → h.rule.2.mids c ≡ m → Chan (h.rule.2.mids c) (sees c h.rule.1) (row words c) → slice_index words (at c 0) ≡ 1
-      by_mid idle e q = (subst (λ z. Chan z (sees c h.rule.1) (row words c)) e q).0
+      by_mid : (m : Mid) → h.rule.mids c ≡ m → Chan (h.rule.mids c) (sees c views.worker) (row words c) → slice_index words (at c 0) ≡ 1
+      by_mid idle e q = (subst (λ z. Chan z (sees c views.worker) (row words c)) e q).0
       by_mid (filling k ws) e q = absurd (nobody k (ap (λ z. owner z) e))
       by_mid (ready k block) e q = absurd (nobody k (ap (λ z. owner z) e))
       by_mid (acked k block reply) e q = absurd (nobody k (ap (λ z. owner z) e))
 
 -- the world at the end of a run without an unfinished thread
-module _ (laws : SeatLaws) (targets : SoundTargets) (statements : SoundStatements) (answers : AnswersKeepHistories) (settles : DrainsSettle) (come : RepliesComeBack) (answered : AnswersAreShort) (policies : List Policy) (script : Script)
+module _ (laws : RuleLaws) (targets : SoundTargets) (statements : SoundStatements) (answers : AnswersKeepHistories) (settles : DrainsSettle) (come : RepliesComeBack) (answered : AnswersAreShort) (policies : List Policy) (script : Script)
     (schedule : Schedule) (can : CanRun policies script schedule) (units : HasUnits script) (finished : first_unfinished script (played policies script schedule).threads ≡ None) where
   abbrev before : WorldAt
   before = played policies script schedule
@@ -203,10 +190,10 @@ module _ (laws : SeatLaws) (targets : SoundTargets) (statements : SoundStatement
   w = drained before
 
   was : Ruled script before
-  was = ruled_played laws targets statements script units policies schedule can
+  was = ruled_of laws targets statements script units before (of_run policies script schedule can)
 
   is : Ruled script w
-  is = ruled_end laws targets statements script units policies schedule can
+  is = ruled_of laws targets statements script units w (of_end targets statements policies script schedule can)
 
   same_threads : w.threads ≡ before.threads
   same_threads = drained_threads before
@@ -305,7 +292,7 @@ module _ (laws : SeatLaws) (targets : SoundTargets) (statements : SoundStatement
       freed script t (words_of w.shared.words t) w.shared.book.entries (worker_at w t) (threads_at w t) v.0 v.1 come short (looking t low)
       (λ j q. (is.kept.threads t j q).its_number) (λ j q. each_over t j q) c cl
 
-pub runs_fit : SeatLaws → SoundTargets → SoundStatements → AnswersKeepHistories → DrainsSettle → RepliesComeBack → AnswersAreShort → RunsFit
+pub runs_fit : RuleLaws → SoundTargets → SoundStatements → AnswersKeepHistories → DrainsSettle → RepliesComeBack → AnswersAreShort → RunsFit
 runs_fit laws targets statements answers settles come answered policies script schedule can units all_ended =
     by_finish (first_unfinished script (played policies script schedule).threads) refl all_ended
     (finished_runs_are_whole targets statements answers settles policies script schedule can all_ended) (runs_are_legal targets statements answers policies script schedule can)

@@ -81,10 +81,6 @@ rounds_are_steps n script w = rounds_reached n script w
 pub drains_are_steps : DrainsAreSteps
 drains_are_steps script w = drained_reached most_passes script w
 
--- a world after passes below is reached
-pub reached_at : (script : Script) (n : ℕ) (w v : WorldAt) → v ≡ pass_below n w → IsReached script w v
-reached_at script n w v e = subst (λ z. IsReached script w z) (sym e) (reached_below script n w)
-
 -- what is left after one pass gives the same
 pub drained_next : (n : ℕ) (w v : WorldAt) → 0 < n → is_settled w ≡ false → v ≡ one_pass w → drained_by (n - 1) v ≡ drained_by n w
 drained_next n w v l h e =

@@ -13,17 +13,11 @@ use Rattle.sb_actor.specs.ThreadStages.{ThreadStage, ThreadAt}
 use Rattle.sb_actor.specs.ThreadStages as thread
 use Rattle.sb_actor.specs.ThreadTable.{thread_plan}
 use Rattle.sb_actor.specs.Ties.{thread_place_of}
-use Rattle.sb_actor.specs.declared.views.Served.{Served}
-use Rattle.sb_actor.specs.declared.views.ThreadPlace.{ThreadPlace}
-use Rattle.sb_actor.specs.declared.views.ThreadPlace.TheVariants.{Try, Fill, Fetch}
-use Rattle.sb_actor.specs.declared.views.ThreadView.{ThreadView}
-use Rattle.sb_actor.specs.declared.views.View.{View}
-use Rattle.sb_actor.specs.declared.views.View.TheVariants as view
-use Rattle.sb_actor.specs.declared.views.WorkerPlace.{WorkerPlace}
+use Rattle.sb_actor.specs.Views.{Served, ThreadPlace, Try, Fill, Fetch, ThreadView, WorkerPlace}
 use Rattle.sb_block.specs.Layout.{mark_in}
 use Rattle.sb_statements.specs.declared.scripts.Script.{Script}
 use Rattle.sb_core.specs.Threads.{RunAt, no_run}
-use Rattle.sb_core.specs.Views.{AreViews}
+use Rattle.sb_core.specs.Views.{AreViews, TargetViews}
 use Rattle.sb_actor.specs.WorkerStages.{WorkerAt}
 use Rattle.sb_core.proofs.Tidings.{Learns, Waits}
 
@@ -51,7 +45,7 @@ fetched_mark m k block words p f reply e t n h =
     take_all [] n e = subst (λ z. take {A = ℕ} z [] ≡ []) (sym e) refl
     take_all (x ∷ l) n e = subst (λ z. take z (x ∷ l) ≡ x ∷ l) (sym e) (ap (λ (z : List ℕ). x ∷ z) (take_all l (length l) refl))
 
-module _ (script : Script) (t : ℕ) (words : List ℕ) (calls : List Served) (x : WorkerAt) (runs : List RunAt) (views : List View)
+module _ (script : Script) (t : ℕ) (words : List ℕ) (calls : List Served) (x : WorkerAt) (runs : List RunAt) (views : TargetViews)
     (h : AreViews script t words calls x runs views) (k : ℕ) (there : k < length runs) where
   abbrev mine : ThreadAt
   mine = (get_or runs k no_run).thread
@@ -60,12 +54,12 @@ module _ (script : Script) (t : ℕ) (words : List ℕ) (calls : List Served) (x
   clean = clean_channels script t
 
   -- what the rule says of the channel
-  module _ (v : ThreadView) (block : List ℕ) (marks : mine.clean ≡ clean) (fits : FitsThread clean h.rule.2.mids h.rule.2.stage h.rule.1.served (h.threads k there).0 v) where
+  module _ (v : ThreadView) (block : List ℕ) (marks : mine.clean ≡ clean) (fits : FitsThread clean h.rule.mids views.worker.served k v) where
     cleaned : (c : ℕ) → is_clean mine.clean c ≡ true → is_clean clean c ≡ true
     cleaned c e = subst (λ z. is_clean z c ≡ true) marks e
 
-    agrees_at : (c : ℕ) (p : ThreadPlace) → v.place ≡ p → place p ≡ some c → is_clean mine.clean c ≡ true → Agrees v.number p (h.rule.2.mids c)
-    agrees_at c p e q cl = subst (λ z. place z ≡ some c → Agrees v.number z (h.rule.2.mids c)) e (λ z. fits.agrees c z (cleaned c cl)) q
+    agrees_at : (c : ℕ) (p : ThreadPlace) → v.place ≡ p → place p ≡ some c → is_clean mine.clean c ≡ true → Agrees v.number p (h.rule.mids c)
+    agrees_at c p e q cl = subst (λ z. place z ≡ some c → Agrees v.number z (h.rule.mids c)) e (λ z. fits.agrees c z (cleaned c cl)) q
 
     fives_at : (c : ℕ) (fives : Bool) → v.place ≡ Try c fives → fives ≡ true → (d : ℕ) → d < c → is_clean mine.clean d ≡ false
     fives_at c fives e f d l = subst (λ z. is_clean z d ≡ false) (sym marks) ((subst (λ z. Fives clean z) e fits.fives) f d l)
@@ -73,15 +67,15 @@ module _ (script : Script) (t : ℕ) (words : List ℕ) (calls : List Served) (x
     learns : (stage : ThreadStage) → v.place ≡ thread_place_of block stage → mine.block ≡ block → IsSoundThreadStage (length mine.clean) mine.patience block stage → GivesUp mine.clean stage
         → Waits script mine stage → Learns script mine stage (slice_index words (act_word (thread_plan script (record mine { stage = stage }))))
     learns (thread.Try c rounds fives) e b s g w =
-        ((λ cl. state_known (h.rule.2.mids c) (sees c h.rule.1) (row words c) (h.rule.2.chans c (cleaned c cl))), fives_at c fives e)
+        ((λ cl. state_known (h.rule.mids c) (sees c views.worker) (row words c) (h.rule.chans c (cleaned c cl))), fives_at c fives e)
     learns (thread.Fill c i) e b s g w = tt
     learns (thread.Send c) e b s g w = λ cl.
-        state_filling (h.rule.2.mids c) v.number block (sees c h.rule.1) (row words c) (agrees_at c (Fill c block) e refl cl) (h.rule.2.chans c (cleaned c cl))
+        state_filling (h.rule.mids c) v.number block (sees c views.worker) (row words c) (agrees_at c (Fill c block) e refl cl) (h.rule.chans c (cleaned c cl))
     learns (thread.Wait c loads) e b s g w = tt
     learns (thread.Fetch c fetched) e b s g w = tt
     learns (thread.Free c fetched) e b s g w = λ cl.
         let a = agrees_at c (Fetch c block fetched) e refl cl in
-        fetched_mark (h.rule.2.mids c) v.number block fetched (sees c h.rule.1) (row words c) a.0 a.1 a.3 s.1 (h.rule.2.chans c (cleaned c cl))
+        fetched_mark (h.rule.mids c) v.number block fetched (sees c views.worker) (row words c) a.0 a.1 a.3 s.1 (h.rule.chans c (cleaned c cl))
         ∙ ap (λ (z : List ℕ). mark_in z) (sym b)
     learns (thread.Abandon c) e b s g w = g
     learns (thread.Stray loads most) e b s g w = w
@@ -90,8 +84,8 @@ module _ (script : Script) (t : ℕ) (words : List ℕ) (calls : List Served) (x
   pub learned : IsSoundThreadStage (length mine.clean) mine.patience mine.block mine.stage → GivesUp mine.clean mine.stage → Waits script mine mine.stage
       → Learns script mine mine.stage (slice_index words (act_word (thread_plan script mine)))
   learned sound gives waits =
-      let seat = h.threads k there in
-      let v = seat.1 in
-      let held = seat.3.holds in
-      let fits : FitsThread clean h.rule.2.mids h.rule.2.stage h.rule.1.served seat.0 v = h.rule.2.seats seat.0 (view.Thread v) seat.2 in
+      let view = h.threads k there in
+      let v = view.0 in
+      let held = view.2.holds in
+      let fits : FitsThread clean h.rule.mids views.worker.served k v = h.rule.fits k v view.1 in
       learns v mine.block (sym held.clean ∙ fits.marks) fits mine.stage held.place refl sound gives waits

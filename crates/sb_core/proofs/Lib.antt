@@ -7,6 +7,8 @@ pub mod Keeping
 pub mod ThreadRows
 pub mod ThreadKeeping
 pub mod Running
+pub mod Stepping
+pub mod Beginning
 pub mod Reaching
 pub mod Starting
 pub mod Judging
@@ -14,10 +16,11 @@ pub mod Changing
 pub mod RunLaws
 pub mod Draining
 pub mod Finishing
+pub mod Ending
 pub mod Settling
 pub mod Placing
 pub mod Naming
-pub mod Seating
+pub mod ViewSteps
 pub mod Tidings
 pub mod Learning
 pub mod ByHand
@@ -37,10 +40,3 @@ pub mod WorkerTallies
 pub mod Tallying
 pub mod PlacedUnits
 pub mod Belonging
-pub mod DrainSteps
-pub mod Quieting
-pub mod FinishFitting
-pub mod FinishNotes
-pub mod NotedParts
-pub mod FinishSourcing
-pub mod FinishTallying

@@ -46,11 +46,11 @@ pub named_words : (s : SharedAt) (a : Act) (u : ℕ) → names a u ≡ true → 
 named_words s (act.Load t word) u e h = sym (set-get_or (words_of s.words u) (place_of word) 0)
 named_words s (act.Store t word value) u e h =
     subst (λ z. words_of (set s.words t (stored (words_of s.words t) word value)) z ≡ set (words_of s.words z) (place_of word) value) (is_same t u e)
-    (get_or-set_same s.words t (stored (words_of s.words t) word value) [] h.0)
+    (get_or-set_same s.words t (stored (words_of s.words t) word value) [] h.listed)
 named_words s (act.Exchange t word from to) u e h =
     subst (λ z. words_of (set s.words t (exchanged (words_of s.words t) word from to)) z
     ≡ set (words_of s.words z) (place_of word) (if slice_index (words_of s.words z) (place_of word) == from then to else slice_index (words_of s.words z) (place_of word))) (is_same t u e)
-    (get_or-set_same s.words t (exchanged (words_of s.words t) word from to) [] h.0
+    (get_or-set_same s.words t (exchanged (words_of s.words t) word from to) [] h.listed
     ∙ exchange_writes (words_of s.words t) (place_of word) to (loaded (words_of s.words t) word == from))
 named_words s act.Take u e h = absurd (cc)
 named_words s act.Mark u e h = absurd (cc)

@@ -14,14 +14,8 @@ use Rattle.sb_actor.specs.ThreadStages.{ThreadStage, Try, Fill, Send, Wait, Fetc
 use Rattle.sb_actor.specs.Ties.{thread_place_of, worker_place_of}
 use Rattle.sb_actor.specs.WorkerStages.{WorkerStage, WorkerAt}
 use Rattle.sb_actor.specs.WorkerStages as worker
-use Rattle.sb_actor.specs.declared.views.Had.{Had}
-use Rattle.sb_actor.specs.declared.views.Served.{Served}
-use Rattle.sb_actor.specs.declared.views.ThreadView.{ThreadView}
-use Rattle.sb_actor.specs.declared.views.View.{View}
-use Rattle.sb_actor.specs.declared.views.View.TheVariants as view
-use Rattle.sb_actor.specs.declared.views.WorkerPlace.{WorkerPlace}
-use Rattle.sb_actor.specs.declared.views.WorkerPlace.TheVariants as stands
-use Rattle.sb_actor.specs.declared.views.WorkerView.{WorkerView}
+use Rattle.sb_actor.specs.Views.{Had, Served, ThreadView, WorkerPlace}
+use Rattle.sb_actor.specs.Views as stands
 use Rattle.sb_block.specs.Copies.{Copied, mark_of, whole}
 use Rattle.sb_block.specs.Replies.{RepliesComeBack}
 use Rattle.sb_book.specs.Histories.{Setting, setting_of}
@@ -33,18 +27,19 @@ use Rattle.sb_statements.specs.Actors.{thread_count}
 use Rattle.sb_statements.specs.Soundness.{SoundStatements, SoundTargets}
 use Rattle.sb_statements.specs.declared.scripts.Script.{Script}
 use Rattle.sb_core.specs.Drains.{drained}
-use Rattle.sb_core.specs.Fits.{Answered, IsOwnSoFar, IsPresent, RepliesAreOwn, RunsReplyOwn, by_entry, by_result, is_entry_of}
+use Rattle.sb_core.specs.Fits.{Answered, IsOwnSoFar, IsPresent, RepliesAreOwn, RunsReplyOwn, WorldsOfScriptsReplyOwn, by_entry, by_result, is_entry_of}
 use Rattle.sb_core.specs.Kept.{channel_in, is_calling}
 use Rattle.sb_core.specs.Runs.{played}
 use Rattle.sb_core.specs.Threads.{RunAt, no_run}
-use Rattle.sb_core.specs.Views.{AreViews, OwnCall, as_own, calls_at, in_work, own_calls}
+use Rattle.sb_core.specs.Views.{AreViews, OwnCall, TargetViews, as_own, calls_at, in_work, own_calls}
 use Rattle.sb_core.specs.Words.{words_of}
 use Rattle.sb_core.specs.Worlds.{WorldAt, start_world, steps, threads_at, worker_at}
 use Rattle.sb_core.proofs.Fitting.{had_results, read, served_entries}
-use Rattle.sb_core.proofs.Reaching.{Good, good_steps}
-use Rattle.sb_core.proofs.RunLaws.{good_end, good_played, good_start}
-use Rattle.sb_core.proofs.Ruling.{Ruled, ruled_end, ruled_played, ruled_start, ruled_steps}
-use Rattle.sb_core.proofs.Seating.{SeatLaws}
+use Rattle.sb_core.proofs.Belonging.{leads_of, of_end, of_run}
+use Rattle.sb_core.proofs.Reaching.{Good, good_on}
+use Rattle.sb_core.proofs.RunLaws.{good_start}
+use Rattle.sb_core.proofs.Ruling.{Ruled, ruled_of}
+use Rattle.sb_core.proofs.ViewSteps.{RuleLaws}
 use Rattle.sb_core.proofs.Short.{AreShort, legal_short}
 use Rattle.sb_core.proofs.There.{listed}
 
@@ -56,19 +51,19 @@ pub record Engaged (m : Mid) (taken : Copied) : Type 0 where
   pub whole_block : IsBlock number block
   pub copy : taken ≡ whole block
 
-copied_whole : (m : Mid) (taken : Copied) (f : Row) → Chan m (stands.Copied taken) f → Engaged m taken
+copied_whole : (m : Mid) (taken : Copied) (f : Row) → Chan m (stands.Whole taken) f → Engaged m taken
 copied_whole idle taken f h = absurd (apart taken h.1)
   where
-    apart : (taken : Copied) → ◌≡◌ {A = WorkerPlace} (stands.Copied taken) stands.Look → ⊥
+    apart : (taken : Copied) → ◌≡◌ {A = WorkerPlace} (stands.Whole taken) stands.Look → ⊥
     apart taken e = cc
 copied_whole (filling k words) taken f h = absurd (apart taken h.1)
   where
-    apart : (taken : Copied) → ◌≡◌ {A = WorkerPlace} (stands.Copied taken) stands.Look → ⊥
+    apart : (taken : Copied) → ◌≡◌ {A = WorkerPlace} (stands.Whole taken) stands.Look → ⊥
     apart taken e = cc
 copied_whole (ready k block) taken f h = record { number = k; block = block; is = refl; whole_block = h.1; copy = h.2.1 }
 copied_whole (acked k block reply) taken f h = absurd (apart taken h.2)
   where
-    apart : (taken : Copied) → ◌≡◌ {A = WorkerPlace} (stands.Copied taken) stands.Look → ⊥
+    apart : (taken : Copied) → ◌≡◌ {A = WorkerPlace} (stands.Whole taken) stands.Look → ⊥
     apart taken e = cc
 
 replied_whole : (m : Mid) (taken : Copied) (reply : List ℕ) (f : Row) → Chan m (stands.Reply taken reply) f → Engaged m taken
@@ -86,7 +81,7 @@ replied_whole (acked k block words) taken reply f h = absurd (apart taken reply 
     apart : (taken : Copied) (reply : List ℕ) → ◌≡◌ {A = WorkerPlace} (stands.Reply taken reply) stands.Look → ⊥
     apart taken reply e = cc
 
-either_whole : (b : Bool) (m : Mid) (taken : Copied) (reply : List ℕ) (f : Row) → Chan m (if b then stands.Copied taken else stands.Reply taken reply) f → Engaged m taken
+either_whole : (b : Bool) (m : Mid) (taken : Copied) (reply : List ℕ) (f : Row) → Chan m (if b then stands.Whole taken else stands.Reply taken reply) f → Engaged m taken
 either_whole true m taken reply f h = copied_whole m taken f h
 either_whole false m taken reply f h = replied_whole m taken reply f h
 
@@ -145,14 +140,14 @@ is_same : (x y : ℕ) → (x == y) ≡ true → x ≡ y
 is_same x y e = grind (arith, nat_tests)
 
 -- a target of a world in the rule
-module _ (script : Script) (t : ℕ) (words : List ℕ) (entries : List Entry) (x : WorkerAt) (runs : List RunAt) (views : List View)
+module _ (script : Script) (t : ℕ) (words : List ℕ) (entries : List Entry) (x : WorkerAt) (runs : List RunAt) (views : TargetViews)
     (h : AreViews script t words (calls_at t entries) x runs views) (come : RepliesComeBack) (short : AreShort entries) (k : ℕ) (there : k < length runs)
     (its_number : (get_or runs k no_run).thread.thread ≡ k) where
   abbrev clean : List Bool
   clean = clean_channels script t
 
   abbrev mids : ℕ → Mid
-  mids = h.rule.2.mids
+  mids = h.rule.mids
 
   abbrev mine : RunAt
   mine = get_or runs k no_run
@@ -164,12 +159,10 @@ module _ (script : Script) (t : ℕ) (words : List ℕ) (entries : List Entry) (
       ⊎ ((q : Served) × (c : ℕ) × (block : List ℕ) × (qs ≡ q ∷ []) × (is_clean clean c ≡ true) × (mids c ≡ ready k block) × (q.taken ≡ whole block)
       × (q.channel ≡ c))
 
-  seen_here : (c : ℕ) → x.channel ≡ c → sees c h.rule.1 ≡ worker_place_of x.stage
+  seen_here : (c : ℕ) → x.channel ≡ c → sees c views.worker ≡ worker_place_of x.stage
   seen_here c e =
-      let own = h.worker in
-      let seat = h.rule.2.seats own.0 (view.Worker own.1) own.2 in
-      let channel : h.rule.1.channel ≡ c = ap (λ (v : WorkerView). v.channel) (sym seat.1) ∙ (own.3.holds.channel ∙ e) in
-      ap (λ b. cond b h.rule.1.place stands.Look) (self_same c h.rule.1.channel channel) ∙ (ap (λ (v : WorkerView). v.place) (sym seat.1) ∙ own.3.holds.place)
+      let held = h.worker.holds in
+      ap (λ b. cond b views.worker.place stands.Look) (self_same c views.worker.channel (held.channel ∙ e)) ∙ held.place
     where
       self_same : (c d : ℕ) → d ≡ c → (c == d) ≡ true
       self_same c d e = grind (arith, nat_tests)
@@ -196,19 +189,19 @@ module _ (script : Script) (t : ℕ) (words : List ℕ) (entries : List Entry) (
       let q : Served = record { channel = x.channel; taken = taken; reply = reply } in
       engaged q
       (λ cl. copied_whole (mids x.channel) taken (row words x.channel)
-      (subst (λ p. Chan (mids x.channel) p (row words x.channel)) (seen_here x.channel refl ∙ ap worker_place_of e) (h.rule.2.chans x.channel cl)))
+      (subst (λ p. Chan (mids x.channel) p (row words x.channel)) (seen_here x.channel refl ∙ ap worker_place_of e) (h.rule.chans x.channel cl)))
       (is_of clean k q) refl
   work_by (worker.Reply taken reply i) e =
       let q : Served = record { channel = x.channel; taken = taken; reply = reply } in
       engaged q
       (λ cl. either_whole (i == 0) (mids x.channel) taken (take i reply) (row words x.channel)
-      (subst (λ p. Chan (mids x.channel) p (row words x.channel)) (seen_here x.channel refl ∙ ap worker_place_of e) (h.rule.2.chans x.channel cl)))
+      (subst (λ p. Chan (mids x.channel) p (row words x.channel)) (seen_here x.channel refl ∙ ap worker_place_of e) (h.rule.chans x.channel cl)))
       (is_of clean k q) refl
   work_by (worker.Ack taken reply) e =
       let q : Served = record { channel = x.channel; taken = taken; reply = reply } in
       engaged q
       (λ cl. replied_whole (mids x.channel) taken reply (row words x.channel)
-      (subst (λ p. Chan (mids x.channel) p (row words x.channel)) (seen_here x.channel refl ∙ ap worker_place_of e) (h.rule.2.chans x.channel cl)))
+      (subst (λ p. Chan (mids x.channel) p (row words x.channel)) (seen_here x.channel refl ∙ ap worker_place_of e) (h.rule.chans x.channel cl)))
       (is_of clean k q) refl
 
   -- a served call that the thread has not ended: none, or that of its own block
@@ -218,18 +211,18 @@ module _ (script : Script) (t : ℕ) (words : List ℕ) (entries : List Entry) (
       ⊎ ((q : Had) × (c : ℕ) × (number : ℕ) × (reply : List ℕ) × (xs ≡ q ∷ []) × (place (thread_place_of mine.thread.block mine.thread.stage) ≡ some c)
       × (mids c ≡ acked number q.block reply) × (q.block ≡ mine.thread.block) × (q.channel ≡ c))
 
-  abbrev seat : ThreadView
-  seat = (h.threads k there).1
+  abbrev view : ThreadView
+  view = (h.threads k there).0
 
-  fits : FitsThread clean mids h.rule.2.stage h.rule.1.served (h.threads k there).0 seat
-  fits = h.rule.2.seats (h.threads k there).0 (view.Thread seat) (h.threads k there).2
+  fits : FitsThread clean mids views.worker.served k view
+  fits = h.rule.fits k view (h.threads k there).1
 
-  number_is : seat.number ≡ k
-  number_is = (h.threads k there).3.holds.number ∙ its_number
+  number_is : view.number ≡ k
+  number_is = (h.threads k there).2.holds.number ∙ its_number
 
   agrees_at : (c : ℕ) → place (thread_place_of mine.thread.block mine.thread.stage) ≡ some c → is_clean clean c ≡ true
-      → Agrees seat.number (thread_place_of mine.thread.block mine.thread.stage) (mids c)
-  agrees_at c e cl = subst (λ p. place p ≡ some c → Agrees seat.number p (mids c)) (h.threads k there).3.holds.place (λ f. fits.agrees c f cl) e
+      → Agrees view.number (thread_place_of mine.thread.block mine.thread.stage) (mids c)
+  agrees_at c e cl = subst (λ p. place p ≡ some c → Agrees view.number p (mids c)) (h.threads k there).2.holds.place (λ f. fits.agrees c f cl) e
 
   rest_at : (c : ℕ) → place (thread_place_of mine.thread.block mine.thread.stage) ≡ some c → (b : Bool) → is_clean clean c ≡ b → (m : Mid) → mids c ≡ m → Rest (cond b (served_at c m) [])
   rest_at c e false cl m f = inl refl
@@ -245,7 +238,7 @@ module _ (script : Script) (t : ℕ) (words : List ℕ) (entries : List Entry) (
         refl,
         e,
         f,
-        acked_block seat.number n mine.thread.block block reply mine.thread.stage (mids c) (agrees_at c e cl) c e f,
+        acked_block view.number n mine.thread.block block reply mine.thread.stage (mids c) (agrees_at c e cl) c e f,
         refl,
       )
 
@@ -265,24 +258,23 @@ module _ (script : Script) (t : ℕ) (words : List ℕ) (entries : List Entry) (
   -- the entries are the results, what is not ended and what is in work
   all_entries : map by_entry (filter (is_entry_of script t k) entries) ≡ (map by_result own ++ map by_result (map as_own rest)) ++ map read work
   all_entries =
-      let v = h.worker.1 in
-      let desk = h.rule.2.seats h.worker.0 (view.Worker v) h.worker.2 in
-      let served : calls_of clean k v.served ≡ map as_served (seat.had ++ rest) =
-      ap (λ (z : ℕ × List Served). calls_of clean z.0 z.1) (λ j. (sym number_is j, ap (λ (u : WorkerView). u.served) desk.1 j))
-      ∙ (fits.calls ∙ ap (λ p. map as_served (seat.had ++ waiting clean mids (place p))) (h.threads k there).3.holds.place) in
-      let told : map read (map as_served (seat.had ++ rest)) ≡ map by_result own ++ map by_result (map as_own rest) =
-      had_results (seat.had ++ rest)
-      ∙ (ap (λ (z : List OwnCall). map by_result z) (map-append as_own seat.had rest ∙ ap (λ (z : List OwnCall). z ++ map as_own rest) (h.threads k there).3.has)
+      let v = views.worker in
+      let served : calls_of clean k v.served ≡ map as_served (view.had ++ rest) =
+      ap (λ z. calls_of clean z v.served) (sym number_is)
+      ∙ (fits.calls ∙ ap (λ p. map as_served (view.had ++ waiting clean mids (place p))) (h.threads k there).2.holds.place) in
+      let told : map read (map as_served (view.had ++ rest)) ≡ map by_result own ++ map by_result (map as_own rest) =
+      had_results (view.had ++ rest)
+      ∙ (ap (λ (z : List OwnCall). map by_result z) (map-append as_own view.had rest ∙ ap (λ (z : List OwnCall). z ++ map as_own rest) (h.threads k there).2.has)
       ∙ map-append by_result own (map as_own rest)) in
       sym (served_entries come script t k entries short)
-      ∙ (ap (λ (z : List Served). map read (calls_of clean k z)) h.worker.3.serves
+      ∙ (ap (λ (z : List Served). map read (calls_of clean k z)) h.worker.serves
       ∙ (ap (λ (z : List Served). map read z) (filter-append (is_of clean k) v.served (in_work x.channel x.stage))
       ∙ (map-append read (calls_of clean k v.served) work ∙ ap (λ (z : List Answered). z ++ map read work) (ap (λ (z : List Served). map read z) served ∙ told))))
 
   -- where the worker is at the thread's block, so is the thread
   at_ready : (c : ℕ) (block : List ℕ) → is_clean clean c ≡ true → mids c ≡ ready k block → place (thread_place_of mine.thread.block mine.thread.stage) ≡ some c
   at_ready c block cl e =
-      subst (λ p. place p ≡ some c) (h.threads k there).3.holds.place (fits.only c cl (ap (λ m. owner m) e ∙ ap (λ n. some n) (sym number_is)))
+      subst (λ p. place p ≡ some c) (h.threads k there).2.holds.place (fits.only c cl (ap (λ m. owner m) e ∙ ap (λ n. some n) (sym number_is)))
 
   both_apart : (n c d : ℕ) (b block reply : List ℕ) → ◌≡◌ {A = Option ℕ} (some c) (some d) → mids c ≡ acked n b reply → mids d ≡ ready k block → ⊥
   both_apart n c d b block reply e f g = cc
@@ -313,7 +305,7 @@ module _ (script : Script) (t : ℕ) (words : List ℕ) (entries : List Entry) (
         inr (
           read w.0,
           refl,
-          w.6 ∙ ap (λ (z : List ℕ). whole z) (ready_block seat.number k mine.thread.block w.2 mine.thread.stage (mids w.1) (agrees_at w.1 here w.4) w.1 here w.5),
+          w.6 ∙ ap (λ (z : List ℕ). whole z) (ready_block view.number k mine.thread.block w.2 mine.thread.stage (mids w.1) (agrees_at w.1 here w.4) w.1 here w.5),
           calling_at mine.thread.block mine.thread.stage w.1 here,
           channel_at mine.thread.block mine.thread.stage w.1 here ∙ ap Some (sym w.7),
         ),
@@ -344,20 +336,20 @@ short_in : AnswersAreShort → (script : Script) (setting : Setting) (w : WorldA
 short_in answered script setting w good =
     legal_short answered w.shared.book.setting (opening w.shared.book.setting.start) w.shared.book.entries good.history.legal
 
-pub replies_are_own : SeatLaws → SoundTargets → SoundStatements → AnswersKeepHistories → RepliesComeBack → AnswersAreShort → RepliesAreOwn
-replies_are_own laws targets statements answers come answered policies script actors prepared units there =
-    let w = steps script actors (start_world policies script) in
-    own_in_world script w
-    (ruled_steps laws targets statements script units actors (start_world policies script) (ruled_start laws targets statements script policies prepared) there)
-    come
-    (short_in answered script (setting_of policies script) w
-    (good_steps statements answers script (setting_of policies script) actors (start_world policies script) (good_start targets statements policies script prepared) there))
+pub reply_own_of : RuleLaws → SoundTargets → SoundStatements → AnswersKeepHistories → RepliesComeBack → AnswersAreShort → WorldsOfScriptsReplyOwn
+reply_own_of laws targets statements answers come answered script w o units =
+    own_in_world script w (ruled_of laws targets statements script units w o) come
+    (short_in answered script (setting_of o.policies script) w
+    (good_on statements answers script (setting_of o.policies script) (start_world o.policies script) w (leads_of script w o) (good_start targets statements o.policies script o.ready)))
 
-pub runs_reply_own : SeatLaws → SoundTargets → SoundStatements → AnswersKeepHistories → RepliesComeBack → AnswersAreShort → RunsReplyOwn
+pub replies_are_own : RuleLaws → SoundTargets → SoundStatements → AnswersKeepHistories → RepliesComeBack → AnswersAreShort → RepliesAreOwn
+replies_are_own laws targets statements answers come answered policies script actors prepared units there =
+    reply_own_of laws targets statements answers come answered script (steps script actors (start_world policies script))
+    (record { policies = policies; actors = actors; ready = prepared; there = there; reached = refl }) units
+
+pub runs_reply_own : RuleLaws → SoundTargets → SoundStatements → AnswersKeepHistories → RepliesComeBack → AnswersAreShort → RunsReplyOwn
 runs_reply_own laws targets statements answers come answered policies script schedule can units t k l =
     let w = played policies script schedule in (
-      own_in_world script w (ruled_played laws targets statements script units policies schedule can) come
-          (short_in answered script (setting_of policies script) w (good_played targets statements answers policies script schedule can)) t k l,
-      own_in_world script (drained w) (ruled_end laws targets statements script units policies schedule can) come
-          (short_in answered script (setting_of policies script) (drained w) (good_end targets statements answers policies script schedule can)) t k l,
+      reply_own_of laws targets statements answers come answered script w (of_run policies script schedule can) units t k l,
+      reply_own_of laws targets statements answers come answered script (drained w) (of_end targets statements policies script schedule can) units t k l,
     )

@@ -1,11 +1,8 @@
 -- What each world of a run keeps: that of its type, that of its script, a legal book of the run's setting, and results that are each those of the
 -- statement at their place.
-use Rattle.std.proofs.Common.{◌≡◌, ◌∙◌, ◌⊎◌, inl, inr, ⊎_elim, refl, ap, subst, sym, ℕ, zero, suc, ◌<◌, ◌≤◌, Bool, true, false, List, [], ◌∷◌, ◌++◌, length, length-set, replicate, Option, None, Some, IfSome, slice_get, arith}
-use Rattle.std.proofs.lemmas.Bool.{and_parts}
-use Rattle.std.proofs.lemmas.Bool.Decides.{nat_tests}
-use Rattle.std.specs.List.{list_all}
+use Rattle.std.proofs.Common.{◌≡◌, ◌∙◌, ◌⊎◌, inl, inr, ⊎_elim, refl, ap, subst, sym, ℕ, zero, suc, ◌<◌, true, List, [], ◌∷◌, ◌++◌, length, Option, None, Some, IfSome, slice_get}
 use Rattle.std.specs.Option.{option_to_list}
-use Rattle.std.specs.Prelude.{nat_lt, slice_index}
+use Rattle.std.specs.Prelude.{slice_index}
 use Rattle.sb_actor.specs.Places.{statement_at}
 use Rattle.sb_actor.specs.ThreadTable.{thread_after, thread_plan}
 use Rattle.sb_actor.specs.WorkerStages.{WorkerStage, WorkerAt, Look, Count, End, Copy, Take, Mark, Give, Reply, Ack}
@@ -17,19 +14,17 @@ use Rattle.sb_statements.specs.declared.results.StmtResult.{StmtResult}
 use Rattle.sb_statements.specs.declared.schedules.Actor.{Actor}
 use Rattle.sb_statements.specs.declared.schedules.Actor.TheVariants.{Thread, Worker}
 use Rattle.sb_statements.specs.declared.scripts.Script.{Script}
-use Rattle.sb_statements.specs.declared.scripts.TargetScript.{TargetScript}
 use Rattle.sb_statements.specs.declared.statements.Statement.{Statement}
-use Rattle.sb_core.specs.Actors.{are_there, first_actors, first_threads, round_actors, scheduled, target_actors}
-use Rattle.sb_statements.specs.Actors.{is_step_there, is_there, thread_count}
-use Rattle.sb_core.specs.Drains.{drained_by, is_settled, one_pass, pass_below}
+use Rattle.sb_statements.specs.Actors.{is_there}
 use Rattle.sb_core.specs.Kept.{IsRunning, IsWorld}
 use Rattle.sb_core.specs.Results.{is_result_of}
 use Rattle.sb_core.specs.Shared.{decided, on_word, on_worker}
 use Rattle.sb_core.specs.Threads.{RunAt, no_run}
-use Rattle.sb_core.specs.Worlds.{WorldAt, all_finished, round, rounds, run_at, step, steps, threads_at, worker_at, worker_step}
+use Rattle.sb_core.specs.Worlds.{WorldAt, run_at, step, threads_at, worker_at, worker_step}
 use Rattle.sb_core.proofs.Running.{step_keeps, thread_is_there, worker_is_there, worker_runs}
 use Rattle.sb_core.proofs.Keeping.{worker_keeps, worker_setting}
 use Rattle.sb_core.proofs.Sets.{each_set}
+use Rattle.sb_core.proofs.Stepping.{Leads, kept_along}
 use Rattle.sb_core.proofs.There.{listed, worker_channel, worker_policy}
 use Rattle.sb_core.proofs.ThreadKeeping.{facts, thread_book}
 use Rattle.sb_core.proofs.ThreadRows.{IsOwnResult}
@@ -120,90 +115,9 @@ module _ (statements : SoundStatements) (answers : AnswersKeepHistories) (script
             (fits_more t k (run_at w t k) next.ended x.its_target x.its_number x.counted (good.fits t k there) told.own);
       }
 
-  pub good_step : (w : WorldAt) (actor : Actor) → Good script setting w → is_there script.targets actor ≡ true → Good script setting (step script w actor)
+  good_step : (w : WorldAt) (actor : Actor) → Good script setting w → is_there script.targets actor ≡ true → Good script setting (step script w actor)
   good_step w (Worker t) good e = good_worker w t good (worker_is_there script w t good.kept good.runs e)
   good_step w (Thread t k) good e = good_thread w t k good e
 
-  pub good_steps : (actors : List Actor) (w : WorldAt) → Good script setting w → are_there script.targets actors ≡ true → Good script setting (steps script actors w)
-  good_steps [] w good e = good
-  good_steps (actor ∷ actors) w good e =
-      let parts = and_parts (is_there script.targets actor) (are_there script.targets actors) e in
-      good_steps actors (step script w actor) (good_step w actor good parts.0) parts.1
-
-  chosen : (b : Bool) (v w : WorldAt) → Good script setting v → Good script setting w → Good script setting (elim b [ true ↦ v | false ↦ w ])
-  chosen true v w x y = x
-  chosen false v w x y = y
-
-  pub good_rounds : (n : ℕ) (w : WorldAt) → Good script setting w → are_there script.targets (round_actors script.targets) ≡ true → Good script setting (rounds n script w)
-  good_rounds zero w good e = good
-  good_rounds (suc n) w good e =
-      chosen (all_finished script w) w (rounds n script (round script w)) good
-      (good_rounds n (round script w) (good_steps (round_actors script.targets) w good e) e)
-
-  good_pass : (n : ℕ) (w : WorldAt) → Good script setting w → n ≤ length w.workers
-      → Good script setting (pass_below n w) × (length (pass_below n w).workers ≡ length w.workers)
-  good_pass zero w good l = (good, refl)
-  good_pass (suc n) w good l =
-      let before = good_pass n w good (omega (arith, l)) in
-      let same = before.1 in
-      (good_worker (pass_below n w) n before.0 (omega (arith, same, l)), kept_length (pass_below n w) n ∙ same)
-    where
-      kept_length : (w : WorldAt) (t : ℕ) → length (worker_step w t).workers ≡ length w.workers
-      kept_length w t = length-set w.workers t _
-
-  pub good_drained : (n : ℕ) (w : WorldAt) → Good script setting w → Good script setting (drained_by n w)
-  good_drained zero w good = good
-  good_drained (suc n) w good =
-      let within : length w.workers ≤ length w.workers = omega arith in
-      chosen (is_settled w) w (drained_by n (one_pass w)) good (good_drained n (one_pass w) (good_pass (length w.workers) w good within).0)
-
--- the actors of a round are there
-all_append : (p : Actor → Bool) (xs ys : List Actor) → list_all p xs ≡ true → list_all p ys ≡ true → list_all p (xs ++ ys) ≡ true
-all_append p [] ys h k = k
-all_append p (x ∷ xs) ys h k =
-    let parts = and_parts (p x) (list_all p xs) h in
-    let rest = all_append p xs ys parts.1 k in
-    rw (parts.0, rest) refl
-
-single : (p : Actor → Bool) (x : Actor) → p x ≡ true → list_all p (x ∷ []) ≡ true
-single p x e = rw e refl
-
-threads_there : (targets : List TargetScript) (t n : ℕ) → n ≤ thread_count (slice_get targets t) → are_there targets (first_threads t n) ≡ true
-threads_there targets t zero l = refl
-threads_there targets t (suc n) l =
-    all_append (is_there targets) (first_threads t n) (Thread t n ∷ []) (threads_there targets t n (omega (arith, l)))
-    (single (is_there targets) (Thread t n) (is_below n (thread_count (slice_get targets t)) (omega (arith, l))))
-  where
-    is_below : (a b : ℕ) → a < b → nat_lt a b ≡ true
-    is_below a b h = grind (arith, nat_tests)
-
-target_there : (targets : List TargetScript) (t : ℕ) → t < length targets → are_there targets (target_actors targets t) ≡ true
-target_there targets t l =
-    let first : is_there targets (Worker t) ≡ true = is_below t (length targets) l in
-    let rest = threads_there targets t (thread_count (slice_get targets t)) (itself (thread_count (slice_get targets t))) in
-    rw (first, rest) refl
-  where
-    is_below : (a b : ℕ) → a < b → nat_lt a b ≡ true
-    is_below a b h = grind (arith, nat_tests)
-
-    itself : (n : ℕ) → n ≤ n
-    itself n = omega arith
-
-actors_there : (targets : List TargetScript) (n : ℕ) → n ≤ length targets → are_there targets (first_actors targets n) ≡ true
-actors_there targets zero l = refl
-actors_there targets (suc n) l =
-    all_append (is_there targets) (first_actors targets n) (target_actors targets n) (actors_there targets n (omega (arith, l))) (target_there targets n (omega (arith, l)))
-
-pub rounds_there : (targets : List TargetScript) → are_there targets (round_actors targets) ≡ true
-rounds_there targets = let within : length targets ≤ length targets = omega arith in actors_there targets (length targets) within
-
--- and those of a schedule
-replicated : (targets : List TargetScript) (actor : Actor) (n : ℕ) → is_there targets actor ≡ true → are_there targets (replicate n actor) ≡ true
-replicated targets actor zero e = refl
-replicated targets actor (suc n) e = let rest = replicated targets actor n e in rw (e, rest) refl
-
-pub scheduled_there : (targets : List TargetScript) (entries : List (Actor × ℕ)) → list_all (is_step_there targets) entries ≡ true → are_there targets (scheduled entries) ≡ true
-scheduled_there targets [] e = refl
-scheduled_there targets (entry ∷ entries) e =
-    let parts = and_parts (is_step_there targets entry) (list_all (is_step_there targets) entries) e in
-    all_append (is_there targets) (replicate entry.1 entry.0) (scheduled entries) (replicated targets entry.0 entry.1 parts.0) (scheduled_there targets entries parts.1)
+  pub good_on : (w v : WorldAt) → Leads script w v → Good script setting w → Good script setting v
+  good_on w v leads good = kept_along script (Good script setting) good_step w v leads good

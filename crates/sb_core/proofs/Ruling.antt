@@ -1,7 +1,6 @@
 -- What each world of a script keeps beside its type: the rule for each target, and of each thread that it gives up no clean channel, that a wait makes the
 -- loads of its statement, and that each result suits its statement.
-use Rattle.std.proofs.Common.{◌≡◌, ◌∙◌, refl, ap, subst, sym, ℕ, zero, suc, ◌<◌, ◌≤◌, Bool, true, false, ⊎_elim, List, [], ◌∷◌, ◌++◌, length, length-set, Option, None, Some, IfSome, slice_get, arith}
-use Rattle.std.proofs.lemmas.Bool.{and_parts}
+use Rattle.std.proofs.Common.{◌≡◌, ◌∙◌, refl, ap, subst, sym, ℕ, ◌<◌, Bool, true, ⊎_elim, List, [], ◌++◌, length, Option, None, Some, IfSome, slice_get}
 use Rattle.std.specs.Option.{option_to_list}
 use Rattle.sb_actor.specs.Fitting.{Suits}
 use Rattle.sb_actor.specs.Places.{begun, clean_channels, mark_at, statement_at}
@@ -14,25 +13,26 @@ use Rattle.sb_statements.specs.Soundness.{SoundStatements, SoundTargets, channel
 use Rattle.sb_statements.specs.declared.results.StmtResult.{StmtResult}
 use Rattle.sb_statements.specs.declared.schedules.Actor.{Actor}
 use Rattle.sb_statements.specs.declared.schedules.Actor.TheVariants.{Thread, Worker}
-use Rattle.sb_statements.specs.declared.schedules.Schedule.{Schedule}
 use Rattle.sb_statements.specs.declared.scripts.Script.{Script}
 use Rattle.sb_statements.specs.declared.statements.Statement.{Statement}
-use Rattle.sb_core.specs.Actors.{are_there, round_actors, scheduled}
-use Rattle.sb_core.specs.Drains.{drained, drained_by, is_settled, most_passes, one_pass, pass_below}
+use Rattle.sb_core.specs.Drains.{drained}
 use Rattle.sb_core.specs.Kept.{IsRunning, IsWorld}
-use Rattle.sb_core.specs.Rules.{AreInRule, RuleHolds, RunsKeepRule}
-use Rattle.sb_core.specs.Runs.{CanRun, played}
+use Rattle.sb_core.specs.Rules.{AreInRule, RuleHolds, RunsKeepRule, WorldsOfScriptsKeepRule}
+use Rattle.sb_core.specs.Runs.{played}
 use Rattle.sb_core.specs.Shared.{on_word}
 use Rattle.sb_core.specs.Threads.{RunAt, no_run}
 use Rattle.sb_core.specs.Views.{AreViews, HasUnits, InRule}
 use Rattle.sb_core.specs.Words.{free_channels}
-use Rattle.sb_core.specs.Worlds.{WorldAt, all_finished, first_runs, first_worker, first_workers, no_worker, round, rounds, run_at, start_world, step, steps, threads_at, worker_at, worker_step}
+use Rattle.sb_core.specs.Worlds.{WorldAt, first_runs, first_worker, first_workers, no_worker, run_at, start_world, step, steps, threads_at, worker_at, worker_step}
+use Rattle.sb_core.specs.OfScripts.{IsOfScript}
+use Rattle.sb_core.proofs.Belonging.{leads_of, of_end, of_run}
 use Rattle.sb_core.proofs.Keeping.{worker_keeps}
 use Rattle.sb_core.proofs.Opening.{opening_views}
-use Rattle.sb_core.proofs.Reaching.{behind, rounds_there, scheduled_there}
+use Rattle.sb_core.proofs.Reaching.{behind}
 use Rattle.sb_core.proofs.Running.{step_keeps, thread_is_there, worker_is_there, worker_runs}
-use Rattle.sb_core.proofs.Seating.{SeatLaws}
+use Rattle.sb_core.proofs.ViewSteps.{RuleLaws}
 use Rattle.sb_core.proofs.Sets.{each_set}
+use Rattle.sb_core.proofs.Stepping.{kept_along}
 use Rattle.sb_core.proofs.Starting.{each_is, runs_of, start_run, starts_running, starts_world, words_at}
 use Rattle.sb_core.proofs.There.{as_many, listed}
 use Rattle.sb_core.proofs.ThreadRuling.{thread_rules, tidings}
@@ -52,7 +52,7 @@ pub record Ruled (script : Script) (w : WorldAt) : Type 0 where
   pub suits : (t k : ℕ) → k < length (threads_at w t) → RunSuits script t k (run_at w t k)
   pub rule : (t : ℕ) → t < length w.workers → InRule script w t
 
-module _ (laws : SeatLaws) (targets : SoundTargets) (statements : SoundStatements) (script : Script) where
+module _ (laws : RuleLaws) (targets : SoundTargets) (statements : SoundStatements) (script : Script) where
   -- at the start
   pub ruled_start : (policies : List Policy) → is_ready policies script ≡ true → Ruled script (start_world policies script)
   ruled_start policies h = record {
@@ -145,60 +145,29 @@ module _ (laws : SeatLaws) (targets : SoundTargets) (statements : SoundStatement
           rule = thread_rules laws statements targets script units w t k r.kept r.runs r.rule there (r.gives t k there) (r.waits t k there);
         }
 
-    pub ruled_step : (w : WorldAt) (actor : Actor) → Ruled script w → is_there script.targets actor ≡ true → Ruled script (step script w actor)
+    ruled_step : (w : WorldAt) (actor : Actor) → Ruled script w → is_there script.targets actor ≡ true → Ruled script (step script w actor)
     ruled_step w (Worker t) r e = ruled_worker w t r (worker_is_there script w t r.kept r.runs e)
     ruled_step w (Thread t k) r e = ruled_thread w t k r e
 
-    pub ruled_steps : (actors : List Actor) (w : WorldAt) → Ruled script w → are_there script.targets actors ≡ true → Ruled script (steps script actors w)
-    ruled_steps [] w r e = r
-    ruled_steps (actor ∷ actors) w r e =
-        let parts = and_parts (is_there script.targets actor) (are_there script.targets actors) e in
-        ruled_steps actors (step script w actor) (ruled_step w actor r parts.0) parts.1
-
-    chosen : (b : Bool) (v w : WorldAt) → Ruled script v → Ruled script w → Ruled script (elim b [ true ↦ v | false ↦ w ])
-    chosen true v w x y = x
-    chosen false v w x y = y
-
-    pub ruled_rounds : (n : ℕ) (w : WorldAt) → Ruled script w → are_there script.targets (round_actors script.targets) ≡ true → Ruled script (rounds n script w)
-    ruled_rounds zero w r e = r
-    ruled_rounds (suc n) w r e =
-        chosen (all_finished script w) w (rounds n script (round script w)) r
-        (ruled_rounds n (round script w) (ruled_steps (round_actors script.targets) w r e) e)
-
-    ruled_pass : (n : ℕ) (w : WorldAt) → Ruled script w → n ≤ length w.workers → Ruled script (pass_below n w) × (length (pass_below n w).workers ≡ length w.workers)
-    ruled_pass zero w r l = (r, refl)
-    ruled_pass (suc n) w r l =
-        let before = ruled_pass n w r (omega (arith, l)) in
-        let same = before.1 in
-        (ruled_worker (pass_below n w) n before.0 (omega (arith, same, l)), length-set (pass_below n w).workers n _ ∙ same)
-
-    pub ruled_drained : (n : ℕ) (w : WorldAt) → Ruled script w → Ruled script (drained_by n w)
-    ruled_drained zero w r = r
-    ruled_drained (suc n) w r =
-        let within : length w.workers ≤ length w.workers = omega arith in
-        chosen (is_settled w) w (drained_by n (one_pass w)) r (ruled_drained n (one_pass w) (ruled_pass (length w.workers) w r within).0)
-
-    -- a run, and its drain
-    pub ruled_played : (policies : List Policy) (schedule : Schedule) → CanRun policies script schedule → Ruled script (played policies script schedule)
-    ruled_played policies schedule can =
-        ruled_rounds schedule.rounds (steps script (scheduled schedule.steps) (start_world policies script))
-        (ruled_steps (scheduled schedule.steps) (start_world policies script) (ruled_start policies can.ready) (scheduled_there script.targets schedule.steps can.there))
-        (rounds_there script.targets)
-
-    pub ruled_end : (policies : List Policy) (schedule : Schedule) → CanRun policies script schedule → Ruled script (drained (played policies script schedule))
-    ruled_end policies schedule can = ruled_drained most_passes (played policies script schedule) (ruled_played policies schedule can)
+    -- so does each world of the script
+    pub ruled_of : (w : WorldAt) → IsOfScript script w → Ruled script w
+    ruled_of w o = kept_along script (Ruled script) ruled_step (start_world o.policies script) w (leads_of script w o) (ruled_start o.policies o.ready)
 
   -- each target of such a world
-  pub rule_of : (w : WorldAt) → Ruled script w → AreInRule script w
+  rule_of : (w : WorldAt) → Ruled script w → AreInRule script w
   rule_of w r t l = r.rule t (subst (λ n. t < n) (sym (as_many script w r.kept r.runs)) l)
 
-pub rule_holds : SeatLaws → SoundTargets → SoundStatements → RuleHolds
-rule_holds laws targets statements policies script actors ready units there =
-    rule_of laws targets statements script (steps script actors (start_world policies script))
-    (ruled_steps laws targets statements script units actors (start_world policies script) (ruled_start laws targets statements script policies ready) there)
+-- each target of each world of a script
+pub rules_of : RuleLaws → SoundTargets → SoundStatements → WorldsOfScriptsKeepRule
+rules_of laws targets statements script w o units = rule_of laws targets statements script w (ruled_of laws targets statements script units w o)
 
-pub runs_keep_rule : SeatLaws → SoundTargets → SoundStatements → RunsKeepRule
+pub rule_holds : RuleLaws → SoundTargets → SoundStatements → RuleHolds
+rule_holds laws targets statements policies script actors ready units there =
+    rules_of laws targets statements script (steps script actors (start_world policies script))
+    (record { policies = policies; actors = actors; ready = ready; there = there; reached = refl }) units
+
+pub runs_keep_rule : RuleLaws → SoundTargets → SoundStatements → RunsKeepRule
 runs_keep_rule laws targets statements policies script schedule can units = (
-  rule_of laws targets statements script (played policies script schedule) (ruled_played laws targets statements script units policies schedule can),
-  rule_of laws targets statements script (drained (played policies script schedule)) (ruled_end laws targets statements script units policies schedule can),
+  rules_of laws targets statements script (played policies script schedule) (of_run policies script schedule can) units,
+  rules_of laws targets statements script (drained (played policies script schedule)) (of_end targets statements policies script schedule can) units,
 )

@@ -16,9 +16,8 @@ use Rattle.sb_statements.specs.declared.schedules.Schedule.{Schedule}
 use Rattle.sb_statements.specs.declared.scripts.Script.{Script}
 use Rattle.sb_statements.specs.declared.scripts.TargetScript.{TargetScript}
 use Rattle.sb_statements.specs.declared.statements.Statement.{Statement}
-use Rattle.sb_core.specs.Actors.{scheduled}
 use Rattle.sb_statements.specs.Actors.{thread_count}
-use Rattle.sb_core.specs.Drains.{drained, most_passes}
+use Rattle.sb_core.specs.Drains.{drained}
 use Rattle.sb_core.specs.Kept.{IsRunning, IsWorld}
 use Rattle.sb_core.specs.Laws.{DrainsSettle, FinishedRunsAreWhole, RunsAreLegal, RunsHaveResults, RunsKeepWords}
 use Rattle.sb_core.specs.Reports.{results_of}
@@ -26,11 +25,12 @@ use Rattle.sb_core.specs.Results.{AreAllResults, ResultsFit, is_result_of, resul
 use Rattle.sb_core.specs.Runs.{CanRun, ended, played}
 use Rattle.sb_core.specs.Threads.{RunAt, first_unfinished, no_run, or_else, unfinished_of}
 use Rattle.sb_core.specs.Words.{some_ready}
-use Rattle.sb_core.specs.Worlds.{WorldAt, run_at, start_world, steps, threads_at}
+use Rattle.sb_core.specs.Worlds.{WorldAt, run_at, start_world, threads_at}
 use Rattle.sb_core.specs.declared.runs.Ran.{Ran}
-use Rattle.sb_core.proofs.Reaching.{Good, RunFits, good_drained, good_rounds, good_steps, rounds_there, scheduled_there}
+use Rattle.sb_core.proofs.Reaching.{Good, RunFits, good_on}
+use Rattle.sb_core.proofs.Stepping.{leads_drain, leads_run}
 use Rattle.sb_core.proofs.Starting.{start_run, starts_running, starts_world}
-use Rattle.sb_core.proofs.There.{as_many, sized_words}
+use Rattle.sb_core.proofs.There.{as_many, targets_there}
 
 -- before the first step there are no results
 none_of : (i : ℕ) (r : StmtResult) → ◌≡◌ {A = Option StmtResult} (slice_get [] i) (Some r) → ⊥
@@ -54,13 +54,11 @@ module _ (targets_law : SoundTargets) (statements_law : SoundStatements) (answer
 
   pub good_played : Good script (setting_of policies script) end_world
   good_played =
-      good_rounds statements_law answers script (setting_of policies script) schedule.rounds (steps script (scheduled schedule.steps) (start_world policies script))
-      (good_steps statements_law answers script (setting_of policies script) (scheduled schedule.steps) (start_world policies script) (good_start targets_law statements_law policies script can.ready)
-      (scheduled_there script.targets schedule.steps can.there))
-      (rounds_there script.targets)
+      good_on statements_law answers script (setting_of policies script) (start_world policies script) end_world (leads_run script policies schedule can)
+      (good_start targets_law statements_law policies script can.ready)
 
   pub good_end : Good script (setting_of policies script) (drained end_world)
-  good_end = good_drained statements_law answers script (setting_of policies script) most_passes end_world good_played
+  good_end = good_on statements_law answers script (setting_of policies script) end_world (drained end_world) (leads_drain script end_world good_played.kept good_played.runs) good_played
 
   -- by whether a thread is unfinished
   by_end : (P : Ran → Type 0) → P (ended end_world None) → ((thread : ℕ × ℕ) → P (ended end_world (Some thread))) → (o : Option (ℕ × ℕ)) → P (ended end_world o)
@@ -200,7 +198,7 @@ words_kept script w kept runs =
     let words = kept.words in
     let many = as_many script w kept runs in
     same_lists (map (λ (ws : List ℕ). length ws) w.shared.words) (map (λ (target : TargetScript). target.channels * 65) script.targets) (omega (arith, one, two, words, many))
-    (λ t l. sizes_at w.shared.words t ∙ ((sized_words script w kept runs t (omega (arith, one, words, many, l))).1 ∙ sym (wanted_at script.targets t)))
+    (λ t l. sizes_at w.shared.words t ∙ ((targets_there script w kept runs t (omega (arith, one, words, many, l))).sized ∙ sym (wanted_at script.targets t)))
 
 -- there is a list of results for each thread of each target
 lists_of_targets : (threads : List (List RunAt)) → length (results_of threads) ≡ length threads

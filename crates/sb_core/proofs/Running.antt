@@ -1,18 +1,17 @@
--- A step of an actor that is there keeps what every world keeps, and what a world keeps of its script.
+-- The step of an actor that is there is on words that are there, and keeps what every world keeps, and what a world keeps of its script.
 use Rattle.std.proofs.Common.{◌≡◌, ◌∙◌, ap, subst, sym, ℕ, ◌<◌, true, length, slice_get, arith}
 use Rattle.std.proofs.lemmas.Bool.Decides.{nat_tests}
 use Rattle.std.specs.Prelude.{nat_lt}
 use Rattle.sb_statements.specs.Soundness.{SoundStatements}
-use Rattle.sb_statements.specs.declared.schedules.Actor.{Actor}
 use Rattle.sb_statements.specs.declared.schedules.Actor.TheVariants.{Thread, Worker}
 use Rattle.sb_statements.specs.declared.scripts.Script.{Script}
 use Rattle.sb_statements.specs.Actors.{is_there, thread_count}
 use Rattle.sb_core.specs.Kept.{IsRunning, IsWorld}
-use Rattle.sb_core.specs.Laws.{StepsKeep}
-use Rattle.sb_core.specs.Worlds.{WorldAt, step, threads_at, worker_step}
+use Rattle.sb_core.specs.Laws.{PlansAreThere, StepsKeep}
+use Rattle.sb_core.specs.Worlds.{WorldAt, threads_at, worker_step}
 use Rattle.sb_core.proofs.Keeping.{worker_keeps, worker_setting}
-use Rattle.sb_core.proofs.There.{as_many}
-use Rattle.sb_core.proofs.ThreadKeeping.{thread_book, thread_keeps, thread_runs}
+use Rattle.sb_core.proofs.There.{as_many, thread_there, worker_there}
+use Rattle.sb_core.proofs.ThreadKeeping.{thread_keeps, thread_runs}
 
 below : (a b : ℕ) → nat_lt a b ≡ true → a < b
 below a b e = grind (arith, nat_tests)
@@ -27,6 +26,11 @@ worker_is_there script w t kept runs e =
 -- the thread of a target that is there
 pub thread_is_there : (script : Script) (w : WorldAt) (t k : ℕ) → IsRunning script w → is_there script.targets (Thread t k) ≡ true → k < length (threads_at w t)
 thread_is_there script w t k runs e = subst (λ n. k < n) (sym (runs.threads t)) (below k (thread_count (slice_get script.targets t)) e)
+
+-- the step of an actor that is there
+pub plans_are_there : SoundStatements → PlansAreThere
+plans_are_there law script w (Worker t) kept runs e = worker_there w t kept (worker_is_there script w t kept runs e)
+plans_are_there law script w (Thread t k) kept runs e = thread_there script w kept runs t k (thread_is_there script w t k runs e) law
 
 -- a step of a worker leaves the threads and the setting
 pub worker_runs : (script : Script) (w : WorldAt) (t : ℕ) → IsWorld w → IsRunning script w → t < length w.workers → IsRunning script (worker_step w t)
@@ -45,10 +49,3 @@ step_keeps law script w (Worker t) kept runs e =
 step_keeps law script w (Thread t k) kept runs e =
     let there = thread_is_there script w t k runs e in
     (thread_keeps script w t k kept runs there law, thread_runs script w t k kept runs there law)
-
--- and the setting of the book, which is all that a judge depends on
-pub step_setting : SoundStatements → (script : Script) (w : WorldAt) (actor : Actor) → IsWorld w → IsRunning script w → is_there script.targets actor ≡ true
-    → (step script w actor).shared.book.setting ≡ w.shared.book.setting
-step_setting law script w (Worker t) kept runs e = worker_setting w t kept (worker_is_there script w t kept runs e)
-step_setting law script w (Thread t k) kept runs e =
-    ap (λ book. book.setting) (thread_book script w t k kept runs (thread_is_there script w t k runs e) law)

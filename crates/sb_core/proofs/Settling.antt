@@ -241,9 +241,6 @@ pub record Leaves (b : Bool) (after before : ℕ) : Type 0 where
   pub low : after ≤ before
   pub less : b ≡ true → after < before
 
-below_ten : (count : ℕ) → nat_lt 9 count ≡ false → count ≤ 9
-below_ten count e = grind (arith, nat_tests)
-
 end_high : (count end : ℕ) → is_end count end ≡ true → end ≤ 64
 end_high count end h = grind (arith, nat_tests)
 

@@ -145,11 +145,11 @@ set_as_was xs i d = set-get_or xs i d
 pub sourced_words : (script : Script) (es : List Entry) (s : SharedAt) (a : Act) → AreSourcedWords script es s.words → IsActThere s.words a → WritesSource script es a
     → AreSourcedWords script es (on_word s a).shared.words
 sourced_words script es s (act.Load t word) all there w = all
-sourced_words script es s (act.Store t word value) all there w = stored_source script es s.words all t word value there.0 w.0 w.1
+sourced_words script es s (act.Store t word value) all there w = stored_source script es s.words all t word value there.listed w.0 w.1
 sourced_words script es s (act.Exchange t word from to) all there w = by_test (loaded (words_of s.words t) word == from)
   where
     by_test : (b : Bool) → AreSourcedWords script es (set s.words t (if b then stored (words_of s.words t) word to else words_of s.words t))
-    by_test true = stored_source script es s.words all t word to there.0 w.0 w.1
+    by_test true = stored_source script es s.words all t word to there.listed w.0 w.1
     by_test false = subst (λ (z : List (List ℕ)). AreSourcedWords script es z) (sym (set_as_was s.words t [])) all
 sourced_words script es s act.Take all there w = all
 sourced_words script es s act.Mark all there w = all

@@ -1,10 +1,8 @@
--- In every world of a script the entries on a channel, with one that is owed, are at most what threads handed over there and what made it ready by hand.
-use Rattle.std.proofs.Common.{◌≡◌, ◌≢◌, ◌∙◌, refl, ap, subst, sym, ℕ, zero, suc, ◌+◌, ◌*◌, ◌%◌, ◌<◌, ◌≤◌, Bool, true, false, ◌&&◌, ◌==◌, if◌then◌else◌, List, [], ◌∷◌, ◌++◌, length, length-set, map, set, get_or, get_or-set_same, get_or-set_other, Option, None, Some, slice_get, arith}
-use Rattle.std.proofs.lemmas.Bool.{and_parts}
+-- In every world of a script the entries on a channel, with one that is owed, are at most what threads handed over there and what made it ready directly.
+use Rattle.std.proofs.Common.{◌≡◌, ◌≢◌, ◌∙◌, refl, ap, subst, sym, ℕ, suc, ◌+◌, ◌*◌, ◌%◌, ◌<◌, ◌≤◌, Bool, true, false, ◌&&◌, ◌==◌, if◌then◌else◌, List, [], ◌∷◌, ◌++◌, length, length-set, map, set, get_or, get_or-set_same, get_or-set_other, Option, None, Some, slice_get, arith}
 use Rattle.std.proofs.lemmas.Bool.Decides.{nat_tests}
 use Rattle.std.proofs.lemmas.List.{set-get_or}
 use Rattle.std.proofs.lemmas.List.Sums.{sum_by-cons, sum_by-set}
-use Rattle.std.specs.List.{sum_by}
 use Rattle.std.specs.Option.{option_to_list}
 use Rattle.std.specs.Prelude.{slice_index}
 use native.Mathlib.Decide.{ℕ_discrete}
@@ -27,47 +25,38 @@ use Rattle.sb_statements.specs.declared.schedules.Actor.TheVariants.{Thread, Wor
 use Rattle.sb_statements.specs.declared.schedules.Schedule.{Schedule}
 use Rattle.sb_statements.specs.declared.scripts.Script.{Script}
 use Rattle.sb_statements.specs.declared.statements.Word.{Word}
-use Rattle.sb_core.specs.Actors.{are_there, round_actors, scheduled}
-use Rattle.sb_core.specs.Drains.{drained, drained_by, is_settled, most_passes, one_pass, pass_below}
+use Rattle.sb_core.specs.Drains.{drained}
 use Rattle.sb_core.specs.Kept.{IsRunning, IsWorkerOf, IsWorld}
 use Rattle.sb_core.specs.Reports.{results_of}
 use Rattle.sb_core.specs.Runs.{CanRun, ended, played}
 use Rattle.sb_core.specs.Shared.{IsActThere, SharedAt, decided, on_word, on_worker}
-use Rattle.sb_core.specs.Tallies.{EntriesAreFew, entries_on, is_state, one_if, tally_from, tally_targets, tally_threads}
+use Rattle.sb_core.specs.Tallies.{WorldsAreFew, has_sent, tally_all, tally_row, tally_so_far, EntriesAreFew, entries_on, is_state, one_if, tally_from, tally_targets, tally_threads}
 use Rattle.sb_core.specs.Threads.{RunAt, first_unfinished, no_run}
 use Rattle.sb_core.specs.Words.{free_channels, loaded, place_of, stored, words_of}
-use Rattle.sb_core.specs.Worlds.{WorldAt, all_finished, first_worker, first_workers, no_worker, round, rounds, run_at, start_world, step, steps, threads_at, worker_at, worker_goes, worker_step}
+use Rattle.sb_core.specs.Worlds.{WorldAt, first_worker, first_workers, no_worker, run_at, start_world, step, threads_at, worker_at, worker_goes, worker_step}
 use Rattle.sb_core.proofs.Draining.{drained_threads}
 use Rattle.sb_core.proofs.Judging.{none_behind, over_is}
 use Rattle.sb_core.proofs.Keeping.{step_moves, worker_keeps}
-use Rattle.sb_core.proofs.Reaching.{rounds_there, scheduled_there}
+use Rattle.sb_core.specs.OfScripts.{IsOfScript}
+use Rattle.sb_core.proofs.Belonging.{leads_of, of_end}
 use Rattle.sb_core.proofs.RunLaws.{each_finished}
 use Rattle.sb_core.proofs.Running.{step_keeps, thread_is_there, worker_is_there, worker_runs}
 use Rattle.sb_core.proofs.Settling.{other_stays}
 use Rattle.sb_core.proofs.Opening.{opened}
+use Rattle.sb_core.proofs.Stepping.{kept_along}
 use Rattle.sb_core.proofs.Starting.{each_is, free_length, starts_running, starts_world, words_at}
-use Rattle.sb_core.proofs.There.{as_many, listed, sized_words, sound_at, thread_there}
+use Rattle.sb_core.proofs.There.{as_many, listed, targets_there, sound_at, thread_there}
 use Rattle.sb_core.proofs.ThreadKeeping.{facts, thread_book, word_keeps}
 use Rattle.sb_core.proofs.ThreadSources.{row_writes}
-use Rattle.sb_core.proofs.ThreadTallies.{has_sent, readies, row_counted, tally_in, tally_more}
+use Rattle.sb_core.proofs.ThreadTallies.{readies, row_counted, tally_in, tally_more}
 use Rattle.sb_core.proofs.Sourcing.{WritesSource}
 use Rattle.sb_core.proofs.WorkerTallies.{entries_more, looking_owed, owed, owed_by, own_owed}
-
--- what a thread handed over on a channel, and what it made ready by hand
-abbrev weight : Script → ℕ → ℕ → RunAt → ℕ
-weight script t c x = one_if (x.thread.target == t && has_sent c x.thread.stage) + tally_from script t c x.thread.target x.thread.thread 0 x.results
-
-abbrev row_weight : Script → ℕ → ℕ → List RunAt → ℕ
-row_weight script t c runs = sum_by (weight script t c) runs
-
-abbrev total : Script → ℕ → ℕ → List (List RunAt) → ℕ
-total script t c threads = sum_by (row_weight script t c) threads
 
 pub record Tallied (script : Script) (w : WorldAt) : Type 0 where
   pub kept : IsWorld w
   pub runs : IsRunning script w
   pub few : (t c : ℕ) → t < length w.workers → at c 0 < length (words_of w.shared.words t)
-      → entries_on t c w.shared.book.entries + owed (worker_at w t) c (slice_index (words_of w.shared.words t) (at c 0)) ≤ total script t c w.threads
+      → entries_on t c w.shared.book.entries + owed (worker_at w t) c (slice_index (words_of w.shared.words t) (at c 0)) ≤ tally_all script t c w.threads
 
 -- the worker of a target, on its own channels
 pub own_few : (w : WorldAt) (t : ℕ) → IsWorld w → t < length w.workers → (c : ℕ) → at c 0 < length (words_of (worker_step w t).shared.words t)
@@ -144,10 +133,10 @@ tallied_worker script w t r there = record {
 }
   where
     by_place : (u c : ℕ) → u < length w.workers → at c 0 < length (words_of (worker_step w t).shared.words u) → Dec (u ≡ t)
-        → entries_on u c (worker_step w t).shared.book.entries + owed (worker_at (worker_step w t) u) c (slice_index (words_of (worker_step w t).shared.words u) (at c 0)) ≤ total script u c w.threads
+        → entries_on u c (worker_step w t).shared.book.entries + owed (worker_at (worker_step w t) u) c (slice_index (words_of (worker_step w t).shared.words u) (at c 0)) ≤ tally_all script u c w.threads
     by_place u c l m (yes e) =
         subst (λ z. at c 0 < length (words_of (worker_step w t).shared.words z)
-        → entries_on z c (worker_step w t).shared.book.entries + owed (worker_at (worker_step w t) z) c (slice_index (words_of (worker_step w t).shared.words z) (at c 0)) ≤ total script z c w.threads) (sym e)
+        → entries_on z c (worker_step w t).shared.book.entries + owed (worker_at (worker_step w t) z) c (slice_index (words_of (worker_step w t).shared.words z) (at c 0)) ≤ tally_all script z c w.threads) (sym e)
         (λ q. let o = own_few w t r.kept there c q in at_most _ _ _ o.1 (r.few t c there o.0)) m
       where
         at_most : (a b c : ℕ) → a ≤ b → b ≤ c → a ≤ c
@@ -155,7 +144,7 @@ tallied_worker script w t r there = record {
     by_place u c l m (no ne) =
         let s = other_stays w t u r.kept there ne in
         let before = r.few u c l (subst (λ (z : List ℕ). at c 0 < length z) s.words m) in
-        subst (λ (z : ℕ × WorkerAt × List ℕ). z.0 + owed z.1 c (slice_index z.2 (at c 0)) ≤ total script u c w.threads)
+        subst (λ (z : ℕ × WorkerAt × List ℕ). z.0 + owed z.1 c (slice_index z.2 (at c 0)) ≤ tally_all script u c w.threads)
         (λ j. (sym (other_entries w t u c (worker_at w t) ne (worker_at w t).stage) j, sym s.worker j, sym s.words j)) before
 
 -- a state becomes 3 where a step makes the channel ready
@@ -214,7 +203,7 @@ module _ (s : SharedAt) (u c : ℕ) (inside : at c 0 < length (words_of s.words 
       → one_if (slice_index (words_of (on_word s a).shared.words u) (at c 0) == 3) ≤ one_if (state == 3) + one_if (readies u c a (value_in (on_word s a).seen))
   state_rises script es (act.Load t word) there w = more (one_if (state == 3)) 0
   state_rises script es (act.Store t word value) there w =
-      put t word value there.0 w.0 (one_if (is_state u c t word && value == 3)) (λ e. same_test (is_state u c t word) (value == 3) e)
+      put t word value there.listed w.0 (one_if (is_state u c t word && value == 3)) (λ e. same_test (is_state u c t word) (value == 3) e)
     where
       same_test : (a b : Bool) → a ≡ true → one_if b ≤ one_if (a && b)
       same_test true b e = omega arith
@@ -230,7 +219,7 @@ module _ (s : SharedAt) (u c : ℕ) (inside : at c 0 < length (words_of s.words 
           → one_if (slice_index (words_of (set s.words t (if b then stored (words_of s.words t) word to else words_of s.words t)) u) (at c 0) == 3)
           ≤ one_if (state == 3) + one_if (is_state u c t word && (loaded (words_of s.words t) word == from && to == 3))
       by_test true e =
-          put t word to there.0 w.0 (one_if (is_state u c t word && (loaded (words_of s.words t) word == from && to == 3))) (λ f. same_test (is_state u c t word) (loaded (words_of s.words t) word == from) (to == 3) f e)
+          put t word to there.listed w.0 (one_if (is_state u c t word && (loaded (words_of s.words t) word == from && to == 3))) (λ f. same_test (is_state u c t word) (loaded (words_of s.words t) word == from) (to == 3) f e)
       by_test false e =
           let as_was = ap (λ (z : List (List ℕ)). one_if (slice_index (words_of z u) (at c 0) == 3)) (set-get_or s.words t []) in
           omega (arith, as_was)
@@ -261,7 +250,7 @@ module _ (targets : SoundTargets) (statements : SoundStatements) (script : Scrip
     where
       counted : k < length (threads_at w t) → (u c : ℕ) → u < length w.workers → at c 0 < length (words_of (step script w (Thread t k)).shared.words u)
           → entries_on u c (step script w (Thread t k)).shared.book.entries + owed (worker_at w u) c (slice_index (words_of (step script w (Thread t k)).shared.words u) (at c 0))
-          ≤ total script u c (step script w (Thread t k)).threads
+          ≤ tally_all script u c (step script w (Thread t k)).threads
       counted there u c l m =
           let x = run_at w t k in
           let y = x.thread in
@@ -285,10 +274,10 @@ module _ (targets : SoundTargets) (statements : SoundStatements) (script : Scrip
           let tallies : tally_from script u c y.target y.thread 0 z.results
           ≡ tally_from script u c y.target y.thread 0 x.results + tally_in u c y.target (statement_at script y.target y.thread y.place) next.ended =
           tally_more script u c y.target y.thread 0 y.place x.results next.ended (from_zero (length x.results) y.place its.counted) in
-          let heavy : weight script u c z ≡ one_if (y.target == u && has_sent c next.thread.stage) + tally_from script u c y.target y.thread 0 z.results =
+          let heavy : tally_so_far script u c z ≡ one_if (y.target == u && has_sent c next.thread.stage) + tally_from script u c y.target y.thread 0 z.results =
           ap (λ (q : ℕ × ℕ). one_if (q.0 == u && has_sent c next.thread.stage) + tally_from script u c q.0 q.1 0 z.results) (λ j. (told.its_target j, told.its_number j)) in
-          let in_row = sum_by-set (weight script u c) (threads_at w t) k z no_run there in
-          let in_all = sum_by-set (row_weight script u c) w.threads t (set (threads_at w t) k z) [] (listed w.threads t k there) in
+          let in_row = sum_by-set (tally_so_far script u c) (threads_at w t) k z no_run there in
+          let in_all = sum_by-set (tally_row script u c) w.threads t (set (threads_at w t) k z) [] (listed w.threads t k there) in
           let before = r.few u c l inside in
           put_together _ _ _ _ _ _ _ _ _ _ _ _ _ _ _ book owes before row tallies heavy in_row in_all
         where
@@ -301,9 +290,6 @@ module _ (targets : SoundTargets) (statements : SoundStatements) (script : Scrip
           put_together ea eb oa ob rise all sent_b sent_a told_b told_a more wa row_a row_b sum p1 p2 p3 p4 p5 p6 p7 p8 = omega (arith, p1, p2, p3, p4, p5, p6, p7, p8)
 
   -- at the start
-  least : (n : ℕ) → 0 ≤ n
-  least n = omega arith
-
   start_state : (n c : ℕ) → at c 0 < n * 65 → one_if (slice_index (free_channels n) (at c 0) == 3) ≡ 0
   start_state n c l =
       let whole : (at c 0) % 65 ≡ 0 = omega arith in
@@ -320,10 +306,10 @@ module _ (targets : SoundTargets) (statements : SoundStatements) (script : Scrip
         let size = free_length n in
         let state = start_state n c (subst (λ z. at c 0 < z) (ap (λ (z : List ℕ). length z) same ∙ size) m) in
         let here = subst (λ n. t < n) (as_many script (start_world policies script) kept runs) l in
-        subst (λ (x : WorkerAt). 0 + owed x c (slice_index (words_of (start_world policies script).shared.words t) (at c 0)) ≤ total script t c (start_world policies script).threads)
+        subst (λ (x : WorkerAt). 0 + owed x c (slice_index (words_of (start_world policies script).shared.words t) (at c 0)) ≤ tally_all script t c (start_world policies script).threads)
         (sym (each_is (first_worker script.targets) (first_workers script.targets) refl (λ n. refl) (length script.targets) t no_worker here))
-        (subst (λ (z : List ℕ). 0 + owed_by (0 == c) Look (slice_index z (at c 0)) ≤ total script t c (start_world policies script).threads) (sym same)
-        (nothing (owed_by (0 == c) Look (slice_index (free_channels n) (at c 0))) (total script t c (start_world policies script).threads)
+        (subst (λ (z : List ℕ). 0 + owed_by (0 == c) Look (slice_index z (at c 0)) ≤ tally_all script t c (start_world policies script).threads) (sym same)
+        (nothing (owed_by (0 == c) Look (slice_index (free_channels n) (at c 0))) (tally_all script t c (start_world policies script).threads)
         (looking_owed (0 == c) (slice_index (free_channels n) (at c 0)) ∙ state)));
   }
     where
@@ -340,41 +326,8 @@ module _ (targets : SoundTargets) (statements : SoundStatements) (script : Scrip
   tallied_step w (Worker t) r e = tallied_worker script w t r (worker_is_there script w t r.kept r.runs e)
   tallied_step w (Thread t k) r e = tallied_thread w t k r e
 
-  tallied_steps : (actors : List Actor) (w : WorldAt) → Tallied script w → are_there script.targets actors ≡ true → Tallied script (steps script actors w)
-  tallied_steps [] w r e = r
-  tallied_steps (actor ∷ actors) w r e =
-      let parts = and_parts (is_there script.targets actor) (are_there script.targets actors) e in
-      tallied_steps actors (step script w actor) (tallied_step w actor r parts.0) parts.1
-
-  chosen : (b : Bool) (v w : WorldAt) → Tallied script v → Tallied script w → Tallied script (elim b [ true ↦ v | false ↦ w ])
-  chosen true v w x y = x
-  chosen false v w x y = y
-
-  tallied_rounds : (n : ℕ) (w : WorldAt) → Tallied script w → are_there script.targets (round_actors script.targets) ≡ true → Tallied script (rounds n script w)
-  tallied_rounds zero w r e = r
-  tallied_rounds (suc n) w r e =
-      chosen (all_finished script w) w (rounds n script (round script w)) r
-      (tallied_rounds n (round script w) (tallied_steps (round_actors script.targets) w r e) e)
-
-  tallied_pass : (n : ℕ) (w : WorldAt) → Tallied script w → n ≤ length w.workers → Tallied script (pass_below n w) × (length (pass_below n w).workers ≡ length w.workers)
-  tallied_pass zero w r l = (r, refl)
-  tallied_pass (suc n) w r l =
-      let before = tallied_pass n w r (omega (arith, l)) in
-      let same = before.1 in
-      (tallied_worker script (pass_below n w) n before.0 (omega (arith, same, l)), length-set (pass_below n w).workers n _ ∙ same)
-
-  tallied_drained : (n : ℕ) (w : WorldAt) → Tallied script w → Tallied script (drained_by n w)
-  tallied_drained zero w r = r
-  tallied_drained (suc n) w r =
-      let within : length w.workers ≤ length w.workers = omega arith in
-      chosen (is_settled w) w (drained_by n (one_pass w)) r (tallied_drained n (one_pass w) (tallied_pass (length w.workers) w r within).0)
-
-  tallied_end : (policies : List Policy) (schedule : Schedule) → CanRun policies script schedule → Tallied script (drained (played policies script schedule))
-  tallied_end policies schedule can =
-      tallied_drained most_passes (played policies script schedule)
-      (tallied_rounds schedule.rounds (steps script (scheduled schedule.steps) (start_world policies script))
-      (tallied_steps (scheduled schedule.steps) (start_world policies script) (tallied_start policies can.ready) (scheduled_there script.targets schedule.steps can.there))
-      (rounds_there script.targets))
+  pub tallied_of : (w : WorldAt) → IsOfScript script w → Tallied script w
+  tallied_of w o = kept_along script (Tallied script) tallied_step (start_world o.policies script) w (leads_of script w o) (tallied_start o.policies o.ready)
 
 -- where no thread is within a call the weights are the tallies of the results
 pub record Outside (script : Script) (c u k : ℕ) (x : RunAt) : Type 0 where
@@ -382,7 +335,7 @@ pub record Outside (script : Script) (c u k : ℕ) (x : RunAt) : Type 0 where
   pub its_number : x.thread.thread ≡ k
   pub not_sent : has_sent c x.thread.stage ≡ false
 
-one_weight : (script : Script) (t c u k : ℕ) (x : RunAt) → Outside script c u k x → weight script t c x ≡ tally_from script t c u k 0 x.results
+one_weight : (script : Script) (t c u k : ℕ) (x : RunAt) → Outside script c u k x → tally_so_far script t c x ≡ tally_from script t c u k 0 x.results
 one_weight script t c u k x o =
     let none = none_here (x.thread.target == t) (has_sent c x.thread.stage) o.not_sent in
     let same : tally_from script t c x.thread.target x.thread.thread 0 x.results ≡ tally_from script t c u k 0 x.results =
@@ -394,12 +347,12 @@ one_weight script t c u k x o =
     none_here false b e = refl
 
 rows_weight : (script : Script) (t c u k : ℕ) (runs : List RunAt) → ((j : ℕ) → j < length runs → Outside script c u (k + j) (get_or runs j no_run))
-    → row_weight script t c runs ≡ tally_threads script t c u k (map (λ x. x.results) runs)
+    → tally_row script t c runs ≡ tally_threads script t c u k (map (λ x. x.results) runs)
 rows_weight script t c u k [] each = refl
 rows_weight script t c u k (x ∷ runs) each =
     let first = one_weight script t c u k x (subst (λ z. Outside script c u z x) (plus_none k) (each 0 (omega arith))) in
     let rest = rows_weight script t c u (k + 1) runs (λ j l. subst (λ z. Outside script c u z (get_or runs j no_run)) (next k j) (each (suc j) (omega (arith, l)))) in
-    let both = sum_by-cons (weight script t c) x runs in
+    let both = sum_by-cons (tally_so_far script t c) x runs in
     omega (arith, first, rest, both)
   where
     plus_none : (k : ℕ) → k + 0 ≡ k
@@ -409,12 +362,12 @@ rows_weight script t c u k (x ∷ runs) each =
     next k j = omega arith
 
 all_weight : (script : Script) (t c u : ℕ) (threads : List (List RunAt)) → ((i j : ℕ) → j < length (get_or threads i []) → Outside script c (u + i) j (get_or (get_or threads i []) j no_run))
-    → total script t c threads ≡ tally_targets script t c u (results_of threads)
+    → tally_all script t c threads ≡ tally_targets script t c u (results_of threads)
 all_weight script t c u [] each = refl
 all_weight script t c u (runs ∷ threads) each =
     let first = rows_weight script t c u 0 runs (λ j l. subst (λ (z : ℕ × ℕ). Outside script c z.0 z.1 (get_or runs j no_run)) (λ q. (plus_none u q, zero_plus j q)) (each 0 j l)) in
     let rest = all_weight script t c (u + 1) threads (λ i j l. subst (λ z. Outside script c z j (get_or (get_or threads i []) j no_run)) (next u i) (each (suc i) j l)) in
-    let both = sum_by-cons (row_weight script t c) runs threads in
+    let both = sum_by-cons (tally_row script t c) runs threads in
     omega (arith, first, rest, both)
   where
     plus_none : (u : ℕ) → u + 0 ≡ u
@@ -426,13 +379,25 @@ all_weight script t c u (runs ∷ threads) each =
     next : (u i : ℕ) → u + suc i ≡ (u + 1) + i
     next u i = omega arith
 
+-- on a channel of a world of a script
+few_so_far : SoundTargets → SoundStatements → (script : Script) (w : WorldAt) → Tallied script w → (t c : ℕ) → t < length script.targets → c < channels_of (slice_get script.targets t)
+    → entries_on t c w.shared.book.entries ≤ tally_all script t c w.threads
+few_so_far targets statements script w is t c l m =
+    let there = subst (λ n. t < n) (sym (as_many script w is.kept is.runs)) l in
+    let size = (targets_there script w is.kept is.runs t l).sized in
+    let few = is.few t c there (omega (arith, size, m)) in
+    at_most _ _ _ few
+  where
+    at_most : (a b d : ℕ) → a + b ≤ d → a ≤ d
+    at_most a b d p = omega (arith, p)
+
 module _ (targets : SoundTargets) (statements : SoundStatements) (policies : List Policy) (script : Script) (schedule : Schedule) (can : CanRun policies script schedule)
     (finished : first_unfinished script (played policies script schedule).threads ≡ None) where
   abbrev w : WorldAt
   w = drained (played policies script schedule)
 
   is : Tallied script w
-  is = tallied_end targets statements script policies schedule can
+  is = tallied_of targets statements script w (of_end targets statements policies script schedule can)
 
   same_threads : w.threads ≡ (played policies script schedule).threads
   same_threads = drained_threads (played policies script schedule)
@@ -451,16 +416,17 @@ module _ (targets : SoundTargets) (statements : SoundStatements) (policies : Lis
   few_entries : (t c : ℕ) → t < length script.targets → c < channels_of (slice_get script.targets t)
       → entries_on t c w.shared.book.entries ≤ tally_targets script t c 0 (results_of (played policies script schedule).threads)
   few_entries t c l m =
-      let there = subst (λ n. t < n) (sym (as_many script w is.kept is.runs)) l in
-      let size = (sized_words script w is.kept is.runs t l).1 in
-      let few = is.few t c there (omega (arith, size, m)) in
+      let few = few_so_far targets statements script w is t c l m in
       let all = all_weight script t c 0 w.threads (outside c) in
       let same : tally_targets script t c 0 (results_of w.threads) ≡ tally_targets script t c 0 (results_of (played policies script schedule).threads) =
       ap (λ (threads : List (List RunAt)). tally_targets script t c 0 (results_of threads)) same_threads in
-      at_most _ _ _ _ _ few all same
+      at_most _ _ _ _ few all same
     where
-      at_most : (a b d e f : ℕ) → a + b ≤ d → d ≡ e → e ≡ f → a ≤ f
-      at_most a b d e f p q r = omega (arith, p, q, r)
+      at_most : (a d e f : ℕ) → a ≤ d → d ≡ e → e ≡ f → a ≤ f
+      at_most a d e f p q r = omega (arith, p, q, r)
+
+pub worlds_are_few : SoundTargets → SoundStatements → WorldsAreFew
+worlds_are_few targets statements script w o = few_so_far targets statements script w (tallied_of targets statements script w o)
 
 pub entries_are_few : SoundTargets → SoundStatements → EntriesAreFew
 entries_are_few targets statements policies script schedule can all_ended t c l m =

@@ -1,4 +1,4 @@
--- The words that the next step of an actor names are there.
+-- The target, the channel and the word that the next step of an actor names are there, each below its own bound.
 use Rattle.std.proofs.Common.{◌≡◌, ◌∙◌, refl, ap, subst, sym, ℕ, zero, suc, ◌+◌, ◌*◌, ◌<◌, ◌≤◌, true, List, [], ◌∷◌, length, map, get_or, Option, None, Some, IfSome, slice_get, lit≤, arith}
 use Rattle.std.proofs.lemmas.Bool.{and_parts}
 use Rattle.std.proofs.lemmas.Bool.Decides.{nat_tests}
@@ -17,6 +17,7 @@ use Rattle.sb_statements.specs.declared.statements.Statement.{Statement}
 use Rattle.sb_statements.specs.declared.statements.Statement.TheVariants as statement
 use Rattle.sb_statements.specs.declared.statements.Word.{Word}
 use Rattle.sb_core.specs.Kept.{IsRunning, IsWorld, channels_at}
+use Rattle.sb_core.specs.Laws.{HasTarget}
 use Rattle.sb_core.specs.Shared.{IsActThere}
 use Rattle.sb_core.specs.Words.{IsWordThere, words_of}
 use Rattle.sb_core.specs.Worlds.{WorldAt, run_at, threads_at, worker_at}
@@ -25,9 +26,10 @@ inside : (c channels j n : ℕ) → c < channels → j ≤ 64 → n ≡ channels
 inside c channels j n h l e = omega arith
 
 -- a word of one of the channels of a target
-module _ (words : List (List ℕ)) (t channels c : ℕ) (here : t < length words) (within : c < channels) (sized : length (words_of words t) ≡ channels * 65) where
+module _ (words : List (List ℕ)) (t channels c : ℕ) (target : t < 8) (few : channels ≤ 8) (here : t < length words) (within : c < channels)
+    (sized : length (words_of words t) ≡ channels * 65) where
   named : (j : ℕ) → j ≤ 64 → IsWordThere words t (record { channel = c; at = j })
-  named j l = (here, inside c channels j (length (words_of words t)) within l sized)
+  named j l = record { target = target; channel = omega (arith, few, within); low = omega (arith, l); listed = here; inside = inside c channels j (length (words_of words t)) within l sized }
 
   pub worker_act : (stage : WorkerStage) → IsSoundStage stage
       → IsActThere words (worker_plan (record { target = t; channels = channels; channel = c; stage = stage }))
@@ -46,11 +48,14 @@ module _ (w : WorldAt) (t : ℕ) (kept : IsWorld w) (there : t < length w.worker
   pub words_listed : t < length w.shared.words
   words_listed = let e = kept.words in omega (arith, e, there)
 
+  pub target_low : t < 8
+  target_low = let few = kept.few in omega (arith, few, there)
+
   pub worker_there : IsActThere w.shared.words (worker_plan (worker_at w t))
   worker_there =
       let x = kept.workers t there in
       subst (λ z. IsActThere w.shared.words (worker_plan (record { target = z; channels = (worker_at w t).channels; channel = (worker_at w t).channel; stage = (worker_at w t).stage })))
-      (sym x.its_target) (worker_act w.shared.words t (worker_at w t).channels (worker_at w t).channel words_listed x.within x.sized (worker_at w t).stage x.sound)
+      (sym x.its_target) (worker_act w.shared.words t (worker_at w t).channels (worker_at w t).channel target_low x.few words_listed x.within x.sized (worker_at w t).stage x.sound)
 
   pub worker_channel : (worker_at w t).channel < slice_index w.shared.book.setting.channels t
   worker_channel = let x = kept.workers t there in subst (λ z. (worker_at w t).channel < z) x.its_channels x.within
@@ -70,25 +75,24 @@ some_target [] t c h = absurd (omega arith)
 some_target (target ∷ targets) zero c h = omega arith
 some_target (target ∷ targets) (suc t) c h = let l = some_target targets t c h in omega (arith, l)
 
--- Each target of a script has its words
-abbrev AreSized : Script → List (List ℕ) → Type 0
-AreSized script words = (t : ℕ) → t < length script.targets
-    → (t < length words) × (length (words_of words t) ≡ channels_of (slice_get script.targets t) * 65)
+-- each target of a script has its words
+abbrev HasAll : Script → WorldAt → Type 0
+HasAll script w = (t : ℕ) → t < length script.targets → HasTarget script w t
 
 -- words that a sound statement names are there
-module _ (script : Script) (words : List (List ℕ)) (sized : AreSized script words) where
-  word_there : (t : ℕ) (word : Word) → has_word script.targets t word ≡ true → IsWordThere words t word
+module _ (script : Script) (w : WorldAt) (has : HasAll script w) where
+  word_there : (t : ℕ) (word : Word) → has_word script.targets t word ≡ true → IsWordThere w.shared.words t word
   word_there t word h =
       let parts = and_parts (nat_lt word.channel (channels_of (slice_get script.targets t))) (nat_le word.at 64) h in
       let first = parts.0 in
       let second = parts.1 in
       let low : word.channel < channels_of (slice_get script.targets t) = grind (arith, nat_tests, first) in
       let high : word.at ≤ 64 = grind (arith, nat_tests, second) in
-      let there = sized t (some_target script.targets t word.channel low) in
-      (there.0, inside word.channel (channels_of (slice_get script.targets t)) word.at (length (words_of words t)) low high there.1)
+      let there = has t (some_target script.targets t word.channel low) in
+      named w.shared.words t (channels_of (slice_get script.targets t)) word.channel there.target there.few there.listed low there.sized word.at high
 
   stray_act : (x : ThreadAt) (loads most : ℕ) (o : Option Statement) → IfSome o (λ s. is_statement script.targets s ≡ true)
-      → IsActThere words (stray_row script x loads most o).step
+      → IsActThere w.shared.words (stray_row script x loads most o).step
   stray_act x loads most (Some (statement.Store t word v)) h = word_there t word h
   stray_act x loads most (Some (statement.Exchange t word from to)) h = word_there t word h
   stray_act x loads most (Some (statement.Load t word)) h = word_there t word h
@@ -117,14 +121,14 @@ module _ (script : Script) (t k i : ℕ) (sound : is_sound script ≡ true) (law
       by_target (Some target) e = by_thread target e (slice_get target.threads k) refl
 
 -- the step of a thread at a stage
-module _ (script : Script) (words : List (List ℕ)) (x : ThreadAt) (sized : AreSized script words) (here : x.target < length words)
-    (mine : length (words_of words x.target) ≡ length x.clean * 65) (short : length x.block ≤ 64)
+module _ (script : Script) (w : WorldAt) (x : ThreadAt) (has : HasAll script w) (target : x.target < 8) (few : length x.clean ≤ 8) (here : x.target < length w.shared.words)
+    (mine : length (words_of w.shared.words x.target) ≡ length x.clean * 65) (short : length x.block ≤ 64)
     (stray : IfSome (statement_at script x.target x.thread x.place) (λ s. is_statement script.targets s ≡ true)) where
-  abbrev word : (c : ℕ) → c < length x.clean → (j : ℕ) → j ≤ 64 → IsWordThere words x.target (record { channel = c; at = j })
-  word c within j l = named words x.target (length x.clean) c here within mine j l
+  abbrev word : (c : ℕ) → c < length x.clean → (j : ℕ) → j ≤ 64 → IsWordThere w.shared.words x.target (record { channel = c; at = j })
+  word c within j l = named w.shared.words x.target (length x.clean) c target few here within mine j l
 
   pub thread_act : (stage : ThreadStage) → IsSoundThreadStage (length x.clean) x.patience x.block stage
-      → IsActThere words (thread_plan script (record x { stage = stage }))
+      → IsActThere w.shared.words (thread_plan script (record x { stage = stage }))
   thread_act (thread.Try c rounds fives) s = word c s.0 0 (lit≤ tt)
   thread_act (thread.Fill c i) s = let below = s.1 in word c s.0 (1 + i) (omega (arith, below, short))
   thread_act (thread.Send c) s = word c s 0 (lit≤ tt)
@@ -133,7 +137,7 @@ module _ (script : Script) (words : List (List ℕ)) (x : ThreadAt) (sized : Are
   thread_act (thread.Free c fetched) s = word c s.0 0 (lit≤ tt)
   thread_act (thread.Abandon c) s = word c s 0 (lit≤ tt)
   thread_act (thread.Stray loads most) s =
-      stray_act script words sized (record x { stage = thread.Stray loads most }) loads most (statement_at script x.target x.thread x.place) stray
+      stray_act script w has (record x { stage = thread.Stray loads most }) loads most (statement_at script x.target x.thread x.place) stray
   thread_act thread.Over s = tt
 
 -- a list of lists that has an element at a place has a list there
@@ -158,12 +162,20 @@ module _ (script : Script) (w : WorldAt) (kept : IsWorld w) (runs : IsRunning sc
   pub their_channels : (t : ℕ) → channels_at w t ≡ channels_of (slice_get script.targets t)
   their_channels t = ap (λ cs. slice_index cs t) runs.channels ∙ channels_from script.targets t
 
-  pub sized_words : AreSized script w.shared.words
-  sized_words t l =
+  pub targets_there : HasAll script w
+  targets_there t l =
       let n = as_many in
       let there : t < length w.workers = omega (arith, n, l) in
       let x = kept.workers t there in
-      (words_listed w t kept there, x.sized ∙ ap (λ z. z * 65) (x.its_channels ∙ their_channels t))
+      let same : (worker_at w t).channels ≡ channels_of (slice_get script.targets t) = x.its_channels ∙ their_channels t in
+      record {
+        target = target_low w t kept there;
+        few = subst (λ z. z ≤ 8) same x.few;
+        worker = there;
+        channels = their_channels t;
+        listed = words_listed w t kept there;
+        sized = x.sized ∙ ap (λ z. z * 65) same;
+      }
 
   pub thread_there : (t k : ℕ) → k < length (threads_at w t) → SoundStatements → IsActThere w.shared.words (thread_plan script (run_at w t k).thread)
   thread_there t k l law =
@@ -174,7 +186,8 @@ module _ (script : Script) (w : WorldAt) (kept : IsWorld w) (runs : IsRunning sc
       let there : t < length w.workers = omega (arith, e, m) in
       let worker = kept.workers t there in
       let here : x.target < length w.shared.words = subst (λ z. z < length w.shared.words) (sym y.its_target) (words_listed w t kept there) in
+      let low : x.target < 8 = subst (λ z. z < 8) (sym y.its_target) (target_low w t kept there) in
+      let same : (worker_at w t).channels ≡ length x.clean = worker.its_channels ∙ sym y.its_channels in
       let mine : length (words_of w.shared.words x.target) ≡ length x.clean * 65 =
-      subst (λ z. length (words_of w.shared.words z) ≡ length x.clean * 65) (sym y.its_target)
-      (worker.sized ∙ ap (λ z. z * 65) (worker.its_channels ∙ sym y.its_channels)) in
-      thread_act script w.shared.words x sized_words here mine y.short (sound_at script x.target x.thread x.place runs.sound law) x.stage y.sound
+      subst (λ z. length (words_of w.shared.words z) ≡ length x.clean * 65) (sym y.its_target) (worker.sized ∙ ap (λ z. z * 65) same) in
+      thread_act script w x targets_there low (subst (λ z. z ≤ 8) same worker.few) here mine y.short (sound_at script x.target x.thread x.place runs.sound law) x.stage y.sound

@@ -169,7 +169,7 @@ word_keeps s (act.Store t word value) h = record {
   book = refl;
   turn = refl;
   count = length-set s.words t (stored (words_of s.words t) word value);
-  sizes = sizes_set s.words t (stored (words_of s.words t) word value) h.0 (length-set (words_of s.words t) (place_of word) value);
+  sizes = sizes_set s.words t (stored (words_of s.words t) word value) h.listed (length-set (words_of s.words t) (place_of word) value);
 }
 word_keeps s (act.Exchange t word from to) h =
     let words = words_of s.words t in
@@ -177,7 +177,7 @@ word_keeps s (act.Exchange t word from to) h =
       book = refl;
       turn = refl;
       count = length-set s.words t (exchanged words word from to);
-      sizes = sizes_set s.words t (exchanged words word from to) h.0
+      sizes = sizes_set s.words t (exchanged words word from to) h.listed
           (chosen_size (loaded words word == from) words (stored words word to) (length-set words (place_of word) to));
     }
 word_keeps s act.Take h = same_sizes s

@@ -17,9 +17,7 @@ use Rattle.sb_actor.specs.ThreadTable.{ThreadNext, ends, goes_on, stray_row, thr
 use Rattle.sb_actor.specs.Ties.{thread_deed, thread_place_of}
 use Rattle.sb_actor.specs.declared.acts.Act.{Act}
 use Rattle.sb_actor.specs.declared.acts.Seen.{Seen}
-use Rattle.sb_actor.specs.declared.views.Served.{Served}
-use Rattle.sb_actor.specs.declared.views.StrayView.{StrayView}
-use Rattle.sb_actor.specs.declared.views.View.{View}
+use Rattle.sb_actor.specs.Views.{Served}
 use Rattle.sb_block.specs.Blocks.{block}
 use Rattle.sb_block.specs.Layout.{mark_in}
 use Rattle.sb_statements.specs.Soundness.{SoundStatements, SoundTargets, is_statement}
@@ -32,7 +30,7 @@ use Rattle.sb_statements.specs.declared.statements.Statement.TheVariants as stat
 use Rattle.sb_core.specs.Kept.{IsRunning, IsWorld, is_calling}
 use Rattle.sb_core.specs.Shared.{IsActThere, SharedAt, on_word}
 use Rattle.sb_core.specs.Threads.{RunAt}
-use Rattle.sb_core.specs.Views.{AreViews, HasUnits, InRule, OwnCall, calls_at, own_calls, own_from, own_of}
+use Rattle.sb_core.specs.Views.{AreViews, HasUnits, InRule, OwnCall, TargetViews, calls_at, own_calls, own_from, own_of}
 use Rattle.sb_core.specs.Words.{words_of}
 use Rattle.sb_core.specs.Worlds.{WorldAt, run_at, step, threads_at, worker_at}
 use Rattle.sb_core.proofs.ByHand.{by_hand}
@@ -40,7 +38,7 @@ use Rattle.sb_core.proofs.Bounds.{few_statements}
 use Rattle.sb_core.proofs.Learning.{learned}
 use Rattle.sb_core.proofs.Naming.{named_words, names, other_words, tells}
 use Rattle.sb_core.proofs.Opening.{first_place}
-use Rattle.sb_core.proofs.Seating.{SeatLaws, stray_moves, thread_moves, thread_stays}
+use Rattle.sb_core.proofs.ViewSteps.{RuleLaws, stray_moves, thread_moves, thread_stays}
 use Rattle.sb_core.proofs.There.{listed, sound_at, thread_there}
 use Rattle.sb_core.proofs.ThreadKeeping.{facts, thread_book, within}
 use Rattle.sb_core.proofs.Tidings.{Learns, Tidings, Waits, ended_own, own_by, own_in, row_tells}
@@ -107,7 +105,7 @@ marked mark (Some (statement.Load t word)) e = absurd (cc)
 marked mark (Some (statement.Wait t word value most)) e = absurd (cc)
 marked mark None e = absurd (cc)
 
--- outside a call a thread's seat is outside one before and after the step
+-- outside a call a thread's view is outside one before and after the step
 pick_place : (b : Bool) (x y : ThreadNext) → thread_place_of x.thread.block x.thread.stage ≡ no_call → thread_place_of y.thread.block y.thread.stage ≡ no_call
     → thread_place_of (if b then x else y).thread.block (if b then x else y).thread.stage ≡ no_call
 pick_place true x y e f = e
@@ -163,7 +161,7 @@ quiet_own x (thread.Abandon c) e = absurd (cc)
 quiet_own x (thread.Stray loads most) e = refl
 quiet_own x thread.Over e = refl
 
-module _ (laws : SeatLaws) (law : SoundStatements) (bounds : SoundTargets) (script : Script) (units : HasUnits script) (w : WorldAt) (t k : ℕ) (kept : IsWorld w) (runs : IsRunning script w)
+module _ (laws : RuleLaws) (law : SoundStatements) (bounds : SoundTargets) (script : Script) (units : HasUnits script) (w : WorldAt) (t k : ℕ) (kept : IsWorld w) (runs : IsRunning script w)
     (all : (u : ℕ) → u < length w.workers → InRule script w u) (there : k < length (threads_at w t))
     (gives : GivesUp (run_at w t k).thread.clean (run_at w t k).thread.stage) (waits : Waits script (run_at w t k).thread (run_at w t k).thread.stage) where
   abbrev x : RunAt
@@ -260,13 +258,13 @@ module _ (laws : SeatLaws) (law : SoundStatements) (bounds : SoundTargets) (scri
 
   -- its target, where it is within a call
   call_rule : is_calling y.stage ≡ true
-      → (views : List View) × AreViews script t (words_of s.words t) (calls_at t w.shared.book.entries) (worker_at w t) (set (threads_at w t) k z) views
+      → (views : TargetViews) × AreViews script t (words_of s.words t) (calls_at t w.shared.book.entries) (worker_at w t) (set (threads_at w t) k z) views
   call_rule e =
       let d = call_deed y.block y.stage e in
       let before = all t worker_here in
       let named : names plan t ≡ true = call_names script y t y.stage e ∙ ap (λ u. u == t) its_target ∙ self_same t in
       let m = thread_moves script t (words_of w.shared.words t) (calls_at t w.shared.book.entries) (worker_at w t) (threads_at w t) before.0 before.1 laws k d.0 seen z.results there
-      (λ j l. (kept.threads t j l).its_number) (kept.threads t k there).sound (its_block e) gives d.1 (tells w.shared plan t named)
+      (kept.threads t k there).sound (its_block e) gives d.1 (tells w.shared plan t named)
       (more_calls ∙ ap (λ (q : List OwnCall). own_calls script t k x.results ++ q) (sym (ended_own y y.stage d.0 d.1))) in (
         m.0,
         subst (λ (q : List ℕ). AreViews script t q (calls_at t w.shared.book.entries) (worker_at w t) (set (threads_at w t) k z) m.0)
@@ -278,11 +276,11 @@ module _ (laws : SeatLaws) (law : SoundStatements) (bounds : SoundTargets) (scri
 
   -- a target's words, where the thread is outside a call
   hand_words : is_calling y.stage ≡ false → (u : ℕ) → u < length w.workers
-      → (views : List View) × AreViews script u (words_of s.words u) (calls_at u w.shared.book.entries) (worker_at w u) (threads_at w u) views
+      → (views : TargetViews) × AreViews script u (words_of s.words u) (calls_at u w.shared.book.entries) (worker_at w u) (threads_at w u) views
   hand_words e u l = by_name (names plan u) refl
     where
       by_stage : (stage : ThreadStage) → y.stage ≡ stage → is_calling stage ≡ false → names (thread_plan script (record y { stage = stage })) u ≡ true
-          → (d : Deed) × ((v : StrayView) → v.clean ≡ clean_channels script u → StrayMay v (act_word (thread_plan script (record y { stage = stage }))) d)
+          → (d : Deed) × StrayMay (clean_channels script u) (act_word (thread_plan script (record y { stage = stage }))) d
           × ((m : ℕ) → wrote d (met d m) m ≡ act_wrote (thread_plan script (record y { stage = stage })) m)
       by_stage (thread.Try c rounds fives) q f g = absurd (cc)
       by_stage (thread.Fill c i) q f g = absurd (cc)
@@ -295,14 +293,14 @@ module _ (laws : SeatLaws) (law : SoundStatements) (bounds : SoundTargets) (scri
           by_hand script (record y { stage = thread.Stray loads most }) loads most here refl (sound_at script y.target y.thread y.place runs.sound law) u g
       by_stage thread.Over q f g = absurd (cc)
 
-      by_name : (b : Bool) → names plan u ≡ b → (views : List View) × AreViews script u (words_of s.words u) (calls_at u w.shared.book.entries) (worker_at w u) (threads_at w u) views
+      by_name : (b : Bool) → names plan u ≡ b → (views : TargetViews) × AreViews script u (words_of s.words u) (calls_at u w.shared.book.entries) (worker_at w u) (threads_at w u) views
       by_name true f =
           let d = by_stage y.stage refl e f in
           let before = all u l in
           let m = stray_moves script u (words_of w.shared.words u) (calls_at u w.shared.book.entries) (worker_at w u) (threads_at w u) before.0 before.1 laws (act_word plan) d.0 d.1 in (
-            m.0,
-            subst (λ (q : List ℕ). AreViews script u q (calls_at u w.shared.book.entries) (worker_at w u) (threads_at w u) m.0)
-                (ap (λ q. set (words_of w.shared.words u) (act_word plan) q) (d.2 (slice_index (words_of w.shared.words u) (act_word plan))) ∙ sym (named_words w.shared plan u f act_there)) m.1,
+            before.0,
+            subst (λ (q : List ℕ). AreViews script u q (calls_at u w.shared.book.entries) (worker_at w u) (threads_at w u) before.0)
+                (ap (λ q. set (words_of w.shared.words u) (act_word plan) q) (d.2 (slice_index (words_of w.shared.words u) (act_word plan))) ∙ sym (named_words w.shared plan u f act_there)) m,
           )
       by_name false f =
           let before = all u l in
@@ -310,7 +308,7 @@ module _ (laws : SeatLaws) (law : SoundStatements) (bounds : SoundTargets) (scri
 
   -- its own target then
   hand_rule : is_calling y.stage ≡ false
-      → (views : List View) × AreViews script t (words_of s.words t) (calls_at t w.shared.book.entries) (worker_at w t) (set (threads_at w t) k z) views
+      → (views : TargetViews) × AreViews script t (words_of s.words t) (calls_at t w.shared.book.entries) (worker_at w t) (set (threads_at w t) k z) views
   hand_rule e =
       let m = hand_words e t worker_here in
       let told = facts script w t k kept runs there law in (
@@ -327,13 +325,13 @@ module _ (laws : SeatLaws) (law : SoundStatements) (bounds : SoundTargets) (scri
       )
 
   own_rule : (b : Bool) → is_calling y.stage ≡ b
-      → (views : List View) × AreViews script t (words_of s.words t) (calls_at t w.shared.book.entries) (worker_at w t) (set (threads_at w t) k z) views
+      → (views : TargetViews) × AreViews script t (words_of s.words t) (calls_at t w.shared.book.entries) (worker_at w t) (set (threads_at w t) k z) views
   own_rule true e = call_rule e
   own_rule false e = hand_rule e
 
   -- another target
   other_rule : (u : ℕ) → u ≢ t → u < length w.workers → (b : Bool) → is_calling y.stage ≡ b
-      → (views : List View) × AreViews script u (words_of s.words u) (calls_at u w.shared.book.entries) (worker_at w u) (threads_at w u) views
+      → (views : TargetViews) × AreViews script u (words_of s.words u) (calls_at u w.shared.book.entries) (worker_at w u) (threads_at w u) views
   other_rule u ne l true e =
       let before = all u l in (
         before.0,

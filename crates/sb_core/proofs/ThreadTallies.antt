@@ -5,7 +5,7 @@ use Rattle.std.specs.Option.{option_to_list}
 use Rattle.sb_actor.specs.Acts.{value_in, busy, acknowledged}
 use Rattle.sb_actor.specs.Places.{mark_at, statement_at}
 use Rattle.sb_actor.specs.ThreadStages.{ThreadStage, ThreadAt, Try, Fill, Send, Wait, Fetch, Free, Abandon, Stray, Over}
-use Rattle.sb_actor.specs.ThreadTable.{ThreadNext, after_round, ends, goes_on, is_clean_at, stray_row, thread_plan, thread_row}
+use Rattle.sb_actor.specs.ThreadTable.{ThreadNext, ends, goes_on, is_clean_at, stray_row, thread_plan, thread_row}
 use Rattle.sb_actor.specs.declared.acts.Act.{Act}
 use Rattle.sb_actor.specs.declared.acts.Act.TheVariants as act
 use Rattle.sb_actor.specs.declared.acts.Seen.{Seen}
@@ -17,19 +17,7 @@ use Rattle.sb_statements.specs.declared.scripts.Script.{Script}
 use Rattle.sb_statements.specs.declared.statements.Statement.{Statement}
 use Rattle.sb_statements.specs.declared.statements.Statement.TheVariants as statement
 use Rattle.sb_core.specs.Kept.{is_calling}
-use Rattle.sb_core.specs.Tallies.{ends_on, is_state, one_if, tally_from, tally_of}
-
--- the thread handed its block over on this channel
-abbrev pub has_sent : ℕ → ThreadStage → Bool
-has_sent c (Try d rounds fives) = false
-has_sent c (Fill d i) = false
-has_sent c (Send d) = false
-has_sent c (Wait d loads) = d == c
-has_sent c (Fetch d words) = d == c
-has_sent c (Free d words) = d == c
-has_sent c (Abandon d) = d == c
-has_sent c (Stray loads most) = false
-has_sent c Over = false
+use Rattle.sb_core.specs.Tallies.{has_sent, ends_on, is_state, one_if, tally_from, tally_of}
 
 -- a step that found n made the channel ready
 abbrev pub readies : ℕ → ℕ → Act → ℕ → Bool
@@ -116,9 +104,6 @@ module _ (script : Script) (t c : ℕ) (x : ThreadAt) where
   ends_sent stage rise r e f =
       let same : one_if (mine && has_sent c stage) ≡ one_if (mine && ends_on c r) = ap (λ b. one_if (mine && b)) e in
       omega (arith, same, f)
-
-  round_counted : (stage : ThreadStage) (rise rounds : ℕ) (fives : Bool) → has_sent c stage ≡ false → rise ≡ 0 → IsCounted script t c x stage rise (after_round script x rounds fives)
-  round_counted stage rise rounds fives e f = any stage rise (after_round script x rounds fives) e f
 
   reply_ends : (d : ℕ) (b : Bool) (words : List ℕ) → (d == c) ≡ ends_on c (result.Call (if b then call.Reply d (read_reply words) else call.Foreign d (read_reply words).mark))
   reply_ends d true words = refl

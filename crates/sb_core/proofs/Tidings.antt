@@ -1,4 +1,4 @@
--- What the step of a thread tells of its call: a result that suits its statement, and a Reply on a clean channel exactly where the seat has one more call.
+-- What the step of a thread tells of its call: a result that suits its statement, and a Reply on a clean channel exactly where the view has one more call.
 use Rattle.std.proofs.Common.{◌≡◌, ◌≢◌, ◌∙◌, refl, ap, subst, sym, ℕ, zero, suc, ◌+◌, ◌<◌, ◌≤◌, Bool, true, false, ◌&&◌, ◌==◌, if◌then◌else◌, List, [], ◌∷◌, ◌++◌, length, map, Option, None, Some, IfSome, arith}
 use Rattle.std.proofs.lemmas.Bool.{and_parts}
 use Rattle.std.proofs.lemmas.Bool.Decides.{nat_tests}
@@ -82,7 +82,7 @@ pub record Tidings (script : Script) (x : ThreadAt) (stage : ThreadStage) (n : T
   pub own : own_in x n.ended ≡ own_by x stage
   pub waits : Waits script n.thread n.thread.stage
 
--- the seat has that call too
+-- the view has that call too
 pub ended_own : (x : ThreadAt) (stage : ThreadStage) (d : Deed) → thread_deed x.block stage ≡ Some d
     → map as_own (ended x.clean (thread_place_of x.block stage) d) ≡ own_by x stage
 ended_own x (Try c rounds fives) d e = refl

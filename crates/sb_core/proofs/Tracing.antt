@@ -1,5 +1,5 @@
 -- In every world of a script each word, each copy and each value that a result shows has a source.
-use Rattle.std.proofs.Common.{◌≡◌, ◌⊎◌, inl, inr, ⊎_elim, ◌∙◌, refl, ap, subst, sym, ℕ, zero, suc, ◌+◌, ◌*◌, ◌%◌, ◌<◌, ◌≤◌, Bool, true, false, ltb, ◌==◌, if◌then◌else◌, List, [], ◌∷◌, ◌++◌, length, length-set, set, get_or, get_or-set_same, get_or-set_other, Option, None, Some, IfSome, slice_get, lit<, lit≤, arith}
+use Rattle.std.proofs.Common.{◌≡◌, ◌⊎◌, inl, inr, ⊎_elim, ◌∙◌, refl, ap, subst, sym, ℕ, ◌+◌, ◌*◌, ◌%◌, ◌<◌, ◌≤◌, Bool, true, false, ltb, ◌==◌, if◌then◌else◌, List, [], ◌∷◌, ◌++◌, length, length-set, set, get_or, get_or-set_same, get_or-set_other, Option, None, Some, IfSome, slice_get, lit<, lit≤, arith}
 use Rattle.std.proofs.lemmas.Bool.{and_parts}
 use Rattle.std.proofs.lemmas.Bool.Decides.{nat_tests}
 use Rattle.std.specs.Option.{option_to_list}
@@ -9,7 +9,7 @@ use Rattle.sb_actor.specs.Acts.{value_in}
 use Rattle.sb_actor.specs.Moves.{at}
 use Rattle.sb_actor.specs.Places.{statement_at}
 use Rattle.sb_actor.specs.Ranges.{IsSoundThreadStage}
-use Rattle.sb_actor.specs.Sources.{opening_at}
+use Rattle.sb_actor.specs.Laws.{opening_at}
 use Rattle.sb_actor.specs.ThreadStages.{ThreadStage, ThreadAt}
 use Rattle.sb_actor.specs.ThreadStages as thread
 use Rattle.sb_actor.specs.ThreadTable.{stray_row, thread_after, thread_plan}
@@ -27,30 +27,31 @@ use Rattle.sb_statements.specs.declared.results.StmtResult.{StmtResult}
 use Rattle.sb_statements.specs.declared.results.StmtResult.TheVariants as result
 use Rattle.sb_statements.specs.declared.schedules.Actor.{Actor}
 use Rattle.sb_statements.specs.declared.schedules.Actor.TheVariants.{Thread, Worker}
-use Rattle.sb_statements.specs.declared.schedules.Schedule.{Schedule}
 use Rattle.sb_statements.specs.declared.scripts.Script.{Script}
 use Rattle.sb_statements.specs.declared.statements.Statement.{Statement}
 use Rattle.sb_statements.specs.declared.statements.Statement.TheVariants as statement
 use Rattle.sb_statements.specs.declared.statements.Word.{Word}
-use Rattle.sb_core.specs.Actors.{are_there, round_actors, scheduled}
-use Rattle.sb_core.specs.Drains.{drained, drained_by, is_settled, most_passes, one_pass, pass_below}
+use Rattle.sb_core.specs.Drains.{drained}
 use Rattle.sb_core.specs.Kept.{IsRunning, IsWorkerOf, IsWorld}
-use Rattle.sb_core.specs.Origins.{AreSourcedCopies, AreSourcedWords, HasSource, IsSourced, NoBlockIsInvented, Shows, ShowsCall}
-use Rattle.sb_core.specs.Reports.{results_of}
+use Rattle.sb_core.specs.Origins.{WorldsAreSourced, AreSourcedCopies, AreSourcedWords, HasSource, IsSourced, NoBlockIsInvented, Shows, ShowsCall}
+use Rattle.sb_core.specs.Reports.{report_of, results_of}
 use Rattle.sb_core.specs.Results.{result_at}
-use Rattle.sb_core.specs.Runs.{CanRun, ended, played}
+use Rattle.sb_core.specs.Runs.{ended, played}
 use Rattle.sb_core.specs.Shared.{Effect, IsActThere, decided, on_word, on_worker}
 use Rattle.sb_core.specs.Threads.{RunAt, first_unfinished, no_run}
 use Rattle.sb_core.specs.Words.{free_channels}
-use Rattle.sb_core.specs.Worlds.{WorldAt, all_finished, first_worker, first_workers, no_worker, round, rounds, run_at, start_world, step, steps, threads_at, worker_at, worker_step}
+use Rattle.sb_core.specs.Worlds.{WorldAt, first_worker, first_workers, no_worker, rounds, run_at, start_world, step, threads_at, worker_at, worker_step}
 use Rattle.sb_core.proofs.Draining.{drained_threads}
 use Rattle.sb_core.proofs.Keeping.{worker_keeps}
 use Rattle.sb_core.proofs.Opening.{opened}
-use Rattle.sb_core.proofs.Reaching.{behind, rounds_there, scheduled_there}
+use Rattle.sb_core.proofs.Reaching.{behind}
+use Rattle.sb_core.specs.OfScripts.{IsOfScript}
+use Rattle.sb_core.proofs.Belonging.{leads_of, of_end, of_run}
 use Rattle.sb_core.proofs.RunLaws.{no_run_past, results_at}
 use Rattle.sb_core.proofs.Running.{step_keeps, thread_is_there, worker_is_there, worker_runs}
 use Rattle.sb_core.proofs.Sets.{each_set}
 use Rattle.sb_core.proofs.Sourcing.{in_front, more_block, more_copy, more_reply, more_source, sourced_words}
+use Rattle.sb_core.proofs.Stepping.{kept_along}
 use Rattle.sb_core.proofs.Starting.{each_is, free_length, start_run, starts_running, starts_world, words_at}
 use Rattle.sb_core.proofs.There.{as_many, listed, sound_at, thread_there}
 use Rattle.sb_core.proofs.ThreadKeeping.{thread_book}
@@ -148,9 +149,9 @@ own_step script w t r there =
         subst (λ z. Own script w t (record { target = z; channels = channels; channel = channel; stage = stage })
         (on_worker w.shared t (record { target = z; channels = channels; channel = channel; stage = stage }) (worker_plan (record { target = z; channels = channels; channel = channel; stage = stage })))) (sym e)
         (record {
-          words = own_words script w t channels channel r.kept there k.within k.sized r.words r.copies stage k.sound h;
-          copies = own_copies script w t channels channel r.kept there k.within k.sized r.words r.copies stage h;
-          own = own_traced script w t channels channel r.kept there k.within k.sized r.words r.copies stage k.sound h;
+          words = own_words script w t channels channel r.kept there k.within k.few k.sized r.words r.copies stage k.sound h;
+          copies = own_copies script w t channels channel r.kept there k.within k.few k.sized r.words r.copies stage h;
+          own = own_traced script w t channels channel r.kept there k.within k.few k.sized r.words r.copies stage k.sound h;
           grown = grown_at script w t channels channel stage;
         })
 
@@ -195,8 +196,8 @@ module _ (script : Script) (w : WorldAt) (all : AreSourcedWords script w.shared.
       → FindsAt script es o (value_in (on_word w.shared (stray_row script y loads most o).step).seen)
   finds_at loads most (Some (statement.Call tag args)) good y h = tt
   finds_at loads most (Some (statement.Store u word value)) good y h = tt
-  finds_at loads most (Some (statement.Exchange u word from to)) good y h = all u word.channel word.at (low_word script u word good) h.1
-  finds_at loads most (Some (statement.Load u word)) good y h = all u word.channel word.at (low_word script u word good) h.1
+  finds_at loads most (Some (statement.Exchange u word from to)) good y h = all u word.channel word.at (low_word script u word good) h.inside
+  finds_at loads most (Some (statement.Load u word)) good y h = all u word.channel word.at (low_word script u word good) h.inside
   finds_at loads most (Some (statement.Wait u word value limit)) good y h = tt
   finds_at loads most None good y h = tt
 
@@ -204,9 +205,9 @@ module _ (script : Script) (w : WorldAt) (all : AreSourcedWords script w.shared.
       → IsActThere w.shared.words (thread_plan script (record x { stage = stage })) → Finds script es x stage (value_in (on_word w.shared (thread_plan script (record x { stage = stage }))).seen)
   finds (thread.Try c rounds fives) s good h = tt
   finds (thread.Fill c i) s good h = tt
-  finds (thread.Send c) s good h = (all x.target c 0 (lit< tt) h.1).state refl
+  finds (thread.Send c) s good h = (all x.target c 0 (lit< tt) h.inside).state refl
   finds (thread.Wait c loads) s good h = tt
-  finds (thread.Fetch c words) s good h = let low = s.1 in (all x.target c (1 + (3 + length words)) (omega (arith, low)) h.1).word (3 + length words) refl
+  finds (thread.Fetch c words) s good h = let low = s.1 in (all x.target c (1 + (3 + length words)) (omega (arith, low)) h.inside).word (3 + length words) refl
   finds (thread.Free c words) s good h = tt
   finds (thread.Abandon c) s good h = tt
   finds (thread.Stray loads most) s good h = finds_at loads most (statement_at script x.target x.thread x.place) good (record x { stage = thread.Stray loads most }) h
@@ -326,40 +327,8 @@ module _ (targets : SoundTargets) (statements : SoundStatements) (script : Scrip
   traced_step w (Worker t) r e = traced_worker script w t r (worker_is_there script w t r.kept r.runs e)
   traced_step w (Thread t k) r e = traced_thread w t k r e
 
-  pub traced_steps : (actors : List Actor) (w : WorldAt) → Traced script w → are_there script.targets actors ≡ true → Traced script (steps script actors w)
-  traced_steps [] w r e = r
-  traced_steps (actor ∷ actors) w r e =
-      let parts = and_parts (is_there script.targets actor) (are_there script.targets actors) e in
-      traced_steps actors (step script w actor) (traced_step w actor r parts.0) parts.1
-
-  chosen : (b : Bool) (v w : WorldAt) → Traced script v → Traced script w → Traced script (elim b [ true ↦ v | false ↦ w ])
-  chosen true v w x y = x
-  chosen false v w x y = y
-
-  traced_rounds : (n : ℕ) (w : WorldAt) → Traced script w → are_there script.targets (round_actors script.targets) ≡ true → Traced script (rounds n script w)
-  traced_rounds zero w r e = r
-  traced_rounds (suc n) w r e =
-      chosen (all_finished script w) w (rounds n script (round script w)) r
-      (traced_rounds n (round script w) (traced_steps (round_actors script.targets) w r e) e)
-
-  traced_pass : (n : ℕ) (w : WorldAt) → Traced script w → n ≤ length w.workers → Traced script (pass_below n w) × (length (pass_below n w).workers ≡ length w.workers)
-  traced_pass zero w r l = (r, refl)
-  traced_pass (suc n) w r l =
-      let before = traced_pass n w r (omega (arith, l)) in
-      let same = before.1 in
-      (traced_worker script (pass_below n w) n before.0 (omega (arith, same, l)), length-set (pass_below n w).workers n _ ∙ same)
-
-  traced_drained : (n : ℕ) (w : WorldAt) → Traced script w → Traced script (drained_by n w)
-  traced_drained zero w r = r
-  traced_drained (suc n) w r =
-      let within : length w.workers ≤ length w.workers = omega arith in
-      chosen (is_settled w) w (drained_by n (one_pass w)) r (traced_drained n (one_pass w) (traced_pass (length w.workers) w r within).0)
-
-  traced_played : (policies : List Policy) (schedule : Schedule) → CanRun policies script schedule → Traced script (played policies script schedule)
-  traced_played policies schedule can =
-      traced_rounds schedule.rounds (steps script (scheduled schedule.steps) (start_world policies script))
-      (traced_steps (scheduled schedule.steps) (start_world policies script) (traced_start policies can.ready) (scheduled_there script.targets schedule.steps can.there))
-      (rounds_there script.targets)
+  traced_of : (w : WorldAt) → IsOfScript script w → Traced script w
+  traced_of w o = kept_along script (Traced script) traced_step (start_world o.policies script) w (leads_of script w o) (traced_start o.policies o.ready)
 
   -- the results of such a world, as a report shows them
   shown_results : (w : WorldAt) → Traced script w → (threads : List (List RunAt)) → w.threads ≡ threads → (t k i : ℕ) (r : StmtResult) → result_at (results_of threads) t k i ≡ Some r
@@ -378,16 +347,19 @@ module _ (targets : SoundTargets) (statements : SoundStatements) (script : Scrip
           let past : length (threads_at w t) ≤ k = grind (arith, nat_tests) in
           absurd (none_of i r (ap (λ (x : RunAt). slice_get x.results i) (sym (no_run_past (threads_at w t) k past)) ∙ found))
 
-  sourced_report : (policies : List Policy) (schedule : Schedule) → CanRun policies script schedule → (o : Option (ℕ × ℕ)) → IsSourced script (ended (played policies script schedule) o).report
-  sourced_report policies schedule can None =
-      let before = played policies script schedule in
-      let r = traced_drained most_passes before (traced_played policies schedule can) in
-      record { copies = r.copies; results = shown_results (drained before) r before.threads (drained_threads before); words = r.words }
-  sourced_report policies schedule can (Some thread) =
-      let before = played policies script schedule in
-      let r = traced_played policies schedule can in
-      record { copies = r.copies; results = shown_results before r before.threads refl; words = r.words }
+  sourced_of : (w : WorldAt) (threads : List (List RunAt)) → w.threads ≡ threads → IsOfScript script w → IsSourced script (report_of w.shared (results_of threads))
+  sourced_of w threads same o = let r = traced_of w o in record { copies = r.copies; results = shown_results w r threads same; words = r.words }
+
+pub worlds_are_sourced : SoundTargets → SoundStatements → WorldsAreSourced
+worlds_are_sourced targets statements script w o = sourced_of targets statements script w w.threads refl o
 
 pub no_block_is_invented : SoundTargets → SoundStatements → NoBlockIsInvented
-no_block_is_invented targets statements policies script schedule can =
-    sourced_report targets statements script policies schedule can (first_unfinished script (played policies script schedule).threads)
+no_block_is_invented targets statements policies script schedule can = by_end (first_unfinished script before.threads)
+  where
+    before : WorldAt
+    before = played policies script schedule
+
+    by_end : (o : Option (ℕ × ℕ)) → IsSourced script (ended before o).report
+    by_end None =
+        sourced_of targets statements script (drained before) before.threads (drained_threads before) (of_end targets statements policies script schedule can)
+    by_end (Some thread) = sourced_of targets statements script before before.threads refl (of_run policies script schedule can)

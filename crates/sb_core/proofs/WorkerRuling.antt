@@ -1,5 +1,5 @@
 -- A step of a worker keeps the rule of each target.
-use Rattle.std.proofs.Common.{◌≡◌, ◌≢◌, ◌∙◌, refl, ap, subst, sym, ℕ, ◌+◌, ◌*◌, ◌<◌, Bool, true, false, cond, ◌==◌, if◌then◌else◌, List, [], ◌∷◌, ◌++◌, length, length-set, map, take, get_or-set_same, Some, is_none, arith}
+use Rattle.std.proofs.Common.{◌≡◌, ◌≢◌, ◌∙◌, refl, ap, subst, sym, ℕ, ◌+◌, ◌*◌, ◌<◌, ◌≤◌, Bool, true, false, cond, ◌==◌, if◌then◌else◌, List, [], ◌∷◌, ◌++◌, length, length-set, map, take, get_or-set_same, Some, is_none, arith}
 use Rattle.std.proofs.lemmas.Bool.Decides.{nat_tests}
 use Rattle.std.proofs.lemmas.List.{append-nil, map-append}
 use Rattle.std.proofs.lemmas.List.Elements.{filter-append}
@@ -12,9 +12,8 @@ use Rattle.sb_actor.specs.Ranges.{IsSoundStage}
 use Rattle.sb_actor.specs.Ties.{worker_deed, worker_place_of}
 use Rattle.sb_actor.specs.WorkerStages.{WorkerStage, WorkerAt, Look, Count, End, Copy, Take, Mark, Give, Reply, Ack}
 use Rattle.sb_actor.specs.WorkerTable.{look_next, worker_after, worker_plan}
-use Rattle.sb_actor.specs.declared.views.Served.{Served}
-use Rattle.sb_actor.specs.declared.views.View.{View}
-use Rattle.sb_actor.specs.declared.views.WorkerPlace.TheVariants as place
+use Rattle.sb_actor.specs.Views.{Served}
+use Rattle.sb_actor.specs.Views as place
 use Rattle.sb_block.specs.Copies.{Copied, copied, is_end}
 use Rattle.sb_block.specs.Packing.{offset_of}
 use Rattle.sb_book.specs.Histories.{entry_of}
@@ -23,13 +22,13 @@ use Rattle.sb_statements.specs.declared.scripts.Script.{Script}
 use Rattle.sb_core.specs.Kept.{IsWorkerOf, IsWorld}
 use Rattle.sb_core.specs.Shared.{Effect, decided, on_word, on_worker}
 use Rattle.sb_book.specs.Targets.{is_of_target}
-use Rattle.sb_core.specs.Views.{AreViews, InRule, as_call, calls_at, in_work}
+use Rattle.sb_core.specs.Views.{AreViews, InRule, TargetViews, as_call, calls_at, in_work}
 use Rattle.sb_core.specs.Words.{loaded, words_of}
 use Rattle.sb_core.specs.Worlds.{WorldAt, no_worker, threads_at, worker_at, worker_goes, worker_step}
 use Rattle.sb_core.proofs.Naming.{named_words, names, tells}
-use Rattle.sb_core.proofs.Seating.{SeatLaws, worker_moves, worker_stays}
+use Rattle.sb_core.proofs.ViewSteps.{RuleLaws, worker_moves, worker_stays}
 use Rattle.sb_core.proofs.Settling.{other_stays}
-use Rattle.sb_core.proofs.There.{words_listed, worker_act}
+use Rattle.sb_core.proofs.There.{target_low, words_listed, worker_act}
 
 -- the calls of a target after one more entry
 calls_more : (t : ℕ) (es : List Entry) (e : Entry) (b : Bool) → (e.target == t) ≡ b → calls_at t (es ++ e ∷ []) ≡ calls_at t es ++ (if b then as_call e ∷ [] else [])
@@ -60,7 +59,7 @@ self_same t = grind (arith, nat_tests)
 apart : (x y : ℕ) → y ≢ x → (x == y) ≡ false
 apart x y n = grind (arith, nat_tests)
 
-module _ (laws : SeatLaws) (script : Script) (w : WorldAt) (t channels c : ℕ) (kept : IsWorld w) (there : t < length w.workers) (within : c < channels)
+module _ (laws : RuleLaws) (script : Script) (w : WorldAt) (t channels c : ℕ) (kept : IsWorld w) (there : t < length w.workers) (within : c < channels) (few : channels ≤ 8)
     (sized : length (words_of w.shared.words t) ≡ channels * 65) where
   abbrev at_this : WorkerStage → WorkerAt
   at_this stage = record { target = t; channels = channels; channel = c; stage = stage }
@@ -69,11 +68,11 @@ module _ (laws : SeatLaws) (script : Script) (w : WorldAt) (t channels c : ℕ) 
   effect stage = on_worker w.shared t (at_this stage) (worker_plan (at_this stage))
 
   abbrev Before : WorkerStage → Type 0
-  Before stage = (views : List View) × AreViews script t (words_of w.shared.words t) (calls_at t w.shared.book.entries) (at_this stage) (threads_at w t) views
+  Before stage = (views : TargetViews) × AreViews script t (words_of w.shared.words t) (calls_at t w.shared.book.entries) (at_this stage) (threads_at w t) views
 
   abbrev After : WorkerStage → Type 0
   After stage =
-      (views : List View)
+      (views : TargetViews)
       × AreViews script t (words_of (effect stage).shared.words t) (calls_at t (effect stage).shared.book.entries) (worker_after (at_this stage) (effect stage).seen) (threads_at w t) views
 
   -- a step on a word
@@ -83,7 +82,7 @@ module _ (laws : SeatLaws) (script : Script) (w : WorldAt) (t channels c : ℕ) 
       ≡ (served ++ served_by c (worker_place_of stage) d)
       ++ in_work (worker_after (at_this stage) (on_word w.shared (worker_plan (at_this stage))).seen).channel (worker_after (at_this stage) (on_word w.shared (worker_plan (at_this stage))).seen).stage)
       → Before stage
-      → (views : List View)
+      → (views : TargetViews)
       × AreViews script t (words_of (on_word w.shared (worker_plan (at_this stage))).shared.words t) (calls_at t w.shared.book.entries)
       (worker_after (at_this stage) (on_word w.shared (worker_plan (at_this stage))).seen) (threads_at w t) views
   on_words stage d sound deed named more before =
@@ -93,7 +92,7 @@ module _ (laws : SeatLaws) (script : Script) (w : WorldAt) (t channels c : ℕ) 
       (tells w.shared (worker_plan (at_this stage)) t named) more in (
         m.0,
         subst (λ (z : List ℕ). AreViews script t z (calls_at t w.shared.book.entries) (worker_after (at_this stage) e.seen) (threads_at w t) m.0)
-            (sym (named_words w.shared (worker_plan (at_this stage)) t named (worker_act w.shared.words t channels c (words_listed w t kept there) within sized stage sound))) m.1,
+            (sym (named_words w.shared (worker_plan (at_this stage)) t named (worker_act w.shared.words t channels c (target_low w t kept there) few (words_listed w t kept there) within sized stage sound))) m.1,
       )
 
   look_work : (b : Bool) → in_work (if b then at_this Count else look_next (at_this Look)).channel (if b then at_this Count else look_next (at_this Look)).stage ≡ []
@@ -108,11 +107,11 @@ module _ (laws : SeatLaws) (script : Script) (w : WorldAt) (t channels c : ℕ) 
   replying true taken reply i = refl
   replying false taken reply i = refl
 
-  no_served : (b : Bool) (taken : Copied) (reply : List ℕ) (x : ℕ) → served_by c (if b then place.Copied taken else place.Reply taken reply) (answer x) ≡ []
+  no_served : (b : Bool) (taken : Copied) (reply : List ℕ) (x : ℕ) → served_by c (if b then place.Whole taken else place.Reply taken reply) (answer x) ≡ []
   no_served true taken reply x = refl
   no_served false taken reply x = refl
 
-  takes : (b : Bool) (taken : Copied) → worker_place_of (if b then Mark taken else Take taken) ≡ place.Copied taken
+  takes : (b : Bool) (taken : Copied) → worker_place_of (if b then Mark taken else Take taken) ≡ place.Whole taken
   takes true taken = refl
   takes false taken = refl
 
@@ -175,7 +174,7 @@ module _ (w : WorldAt) (t u : ℕ) (x : WorkerAt) (ne : u ≢ t) where
   other_calls (Reply taken reply i) = refl
   other_calls (Ack taken reply) = refl
 
-module _ (laws : SeatLaws) (script : Script) (w : WorldAt) (t : ℕ) (kept : IsWorld w) (there : t < length w.workers) where
+module _ (laws : RuleLaws) (script : Script) (w : WorldAt) (t : ℕ) (kept : IsWorld w) (there : t < length w.workers) where
   own_rule : InRule script w t → InRule script (worker_step w t) t
   own_rule before =
       let k = kept.workers t there in
@@ -183,20 +182,20 @@ module _ (laws : SeatLaws) (script : Script) (w : WorldAt) (t : ℕ) (kept : IsW
     where
       by_target : (target channels channel : ℕ) (stage : WorkerStage) → target ≡ t
           → IsWorkerOf w t (record { target = target; channels = channels; channel = channel; stage = stage })
-          → ((views : List View) × AreViews script t (words_of w.shared.words t) (calls_at t w.shared.book.entries)
+          → ((views : TargetViews) × AreViews script t (words_of w.shared.words t) (calls_at t w.shared.book.entries)
           (record { target = target; channels = channels; channel = channel; stage = stage }) (threads_at w t) views)
           → InRule script (worker_goes w t (record { target = target; channels = channels; channel = channel; stage = stage })
           (on_worker w.shared t (record { target = target; channels = channels; channel = channel; stage = stage })
           (worker_plan (record { target = target; channels = channels; channel = channel; stage = stage })))) t
       by_target target channels channel stage e k before =
-          subst (λ z. ((views : List View) × AreViews script t (words_of w.shared.words t) (calls_at t w.shared.book.entries)
+          subst (λ z. ((views : TargetViews) × AreViews script t (words_of w.shared.words t) (calls_at t w.shared.book.entries)
           (record { target = z; channels = channels; channel = channel; stage = stage }) (threads_at w t) views)
           → InRule script (worker_goes w t (record { target = z; channels = channels; channel = channel; stage = stage })
           (on_worker w.shared t (record { target = z; channels = channels; channel = channel; stage = stage })
           (worker_plan (record { target = z; channels = channels; channel = channel; stage = stage })))) t)
           (sym e)
           (λ b.
-          let m = own_target laws script w t channels channel kept there k.within k.sized stage k.sound b in (
+          let m = own_target laws script w t channels channel kept there k.within k.few k.sized stage k.sound b in (
             m.0,
             subst (λ (y : WorkerAt). AreViews script t (words_of (on_worker w.shared t (record { target = t; channels = channels; channel = channel; stage = stage })
                 (worker_plan (record { target = t; channels = channels; channel = channel; stage = stage }))).shared.words t)

@@ -1,5 +1,5 @@
 -- A step of a worker copies and stores values that have a source.
-use Rattle.std.proofs.Common.{◌≡◌, inl, inr, refl, ap, subst, sym, ℕ, ◌+◌, ◌*◌, ◌<◌, Bool, true, false, ◌==◌, if◌then◌else◌, List, [], ◌∷◌, ◌++◌, length, length-append, Some, is_none, slice_get, lit<, lit≤, arith}
+use Rattle.std.proofs.Common.{◌≡◌, inl, inr, refl, ap, subst, sym, ℕ, ◌+◌, ◌*◌, ◌<◌, ◌≤◌, Bool, true, false, ◌==◌, if◌then◌else◌, List, [], ◌∷◌, ◌++◌, length, length-append, Some, is_none, slice_get, lit<, lit≤, arith}
 use Rattle.std.proofs.Math.ListN.{get_or-append}
 use Rattle.std.proofs.Math.Seq.{get_or-append_seam}
 use Rattle.std.proofs.lemmas.Bool.Decides.{nat_tests}
@@ -21,7 +21,7 @@ use Rattle.sb_core.specs.Shared.{Effect, decided, on_worker}
 use Rattle.sb_core.specs.Words.{loaded, words_of}
 use Rattle.sb_core.specs.Worlds.{WorldAt}
 use Rattle.sb_core.proofs.Sourcing.{at_last, block_source, more_copies, more_words, sourced_words, state_source}
-use Rattle.sb_core.proofs.There.{words_listed, worker_act}
+use Rattle.sb_core.proofs.There.{target_low, words_listed, worker_act}
 
 -- the reply is that of an entry on this channel
 abbrev pub IsMade : List Entry → ℕ → ℕ → List ℕ → Type 0
@@ -52,7 +52,7 @@ each_more P words x each new i l = by_place (ℕ_discrete i (length words))
         let low : i < length words = omega (arith, longer, l, ne) in
         subst (λ z. P i z) (sym (get_or-append words (x ∷ []) 0 i low)) (each i low)
 
-module _ (script : Script) (w : WorldAt) (t channels c : ℕ) (kept : IsWorld w) (there : t < length w.workers) (within : c < channels)
+module _ (script : Script) (w : WorldAt) (t channels c : ℕ) (kept : IsWorld w) (there : t < length w.workers) (within : c < channels) (few : channels ≤ 8)
     (sized : length (words_of w.shared.words t) ≡ channels * 65) (all : AreSourcedWords script w.shared.book.entries w.shared.words)
     (copies : AreSourcedCopies script w.shared.book.entries) where
   abbrev es : List Entry
@@ -126,13 +126,13 @@ module _ (script : Script) (w : WorldAt) (t channels c : ℕ) (kept : IsWorld w)
   own_words (Give taken reply) s h = all
   own_words (Reply taken reply i) s h =
       let low = s.0 in
-      sourced_words script es w.shared (worker_plan (at_this (Reply taken reply i))) all (worker_act w.shared.words t channels c (words_listed w t kept there) within sized (Reply taken reply i) s) (
+      sourced_words script es w.shared (worker_plan (at_this (Reply taken reply i))) all (worker_act w.shared.words t channels c (target_low w t kept there) few (words_listed w t kept there) within sized (Reply taken reply i) s) (
         omega (arith, low),
         block_source script es t c (3 + i) (slice_index reply i)
             (inr (inr (inr (h.0, h.1, i, h.2, h.3, h.4, low, refl, ap (λ (z : List ℕ). slice_index z i) h.5)))),
       )
   own_words (Ack taken reply) s h =
-      sourced_words script es w.shared (worker_plan (at_this (Ack taken reply))) all (worker_act w.shared.words t channels c (words_listed w t kept there) within sized (Ack taken reply) s)
+      sourced_words script es w.shared (worker_plan (at_this (Ack taken reply))) all (worker_act w.shared.words t channels c (target_low w t kept there) few (words_listed w t kept there) within sized (Ack taken reply) s)
       (lit< tt, state_source script es t c 4 (inl (lit≤ tt, lit≤ tt)))
 
   -- and the copies of the entries

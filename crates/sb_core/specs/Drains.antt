@@ -1,5 +1,5 @@
 -- The drain: the workers serve what is still ready, while no thread makes a step.
-use Rattle.std.specs.Prelude.{ℕ, zero, suc, Bool, true, false, not, ◌&&◌, length}
+use Rattle.std.specs.Prelude.{◌≡◌, ◌<◌, ◌≤◌, ℕ, zero, suc, Bool, true, false, not, ◌&&◌, length}
 use Rattle.std.specs.List.{list_all}
 use Rattle.sb_actor.specs.WorkerTable.{is_looking}
 use Rattle.sb_core.specs.Words.{some_ready}
@@ -30,3 +30,16 @@ most_passes = 10000
 -- one step of each worker in target order, again and again, until each is looking and no state word is 3
 abbrev pub drained : WorldAt → WorldAt
 drained w = drained_by most_passes w
+
+-- n whole passes
+abbrev pub passed : ℕ → WorldAt → WorldAt
+passed zero w = w
+passed (suc n) w = one_pass (passed n w)
+
+-- a beginning of the drain of a world: whole passes, and of one more a step of each of the first workers, where before no pass the world was settled
+pub record IsBeginning (w v : WorldAt) : Type 0 where
+  pub passes : ℕ
+  pub workers : ℕ
+  pub few : workers < length w.workers
+  pub unsettled : (i : ℕ) → i ≤ passes → is_settled (passed i w) ≡ false
+  pub is : v ≡ pass_below workers (passed passes w)

@@ -1,5 +1,5 @@
 -- What holds of every world and of every run.
-use Rattle.std.specs.Prelude.{◌≡◌, ◌⊎◌, ◌<◌, ℕ, ◌*◌, ◌==◌, true, false, List, ◌++◌, length, map, Option, None, Some}
+use Rattle.std.specs.Prelude.{◌≡◌, ◌⊎◌, ◌<◌, ◌≤◌, ℕ, ◌*◌, ◌==◌, true, false, List, ◌++◌, length, map, slice_get, Option, None, Some}
 use Rattle.sb_actor.specs.Places.{is_finished}
 use Rattle.sb_actor.specs.WorkerStages.{WorkerStage, WorkerAt, Look, Count, End, Copy, Take, Mark, Give, Reply, Ack}
 use Rattle.sb_actor.specs.WorkerTable.{worker_plan, worker_after}
@@ -13,15 +13,37 @@ use Rattle.sb_statements.specs.declared.schedules.Actor.TheVariants.{Worker, Thr
 use Rattle.sb_statements.specs.declared.schedules.Schedule.{Schedule}
 use Rattle.sb_statements.specs.declared.scripts.Script.{Script}
 use Rattle.sb_statements.specs.Actors.{is_there}
-use Rattle.sb_core.specs.Actors.{scheduled}
+use Rattle.sb_statements.specs.Soundness.{channels_of}
+use Rattle.sb_core.specs.Actors.{are_there, scheduled}
 use Rattle.sb_core.specs.Changes.{Changes, plan_of, is_load}
 use Rattle.sb_core.specs.Drains.{drained, is_settled}
-use Rattle.sb_core.specs.Kept.{IsWorld, IsRunning, has_turn}
+use Rattle.sb_core.specs.Kept.{IsWorld, IsRunning, channels_at, has_turn}
+use Rattle.sb_core.specs.Reports.{report_of, results_of}
 use Rattle.sb_core.specs.Results.{AreAllResults, ResultsFit}
-use Rattle.sb_core.specs.Runs.{CanRun, ran}
-use Rattle.sb_core.specs.Shared.{decided}
-use Rattle.sb_core.specs.Words.{some_ready}
+use Rattle.sb_core.specs.Threads.{first_unfinished}
+use Rattle.sb_core.specs.Runs.{CanFinish, CanRun, finished, ran, schedule_of}
+use Rattle.sb_core.specs.Shared.{IsActThere, decided}
+use Rattle.sb_core.specs.Words.{some_ready, words_of}
 use Rattle.sb_core.specs.Worlds.{WorldAt, start_world, step, steps, rounds, run_at, threads_at, worker_at}
+
+-- a target of a script in a world that runs it has a worker, and 65 words for each channel; there are at most 8 targets of at most 8 channels
+pub record HasTarget (script : Script) (w : WorldAt) (t : ℕ) : Type 0 where
+  pub target : t < 8
+  pub few : channels_of (slice_get script.targets t) ≤ 8
+  pub worker : t < length w.workers
+  pub channels : channels_at w t ≡ channels_of (slice_get script.targets t)
+  pub listed : t < length w.shared.words
+  pub sized : length (words_of w.shared.words t) ≡ channels_of (slice_get script.targets t) * 65
+
+-- a world that runs a script has each target of it, and no other
+abbrev pub WorldsHaveTargets : Type 0
+WorldsHaveTargets = (script : Script) (w : WorldAt) → IsWorld w → IsRunning script w
+    → (length w.workers ≡ length script.targets) × ((t : ℕ) → t < length script.targets → HasTarget script w t)
+
+-- where the next step of an actor that is there is on a word, that word is there
+abbrev pub PlansAreThere : Type 0
+PlansAreThere = (script : Script) (w : WorldAt) (actor : Actor) → IsWorld w → IsRunning script w → is_there script.targets actor ≡ true
+    → IsActThere w.shared.words (plan_of script w actor)
 
 -- the world of a script that is ready for policies runs the script, and keeps what every world keeps
 abbrev pub StartsKeep : Type 0
@@ -121,3 +143,23 @@ FinishedRunsAreWhole = (policies : List Policy) (script : Script) (schedule : Sc
 abbrev pub RunsKeepWords : Type 0
 RunsKeepWords = (policies : List Policy) (script : Script) (schedule : Schedule) → CanRun policies script schedule
     → map (λ words. length words) (ran policies script schedule).report.words ≡ map (λ target. target.channels * 65) script.targets
+
+-- From the start these steps lead to a world in which no thread is unfinished. Where nobody has the turn there, the script runs by the schedule of these
+-- steps, and the report of that run is the one that `finish` gives for the world's words, workers, book and results, and the one of the drained world
+pub record IsEndOfRun (policies : List Policy) (script : Script) (actors : List Actor) (w : WorldAt) : Type 0 where
+  pub can : CanRun policies script (schedule_of actors)
+  pub unfinished : (ran policies script (schedule_of actors)).unfinished ≡ None
+  pub finishes : finished w.shared.words w.workers w.shared.book (results_of w.threads) ≡ (ran policies script (schedule_of actors)).report
+  pub drains : report_of (drained w).shared (results_of w.threads) ≡ (ran policies script (schedule_of actors)).report
+
+abbrev pub EndsAreRuns : Type 0
+EndsAreRuns = (policies : List Policy) (script : Script) (actors : List Actor) (w : WorldAt) → is_ready policies script ≡ true → are_there script.targets actors ≡ true
+    → w ≡ steps script actors (start_world policies script) → first_unfinished script w.threads ≡ None → w.shared.turn ≡ None
+    → IsEndOfRun policies script actors w
+
+-- where each worker looks, nobody has the turn, and `finish` can be called
+abbrev pub EndsCanFinish : Type 0
+EndsCanFinish = (policies : List Policy) (script : Script) (actors : List Actor) (w : WorldAt) → is_ready policies script ≡ true → are_there script.targets actors ≡ true
+    → w ≡ steps script actors (start_world policies script) → first_unfinished script w.threads ≡ None
+    → ((t : ℕ) → t < length script.targets → (worker_at w t).stage ≡ Look)
+    → (w.shared.turn ≡ None) × CanFinish script w.shared.words w.workers w.shared.book (results_of w.threads)

@@ -12,8 +12,6 @@ pub mod Results
 pub mod Laws
 pub mod Views
 pub mod Rules
-pub mod Noting
-pub mod Finishes
 pub mod Fits
 pub mod Origins
 pub mod Tallies

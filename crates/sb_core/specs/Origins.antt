@@ -20,9 +20,12 @@ use Rattle.sb_statements.specs.declared.schedules.Schedule.{Schedule}
 use Rattle.sb_statements.specs.declared.scripts.Script.{Script}
 use Rattle.sb_statements.specs.declared.statements.Statement.{Statement}
 use Rattle.sb_statements.specs.declared.statements.Statement.TheVariants as statement
+use Rattle.sb_core.specs.OfScripts.{IsOfScript}
+use Rattle.sb_core.specs.Reports.{report_of, results_of}
 use Rattle.sb_core.specs.Results.{result_at}
 use Rattle.sb_core.specs.Runs.{CanRun, ran}
 use Rattle.sb_core.specs.Words.{words_of}
+use Rattle.sb_core.specs.Worlds.{WorldAt}
 
 -- a statement stores or exchanges this value into word j of a channel of a target
 abbrev pub StoresThere : ℕ → ℕ → ℕ → ℕ → Statement → Type 0
@@ -36,7 +39,7 @@ StoresThere t c j x (statement.Call tag args) = ⊥
 abbrev pub IsByHand : Script → ℕ → ℕ → ℕ → ℕ → Type 0
 IsByHand script t c j x = (u k i : ℕ) × (s : Statement) × (statement_at script u k i ≡ Some s) × StoresThere t c j x s
 
--- a value has a source at a state word: it is one of the states 1 to 5, or a statement stores it there by hand
+-- a value has a source at a state word: it is one of the states 1 to 5, or a statement stores it there directly
 abbrev pub HasStateSource : Script → ℕ → ℕ → ℕ → Type 0
 HasStateSource script t c x = ((1 ≤ x) × (x ≤ 5)) ⊎ IsByHand script t c 0 x
 
@@ -51,7 +54,7 @@ abbrev pub IsOfReply : List Entry → ℕ → ℕ → ℕ → ℕ → Type 0
 IsOfReply entries t c i x =
     (n : ℕ) × (e : Entry) × (j : ℕ) × (slice_get entries n ≡ Some e) × (e.target ≡ t) × (e.channel ≡ c) × (j < 12) × (i ≡ 3 + j) × (x ≡ slice_index (reply_words e.reply) j)
 
--- a value has a source at block word i of a channel: it is 0, of a call's block, of a statement that stores it there by hand, or of a reply
+-- a value has a source at block word i of a channel: it is 0, of a call's block, of a statement that stores it there directly, or of a reply
 abbrev pub HasBlockSource : Script → List Entry → ℕ → ℕ → ℕ → ℕ → Type 0
 HasBlockSource script entries t c i x = (x ≡ 0) ⊎ (IsOfCall script t i x ⊎ (IsByHand script t c (1 + i) x ⊎ IsOfReply entries t c i x))
 
@@ -110,3 +113,7 @@ pub record IsSourced (script : Script) (report : Report) : Type 0 where
 abbrev pub NoBlockIsInvented : Type 0
 NoBlockIsInvented = (policies : List Policy) (script : Script) (schedule : Schedule) → CanRun policies script schedule
     → IsSourced script (ran policies script schedule).report
+
+-- and of the report of each world of a script, as it is
+abbrev pub WorldsAreSourced : Type 0
+WorldsAreSourced = (script : Script) (w : WorldAt) → IsOfScript script w → IsSourced script (report_of w.shared (results_of w.threads))

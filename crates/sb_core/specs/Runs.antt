@@ -8,6 +8,7 @@ use Rattle.sb_rule.specs.declared.policies.Policy.{Policy}
 use Rattle.sb_statements.specs.Limits.{most_targets, most_threads, most_statements}
 use Rattle.sb_statements.specs.Soundness.{is_sound, channels_of}
 use Rattle.sb_statements.specs.declared.results.StmtResult.{StmtResult}
+use Rattle.sb_statements.specs.declared.schedules.Actor.{Actor}
 use Rattle.sb_statements.specs.declared.schedules.Schedule.{Schedule}
 use Rattle.sb_statements.specs.declared.scripts.Script.{Script}
 use Rattle.sb_core.specs.Actors.{scheduled}
@@ -58,6 +59,18 @@ ended_from script w = ended w (first_unfinished script w.threads)
 -- the steps of the schedule, then rounds while a thread is unfinished and rounds are left, then the drain where every thread is finished
 abbrev pub ran : List Policy → Script → Schedule → Ran
 ran policies script schedule = ended_from script (played policies script schedule)
+
+-- the schedule in which each of these actors makes one step, in turn, and which has no rounds
+abbrev pub schedule_of : List Actor → Schedule
+schedule_of actors = record { steps = map (λ actor. (actor, 1)) actors; rounds = 0 }
+
+-- the report of a run of a script by some order of steps: a schedule of actors that are there, without rounds, that leaves no thread unfinished
+pub record IsSomeRun (policies : List Policy) (script : Script) (report : Report) : Type 0 where
+  pub schedule : Schedule
+  pub can : CanRun policies script schedule
+  pub no_rounds : schedule.rounds ≡ 0
+  pub finished : (ran policies script schedule).unfinished ≡ None
+  pub is : report ≡ (ran policies script schedule).report
 
 -- a world of these words, workers and book, in which no thread is left and nobody has the turn
 abbrev pub world_of : List (List ℕ) → List WorkerAt → History → WorldAt

@@ -15,7 +15,11 @@ use Rattle.sb_statements.specs.declared.scripts.Script.{Script}
 use Rattle.sb_statements.specs.declared.statements.Statement.{Statement}
 use Rattle.sb_statements.specs.declared.statements.Statement.TheVariants as statement
 use Rattle.sb_statements.specs.declared.statements.Word.{Word}
+use Rattle.sb_actor.specs.ThreadStages.{ThreadStage, Try, Fill, Send, Wait, Fetch, Free, Abandon, Stray, Over}
+use Rattle.sb_core.specs.OfScripts.{IsOfScript}
 use Rattle.sb_core.specs.Runs.{CanRun, ran}
+use Rattle.sb_core.specs.Threads.{RunAt}
+use Rattle.sb_core.specs.Worlds.{WorldAt}
 
 -- one where it holds
 abbrev pub one_if : Bool → ℕ
@@ -44,7 +48,7 @@ ends_on c (result.Unmet loads) = false
 abbrev pub is_state : ℕ → ℕ → ℕ → Word → Bool
 is_state t c u word = u == t && (word.channel == c && word.at == 0)
 
--- a statement made the channel ready by hand: a store of 3 into its state, or an exchange to 3 on it that found its `from`
+-- a statement made the channel ready directly: a store of 3 into its state, or an exchange to 3 on it that found its `from`
 abbrev pub makes_ready : ℕ → ℕ → Option Statement → StmtResult → Bool
 makes_ready t c (Some (statement.Store u word value)) result.Stored = is_state t c u word && value == 3
 makes_ready t c (Some (statement.Exchange u word from to)) (result.Found n) = is_state t c u word && (n == from && to == 3)
@@ -79,3 +83,32 @@ AreFew script report = (t c : ℕ) → t < length script.targets → c < channel
 abbrev pub EntriesAreFew : Type 0
 EntriesAreFew = (policies : List Policy) (script : Script) (schedule : Schedule) → CanRun policies script schedule → (ran policies script schedule).unfinished ≡ None
     → AreFew script (ran policies script schedule).report
+
+-- the present call of a thread was handed over on this channel
+abbrev pub has_sent : ℕ → ThreadStage → Bool
+has_sent c (Try d rounds fives) = false
+has_sent c (Fill d i) = false
+has_sent c (Send d) = false
+has_sent c (Wait d loads) = d == c
+has_sent c (Fetch d words) = d == c
+has_sent c (Free d words) = d == c
+has_sent c (Abandon d) = d == c
+has_sent c (Stray loads most) = false
+has_sent c Over = false
+
+-- what a thread handed over on channel c of target t so far, or made ready there: by its results, and its present call
+abbrev pub tally_so_far : Script → ℕ → ℕ → RunAt → ℕ
+tally_so_far script t c x = one_if (x.thread.target == t && has_sent c x.thread.stage) + tally_from script t c x.thread.target x.thread.thread 0 x.results
+
+-- of all threads of a target, and of all targets
+abbrev pub tally_row : Script → ℕ → ℕ → List RunAt → ℕ
+tally_row script t c runs = sum_by (tally_so_far script t c) runs
+
+abbrev pub tally_all : Script → ℕ → ℕ → List (List RunAt) → ℕ
+tally_all script t c threads = sum_by (tally_row script t c) threads
+
+-- in each world of a script the entries on a channel are at most the calls that were handed over there so far, the stores of 3 into its state, and the
+-- exchanges to 3 on its state that found their `from`
+abbrev pub WorldsAreFew : Type 0
+WorldsAreFew = (script : Script) (w : WorldAt) → IsOfScript script w → (t c : ℕ) → t < length script.targets → c < channels_of (slice_get script.targets t)
+    → entries_on t c w.shared.book.entries ≤ tally_all script t c w.threads

@@ -1,4 +1,4 @@
--- What the seats of a target know in a world, and rule S over it: between any two steps the channel words of each target fit what its worker
+-- What is known of a target's actors in a world, and rule S over it: between any two steps the channel words of each target fit what its worker
 -- and its threads know.
 use Rattle.std.specs.Prelude.{◌≡◌, ◌<◌, ℕ, ◌+◌, Bool, true, List, [], ◌∷◌, ◌++◌, length, map, slice_index_or, Some, if◌then◌else◌}
 use Rattle.std.specs.List.{list_all}
@@ -10,13 +10,7 @@ use Rattle.sb_actor.specs.Rule.{Rule}
 use Rattle.sb_actor.specs.ThreadStages.{ThreadAt}
 use Rattle.sb_actor.specs.Ties.{HoldsThread, HoldsWorker}
 use Rattle.sb_actor.specs.WorkerStages.{WorkerStage, WorkerAt, Look, Count, End, Copy, Take, Mark, Give, Reply, Ack}
-use Rattle.sb_actor.specs.declared.views.Had.{Had}
-use Rattle.sb_actor.specs.declared.views.Served.{Served}
-use Rattle.sb_actor.specs.declared.views.StrayView.{StrayView}
-use Rattle.sb_actor.specs.declared.views.ThreadView.{ThreadView}
-use Rattle.sb_actor.specs.declared.views.View.{View}
-use Rattle.sb_actor.specs.declared.views.View.TheVariants as view
-use Rattle.sb_actor.specs.declared.views.WorkerView.{WorkerView}
+use Rattle.sb_actor.specs.Views.{Had, Served, ThreadView, WorkerView}
 use Rattle.sb_block.specs.Blocks.{has_units}
 use Rattle.sb_block.specs.Replies.{read_reply, reply_words}
 use Rattle.sb_book.specs.Targets.{of_target}
@@ -64,7 +58,7 @@ pub record OwnCall : Type 0 where
   pub block : List ℕ
   pub reply : ReplyOf
 
--- as a thread's seat keeps it
+-- as a thread's view keeps it
 abbrev pub as_own : Had → OwnCall
 as_own x = record { channel = x.channel; block = x.block; reply = read_reply x.reply }
 
@@ -96,11 +90,14 @@ own_from script t k i (r ∷ results) =
 abbrev pub own_calls : Script → ℕ → ℕ → List StmtResult → List OwnCall
 own_calls script t k results = own_from script t k 0 results
 
--- The worker's view stands where the worker stands. It counts the threads of the target, and it has served the target's entries, without the last
--- while that is in work
-pub record ShowsWorker (calls : List Served) (threads : ℕ) (x : WorkerAt) (v : WorkerView) : Type 0 where
+-- what is known of a target's worker, and of its threads, in order
+pub record TargetViews : Type 0 where
+  pub worker : WorkerView
+  pub threads : List ThreadView
+
+-- the worker's view stands where the worker stands, and has served the target's entries, without the last while that is in work
+pub record ShowsWorker (calls : List Served) (x : WorkerAt) (v : WorkerView) : Type 0 where
   pub holds : HoldsWorker v x
-  pub counts : v.threads ≡ threads
   pub serves : calls ≡ v.served ++ in_work x.channel x.stage
 
 -- a thread's view stands where the thread stands, and has its results Reply on clean channels
@@ -109,18 +106,17 @@ pub record ShowsThread (calls : List OwnCall) (x : ThreadAt) (v : ThreadView) : 
   pub has : map as_own v.had ≡ calls
 
 -- thread k of a target has such a view
-abbrev pub HasSeat : Script → ℕ → List View → ℕ → RunAt → Type 0
-HasSeat script t views k x =
-    (i : ℕ) × (v : ThreadView) × (get_elem? views i ≡ some (view.Thread v)) × ShowsThread (own_calls script t k x.results) x.thread v
+abbrev pub HasView : Script → ℕ → List ThreadView → ℕ → RunAt → Type 0
+HasView script t threads k x = (v : ThreadView) × (get_elem? threads k ≡ some v) × ShowsThread (own_calls script t k x.results) x.thread v
 
--- Views of a target meet the rule with its words. One is the worker's, each thread has one, and one is of the steps by hand
-pub record AreViews (script : Script) (t : ℕ) (words : List ℕ) (calls : List Served) (x : WorkerAt) (runs : List RunAt) (views : List View) : Type 0 where
-  pub rule : Rule (clean_channels script t) words views
-  pub worker : (i : ℕ) × (v : WorkerView) × (get_elem? views i ≡ some (view.Worker v)) × ShowsWorker calls (length runs) x v
-  pub threads : (k : ℕ) → k < length runs → HasSeat script t views k (slice_index_or runs k no_run)
-  pub stray : (i : ℕ) × (v : StrayView) × (get_elem? views i ≡ some (view.Stray v))
+-- views of a target meet the rule with its words, and show its worker and its threads
+pub record AreViews (script : Script) (t : ℕ) (words : List ℕ) (calls : List Served) (x : WorkerAt) (runs : List RunAt) (views : TargetViews) : Type 0 where
+  pub rule : Rule (clean_channels script t) words views.worker views.threads
+  pub worker : ShowsWorker calls x views.worker
+  pub many : length views.threads ≡ length runs
+  pub threads : (k : ℕ) → k < length runs → HasView script t views.threads k (slice_index_or runs k no_run)
 
 -- a target of a world keeps the rule
 abbrev pub InRule : Script → WorldAt → ℕ → Type 0
 InRule script w t =
-    (views : List View) × AreViews script t (words_of w.shared.words t) (calls_at t w.shared.book.entries) (worker_at w t) (threads_at w t) views
+    (views : TargetViews) × AreViews script t (words_of w.shared.words t) (calls_at t w.shared.book.entries) (worker_at w t) (threads_at w t) views

@@ -47,6 +47,10 @@ some_ready words = list_any has_ready words
 abbrev pub words_of : List (List ℕ) → ℕ → List ℕ
 words_of words target = slice_index_or words target []
 
--- the target is there, and so is its word
-abbrev pub IsWordThere : List (List ℕ) → ℕ → Word → Type 0
-IsWordThere words target word = (target < length words) × (place_of word < length (words_of words target))
+-- The target, its channel and the word of the channel are there, each number below its own bound: there are at most 8 targets of at most 8 channels, each of 65 words
+pub record IsWordThere (words : List (List ℕ)) (t : ℕ) (word : Word) : Type 0 where
+  pub target : t < 8
+  pub channel : word.channel < 8
+  pub low : word.at < 65
+  pub listed : t < length words
+  pub inside : place_of word < length (words_of words t)

@@ -1,11 +1,9 @@
 // The drain: the workers serve what is still ready, while no thread makes a step.
-ghost use Rattle.std.specs.Prelude.{◌≡◌, OnOk};
+ghost use Rattle.std.specs.Prelude.{◌≡◌, ◌<◌, ℕ, length, OnErr, OnOk};
 ghost use Rattle.std.specs.List.{list_all};
 ghost use Rattle.sb_actor.specs.WorkerTable.{is_looking};
 ghost use Rattle.sb_book.specs.Histories.{JudgesBy};
-ghost use Rattle.sb_core.specs.Drains.{is_settled, one_pass, drained};
-ghost use Rattle.sb_core.specs.Kept.{IsReached};
-ghost use Rattle.sb_statements.specs.declared.scripts.Script.{Script};
+ghost use Rattle.sb_core.specs.Drains.{IsBeginning, is_settled, one_pass, pass_below, drained};
 
 use crate::worlds::World;
 use sb_actor::WorkerState;
@@ -29,12 +27,12 @@ fn is_settled(world: &World) -> bool
     all_looking(&world.workers) && !world.shared.some_ready()
 }
 
-// One step of each worker, in target order.
-#[tactic(auto, using(crate::proofs::Folding::pass_more, crate::proofs::Folding::reached_below))]
+// One step of each worker, in target order. After an error the world is that of the steps so far.
+#[tactic(auto, using(crate::proofs::Folding::pass_more))]
 fn make_pass<J: Judge>(alloc: Global, judge: &J, world: &mut World) -> Result<(), NoMemory>
     requires judge { JudgesBy (J.policies judge.now) world.old.shared.book }
     ensures ok { OnOk result (world.new ≡ one_pass world.old) }
-    ensures reached { (script : Script) → IsReached script world.old world.new }
+    ensures err { OnErr result ((k : ℕ) × (k < length world.old.workers) × (world.new ≡ pass_below k world.old)) }
     ensures setting { world.new.shared.book.setting ≡ world.old.shared.book.setting }
 {
     for target in 0..world.worker_count() {
@@ -44,15 +42,15 @@ fn make_pass<J: Judge>(alloc: Global, judge: &J, world: &mut World) -> Result<()
 }
 
 /// The drain of a world, whatever its script: one step of each worker in target order, again and again, until each is looking and no
-/// state word is 3. After an error the world is that of the steps so far.
+/// state word is 3. After an error the world is that of a beginning of the drain.
 ///
 /// # Errors
 /// `NoMemory` where there was none for a step.
-#[tactic(auto, using(crate::proofs::Folding::drained_done, crate::proofs::Folding::drained_more, crate::proofs::Folding::reached_self, crate::proofs::Folding::reached_on))]
+#[tactic(auto, using(crate::proofs::Folding::drained_done, crate::proofs::Folding::drained_more, crate::proofs::Beginning::passed_self))]
 pub(crate) fn settle<J: Judge>(alloc: Global, judge: &J, world: &mut World) -> Result<(), NoMemory>
     requires judge { JudgesBy (J.policies judge.now) world.old.shared.book }
     ensures ok { OnOk result (world.new ≡ drained world.old) }
-    ensures reached { (script : Script) → IsReached script world.old world.new }
+    ensures err { OnErr result (IsBeginning world.old world.new) }
     ensures setting { world.new.shared.book.setting ≡ world.old.shared.book.setting }
 {
     let mut left = MOST_PASSES;

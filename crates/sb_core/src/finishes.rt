@@ -46,10 +46,10 @@ fn world_of(
 /// The report of a run by threads, once each of them has ended: the workers serve what is still ready. The words are 65 for each
 /// channel of each target; there is one looking worker for each target, in target order, with its number of channels; one result for
 /// each statement; and the book is that of this script. The judge judges its targets by their policies.
-/// `finishes_fit` says when the report fits its script.
+/// If steps of the script's actors led to these parts, the report is that of a run by a schedule (`ends_are_runs`).
 ///
 /// # Errors
-/// `NoMemory` where there was none for a step, or for the report.
+/// `NoMemory` if there was none for a step, or for the report.
 pub fn finish<J: Judge>(
     alloc: Global,
     judge: &J,

@@ -1,6 +1,6 @@
 // Laws of worlds and runs. None of these functions does anything: each contract is a law.
 ghost use Rattle.sb_core.specs.OfScripts.{DrainsAreOfScripts, StartsAreOfScripts, StepsAreOfScripts, WorldsOfScriptsRun};
-ghost use Rattle.sb_core.specs.Laws.{StartsKeep, StepsKeep, DrainsKeep, StepsChangeLittle, MarksAnswerCopies, TurnsAreHeld, CopiesAreJudged, FinishedThreadsStay, StepsAreFolds, RoundsAreSteps, DrainsAreSteps, OrdersAreSchedules, DrainsSettle, RunsAreLegal, RunsHaveResults, FinishedRunsAreWhole, RunsKeepWords};
+ghost use Rattle.sb_core.specs.Laws.{WorldsHaveTargets, PlansAreThere, EndsAreRuns, EndsCanFinish, StartsKeep, StepsKeep, DrainsKeep, StepsChangeLittle, MarksAnswerCopies, TurnsAreHeld, CopiesAreJudged, FinishedThreadsStay, StepsAreFolds, RoundsAreSteps, DrainsAreSteps, OrdersAreSchedules, DrainsSettle, RunsAreLegal, RunsHaveResults, FinishedRunsAreWhole, RunsKeepWords};
 
 use sb_book::answers_keep_histories;
 use sb_statements::sound_parts;
@@ -22,6 +22,16 @@ pub fn worlds_are_of_scripts()
     ensures step { StepsAreOfScripts }
     ensures drain { DrainsAreOfScripts }
     ensures runs { WorldsOfScriptsRun }
+{
+    sound_parts();
+}
+
+/// A world that runs its script has each target of it, and no other, with a worker and 65 words for each channel. If the next step of an
+/// actor that is there is on a word, then its target, its channel and the word are there: there are at most 8 targets of at most 8
+/// channels.
+pub fn plans_are_there()
+    ensures targets { WorldsHaveTargets }
+    ensures plans { PlansAreThere }
 {
     sound_parts();
 }
@@ -87,4 +97,15 @@ pub fn runs_are_whole()
 {
     answers_keep_histories();
     sound_parts();
+}
+
+/// Where steps of actors that are there lead, from the start, to a world in which no thread is unfinished and nobody has the turn, the
+/// report that `finish` gives for its words, workers, book and results is that of a run by the schedule of these steps. If every
+/// worker looks there, then nobody has the turn, and `finish` can be called.
+pub fn ends_are_runs()
+    ensures runs { EndsAreRuns }
+    ensures finish { EndsCanFinish }
+{
+    sound_parts();
+    runs_are_whole();
 }

@@ -3,11 +3,11 @@
 //
 // The steps are those of sb_actor's two tables. `specs/Worlds.antt` applies one row to the world, `specs/Shared.antt` says what a step
 // finds and leaves there, `specs/Drains.antt` and `specs/Runs.antt` fold steps into whole runs, and `specs/Laws.antt` says what holds
-// of every run. `specs/Views.antt` says what the seats of a target know in a world, `specs/Rules.antt` that rule S holds of it, and
+// of every run. `specs/Views.antt` says what is known of a target's actors in a world, `specs/Rules.antt` that rule S holds of it, and
 // `specs/OfScripts.antt` that each world of a script keeps it, whatever steps led there.
 // `specs/Fits.antt` says when a report fits its script, `specs/Origins.antt` where its words come from, and `specs/Tallies.antt` how
-// many entries a channel has at most. `specs/Finishes.antt` says what a run by threads hands back so that the report of `finish` is such
-// a one, and `specs/Noting.antt` what the seats of a thread have noted by then.
+// many entries a channel has at most. What real threads did ends in `finish`: where their steps lead to a world of the script in which
+// every thread is finished, its report is that of a run by a schedule (`ends_are_runs`), so that all of this holds of it.
 #![tactic(auto)]
 
 mod actors;
@@ -28,12 +28,12 @@ mod worlds;
 
 pub use finishes::finish;
 pub use laws::{
-    copies_are_judged, drains_settle, finished_threads_stay, marks_answer_copies, runs_are_legal,
-    runs_are_whole, steps_are_folds, steps_change_little, turns_are_held, worlds_are_of_scripts,
-    worlds_keep,
+    copies_are_judged, drains_settle, ends_are_runs, finished_threads_stay, marks_answer_copies,
+    plans_are_there, runs_are_legal, runs_are_whole, steps_are_folds, steps_change_little,
+    turns_are_held, worlds_are_of_scripts, worlds_keep,
 };
 pub use rules::{
-    finishes_fit, no_block_is_invented, replies_are_own, rule_holds, runs_fit,
+    no_block_is_invented, replies_are_own, rule_holds, runs_fit, worlds_of_scripts_invent_nothing,
     worlds_of_scripts_keep_rule,
 };
 pub use runs::{Ran, run};

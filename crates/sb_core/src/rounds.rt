@@ -92,7 +92,7 @@ fn make_round<J: Judge>(
 ///
 /// # Errors
 /// `NoMemory` where there was none for a step.
-#[tactic(auto, using(crate::proofs::Folding::rounds_done, crate::proofs::Folding::rounds_more, crate::proofs::Reaching::rounds_there))]
+#[tactic(auto, using(crate::proofs::Folding::rounds_done, crate::proofs::Folding::rounds_more, crate::proofs::Stepping::rounds_there))]
 pub(crate) fn make_rounds<J: Judge>(
     alloc: Global,
     judge: &J,

@@ -1,14 +1,13 @@
 // Rule S over worlds, and what follows for reports. None of these functions does anything: each contract is a law.
-ghost use Rattle.sb_core.specs.Finishes.{FinishesAreFew, FinishesAreSourced, FinishesFit};
 ghost use Rattle.sb_core.specs.Fits.{RepliesAreOwn, RunsFit, RunsReplyOwn, WorldsOfScriptsReplyOwn};
-ghost use Rattle.sb_core.specs.Origins.{NoBlockIsInvented};
+ghost use Rattle.sb_core.specs.Origins.{NoBlockIsInvented, WorldsAreSourced};
 ghost use Rattle.sb_core.specs.Rules.{RuleHolds, RunsKeepRule, WorldsOfScriptsKeepRule};
-ghost use Rattle.sb_core.specs.Tallies.{EntriesAreFew};
+ghost use Rattle.sb_core.specs.Tallies.{EntriesAreFew, WorldsAreFew};
 
 use crate::laws::drains_settle;
 use sb_actor::{
-    blocks_are_whole, clean_channels_are_kept, splits_and_joins_keep_rule, starts_in_rule,
-    stray_keeps_rule, thread_follows, thread_keeps_rule, worker_follows, worker_keeps_rule,
+    blocks_are_whole, clean_channels_are_kept, starts_in_rule, stray_keeps_rule, thread_follows,
+    thread_keeps_rule, worker_follows, worker_keeps_rule,
 };
 use sb_block::replies_come_back;
 use sb_book::answers_keep_histories;
@@ -25,7 +24,6 @@ pub fn rule_holds()
 {
     sound_parts();
     starts_in_rule();
-    splits_and_joins_keep_rule();
     thread_keeps_rule();
     worker_keeps_rule();
     stray_keeps_rule();
@@ -47,7 +45,6 @@ pub fn runs_fit()
     replies_come_back();
     drains_settle();
     starts_in_rule();
-    splits_and_joins_keep_rule();
     thread_keeps_rule();
     worker_keeps_rule();
     stray_keeps_rule();
@@ -68,7 +65,6 @@ pub fn replies_are_own()
     answers_are_short();
     replies_come_back();
     starts_in_rule();
-    splits_and_joins_keep_rule();
     thread_keeps_rule();
     worker_keeps_rule();
     stray_keeps_rule();
@@ -90,22 +86,6 @@ pub fn no_block_is_invented()
     sound_parts();
 }
 
-/// The report of `finish` fits its script: of a run by threads whose book is a legal one of the script, whose sections were closed under
-/// rule S, and whose threads each had, by their seats, the calls of their results. Where the seats noted what the steps of their
-/// statements stored and showed, no block is invented in it either, and no channel has more entries than calls that were handed over
-/// there and statements that made it ready. What is still served at the end is on channels that some statement writes by hand.
-pub fn finishes_fit()
-    ensures fits { FinishesFit }
-    ensures sources { FinishesAreSourced }
-    ensures few { FinishesAreFew }
-{
-    sound_parts();
-    answers_keep_histories();
-    answers_are_short();
-    replies_come_back();
-    drains_settle();
-}
-
 /// Whoever holds a world of a script may rely on rule S for each of its targets, over the script's clean marks, and on each thread's own
 /// replies, without knowing which steps led to it. The strings of the script's calls are made of units, as they are in every script
 /// in memory.
@@ -115,4 +95,14 @@ pub fn worlds_of_scripts_keep_rule()
 {
     rule_holds();
     replies_are_own();
+}
+
+/// At any moment, in each world of a script, each channel word, each word of an entry's copy, and each value that a result shows so far has
+/// a source, as in the report of a run; and a channel has no more entries than calls that were handed over there so far and statements
+/// that made it ready. Nothing is asked of the script but that it is ready for the policies.
+pub fn worlds_of_scripts_invent_nothing()
+    ensures sources { WorldsAreSourced }
+    ensures few { WorldsAreFew }
+{
+    sound_parts();
 }

@@ -7,7 +7,7 @@ ghost use Rattle.sb_book.specs.Readiness.{is_ready};
 ghost use Rattle.sb_statements.specs.declared.schedules.Actor.TheVariants.{Thread};
 ghost use Rattle.sb_statements.specs.Actors.{is_there};
 ghost use Rattle.sb_core.specs.Changes.{plan_of};
-ghost use Rattle.sb_core.specs.Drains.{drained};
+ghost use Rattle.sb_core.specs.Drains.{IsBeginning, drained};
 ghost use Rattle.sb_core.specs.Kept.{IsReached, IsRunning, IsWorld};
 ghost use Rattle.sb_core.specs.OfScripts.{IsOfScript};
 ghost use Rattle.sb_core.specs.Threads.{first_unfinished};
@@ -180,12 +180,11 @@ impl World {
     }
 
     /// One step of each worker in target order, again and again, until each is looking and no state word is 3. The script is the one
-    /// with which the world was started, and the judge judges its targets by their policies. After an error the world is that of the
-    /// steps so far.
+    /// with which the world was started, and the judge judges its targets by their policies. After an error the world is that of a
+    /// beginning of the drain.
     ///
     /// # Errors
     /// `NoMemory` where there was none for a step.
-    #[tactic(auto, using(crate::proofs::Draining::drains_keep))]
     pub fn drain<J: Judge>(
         &mut self,
         alloc: Global,
@@ -195,11 +194,13 @@ impl World {
         requires judge { JudgesBy (J.policies judge.now) self.old.shared.book }
         requires running { IsRunning script.now self.old }
         ensures ok { OnOk result (self.new ≡ drained self.old) }
-        ensures running { OnOk result (IsRunning script.now self.new) }
-        ensures of_script { OnOk result (IsOfScript script.now self.old → IsOfScript script.now self.new) }
+        ensures err { OnErr result (IsBeginning self.old self.new) }
+        ensures running { IsRunning script.now self.new }
+        ensures of_script { IsOfScript script.now self.old → IsOfScript script.now self.new }
         ensures reached { IsReached script.now self.old self.new }
         ensures setting { self.new.shared.book.setting ≡ self.old.shared.book.setting }
     {
+        sound_parts();
         let _script = script;
         self.establish_kept();
         settle(alloc, judge, self)?;

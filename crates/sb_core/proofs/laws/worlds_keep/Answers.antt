@@ -10,4 +10,4 @@ pub returns-clause-step : goal.returns-clause-step
 returns-clause-step c = step_keeps c.sound_parts.ensures.statements
 
 pub returns-clause-drain : goal.returns-clause-drain
-returns-clause-drain c = drains_keep
+returns-clause-drain c = drains_keep c.sound_parts.ensures.statements

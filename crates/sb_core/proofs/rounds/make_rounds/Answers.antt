@@ -1,6 +1,6 @@
 use Rattle.std.proofs.Common.{◌≡◌, true, subst, sym}
 use Rattle.sb_core.specs.Actors.{are_there}
-use Rattle.sb_core.proofs.Reaching.{rounds_there}
+use Rattle.sb_core.proofs.Stepping.{rounds_there}
 use Rattle.sb_core.proofs.rounds.make_rounds.Goals as goal
 
 pub make_round-requires-clause-there : goal.make_round-requires-clause-there

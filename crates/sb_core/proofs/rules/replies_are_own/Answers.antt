@@ -1,13 +1,11 @@
 use Rattle.sb_core.proofs.Present.{replies_are_own, runs_reply_own}
-use Rattle.sb_core.proofs.Seating.{SeatLaws}
+use Rattle.sb_core.proofs.ViewSteps.{RuleLaws}
 use Rattle.sb_core.proofs.rules.replies_are_own.Goals as goal
 
 pub returns-clause-steps : goal.returns-clause-steps
 returns-clause-steps c =
-    let laws : SeatLaws = record {
+    let laws : RuleLaws = record {
       starts = c.starts_in_rule.ensures;
-      splits_thread = c.splits_and_joins_keep_rule.ensures.new_thread;
-      splits_stray = c.splits_and_joins_keep_rule.ensures.new_stray;
       thread_keeps = c.thread_keeps_rule.ensures;
       worker_keeps = c.worker_keeps_rule.ensures;
       stray_keeps = c.stray_keeps_rule.ensures;
@@ -21,10 +19,8 @@ returns-clause-steps c =
 
 pub returns-clause-runs : goal.returns-clause-runs
 returns-clause-runs c =
-    let laws : SeatLaws = record {
+    let laws : RuleLaws = record {
       starts = c.starts_in_rule.ensures;
-      splits_thread = c.splits_and_joins_keep_rule.ensures.new_thread;
-      splits_stray = c.splits_and_joins_keep_rule.ensures.new_stray;
       thread_keeps = c.thread_keeps_rule.ensures;
       worker_keeps = c.worker_keeps_rule.ensures;
       stray_keeps = c.stray_keeps_rule.ensures;

@@ -1,13 +1,11 @@
 use Rattle.sb_core.proofs.Fitting.{runs_fit}
-use Rattle.sb_core.proofs.Seating.{SeatLaws}
+use Rattle.sb_core.proofs.ViewSteps.{RuleLaws}
 use Rattle.sb_core.proofs.rules.runs_fit.Goals as goal
 
 pub returns : goal.returns
 returns c =
-    let laws : SeatLaws = record {
+    let laws : RuleLaws = record {
       starts = c.starts_in_rule.ensures;
-      splits_thread = c.splits_and_joins_keep_rule.ensures.new_thread;
-      splits_stray = c.splits_and_joins_keep_rule.ensures.new_stray;
       thread_keeps = c.thread_keeps_rule.ensures;
       worker_keeps = c.worker_keeps_rule.ensures;
       stray_keeps = c.stray_keeps_rule.ensures;
