@@ -23,24 +23,33 @@ ROWS = "sb_tables_runs"
 # For each number of workers, this many times as many runs are made.
 TURNS = 3
 
-# The most that a run by eight workers may take, by a run by two: what two equal runs differ by in any case.
-MOST_DIFFERENCE = 1.1
+# The most that a run by eight workers may take, by a run by two.
+MOST_DIFFERENCE = 1.05
+
+# The most processor seconds per second of a run in which one thread has something to do and nobody else has.
+MOST_PROCESSORS = 1.25
 
 # The user as whom a run with few processes is made where this is run by root, for whom the system has no such limit.
 NOBODY = 65534
 MIB = 1024 * 1024
 
 
-def run(folder, words, program=programs.SANDBOX, begin=None):
-    """Runs `sandbox` with these words in a folder, with its output in `transcript`: the seconds by a clock, the bytes of its peak of
-    memory, and its exit status. It does `begin` first, where that is given."""
+def run_measured(folder, words, program=programs.SANDBOX, begin=None):
+    """Runs `sandbox` with these words in a folder, with its output in `transcript`: the seconds by a clock, what the system says of what it
+    used, and its exit status. It does `begin` first, if that is given."""
     with open(os.path.join(folder, "transcript"), "wb") as out:
         start = time.monotonic()
         child = subprocess.Popen([program, *words], cwd=folder, stdout=out, stderr=subprocess.DEVNULL, preexec_fn=begin)
         _, status, usage = os.wait4(child.pid, 0)
         seconds = time.monotonic() - start
     child.returncode = os.waitstatus_to_exitcode(status)
-    return seconds, usage.ru_maxrss * 1024, child.returncode
+    return seconds, usage, child.returncode
+
+
+def run(folder, words, program=programs.SANDBOX, begin=None):
+    """The same with the bytes of its peak of memory in place of all that it used."""
+    seconds, usage, status = run_measured(folder, words, program, begin)
+    return seconds, usage.ru_maxrss * 1024, status
 
 
 def run_words(workers):
@@ -80,8 +89,9 @@ def measure_workers(runs):
     for workers, seconds in measured.items():
         print("%d pings by %d workers: %d calls per second, %d by the median"
               % (calls, workers, calls / best[workers], calls / statistics.median(seconds)))
-    if best[2] > 0.4:
-        programs.miss("%d pings by 2 workers take more than 0.4 seconds" % calls)
+    for workers, seconds in best.items():
+        if seconds > 0.15:
+            programs.miss("%d pings by %d workers take more than 0.15 seconds" % (calls, workers))
     if best[8] > MOST_DIFFERENCE * best[2]:
         programs.miss("%d pings by 8 workers take more than %.1f times as long as by 2" % (calls, MOST_DIFFERENCE))
 
@@ -91,7 +101,7 @@ def measure_channels(runs):
     calls = stepping.MOST_STATEMENTS
     with texts.folder_with(texts.single_policy(["allow ping"]), stepping.pings(8, 8, 4096)) as folder:
         seconds, size = measured_runs(runs, folder, run_words(2), 2 * calls + 1, stepping.totals(calls, calls))
-    check_bounds("%d pings over 64 channels by 2 workers" % calls, min(seconds), size, 8)
+    check_bounds("%d pings over 64 channels by 2 workers" % calls, min(seconds), size, 0.52)
 
 
 def measure_made(runs):
@@ -111,7 +121,31 @@ def measure_made(runs):
             wanted = lines
             measured.append((seconds, size))
     best, size = min(seconds for seconds, _ in measured), max(size for _, size in measured)
-    check_bounds("%d generated calls" % calls, best, size, 0.5, 100 * MIB)
+    check_bounds("%d generated calls" % calls, best, size, 0.26, 70 * MIB)
+
+
+def measure_waiting(runs):
+    """Processor seconds per second of a run in which one thread waits for more than a second, while there are eight targets and nobody else
+    has anything to do. The least of the runs counts, of those by one, two and eight workers each."""
+    waits = 10
+    script = ["sandbox-script 1"] + texts.target_lines("t0", 1, [["wait 0 0 63 1 %d" % stepping.LOADS_OF_A_WAIT] * waits])
+    for target in range(1, 8):
+        script += texts.target_lines("t%d" % target, 1, [])
+    with texts.folder_with(texts.single_policy(["allow ping"]), script) as folder:
+        for workers in (1, 2, 8):
+            measured = []
+            for _ in range(runs):
+                seconds, usage, status = run_measured(folder, run_words(workers))
+                if status != 0:
+                    programs.fail("a run in which one thread waits ended with status %d" % status)
+                stepping.check_lines(folder, waits + 1, stepping.totals(0, waits))
+                measured.append(((usage.ru_utime + usage.ru_stime) / seconds, seconds))
+            processors, seconds = min(measured)
+            print("one thread that waits, %d workers: %.2f processor seconds per second, in %.2f seconds" % (workers, processors, seconds))
+            if seconds < 1:
+                print("one thread that waits, %d workers: the run took less than a second" % workers)
+            if processors > MOST_PROCESSORS:
+                programs.miss("a run in which one thread waits uses more than %.2f processor seconds per second" % MOST_PROCESSORS)
 
 
 def processes_of(user):
@@ -158,10 +192,11 @@ def check_generated():
 
 
 def measure(runs):
-    """Runs by threads, of pings by 1 to 8 workers, of as many calls as there can be, and of generated work; runs in which threads are
-    not started; and runs of hostile scripts."""
+    """Runs by threads, of pings by 1 to 8 workers, of as many calls as there can be, of generated work, and of one thread that waits; runs in
+    which threads are not started; and runs of hostile scripts."""
     measure_workers(runs)
     measure_channels(runs)
     measure_made(runs)
+    measure_waiting(runs)
     try_refused_starts()
     check_generated()

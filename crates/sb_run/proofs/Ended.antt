@@ -1,102 +1,129 @@
--- What the threads gave back, by the tasks that they were given.
-use Rattle.std.proofs.Common.{◌≡◌, sym, subst, ap, ◌∙◌, ℕ, ◌<◌, List, length, map, Some, arith}
-use Rattle.std.specs.Prelude.{slice_get}
-use Rattle.sb_actor.specs.Rule.{place}
-use Rattle.sb_actor.specs.declared.views.ThreadView.{ThreadView}
-use Rattle.sb_section.specs.Seats.{SectionValue, StraySeatValue, ThreadSeatValue}
-use Rattle.sb_statements.specs.Actors.{thread_count}
-use Rattle.sb_run.specs.Closings.{AreOutside, AreThreadsOf}
-use Rattle.sb_run.specs.Endings.{HasEnded, RunEndAt}
-use Rattle.sb_run.specs.Pairing.{AllPairs}
-use Rattle.sb_run.specs.Starts.{all_of}
-use Rattle.sb_task.specs.Tasks.{EndAt, IsEnd, IsEndOf, IsTask, TaskAt}
-use Rattle.sb_task.specs.ThreadActors.{stray_name}
-use Rattle.sb_run.proofs.Listed.{flat_from, map_from, map_length, map_some, pairs_all}
-use Rattle.sb_run.proofs.Pairs.{pair_at, pairs_length}
-use Rattle.sb_run.proofs.Rows.{AreLong}
+-- The seats with which a run is closed, and its report.
+use Rattle.std.proofs.Common.{◌≡◌, refl, sym, subst, ap, ◌∙◌, ℕ, true, List, [], ◌∷◌, map}
+use Rattle.std.proofs.lemmas.List.Elements.{All-cons, All-head, All-nil, All-tail}
+use Rattle.std.specs.List.{All, AllZip}
+use Rattle.atomic_table.specs.Seated.{TableId}
+use Rattle.sb_actor.specs.Places.{is_finished}
+use Rattle.sb_actor.specs.WorkerStages.{WorkerAt, WorkerStage, Look, Count, End, Copy, Take, Mark, Give, Reply, Ack}
+use Rattle.sb_actor.specs.WorkerTable.{is_looking}
+use Rattle.sb_book.specs.Readiness.{is_ready}
+use Rattle.sb_shared.specs.Closing.{AreFinished, AreWorkers, IsClosed, IsThreadSeat, IsWorkerSeat}
+use Rattle.sb_shared.specs.Opening.{target_places}
+use Rattle.sb_core.specs.Runs.{IsSomeRun, finished}
+use Rattle.sb_book.specs.declared.reports.Report.{Report}
+use Rattle.std.specs.Prelude.{IfOk, Result, Ok, Err}
+use Rattle.sb_shared.specs.Runs.{AreLooking, ClosedRunsAreRuns}
+use Rattle.sb_shared.specs.Seats.{SharedValue, ThreadSeatValue, WorkerSeatValue, fresh_thread, fresh_worker}
+use Rattle.sb_shared.specs.declared.closings.ClosedRun.{ClosedRun}
+use Rattle.sb_shared.specs.declared.views.Origin.{Origin}
+use Rattle.sb_task.specs.Threads.{HasEnded}
+use Rattle.sb_run.specs.Endings.{HasClosed}
+use Rattle.sb_run.specs.Openings.{worker_homes}
+use Rattle.sb_task.specs.Works.{IsWork, home_of}
 
--- what thread k of target t gave back, with its task
-pub record EndsAs (r : RunEndAt) (t k : ℕ) (e : EndAt) : Type 0 where
-  pub task : TaskAt
-  pub is_task : IsTask r.script r.sections r.turn task
-  pub target : task.thread.target ≡ t
-  pub thread : task.thread.thread ≡ k
-  pub is_end : IsEnd r.script t k task.seat task.strays task.book e
+-- what the second of each pair has by the first
+all_by : {A B : Type 0} (R : A → B → Type 0) (P : A → Type 0) (Q : B → Type 0) → ((x : A) (y : B) → R x y → P x → Q y) → (xs : List A) (ys : List B) → AllZip R xs ys → All P xs → All Q ys
+all_by R P Q h [] [] pairs all = All-nil Q
+all_by R P Q h [] (y ∷ ys) pairs all = absurd pairs
+all_by R P Q h (x ∷ xs) [] pairs all = absurd pairs
+all_by R P Q h (x ∷ xs) (y ∷ ys) pairs all = All-cons Q y ys (h x y pairs.0 (All-head P x xs all)) (all_by R P Q h xs ys pairs.1 (All-tail P x xs all))
 
-abbrev as_end : (r : RunEndAt) (t k : ℕ) (task : TaskAt) (e : EndAt) → task.thread.target ≡ t → task.thread.thread ≡ k → IsTask r.script r.sections r.turn task → IsEndOf r.script task e → EndsAs r t k e
-as_end r t k task e target thread own end = record {
-  task = task;
-  is_task = own;
-  target = target;
-  thread = thread;
-  is_end = subst (λ n. IsEnd r.script t n task.seat task.strays task.book e) thread (subst (λ n. IsEnd r.script n task.thread.thread task.seat task.strays task.book e) target end);
+same_by : {A B C : Type 0} (R : A → B → Type 0) (f : A → C) (g : B → C) → ((x : A) (y : B) → R x y → g y ≡ f x) → (xs : List A) (ys : List B) → AllZip R xs ys → map g ys ≡ map f xs
+same_by R f g h [] [] pairs = refl
+same_by R f g h [] (y ∷ ys) pairs = absurd pairs
+same_by R f g h (x ∷ xs) [] pairs = absurd pairs
+same_by R f g h (x ∷ xs) (y ∷ ys) pairs = let one = h x y pairs.0 in let more = same_by R f g h xs ys pairs.1 in cc
+
+-- the threads' seats, by the fresh ones
+abbrev place_of : ThreadSeatValue → ℕ × ℕ
+place_of s = (s.target, s.thread)
+
+fresh_places : (table : TableId) (key : Origin) (places : List (ℕ × ℕ)) → map place_of (map (fresh_thread table key) places) ≡ places
+fresh_places table key [] = refl
+fresh_places table key (p ∷ ps) = ap (λ l. p ∷ l) (fresh_places table key ps)
+
+pub fresh_own : (world : SharedValue) (places : List (ℕ × ℕ)) → All (IsThreadSeat world) (map (fresh_thread world.table world.key) places)
+fresh_own world [] = All-nil (IsThreadSeat world)
+fresh_own world (p ∷ ps) = All-cons (IsThreadSeat world) (fresh_thread world.table world.key p) (map (fresh_thread world.table world.key) ps) (record { table = refl; key = refl }) (fresh_own world ps)
+
+module _ (world : SharedValue) (places : List (ℕ × ℕ)) (ended : List ThreadSeatValue) (pairs : AllZip HasEnded (map (fresh_thread world.table world.key) places) ended) where
+  pub threads_own : All (IsThreadSeat world) ended
+  threads_own =
+      all_by HasEnded (IsThreadSeat world) (IsThreadSeat world) (λ x y e own. record { table = e.same.table ∙ own.table; key = e.same.key ∙ own.key })
+      (map (fresh_thread world.table world.key) places) ended pairs (fresh_own world places)
+
+  pub threads_placed : map place_of ended ≡ places
+  threads_placed =
+      same_by HasEnded place_of place_of (λ x y e. λ k. (e.same.target k, e.same.thread k)) (map (fresh_thread world.table world.key) places) ended pairs
+      ∙ fresh_places world.table world.key places
+
+  pub threads_finished : AreFinished world.key ended
+  threads_finished =
+      all_by HasEnded (IsThreadSeat world) (λ (s : ThreadSeatValue). is_finished world.key.script.value s.run.thread ≡ true)
+      (λ x y e own. subst (λ (key : Origin). is_finished key.script.value y.run.thread ≡ true) (e.same.key ∙ own.key) e.finished)
+      (map (fresh_thread world.table world.key) places) ended pairs (fresh_own world places)
+
+-- the workers' seats, by their homes
+workers_own : (world : SharedValue) (ts : List ℕ) (seats : List WorkerSeatValue) → map home_of seats ≡ map home_of (map (fresh_worker world.table world.key) ts) → All IsWork seats → All (IsWorkerSeat world) seats
+workers_own world ts [] e kept = All-nil (IsWorkerSeat world)
+workers_own world [] (s ∷ seats) e kept = absurd (cc)
+workers_own world (t ∷ ts) (s ∷ seats) e kept =
+    let same : home_of s ≡ home_of (fresh_worker world.table world.key t) = cc in
+    let more : map home_of seats ≡ map home_of (map (fresh_worker world.table world.key) ts) = cc in
+    All-cons (IsWorkerSeat world) s seats
+    (record { table = ap (λ (z : WorkerSeatValue). z.table) same; key = ap (λ (z : WorkerSeatValue). z.key) same; without = (All-head IsWork s seats kept).without })
+    (workers_own world ts seats more (All-tail IsWork s seats kept))
+
+workers_placed : (table : TableId) (key : Origin) (ts : List ℕ) (seats : List WorkerSeatValue) → map home_of seats ≡ map home_of (map (fresh_worker table key) ts) → map (λ (s : WorkerSeatValue). s.target) seats ≡ ts
+workers_placed table key [] [] e = refl
+workers_placed table key (t ∷ ts) [] e = absurd (cc)
+workers_placed table key [] (s ∷ seats) e = absurd (cc)
+workers_placed table key (t ∷ ts) (s ∷ seats) e =
+    let same : home_of s ≡ home_of (fresh_worker table key t) = cc in
+    let more : map home_of seats ≡ map home_of (map (fresh_worker table key) ts) = cc in
+    let one : s.target ≡ t = ap (λ (z : WorkerSeatValue). z.target) same in
+    let rest = workers_placed table key ts seats more in
+    cc
+
+looks_at : (stage : WorkerStage) → is_looking stage ≡ true → stage ≡ Look
+looks_at Look e = refl
+looks_at Count e = absurd (cc)
+looks_at (End count) e = absurd (cc)
+looks_at (Copy count end words) e = absurd (cc)
+looks_at (Take taken) e = absurd (cc)
+looks_at (Mark taken) e = absurd (cc)
+looks_at (Give taken reply) e = absurd (cc)
+looks_at (Reply taken reply at) e = absurd (cc)
+looks_at (Ack taken reply) e = absurd (cc)
+
+workers_look : (seats : List WorkerSeatValue) → All IsWork seats → AreLooking (map (λ (s : WorkerSeatValue). s.state) seats)
+workers_look [] kept = All-nil (λ (x : WorkerAt). x.stage ≡ Look)
+workers_look (s ∷ seats) kept =
+    All-cons (λ (x : WorkerAt). x.stage ≡ Look) s.state (map (λ (z : WorkerSeatValue). z.state) seats) (looks_at s.state.stage (All-head IsWork s seats kept).looking)
+    (workers_look seats (All-tail IsWork s seats kept))
+
+pub are_workers : (world : SharedValue) (seats : List WorkerSeatValue) → map home_of seats ≡ worker_homes world → All IsWork seats → AreWorkers world seats
+are_workers world seats homes kept = record {
+  each = workers_own world (target_places world.key.script.value.targets) seats homes kept;
+  places = workers_placed world.table world.key (target_places world.key.script.value.targets) seats homes;
 }
 
--- its stray seats are those of its task: one for each section, of which it is
-pub strays_long : (r : RunEndAt) (t k : ℕ) (e : EndAt) → EndsAs r t k e → length e.strays ≡ length r.sections
-strays_long r t k e one = sym (map_length stray_name e.strays) ∙ ap length one.is_end.same_strays ∙ map_length stray_name one.task.strays ∙ one.is_task.strays.count
+pub has_closed : ClosedRunsAreRuns → (key : Origin) (threads : List ThreadSeatValue) (seats : List WorkerSeatValue) (run : ClosedRun)
+    → is_ready key.policies.value.list key.script.value ≡ true → IsClosed key threads run → run.workers.items ≡ map (λ (s : WorkerSeatValue). s.state) seats → AreFinished key threads → All IsWork seats
+    → HasClosed key run
+has_closed law key threads seats run ready closed states finished kept = record {
+  runs = law key threads run ready closed (subst AreLooking (sym states) (workers_look seats kept)) finished;
+  setting = closed.setting;
+}
 
-pub stray_fits : (r : RunEndAt) (t k : ℕ) (e : EndAt) (one : EndsAs r t k e) (u : ℕ) (q : StraySeatValue) → slice_get e.strays u ≡ Some q
-    → (old : StraySeatValue) × (slice_get one.task.strays u ≡ Some old) × (q.table ≡ old.table) × (q.view.number ≡ old.view.number)
-stray_fits r t k e one u q at =
-    let from = map_from stray_name one.task.strays u (stray_name q) (ap (λ l. slice_get l u) (sym one.is_end.same_strays) ∙ map_some stray_name e.strays u q at) in
-    (from.0, from.1, ap (λ p. p.0) from.2, ap (λ p. p.1) from.2)
-
-module _ (r : RunEndAt) (x : HasEnded r) where
-  pub flat_ended : AllPairs (IsEndOf r.script) (all_of x.tasks) (all_of r.ends)
-  flat_ended = pairs_all (IsEndOf r.script) x.tasks r.ends x.ended
-
-  pub end_count : length (all_of r.ends) ≡ length (all_of x.tasks)
-  end_count = pairs_length (IsEndOf r.script) (all_of x.tasks) (all_of r.ends) flat_ended
-
-  pub target_count : length r.ends ≡ length r.script.targets
-  target_count = pairs_length (AllPairs (IsEndOf r.script)) x.tasks r.ends x.ended ∙ x.begun.tasks.targets
-
-  pub its_thread_count : (t : ℕ) (es : List EndAt) → slice_get r.ends t ≡ Some es → length es ≡ thread_count (slice_get r.script.targets t)
-  its_thread_count t es at =
-      let tasks = pair_at (AllPairs (IsEndOf r.script)) x.tasks r.ends t es x.ended at in
-      pairs_length (IsEndOf r.script) tasks.0 es tasks.2 ∙ x.begun.tasks.threads t tasks.0 tasks.1
-
-  -- by target and thread
-  pub ends_as : (t k : ℕ) (es : List EndAt) (e : EndAt) → slice_get r.ends t ≡ Some es → slice_get es k ≡ Some e → EndsAs r t k e
-  ends_as t k es e at_target at_thread =
-      let tasks = pair_at (AllPairs (IsEndOf r.script)) x.tasks r.ends t es x.ended at_target in
-      let task = pair_at (IsEndOf r.script) tasks.0 es k e tasks.2 at_thread in
-      let own = x.begun.tasks.each t k tasks.0 task.0 tasks.1 task.1 in
-      as_end r t k task.0 e own.0 own.1 own.2 task.2
-
-  -- and by place among all
-  pub flat_as : (n : ℕ) (e : EndAt) → slice_get (all_of r.ends) n ≡ Some e → (t k : ℕ) × (one : EndsAs r t k e) × (slice_get (all_of x.tasks) n ≡ Some one.task)
-  flat_as n e at =
-      let task = pair_at (IsEndOf r.script) (all_of x.tasks) (all_of r.ends) n e flat_ended at in
-      let place = flat_from x.tasks n task.0 task.1 in
-      let own = x.begun.tasks.each place.0 place.1 place.2 task.0 place.3 place.4 in
-      (place.0, place.1, as_end r place.0 place.1 task.0 e own.0 own.1 own.2 task.2, task.1)
-
-  -- each has a stray seat for each section
-  pub are_long : (u : ℕ) → u < length r.sections → AreLong u (map (λ (e : EndAt). e.strays) (all_of r.ends))
-  are_long u l n row at =
-      let from = map_from (λ (e : EndAt). e.strays) (all_of r.ends) n row at in
-      let one = flat_as n from.0 from.1 in
-      let many : length row ≡ length r.sections = ap length from.2 ∙ strays_long r one.0 one.1 from.0 one.2 in
-      omega (arith, l, many)
-
-  -- the seats of a target's threads
-  module _ (t : ℕ) (s : SectionValue) (es : List EndAt) (here : slice_get r.sections t ≡ Some s) (at : slice_get r.ends t ≡ Some es) where
-    pub are_threads : AreThreadsOf s.table (map (λ (e : EndAt). e.seat) es)
-    are_threads k q e =
-        let from = map_from (λ (e : EndAt). e.seat) es k q e in
-        let one = ends_as t k es from.0 at from.1 in
-        ap (λ (z : ThreadSeatValue). z.table) from.2 ∙ one.is_end.same.table ∙ (one.is_task.seat s (ap (λ n. slice_get r.sections n) one.target ∙ here)).0
-
-    pub are_outside : AreOutside (map (λ (e : EndAt). e.seat) es)
-    are_outside k q e =
-        let from = map_from (λ (e : EndAt). e.seat) es k q e in
-        let one = ends_as t k es from.0 at from.1 in
-        ap (λ (z : ThreadSeatValue). place z.view.place) from.2 ∙ one.is_end.outside
-
-    pub are_numbered : (k : ℕ) (q : ThreadSeatValue) → slice_get (map (λ (e : EndAt). e.seat) es) k ≡ Some q → q.view.number ≡ k
-    are_numbered k q e =
-        let from = map_from (λ (e : EndAt). e.seat) es k q e in
-        let one = ends_as t k es from.0 at from.1 in
-        ap (λ (z : ThreadSeatValue). z.view.number) from.2 ∙ one.is_end.same.number ∙ ap (λ (v : ThreadView). v.number) one.is_task.fresh ∙ one.thread
+-- so its report is that of the script's run by that order
+pub some_run : {E : Type 0} (key : Origin) (run : ClosedRun) (result : Result Report E) → HasClosed key run → IfOk result (λ r. r ≡ finished run.words run.workers.items run.book run.results)
+    → IfOk result (λ r. IsSomeRun key.policies.value.list key.script.value r)
+some_run key run (Ok report) closed is = record {
+  schedule = closed.runs.schedule;
+  can = closed.runs.can;
+  no_rounds = closed.runs.no_rounds;
+  finished = closed.runs.unfinished;
+  is = is ∙ closed.runs.report;
+}
+some_run key run (Err refused) closed is = tt

@@ -1,125 +1,93 @@
 -- A run from its start to its end, and one of a script without targets.
-use Rattle.std.proofs.Common.{◌≡◌, refl, sym, subst, ap, ◌∙◌, ℕ, ◌*◌, ◌<◌, true, List, [], ◌∷◌, length, map, Option, None, Some, arith}
-use Rattle.std.proofs.lemmas.List.{length-map}
-use Rattle.std.specs.Prelude.{slice_get}
-use Rattle.sb_book.specs.Histories.{History, IsHistory, new_history, setting_of}
+use Rattle.std.proofs.Common.{◌≡◌, refl, sym, subst, ap, ◌∙◌, ℕ, zero, suc, ◌<◌, true, List, [], length, map, None, arith}
+use Rattle.std.specs.List.{All, AllZip}
+use Rattle.sb_book.specs.Histories.{setting_of}
 use Rattle.sb_book.specs.Readiness.{is_ready}
-use Rattle.sb_core.specs.Results.{result_at}
-use Rattle.sb_core.specs.Runs.{CanFinish}
-use Rattle.sb_rule.specs.Verdicts.{policy_at}
+use Rattle.sb_core.specs.Runs.{CanRun, IsSomeRun, ended, ran}
+use Rattle.sb_core.specs.Threads.{first_unfinished}
+use Rattle.sb_core.specs.Worlds.{start_threads, start_world}
 use Rattle.sb_rule.specs.declared.policies.Policy.{Policy}
-use Rattle.sb_statements.specs.Actors.{thread_count}
-use Rattle.sb_statements.specs.declared.results.StmtResult.{StmtResult}
+use Rattle.sb_shared.specs.Closing.{IsThreadSeat}
+use Rattle.sb_shared.specs.Opening.{thread_places}
+use Rattle.sb_shared.specs.Origins.{setting_in}
+use Rattle.sb_shared.specs.Seats.{KeeperValue, ThreadSeatValue, fresh_thread}
+use Rattle.sb_statements.specs.declared.schedules.Schedule.{Schedule}
 use Rattle.sb_statements.specs.declared.scripts.Script.{Script}
-use Rattle.sb_statements.specs.declared.scripts.TargetScript.{TargetScript}
-use Rattle.sb_actor.specs.Places.{or_none, statement_at, threads_of}
-use Rattle.sb_turn.specs.Turns.{SeatValue}
-use Rattle.sb_run.specs.Crews.{AreHands, AreTasksOfTargets}
-use Rattle.sb_run.specs.Endings.{HasEnded, HasFinished}
-use Rattle.sb_task.specs.Hands.{HandAt, IsSameBook, IsSameHand}
-use Rattle.sb_run.specs.Pairing.{AllPairs}
-use Rattle.sb_run.specs.Starts.{IsStart, StartAt, field_of}
-use Rattle.sb_task.specs.Tasks.{EndAt, IsEndOf}
-use Rattle.sb_run.proofs.Starting.{sound_if_ready}
+use Rattle.sb_task.specs.Contexts.{ContextAt, IsContext}
+use Rattle.sb_task.specs.Servers.{IsSameServer, IsServer, ServerAt}
+use Rattle.sb_task.specs.Threads.{HasEnded}
+use Rattle.sb_run.specs.Crews.{IsKeeperOf}
+use Rattle.sb_run.specs.Endings.{CanEnd}
+use Rattle.sb_run.specs.Openings.{IsOpened, OpenedAt, worker_homes}
+use Rattle.sb_run.proofs.Crewed.{pairs_length, still_seats}
+use Rattle.sb_run.proofs.Ended.{fresh_own, threads_finished, threads_own, threads_placed}
+use Rattle.sb_run.proofs.Opened.{servers_ready}
 
--- the caller's seat of the turn may look at the stop word
-pub with_book : (policies : List Policy) (script : Script) (workers : ℕ) (x : StartAt) (seat : SeatValue) → IsStart policies script workers x → IsSameBook x.book seat
-    → IsStart policies script workers (record x { book = seat })
-with_book policies script workers x seat is same = record {
-  field = is.field;
-  book = is.book;
-  tasks = record { targets = is.tasks.targets; threads = is.tasks.threads; each = is.tasks.each; strays = is.tasks.strays };
-  books = record {
-    each = is.books.each;
-    mine = (
-      same.table ∙ is.books.mine.0,
-      same.number ∙ is.books.mine.1,
-      same.hold ∙ is.books.mine.2,
-      same.count ∙ is.books.mine.3,
-      same.joined ∙ is.books.mine.4,
-    );
-  };
-  hands = is.hands;
-  each_hand = is.each_hand;
-  seats = record { some = is.seats.some; each = is.seats.each; mine = is.seats.mine };
-  count = is.count;
-  homes = λ t h e. let one = is.homes t h e in record { home = one.home; seat = one.seat; count = one.count; joined = one.joined };
-}
+-- what the threads of a run share
+abbrev pub context_of : Script → List Policy → OpenedAt → ContextAt
+context_of script judges x = record { script = script; world = x.world; pool = x.pool; policies = judges }
 
--- all threads can be started
-pub tasks_of_start : (policies : List Policy) (script : Script) (workers : ℕ) (x : StartAt) → IsStart policies script workers x → AreTasksOfTargets (field_of (setting_of policies script).policies script x) x.tasks
-tasks_of_start policies script workers x is t tasks e k task f = (is.tasks.each t k tasks task e f).2
+module _ (policies : List Policy) (script : Script) (judges : List Policy) (x : OpenedAt) (is : IsOpened policies script x) where
+  setting_is : (setting_of policies script).policies ≡ (setting_in x.world.key).policies
+  setting_is = sym (ap (λ (z : List Policy × Script). (setting_of z.0 z.1).policies) (λ k. (is.policies_are k, is.script_is k)))
 
--- and when they have ended, the run has
-pub has_ended : (policies : List Policy) (script : Script) (workers : ℕ) (x : StartAt) (ends : List (List EndAt)) (back : List HandAt) (seat : SeatValue) → IsStart policies script workers x → 0 < length script.targets
-    → AllPairs (AllPairs (IsEndOf script)) x.tasks ends → AllPairs IsSameHand x.hands back → AreHands (field_of (setting_of policies script).policies script x) back → IsSameBook x.book seat
-    → HasEnded (record { policies = policies; script = script; sections = x.sections; turn = x.turn; pool = x.pool; seat = x.seat; book = seat; ends = ends; hands = back })
-has_ended policies script workers x ends back seat is low ended served still same = record {
-  workers = workers;
-  tasks = x.tasks;
-  first = x.hands;
-  begun = with_book policies script workers x seat is same;
-  some = subst (λ n. 0 < n) (sym is.field.sections.count) low;
-  ended = ended;
-  same = served;
-  kept = still;
-}
+  pub judges_are : judges ≡ (setting_of policies script).policies → judges ≡ (setting_in x.world.key).policies
+  judges_are e = e ∙ setting_is
 
--- a script without targets
-no_targets : (targets : List TargetScript) → length targets ≡ 0 → targets ≡ []
-no_targets [] e = refl
-no_targets (target ∷ targets) e = absurd (omega (arith, e))
+  pub is_context : judges ≡ (setting_of policies script).policies → IsContext (context_of script judges x)
+  is_context e = record { its_script = is.script_is; judges = judges_are e }
 
-module _ (policies : List Policy) (script : Script) (book : History) (ready : is_ready policies script ≡ true) (none : length script.targets ≡ 0)
-    (is : book ≡ new_history (setting_of policies script)) (history : IsHistory book) where
-  empty : script.targets ≡ []
-  empty = no_targets script.targets none
+  pub threads_ready : All (IsThreadSeat x.world) x.threads
+  threads_ready = subst (All (IsThreadSeat x.world)) (sym is.its_threads) (fresh_own x.world (thread_places x.world.key.script.value.targets))
 
-  no_target : (t : ℕ) → t < length script.targets → ⊥
-  no_target t l = let e = none in absurd (omega (arith, l, e))
+  pub all_servers_ready : All (IsServer (context_of script judges x)) x.servers
+  all_servers_ready = servers_ready (context_of script judges x) (worker_homes x.world) x.servers x.last refl is.seats
 
-  no_thread : (t k : ℕ) → k < thread_count (slice_get script.targets t) → ⊥
-  no_thread t k l = let e : thread_count (slice_get script.targets t) ≡ 0 = ap (λ l. thread_count (slice_get l t)) empty in absurd (omega (arith, l, e))
-
-  no_statement : (t k i : ℕ) → statement_at script t k i ≡ None
-  no_statement t k i = ap (λ (l : List TargetScript). slice_get (or_none (slice_get (threads_of (slice_get l t)) k)) i) empty
-
-  no_some : {X : Type 0} (x : X) → ◌≡◌ {A = Option X} None (Some x) → ⊥
-  no_some x e = absurd (cc)
-
-  no_result : (t k i : ℕ) (r : StmtResult) → result_at [] t k i ≡ Some r → ⊥
-  no_result t k i r e = no_some r e
-
-  can : CanFinish script [] [] book []
-  can = record {
-    sound = sound_if_ready policies script ready;
-    sized = sym (ap (map (λ (target : TargetScript). target.channels * 65)) empty);
-    count = sym none;
-    idle = λ t l. absurd (omega (arith, l));
-    channels = ap (λ (h : History). h.setting.channels) is;
-    policies = ap (λ (h : History). length h.setting.policies) is ∙ length-map script.targets (λ (target : TargetScript). policy_at policies target.policy);
-    whole = record {
-      targets = sym none;
-      threads = λ t. sym (ap (λ (l : List TargetScript). thread_count (slice_get l t)) empty);
-      fit = λ t k i r e. absurd (no_result t k i r e);
-      each = λ t k i s e. absurd (no_some s (sym (no_statement t k i) ∙ e));
-    };
+  pub keeper_ready : IsKeeperOf (context_of script judges x) x.keeper
+  keeper_ready = record {
+    own = ap (λ (k : KeeperValue). k.table) is.its_keeper;
+    key = ap (λ (k : KeeperValue). k.key) is.its_keeper;
+    none = ap (λ (k : KeeperValue). k.parts) is.its_keeper;
   }
 
-  pub none_finished : HasFinished policies script [] [] book []
-  none_finished = record {
-    parts = [];
-    its_results = refl;
-    can = can;
-    back = record {
-      setting = ap (λ (h : History). h.setting) is;
-      history = history;
-      threads = λ t k l. absurd (no_thread t k l);
-      targets = λ t l. absurd (no_target t l);
-    };
-    noted = record {
-      history = history;
-      threads = λ t k l. absurd (no_thread t k l);
-      targets = λ t l. absurd (no_target t l);
-    };
+  module _ (finished : List ThreadSeatValue) (back : List ServerAt) (keeper : KeeperValue) (all : AllZip HasEnded x.threads finished) (served : AllZip IsSameServer x.servers back)
+      (kept : IsKeeperOf (context_of script judges x) keeper) (ready : is_ready policies script ≡ true) where
+    pairs : AllZip HasEnded (map (fresh_thread x.world.table x.world.key) (thread_places x.world.key.script.value.targets)) finished
+    pairs = subst (λ (ts : List ThreadSeatValue). AllZip HasEnded ts finished) is.its_threads all
+
+    some_back : 0 < length back
+    some_back = let e : length back ≡ length x.servers = pairs_length IsSameServer x.servers back served in let l : 0 < length x.servers = is.some in omega (arith, e, l)
+
+    pub can_end : CanEnd (record { world = x.world; keeper = keeper; threads = finished; pool = x.pool; servers = back; last = x.last })
+    can_end = record {
+      ready = subst (λ (z : List Policy × Script). is_ready z.0 z.1 ≡ true) (sym (λ k. (is.policies_are k, is.script_is k))) ready;
+      its_keeper = (kept.own, kept.key, kept.none);
+      its_threads = record {
+        each = threads_own x.world (thread_places x.world.key.script.value.targets) finished pairs;
+        places = threads_placed x.world (thread_places x.world.key.script.value.targets) finished pairs;
+      };
+      finished = threads_finished x.world (thread_places x.world.key.script.value.targets) finished pairs;
+      some = some_back;
+      seats = still_seats x.pool (worker_homes x.world) x.servers back x.last is.seats served;
+    }
+
+-- a script without targets has no thread
+none_unfinished : (script : Script) (n : ℕ) → n ≡ 0 → first_unfinished script (start_threads script n) ≡ None
+none_unfinished script zero e = refl
+none_unfinished script (suc n) e = absurd (omega (arith, e))
+
+abbrev pub no_steps : Schedule
+no_steps = record { steps = []; rounds = 0 }
+
+module _ (policies : List Policy) (script : Script) (ready : is_ready policies script ≡ true) where
+  pub can_run_none : CanRun policies script no_steps
+  can_run_none = record { ready = ready; there = refl }
+
+  pub some_run_none : length script.targets ≡ 0 → IsSomeRun policies script (ran policies script no_steps).report
+  some_run_none none = record {
+    schedule = no_steps;
+    can = can_run_none;
+    no_rounds = refl;
+    finished = ap (λ u. (ended (start_world policies script) u).unfinished) (none_unfinished script (length script.targets) none);
+    is = refl;
   }

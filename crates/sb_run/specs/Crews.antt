@@ -1,61 +1,42 @@
 -- The threads of a run, as the one that starts them has them.
-use Rattle.std.specs.Prelude.{◌≡◌, ℕ, ⊤, List, slice_get, Some}
-use Rattle.sb_statements.specs.declared.scripts.Script.{Script}
-use Rattle.sb_turn.specs.Turns.{SeatValue}
-use Rattle.sb_task.specs.Fields.{FieldAt, IsField}
-use Rattle.sb_task.specs.Hands.{HandAt, IsHand, IsSameBook, IsSameHand}
-use Rattle.sb_run.specs.Pairing.{AllPairs}
-use Rattle.sb_run.specs.Returns.{HasServed}
-use Rattle.sb_task.specs.Tasks.{EndAt, IsEndOf, IsRunner, IsTask, TaskAt}
-use Rattle.sb_run.specs.declared.promises.HandHost.{HandHost}
-use Rattle.sb_run.specs.declared.promises.HandHost.TheVariants as hand
-use Rattle.sb_run.specs.declared.promises.TaskHost.{TaskHost}
-use Rattle.sb_run.specs.declared.promises.TaskHost.TheVariants as task
+use Rattle.std.specs.Prelude.{◌≡◌, ⊤, List, []}
+use Rattle.std.specs.List.{All, AllZip}
+use Rattle.sb_shared.specs.Closing.{IsThreadSeat}
+use Rattle.sb_shared.specs.Seats.{KeeperValue, ThreadSeatValue}
+use Rattle.sb_task.specs.Contexts.{ContextAt, IsContext}
+use Rattle.sb_task.specs.Servers.{IsSameServer, IsServer, ServerAt}
+use Rattle.sb_task.specs.Threads.{HasEnded, IsSameThread}
+use Rattle.sb_run.specs.declared.promises.ServerHost.{ServerHost}
+use Rattle.sb_run.specs.declared.promises.ServerHost.TheVariants as server
+use Rattle.sb_run.specs.declared.promises.ThreadHost.{ThreadHost}
+use Rattle.sb_run.specs.declared.promises.ThreadHost.TheVariants as thread
 
--- a task that was started, with its script
-pub record StartedAt : Type 0 where
-  pub script : Script
-  pub task : TaskAt
+-- a thread of the scope makes the steps of this seat's thread, or the caller does
+abbrev pub IsThreadHostOf : ThreadSeatValue → ThreadHost → Type 0
+IsThreadHostOf x (thread.Thread h) = h.promise.seat.value ≡ x
+IsThreadHostOf x (thread.Caller y) = IsSameThread x y
 
-abbrev pub started_of : Script → TaskAt → StartedAt
-started_of script x = record { script = script; task = x }
+-- a thread of the scope serves with this seat, or the caller does
+abbrev pub IsServerHostOf : ServerAt → ServerHost → Type 0
+IsServerHostOf x (server.Thread h) = h.promise.server.value ≡ x
+IsServerHostOf x (server.Caller y) = IsSameServer x y
+IsServerHostOf x server.Stopped = ⊤
 
--- a thread runs this task, the caller makes its steps, or it has ended
-abbrev pub IsHostOf : Script → TaskAt → TaskHost → Type 0
-IsHostOf script x (task.Thread h) = (h.promise.script.value ≡ script) × (h.promise.task.value ≡ x)
-IsHostOf script x (task.Caller r) = IsRunner script x r
-IsHostOf script x (task.Ended e) = IsEndOf script x e
+-- the caller's seat is of the shared world, and has no part of it
+pub record IsKeeperOf (x : ContextAt) (k : KeeperValue) : Type 0 where
+  pub own : k.table ≡ x.world.table
+  pub key : k.key ≡ x.world.key
+  pub none : k.parts ≡ []
 
--- a thread serves with these seats, or the caller does
-abbrev pub IsHandHostOf : HandAt → HandHost → Type 0
-IsHandHostOf x (hand.Thread h) = h.promise.hand.value ≡ x
-IsHandHostOf x (hand.Caller y) = HasServed x y
-IsHandHostOf x hand.Stopped = ⊤
+-- a run can begin
+pub record CanRun (x : ContextAt) (threads : List ThreadSeatValue) (servers : List ServerAt) (keeper : KeeperValue) : Type 0 where
+  pub context : IsContext x
+  pub its_threads : All (IsThreadSeat x.world) threads
+  pub its_servers : All (IsServer x) servers
+  pub its_keeper : IsKeeperOf x keeper
 
--- what a started task gives back
-abbrev pub EndsAs : StartedAt → EndAt → Type 0
-EndsAs s e = IsEndOf s.script s.task e
-
--- each can be started
-abbrev pub AreTasks : FieldAt → List TaskAt → Type 0
-AreTasks x tasks = (k : ℕ) (task : TaskAt) → slice_get tasks k ≡ Some task → IsTask x.script x.sections x.turn task
-
-abbrev pub AreTasksOfTargets : FieldAt → List (List TaskAt) → Type 0
-AreTasksOfTargets x targets = (t : ℕ) (tasks : List TaskAt) → slice_get targets t ≡ Some tasks → AreTasks x tasks
-
-abbrev pub AreHands : FieldAt → List HandAt → Type 0
-AreHands x hands = (n : ℕ) (h : HandAt) → slice_get hands n ≡ Some h → IsHand x h
-
--- a run can begin: the actors share what is as it should be, each task and each hand can be started, and the caller's seat is of this turn
-pub record CanRun (x : FieldAt) (targets : List (List TaskAt)) (hands : List HandAt) (book : SeatValue) : Type 0 where
-  pub field : IsField x
-  pub tasks : AreTasksOfTargets x targets
-  pub its_hands : AreHands x hands
-  pub turned : book.table ≡ x.turn.table
-
--- it has ended: each task gave back its results and seats, each hand its seats, with which sections could be served on, and the caller's seat is what it was
-pub record HasRun (x : FieldAt) (targets : List (List TaskAt)) (hands : List HandAt) (book : SeatValue) (results : List (List EndAt)) (back : List HandAt) (seat : SeatValue) : Type 0 where
-  pub ended : AllPairs (AllPairs (IsEndOf x.script)) targets results
-  pub served : AllPairs IsSameHand hands back
-  pub still : AreHands x back
-  pub same_book : IsSameBook book seat
+-- it has ended: each thread has, the seats of the pool are what they were, and the caller's seat is still of the world
+pub record HasRun (x : ContextAt) (threads : List ThreadSeatValue) (servers : List ServerAt) (ended : List ThreadSeatValue) (back : List ServerAt) (keeper : KeeperValue) : Type 0 where
+  pub all_ended : AllZip HasEnded threads ended
+  pub served : AllZip IsSameServer servers back
+  pub its_keeper : IsKeeperOf x keeper

@@ -1,12 +1,5 @@
-pub mod Closings
 pub mod Crews
-pub mod Dealings
 pub mod Endings
-pub mod Gathering
 pub mod Openings
-pub mod Pairing
 pub mod Pooling
 pub mod Returns
-pub mod Starts
-pub mod Supplies
-pub mod Turning

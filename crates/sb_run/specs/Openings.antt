@@ -1,35 +1,32 @@
--- The sections of a run before the first step, with their seats.
-use Rattle.std.specs.Prelude.{◌≡◌, ℕ, List, slice_get, Some}
-use Rattle.sb_actor.specs.Places.{clean_channels}
-use Rattle.sb_section.specs.Seats.{AreStraySeats, AreThreadSeats, SectionValue, StraySeatValue, ThreadSeatValue, WorkerSeatValue, opened_worker}
-use Rattle.sb_statements.specs.Actors.{thread_count}
+-- A run before its first step.
+use Rattle.std.specs.Prelude.{◌≡◌, ◌<◌, List, [], ◌∷◌, ◌++◌, length, map}
+use Rattle.sb_pool.specs.Pools.{AreSeats, PoolValue}
+use Rattle.sb_rule.specs.declared.policies.Policy.{Policy}
+use Rattle.sb_shared.specs.Opening.{target_places, thread_places}
+use Rattle.sb_shared.specs.Seats.{KeeperValue, SharedValue, ThreadSeatValue, WorkerSeatValue, fresh_keeper, fresh_thread, fresh_worker}
 use Rattle.sb_statements.specs.declared.scripts.Script.{Script}
-use Rattle.sb_run.specs.Pairing.{AllPairs}
+use Rattle.sb_task.specs.Servers.{ServerAt}
+use Rattle.sb_task.specs.Works.{home_of}
 
--- each is that of its place, with the clean channels that the script leaves it
-abbrev pub AreInOrder : Script → List SectionValue → Type 0
-AreInOrder script sections = (t : ℕ) (s : SectionValue) → slice_get sections t ≡ Some s → (s.target ≡ t) × (s.clean ≡ clean_channels script t)
-
--- the worker's seat of a section that has made seats for the target's threads, and this number of stray ones
-abbrev pub IsWorkerOf : Script → ℕ → SectionValue → WorkerSeatValue → Type 0
-IsWorkerOf script strays s w = (w.table ≡ s.table) × (w.view ≡ opened_worker s.clean (thread_count (slice_get script.targets s.target)) strays)
-
--- these
-abbrev pub AreThreadsIn : Script → SectionValue → List ThreadSeatValue → Type 0
-AreThreadsIn script s seats = AreThreadSeats s.table s.clean (thread_count (slice_get script.targets s.target)) seats
-
-abbrev pub AreStraysIn : ℕ → SectionValue → List StraySeatValue → Type 0
-AreStraysIn strays s seats = AreStraySeats s.table s.clean strays seats
-
--- the sections of all targets, and the seats of each
+-- the shared world, the seats of all threads, the pool, and the seats of those who serve, with the one that takes them in
 pub record OpenedAt : Type 0 where
-  pub sections : List SectionValue
-  pub workers : List WorkerSeatValue
-  pub threads : List (List ThreadSeatValue)
-  pub strays : List (List StraySeatValue)
+  pub world : SharedValue
+  pub keeper : KeeperValue
+  pub threads : List ThreadSeatValue
+  pub pool : PoolValue
+  pub servers : List ServerAt
+  pub last : ServerAt
 
-pub record IsOpened (script : Script) (count : ℕ) (x : OpenedAt) : Type 0 where
-  pub order : AreInOrder script x.sections
-  pub its_workers : AllPairs (IsWorkerOf script count) x.sections x.workers
-  pub its_threads : AllPairs (AreThreadsIn script) x.sections x.threads
-  pub its_strays : AllPairs (AreStraysIn count) x.sections x.strays
+-- where the seats of all workers are at home
+abbrev pub worker_homes : SharedValue → List WorkerSeatValue
+worker_homes world = map home_of (map (fresh_worker world.table world.key) (target_places world.key.script.value.targets))
+
+-- The world is that of the script under these policies, with a fresh seat for each thread, by target and then by number. The pool has the fresh seats of
+-- all workers, and some serve
+pub record IsOpened (policies : List Policy) (script : Script) (x : OpenedAt) : Type 0 where
+  pub policies_are : x.world.key.policies.value.list ≡ policies
+  pub script_is : x.world.key.script.value ≡ script
+  pub its_keeper : x.keeper ≡ fresh_keeper x.world.table x.world.key
+  pub its_threads : x.threads ≡ map (fresh_thread x.world.table x.world.key) (thread_places x.world.key.script.value.targets)
+  pub some : 0 < length x.servers
+  pub seats : AreSeats x.pool (worker_homes x.world) (x.servers ++ x.last ∷ [])

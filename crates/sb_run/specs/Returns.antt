@@ -1,25 +1,21 @@
 -- What a thread of a run gives back to the one that started it.
-use Rattle.std.specs.Prelude.{◌≡◌, ⊤, length}
-use Rattle.sb_statements.specs.declared.scripts.Script.{Script}
-use Rattle.sb_task.specs.Hands.{HandAt, IsSameHand}
-use Rattle.sb_task.specs.Tasks.{IsEndOf, TaskAt}
-use Rattle.sb_run.specs.declared.returns.HandReturn.{HandReturn}
-use Rattle.sb_run.specs.declared.returns.HandReturn.TheVariants as hand
-use Rattle.sb_run.specs.declared.returns.TaskReturn.{TaskReturn}
-use Rattle.sb_run.specs.declared.returns.TaskReturn.TheVariants as task
+use Rattle.std.specs.Prelude.{◌≡◌, ⊤}
+use Rattle.sb_shared.specs.Seats.{ThreadSeatValue}
+use Rattle.sb_task.specs.Servers.{IsSameServer, ServerAt}
+use Rattle.sb_task.specs.Threads.{HasEnded}
+use Rattle.sb_run.specs.declared.returns.ServerReturn.{ServerReturn}
+use Rattle.sb_run.specs.declared.returns.ServerReturn.TheVariants as server
+use Rattle.sb_run.specs.declared.returns.ThreadReturn.{ThreadReturn}
+use Rattle.sb_run.specs.declared.returns.ThreadReturn.TheVariants as thread
 
--- a hand after it served, with as many rooms
-abbrev pub HasServed : HandAt → HandAt → Type 0
-HasServed old new = IsSameHand old new × (length new.pool.rooms ≡ length old.pool.rooms)
+-- the thread of a seat ended, came back without a step, or was stopped since memory ran out
+abbrev pub IsThreadReturn : ThreadSeatValue → ThreadReturn → Type 0
+IsThreadReturn x (thread.Ended y) = HasEnded x y
+IsThreadReturn x (thread.Back y) = y ≡ x
+IsThreadReturn x thread.Stopped = ⊤
 
--- the thread of a task ended, came back without a step, or was stopped since memory ran out
-abbrev pub IsTaskReturn : Script → TaskAt → TaskReturn → Type 0
-IsTaskReturn script x (task.Ended e) = IsEndOf script x e
-IsTaskReturn script x (task.Back y) = y ≡ x
-IsTaskReturn script x task.Stopped = ⊤
-
--- and one that serves sections
-abbrev pub IsHandReturn : HandAt → HandReturn → Type 0
-IsHandReturn x (hand.Ended y) = HasServed x y
-IsHandReturn x (hand.Back y) = y ≡ x
-IsHandReturn x hand.Stopped = ⊤
+-- and one that serves targets
+abbrev pub IsServerReturn : ServerAt → ServerReturn → Type 0
+IsServerReturn x (server.Ended y) = IsSameServer x y
+IsServerReturn x (server.Back y) = y ≡ x
+IsServerReturn x server.Stopped = ⊤

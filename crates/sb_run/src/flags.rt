@@ -1,7 +1,6 @@
-// The flags by which those come back whose threads could not be started: one for each, set by the caller alone.
+// The flags by which seats come back whose threads could not be started: one for each, set by the caller alone.
 
 use sb_items::NoMemory;
-use sb_task::{Hand, Task};
 use std::alloc::Global;
 use std::sync::atomic::AtomicBool;
 
@@ -25,22 +24,13 @@ impl<'e> Flags<'e> {
     }
 }
 
-/// A flag for each task and each pair of seats, none of them set.
+/// The given number of flags, none of them set.
 ///
 /// # Errors
-/// `NoMemory` where there was none for them.
-pub(crate) fn make_flags(
-    alloc: Global,
-    targets: &[Vec<Task>],
-    hands: &[Hand],
-) -> Result<Vec<AtomicBool>, NoMemory> {
+/// `NoMemory` if there is none for them.
+pub(crate) fn make_flags(alloc: Global, count: usize) -> Result<Vec<AtomicBool>, NoMemory> {
     let mut flags = Vec::new(alloc);
-    for tasks in targets {
-        for _task in tasks.as_slice() {
-            flags.push(AtomicBool::new(false))?;
-        }
-    }
-    for _hand in hands {
+    for _flag in 0..count {
         flags.push(AtomicBool::new(false))?;
     }
     Ok(flags)

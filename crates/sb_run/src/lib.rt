@@ -1,13 +1,11 @@
-// A run on real threads: each thread and each worker makes its steps with seats of its own, so that any number of them may run beside
-// each other. What they did is told by the seats when all have come together again.
+// A run on real threads: each thread and each worker of the script makes its steps with a seat of its own in one shared world, so that any number of
+// them may run beside each other. At the end the world is closed, and the report is that of its steps in some order.
 #![tactic(auto)]
 
-mod closings;
 mod crews;
-mod dealings;
 mod endings;
 mod flags;
-mod gathering;
+mod groups;
 mod openings;
 mod pooling;
 mod promises;
@@ -15,11 +13,5 @@ mod returns;
 mod runs;
 mod spawning;
 mod started;
-mod starts;
-mod supplies;
-mod teams;
-mod turning;
 
 pub use runs::run_threads;
-// The actors that make the steps are part of what this crate shows.
-pub use sb_task::{ThreadActor, WorkerActor};

@@ -1,154 +1,125 @@
-// The start of a run: a section for each target, with its seats.
-ghost use Rattle.std.specs.Prelude.{◌≡◌, ◌<◌, ◌≤◌, ◌+◌, length, true, slice_get, IfOk, OnOk};
-ghost use Rattle.sb_actor.specs.Places.{clean_channels, clean_upto};
-ghost use Rattle.sb_section.specs.Seats.{AreStraySeats, AreThreadSeats, opened_worker};
-ghost use Rattle.sb_statements.specs.Actors.{thread_count};
-ghost use Rattle.sb_statements.specs.Soundness.{channels_of, is_sound};
+// A run before its first step.
+ghost use Rattle.std.specs.Prelude.{◌≡◌, ◌<◌, ◌≤◌, ◌++◌, ◌∷◌, [], true, length, map, IfOk};
+ghost use Rattle.std.specs.List.{All};
+ghost use Rattle.sb_actor.specs.WorkerTable.{is_looking};
+ghost use Rattle.sb_book.specs.Readiness.{is_ready};
+ghost use Rattle.sb_pool.specs.Pools.{AreNumbered, AreSeats};
 ghost use Rattle.sb_run.specs.Openings.{IsOpened};
+ghost use Rattle.sb_task.specs.Works.{home_of, number_of};
 
 use sb_items::NoMemory;
-use sb_section::{Section, SectionParts, StraySeat, ThreadSeat, WorkerSeat};
-use sb_statements::{Script, clean, sound_parts};
+use sb_pool::Pool;
+use sb_rule::Policies;
+use sb_shared::{Keeper, SharedParts, SharedWorld, ThreadSeat, WorkerSeat};
+use sb_statements::Script;
+use sb_task::{Server, Work};
 use std::alloc::Global;
 use std::marker::Model;
+use std::sync::Wait;
 
-/// The sections of all targets, in target order, and the seats of each.
+/// A run before its first step: the shared world, the seat that takes in all others, the seats of the threads, and the pool that deals the seats of the
+/// workers, with the seats of those who serve and the one that takes these in.
 #[derive(Drop)]
 pub(crate) struct Opened {
-    pub(crate) sections: Vec<Section>,
-    pub(crate) workers: Vec<WorkerSeat>,
-    pub(crate) threads: Vec<Vec<ThreadSeat>>,
-    pub(crate) strays: Vec<Vec<StraySeat>>,
+    pub(crate) world: SharedWorld,
+    pub(crate) keeper: Keeper,
+    pub(crate) threads: Vec<ThreadSeat>,
+    pub(crate) pool: Pool<Work>,
+    pub(crate) servers: Vec<Server>,
+    pub(crate) last: Server,
 }
 
 impl Model for Opened {
-    ghost use Rattle.std.specs.Prelude.{map};
     ghost use Rattle.sb_run.specs.Openings.{OpenedAt};
 
     ghost Value = { OpenedAt };
 
-    ghost view = { λ x. record { sections = x.sections.items; workers = x.workers.items; threads = map (λ v. v.items) x.threads.items; strays = map (λ v. v.items) x.strays.items } };
+    ghost view = { λ x. record { world = x.world; keeper = x.keeper; threads = x.threads.items; pool = x.pool; servers = x.servers.items; last = x.last } };
 }
 
-/// How many channels a target has: 1 to 8.
-#[tactic(auto, using(crate::proofs::Counted::some_channels))]
-pub(crate) fn channel_count(script: &Script, target: u32) -> u32
-    requires sound { is_sound script.now ≡ true }
-    requires there { target < length script.now.targets }
-    ensures count { result ≡ channels_of (slice_get script.now.targets target) }
+// The works of these seats.
+fn works_of(alloc: Global, seats: Vec<WorkerSeat>) -> Result<Vec<Work>, NoMemory>
+    requires { All (λ s. is_looking s.state.stage ≡ true) seats.items }
+    ensures { IfOk result (λ works. works.items ≡ seats.items) }
+{
+    let mut works = Vec::with_capacity(alloc, seats.len())?;
+    for seat in seats {
+        let work = Work::of(seat);
+        works.push(work)?;
+    }
+    Ok(works)
+}
+
+// The pool of the works, with the given number of seats and one more.
+fn open_pool<R: Wait>(
+    rt: &R,
+    alloc: Global,
+    works: Vec<Work>,
+    count: u32,
+) -> Result<(Pool<Work>, Vec<Server>, Server), NoMemory>
+    requires works { 0 < length works.items }
+    requires numbered { AreNumbered number_of works.items }
+    requires few { count ≤ 8 }
+    ensures size { IfOk result (λ made. made.0.size ≡ length works.items) }
+    ensures count { IfOk result (λ made. length made.1.items ≡ count) }
+    ensures seats { IfOk result (λ made. AreSeats made.0 (map home_of works.items) (made.1.items ++ made.2 ∷ [])) }
+{
+    let Ok((pool, seats)) = Pool::new(rt, alloc, works, count + 1) else {
+        return Err(NoMemory);
+    };
+    let mut seats = seats;
+    let Some(last) = seats.pop() else {
+        unreachable!()
+    };
+    Ok((pool, seats, last))
+}
+
+// How many serve: no more than there are targets.
+fn server_count(script: &Script, workers: u32) -> u32
+    requires some { (1 ≤ workers) × (workers ≤ 8) }
+    requires targets { 0 < length script.now.targets }
     ensures some { 0 < result }
     ensures few { result ≤ 8 }
 {
-    sound_parts();
-    script.targets.as_slice()[target as usize].channels
-}
-
-/// How many threads a target has: at most 4.
-#[tactic(auto, using(crate::proofs::Counted::few_threads))]
-pub(crate) fn thread_count(script: &Script, target: u32) -> u32
-    requires sound { is_sound script.now ≡ true }
-    requires there { target < length script.now.targets }
-    ensures count { result ≡ thread_count (slice_get script.now.targets target) }
-    ensures few { result ≤ 4 }
-{
-    sound_parts();
-    script.targets.as_slice()[target as usize].threads.len() as u32
-}
-
-// Whether each of the first channels of a target, up to this number, is clean.
-#[tactic(auto, using(crate::proofs::Opening::clean_more))]
-fn clean_marks_of(
-    alloc: Global,
-    script: &Script,
-    target: u32,
-    channels: u32,
-) -> Result<Vec<bool>, NoMemory>
-    ensures { IfOk result (λ v. v.items ≡ clean_upto script.now target channels) }
-{
-    let mut marks = Vec::new(alloc);
-    for channel in 0..channels {
-        marks.push(clean(script, target, channel))?;
+    let targets = script.targets.len();
+    if targets < workers as usize {
+        targets as u32
+    } else {
+        workers
     }
-    Ok(marks)
 }
 
-// The section of a target, with seats for its threads and this number of stray ones.
-#[tactic(auto, using(crate::proofs::Opening::clean_length))]
-fn open_section(
-    alloc: Global,
-    script: &Script,
-    target: u32,
-    strays: u32,
-) -> Result<SectionParts, NoMemory>
-    requires sound { is_sound script.now ≡ true }
-    requires there { target < length script.now.targets }
-    ensures section { IfOk result (λ p. (p.section.target ≡ target) × (p.section.clean ≡ clean_channels script.now target)) }
-    ensures worker { IfOk result (λ p. (p.worker.table ≡ p.section.table) × (p.worker.view ≡ opened_worker (clean_channels script.now target) (thread_count (slice_get script.now.targets target)) strays)) }
-    ensures threads { IfOk result (λ p. AreThreadSeats p.section.table (clean_channels script.now target) (thread_count (slice_get script.now.targets target)) p.threads.items) }
-    ensures strays { IfOk result (λ p. AreStraySeats p.section.table (clean_channels script.now target) strays p.strays.items) }
-{
-    let channels = channel_count(script, target);
-    let marks = clean_marks_of(alloc, script, target, channels)?;
-    let threads = thread_count(script, target);
-    Section::new(alloc, target, marks.as_slice(), threads, strays)
-}
-
-/// How many targets a sound script has: at most 8.
-#[tactic(auto, using(crate::proofs::Counted::few_targets))]
-pub(crate) fn target_count(script: &Script) -> u32
-    requires { is_sound script.now ≡ true }
-    ensures count { result ≡ length script.now.targets }
-    ensures few { result ≤ 8 }
-{
-    script.targets.len() as u32
-}
-
-// Opens the section of the next target.
-fn open_next(
-    alloc: Global,
-    script: &Script,
-    target: u32,
-    strays: u32,
-    opened: &mut Opened,
-) -> Result<(), NoMemory>
-    requires sound { is_sound script.now ≡ true }
-    requires there { target < length script.now.targets }
-    requires next { length opened.old.sections ≡ target }
-    requires opened { IsOpened script.now strays opened.old }
-    ensures opened { OnOk result (IsOpened script.now strays opened.new) }
-    ensures next { OnOk result (length opened.new.sections ≡ target + 1) }
-{
-    let SectionParts {
-        section,
-        worker,
-        threads,
-        strays,
-    } = open_section(alloc, script, target, strays)?;
-    opened.sections.push(section)?;
-    opened.workers.push(worker)?;
-    opened.threads.push(threads)?;
-    opened.strays.push(strays)?;
-    Ok(())
-}
-
-/// The sections of all targets of a script, each with a seat for each thread of the target and this number of stray ones.
+/// A run of a script under its policies before its first step, with at most this number of those who serve: 1 to 8.
 ///
 /// # Errors
-/// `NoMemory` where there was none for them.
-#[tactic(auto, using(crate::proofs::Opening::opened_none))]
-pub(crate) fn open_sections(alloc: Global, script: &Script, strays: u32) -> Result<Opened, NoMemory>
-    requires { is_sound script.now ≡ true }
-    ensures opened { IfOk result (λ x. IsOpened script.now strays x) }
-    ensures count { IfOk result (λ x. length x.sections ≡ length script.now.targets) }
+/// `NoMemory` if there is none for the shared world, the pool or the lists of seats.
+pub(crate) fn open_run<R: Wait>(
+    rt: &R,
+    alloc: Global,
+    policies: &Policies,
+    script: &Script,
+    workers: u32,
+) -> Result<Opened, NoMemory>
+    requires workers { (1 ≤ workers) × (workers ≤ 8) }
+    requires ready { is_ready policies.now.list script.now ≡ true }
+    requires some { 0 < length script.now.targets }
+    ensures { IfOk result (λ x. IsOpened policies.now.list script.now x) }
 {
-    let mut opened = Opened {
-        sections: Vec::new(alloc),
-        workers: Vec::new(alloc),
-        threads: Vec::new(alloc),
-        strays: Vec::new(alloc),
-    };
-    for target in 0..target_count(script) {
-        open_next(alloc, script, target, strays, &mut opened)?;
-    }
-    Ok(opened)
+    let parts = SharedWorld::open(alloc, policies, script)?;
+    let SharedParts {
+        world,
+        keeper,
+        workers: seats,
+        threads,
+    } = parts;
+    let works = works_of(alloc, seats)?;
+    let (pool, servers, last) = open_pool(rt, alloc, works, server_count(script, workers))?;
+    Ok(Opened {
+        world,
+        keeper,
+        threads,
+        pool,
+        servers,
+        last,
+    })
 }

@@ -1,44 +1,41 @@
 // The end of a run: the seats of the pool come together again, and the pool is closed.
-ghost use Rattle.std.specs.Prelude.{◌≡◌, [], map};
-ghost use Rattle.sb_pool.specs.Pools.{AreNumbered, IsSeatOf, seen};
-ghost use Rattle.sb_run.specs.Pooling.{AreAllPoolSeats, AreIdle, ArePoolSeats, with_seats};
+ghost use Rattle.std.specs.Prelude.{◌≡◌, ◌<◌, ◌++◌, ◌∷◌, [], length, map};
+ghost use Rattle.std.specs.List.{All};
+ghost use Rattle.sb_pool.specs.Pools.{AreNumbered, AreSeats, IsSeatOf, seen};
+ghost use Rattle.sb_run.specs.Pooling.{with_seats};
 ghost use Rattle.sb_task.specs.Works.{home_of, number_of};
 
-use sb_pool::{Pool, PoolSeat};
-use sb_task::Work;
+use sb_pool::Pool;
+use sb_task::{Server, Work};
 use std::sync::Wait;
 
 // A seat takes in others, in order.
 #[tactic(auto, using(crate::proofs::Pooled::seats_more))]
-fn take_seats(pool: &Pool<Work>, mine: &mut PoolSeat<Work>, others: Vec<PoolSeat<Work>>)
-    requires own { IsSeatOf pool.now mine.old }
-    requires others { ArePoolSeats pool.now others.items }
-    requires idle { AreIdle others.items }
-    ensures own { IsSeatOf pool.now mine.new }
-    ensures view { seen mine.new ≡ with_seats (seen mine.old) others.items }
+fn take_seats(pool: &Pool<Work>, last: &mut Server, others: Vec<Server>)
+    requires own { IsSeatOf pool.now last.old }
+    requires others { All (IsSeatOf pool.now) others.items }
+    requires idle { All (λ s. (seen s).out ≡ []) others.items }
+    ensures own { IsSeatOf pool.now last.new }
+    ensures view { seen last.new ≡ with_seats (seen last.old) others.items }
 {
     for seat in others {
-        mine.join(pool, seat);
+        last.join(pool, seat);
     }
 }
 
-/// The works by number, once this seat has taken in all others, and no work is out. Each is tied to what it was tied to. It takes no
-/// memory.
+/// The works by number, once this seat, the last one, has taken in all others. Each is at home where it was. It allocates nothing.
 pub(crate) fn close_pool<R: Wait>(
     rt: &R,
     pool: Pool<Work>,
-    mine: PoolSeat<Work>,
-    others: Vec<PoolSeat<Work>>,
+    last: Server,
+    others: Vec<Server>,
 ) -> Vec<Work>
-    requires own { IsSeatOf pool mine }
-    requires none { (seen mine).out ≡ [] }
-    requires others { ArePoolSeats pool others.items }
-    requires idle { AreIdle others.items }
-    requires all { AreAllPoolSeats (seen mine) others.items }
+    requires seats { AreSeats pool (seen last).homes (others.items ++ last ∷ []) }
+    requires some { 0 < length others.items }
     ensures numbered { AreNumbered number_of result.items }
-    ensures homes { map home_of result.items ≡ (seen mine).homes }
+    ensures homes { map home_of result.items ≡ (seen last).homes }
 {
-    let mut mine = mine;
-    take_seats(&pool, &mut mine, others);
-    pool.close(rt, mine)
+    let mut last = last;
+    take_seats(&pool, &mut last, others);
+    pool.close(rt, last)
 }

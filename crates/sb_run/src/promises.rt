@@ -1,54 +1,51 @@
-// What is promised of a thread that is started, by which it is known what its join gives.
+// What is promised of a thread that is started, by which it is known what its join returns.
 
-use crate::returns::{HandReturn, TaskReturn};
-use sb_statements::Script;
-use sb_task::{Ended, Hand, Runner, Task};
+use crate::returns::{ServerReturn, ThreadReturn};
+use sb_shared::ThreadSeat;
+use sb_task::Server;
 use std::snapshot::Snapshot;
 use std::thread::{Promise, PromisedHandle};
 
-/// The thread returns what the thread of this task of this script may return.
+/// The thread returns what running the thread of this seat may return.
 #[derive(Drop)]
-pub(crate) struct TaskPromise {
-    pub(crate) script: Snapshot<Script>,
-    pub(crate) task: Snapshot<Task>,
+pub(crate) struct ThreadPromise {
+    pub(crate) seat: Snapshot<ThreadSeat>,
 }
 
-impl Promise<TaskReturn> for TaskPromise {
-    ghost use Rattle.sb_run.specs.Returns.{IsTaskReturn};
+impl Promise<ThreadReturn> for ThreadPromise {
+    ghost use Rattle.sb_run.specs.Returns.{IsThreadReturn};
 
-    ghost kept_by = { λ p r. IsTaskReturn p.script.value p.task.value r };
+    ghost kept_by = { λ p r. IsThreadReturn p.seat.value r };
 }
 
-/// The thread returns with these seats.
+/// The thread returns with this seat of the pool.
 #[derive(Drop)]
-pub(crate) struct HandPromise {
-    pub(crate) hand: Snapshot<Hand>,
+pub(crate) struct ServerPromise {
+    pub(crate) server: Snapshot<Server>,
 }
 
-impl Promise<HandReturn> for HandPromise {
-    ghost use Rattle.sb_run.specs.Returns.{IsHandReturn};
+impl Promise<ServerReturn> for ServerPromise {
+    ghost use Rattle.sb_run.specs.Returns.{IsServerReturn};
 
-    ghost kept_by = { λ p r. IsHandReturn p.hand.value r };
+    ghost kept_by = { λ p r. IsServerReturn p.server.value r };
 }
 
-/// Who makes the steps of a task.
+/// Who makes the steps of a thread of the script.
 #[derive(Drop)]
-pub(crate) enum TaskHost<'a> {
+pub(crate) enum ThreadHost {
     /// A thread of the scope.
-    Thread(PromisedHandle<TaskReturn, TaskPromise>),
+    Thread(PromisedHandle<ThreadReturn, ThreadPromise>),
     /// The caller.
-    Caller(Runner<'a>),
-    /// Nobody: it has ended.
-    Ended(Ended),
+    Caller(ThreadSeat),
 }
 
-/// Who serves sections with a pair of seats.
+/// Who serves targets with a seat of the pool.
 #[derive(Drop)]
-pub(crate) enum HandHost {
+pub(crate) enum ServerHost {
     /// A thread of the scope.
-    Thread(PromisedHandle<HandReturn, HandPromise>),
+    Thread(PromisedHandle<ServerReturn, ServerPromise>),
     /// The caller.
-    Caller(Hand),
-    /// Nobody: there was no memory.
+    Caller(Server),
+    /// Nobody: memory ran out.
     Stopped,
 }

@@ -1,25 +1,26 @@
 // What a thread gives back to the one that started it.
 
-use sb_task::{Ended, Hand, Task};
+use sb_shared::ThreadSeat;
+use sb_task::Server;
 
-/// What the thread of a task gives back.
+/// What a thread gives back that runs a thread of the script.
 #[derive(Drop)]
-pub(crate) enum TaskReturn {
-    /// The thread has ended.
-    Ended(Ended),
-    /// It could not be started: the task comes back, without a step.
-    Back(Task),
-    /// There was no memory, here or elsewhere.
+pub(crate) enum ThreadReturn {
+    /// Each statement has ended.
+    Ended(ThreadSeat),
+    /// The thread could not be started, and has made no step.
+    Back(ThreadSeat),
+    /// Memory ran out, here or elsewhere.
     Stopped,
 }
 
-/// What a thread gives back that was to serve sections.
+/// What a thread gives back that serves targets.
 #[derive(Drop)]
-pub(crate) enum HandReturn {
+pub(crate) enum ServerReturn {
     /// It served until the stop word was set.
-    Ended(Hand),
-    /// It could not be started, and has served nothing.
-    Back(Hand),
-    /// There was no memory.
+    Ended(Server),
+    /// The thread could not be started, and has served nothing.
+    Back(Server),
+    /// Memory ran out.
     Stopped,
 }

@@ -1,26 +1,34 @@
 // A run on real threads, from its start to its report.
-ghost use Rattle.std.specs.Prelude.{◌≡◌, ◌<◌, ◌≤◌, true, length, IfOk};
+ghost use Rattle.std.specs.Prelude.{◌≡◌, ◌<◌, ◌≤◌, [], true, length, IfOk};
 ghost use Rattle.sb_book.specs.Histories.{setting_of};
 ghost use Rattle.sb_book.specs.Readiness.{is_ready};
-ghost use Rattle.sb_core.specs.Fits.{Fits};
-ghost use Rattle.sb_core.specs.Origins.{IsSourced};
-ghost use Rattle.sb_core.specs.Tallies.{AreFew};
+ghost use Rattle.sb_core.specs.Runs.{IsSomeRun};
 
 use crate::crews::run_crew;
-use crate::endings::{end_run, report_of};
-use crate::starts::{Start, open_run};
-use crossbeam_utils::CachePadded;
-use sb_book::{Book, Report};
+use crate::endings::end_run;
+use crate::openings::{Opened, open_run};
+use sb_book::Report;
+use sb_core::run;
 use sb_items::{Items, NoMemory};
 use sb_outside::Gate;
 use sb_rule::{Judge, Policies};
-use sb_statements::Script;
-use sb_task::Field;
+use sb_statements::{Schedule, Script};
+use sb_task::RunContext;
 use std::alloc::Global;
 use std::sync::Wait;
 use std::thread::Threads;
 
-// The report of a script without targets: no thread runs, and nothing is served.
+// The schedule without steps.
+fn no_steps(alloc: Global) -> Schedule
+    ensures { result ≡ record { steps = []; rounds = 0 } }
+{
+    Schedule {
+        steps: Items::none(alloc),
+        rounds: 0,
+    }
+}
+
+// The report of a script without targets: there is no step to make.
 fn run_no_target<J: Judge>(
     alloc: Global,
     judge: &J,
@@ -30,22 +38,11 @@ fn run_no_target<J: Judge>(
     requires ready { is_ready policies.now.list script.now ≡ true }
     requires none { length script.now.targets ≡ 0 }
     requires judge { J.policies judge.now ≡ (setting_of policies.now.list script.now).policies }
-    ensures fits { IfOk result (λ r. Fits policies.now.list script.now r) }
-    ensures sourced { IfOk result (λ r. IsSourced script.now r) }
-    ensures few { IfOk result (λ r. AreFew script.now r) }
+    ensures run { IfOk result (λ r. IsSomeRun policies.now.list script.now r) }
 {
-    let book = Book::new(alloc, policies, script)?;
-    book.is_legal();
-    report_of(
-        alloc,
-        judge,
-        policies,
-        script,
-        Items::none(alloc),
-        Vec::new(alloc),
-        book,
-        Items::none(alloc),
-    )
+    let schedule = no_steps(alloc);
+    let ran = run(alloc, judge, policies, script, &schedule)?;
+    Ok(ran.report)
 }
 
 // The run of a script with some target.
@@ -62,55 +59,39 @@ fn run_targets<R: Threads + Wait + Sync, J: Judge, G: Gate>(
     requires ready { is_ready policies.now.list script.now ≡ true }
     requires some { 0 < length script.now.targets }
     requires judge { J.policies judge.now ≡ (setting_of policies.now.list script.now).policies }
-    ensures fits { IfOk result (λ r. Fits policies.now.list script.now r) }
-    ensures sourced { IfOk result (λ r. IsSourced script.now r) }
-    ensures few { IfOk result (λ r. AreFew script.now r) }
+    ensures run { IfOk result (λ r. IsSomeRun policies.now.list script.now r) }
 {
-    let start = open_run(rt, alloc, policies, script, workers)?;
-    let Start {
-        sections,
-        turn,
+    let opened = open_run(rt, alloc, policies, script, workers)?;
+    let Opened {
+        world,
+        keeper,
+        threads,
         pool,
-        tasks,
-        hands,
-        seat,
-        book,
-    } = start;
-    let turn = CachePadded::new(turn);
-    let field = Field {
+        servers,
+        last,
+    } = opened;
+    let context = RunContext {
         judge,
         gate,
         script,
-        sections: &sections,
-        turn: &turn,
+        world: &world,
         pool: &pool,
     };
-    let (ended, hands, book) = run_crew(rt, alloc, &field, tasks, hands, book)?;
+    let (ended, servers, keeper) = run_crew(rt, alloc, &context, threads, servers, keeper)?;
     end_run(
-        rt,
-        alloc,
-        judge,
-        policies,
-        script,
-        sections,
-        turn.into_inner(),
-        pool,
-        seat,
-        book,
-        ended,
-        hands,
+        rt, alloc, judge, script, world, keeper, ended, pool, servers, last,
     )
 }
 
-/// Runs a script on real threads: one for each thread of the script, and `workers` (1 to 8) that serve the sections of all targets in turn. The
-/// script is ready for the policies, and the judge judges each target by the policy that it names. The report fits the script whatever the order
-/// of the steps was.
+/// Runs a script on real threads: one for each thread of the script, and `workers` (1 to 8) that serve the targets in turn, but no more than there are
+/// targets. The script is ready for the policies, and the judge judges each target by the policy that it names. The report is that of the core for some
+/// order of steps in which no thread is left unfinished.
 ///
 /// A call that a worker judges passes the gate before the turn is tried; what is still ready once the threads of the script have ended is served
 /// without it. All threads have ended when this returns, since they are of one scope. No clause says this, or which threads there were.
 ///
 /// # Errors
-/// `NoMemory` where there was none for a thread, for the caller or for the report.
+/// `NoMemory` if there is none for a thread, for the caller or for the report.
 pub fn run_threads<R: Threads + Wait + Sync, J: Judge, G: Gate>(
     rt: &R,
     alloc: Global,
@@ -123,9 +104,7 @@ pub fn run_threads<R: Threads + Wait + Sync, J: Judge, G: Gate>(
     requires workers { (1 ≤ workers) × (workers ≤ 8) }
     requires ready { is_ready policies.now.list script.now ≡ true }
     requires judge { J.policies judge.now ≡ (setting_of policies.now.list script.now).policies }
-    ensures fits { IfOk result (λ r. Fits policies.now.list script.now r) }
-    ensures sourced { IfOk result (λ r. IsSourced script.now r) }
-    ensures few { IfOk result (λ r. AreFew script.now r) }
+    ensures run { IfOk result (λ r. IsSomeRun policies.now.list script.now r) }
 {
     if script.targets.len() == 0 {
         return run_no_target(alloc, judge, policies, script);

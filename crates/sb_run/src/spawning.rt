@@ -1,203 +1,187 @@
-// Starts the threads of a run. Each task, and each pair of seats with which sections are served, is started as a thread of a scope; where that is
-// refused the caller has it.
-ghost use Rattle.std.specs.Prelude.{◌≡◌, true, IfOk};
-ghost use Rattle.sb_statements.specs.Soundness.{is_sound};
-ghost use Rattle.sb_run.specs.Crews.{started_of};
-ghost use Rattle.sb_task.specs.Fields.{IsField};
-ghost use Rattle.sb_task.specs.Hands.{IsHand};
-ghost use Rattle.sb_run.specs.Returns.{IsHandReturn, IsTaskReturn};
-ghost use Rattle.sb_task.specs.Tasks.{IsTask};
-ghost use Rattle.sb_task.specs.ThreadActors.{AreSections};
+// Starts the threads of a run. Each thread of the script, and each seat of the pool with which targets are served, is started as a thread of a scope;
+// if that fails the caller has it.
+ghost use Rattle.std.specs.Prelude.{◌≡◌, IfOk};
+ghost use Rattle.sb_run.specs.Returns.{IsServerReturn, IsThreadReturn};
+ghost use Rattle.sb_task.specs.Contexts.{IsContext};
+ghost use Rattle.sb_shared.specs.Closing.{IsThreadSeat};
+ghost use Rattle.sb_task.specs.Servers.{IsServer};
 
-use crate::promises::{HandHost, HandPromise, TaskHost, TaskPromise};
-use crate::returns::{HandReturn, TaskReturn};
-use crate::started::{StartedHand, StartedTask};
+use crate::promises::{ServerHost, ServerPromise, ThreadHost, ThreadPromise};
+use crate::returns::{ServerReturn, ThreadReturn};
+use crate::started::{StartedServer, StartedThread};
 use sb_items::NoMemory;
 use sb_outside::Gate;
 use sb_rule::Judge;
-use sb_section::Section;
+use sb_shared::{SharedWorld, ThreadSeat};
 use sb_statements::Script;
-use sb_task::{Field, Hand, Runner, Task, attend, run_task};
-use sb_turn::Turn;
+use sb_task::{RunContext, Server, attend, run_thread};
 use std::alloc::Global;
 use std::snapshot::Snapshot;
 use std::sync::Wait;
 use std::sync::atomic::{AtomicBool, AtomicU64, Ordering};
 use std::thread::{Scope, Threads};
 
-// Runs a task to its end, unless its flag says that its thread could not be started: then the task comes back. One task less is running.
+// Runs a thread of the script to its end, unless the flag says that its thread could not be started: then the seat comes back. One thread less is
+// running.
 fn run_or_return<R: Wait>(
     rt: &R,
-    alloc: Global,
+    world: &SharedWorld,
     script: &Script,
-    sections: &[Section],
-    turn: &Turn,
     refused: &AtomicBool,
     running: &AtomicU64,
-    task: Task,
-) -> TaskReturn
-    requires sound { is_sound script.now ≡ true }
-    requires sections { AreSections script.now sections.now }
-    requires task { IsTask script.now sections.now turn.now task }
-    ensures { IsTaskReturn script.now task result }
+    seat: ThreadSeat,
+) -> ThreadReturn
+    requires own { IsThreadSeat world.now seat }
+    requires script { script.now ≡ world.now.key.script.value }
+    ensures { IsThreadReturn seat result }
 {
     if refused.load(Ordering::SeqCst) {
         running.fetch_sub(1, Ordering::SeqCst);
-        return TaskReturn::Back(task);
+        return ThreadReturn::Back(seat);
     }
-    let outcome = run_task(rt, alloc, script, sections, turn, task);
+    let outcome = run_thread(rt, world, script, seat);
     running.fetch_sub(1, Ordering::SeqCst);
     match outcome {
-        Ok(ended) => TaskReturn::Ended(ended),
-        Err(_) => TaskReturn::Stopped,
+        Ok(ended) => ThreadReturn::Ended(ended),
+        Err(_) => ThreadReturn::Stopped,
     }
 }
 
-// A task that its thread or the caller gave back. Where it has made no step the caller makes its steps.
-fn host_of<'e, J: Judge, G: Gate>(
-    alloc: Global,
-    field: &Field<'e, J, G>,
-    first: Snapshot<Task>,
-    returned: TaskReturn,
-) -> Result<StartedTask<'e>, NoMemory>
-    requires task { IsTask field.now.script field.now.sections field.now.turn first.value }
-    requires returned { IsTaskReturn field.now.script first.value returned }
-    ensures { IfOk result (λ s. s ≡ started_of field.now.script first.value) }
+// A seat that came back: the caller makes the steps of its thread.
+fn thread_host(
+    first: Snapshot<ThreadSeat>,
+    returned: ThreadReturn,
+) -> Result<StartedThread, NoMemory>
+    requires { IsThreadReturn first.value returned }
+    ensures { IfOk result (λ s. s ≡ first.value) }
 {
-    field.establish_kept();
-    let host = match returned {
-        TaskReturn::Ended(ended) => TaskHost::Ended(ended),
-        TaskReturn::Back(task) => {
-            let (script, sections, turn) = (field.script, field.sections, field.turn);
-            TaskHost::Caller(Runner::new(alloc, script, sections, turn, task)?)
+    match returned {
+        ThreadReturn::Ended(seat) | ThreadReturn::Back(seat) => {
+            Ok(StartedThread::new(first, ThreadHost::Caller(seat)))
         }
-        TaskReturn::Stopped => return Err(NoMemory),
-    };
-    Ok(StartedTask::new(Snapshot::of(field.script), first, host))
+        ThreadReturn::Stopped => Err(NoMemory),
+    }
 }
 
-/// Starts the thread of a task. Where it is refused, or there is no flag for it, the caller makes the steps of the task.
+/// Starts the thread of a seat. If that fails, or there is no flag for it, the caller makes the steps.
 ///
 /// # Errors
-/// `NoMemory` where there was none for the results of a task that came back. Then the stop word is set.
-pub(crate) fn start_task<'s, 'e, J: Judge, G: Gate, R: Threads + Wait + Sync>(
+/// `NoMemory` if the thread was refused and memory ran out.
+pub(crate) fn start_thread<'s, 'e, J: Judge, G: Gate, R: Threads + Wait + Sync>(
     scope: &'s Scope<'s, &'e ()>,
     rt: &'e R,
-    alloc: Global,
-    field: &Field<'e, J, G>,
+    context: &RunContext<'e, J, G>,
     refused: Option<&'e AtomicBool>,
     running: &'e AtomicU64,
-    task: Task,
-) -> Result<StartedTask<'e>, NoMemory>
-    requires { IsTask field.now.script field.now.sections field.now.turn task }
-    ensures { IfOk result (λ s. s ≡ started_of field.now.script task) }
+    seat: ThreadSeat,
+) -> Result<StartedThread, NoMemory>
+    requires { IsThreadSeat context.now.world seat }
+    ensures { IfOk result (λ s. s ≡ seat) }
 {
-    field.establish_kept();
-    let first = Snapshot::of(&task);
+    context.establish_kept();
+    let first = Snapshot::of(&seat);
     let Some(refused) = refused else {
-        return host_of(alloc, field, first, TaskReturn::Back(task));
+        return thread_host(first, ThreadReturn::Back(seat));
     };
-    let (script, sections, turn) = (field.script, field.sections, field.turn);
-    let promise = TaskPromise {
-        script: Snapshot::of(script),
-        task: Snapshot::of(&task),
+    let (world, script) = (context.world, context.script);
+    let promise = ThreadPromise {
+        seat: Snapshot::of(&seat),
     };
     running.fetch_add(1, Ordering::SeqCst);
     match scope.spawn_with(
         promise,
-        move || -> TaskReturn
-            requires { (is_sound script.now ≡ true) × AreSections script.now sections.now × IsTask script.now sections.now turn.now task }
-            ensures { IsTaskReturn script.entry.now task result }
-        { run_or_return(rt, alloc, script, sections, turn, refused, running, task) },
+        move || -> ThreadReturn
+            requires { IsThreadSeat world.now seat × (script.now ≡ world.now.key.script.value) }
+            ensures { IsThreadReturn seat result }
+        { run_or_return(rt, world, script, refused, running, seat) },
     ) {
-        Ok(child) => Ok(StartedTask::new(Snapshot::of(script), first, TaskHost::Thread(child))),
+        Ok(child) => Ok(StartedThread::new(first, ThreadHost::Thread(child))),
         Err(back) => {
             refused.store(true, Ordering::SeqCst);
-            host_of(alloc, field, first, (back.value)())
+            thread_host(first, (back.value)())
         }
     }
 }
 
-// Serves sections until the stop word is set, unless the flag says that the thread could not be started: then the seats come back.
+// Serves targets until the stop word is set, unless the flag says that the thread could not be started: then the seat comes back.
 fn attend_or_return<J: Judge, G: Gate, R: Wait>(
     rt: &R,
     alloc: Global,
-    field: Field<'_, J, G>,
+    context: RunContext<'_, J, G>,
     refused: &AtomicBool,
-    hand: Hand,
-) -> HandReturn
-    requires { IsHand field hand }
-    ensures { IsHandReturn hand result }
+    server: Server,
+) -> ServerReturn
+    requires { IsServer context server }
+    ensures { IsServerReturn server result }
 {
     if refused.load(Ordering::SeqCst) {
-        return HandReturn::Back(hand);
+        return ServerReturn::Back(server);
     }
-    let mut hand = hand;
-    match attend(rt, alloc, &field, &mut hand) {
-        Ok(()) => HandReturn::Ended(hand),
-        Err(_) => HandReturn::Stopped,
+    let mut server = server;
+    match attend(rt, alloc, &context, &mut server) {
+        Ok(()) => ServerReturn::Ended(server),
+        Err(_) => ServerReturn::Stopped,
     }
 }
 
-// Who serves with seats that came back: the caller.
-fn hand_host_of(first: Snapshot<Hand>, returned: HandReturn) -> Result<StartedHand, NoMemory>
-    requires { IsHandReturn first.value returned }
-    ensures { IfOk result (λ h. h ≡ first.value) }
+// A seat of the pool that came back: the caller serves with it.
+fn server_host(first: Snapshot<Server>, returned: ServerReturn) -> Result<StartedServer, NoMemory>
+    requires { IsServerReturn first.value returned }
+    ensures { IfOk result (λ s. s ≡ first.value) }
 {
     match returned {
-        HandReturn::Ended(hand) | HandReturn::Back(hand) => {
-            Ok(StartedHand::new(first, HandHost::Caller(hand)))
+        ServerReturn::Ended(server) | ServerReturn::Back(server) => {
+            Ok(StartedServer::new(first, ServerHost::Caller(server)))
         }
-        HandReturn::Stopped => Err(NoMemory),
+        ServerReturn::Stopped => Err(NoMemory),
     }
 }
 
-/// Starts a thread that serves sections. Where it is refused, or there is no flag for it, the caller serves with its seats.
+/// Starts a thread that serves targets. If that fails, or there is no flag for it, the caller serves with its seat.
 ///
 /// # Errors
-/// `NoMemory` where the thread was refused and there was none.
-pub(crate) fn start_hand<'s, 'e, J: Judge, G: Gate, R: Threads + Wait + Sync>(
+/// `NoMemory` if the thread was refused and memory ran out.
+pub(crate) fn start_server<'s, 'e, J: Judge, G: Gate, R: Threads + Wait + Sync>(
     scope: &'s Scope<'s, &'e ()>,
     rt: &'e R,
     alloc: Global,
-    field: &Field<'e, J, G>,
+    context: &RunContext<'e, J, G>,
     refused: Option<&'e AtomicBool>,
-    hand: Hand,
-) -> Result<StartedHand, NoMemory>
-    requires { IsHand field.now hand }
-    ensures { IfOk result (λ h. h ≡ hand) }
+    server: Server,
+) -> Result<StartedServer, NoMemory>
+    requires { IsServer context.now server }
+    ensures { IfOk result (λ s. s ≡ server) }
 {
-    field.establish_kept();
-    let first = Snapshot::of(&hand);
+    context.establish_kept();
+    let first = Snapshot::of(&server);
     let Some(refused) = refused else {
-        return hand_host_of(first, HandReturn::Back(hand));
+        return server_host(first, ServerReturn::Back(server));
     };
-    let (judge, gate, script) = (field.judge, field.gate, field.script);
-    let (sections, turn, pool) = (field.sections, field.turn, field.pool);
-    let promise = HandPromise {
-        hand: Snapshot::of(&hand),
+    let (judge, gate, script) = (context.judge, context.gate, context.script);
+    let (world, pool) = (context.world, context.pool);
+    let promise = ServerPromise {
+        server: Snapshot::of(&server),
     };
     match scope.spawn_with(
         promise,
-        move || -> HandReturn
-            requires { IsField (record { script = script.now; sections = sections.now; turn = turn.now; pool = pool.now; policies = J.policies judge.now }) × IsHand (record { script = script.now; sections = sections.now; turn = turn.now; pool = pool.now; policies = J.policies judge.now }) hand }
-            ensures { IsHandReturn hand result }
+        move || -> ServerReturn
+            requires { IsContext (record { script = script.now; world = world.now; pool = pool.now; policies = J.policies judge.now }) × IsServer (record { script = script.now; world = world.now; pool = pool.now; policies = J.policies judge.now }) server }
+            ensures { IsServerReturn server result }
         {
-            let field = Field {
+            let context = RunContext {
                 judge,
                 gate,
                 script,
-                sections,
-                turn,
+                world,
                 pool,
             };
-            attend_or_return(rt, alloc, field, refused, hand)
+            attend_or_return(rt, alloc, context, refused, server)
         },
     ) {
-        Ok(child) => Ok(StartedHand::new(first, HandHost::Thread(child))),
+        Ok(child) => Ok(StartedServer::new(first, ServerHost::Thread(child))),
         Err(back) => {
             refused.store(true, Ordering::SeqCst);
-            hand_host_of(first, (back.value)())
+            server_host(first, (back.value)())
         }
     }
 }

@@ -1,149 +1,144 @@
-// A task that was started, and a pair of seats with which sections are served: by a thread of their own, or by the caller.
-ghost use Rattle.std.specs.Prelude.{◌≡◌, IfOk, OnOk};
-ghost use Rattle.sb_run.specs.Crews.{EndsAs, IsHandHostOf, IsHostOf, started_of};
-ghost use Rattle.sb_task.specs.Hands.{IsHand};
-ghost use Rattle.sb_run.specs.Returns.{HasServed};
+// A thread of the script that was started, and a seat of the pool with which targets are served: by a thread of their own, or by the caller.
+ghost use Rattle.std.specs.Prelude.{◌≡◌, IfOk};
+ghost use Rattle.sb_run.specs.Crews.{IsServerHostOf, IsThreadHostOf};
+ghost use Rattle.sb_shared.specs.Closing.{IsThreadSeat};
+ghost use Rattle.sb_task.specs.Servers.{IsSameServer, IsServer};
+ghost use Rattle.sb_task.specs.Threads.{HasEnded};
 
-use crate::promises::{HandHost, TaskHost};
-use crate::returns::{HandReturn, TaskReturn};
+use crate::promises::{ServerHost, ThreadHost};
+use crate::returns::{ServerReturn, ThreadReturn};
 use sb_items::NoMemory;
 use sb_outside::Gate;
 use sb_rule::Judge;
-use sb_statements::Script;
-use sb_task::{Ended, Field, Hand, Task, attend_once};
+use sb_shared::ThreadSeat;
+use sb_task::{RunContext, Server, attend_once};
 use std::alloc::Global;
 use std::marker::Model;
 use std::mem;
 use std::snapshot::Snapshot;
 use std::sync::Wait;
-use std::thread::Threads;
+use std::thread::{Threads, yield_now};
 
-/// A task that was started.
-pub(crate) struct StartedTask<'a> {
-    // The script and the task as it was started, for proofs.
-    script: Snapshot<Script>,
-    task: Snapshot<Task>,
-    host: TaskHost<'a>,
+/// A thread of the script that was started. Contracts see its seat as it was then.
+pub(crate) struct StartedThread {
+    first: Snapshot<ThreadSeat>,
+    host: ThreadHost,
 }
 
-// By hand, so that it is proved here once and not at each place that drops one.
-impl<'a> Drop for StartedTask<'a> {
+impl Drop for StartedThread {
     fn drop(self) {
-        let StartedTask {
-            script: _,
-            task: _,
-            host: _,
-        } = self;
+        let StartedThread { first: _, host: _ } = self;
     }
 }
 
-impl<'a> Model for StartedTask<'a> {
-    ghost use Rattle.sb_run.specs.Crews.{IsHostOf, StartedAt};
+impl Model for StartedThread {
+    ghost use Rattle.sb_run.specs.Crews.{IsThreadHostOf};
+    ghost use Rattle.sb_shared.specs.Seats.{ThreadSeatValue};
 
-    ghost Value = { StartedAt };
-
-    ghost view = { λ x. record { script = x.script.value; task = x.task.value } };
-
-    ghost invariant = { λ x. IsHostOf x.script.value x.task.value x.host };
-}
-
-impl<'a> StartedTask<'a> {
-    /// A task with its host.
-    pub(crate) fn new(
-        script: Snapshot<Script>,
-        task: Snapshot<Task>,
-        host: TaskHost<'a>,
-    ) -> StartedTask<'a>
-        requires { IsHostOf script.value task.value host }
-        ensures { result ≡ started_of script.value task.value }
-    {
-        StartedTask { script, task, host }
-    }
-
-    /// Makes the next step of a task whose steps the caller makes. True if there was one to make.
-    pub(crate) fn step(&mut self) -> bool
-        ensures { self.new ≡ self.old }
-    {
-        match &mut self.host {
-            TaskHost::Caller(runner) => {
-                if runner.finished() {
-                    return false;
-                }
-                runner.step();
-                true
-            }
-            TaskHost::Thread(_) | TaskHost::Ended(_) => false,
-        }
-    }
-
-    /// What the task gives back. It waits for the task's thread.
-    ///
-    /// # Errors
-    /// `NoMemory` where the thread was stopped for it, or the caller has not made all steps.
-    pub(crate) fn join<R: Threads>(self, rt: &R) -> Result<Ended, NoMemory>
-        ensures { IfOk result (λ e. EndsAs self.entry e) }
-    {
-        let StartedTask {
-            script: _,
-            task: _,
-            host,
-        } = self;
-        match host {
-            TaskHost::Thread(child) => match child.join(rt) {
-                TaskReturn::Ended(ended) => Ok(ended),
-                TaskReturn::Back(_) | TaskReturn::Stopped => Err(NoMemory),
-            },
-            TaskHost::Caller(runner) => {
-                if !runner.finished() {
-                    return Err(NoMemory);
-                }
-                Ok(runner.into_ended())
-            }
-            TaskHost::Ended(ended) => Ok(ended),
-        }
-    }
-}
-
-/// A pair of seats with which sections are served.
-pub(crate) struct StartedHand {
-    // The seats as they were, for proofs.
-    first: Snapshot<Hand>,
-    host: HandHost,
-}
-
-// By hand, so that it is proved here once and not at each place that drops one.
-impl Drop for StartedHand {
-    fn drop(self) {
-        let StartedHand { first: _, host: _ } = self;
-    }
-}
-
-impl Model for StartedHand {
-    ghost use Rattle.sb_run.specs.Crews.{IsHandHostOf};
-    ghost use Rattle.sb_task.specs.Hands.{HandAt};
-
-    ghost Value = { HandAt };
+    ghost Value = { ThreadSeatValue };
 
     ghost view = { λ x. x.first.value };
 
-    ghost invariant = { λ x. IsHandHostOf x.first.value x.host };
+    ghost invariant = { λ x. IsThreadHostOf x.first.value x.host };
 }
 
-impl StartedHand {
-    /// A pair of seats with its host.
-    pub(crate) fn new(first: Snapshot<Hand>, host: HandHost) -> StartedHand
-        requires { IsHandHostOf first.value host }
+impl StartedThread {
+    /// A thread with its host.
+    pub(crate) fn new(first: Snapshot<ThreadSeat>, host: ThreadHost) -> StartedThread
+        requires { IsThreadHostOf first.value host }
         ensures { result ≡ first.value }
     {
-        StartedHand { first, host }
+        StartedThread { first, host }
     }
 
-    /// Whether the caller serves with these seats.
+    /// Makes the next step of a thread whose steps the caller makes. True if there was one to make.
+    pub(crate) fn step<J: Judge, G: Gate>(&mut self, context: &RunContext<'_, J, G>) -> bool
+        requires { IsThreadSeat context.now.world self.old }
+        ensures { self.new ≡ self.old }
+    {
+        context.establish_kept();
+        match &mut self.host {
+            ThreadHost::Caller(seat) => {
+                if seat.is_finished(context.script) {
+                    return false;
+                }
+                seat.step(context.world, context.script);
+                if seat.is_waiting() {
+                    yield_now();
+                }
+                true
+            }
+            ThreadHost::Thread(_) => false,
+        }
+    }
+
+    /// The seat of the thread, once it has ended. It waits for that.
+    ///
+    /// # Errors
+    /// `NoMemory` if the thread was stopped since memory ran out, or the caller has not made all its steps.
+    pub(crate) fn join<J: Judge, G: Gate, R: Threads>(
+        self,
+        rt: &R,
+        context: &RunContext<'_, J, G>,
+    ) -> Result<ThreadSeat, NoMemory>
+        requires { IsThreadSeat context.now.world self }
+        ensures { IfOk result (λ s. HasEnded self s) }
+    {
+        context.establish_kept();
+        let StartedThread { first: _, host } = self;
+        match host {
+            ThreadHost::Thread(child) => match child.join(rt) {
+                ThreadReturn::Ended(seat) => Ok(seat),
+                ThreadReturn::Back(_) | ThreadReturn::Stopped => Err(NoMemory),
+            },
+            ThreadHost::Caller(seat) => {
+                if !seat.is_finished(context.script) {
+                    return Err(NoMemory);
+                }
+                Ok(seat)
+            }
+        }
+    }
+}
+
+/// A seat of the pool with which targets are served. Contracts see it as it was at first.
+pub(crate) struct StartedServer {
+    first: Snapshot<Server>,
+    host: ServerHost,
+}
+
+impl Drop for StartedServer {
+    fn drop(self) {
+        let StartedServer { first: _, host: _ } = self;
+    }
+}
+
+impl Model for StartedServer {
+    ghost use Rattle.sb_run.specs.Crews.{IsServerHostOf};
+    ghost use Rattle.sb_task.specs.Servers.{ServerAt};
+
+    ghost Value = { ServerAt };
+
+    ghost view = { λ x. x.first.value };
+
+    ghost invariant = { λ x. IsServerHostOf x.first.value x.host };
+}
+
+impl StartedServer {
+    /// A seat with its host.
+    pub(crate) fn new(first: Snapshot<Server>, host: ServerHost) -> StartedServer
+        requires { IsServerHostOf first.value host }
+        ensures { result ≡ first.value }
+    {
+        StartedServer { first, host }
+    }
+
+    /// Whether the caller serves with this seat.
     pub(crate) fn is_with_caller(&self) -> bool {
-        matches!(self.host, HandHost::Caller(_))
+        matches!(self.host, ServerHost::Caller(_))
     }
 
-    /// Serves a section for a while, with seats with which the caller serves.
+    /// Serves a target for a while, with a seat with which the caller serves.
     ///
     /// # Errors
     /// `NoMemory` as `attend_once`.
@@ -151,36 +146,36 @@ impl StartedHand {
         &mut self,
         rt: &R,
         alloc: Global,
-        field: &Field<'_, J, G>,
+        context: &RunContext<'_, J, G>,
     ) -> Result<(), NoMemory>
-        requires { IsHand field.now self.old }
+        requires { IsServer context.now self.old }
         ensures { self.new ≡ self.old }
     {
         if !self.is_with_caller() {
             return Ok(());
         }
-        if let HandHost::Caller(mut hand) = mem::replace(&mut self.host, HandHost::Stopped) {
-            attend_once(rt, alloc, field, &mut hand)?;
-            self.host = HandHost::Caller(hand);
+        if let ServerHost::Caller(mut server) = mem::replace(&mut self.host, ServerHost::Stopped) {
+            attend_once(rt, alloc, context, &mut server)?;
+            self.host = ServerHost::Caller(server);
         }
         Ok(())
     }
 
-    /// The seats, once the thread that serves with them has ended. It waits for that.
+    /// The seat, once the thread that serves with it has ended. It waits for that.
     ///
     /// # Errors
-    /// `NoMemory` where there was none.
-    pub(crate) fn join<R: Threads>(self, rt: &R) -> Result<Hand, NoMemory>
-        ensures { IfOk result (λ h. HasServed self h) }
+    /// `NoMemory` if memory ran out.
+    pub(crate) fn join<R: Threads>(self, rt: &R) -> Result<Server, NoMemory>
+        ensures { IfOk result (λ s. IsSameServer self s) }
     {
-        let StartedHand { first: _, host } = self;
+        let StartedServer { first: _, host } = self;
         match host {
-            HandHost::Thread(child) => match child.join(rt) {
-                HandReturn::Ended(hand) | HandReturn::Back(hand) => Ok(hand),
-                HandReturn::Stopped => Err(NoMemory),
+            ServerHost::Thread(child) => match child.join(rt) {
+                ServerReturn::Ended(server) | ServerReturn::Back(server) => Ok(server),
+                ServerReturn::Stopped => Err(NoMemory),
             },
-            HandHost::Caller(hand) => Ok(hand),
-            HandHost::Stopped => Err(NoMemory),
+            ServerHost::Caller(server) => Ok(server),
+            ServerHost::Stopped => Err(NoMemory),
         }
     }
 }

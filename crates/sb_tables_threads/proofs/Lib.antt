@@ -1,2 +1,1 @@
 mod Dealing
-mod Turning

@@ -1,4 +1,4 @@
-// Prints rows of what threads share: the pool of works and the turn. A row is a function with its arguments, and what it gives is
+// Prints rows of the pool of works, which threads share. A row is a function with its arguments, and what it gives is
 // printed behind it. Some rows start threads; what they give is the same whatever order the threads' steps have. The rows stand in
 // files, which the arguments name; what is printed is compared with the file `stdout` of this crate, which holds the same rows with the
 // values that are right.
@@ -6,7 +6,6 @@
 
 mod pools;
 mod rows;
-mod turns;
 
 use sb_rows::{is_row, told_row};
 use std::alloc::Global;

@@ -1,6 +1,6 @@
 // The value of a row.
 
-use crate::{pools, turns};
+use crate::pools;
 use sb_rows::{RowFault, arguments};
 use std::alloc::Global;
 use std::sync::Wait;
@@ -15,8 +15,5 @@ pub fn value_of<R: Threads + Wait + Sync>(
 ) -> Result<String, RowFault> {
     let (name, rest) = row.split_once(' ').unwrap_or((row, ""));
     let parts = arguments(alloc, rest)?;
-    if name.starts_with("Turn::") {
-        return turns::value_of(rt, alloc, name, parts.as_slice());
-    }
     pools::value_of(rt, alloc, name, parts.as_slice())
 }

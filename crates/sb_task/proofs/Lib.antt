@@ -1,8 +1,1 @@
-pub mod Bounds
-pub mod Leading
-pub mod Named
-pub mod Noted
-pub mod Tied
-pub mod Ending
-pub mod Working
-pub mod Keeping
+pub mod Looking

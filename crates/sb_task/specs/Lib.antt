@@ -1,9 +1,4 @@
-pub mod WorkerActors
-pub mod WorkerSteps
-pub mod ThreadActors
-pub mod ThreadSteps
-pub mod Noting
+pub mod Contexts
+pub mod Servers
+pub mod Threads
 pub mod Works
-pub mod Hands
-pub mod Fields
-pub mod Tasks

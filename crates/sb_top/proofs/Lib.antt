@@ -6,6 +6,7 @@ pub mod Ready
 pub mod ReplayEnds
 pub mod RunEnds
 pub mod Runs
+pub mod Sound
 pub mod Starved
 pub mod Steps
 pub mod Sums

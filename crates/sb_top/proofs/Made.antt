@@ -3,6 +3,7 @@ use Rattle.std.proofs.Common.{◌≡◌, ◌∙◌, ℕ, zero, suc, ◌+◌, ◌
 use Rattle.std.specs.List.{list_all}
 use Rattle.sb_book.specs.Readiness.{is_ready}
 use Rattle.sb_book.specs.declared.reports.Report.{Report}
+use Rattle.sb_core.specs.Runs.{IsSomeRun}
 use Rattle.sb_gen.specs.Calls.{call_of, statement_of, statements_of}
 use Rattle.sb_gen.specs.Generator.{after, kind_of, next, number_of}
 use Rattle.sb_gen.specs.Policies.{AreMade}
@@ -12,9 +13,10 @@ use Rattle.sb_statements.specs.Units.{script_has_units}
 use Rattle.sb_statements.specs.declared.scripts.Script.{Script}
 use Rattle.sb_statements.specs.declared.statements.Statement.{Statement}
 use Rattle.sb_transcript.specs.Totals.{totals_line}
-use Rattle.sb_top.specs.Make.{made_line, made_policies, made_text, policies_or_none}
-use Rattle.sb_top.specs.Run.{IsThreadsReport}
+use Rattle.sb_top.specs.Make.{IsMadeReport, made_line, made_policies, made_text, policies_or_none}
+use Rattle.sb_top.specs.Sound.{RunsAreSound}
 use Rattle.sb_top.specs.Totals.{AllClean, TotalsAreOfVerdicts, are_calls, is_call, totals_by}
+use Rattle.sb_top.proofs.Sound.{some_run_fits}
 use Rattle.sb_top.proofs.Verdicts.{both_true}
 
 -- the policies that were made are those of the text
@@ -55,22 +57,21 @@ script_is_calls seed targets calls = targets_are_calls 0 targets calls seed
 
 -- ---- the report of a run of a generated script
 
-pub text_is_sound : (policies : List Policy) → AreMade policies → AreMade made_policies
-text_is_sound policies made = subst AreMade (are_made policies made) made
-
 pub made_report : (seed targets calls : ℕ) (policies : List Policy) (script : Script) (report : Report) → AreMade policies → script ≡ script_of seed targets calls
-    → IsThreadsReport policies script report → IsThreadsReport made_policies (script_of seed targets calls) report
-made_report seed targets calls policies script report made same of_threads =
-    subst (λ p. IsThreadsReport p (script_of seed targets calls) report) (are_made policies made)
-    (subst (λ s. IsThreadsReport policies s report) same of_threads)
+    → script_has_units script ≡ true → IsSomeRun policies script report → IsMadeReport seed targets calls report
+made_report seed targets calls policies script report made same units some = record {
+  policies = subst AreMade (are_made policies made) made;
+  units = subst (λ s. script_has_units s ≡ true) same units;
+  run = subst (λ p. IsSomeRun p (script_of seed targets calls) report) (are_made policies made) (subst (λ s. IsSomeRun policies s report) same some);
+}
 
-pub made_totals : TotalsAreOfVerdicts → (seed targets calls : ℕ) (policies : List Policy) (script : Script) (report : Report)
+pub made_totals : TotalsAreOfVerdicts → RunsAreSound → (seed targets calls : ℕ) (policies : List Policy) (script : Script) (report : Report)
     → AreMade policies → script ≡ script_of seed targets calls → is_ready policies script ≡ true → script_has_units script ≡ true
-    → AllClean script → IsThreadsReport policies script report
+    → AllClean script → IsSomeRun policies script report
     → made_line targets calls ++ totals_line report ≡ made_text seed targets calls
 unfolding made_text
-made_totals law seed targets calls policies script report made same ready units clean of_threads =
+made_totals law sound seed targets calls policies script report made same ready units clean some =
     let all : are_calls script ≡ true = subst (λ s. are_calls s ≡ true) (sym same) (script_is_calls seed targets calls) in
-    let totals = law policies script report ready units all clean of_threads.fits in
+    let totals = law policies script report ready units all clean (some_run_fits sound policies script report units some) in
     ap (λ line. made_line targets calls ++ line)
     (totals ∙ (ap (λ p. totals_by p script) (are_made policies made) ∙ ap (λ s. totals_by made_policies s) same))

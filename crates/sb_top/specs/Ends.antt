@@ -1,15 +1,14 @@
 -- How work ends: with which status and which report, and what was written.
 use Rattle.std.specs.Prelude.{◌≡◌, ◌⊎◌, ℕ, ◌≤◌, Option, None, Some, IfSome, IsSomeAnd, IsOkAnd, MatchOption, Result, Ok, Err, List, [], ⊤}
 use Rattle.sb_book.specs.declared.reports.Report.{Report}
-use Rattle.sb_core.specs.Fits.{Fits}
+use Rattle.sb_core.specs.Runs.{CanRun, IsSomeRun}
 use Rattle.sb_outside.specs.Outside.{GrowsByPrefix}
 use Rattle.sb_statements.specs.declared.scripts.Script.{Script}
 use Rattle.sb_transcript.specs.Transcripts.{transcript}
 use Rattle.sb_top.specs.Check.{checked}
 use Rattle.sb_top.specs.Make.{IsMadeReport, made_text}
 use Rattle.sb_top.specs.Outcomes.{MayCome, file_of}
-use Rattle.sb_top.specs.Replay.{IsSoundRun, run_end, whole_run}
-use Rattle.sb_top.specs.Run.{IsThreadsReport}
+use Rattle.sb_top.specs.Replay.{run_end, whole_run}
 use Rattle.sb_top.specs.Works.{Work, Makes, Prints, Reporting, Runs, Scheduled, Threaded, Threads, Unreported, Wanted}
 use Rattle.sb_top.specs.Writing.{GrowsBy, TellsEntries}
 use Rattle.sb_top.specs.declared.outcomes.Status.{Status}
@@ -73,19 +72,18 @@ IsEnd files wanted files_rose sink_rose status =
 abbrev pub IsWorkEnd : Work → Type 0 → Status → Type 0
 IsWorkEnd work sink_rose status = (status ≡ end_of work) ⊎ ((status ≡ WriteFault) × sink_rose × (end_of work ≡ Done)) ⊎ (status ≡ NoMemory)
 
--- the report of a run; a print has none
+-- the report of a run by the schedule, or of a run by some order of steps; a print has none
 abbrev pub IsReportOf : Report → Work → Type 0
 IsReportOf report (Prints policies) = ⊥
-IsReportOf report (Runs policies script schedule) =
-    (report ≡ (whole_run policies script schedule).report) × IsSoundRun policies script (whole_run policies script schedule)
-IsReportOf report (Threads policies script) = IsThreadsReport policies script report
+IsReportOf report (Runs policies script schedule) = CanRun policies script schedule × (report ≡ (whole_run policies script schedule).report)
+IsReportOf report (Threads policies script) = IsSomeRun policies script report
 IsReportOf report (Makes seed targets calls) = IsMadeReport seed targets calls report
 
--- the report of a run in which no thread is unfinished: it fits the script under its policies
+-- the same of a run in which no thread is unfinished
 abbrev pub IsWholeReportOf : Report → Work → Type 0
 IsWholeReportOf report (Prints policies) = ⊥
 IsWholeReportOf report (Runs policies script schedule) =
-    IsReportOf report (Runs policies script schedule) × ((whole_run policies script schedule).unfinished ≡ None) × Fits policies script report
+    IsReportOf report (Runs policies script schedule) × ((whole_run policies script schedule).unfinished ≡ None)
 IsWholeReportOf report (Threads policies script) = IsReportOf report (Threads policies script)
 IsWholeReportOf report (Makes seed targets calls) = IsReportOf report (Makes seed targets calls)
 
@@ -94,7 +92,7 @@ abbrev pub HasReport : Option Wanted → Option Report → Type 0
 HasReport wanted None = ⊥
 HasReport wanted (Some report) = IfSome wanted (λ w. IsOkAnd w (IsReportOf report))
 
--- and no thread of that run is unfinished, and the report fits
+-- and no thread of that run is unfinished
 abbrev pub HasWholeReport : Option Wanted → Option Report → Type 0
 HasWholeReport wanted None = ⊥
 HasWholeReport wanted (Some report) = IfSome wanted (λ w. IsOkAnd w (IsWholeReportOf report))
@@ -111,8 +109,8 @@ MayLeave Unreported = ⊥
 MayLeave Scheduled = ⊤
 MayLeave Threaded = ⊥
 
--- a report is there exactly with Done and WriteFault of a command that runs a script, and it fits the script; and with Unfinished, which comes of
--- runs by a schedule alone
+-- a report is there exactly with Done and WriteFault of a command that runs a script, and then no thread is unfinished; and with Unfinished, which
+-- comes of runs by a schedule alone
 abbrev pub IsReported : Reporting → Option Wanted → Option Report → Status → Type 0
 IsReported reporting wanted report Done = HasReportOfRun reporting wanted report
 IsReported reporting wanted report WriteFault = HasReportOfRun reporting wanted report

@@ -12,3 +12,4 @@ pub mod Effects
 pub mod Ends
 pub mod Top
 pub mod Laws
+pub mod Sound

@@ -1,11 +1,6 @@
--- What `replay POLICY SCRIPT [SCHEDULE]` comes to, how its run ends, and what the report of a run says.
-use Rattle.std.specs.Prelude.{◌≡◌, ℕ, ◌*◌, List, length, map, Option, None, Some, Ok, option_map}
-use Rattle.sb_book.specs.Histories.{setting_of, IsHistory}
-use Rattle.sb_core.specs.Fits.{Fits}
-use Rattle.sb_core.specs.Origins.{IsSourced}
-use Rattle.sb_core.specs.Results.{ResultsFit}
+-- What `replay POLICY SCRIPT [SCHEDULE]` comes to, and how its run ends.
+use Rattle.std.specs.Prelude.{ℕ, List, Option, None, Some, Ok}
 use Rattle.sb_core.specs.Runs.{ran}
-use Rattle.sb_core.specs.Tallies.{AreFew}
 use Rattle.sb_core.specs.declared.runs.Ran.{Ran}
 use Rattle.sb_outside.specs.Outside.{Held}
 use Rattle.sb_rule.specs.declared.policies.Policy.{Policy}
@@ -42,15 +37,3 @@ whole_run policies script schedule = ran policies script schedule
 abbrev pub run_end : Option (ℕ × ℕ) → Status
 run_end None = Done
 run_end (Some thread) = Unfinished thread.0 thread.1
-
--- What a run reports: its entries are a legal history, which led to its namespace; each result is that of the statement at its place; each
--- target has 65 words for each channel; and no word of it is invented. Where no thread is unfinished the report fits the script: there is one
--- result for each statement, each thread has its own replies, each once, each result suits its statement, and so do the words; and a channel has
--- no more entries than calls that were handed over there and statements that made it ready
-pub record IsSoundRun (policies : List Policy) (script : Script) (r : Ran) : Type 0 where
-  pub history : IsHistory (record { setting = setting_of policies script; space = r.report.kernel; entries = r.report.entries })
-  pub results : ResultsFit script r.report.results
-  pub words : map (λ words. length words) r.report.words ≡ map (λ target. target.channels * 65) script.targets
-  pub sourced : IsSourced script r.report
-  pub fits : r.unfinished ≡ None → Fits policies script r.report
-  pub few : r.unfinished ≡ None → AreFew script r.report

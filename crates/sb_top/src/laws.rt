@@ -1,9 +1,11 @@
-// Laws of how words end, and of totals. None of these functions does anything: each contract is a law.
+// Laws of how words end, of reports, and of totals. None of these functions does anything: each contract is a law.
 ghost use Rattle.sb_top.specs.Laws.{RefusalsAreTold, WorkComesToItsEnd};
+ghost use Rattle.sb_top.specs.Sound.{ReportsAreSound, RunsAreSound};
 ghost use Rattle.sb_top.specs.Totals.{TotalsAreOfVerdicts};
 
 use sb_block::blocks_come_back;
-use sb_core::units_are_placed;
+use sb_core::{no_block_is_invented, runs_are_legal, runs_are_whole, runs_fit, units_are_placed};
+use sb_script::read_scripts_have_units;
 use sb_statements::sound_parts;
 
 /// Where words and files come to work, and neither count of faults rose, the work comes to its end, if there was memory.
@@ -16,6 +18,26 @@ pub fn work_comes_to_its_end()
 pub fn refusals_are_told()
     ensures { RefusalsAreTold }
 {}
+
+/// Each run of a script whose strings are made of units, by whatever schedule, is sound: its entries are a legal history, each result is that
+/// of the statement at its place, and no word is invented. If no thread is unfinished its report fits the script.
+pub fn runs_are_sound()
+    ensures { RunsAreSound }
+{
+    runs_are_legal();
+    runs_are_whole();
+    runs_fit();
+    units_are_placed();
+    no_block_is_invented();
+}
+
+/// So is the report of `replay`, of `run` and of `make`: with Done and WriteFault it fits the script, whatever the order of the steps was.
+pub fn reports_are_sound()
+    ensures { ReportsAreSound }
+{
+    runs_are_sound();
+    read_scripts_have_units();
+}
 
 /// Where each statement of a script is a call and every channel is clean, the totals of each report that fits the script are those that the
 /// verdicts of its policies give, whatever the order of the steps was.

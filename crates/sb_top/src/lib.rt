@@ -15,6 +15,9 @@ mod top;
 mod writing;
 
 pub use exits::{Complaint, exit_code};
-pub use laws::{refusals_are_told, totals_are_of_verdicts, work_comes_to_its_end};
+pub use laws::{
+    refusals_are_told, reports_are_sound, runs_are_sound, totals_are_of_verdicts,
+    work_comes_to_its_end,
+};
 pub use outcomes::{Outcome, Status};
 pub use top::{broker_top, plain_top};

@@ -8,7 +8,7 @@ ghost use Rattle.sb_top.specs.Make.{IsMadeReport, made_line, made_text};
 ghost use Rattle.sb_top.specs.Outcomes.{IsSilent};
 ghost use Rattle.sb_top.specs.Works.{Makes, Threaded};
 
-use crate::laws::totals_are_of_verdicts;
+use crate::laws::{runs_are_sound, totals_are_of_verdicts};
 use crate::outcomes::{Outcome, Status};
 use crate::threads::run_judged;
 use sb_book::Report;
@@ -55,7 +55,7 @@ fn made_texts(
 }
 
 // The report of a run of the script that is made from a seed.
-#[tactic(auto, using(crate::proofs::Made::text_is_sound, crate::proofs::Made::made_report, crate::proofs::Made::made_totals))]
+#[tactic(auto, using(crate::proofs::Made::made_report, crate::proofs::Made::made_totals))]
 fn run_made<R: Threads + Wait + Sync, G: Gate>(
     rt: &R,
     alloc: Global,
@@ -70,6 +70,7 @@ fn run_made<R: Threads + Wait + Sync, G: Gate>(
     ensures few { IfOk result (λ r. result_count r.results < 2 ^ 62) }
     ensures totals { IfOk result (λ r. made_line targets calls ++ totals_line r ≡ made_text seed targets calls) }
 {
+    runs_are_sound();
     totals_are_of_verdicts();
     let (policies, script) = make(alloc, seed, targets, calls)?;
     run_judged(rt, alloc, &policies, &script, WORKERS, gate)

@@ -17,7 +17,6 @@ pub struct Prepared {
     /// The schedule.
     pub schedule: Schedule,
     ghost runs: { CanRun policies.list script schedule },
-    ghost units: { script_has_units script ≡ true },
     ghost short: { HasShortNames script },
 }
 

@@ -1,14 +1,13 @@
 // The command `replay`: policies, a script and its schedule are read, the script is run, and its transcript is put line by line.
-ghost use Rattle.std.specs.Prelude.{◌≡◌, ◌≤◌, ◌<◌, ◌^◌, true, Ok, Some, IfOk, IfErr, IfSome, OnOk};
+ghost use Rattle.std.specs.Prelude.{◌≡◌, ◌≤◌, ◌<◌, ◌^◌, Ok, Some, IfOk, IfErr, IfSome, OnOk};
 ghost use Rattle.sb_book.specs.Reports.{result_count};
 ghost use Rattle.sb_core.specs.Runs.{CanRun};
 ghost use Rattle.sb_outside.specs.Outside.{Rose};
-ghost use Rattle.sb_statements.specs.Units.{script_has_units};
 ghost use Rattle.sb_commands.specs.Commands.{Replay, as_replay, named};
 ghost use Rattle.sb_top.specs.Effects.{IsOrderly, effect};
 ghost use Rattle.sb_top.specs.Ends.{IsReported, IsTold, IsWorkEnd, IsWritten};
 ghost use Rattle.sb_top.specs.Outcomes.{IsRefusal, IsSilent};
-ghost use Rattle.sb_top.specs.Replay.{IsSoundRun, wanted_replay, whole_run, work_of};
+ghost use Rattle.sb_top.specs.Replay.{wanted_replay, whole_run, work_of};
 ghost use Rattle.sb_top.specs.Works.{Scheduled};
 ghost use Rattle.sb_top.specs.Top.{IsEndOf, IsReportFor, IsToldFor, IsUnprepared, IsWrittenFor};
 
@@ -17,9 +16,7 @@ use crate::prepared::Prepared;
 use crate::reading::{policies_in, schedule_of, script_in};
 use crate::writing::put_transcript;
 use sb_compile::Programs;
-use sb_core::{
-    Ran, no_block_is_invented, run, runs_are_legal, runs_are_whole, runs_fit, units_are_placed,
-};
+use sb_core::{Ran, run};
 use sb_outside::{Files, Sink};
 use sb_rule::Policies;
 use sb_statements::{Schedule, Script};
@@ -70,22 +67,15 @@ fn run_whole(
     schedule: &Schedule,
 ) -> Result<Ran, NoMemory>
     requires runs { CanRun policies.now.list script.now schedule.now }
-    requires units { script_has_units script.now ≡ true }
     ensures value { IfOk result (λ r. r ≡ whole_run policies.now.list script.now schedule.now) }
     ensures few { IfOk result (λ r. result_count r.report.results < 2 ^ 62) }
-    ensures sound { IsSoundRun policies.now.list script.now (whole_run policies.now.list script.now schedule.now) }
 {
-    runs_are_legal();
-    runs_are_whole();
-    runs_fit();
-    units_are_placed();
-    no_block_is_invented();
     let judge = Programs::new(alloc, policies, script)?;
     run(alloc, &judge, policies, script, schedule)
 }
 
 // Runs a script under policies by its schedule, and puts the transcript.
-#[tactic(auto, using(crate::proofs::Runs::whole_report, crate::proofs::Runs::run_ends, crate::proofs::Runs::run_leaves, crate::proofs::Runs::run_unwritten, crate::proofs::Telling::told))]
+#[tactic(auto, using(crate::proofs::Runs::run_ends, crate::proofs::Runs::run_leaves, crate::proofs::Runs::run_unwritten, crate::proofs::Telling::told))]
 fn show<K: Sink>(alloc: Global, prepared: &Prepared, out: &mut K) -> Outcome
     ensures counted { K.faults out.old ≤ K.faults out.new }
     ensures silent { IsSilent result.status → out.new ≡ out.old }

@@ -2,9 +2,10 @@
 ghost use Rattle.std.specs.Prelude.{◌≡◌, ◌≤◌, ◌<◌, ◌^◌, true, IfOk};
 ghost use Rattle.sb_book.specs.Readiness.{is_ready};
 ghost use Rattle.sb_book.specs.Reports.{result_count};
+ghost use Rattle.sb_core.specs.Runs.{IsSomeRun};
 ghost use Rattle.sb_statements.specs.Units.{script_has_units};
-ghost use Rattle.sb_top.specs.Run.{IsThreadsReport};
 
+use crate::laws::runs_are_sound;
 use sb_book::Report;
 use sb_compile::Programs;
 use sb_outside::Gate;
@@ -16,11 +17,12 @@ use std::alloc::Global;
 use std::sync::Wait;
 use std::thread::Threads;
 
-/// The report of a run of a script on threads, by 1 to 8 workers, in which calls are judged by the programs of the policies.
+/// The report of a run of a script on threads, by 1 to 8 workers, in which calls are judged by the programs of the policies: that of a run by
+/// some order of steps.
 ///
 /// # Errors
-/// `NoMemory` where there was none for the programs or the run.
-#[tactic(auto, using(crate::proofs::Ready::ready_made, crate::proofs::Totalling::few_results))]
+/// `NoMemory` if memory for the programs or the run runs out.
+#[tactic(auto, using(crate::proofs::Ready::ready_made, crate::proofs::Sound::few_results))]
 pub fn run_judged<R: Threads + Wait + Sync, G: Gate>(
     rt: &R,
     alloc: Global,
@@ -32,9 +34,10 @@ pub fn run_judged<R: Threads + Wait + Sync, G: Gate>(
     requires workers { (1 ≤ workers) × (workers ≤ 8) }
     requires ready { is_ready policies.now.list script.now ≡ true }
     requires units { script_has_units script.now ≡ true }
-    ensures report { IfOk result (λ r. IsThreadsReport policies.now.list script.now r) }
+    ensures report { IfOk result (λ r. IsSomeRun policies.now.list script.now r) }
     ensures few { IfOk result (λ r. result_count r.results < 2 ^ 62) }
 {
+    runs_are_sound();
     let judge = Programs::new(alloc, policies, script)?;
     run_threads(rt, alloc, &judge, policies, script, workers, gate)
 }

@@ -40,9 +40,8 @@ pub fn plain_top<F: Files, K: Sink>(
     ensures ends { IfSome result (λ o. IsEndOf (command_of (texts words.now))
         (effect F.held F.faults K.written K.faults files.old files.new out.old out.new) o.status) }
 
-    // The report is that of the run of the script by the schedule under the policies that the texts mean, and its entries are a legal
-    // history. With Done and WriteFault no thread is unfinished, and the report fits the script: one result for each statement, for each
-    // thread its own replies, each once, results that suit their statements, and each clean channel free at the end. A check has none.
+    // The report is that of the run of the script by the schedule under the policies that the texts mean, and with Done and WriteFault no
+    // thread is unfinished. A check has none. What such a report says of its script is the law `reports_are_sound`.
     ensures report { IfSome result (λ o. IsReportFor (command_of (texts words.now)) (F.held files.old) o) }
 
     // With Done the output grew by exactly the transcript of script and report, or of a check by the policies as a text and the listings
@@ -130,8 +129,8 @@ fn threads_top<R: Threads + Wait + Sync, F: Files, K: Sink, G: Gate>(
 }
 
 /// All that the program does, over any files and any output: reads the words, and carries out the command that they are. A command that
-/// runs on threads waits for them; what it reports and writes is so of every order of steps. A call that a worker judges passes the gate, which no
-/// clause says.
+/// runs on threads waits for them; its report is what the core gives for some order of steps. A call that a worker judges passes the gate, which
+/// no clause says.
 #[tactic(auto, using(crate::proofs::Ending::plain_reads))]
 pub fn broker_top<R: Threads + Wait + Sync, F: Files, K: Sink, G: Gate>(
     rt: &R,
@@ -154,9 +153,9 @@ pub fn broker_top<R: Threads + Wait + Sync, F: Files, K: Sink, G: Gate>(
     // A command without files reads none.
     ensures unread { IsUnreadBy (command_of (texts words.now)) (files.new ≡ files.old) }
 
-    // The report of a replay is that of the run by the schedule. That of a run on threads fits the script under the policies that the texts
-    // mean, no word of it is invented, and no channel has more entries than calls that were handed over there and statements that made it
-    // ready; so does that of a script that was made. A check has none.
+    // The report of a replay is that of the run by the schedule. That of a run on threads is what the core gives for some order of steps:
+    // there is a schedule of actors that are there, without rounds, whose run leaves no thread unfinished and has this report; so is that
+    // of a script that was made. A check has none. What each says of its script is the law `reports_are_sound`.
     ensures report { IsReportFor (command_of (texts words.now)) (F.held files.old) result }
 
     // With Done the output grew by exactly the transcript of script and report; or of a check by the policies as a text and the listings of

@@ -1,13 +1,17 @@
-use Rattle.std.proofs.Common.{ℕ, List, subst, sym}
-use Rattle.sb_actor.specs.WorkerStages.{WorkerAt}
-use Rattle.sb_statements.specs.declared.results.StmtResult.{StmtResult}
-use Rattle.sb_run.specs.Endings.{HasFinished}
-use Rattle.sb_run.proofs.Running.{none_finished}
+use Rattle.std.proofs.Common.{◌≡◌, ◌∙◌, ap, subst, sym}
+use Rattle.sb_core.specs.Runs.{CanRun, IsSomeRun, ran}
+use Rattle.sb_core.specs.declared.runs.Ran.{Ran}
+use Rattle.sb_statements.specs.declared.schedules.Schedule.{Schedule}
+use Rattle.sb_run.proofs.Running.{can_run_none, no_steps, some_run_none}
 use Rattle.sb_run.proofs.runs.run_no_target.Goals as goal
 
-pub report_of-requires-clause-finished : goal.report_of-requires-clause-finished
-report_of-requires-clause-finished g c κs within =
+pub run-requires-clause-runs : goal.run-requires-clause-runs
+run-requires-clause-runs g c κs within =
+    subst (λ (s : Schedule). CanRun c.args.policies.now.list c.args.script.now s) (sym c.no_steps-schedule.ensures) (can_run_none c.args.policies.now.list c.args.script.now c.requires.ready)
+
+pub returns : goal.returns
+returns g c =
     let policies = c.args.policies.now.list in
     let script = c.args.script.now in
-    subst (λ (z : List (List ℕ) × List WorkerAt × List (List (List StmtResult))). HasFinished policies script z.0 z.1 c.in_ok-book.book z.2) (λ k. (sym c.none.ensures k, sym c.new-2.ensures.items k, sym c.none-2.ensures k))
-    (none_finished policies script c.in_ok-book.book c.requires.ready c.requires.none c.in_ok-book.ensures c.is_legal.ensures)
+    let is : c.in_ok-ran.ran ≡ ran policies script no_steps = c.in_ok-ran.ensures.value ∙ ap (ran policies script) c.no_steps-schedule.ensures in
+    record { run = subst (λ (z : Ran). IsSomeRun policies script z.report) (sym is) (some_run_none policies script c.requires.ready c.requires.none) }

@@ -1,0 +1,6 @@
+use Rattle.std.specs.List.{AllZip}
+use Rattle.sb_task.specs.Servers.{IsSameServer}
+use Rattle.sb_run.proofs.groups.join_servers.Given as goal
+
+abbrev pub invariant-loop-server : goal.invariant-loop-server
+invariant-loop-server g l = AllZip IsSameServer l.yielded l.back.items

@@ -1,0 +1,8 @@
+use Rattle.std.proofs.Common.{◌≡◌}
+use Rattle.std.specs.List.{All}
+use Rattle.std.specs.Vec.Iter.{into_iter_items}
+use Rattle.sb_shared.specs.Closing.{IsThreadSeat}
+use Rattle.sb_run.proofs.groups.start_threads.Given as goal
+
+abbrev pub invariant-loop-seat : goal.invariant-loop-seat
+invariant-loop-seat g l = (l.started.items ≡ l.yielded) × All (IsThreadSeat l.context.world) (into_iter_items l.seat-iterator)

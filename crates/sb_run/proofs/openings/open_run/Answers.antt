@@ -1,0 +1,30 @@
+use Rattle.std.proofs.Common.{◌≡◌, ◌∙◌, ◌<◌, ap, subst, sym, true, length, map, List}
+use Rattle.std.specs.List.{All}
+use Rattle.sb_actor.specs.WorkerTable.{is_looking}
+use Rattle.sb_pool.specs.Pools.{AreNumbered}
+use Rattle.sb_rule.specs.declared.policies.Policies.{Policies}
+use Rattle.sb_shared.specs.Opening.{target_places}
+use Rattle.sb_shared.specs.Seats.{WorkerSeatValue, fresh_worker}
+use Rattle.sb_task.specs.Works.{number_of}
+use Rattle.sb_run.proofs.Opened.{fresh_look, fresh_numbered, opened}
+use Rattle.sb_run.proofs.openings.open_run.Goals as goal
+
+pub works_of-requires : goal.works_of-requires
+works_of-requires g c =
+    let p = c.in_ok-parts.parts in
+    subst (λ (l : List WorkerSeatValue). All (λ (s : WorkerSeatValue). is_looking s.state.stage ≡ true) l) (sym c.in_ok-parts.ensures.workers)
+    (fresh_look p.world.table p.world.key (target_places c.args.script.now.targets))
+
+pub open_pool-requires-clause-numbered : goal.open_pool-requires-clause-numbered
+open_pool-requires-clause-numbered g c =
+    let p = c.in_ok-parts.parts in
+    let made : c.in_ok-works.works.items ≡ map (fresh_worker p.world.table p.world.key) (target_places c.args.script.now.targets) = c.in_ok-works.ensures ∙ c.in_ok-parts.ensures.workers in
+    subst (AreNumbered number_of) (sym made) (fresh_numbered p.world.table p.world.key (length c.args.script.now.targets))
+
+pub returns : goal.returns
+returns g c =
+    let p = c.in_ok-parts.parts in
+    let e = c.in_ok-parts.ensures in
+    let o = c.in_ok-pool in
+    opened c.args.policies.now.list c.args.script.now p.world p.keeper p.threads.items c.in_ok-works.works.items o.pool o.servers.items o.last
+    (ap (λ (z : Policies). z.list) e.policies) e.script e.keeper e.threads (c.in_ok-works.ensures ∙ e.workers) (subst (λ n. 0 < n) (sym o.ensures.count) c.server_count.ensures.some) o.ensures.seats

@@ -1,0 +1,147 @@
+// All started threads of the script, and all seats with which targets are served.
+ghost use Rattle.std.specs.Prelude.{◌≡◌, IfOk};
+ghost use Rattle.std.specs.List.{All, AllZip};
+ghost use Rattle.sb_shared.specs.Closing.{IsThreadSeat};
+ghost use Rattle.sb_task.specs.Servers.{IsSameServer, IsServer};
+ghost use Rattle.sb_task.specs.Threads.{HasEnded};
+
+use crate::flags::Flags;
+use crate::spawning::{start_server, start_thread};
+use crate::started::{StartedServer, StartedThread};
+use sb_items::NoMemory;
+use sb_outside::Gate;
+use sb_rule::Judge;
+use sb_shared::ThreadSeat;
+use sb_task::{RunContext, Server};
+use std::alloc::Global;
+use std::sync::Wait;
+use std::sync::atomic::AtomicU64;
+use std::thread::{Scope, Threads};
+
+/// Starts all threads of the script, each with a flag of its own.
+///
+/// # Errors
+/// `NoMemory` if there is none for the list, or for a thread that was refused.
+pub(crate) fn start_threads<'s, 'e, J: Judge, G: Gate, R: Threads + Wait + Sync>(
+    scope: &'s Scope<'s, &'e ()>,
+    rt: &'e R,
+    alloc: Global,
+    context: &RunContext<'e, J, G>,
+    flags: &mut Flags<'e>,
+    running: &'e AtomicU64,
+    threads: Vec<ThreadSeat>,
+) -> Result<Vec<StartedThread>, NoMemory>
+    requires { All (IsThreadSeat context.now.world) threads.items }
+    ensures { IfOk result (λ started. started.items ≡ threads.items) }
+{
+    let mut started = Vec::new(alloc);
+    for seat in threads {
+        let thread = start_thread(scope, rt, context, flags.next(), running, seat)?;
+        started.push(thread)?;
+    }
+    Ok(started)
+}
+
+/// One step of each thread whose steps the caller makes. True if there was one to make.
+pub(crate) fn step_each<J: Judge, G: Gate>(
+    context: &RunContext<'_, J, G>,
+    threads: &mut Vec<StartedThread>,
+) -> bool
+    requires { All (IsThreadSeat context.now.world) threads.old.items }
+    ensures { threads.new.items ≡ threads.old.items }
+{
+    let mut busy = false;
+    for at in 0..threads.len() {
+        if threads[at].step(context) {
+            busy = true;
+        }
+    }
+    busy
+}
+
+/// The seats of all threads, in order, once each has ended. It waits for that.
+///
+/// # Errors
+/// `NoMemory` if a thread was stopped since memory ran out, or there is none for the list.
+pub(crate) fn join_threads<J: Judge, G: Gate, R: Threads>(
+    rt: &R,
+    alloc: Global,
+    context: &RunContext<'_, J, G>,
+    threads: Vec<StartedThread>,
+) -> Result<Vec<ThreadSeat>, NoMemory>
+    requires { All (IsThreadSeat context.now.world) threads.items }
+    ensures { IfOk result (λ seats. AllZip HasEnded threads.items seats.items) }
+{
+    let mut seats = Vec::new(alloc);
+    for thread in threads {
+        let seat = thread.join(rt, context)?;
+        seats.push(seat)?;
+    }
+    Ok(seats)
+}
+
+/// Starts the threads that serve targets, each with a flag of its own.
+///
+/// # Errors
+/// `NoMemory` if there is none for the list, or for a thread that was refused.
+pub(crate) fn start_servers<'s, 'e, J: Judge, G: Gate, R: Threads + Wait + Sync>(
+    scope: &'s Scope<'s, &'e ()>,
+    rt: &'e R,
+    alloc: Global,
+    context: &RunContext<'e, J, G>,
+    flags: &mut Flags<'e>,
+    servers: Vec<Server>,
+) -> Result<Vec<StartedServer>, NoMemory>
+    requires { All (IsServer context.now) servers.items }
+    ensures { IfOk result (λ started. started.items ≡ servers.items) }
+{
+    let mut started = Vec::new(alloc);
+    for server in servers {
+        let serving = start_server(scope, rt, alloc, context, flags.next(), server)?;
+        started.push(serving)?;
+    }
+    Ok(started)
+}
+
+/// Whether the caller serves with some of these seats.
+pub(crate) fn is_any_with_caller(servers: &[StartedServer]) -> bool {
+    servers.iter().any(|server| server.is_with_caller())
+}
+
+/// Serves once with each of the seats with which the caller serves.
+///
+/// # Errors
+/// `NoMemory` if a worker ran out of memory. Then the stop word is set.
+pub(crate) fn serve_with_each<J: Judge, G: Gate, R: Wait>(
+    rt: &R,
+    alloc: Global,
+    context: &RunContext<'_, J, G>,
+    servers: &mut Vec<StartedServer>,
+) -> Result<(), NoMemory>
+    requires { All (IsServer context.now) servers.old.items }
+    ensures { servers.new.items ≡ servers.old.items }
+{
+    for at in 0..servers.len() {
+        servers[at].serve(rt, alloc, context)?;
+    }
+    Ok(())
+}
+
+/// The seats with which targets were served, in order. It waits for the threads that serve with them.
+///
+/// # Errors
+/// `NoMemory` if one of these ran out of memory, or there is none for the list.
+pub(crate) fn join_servers<R: Threads>(
+    rt: &R,
+    alloc: Global,
+    servers: Vec<StartedServer>,
+) -> Result<Vec<Server>, NoMemory>
+    ensures { IfOk result (λ back. AllZip IsSameServer servers.items back.items) }
+{
+    let mut back = Vec::new(alloc);
+    for server in servers {
+        let seat = server.join(rt)?;
+        back.push(seat)?;
+    }
+    Ok(back)
+}

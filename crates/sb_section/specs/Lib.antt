@@ -1,4 +1,0 @@
-pub mod Closing
-pub mod Holding
-pub mod Seats
-pub mod Steps

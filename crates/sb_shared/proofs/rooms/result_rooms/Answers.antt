@@ -1,0 +1,9 @@
+use Rattle.std.proofs.Common.{◌∙◌, slice_get}
+use Rattle.sb_statements.specs.Actors.{thread_count}
+use Rattle.sb_shared.proofs.Ranges.{range_more}
+use Rattle.sb_shared.proofs.rooms.result_rooms.Goals as goal
+
+pub loop-target-preserved : goal.loop-target-preserved
+loop-target-preserved c =
+    range_more (λ t. thread_count (slice_get c.args.script.now.targets t)) c.loop-target.target c.loop-target.rooms.items c.push.new.self.items c.in_ok-new.field-0
+    c.loop-target.invariant (c.in_ok-new.ensures ∙ c.thread_count.ensures.count) c.in_ok-push.ensures.items

@@ -1,0 +1,14 @@
+pub mod Closing
+pub mod Keeping
+pub mod Laws
+pub mod Making
+pub mod Opening
+pub mod Origins
+pub mod Parts
+pub mod Plays
+pub mod Rooms
+pub mod Rule
+pub mod Runs
+pub mod Seats
+pub mod Standing
+pub mod Stops

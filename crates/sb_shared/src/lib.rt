@@ -1,0 +1,33 @@
+// The shared world: what all actors of a run on threads share, in one atomic table whose rule is that its words, its book and what the
+// seats know are those of a world that steps of sb_core lead to. Each actor has one seat, and each step of a seat is one atomic step of
+// the table and one step of that world.
+//
+// `specs/Rule.antt` is the rule, `specs/Seats.antt` says what a step makes of a seat, `specs/Closing.antt` what is known once all seats
+// were taken in, and `specs/Runs.antt` that a closed run is a run of the core.
+#![tactic(auto)]
+
+mod books;
+mod closings;
+mod counts;
+mod divisions;
+mod keepers;
+mod laws;
+mod moves;
+mod openings;
+mod protocol;
+mod rooms;
+mod stops;
+mod threads;
+mod views;
+mod workers;
+mod worlds;
+
+pub use closings::ClosedRun;
+pub use keepers::Keeper;
+pub use laws::closed_runs_are_runs;
+pub use openings::SharedParts;
+pub use stops::Stop;
+pub use threads::ThreadSeat;
+pub use views::{Origin, Part, View};
+pub use workers::WorkerSeat;
+pub use worlds::SharedWorld;

@@ -1,0 +1,110 @@
+// One atomic step of a seat of any kind: on a word of a channel, or on the stop word.
+ghost use Rattle.std.specs.Prelude.{◌≡◌, ◌<◌, ◌≤◌, ℕ, true, false, MatchOption, Some};
+ghost use Rattle.atomic_table.specs.Table.{Allows, step};
+ghost use mathlib.Core.Option as raw;
+ghost use prog.Atomic.{either};
+ghost use Rattle.sb_shared.specs.Parts.{is_on_word, looked_view, seen_of, stopped_view, word_view};
+ghost use Rattle.sb_shared.specs.Plays.{IsSpot, MayStep, Stand};
+ghost use Rattle.sb_shared.specs.Rule.{stop_word, turn_word, word_count};
+ghost use Rattle.sb_shared.specs.Stops.{stop_number};
+
+use crate::protocol::{Ends, Fails, Looks, Slot, Steps, World};
+use crate::stops::Stop;
+use crate::views::{Origin, View};
+use atomic_table::{Seat, Shared};
+use sb_actor::{Act, Seen};
+use sb_statements::Word;
+
+// The turn word: 0, or one more than the target of the worker that has the turn.
+pub(crate) const TURN: usize = 5120;
+
+// The stop word: 0, 1 once all threads have ended, and 2 once an actor ran out of memory.
+pub(crate) const STOP: usize = 5136;
+
+// The words of a world and the place of its book, as seats share them.
+pub(crate) type Words = Shared<Slot, View, Origin, World>;
+
+// The lesser of two numbers.
+#[inline(always)]
+fn at_most(number: u32, most: u32) -> usize
+    ensures small { result ≤ most }
+    ensures same { number ≤ most → result ≡ number }
+{
+    if number > most {
+        most as usize
+    } else {
+        number as usize
+    }
+}
+
+// The place of a word among those of all targets.
+#[inline(always)]
+fn index_of(target: u32, word: Word) -> usize
+    ensures inside { result < turn_word }
+    ensures spot { IsSpot target word result }
+{
+    at_most(target, 7) * 640 + at_most(word.channel, 7) * 80 + at_most(word.at, 64)
+}
+
+// One step by an actor's plan, and what it sees. A plan that is not on a word makes none.
+#[inline(always)]
+pub(crate) fn perform(words: &Words, seat: &mut Seat<Slot, View>, act: Act) -> Option<Seen>
+    requires own { seat.old.table_id ≡ words.now.table_id }
+    requires count { words.now.table_id.words ≡ word_count }
+    requires may { MayStep words.now.key words.now.table_id.slots seat.old.id seat.old.me act }
+    ensures own { (seat.new.table_id ≡ seat.old.table_id) × (seat.new.id ≡ seat.old.id) }
+    ensures moved { MatchOption result ((is_on_word act ≡ false) × (seat.new.me ≡ seat.old.me)) (λ seen. (is_on_word act ≡ true) × Stand seat.new.me × ((n : ℕ) × (seat.new.me ≡ (word_view seat.old.me.0 n, seat.old.me.1)) × (seen ≡ seen_of act n))) }
+{
+    match act {
+        Act::Load { target, word } => {
+            let found = words.load::<Steps>(seat, index_of(target, word));
+            Some(Seen::Value(found))
+        }
+        Act::Store {
+            target,
+            word,
+            value,
+        } => {
+            words.store::<Steps>(seat, index_of(target, word), value);
+            Some(Seen::Done)
+        }
+        Act::Exchange {
+            target,
+            word,
+            from,
+            to,
+        } => {
+            let found = words.compare_exchange::<Steps>(seat, index_of(target, word), from, to);
+            Some(Seen::Value(found))
+        }
+        Act::Take | Act::Mark | Act::Give | Act::Idle => None,
+    }
+}
+
+// What the stop word says.
+pub(crate) fn look(words: &Words, seat: &mut Seat<Slot, View>) -> Option<Stop>
+    requires own { (seat.old.table_id ≡ words.now.table_id) × (words.now.table_id.words ≡ word_count) }
+    ensures own { (seat.new.table_id ≡ seat.old.table_id) × (seat.new.id ≡ seat.old.id) }
+    ensures looked { seat.new.me ≡ (looked_view seat.old.me.0 (stop_number result), seat.old.me.1) }
+{
+    match words.load::<Looks>(seat, STOP) {
+        0 => None,
+        1 => Some(Stop::Finished),
+        _ => Some(Stop::OutOfMemory),
+    }
+}
+
+// Sets the stop word, which only grows, and wakes all that doze.
+pub(crate) fn set_stop(words: &Words, seat: &mut Seat<Slot, View>, stop: Stop)
+    requires own { (seat.old.table_id ≡ words.now.table_id) × (words.now.table_id.words ≡ word_count) }
+    ensures own { (seat.new.table_id ≡ seat.old.table_id) × (seat.new.id ≡ seat.old.id) }
+    ensures stopped { seat.new.me ≡ (stopped_view seat.old.me.0 (stop_number (Some stop)), seat.old.me.1) }
+{
+    match stop {
+        Stop::Finished => {
+            words.compare_exchange::<Ends>(seat, STOP, 0, 1);
+        }
+        Stop::OutOfMemory => words.store::<Fails>(seat, STOP, 2),
+    }
+    words.wake_all(STOP);
+}

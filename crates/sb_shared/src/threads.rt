@@ -1,0 +1,147 @@
+// The seat of a thread.
+ghost use Rattle.std.specs.Prelude.{◌≡◌, ◌∷◌, [], true, false};
+ghost use Rattle.sb_actor.specs.Places.{is_finished};
+ghost use Rattle.sb_shared.specs.Seats.{thread_looked, thread_stepped};
+ghost use Rattle.sb_shared.specs.declared.views.Part.TheVariants as part;
+
+use crate::laws::core_laws;
+use crate::moves::{look, perform};
+use crate::protocol::Slot;
+use crate::stops::Stop;
+use crate::views::View;
+use crate::worlds::SharedWorld;
+use atomic_table::Seat;
+use sb_actor::{Act, ThreadState};
+use sb_statements::{Script, StmtResult, Word};
+use std::marker::Model;
+
+/// The seat of a thread: the thread makes its steps with it, and keeps its results there. Contracts see where the thread stands in the
+/// world, with its results so far.
+pub struct ThreadSeat {
+    pub(crate) seat: Seat<Slot, View>,
+    pub(crate) state: ThreadState,
+    // With room for a result of each statement.
+    pub(crate) results: Vec<StmtResult>,
+    pub(crate) waiting: bool,
+}
+
+impl Drop for ThreadSeat {
+    fn drop(self) {
+        let ThreadSeat {
+            seat: _,
+            state: _,
+            results: _,
+            waiting: _,
+        } = self;
+    }
+}
+
+impl Model for ThreadSeat {
+    ghost use Rattle.std.specs.Prelude.{◌≡◌, ◌≤◌, [], length, vec_capacity};
+    ghost use Rattle.sb_actor.specs.Places.{statements_of};
+    ghost use Rattle.sb_shared.specs.Seats.{ThreadSeatValue, thread_seat, thread_in, IsThread};
+
+    ghost Value = { ThreadSeatValue };
+
+    ghost view = { λ s. thread_seat s.seat.table_id s.seat.me.0 };
+
+    ghost invariant = { λ s. IsThread s.seat.me.0 × (s.seat.me.1 ≡ []) × (s.state ≡ (thread_in s.seat.me.0.parts).run.thread)
+        × (s.results.items ≡ (thread_in s.seat.me.0.parts).run.results)
+        × (length (statements_of s.seat.me.0.key.script.value (thread_in s.seat.me.0.parts).target (thread_in s.seat.me.0.parts).thread) ≤ vec_capacity s.results) };
+}
+
+// Whether a plan is on the word of the last step, or on one of an earlier channel: then the last step found nothing to go on with.
+fn repeats(last: Word, next: Act) -> bool {
+    match next {
+        Act::Load { word, .. } => word.channel == last.channel && word.at == last.at,
+        Act::Exchange { word, .. } => word.channel <= last.channel && word.at == last.at,
+        Act::Store { .. } | Act::Take | Act::Mark | Act::Give | Act::Idle => false,
+    }
+}
+
+impl ThreadSeat {
+    /// Makes the thread's next step, as one atomic step on a word. The thread then stands where that step of the world leaves it. The
+    /// step of a finished thread does nothing. It waits for nobody and allocates nothing.
+    pub fn step(&mut self, world: &SharedWorld, script: &Script)
+        requires own { self.old.table ≡ world.now.table }
+        requires script { self.old.key.script.value ≡ script.now }
+        ensures step { is_finished script.now self.old.run.thread ≡ false → self.new ≡ thread_stepped self.old self.new.found }
+        ensures finished { is_finished script.now self.old.run.thread ≡ true → self.new ≡ self.old }
+    {
+        core_laws();
+        let act = self.state.plan(script);
+        let Some(seen) = perform(&world.table.shared, &mut self.seat, act) else {
+            return;
+        };
+        match self.state.after(script, seen) {
+            Some(ended) => {
+                self.results.push_reserved(ended);
+                self.waiting = false;
+            }
+            None => self.note_wait(script, act),
+        }
+    }
+
+    // Notes whether a step that ended no statement found nothing to go on with.
+    fn note_wait(&mut self, script: &Script, act: Act)
+        ensures { self.new ≡ self.old }
+    {
+        self.waiting = match act {
+            Act::Load { word, .. } | Act::Exchange { word, .. } => {
+                repeats(word, self.state.plan(script))
+            }
+            Act::Store { .. } | Act::Take | Act::Mark | Act::Give | Act::Idle => false,
+        };
+    }
+
+    /// Whether the last step found nothing to go on with: a word that is to be loaded again, or a round of channels of which none was free.
+    pub fn is_waiting(&self) -> bool {
+        self.waiting
+    }
+
+    /// Whether each statement of the thread has ended.
+    pub fn is_finished(&self, script: &Script) -> bool
+        ensures { result ≡ is_finished script.now self.now.run.thread }
+    {
+        self.state.finished(script)
+    }
+
+    /// Looks at the stop word: the stop that was set, if one was.
+    pub fn stopped(&mut self, world: &SharedWorld) -> Option<Stop>
+        requires own { self.old.table ≡ world.now.table }
+        ensures looked { self.new ≡ thread_looked self.old result }
+    {
+        look(&world.table.shared, &mut self.seat)
+    }
+
+    /// The target, from 0.
+    pub fn target(&self) -> u32
+        ensures { result ≡ self.now.target }
+    {
+        self.state.target()
+    }
+
+    /// The thread, from 0.
+    pub fn thread(&self) -> u32
+        ensures { result ≡ self.now.thread }
+    {
+        self.state.thread()
+    }
+
+    // The seat of the table, and the results.
+    pub(crate) fn into_parts(self) -> (Seat<Slot, View>, Vec<StmtResult>)
+        ensures table { result.0.table_id ≡ self.table }
+        ensures key { result.0.me.0.key ≡ self.key }
+        ensures parts { result.0.me.0.parts ≡ part.Thread self.target self.thread self.run.thread self.run.results ∷ [] }
+        ensures out { result.0.me.1 ≡ [] }
+        ensures results { result.1.items ≡ self.run.results }
+    {
+        let ThreadSeat {
+            seat,
+            state: _,
+            results,
+            waiting: _,
+        } = self;
+        (seat, results)
+    }
+}

@@ -1,5 +1,0 @@
-mod Gathering
-mod Looking
-mod Marks
-mod Playing
-mod Taking

@@ -1,6 +1,0 @@
-use Rattle.sb_tables_sections.specs.Players.{IsSameDesk, IsServer}
-use Rattle.sb_tables_sections.proofs.crews.serve.Given as goal
-
--- the worker stands where its seat holds it
-abbrev pub invariant-loop-turn : goal.invariant-loop-turn
-invariant-loop-turn l = IsServer l.section l.server.seat l.server.state × IsSameDesk l.fn.server.seat.view l.server.seat.view

@@ -1,3 +1,0 @@
-pub mod Players
-pub mod Plays
-pub mod Seated

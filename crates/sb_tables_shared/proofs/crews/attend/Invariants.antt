@@ -1,0 +1,6 @@
+use Rattle.sb_tables_shared.specs.Players.{IsSameWorker}
+use Rattle.sb_tables_shared.proofs.crews.attend.Given as goal
+
+-- the seat is that of the same worker
+abbrev pub invariant-loop-step : goal.invariant-loop-step
+invariant-loop-step g l = IsSameWorker l.initial.seat l.seat

@@ -1,0 +1,84 @@
+// The script of a row, with the policies for which it is ready, and the schedule of a row.
+ghost use Rattle.std.specs.Prelude.{◌≡◌, true, IfOk};
+ghost use Rattle.std.specs.List.{list_all};
+ghost use Rattle.sb_book.specs.Readiness.{is_ready};
+ghost use Rattle.sb_statements.specs.Actors.{is_step_there};
+
+use sb_rows::RowFault;
+use sb_rule::Policies;
+use sb_ruletext::{TextRefused, read_policies};
+use sb_schedule::{ScheduleRefused, read_schedule};
+use sb_script::{ScriptRefused, read_script};
+use sb_statements::{Schedule, Script};
+use std::alloc::Global;
+
+// What the targets of the scripts may do.
+const POLICY: &str = "sandbox-policy 1
+policy web
+allow event.create when name is \"\\good\"
+deny ping when cookie is 9
+allow ping
+policy none
+";
+
+// As many bytes as the sandbox reads of a script or a schedule.
+const MOST_BYTES: usize = 4_194_304;
+
+/// A script, and the policies for which it is ready.
+#[derive(Drop)]
+pub struct Inputs {
+    /// The policies.
+    pub policies: Policies,
+    /// The script.
+    pub script: Script,
+    ghost ready: { is_ready policies.list script ≡ true },
+}
+
+// Lines that rows separate by semicolons, after a first line, each with this word before it.
+fn lines(alloc: Global, first: &str, word: &str, text: &str) -> Result<String, RowFault> {
+    let mut out = String::from_str(alloc, first)?;
+    for line in text.split(';') {
+        if !line.trim_ascii().is_empty() {
+            write!(out, "{word}{line}\n")?;
+        }
+    }
+    if out.len() > MOST_BYTES {
+        return Err(RowFault::TooMany);
+    }
+    Ok(out)
+}
+
+/// The script of a row, without its first line. Its lines are separated by semicolons.
+pub fn inputs_of(alloc: Global, text: &str) -> Result<Inputs, RowFault> {
+    let text = lines(alloc, "sandbox-script 1\n", "", text)?;
+    if text.len() > MOST_BYTES || POLICY.len() > MOST_BYTES {
+        return Err(RowFault::TooMany);
+    }
+    let policies = match read_policies(alloc, POLICY.as_bytes()) {
+        Ok(policies) => policies,
+        Err(TextRefused::Fault(_)) => return Err(RowFault::BadPolicy),
+        Err(TextRefused::NoMemory) => return Err(RowFault::NoMemory),
+    };
+    match read_script(alloc, text.as_str().as_bytes(), &policies) {
+        Ok(script) => Ok(Inputs { policies, script }),
+        Err(ScriptRefused::Fault(_)) => Err(RowFault::BadWords),
+        Err(ScriptRefused::NoMemory) => Err(RowFault::NoMemory),
+    }
+}
+
+/// The schedule of a row for the actors of a script: an actor and how many steps it makes, separated by semicolons. There are no
+/// rounds.
+pub fn schedule_of(alloc: Global, text: &str, script: &Script) -> Result<Schedule, RowFault>
+    ensures { IfOk result (λ s. list_all (is_step_there script.now.targets) s.steps ≡ true) }
+{
+    let mut text = lines(alloc, "sandbox-schedule 1\n", "step ", text)?;
+    text.push_str("rounds 0\n")?;
+    if text.len() > MOST_BYTES {
+        return Err(RowFault::TooMany);
+    }
+    match read_schedule(alloc, text.as_str().as_bytes(), script) {
+        Ok(schedule) => Ok(schedule),
+        Err(ScheduleRefused::Fault(_)) => Err(RowFault::BadWords),
+        Err(ScheduleRefused::NoMemory) => Err(RowFault::NoMemory),
+    }
+}

@@ -1,0 +1,112 @@
+// A worker serves its target for a while.
+ghost use Rattle.std.specs.Prelude.{◌≡◌, true, OnOk};
+ghost use Rattle.sb_actor.specs.WorkerTable.{is_looking, worker_plan};
+ghost use Rattle.sb_actor.specs.declared.acts.Act.TheVariants.{Take};
+ghost use Rattle.sb_task.specs.Contexts.{IsWorkerOf};
+ghost use Rattle.sb_task.specs.Works.{IsSameWorker, IsWork};
+
+use crate::contexts::RunContext;
+use crate::pauses::pause;
+use crossbeam_utils::Backoff;
+use sb_actor::Act;
+use sb_items::NoMemory;
+use sb_outside::Gate;
+use sb_rule::Judge;
+use sb_shared::{Stop, WorkerSeat};
+use std::alloc::Global;
+use std::sync::Wait;
+
+// After this many calls others may draw the seat.
+const MOST_CALLS: u32 = 64;
+
+// A try to take the turn, after the decision on the copy and the gate. If the turn is held, it looks at the stop word and waits a little.
+fn try_turn<J: Judge, G: Gate, R: Wait>(
+    rt: &R,
+    alloc: Global,
+    context: &RunContext<'_, J, G>,
+    seat: &mut WorkerSeat,
+    backoff: &Backoff,
+) -> Result<(), NoMemory>
+    requires own { IsWorkerOf context.now.world seat.old }
+    requires plan { worker_plan seat.old.state ≡ Take }
+    ensures same { IsSameWorker seat.old seat.new }
+{
+    context.establish_kept();
+    if !seat.has_decided() {
+        seat.decide(alloc, context.judge)?;
+        context.gate.pass(rt, seat.target(), seat.mark());
+    }
+    if seat.try_take(context.world) {
+        backoff.reset();
+        return Ok(());
+    }
+    if let Some(Stop::OutOfMemory) = seat.stopped(context.world) {
+        return Err(NoMemory);
+    }
+    pause(backoff);
+    Ok(())
+}
+
+// The worker's next step, by its plan.
+fn advance<J: Judge, G: Gate, R: Wait>(
+    rt: &R,
+    alloc: Global,
+    context: &RunContext<'_, J, G>,
+    seat: &mut WorkerSeat,
+    backoff: &Backoff,
+) -> Result<(), NoMemory>
+    requires own { IsWorkerOf context.now.world seat.old }
+    ensures same { IsSameWorker seat.old seat.new }
+{
+    context.establish_kept();
+    match seat.plan() {
+        Act::Take => try_turn(rt, alloc, context, seat, backoff)?,
+        Act::Mark => seat.answer(alloc, context.world, context.judge)?,
+        Act::Give => seat.give_back(context.world),
+        Act::Load { .. } | Act::Store { .. } | Act::Exchange { .. } | Act::Idle => {
+            seat.step(context.world)
+        }
+    }
+    Ok(())
+}
+
+/// Makes the steps of a worker until it has looked at each channel in turn and found none ready, or has served `MOST_CALLS` calls. True if it served a call.
+///
+/// # Errors
+/// `NoMemory` if there is none for a decision or an answer, or another worker ran out of memory while this one tried to take the turn. Then the stop word is
+/// set, and the worker stands where it did, with the turn if it had it.
+pub(crate) fn visit<J: Judge, G: Gate, R: Wait>(
+    rt: &R,
+    alloc: Global,
+    context: &RunContext<'_, J, G>,
+    seat: &mut WorkerSeat,
+) -> Result<bool, NoMemory>
+    requires own { IsWorkerOf context.now.world seat.old }
+    requires looking { is_looking seat.old.state.stage ≡ true }
+    ensures same { IsSameWorker seat.old seat.new }
+    ensures looking { OnOk result (is_looking seat.new.state.stage ≡ true) }
+{
+    let channels = seat.channels();
+    let backoff = Backoff::new();
+    let mut left = channels;
+    let mut calls = 0;
+    for _ in rt.forever() {
+        let looked = seat.is_looking();
+        if advance(rt, alloc, context, seat, &backoff).is_err() {
+            seat.fail(context.world);
+            return Err(NoMemory);
+        }
+        if seat.is_looking() {
+            if looked {
+                left = left.saturating_sub(1);
+            } else {
+                left = channels;
+                calls += 1;
+            }
+            if left == 0 || calls >= MOST_CALLS {
+                break;
+            }
+        }
+    }
+    Ok(calls > 0)
+}

@@ -1,4 +1,0 @@
-pub mod Plays
-pub mod Rule
-pub mod Turns
-pub mod Views
