@@ -11,19 +11,19 @@ use Rattle.sb_call.specs.declared.tags.ParamKind.{ParamKind}
 use Rattle.sb_call.specs.declared.tags.ParamKind.TheVariants as kind
 use Rattle.sb_call.specs.declared.arguments.Arg.{Arg}
 use Rattle.sb_call.specs.declared.arguments.Arg.TheVariants as arg
-use Rattle.sb_block.specs.Packing.{type_of, offset_of, size_of, information, words_for, unit_word, word_units}
-use Rattle.sb_block.specs.Blocks.{block, bytes_of, content_of, contents_of, informations_of, end_offset}
+use Rattle.sb_block.specs.Packing.{type_of, offset_of, size_of, descriptor, words_for, unit_word, word_units}
+use Rattle.sb_block.specs.Blocks.{block, bytes_of, content_of, contents_of, descriptors_of, end_offset}
 use Rattle.sb_block.specs.Layout.{first_offset}
 use Rattle.sb_block.proofs.PackingLemmas.{packed_len}
 
--- there are as many information words as arguments that fit
-pub informations_len : (at : ℕ) (kinds : List ParamKind) (args : List Arg) → fit kinds args ≡ true
-    → length (informations_of at kinds args) ≡ length args
-informations_len at [] [] h = refl
-informations_len at [] (a ∷ args) h = absurd (false≢true h)
-informations_len at (k ∷ kinds) [] h = absurd (false≢true h)
-informations_len at (k ∷ kinds) (a ∷ args) h =
-    omega (arith, informations_len (at + length (content_of a)) kinds args (and_parts (fits_kind k a) (fit kinds args) h).1)
+-- there are as many descriptors as arguments that fit
+pub descriptors_len : (at : ℕ) (kinds : List ParamKind) (args : List Arg) → fit kinds args ≡ true
+    → length (descriptors_of at kinds args) ≡ length args
+descriptors_len at [] [] h = refl
+descriptors_len at [] (a ∷ args) h = absurd (false≢true h)
+descriptors_len at (k ∷ kinds) [] h = absurd (false≢true h)
+descriptors_len at (k ∷ kinds) (a ∷ args) h =
+    omega (arith, descriptors_len (at + length (content_of a)) kinds args (and_parts (fits_kind k a) (fit kinds args) h).1)
 
 -- a block has as many words as its end says
 pub block_len : (tag : CallTag) (args : List Arg) (mark : ℕ) → fits tag args ≡ true
@@ -31,18 +31,18 @@ pub block_len : (tag : CallTag) (args : List Arg) (mark : ℕ) → fits tag args
 block_len tag args mark h =
     omega (
       arith,
-      length-append (informations_of (first_offset (length args)) (shape_of tag) args) (end_offset args * 2 ^ 16 ∷ contents_of args),
-      informations_len (first_offset (length args)) (shape_of tag) args h,
+      length-append (descriptors_of (first_offset (length args)) (shape_of tag) args) (end_offset args * 2 ^ 16 ∷ contents_of args),
+      descriptors_len (first_offset (length args)) (shape_of tag) args h,
     )
 
--- what the three parts of an information word are
-pub type_back : (t o s : ℕ) → o < 2 ^ 16 → s < 2 ^ 16 → type_of (information t o s) ≡ t
+-- what the three parts of a descriptor are
+pub type_back : (t o s : ℕ) → o < 2 ^ 16 → s < 2 ^ 16 → type_of (descriptor t o s) ≡ t
 type_back t o s ho hs = omega arith
 
-pub offset_back : (t o s : ℕ) → o < 2 ^ 16 → s < 2 ^ 16 → offset_of (information t o s) ≡ o
+pub offset_back : (t o s : ℕ) → o < 2 ^ 16 → s < 2 ^ 16 → offset_of (descriptor t o s) ≡ o
 offset_back t o s ho hs = omega arith
 
-pub size_back : (t o s : ℕ) → o < 2 ^ 16 → s < 2 ^ 16 → size_of (information t o s) ≡ s
+pub size_back : (t o s : ℕ) → o < 2 ^ 16 → s < 2 ^ 16 → size_of (descriptor t o s) ≡ s
 size_back t o s ho hs = omega arith
 
 -- an argument's content needs as many words as its bytes do

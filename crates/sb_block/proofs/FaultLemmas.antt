@@ -10,7 +10,7 @@ use Rattle.sb_call.specs.Tags.{shape_of, tag_of}
 use Rattle.sb_call.specs.declared.tags.ParamKind.{ParamKind}
 use Rattle.sb_call.specs.declared.tags.ParamKind.TheVariants as kind
 use Rattle.sb_block.specs.Copies.{Copied, copied, is_copy, is_end}
-use Rattle.sb_block.specs.Layout.{most_parameters, tag_word, count_in, end_in, informations}
+use Rattle.sb_block.specs.Layout.{most_parameters, tag_word, count_in, end_in, descriptors}
 use Rattle.sb_block.specs.Packing.{type_of}
 use Rattle.sb_block.specs.Faults.{fault, faults, first_there, where_holds, is_untyped, is_misplaced, is_missized, is_unnamed, first_unnamed, has_shape, type_number, tag_in}
 use Rattle.sb_block.specs.Calls.{argument_in}
@@ -27,7 +27,7 @@ pub unmapped : {X : Type 0} (f : ℕ → X) (p : Option ℕ) → option_map f p 
 unmapped f None h = refl
 unmapped f (Some n) h = absurd (cc)
 
--- where no fault is there, the first is not, and none of the others
+-- if no fault is there, the first is not, and none of the others
 none_there : (found : Option BlockFault) (more : List (Option BlockFault)) → option_or found (first_there more) ≡ None
     → (found ≡ None) × (first_there more ≡ None)
 none_there None more h = (refl, h)
@@ -56,32 +56,32 @@ fetched c h =
 
 -- and what the words have that have none of the others
 pub record Faultless (words : List ℕ) : Type 0 where
-  pub typed : position is_untyped (informations words) ≡ None
-  pub placed : position (is_misplaced (count_in words) (end_in words)) (informations words) ≡ None
+  pub typed : position is_untyped (descriptors words) ≡ None
+  pub placed : position (is_misplaced (count_in words) (end_in words)) (descriptors words) ≡ None
   pub known : is_none (tag_of (tag_word words)) ≡ false
-  pub shaped : not (has_shape (shape_of (tag_in words)) (informations words)) ≡ false
-  pub sized : position is_missized (informations words) ≡ None
-  pub named : first_unnamed (shape_of (tag_in words)) (informations words) words ≡ None
+  pub shaped : not (has_shape (shape_of (tag_in words)) (descriptors words)) ≡ false
+  pub sized : position is_missized (descriptors words) ≡ None
+  pub named : first_unnamed (shape_of (tag_in words)) (descriptors words) words ≡ None
 
 pub faultless_words : (c : Copied) → first_there (drop 4 (faults c)) ≡ None → Faultless c.words
 faultless_words c h =
-    let typed = none_there (option_map BadParamType (position is_untyped (informations c.words))) (drop 5 (faults c)) h in
-    let placed = none_there (option_map BadPlace (position (is_misplaced (count_in c.words) (end_in c.words)) (informations c.words)))
+    let typed = none_there (option_map BadParamType (position is_untyped (descriptors c.words))) (drop 5 (faults c)) h in
+    let placed = none_there (option_map BadPlace (position (is_misplaced (count_in c.words) (end_in c.words)) (descriptors c.words)))
     (drop 6 (faults c)) typed.1 in
     let known = none_there (where_holds (is_none (tag_of (tag_word c.words))) (UnknownTag (tag_word c.words))) (drop 7 (faults c)) placed.1 in
-    let shaped = none_there (where_holds (not (has_shape (shape_of (tag_in c.words)) (informations c.words))) WrongShape) (drop 8 (faults c)) known.1 in
-    let sized = none_there (option_map BadSize (position is_missized (informations c.words))) (drop 9 (faults c)) shaped.1 in
-    let named = none_there (option_map BadName (first_unnamed (shape_of (tag_in c.words)) (informations c.words) c.words)) [] sized.1 in
+    let shaped = none_there (where_holds (not (has_shape (shape_of (tag_in c.words)) (descriptors c.words))) WrongShape) (drop 8 (faults c)) known.1 in
+    let sized = none_there (option_map BadSize (position is_missized (descriptors c.words))) (drop 9 (faults c)) shaped.1 in
+    let named = none_there (option_map BadName (first_unnamed (shape_of (tag_in c.words)) (descriptors c.words) c.words)) [] sized.1 in
     record {
       typed = unmapped BadParamType _ typed.0;
       placed = unmapped BadPlace _ placed.0;
       known = (not_taken (is_none (tag_of (tag_word c.words))) (UnknownTag (tag_word c.words)) None known.0).0;
-      shaped = (not_taken (not (has_shape (shape_of (tag_in c.words)) (informations c.words))) WrongShape None shaped.0).0;
+      shaped = (not_taken (not (has_shape (shape_of (tag_in c.words)) (descriptors c.words))) WrongShape None shaped.0).0;
       sized = unmapped BadSize _ sized.0;
       named = unmapped BadName _ named.0;
     }
 
--- where no fault is there, none of the first few is, and none of the others
+-- if no fault is there, none of the first few is, and none of the others
 halves : (n : ℕ) (found : List (Option BlockFault)) → first_there found ≡ None
     → (first_there (take n found) ≡ None) × (first_there (drop n found) ≡ None)
 halves zero found h = (refl, h)
@@ -134,7 +134,7 @@ later_faults_are_of_whole_copies c rule h =
 pub faultless_copies_are_whole : FaultlessCopiesAreWhole
 faultless_copies_are_whole c rule h = later_faults_are_of_whole_copies c rule (both_halves c h).0
 
--- where nothing stands for what ought to be a name, each argument is of its kind
+-- if nothing stands for what ought to be a name, each argument is of its kind
 fitting_kind : (k : ParamKind) (word : ℕ) (words : List ℕ) → type_of word ≡ type_number k → is_unnamed k word words ≡ false
     → fits_kind k (argument_in words word) ≡ true
 fitting_kind kind.Text word words t h = rw t
@@ -156,4 +156,4 @@ fitting_kinds (k ∷ kinds) (word ∷ more) words s n =
 pub faultless_copies_fit : FaultlessCopiesFit
 faultless_copies_fit c h =
     let f = faultless c h in
-    fitting_kinds (shape_of (tag_in c.words)) (informations c.words) c.words (not_false _ f.shaped) f.named
+    fitting_kinds (shape_of (tag_in c.words)) (descriptors c.words) c.words (not_false _ f.shaped) f.named

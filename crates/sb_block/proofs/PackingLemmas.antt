@@ -14,7 +14,7 @@ packed_len (a ∷ b ∷ []) = omega arith
 packed_len (a ∷ b ∷ c ∷ []) = omega arith
 packed_len (a ∷ b ∷ c ∷ d ∷ more) = omega (arith, packed_len more)
 
--- where each unit has 16 bits, all do
+-- if each unit has 16 bits, all do
 pub units_pass : (us : List ℕ) → ((k : ℕ) → slice_index us k < 2 ^ 16) → list_all is_unit us ≡ true
 units_pass [] h = refl
 units_pass (u ∷ us) h =

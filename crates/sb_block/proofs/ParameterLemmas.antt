@@ -16,7 +16,7 @@ use Rattle.sb_block.specs.Blocks.{bytes_of}
 use Rattle.sb_block.specs.Calls.{argument_in}
 use Rattle.sb_block.specs.Copies.{Copied, is_copy, is_end}
 use Rattle.sb_block.specs.Faults.{fault, has_shape, is_misplaced, is_missized, type_number, tag_in}
-use Rattle.sb_block.specs.Layout.{tag_word, count_in, end_in, first_offset, information_at, informations}
+use Rattle.sb_block.specs.Layout.{tag_word, count_in, end_in, first_offset, descriptor_at, descriptors}
 use Rattle.sb_block.specs.Laws.{TagsAreKnown, ParametersAreAsMany, ParametersHaveTheirSizes, ParametersHaveTheirTypes, ParametersLieInside}
 use Rattle.sb_block.specs.Packing.{type_of, offset_of, size_of, words_for, part_of, word_units, string_in}
 use Rattle.sb_block.proofs.FaultLemmas.{both_halves, counted, ended, faultless, fetched, has_length, not_false}
@@ -66,7 +66,7 @@ sized_here kind.Name info words t s inside = rw t (string_len info words (even_s
 sized_here kind.Num info words t s inside = rw t (four_bytes info t s)
 sized_here kind.Handle info words t s inside = rw t (eight_bytes info t s)
 
--- where the types are those of the kinds, each is that of its kind
+-- if the types are those of the kinds, each is that of its kind
 typed_at : (kinds : List ParamKind) (infos : List ℕ) (i : ℕ) → has_shape kinds infos ≡ true → i < length infos
     → type_of (slice_index infos i) ≡ type_number (slice_index_or kinds i kind.Handle)
 typed_at kinds [] i s l = absurd (omega arith)
@@ -76,17 +76,17 @@ typed_at (k ∷ ks) (x ∷ xs) zero s l =
 typed_at (k ∷ ks) (x ∷ xs) (suc i) s l =
     typed_at ks xs i (and_parts (nat_eq (type_of x) (type_number k)) (has_shape ks xs) s).1 (omega arith)
 
--- the argument of an information word stands at its place
+-- the argument of a descriptor stands at its place
 argument_at : (words infos : List ℕ) (i : ℕ) → i < length infos
     → arg_at (map (argument_in words) infos) i ≡ argument_in words (slice_index infos i)
 argument_at words [] i l = absurd (omega arith)
 argument_at words (x ∷ xs) zero l = refl
 argument_at words (x ∷ xs) (suc i) l = argument_at words xs i (omega arith)
 
--- what is known of the information words of a copy without a fault
+-- what is known of the descriptors of a copy without a fault
 record Known (c : Copied) : Type 0 where
-  many : length (informations c.words) ≡ c.count_seen
-  same : (i : ℕ) → i < c.count_seen → slice_index (informations c.words) i ≡ information_at c.words i
+  many : length (descriptors c.words) ≡ c.count_seen
+  same : (i : ℕ) → i < c.count_seen → slice_index (descriptors c.words) i ≡ descriptor_at c.words i
   end : end_in c.words ≡ length c.words
   count : count_in c.words ≡ c.count_seen
 
@@ -115,7 +115,7 @@ tags_are_known c h = known_tag (tag_of (tag_word c.words)) (faultless c h).known
 
 pub parameters_are_as_many : ParametersAreAsMany
 parameters_are_as_many c rule h =
-    length-map (informations c.words) (argument_in c.words) ∙ (known c rule h).many
+    length-map (descriptors c.words) (argument_in c.words) ∙ (known c rule h).many
 
 placed_at : (count end info : ℕ) → not (is_misplaced count end info) ≡ true
     → (first_offset count ≤ offset_of info) × (offset_of info + words_for (size_of info) ≤ end)
@@ -124,25 +124,25 @@ placed_at count end info h = (grind (arith, nat_tests), grind (arith, nat_tests)
 pub parameters_lie_inside : ParametersLieInside
 parameters_lie_inside c rule h i l =
     let k = known c rule h in
-    let all = fails_everywhere (is_misplaced (count_in c.words) (end_in c.words)) (informations c.words) (faultless c h).placed in
-    let here : not (is_misplaced (count_in c.words) (end_in c.words) (slice_index (informations c.words) i)) ≡ true =
-    all_at (λ x. not (is_misplaced (count_in c.words) (end_in c.words) x)) (informations c.words) i all (omega (arith, k.many)) in
-    let places = placed_at (count_in c.words) (end_in c.words) (information_at c.words i) (rw (k.same i l) at here) in
+    let all = fails_everywhere (is_misplaced (count_in c.words) (end_in c.words)) (descriptors c.words) (faultless c h).placed in
+    let here : not (is_misplaced (count_in c.words) (end_in c.words) (slice_index (descriptors c.words) i)) ≡ true =
+    all_at (λ x. not (is_misplaced (count_in c.words) (end_in c.words) x)) (descriptors c.words) i all (omega (arith, k.many)) in
+    let places = placed_at (count_in c.words) (end_in c.words) (descriptor_at c.words i) (rw (k.same i l) at here) in
     (omega (arith, places.0, k.count), omega (arith, places.1, k.end))
 
 pub parameters_have_their_types : ParametersHaveTheirTypes
 parameters_have_their_types c rule h i l =
     let k = known c rule h in
     ap type_of (sym (k.same i l))
-    ∙ typed_at (shape_of (tag_in c.words)) (informations c.words) i (not_false _ (faultless c h).shaped) (omega (arith, k.many))
+    ∙ typed_at (shape_of (tag_in c.words)) (descriptors c.words) i (not_false _ (faultless c h).shaped) (omega (arith, k.many))
 
 pub parameters_have_their_sizes : ParametersHaveTheirSizes
 parameters_have_their_sizes c rule h i l =
     let k = known c rule h in
-    let inside : i < length (informations c.words) = omega (arith, k.many) in
-    let all = fails_everywhere is_missized (informations c.words) (faultless c h).sized in
-    let sized : not (is_missized (slice_index (informations c.words) i)) ≡ true =
-    all_at (λ x. not (is_missized x)) (informations c.words) i all inside in
-    let size = sized_here (slice_index_or (shape_of (tag_in c.words)) i kind.Handle) (information_at c.words i) c.words
+    let inside : i < length (descriptors c.words) = omega (arith, k.many) in
+    let all = fails_everywhere is_missized (descriptors c.words) (faultless c h).sized in
+    let sized : not (is_missized (slice_index (descriptors c.words) i)) ≡ true =
+    all_at (λ x. not (is_missized x)) (descriptors c.words) i all inside in
+    let size = sized_here (slice_index_or (shape_of (tag_in c.words)) i kind.Handle) (descriptor_at c.words i) c.words
     (parameters_have_their_types c rule h i l) (rw (k.same i l) at sized) (parameters_lie_inside c rule h i l).1 in
-    rw (argument_at c.words (informations c.words) i inside, k.same i l) size
+    rw (argument_at c.words (descriptors c.words) i inside, k.same i l) size

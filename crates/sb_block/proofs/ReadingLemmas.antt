@@ -10,8 +10,8 @@ use Rattle.sb_call.specs.declared.tags.ParamKind.{ParamKind}
 use Rattle.sb_call.specs.declared.tags.ParamKind.TheVariants as kind
 use Rattle.sb_call.specs.declared.arguments.Arg.{Arg}
 use Rattle.sb_call.specs.declared.arguments.Arg.TheVariants as arg
-use Rattle.sb_block.specs.Packing.{information, words_for, part_of, packed, unpacked, word_units, string_in, number_in}
-use Rattle.sb_block.specs.Blocks.{bytes_of, content_of, contents_of, informations_of}
+use Rattle.sb_block.specs.Packing.{descriptor, words_for, part_of, packed, unpacked, word_units, string_in, number_in}
+use Rattle.sb_block.specs.Blocks.{bytes_of, content_of, contents_of, descriptors_of}
 use Rattle.sb_block.specs.Faults.{type_number, is_untyped, is_misplaced, is_missized, has_shape, is_unnamed, first_unnamed}
 use Rattle.sb_block.specs.Calls.{argument_in}
 use Rattle.sb_wide.specs.Wide.{is_unit}
@@ -69,10 +69,10 @@ nowhere p xs h = rw (all_pass (λ x. not (p x)) xs h, same_not_less (length xs))
 pub part_back : (pre xs post : List ℕ) (at n : ℕ) → length pre ≡ at → length xs ≡ n → part_of at n (pre ++ (xs ++ post)) ≡ xs
 part_back pre xs post at n e h = rw (sym e, sym h, drop-append_seam pre (xs ++ post), take-append_seam xs post)
 
--- the string of an information word that was made for it
+-- the string of a descriptor that was made for it
 pub string_back : (pre post us : List ℕ) (t at : ℕ) → length pre ≡ at → at < 2 ^ 16 → 2 * length us < 2 ^ 16
     → list_all is_unit us ≡ true
-    → string_in (information t at (2 * length us)) (pre ++ (packed us ++ post)) ≡ us
+    → string_in (descriptor t at (2 * length us)) (pre ++ (packed us ++ post)) ≡ us
 string_back pre post us t at e ha hs h =
     let o = offset_back t at (2 * length us) ha hs in
     let s = size_back t at (2 * length us) ha hs in
@@ -80,16 +80,16 @@ string_back pre post us t at e ha hs h =
     let words : length (packed us) ≡ words_for (2 * length us) = omega (arith, packed_len us) in
     rw (o, s, half, part_back pre (packed us) post at (words_for (2 * length us)) e words) (unpacked_packed us h)
 
--- the number of an information word that was made for it
+-- the number of a descriptor that was made for it
 pub number_back : (pre post : List ℕ) (t at s n : ℕ) → length pre ≡ at → at < 2 ^ 16 → s < 2 ^ 16
-    → number_in (information t at s) (pre ++ (n ∷ post)) ≡ n
+    → number_in (descriptor t at s) (pre ++ (n ∷ post)) ≡ n
 number_back pre post t at s n e ha hs =
     rw (offset_back t at s ha hs, sym e, get_or-append_seam pre n post 0)
 
--- the argument of an information word that was made for it
+-- the argument of a descriptor that was made for it
 pub argument_back : (pre post : List ℕ) (k : ParamKind) (a : Arg) (at : ℕ) → length pre ≡ at → at < 2 ^ 16
     → bytes_of k a < 2 ^ 16 → fits_kind k a ≡ true → has_units a ≡ true
-    → argument_in (pre ++ (content_of a ++ post)) (information (type_number k) at (bytes_of k a)) ≡ a
+    → argument_in (pre ++ (content_of a ++ post)) (descriptor (type_number k) at (bytes_of k a)) ≡ a
 argument_back pre post kind.Text (arg.Str us) at e ha hs f h =
     rw (type_back 1 at (2 * length us) ha hs) (ap arg.Str (string_back pre post us 1 at e ha hs h))
 argument_back pre post kind.Name (arg.Str us) at e ha hs f h =
@@ -104,22 +104,22 @@ argument_back pre post kind.Num (arg.Num n) at e ha hs f h =
 argument_back pre post kind.Handle (arg.Num n) at e ha hs f h =
     rw (type_back 3 at 8 ha hs, number_back pre post 3 at 8 n e ha hs)
 
--- an information word that was made has its parts
-is_typed : (k : ParamKind) (at s : ℕ) → at < 2 ^ 16 → s < 2 ^ 16 → not (is_untyped (information (type_number k) at s)) ≡ true
+-- a descriptor that was made has its parts
+is_typed : (k : ParamKind) (at s : ℕ) → at < 2 ^ 16 → s < 2 ^ 16 → not (is_untyped (descriptor (type_number k) at s)) ≡ true
 is_typed kind.Text at s ha hs = rw (type_back 1 at s ha hs)
 is_typed kind.Name at s ha hs = rw (type_back 1 at s ha hs)
 is_typed kind.Num at s ha hs = rw (type_back 2 at s ha hs)
 is_typed kind.Handle at s ha hs = rw (type_back 3 at s ha hs)
 
 is_placed : (count end t at s : ℕ) → at < 2 ^ 16 → s < 2 ^ 16 → 16 + count ≤ at → at + words_for s ≤ end
-    → not (is_misplaced count end (information t at s)) ≡ true
+    → not (is_misplaced count end (descriptor t at s)) ≡ true
 is_placed count end t at s ha hs low high = rw (offset_back t at s ha hs, size_back t at s ha hs) (grind (arith, nat_tests))
 
 pub even_size : (n : ℕ) → 2 * n % 2 ≡ 0
 even_size n = omega arith
 
 is_sized : (k : ParamKind) (a : Arg) (at : ℕ) → at < 2 ^ 16 → bytes_of k a < 2 ^ 16 → fits_kind k a ≡ true
-    → not (is_missized (information (type_number k) at (bytes_of k a))) ≡ true
+    → not (is_missized (descriptor (type_number k) at (bytes_of k a))) ≡ true
 is_sized kind.Text (arg.Str us) at ha hs f = rw (type_back 1 at (2 * length us) ha hs, size_back 1 at (2 * length us) ha hs, even_size (length us))
 is_sized kind.Name (arg.Str us) at ha hs f = rw (type_back 1 at (2 * length us) ha hs, size_back 1 at (2 * length us) ha hs, even_size (length us))
 is_sized kind.Num (arg.Str us) at ha hs f = absurd (false≢true f)
@@ -131,7 +131,7 @@ is_sized kind.Handle (arg.Num n) at ha hs f = rw (type_back 3 at 8 ha hs, size_b
 
 is_named : (pre post : List ℕ) (k : ParamKind) (a : Arg) (at : ℕ) → length pre ≡ at → at < 2 ^ 16
     → bytes_of k a < 2 ^ 16 → fits_kind k a ≡ true → has_units a ≡ true
-    → is_unnamed k (information (type_number k) at (bytes_of k a)) (pre ++ (content_of a ++ post)) ≡ false
+    → is_unnamed k (descriptor (type_number k) at (bytes_of k a)) (pre ++ (content_of a ++ post)) ≡ false
 is_named pre post kind.Text a at e ha hs f h = refl
 is_named pre post kind.Num a at e ha hs f h = refl
 is_named pre post kind.Handle a at e ha hs f h = refl
@@ -155,7 +155,7 @@ room_of at k a args h =
 
 -- all types are known
 pub all_typed : (at : ℕ) (kinds : List ParamKind) (args : List Arg) → at + length (contents_of args) ≤ 64
-    → list_all (λ x. not (is_untyped x)) (informations_of at kinds args) ≡ true
+    → list_all (λ x. not (is_untyped x)) (descriptors_of at kinds args) ≡ true
 all_typed at [] args h = refl
 all_typed at (k ∷ kinds) [] h = refl
 all_typed at (k ∷ kinds) (a ∷ args) h =
@@ -165,7 +165,7 @@ all_typed at (k ∷ kinds) (a ∷ args) h =
 -- all parameters are in place
 pub all_placed : (count end at : ℕ) (kinds : List ParamKind) (args : List Arg) → at + length (contents_of args) ≤ 64
     → 16 + count ≤ at → at + length (contents_of args) ≤ end
-    → list_all (λ x. not (is_misplaced count end x)) (informations_of at kinds args) ≡ true
+    → list_all (λ x. not (is_misplaced count end x)) (descriptors_of at kinds args) ≡ true
 all_placed count end at [] args h low high = refl
 all_placed count end at (k ∷ kinds) [] h low high = refl
 all_placed count end at (k ∷ kinds) (a ∷ args) h low high =
@@ -177,7 +177,7 @@ all_placed count end at (k ∷ kinds) (a ∷ args) h low high =
 
 -- the types are those of the kinds
 pub all_shaped : (at : ℕ) (kinds : List ParamKind) (args : List Arg) → at + length (contents_of args) ≤ 64
-    → fit kinds args ≡ true → has_shape kinds (informations_of at kinds args) ≡ true
+    → fit kinds args ≡ true → has_shape kinds (descriptors_of at kinds args) ≡ true
 all_shaped at [] [] h f = refl
 all_shaped at [] (a ∷ args) h f = absurd (false≢true f)
 all_shaped at (k ∷ kinds) [] h f = absurd (false≢true f)
@@ -192,7 +192,7 @@ all_shaped at (k ∷ kinds) (a ∷ args) h f =
 
 -- all sizes are right
 pub all_sized : (at : ℕ) (kinds : List ParamKind) (args : List Arg) → at + length (contents_of args) ≤ 64
-    → fit kinds args ≡ true → list_all (λ x. not (is_missized x)) (informations_of at kinds args) ≡ true
+    → fit kinds args ≡ true → list_all (λ x. not (is_missized x)) (descriptors_of at kinds args) ≡ true
 all_sized at [] args h f = refl
 all_sized at (k ∷ kinds) [] h f = refl
 all_sized at (k ∷ kinds) (a ∷ args) h f =
@@ -211,7 +211,7 @@ further pre a at e = omega (arith, length-append pre (content_of a))
 -- what ought to be a name is one
 pub all_named : (ws pre : List ℕ) (at : ℕ) (kinds : List ParamKind) (args : List Arg) → ws ≡ pre ++ contents_of args
     → length pre ≡ at → at + length (contents_of args) ≤ 64 → fit kinds args ≡ true → list_all has_units args ≡ true
-    → first_unnamed kinds (informations_of at kinds args) ws ≡ None
+    → first_unnamed kinds (descriptors_of at kinds args) ws ≡ None
 all_named ws pre at [] args w e h f u = refl
 all_named ws pre at (k ∷ kinds) [] w e h f u = refl
 all_named ws pre at (k ∷ kinds) (a ∷ args) w e h f u =
@@ -219,7 +219,7 @@ all_named ws pre at (k ∷ kinds) (a ∷ args) w e h f u =
     let fitting = and_parts (fits_kind k a) (fit kinds args) f in
     let units = and_parts (has_units a) (list_all has_units args) u in
     let here = is_named pre (contents_of args) k a at e room.low room.few fitting.0 units.0 in
-    let here_too : is_unnamed k (information (type_number k) at (bytes_of k a)) ws ≡ false = rw w here in
+    let here_too : is_unnamed k (descriptor (type_number k) at (bytes_of k a)) ws ≡ false = rw w here in
     rw (
       here_too,
       all_named ws (pre ++ content_of a) (at + length (content_of a)) kinds args (moved ws pre a args w)
@@ -229,7 +229,7 @@ all_named ws pre at (k ∷ kinds) (a ∷ args) w e h f u =
 -- the arguments come back
 pub all_back : (ws pre : List ℕ) (at : ℕ) (kinds : List ParamKind) (args : List Arg) → ws ≡ pre ++ contents_of args
     → length pre ≡ at → at + length (contents_of args) ≤ 64 → fit kinds args ≡ true → list_all has_units args ≡ true
-    → map (argument_in ws) (informations_of at kinds args) ≡ args
+    → map (argument_in ws) (descriptors_of at kinds args) ≡ args
 all_back ws pre at [] [] w e h f u = refl
 all_back ws pre at [] (a ∷ args) w e h f u = absurd (false≢true f)
 all_back ws pre at (k ∷ kinds) [] w e h f u = absurd (false≢true f)
@@ -238,7 +238,7 @@ all_back ws pre at (k ∷ kinds) (a ∷ args) w e h f u =
     let fitting = and_parts (fits_kind k a) (fit kinds args) f in
     let units = and_parts (has_units a) (list_all has_units args) u in
     let here = argument_back pre (contents_of args) k a at e room.low room.few fitting.0 units.0 in
-    let here_too : argument_in ws (information (type_number k) at (bytes_of k a)) ≡ a = rw w here in
+    let here_too : argument_in ws (descriptor (type_number k) at (bytes_of k a)) ≡ a = rw w here in
     let others = all_back ws (pre ++ content_of a) (at + length (content_of a)) kinds args (moved ws pre a args w)
     (further pre a at e) room.rest fitting.1 units.1 in
     rw (here_too, others)

@@ -14,7 +14,7 @@ use Rattle.sb_call.specs.declared.tags.ParamKind.TheVariants as kind
 use Rattle.sb_call.specs.declared.arguments.Arg.TheVariants.{Num}
 use Rattle.sb_block.specs.Copies.{Copied, copied, is_end}
 use Rattle.sb_block.specs.Packing.{type_of, offset_of, string_in, number_in}
-use Rattle.sb_block.specs.Layout.{most_parameters, informations, end_in}
+use Rattle.sb_block.specs.Layout.{most_parameters, descriptors, end_in}
 use Rattle.sb_block.specs.Faults.{faults, first_there, has_shape, is_untyped, is_misplaced, is_missized, is_unnamed, first_unnamed, where_holds}
 use Rattle.sb_block.specs.Calls.{called, argument_in, arguments_in, call_of, call_unless, decoded}
 use Rattle.sb_block.specs.Laws.{laid, UnreadWordsDoNotMatter, UpperHalvesDoNotMatter}
@@ -56,7 +56,7 @@ same_after xs xs' ys n h h' = record {
   words = λ at l. get_or-append_right xs ys n at 0 h l ∙ sym (get_or-append_right xs' ys n at 0 h' l);
 }
 
--- the string and the argument of an information word that points past that place
+-- the string and the argument of a descriptor that points past that place
 same_string : (from : ℕ) (ws vs : List ℕ) (word : ℕ) → Same from ws vs → from ≤ offset_of word → string_in word ws ≡ string_in word vs
 same_string from ws vs word same l = rw (same.parts (offset_of word) l)
 
@@ -105,7 +105,7 @@ all_pass_from q (x ∷ xs) h =
     let step = front_step (q x) (prefix_len q xs) (length xs) h in
     rw (step.0, all_pass_from q xs step.1)
 
--- where a test passes nowhere, it fails everywhere
+-- if a test passes nowhere, it fails everywhere
 pub fails_everywhere : (p : ℕ → Bool) (xs : List ℕ) → position p xs ≡ None → list_all (λ x. not (p x)) xs ≡ true
 fails_everywhere p xs h =
     all_pass_from (λ x. not (p x)) xs (not_taken (nat_lt (prefix_len (λ x. not (p x)) xs) (length xs)) _ None h).0
@@ -138,7 +138,7 @@ lead_len n tag mark count reply infos item r i =
     omega (arith, length-append (tag ∷ mark ∷ count ∷ reply) (infos ++ (item ∷ [])), length-append infos (item ∷ []))
 
 infos_found : (tag mark count : ℕ) (reply infos params : List ℕ) (item : ℕ) → length reply ≡ 12 → length infos ≡ count
-    → informations (laid tag mark count reply infos item params) ≡ infos
+    → descriptors (laid tag mark count reply infos item params) ≡ infos
 infos_found tag mark count reply infos params item r i =
     ap (λ (xs : List ℕ). take count xs) (dropped_front (tag ∷ mark ∷ count ∷ reply) (infos ++ (item ∷ params)) 15 (omega arith))
     ∙ taken_front infos (item ∷ params) count i
@@ -158,7 +158,7 @@ same_laid n tag mark count reply reply' infos params item item' r r' i =
     (same_after (lead tag mark count reply infos item) (lead tag mark count reply' infos item') params (16 + n)
     (lead_len n tag mark count reply infos item r i) (lead_len n tag mark count reply' infos item' r' i))
 
--- where another count was fetched than stands in the words, that or a fault before it is the fault
+-- if another count was fetched than stands in the words, that or a fault before it is the fault
 other_count : (found found' : Option BlockFault) (x : BlockFault) (o o' : Option BlockFault) (k k' : Call)
     → call_unless (option_or found (option_or found' (option_or (Some x) o))) k
     ≡ call_unless (option_or found (option_or found' (option_or (Some x) o'))) k'
@@ -166,7 +166,7 @@ other_count None None x o o' k k' = refl
 other_count None (Some f) x o o' k k' = refl
 other_count (Some f) found' x o o' k k' = refl
 
--- the first four faults, and those of parameters that are read from the information words alone, are the same
+-- the first four faults, and those of parameters that are read from the descriptors alone, are the same
 same_count : (n end tag mark count : ℕ) (reply reply' infos params : List ℕ) (item item' : ℕ) → n ≡ count
     → length reply ≡ 12 → length reply' ≡ 12 → length infos ≡ n → offset_of item ≡ offset_of item'
     → decoded (copied n end (laid tag mark count reply infos item params)) ≡ decoded (copied n end (laid tag mark count reply' infos item' params))

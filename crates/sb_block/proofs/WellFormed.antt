@@ -13,7 +13,7 @@ use Rattle.sb_block.specs.Blocks.{bytes_of}
 use Rattle.sb_block.specs.Calls.{argument_in}
 use Rattle.sb_block.specs.Copies.{is_end}
 use Rattle.sb_block.specs.Faults.{first_unnamed, has_shape, is_misplaced, is_missized, is_unnamed, is_untyped, type_number}
-use Rattle.sb_block.specs.Layout.{count_in, first_offset, information_at, informations}
+use Rattle.sb_block.specs.Layout.{count_in, first_offset, descriptor_at, descriptors}
 use Rattle.sb_block.specs.Laws.{IsParameter, IsWellFormed, WellFormedWordsHaveNoFault}
 use Rattle.sb_block.specs.Packing.{type_of, offset_of, size_of, words_for, string_in}
 use Rattle.sb_block.proofs.ParameterLemmas.{part_len}
@@ -35,7 +35,7 @@ shaped_from (k ∷ ks) [] l h = absurd (omega arith)
 shaped_from (k ∷ ks) (x ∷ xs) l h =
     rw (h 0 (omega arith), same_equal (type_number k), shaped_from ks xs (omega arith) (λ i m. h (suc i) (omega arith)))
 
--- names where they are due, each at its place
+-- names if they are due, each at its place
 named_from : (kinds : List ParamKind) (infos words : List ℕ) → length infos ≡ length kinds
     → ((i : ℕ) → i < length infos → is_unnamed (slice_index_or kinds i kind.Handle) (slice_index infos i) words ≡ false)
     → first_unnamed kinds infos words ≡ None
@@ -72,12 +72,12 @@ named_here kind.Num info words t f = refl
 named_here kind.Handle info words t f = refl
 named_here kind.Name info words t f = let name = rw t at f in rw name
 
--- the information word of a place is that of the list
-information_is : (words : List ℕ) (i : ℕ) → i < count_in words → information_at words i ≡ slice_index (informations words) i
-information_is words i l = sym (get_or-take (count_in words) (drop 15 words) i 0 l ∙ get_or-drop 15 words i 0)
+-- the descriptor of a place is that of the list
+descriptor_is : (words : List ℕ) (i : ℕ) → i < count_in words → descriptor_at words i ≡ slice_index (descriptors words) i
+descriptor_is words i l = sym (get_or-take (count_in words) (drop 15 words) i 0 l ∙ get_or-drop 15 words i 0)
 
-informations_len : (words : List ℕ) → first_offset (count_in words) ≤ length words → length (informations words) ≡ count_in words
-informations_len words h = part_len 15 (count_in words) words (omega arith)
+descriptors_len : (words : List ℕ) → first_offset (count_in words) ≤ length words → length (descriptors words) ≡ count_in words
+descriptors_len words h = part_len 15 (count_in words) words (omega arith)
 
 few : (tag : CallTag) (words : List ℕ) → IsWellFormed words tag → nat_lt 9 (count_in words) ≡ false
 few tag words w = grind (arith, nat_tests, few_parameters tag, w.many)
@@ -85,31 +85,31 @@ few tag words w = grind (arith, nat_tests, few_parameters tag, w.many)
 ends : (tag : CallTag) (words : List ℕ) → IsWellFormed words tag → is_end (count_in words) (length words) ≡ true
 ends tag words w = grind (arith, nat_tests, w.behind, w.most)
 
--- what each information word of well formed words has, and so all
+-- what each descriptor of well formed words has, and so all
 all_parameters : (p : ℕ → Bool) (words : List ℕ) (tag : CallTag) → IsWellFormed words tag
-    → ((i : ℕ) → IsParameter words tag i → p (information_at words i) ≡ true) → list_all p (informations words) ≡ true
-all_parameters p words tag w h = all_from p (informations words) (λ i l.
-    let inside : i < count_in words = omega (arith, informations_len words w.behind) in
-    rw (information_is words i inside) at (h i (w.each i inside)))
+    → ((i : ℕ) → IsParameter words tag i → p (descriptor_at words i) ≡ true) → list_all p (descriptors words) ≡ true
+all_parameters p words tag w h = all_from p (descriptors words) (λ i l.
+    let inside : i < count_in words = omega (arith, descriptors_len words w.behind) in
+    rw (descriptor_is words i inside) at (h i (w.each i inside)))
 
 pub well_formed_words_have_no_fault : WellFormedWordsHaveNoFault
 well_formed_words_have_no_fault words tag w =
     let count = count_in words in
-    let len = informations_len words w.behind in
-    let many : length (informations words) ≡ length (shape_of tag) = len ∙ w.many in
-    let typed = nowhere is_untyped (informations words)
-    (all_parameters (λ x. not (is_untyped x)) words tag w (λ i p. typed_here (kind_at tag i) (information_at words i) p.typed)) in
-    let placed = nowhere (is_misplaced count (length words)) (informations words)
+    let len = descriptors_len words w.behind in
+    let many : length (descriptors words) ≡ length (shape_of tag) = len ∙ w.many in
+    let typed = nowhere is_untyped (descriptors words)
+    (all_parameters (λ x. not (is_untyped x)) words tag w (λ i p. typed_here (kind_at tag i) (descriptor_at words i) p.typed)) in
+    let placed = nowhere (is_misplaced count (length words)) (descriptors words)
     (all_parameters (λ x. not (is_misplaced count (length words) x)) words tag w
-    (λ i p. placed_here count (length words) (information_at words i) p.begins p.ends)) in
-    let sized = nowhere is_missized (informations words)
+    (λ i p. placed_here count (length words) (descriptor_at words i) p.begins p.ends)) in
+    let sized = nowhere is_missized (descriptors words)
     (all_parameters (λ x. not (is_missized x)) words tag w
-    (λ i p. sized_here (kind_at tag i) (information_at words i) words p.typed p.sized)) in
-    let shaped = shaped_from (shape_of tag) (informations words) many (λ i l.
+    (λ i p. sized_here (kind_at tag i) (descriptor_at words i) words p.typed p.sized)) in
+    let shaped = shaped_from (shape_of tag) (descriptors words) many (λ i l.
     let inside : i < count = omega (arith, len) in
-    rw (information_is words i inside) at (w.each i inside).typed) in
-    let named = named_from (shape_of tag) (informations words) words many (λ i l.
+    rw (descriptor_is words i inside) at (w.each i inside).typed) in
+    let named = named_from (shape_of tag) (descriptors words) words many (λ i l.
     let inside : i < count = omega (arith, len) in
     let p = w.each i inside in
-    rw (information_is words i inside) at (named_here (kind_at tag i) (information_at words i) words p.typed p.fitting)) in
+    rw (descriptor_is words i inside) at (named_here (kind_at tag i) (descriptor_at words i) words p.typed p.fitting)) in
     rw (few tag words w, ends tag words w, same_equal count, w.end, same_equal (length words), w.known, typed, placed, shaped, sized, named) refl

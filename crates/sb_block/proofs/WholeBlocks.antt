@@ -11,13 +11,13 @@ use Rattle.sb_call.specs.declared.tags.ParamKind.{ParamKind}
 use Rattle.sb_call.specs.declared.arguments.Arg.{Arg}
 use Rattle.sb_block.specs.Copies.{whole, is_copy, is_end}
 use Rattle.sb_block.specs.Packing.{offset_of}
-use Rattle.sb_block.specs.Blocks.{block, encodes, has_units, contents_of, informations_of, end_offset}
-use Rattle.sb_block.specs.Layout.{end_in, first_offset, informations}
+use Rattle.sb_block.specs.Blocks.{block, encodes, has_units, contents_of, descriptors_of, end_offset}
+use Rattle.sb_block.specs.Layout.{end_in, first_offset, descriptors}
 use Rattle.sb_block.specs.Faults.{fault, is_untyped, is_misplaced, is_missized}
 use Rattle.sb_block.specs.Calls.{decoded, call_of, called}
 use Rattle.sb_block.specs.Laws.{BlocksComeBack}
 use Rattle.std.specs.List.{list_all}
-use Rattle.sb_block.proofs.BlockLemmas.{block_len, informations_len, taken_front, found_after}
+use Rattle.sb_block.proofs.BlockLemmas.{block_len, descriptors_len, taken_front, found_after}
 use Rattle.sb_block.proofs.ReadingLemmas.{nowhere, all_typed, all_placed, all_shaped, all_sized, all_named, all_back, same_equal}
 
 -- each tag is the tag of its number
@@ -60,7 +60,7 @@ pub record Fitting (tag : CallTag) (args : List Arg) (mark : ℕ) : Type 0 where
   pub room : length (block tag args mark) ≤ 64
 
 abbrev infos_in : CallTag → List Arg → List ℕ
-infos_in tag args = informations_of (first_offset (length args)) (shape_of tag) args
+infos_in tag args = descriptors_of (first_offset (length args)) (shape_of tag) args
 
 abbrev opening : CallTag → List Arg → ℕ → List ℕ
 opening tag args mark = number_of tag ∷ mark ∷ length args ∷ replicate 12 0
@@ -88,7 +88,7 @@ before_len tag args mark f = omega (
   arith,
   length-append (opening tag args mark ++ infos_in tag args) (end_offset args * 2 ^ 16 ∷ []),
   length-append (opening tag args mark) (infos_in tag args),
-  informations_len (first_offset (length args)) (shape_of tag) args f,
+  descriptors_len (first_offset (length args)) (shape_of tag) args f,
 )
 
 room_for : (tag : CallTag) (args : List Arg) (mark : ℕ) → Fitting tag args mark → end_offset args ≤ 64
@@ -97,12 +97,12 @@ room_for tag args mark p = omega (arith, block_len tag args mark p.fitting, p.ro
 few_arguments : (tag : CallTag) (args : List Arg) (mark : ℕ) → Fitting tag args mark → length args ≤ 6
 few_arguments tag args mark p = omega (arith, fit_len (shape_of tag) args p.fitting, few_parameters tag)
 
--- the information words are found again
+-- the descriptors are found again
 infos_back : (tag : CallTag) (args : List Arg) (mark : ℕ) → Fitting tag args mark
-    → informations (block tag args mark) ≡ infos_in tag args
+    → descriptors (block tag args mark) ≡ infos_in tag args
 infos_back tag args mark p =
     taken_front (infos_in tag args) (end_offset args * 2 ^ 16 ∷ contents_of args) (length args)
-    (informations_len (first_offset (length args)) (shape_of tag) args p.fitting)
+    (descriptors_len (first_offset (length args)) (shape_of tag) args p.fitting)
 
 -- the end is found again
 end_back : (tag : CallTag) (args : List Arg) (mark : ℕ) → Fitting tag args mark
@@ -111,7 +111,7 @@ end_back tag args mark p =
     let place : length (front tag args mark) ≡ 15 + length args = omega (
       arith,
       length-append (opening tag args mark) (infos_in tag args),
-      informations_len (first_offset (length args)) (shape_of tag) args p.fitting,
+      descriptors_len (first_offset (length args)) (shape_of tag) args p.fitting,
     ) in
     let item : slice_index (block tag args mark) (15 + length args) ≡ end_offset args * 2 ^ 16 =
     ap (λ (ws : List ℕ). slice_index ws (15 + length args)) (end_parts tag args mark)

@@ -11,7 +11,7 @@ use Rattle.sb_call.specs.declared.arguments.Arg.{Arg}
 use Rattle.sb_call.specs.declared.arguments.Arg.TheVariants.{Num, Str}
 use Rattle.sb_block.specs.Layout.{first_offset, most_words, reply_length}
 use Rattle.sb_block.specs.Faults.{type_number}
-use Rattle.sb_block.specs.Packing.{information, packed}
+use Rattle.sb_block.specs.Packing.{descriptor, packed}
 
 -- a string has two bytes for each unit, a handle eight bytes, and a number four
 abbrev pub bytes_of : ParamKind → Arg → ℕ
@@ -30,22 +30,22 @@ content_of (Str units) = packed units
 abbrev pub contents_of : List Arg → List ℕ
 contents_of args = flat_map content_of args
 
--- the information words of arguments whose contents begin at an offset
-abbrev pub informations_of : ℕ → List ParamKind → List Arg → List ℕ
-informations_of at [] args = []
-informations_of at (k ∷ kinds) [] = []
-informations_of at (k ∷ kinds) (a ∷ args) =
-    information (type_number k) at (bytes_of k a) ∷ informations_of (at + length (content_of a)) kinds args
+-- the descriptors of arguments whose contents begin at an offset
+abbrev pub descriptors_of : ℕ → List ParamKind → List Arg → List ℕ
+descriptors_of at [] args = []
+descriptors_of at (k ∷ kinds) [] = []
+descriptors_of at (k ∷ kinds) (a ∷ args) =
+    descriptor (type_number k) at (bytes_of k a) ∷ descriptors_of (at + length (content_of a)) kinds args
 
 -- where the contents of arguments end
 abbrev pub end_offset : List Arg → ℕ
 end_offset args = first_offset (length args) + length (contents_of args)
 
--- tag, mark, count, zeros for the reply, information words, the end item, and the contents
+-- tag, mark, count, zeros for the reply, descriptors, the end item, and the contents
 abbrev pub block : CallTag → List Arg → ℕ → List ℕ
 block tag args mark =
     number_of tag ∷ mark ∷ length args ∷ replicate reply_length 0
-    ++ (informations_of (first_offset (length args)) (shape_of tag) args
+    ++ (descriptors_of (first_offset (length args)) (shape_of tag) args
     ++ (end_offset args * 2 ^ 16 ∷ contents_of args))
 
 -- a call encodes: its arguments fit it, and its block has at most 64 words, whatever the mark is

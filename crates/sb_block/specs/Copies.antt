@@ -23,7 +23,7 @@ is_copy c =
     else (if is_end c.count_seen c.end_seen then length c.words == c.end_seen
     else length c.words == 0)
 
--- the mark of a copy is its word 1, and 0 where there are no words
+-- the mark of a copy is its word 1, and 0 if there are no words
 abbrev pub mark_of : Copied → ℕ
 mark_of c = mark_in c.words
 

@@ -9,7 +9,7 @@ use Rattle.sb_call.specs.declared.tags.CallTag.{CallTag}
 use Rattle.sb_call.specs.declared.tags.CallTag.TheVariants.{Ping}
 use Rattle.sb_call.specs.declared.tags.ParamKind.{ParamKind}
 use Rattle.sb_call.specs.declared.tags.ParamKind.TheVariants.{Text, Name, Num, Handle}
-use Rattle.sb_block.specs.Layout.{most_parameters, first_offset, tag_word, count_in, end_in, informations}
+use Rattle.sb_block.specs.Layout.{most_parameters, first_offset, tag_word, count_in, end_in, descriptors}
 use Rattle.sb_block.specs.Copies.{Copied, is_end}
 use Rattle.sb_block.specs.Packing.{type_of, offset_of, size_of, words_for, string_in}
 use Rattle.sb_block.specs.declared.faults.BlockFault.{BlockFault}
@@ -31,11 +31,11 @@ abbrev pub is_misplaced : ℕ → ℕ → ℕ → Bool
 is_misplaced count end word =
     nat_lt (offset_of word) (first_offset count) || nat_lt end (offset_of word + words_for (size_of word))
 
--- the tag of word 0; where that is no tag's number, which is a fault, it is ping
+-- the tag of word 0; if that is no tag's number, which is a fault, it is ping
 abbrev pub tag_in : List ℕ → CallTag
 tag_in words = unwrap_or (tag_of (tag_word words)) Ping
 
--- there are as many information words as kinds, each with its kind's type
+-- there are as many descriptors as kinds, each with its kind's type
 abbrev pub has_shape : List ParamKind → List ℕ → Bool
 has_shape kinds infos = pointwise nat_eq (map type_of infos) (map type_number kinds)
 
@@ -61,11 +61,11 @@ first_unnamed (kind ∷ kinds) (word ∷ more) words =
     if is_unnamed kind word words then Some 0
     else option_map (λ n. n + 1) (first_unnamed kinds more words)
 
--- a fault that is there where a test holds
+-- a fault that is there if a test holds
 abbrev pub where_holds : Bool → BlockFault → Option BlockFault
 where_holds holds fault = if holds then Some fault else None
 
--- the ten faults in their order, each where it is there. The first four are of what was fetched before the copy, the others of its words
+-- the ten faults in their order, each if it is there. The first four are of what was fetched before the copy, the others of its words
 -- alone
 abbrev pub faults : Copied → List (Option BlockFault)
 faults c =
@@ -73,12 +73,12 @@ faults c =
     ∷ where_holds (not (is_end c.count_seen c.end_seen)) (BadEnd c.end_seen)
     ∷ where_holds (not (c.count_seen == count_in c.words)) (CountChanged c.count_seen (count_in c.words))
     ∷ where_holds (not (c.end_seen == end_in c.words)) (EndChanged c.end_seen (end_in c.words))
-    ∷ option_map BadParamType (position is_untyped (informations c.words))
-    ∷ option_map BadPlace (position (is_misplaced (count_in c.words) (end_in c.words)) (informations c.words))
+    ∷ option_map BadParamType (position is_untyped (descriptors c.words))
+    ∷ option_map BadPlace (position (is_misplaced (count_in c.words) (end_in c.words)) (descriptors c.words))
     ∷ where_holds (is_none (tag_of (tag_word c.words))) (UnknownTag (tag_word c.words))
-    ∷ where_holds (not (has_shape (shape_of (tag_in c.words)) (informations c.words))) WrongShape
-    ∷ option_map BadSize (position is_missized (informations c.words))
-    ∷ option_map BadName (first_unnamed (shape_of (tag_in c.words)) (informations c.words) c.words)
+    ∷ where_holds (not (has_shape (shape_of (tag_in c.words)) (descriptors c.words))) WrongShape
+    ∷ option_map BadSize (position is_missized (descriptors c.words))
+    ∷ option_map BadName (first_unnamed (shape_of (tag_in c.words)) (descriptors c.words) c.words)
     ∷ []
 
 -- the first that is there

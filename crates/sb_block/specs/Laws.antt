@@ -5,7 +5,7 @@ use Rattle.sb_call.specs.Arguments.{fits, fits_kind, arg_at, kind_at}
 use Rattle.sb_call.specs.Tags.{shape_of, tag_of}
 use Rattle.sb_call.specs.declared.tags.CallTag.{CallTag}
 use Rattle.sb_call.specs.declared.arguments.Arg.{Arg}
-use Rattle.sb_block.specs.Layout.{most_words, first_offset, reply_length, tag_word, count_in, end_in, information_at}
+use Rattle.sb_block.specs.Layout.{most_words, first_offset, reply_length, tag_word, count_in, end_in, descriptor_at}
 use Rattle.sb_block.specs.Copies.{Copied, copied, whole, is_copy}
 use Rattle.sb_block.specs.Blocks.{block, bytes_of, encodes, has_units}
 use Rattle.sb_block.specs.Faults.{fault, faults, first_there, type_number}
@@ -32,33 +32,33 @@ TagsAreKnown = (c : Copied) → fault c ≡ None → tag_of (tag_word c.words) �
 abbrev pub OfParameters : (Copied → ℕ → Type 0) → Type 0
 OfParameters P = (c : Copied) → is_copy c ≡ true → fault c ≡ None → (i : ℕ) → i < c.count_seen → P c i
 
--- each begins behind the end item, and ends within the copy
+-- each begins after the end item, and ends within the copy
 abbrev pub ParametersLieInside : Type 0
 ParametersLieInside = OfParameters (λ c i.
-    (first_offset c.count_seen ≤ offset_of (information_at c.words i))
-    × (offset_of (information_at c.words i) + words_for (size_of (information_at c.words i)) ≤ length c.words))
+    (first_offset c.count_seen ≤ offset_of (descriptor_at c.words i))
+    × (offset_of (descriptor_at c.words i) + words_for (size_of (descriptor_at c.words i)) ≤ length c.words))
 
 -- each has the type that the call has there
 abbrev pub ParametersHaveTheirTypes : Type 0
-ParametersHaveTheirTypes = OfParameters (λ c i. type_of (information_at c.words i) ≡ type_number (kind_at (call_of c).tag i))
+ParametersHaveTheirTypes = OfParameters (λ c i. type_of (descriptor_at c.words i) ≡ type_number (kind_at (call_of c).tag i))
 
 -- and the size of its argument: two bytes for each unit of a string, four for a number, and eight for a handle
 abbrev pub ParametersHaveTheirSizes : Type 0
 ParametersHaveTheirSizes = OfParameters (λ c i.
-    size_of (information_at c.words i) ≡ bytes_of (kind_at (call_of c).tag i) (arg_at (call_of c).args i))
+    size_of (descriptor_at c.words i) ≡ bytes_of (kind_at (call_of c).tag i) (arg_at (call_of c).args i))
 
 -- there are as many arguments as parameters
 abbrev pub ParametersAreAsMany : Type 0
 ParametersAreAsMany = (c : Copied) → is_copy c ≡ true → fault c ≡ None → length (call_of c).args ≡ c.count_seen
 
--- a parameter of words under a tag: it lies behind the end item and within the words, it has the type of its kind and the size of its
+-- a parameter of words under a tag: it lies after the end item and within the words, it has the type of its kind and the size of its
 -- argument, and that argument is of its kind
 pub record IsParameter (words : List ℕ) (tag : CallTag) (i : ℕ) : Type 0 where
-  pub begins : first_offset (count_in words) ≤ offset_of (information_at words i)
-  pub ends : offset_of (information_at words i) + words_for (size_of (information_at words i)) ≤ length words
-  pub typed : type_of (information_at words i) ≡ type_number (kind_at tag i)
-  pub sized : size_of (information_at words i) ≡ bytes_of (kind_at tag i) (argument_in words (information_at words i))
-  pub fitting : fits_kind (kind_at tag i) (argument_in words (information_at words i)) ≡ true
+  pub begins : first_offset (count_in words) ≤ offset_of (descriptor_at words i)
+  pub ends : offset_of (descriptor_at words i) + words_for (size_of (descriptor_at words i)) ≤ length words
+  pub typed : type_of (descriptor_at words i) ≡ type_number (kind_at tag i)
+  pub sized : size_of (descriptor_at words i) ≡ bytes_of (kind_at tag i) (argument_in words (descriptor_at words i))
+  pub fitting : fits_kind (kind_at tag i) (argument_in words (descriptor_at words i)) ≡ true
 
 -- words in which a call stands: their tag is known, they have its parameters, and they end where the end item says
 pub record IsWellFormed (words : List ℕ) (tag : CallTag) : Type 0 where
@@ -83,7 +83,7 @@ BlocksComeBack = (tag : CallTag) (args : List Arg) (mark : ℕ) → encodes tag 
 abbrev pub FaultlessCopiesFit : Type 0
 FaultlessCopiesFit = (c : Copied) → fault c ≡ None → fits (call_of c).tag (call_of c).args ≡ true
 
--- words laid out as tag, mark, count, reply words, information words, end item and parameters
+-- words laid out as tag, mark, count, reply words, descriptors, end item and parameters
 abbrev pub laid : ℕ → ℕ → ℕ → List ℕ → List ℕ → ℕ → List ℕ → List ℕ
 laid tag mark count reply infos item params = tag ∷ mark ∷ count ∷ reply ++ (infos ++ (item ∷ params))
 

@@ -17,11 +17,11 @@ first_reply_word = 3
 abbrev pub reply_length : ℕ
 reply_length = 12
 
--- behind the reply stands an information word for each parameter, and then the end item
-abbrev pub first_information : ℕ
-first_information = 15
+-- after the reply stands a descriptor for each parameter, and then the end item
+abbrev pub first_descriptor : ℕ
+first_descriptor = 15
 
--- parameters stand behind the end item of a block with the given number of parameters
+-- parameters stand after the end item of a block with the given number of parameters
 abbrev pub first_offset : ℕ → ℕ
 first_offset count = 16 + count
 
@@ -35,14 +35,14 @@ mark_in words = slice_index words 1
 abbrev pub count_in : List ℕ → ℕ
 count_in words = slice_index words 2
 
--- the information word of a parameter, from 0
-abbrev pub information_at : List ℕ → ℕ → ℕ
-information_at words i = slice_index words (first_information + i)
+-- the descriptor of a parameter, from 0
+abbrev pub descriptor_at : List ℕ → ℕ → ℕ
+descriptor_at words i = slice_index words (first_descriptor + i)
 
--- the information words, as many as word 2 counts
-abbrev pub informations : List ℕ → List ℕ
-informations words = part_of first_information (count_in words) words
+-- the descriptors, as many as word 2 counts
+abbrev pub descriptors : List ℕ → List ℕ
+descriptors words = part_of first_descriptor (count_in words) words
 
 -- the end, in words: the offset part of the end item, whose other bits are not read
 abbrev pub end_in : List ℕ → ℕ
-end_in words = offset_of (information_at words (count_in words))
+end_in words = offset_of (descriptor_at words (count_in words))

@@ -15,8 +15,8 @@ abbrev pub size_of : ℕ → ℕ
 size_of word = word % 2 ^ 16
 
 -- type, offset and size in one word
-abbrev pub information : ℕ → ℕ → ℕ → ℕ
-information kind offset size = size + offset * 2 ^ 16 + kind * 2 ^ 32
+abbrev pub descriptor : ℕ → ℕ → ℕ → ℕ
+descriptor kind offset size = size + offset * 2 ^ 16 + kind * 2 ^ 32
 
 -- eight bytes are a word, and a part of eight bytes is one too
 abbrev pub words_for : ℕ → ℕ
@@ -46,10 +46,10 @@ packed (a ∷ b ∷ c ∷ d ∷ more) = unit_word a b c d ∷ packed more
 abbrev pub unpacked : ℕ → List ℕ → List ℕ
 unpacked count words = take count (flat_map word_units words)
 
--- the string of an information word: half as many units as it has bytes, from its own words
+-- the string of a descriptor: half as many units as it has bytes, from its own words
 abbrev pub string_in : ℕ → List ℕ → List ℕ
 string_in word words = unpacked (size_of word / 2) (part_of (offset_of word) (words_for (size_of word)) words)
 
--- the word at the offset of an information word
+-- the word at the offset of a descriptor
 abbrev pub number_in : ℕ → List ℕ → ℕ
 number_in word words = slice_index words (offset_of word)

@@ -5,14 +5,14 @@ ghost use Rattle.sb_block.specs.Calls.{argument_in, arguments_in, decoded, IsRef
 ghost use Rattle.sb_block.specs.Faults.{fault, tag_in};
 ghost use Rattle.sb_block.specs.Layout.{most_words};
 
+use crate::copies::BlockCopy;
 use crate::faults::{BlockFault, fault_of};
-use crate::layout::{informations, tag_word};
+use crate::layout::{descriptors, tag_word};
 use crate::packing::{number_in, string_in, type_of};
-use crate::taken::Taken;
 use sb_call::{Arg, Args, CallTag, tag_of};
-use sb_wide::{NoMemory, wide_of};
+use sb_items::{NoMemory, Refused};
+use sb_wide::Wide;
 use std::alloc::Global;
-use thiserror::Error;
 
 /// A call with the caller's mark.
 #[derive(Drop)]
@@ -25,49 +25,30 @@ pub struct Call {
     pub args: Args,
 }
 
-/// Why a copy gave no call.
-#[derive(Clone, Copy, Debug, Error)]
-pub enum BlockRefused {
-    /// The copy has this as its first fault.
-    #[error("the block is faulty: {0}")]
-    Fault(BlockFault),
-    /// Out of memory.
-    #[error("out of memory")]
-    NoMemory,
-}
+/// Why a copy gave no call: its first fault, or no memory.
+pub type BlockRefused = Refused<BlockFault>;
 
-impl From<NoMemory> for BlockRefused {
-    ghost use Rattle.std.specs.Prelude.{◌≡◌};
-    ghost use Rattle.sb_block.specs.declared.calls.BlockRefused.TheVariants.{NoMemory};
-
-    ghost from_gives = { λ _ refused. refused ≡ NoMemory };
-
-    fn from(_error: NoMemory) -> BlockRefused {
-        BlockRefused::NoMemory
-    }
-}
-
-fn argument_in(alloc: Global, words: &[u64], information: u64) -> Result<Arg, NoMemory>
+fn argument_in(alloc: Global, words: &[u64], descriptor: u64) -> Result<Arg, NoMemory>
     requires { length words.now ≤ most_words }
-    ensures { IfOk result (λ a. a ≡ argument_in words.now information) }
+    ensures { IfOk result (λ a. a ≡ argument_in words.now descriptor) }
 {
-    match type_of(information) {
+    match type_of(descriptor) {
         1 => {
-            let units = string_in(words, information);
-            Ok(Arg::Str(wide_of(alloc, units.as_slice())?))
+            let units = string_in(words, descriptor);
+            Ok(Arg::Str(Wide::from_units(alloc, units.as_slice())?))
         }
-        2 => Ok(Arg::Num(number_in(words, information) & 0xffff_ffff)),
-        _ => Ok(Arg::Num(number_in(words, information))),
+        2 => Ok(Arg::Num(number_in(words, descriptor) & 0xffff_ffff)),
+        _ => Ok(Arg::Num(number_in(words, descriptor))),
     }
 }
 
-fn arguments_in(alloc: Global, informations: &[u64], words: &[u64]) -> Result<Args, NoMemory>
+fn arguments_in(alloc: Global, descriptors: &[u64], words: &[u64]) -> Result<Args, NoMemory>
     requires { length words.now ≤ most_words }
-    ensures { IfOk result (λ args. args ≡ arguments_in informations.now words.now) }
+    ensures { IfOk result (λ args. args ≡ arguments_in descriptors.now words.now) }
 {
-    let mut args = Args::new(Vec::new(alloc));
-    for information in informations {
-        args.push(argument_in(alloc, words, *information)?)?;
+    let mut args = Args::new(Vec::with_capacity(alloc, descriptors.len())?);
+    for descriptor in descriptors {
+        args.push(argument_in(alloc, words, *descriptor)?)?;
     }
     Ok(args)
 }
@@ -79,15 +60,15 @@ fn tag_in(words: &[u64]) -> CallTag
 }
 
 /// The call of a copy, whatever its words are: the tag of word 0, the mark of word 1, and an
-/// argument for each information word. A number is the low half of its word, a handle is its whole
+/// argument for each descriptor. A number is the low half of its word, a handle is its whole
 /// word, and a string has half as many units as bytes. The arguments fit the call.
 ///
 /// # Errors
-/// `Fault` exactly where `fault_of` gives that fault, and `NoMemory` only where a copy without a
+/// `Fault` exactly if `fault_of` gives that fault, and `NoMemory` only if a copy without a
 /// fault ran out of memory for its arguments.
-pub fn decode(alloc: Global, taken: &Taken) -> Result<Call, BlockRefused>
+pub fn decode(alloc: Global, taken: &BlockCopy) -> Result<Call, BlockRefused>
     ensures value { MatchResult result (λ call. decoded taken.now ≡ Ok call) (IsRefusal (decoded taken.now)) }
-    ensures faultless { IfErr result (λ refused. refused ≡ BlockRefused.NoMemory → fault taken.now ≡ None) }
+    ensures faultless { IfErr result (λ refused. refused ≡ Refused.NoMemory → fault taken.now ≡ None) }
     ensures fits { IfOk result (λ call. fits call.tag call.args ≡ true) }
 {
     if let Some(fault) = fault_of(taken) {
@@ -97,6 +78,6 @@ pub fn decode(alloc: Global, taken: &Taken) -> Result<Call, BlockRefused>
     Ok(Call {
         tag: tag_in(words),
         mark: taken.mark(),
-        args: arguments_in(alloc, informations(words), words)?,
+        args: arguments_in(alloc, descriptors(words), words)?,
     })
 }

@@ -7,12 +7,12 @@ ghost use Rattle.sb_block.specs.Calls.{called, decoded};
 ghost use Rattle.sb_block.specs.Copies.{is_copy, whole};
 ghost use Rattle.sb_block.specs.Packing.{packed};
 ghost use Rattle.sb_wide.specs.Wide.{is_unit};
-ghost use Rattle.sb_block.specs.Blocks.{block, encodes, has_units, bytes_of, content_of, contents_of, informations_of};
+ghost use Rattle.sb_block.specs.Blocks.{block, encodes, has_units, bytes_of, content_of, contents_of, descriptors_of};
 ghost use Rattle.sb_block.specs.Layout.{first_offset, most_words, reply_length};
 
 use crate::faults::type_number;
 use crate::layout::{MOST_WORDS, REPLY_LENGTH, first_offset};
-use crate::packing::{end_item, information, unit_word};
+use crate::packing::{descriptor, end_item, unit_word};
 use crate::words::Words;
 use sb_call::{Arg, CallTag, ParamKind, fits, number_of, shape};
 use thiserror::Error;
@@ -91,10 +91,10 @@ fn bytes_of(kind: ParamKind, arg: &Arg) -> u64
     }
 }
 
-fn put_informations(words: &mut Words, first: u64, kinds: &[ParamKind], args: &[Arg])
+fn put_descriptors(words: &mut Words, first: u64, kinds: &[ParamKind], args: &[Arg])
     requires room { length words.old + length args.now ≤ most_words }
     requires offsets { first + length (contents_of args.now) ≤ most_words }
-    ensures { words.new ≡ words.old ++ informations_of first kinds.now args.now }
+    ensures { words.new ≡ words.old ++ descriptors_of first kinds.now args.now }
 {
     let mut offset = first;
     let mut kinds = kinds;
@@ -103,7 +103,7 @@ fn put_informations(words: &mut Words, first: u64, kinds: &[ParamKind], args: &[
         let Some((arg, more)) = args.split_first() else {
             return;
         };
-        words.push(information(type_number(*kind), offset, bytes_of(*kind, arg)));
+        words.push(descriptor(type_number(*kind), offset, bytes_of(*kind, arg)));
         offset += content_len(arg) as u64;
         kinds = more_kinds;
         args = more;
@@ -157,11 +157,11 @@ fn opening(tag: CallTag, mark: u64, count: u64) -> Words
     words
 }
 
-/// The block of a call with the caller's mark: tag, mark, count, zeros for the reply, an information
+/// The block of a call with the caller's mark: tag, mark, count, zeros for the reply, a descriptor
 /// word for each argument, the end item, and the contents of the arguments one after the other.
 ///
 /// # Errors
-/// `TooBig` exactly where the block needs more than 64 words.
+/// `TooBig` exactly if the block needs more than 64 words.
 pub fn encode(tag: CallTag, args: &[Arg], mark: u64) -> Result<Words, TooBig>
     requires { fits tag args.now ≡ true }
     ensures value { MatchResult result (λ words. (words ≡ block tag args.now mark) × (length words ≤ most_words))
@@ -175,7 +175,7 @@ pub fn encode(tag: CallTag, args: &[Arg], mark: u64) -> Result<Words, TooBig>
     }
     let first = first_offset(args.len() as u64);
     let mut words = opening(tag, mark, args.len() as u64);
-    put_informations(&mut words, first, shape(tag), args);
+    put_descriptors(&mut words, first, shape(tag), args);
     let end = first + contents_len(args);
     words.push(end_item(end));
     put_contents(&mut words, args);
@@ -183,7 +183,7 @@ pub fn encode(tag: CallTag, args: &[Arg], mark: u64) -> Result<Words, TooBig>
 }
 
 /// Whether a call encodes: its arguments fit it, and its block has at most 64 words, whatever its
-/// mark is. It takes no memory and lays out no block.
+/// mark is. It does not allocate and lays out no block.
 pub fn encodes(tag: CallTag, args: &[Arg]) -> bool
     ensures { result ≡ encodes tag args.now }
 {

@@ -5,11 +5,11 @@ ghost use Rattle.sb_block.specs.Copies.{whole};
 ghost use Rattle.sb_block.specs.Faults.{fault, faults, first_there, is_untyped, is_misplaced, is_missized, first_unnamed, has_shape, is_unnamed, type_number};
 ghost use Rattle.sb_block.specs.Layout.{count_in, most_parameters, most_words};
 
+use crate::copies::BlockCopy;
 use crate::layout::{
-    MOST_PARAMETERS, count_in, end_in, first_offset, informations, is_end, tag_word,
+    MOST_PARAMETERS, count_in, descriptors, end_in, first_offset, is_end, tag_word,
 };
 use crate::packing::{offset_of, size_of, string_in, type_of, words_for};
-use crate::taken::Taken;
 use sb_call::{ParamKind, shape, tag_of};
 use sb_wide::is_name;
 use thiserror::Error;
@@ -51,25 +51,25 @@ pub enum BlockFault {
     BadName(u32),
 }
 
-fn is_untyped(information: u64) -> bool
-    ensures { result ≡ is_untyped information }
+fn is_untyped(descriptor: u64) -> bool
+    ensures { result ≡ is_untyped descriptor }
 {
-    !matches!(type_of(information), 1..=3)
+    !matches!(type_of(descriptor), 1..=3)
 }
 
-fn is_misplaced(count: u64, end: u64, information: u64) -> bool
+fn is_misplaced(count: u64, end: u64, descriptor: u64) -> bool
     requires { count ≤ most_parameters }
-    ensures { result ≡ is_misplaced count end information }
+    ensures { result ≡ is_misplaced count end descriptor }
 {
-    let offset = offset_of(information);
-    offset < first_offset(count) || offset + words_for(size_of(information)) > end
+    let offset = offset_of(descriptor);
+    offset < first_offset(count) || offset + words_for(size_of(descriptor)) > end
 }
 
-fn is_missized(information: u64) -> bool
-    ensures { result ≡ is_missized information }
+fn is_missized(descriptor: u64) -> bool
+    ensures { result ≡ is_missized descriptor }
 {
-    let size = size_of(information);
-    match type_of(information) {
+    let size = size_of(descriptor);
+    match type_of(descriptor) {
         1 => size % 2 != 0,
         2 => size != 4,
         _ => size != 8,
@@ -87,76 +87,76 @@ pub fn type_number(kind: ParamKind) -> u64
     }
 }
 
-fn has_shape(kinds: &[ParamKind], informations: &[u64]) -> bool
-    ensures { result ≡ has_shape kinds.now informations.now }
+fn has_shape(kinds: &[ParamKind], descriptors: &[u64]) -> bool
+    ensures { result ≡ has_shape kinds.now descriptors.now }
 {
     let mut kinds = kinds;
-    let mut informations = informations;
+    let mut descriptors = descriptors;
     while let Some((kind, more_kinds)) = kinds.split_first() {
-        let Some((information, more)) = informations.split_first() else {
+        let Some((descriptor, more)) = descriptors.split_first() else {
             return false;
         };
-        if type_of(*information) != type_number(*kind) {
+        if type_of(*descriptor) != type_number(*kind) {
             return false;
         }
         kinds = more_kinds;
-        informations = more;
+        descriptors = more;
     }
-    match informations.split_first() {
+    match descriptors.split_first() {
         Some(_) => false,
         None => true,
     }
 }
 
-fn is_unnamed(kind: ParamKind, information: u64, words: &[u64]) -> bool
+fn is_unnamed(kind: ParamKind, descriptor: u64, words: &[u64]) -> bool
     requires { length words.now ≤ most_words }
-    ensures { result ≡ is_unnamed kind information words.now }
+    ensures { result ≡ is_unnamed kind descriptor words.now }
 {
     match kind {
-        ParamKind::Name => !is_name(string_in(words, information).as_slice()),
+        ParamKind::Name => !is_name(string_in(words, descriptor).as_slice()),
         _ => false,
     }
 }
 
-fn first_unnamed(kinds: &[ParamKind], informations: &[u64], words: &[u64]) -> Option<u32>
+fn first_unnamed(kinds: &[ParamKind], descriptors: &[u64], words: &[u64]) -> Option<u32>
     requires words { length words.now ≤ most_words }
-    requires few { length informations.now ≤ most_parameters }
-    ensures { result ≡ first_unnamed kinds.now informations.now words.now }
+    requires few { length descriptors.now ≤ most_parameters }
+    ensures { result ≡ first_unnamed kinds.now descriptors.now words.now }
 {
     let mut kinds = kinds;
-    let mut informations = informations;
+    let mut descriptors = descriptors;
     let mut at = 0;
     while let Some((kind, more_kinds)) = kinds.split_first() {
-        let (information, more) = informations.split_first()?;
-        if is_unnamed(*kind, *information, words) {
+        let (descriptor, more) = descriptors.split_first()?;
+        if is_unnamed(*kind, *descriptor, words) {
             return Some(at);
         }
         kinds = more_kinds;
-        informations = more;
+        descriptors = more;
         at += 1;
     }
     None
 }
 
-fn first_untyped(informations: &[u64]) -> Option<usize>
-    ensures { result ≡ position is_untyped informations.now }
+fn first_untyped(descriptors: &[u64]) -> Option<usize>
+    ensures { result ≡ position is_untyped descriptors.now }
 {
-    informations.iter().position(|word| is_untyped(*word))
+    descriptors.iter().position(|word| is_untyped(*word))
 }
 
-fn first_misplaced(count: u64, end: u64, informations: &[u64]) -> Option<usize>
+fn first_misplaced(count: u64, end: u64, descriptors: &[u64]) -> Option<usize>
     requires { count ≤ most_parameters }
-    ensures { result ≡ position (is_misplaced count end) informations.now }
+    ensures { result ≡ position (is_misplaced count end) descriptors.now }
 {
-    informations
+    descriptors
         .iter()
         .position(|word| is_misplaced(count, end, *word))
 }
 
-fn first_missized(informations: &[u64]) -> Option<usize>
-    ensures { result ≡ position is_missized informations.now }
+fn first_missized(descriptors: &[u64]) -> Option<usize>
+    ensures { result ≡ position is_missized descriptors.now }
 {
-    informations.iter().position(|word| is_missized(*word))
+    descriptors.iter().position(|word| is_missized(*word))
 }
 
 /// The first fault of the words of a copy, by themselves.
@@ -165,28 +165,28 @@ fn fault_in(words: &[u64]) -> Option<BlockFault>
     requires few { count_in words.now ≤ most_parameters }
     ensures { result ≡ first_there (drop 4 (faults (whole words.now))) }
 {
-    let informations = informations(words);
-    if let Some(at) = first_untyped(informations) {
+    let descriptors = descriptors(words);
+    if let Some(at) = first_untyped(descriptors) {
         return Some(BlockFault::BadParamType(at as u32));
     }
-    if let Some(at) = first_misplaced(count_in(words), end_in(words), informations) {
+    if let Some(at) = first_misplaced(count_in(words), end_in(words), descriptors) {
         return Some(BlockFault::BadPlace(at as u32));
     }
     let Some(tag) = tag_of(tag_word(words)) else {
         return Some(BlockFault::UnknownTag(tag_word(words)));
     };
-    if !has_shape(shape(tag), informations) {
+    if !has_shape(shape(tag), descriptors) {
         return Some(BlockFault::WrongShape);
     }
-    if let Some(at) = first_missized(informations) {
+    if let Some(at) = first_missized(descriptors) {
         return Some(BlockFault::BadSize(at as u32));
     }
-    let at = first_unnamed(shape(tag), informations, words)?;
+    let at = first_unnamed(shape(tag), descriptors, words)?;
     Some(BlockFault::BadName(at))
 }
 
-/// The first fault of a copy, or None where it has none. It takes no memory.
-pub fn fault_of(taken: &Taken) -> Option<BlockFault>
+/// The first fault of a copy, or None if it has none. Does not allocate.
+pub fn fault_of(taken: &BlockCopy) -> Option<BlockFault>
     ensures { result ≡ fault taken.now }
 {
     let count = taken.count_seen();

@@ -11,7 +11,7 @@ pub fn copies_are_whole()
 {}
 
 /// Word 0 of a copy without a fault is the number of its call's tag, and there are as many arguments
-/// as parameters. Each parameter begins behind the end item and ends within the copy. It has the type
+/// as parameters. Each parameter begins after the end item and ends within the copy. It has the type
 /// that the call has there, and the size of its argument: two bytes for each unit of a string, four
 /// for a number, and eight for a handle.
 pub fn parameters_lie_inside()

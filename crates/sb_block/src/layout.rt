@@ -1,7 +1,7 @@
 // The limits of a block, and what its words say.
 ghost use Rattle.std.specs.Prelude.{◌≡◌, ◌≤◌, length};
 ghost use Rattle.sb_block.specs.Copies.{is_end};
-ghost use Rattle.sb_block.specs.Layout.{most_parameters, most_words, first_offset, tag_word, count_in, informations, end_in};
+ghost use Rattle.sb_block.specs.Layout.{most_parameters, most_words, first_offset, tag_word, count_in, descriptors, end_in};
 
 use crate::packing::{offset_of, part_of, word_at};
 
@@ -17,15 +17,15 @@ pub const FIRST_REPLY_WORD: u32 = 3;
 /// The number of words in which the reply stands.
 pub const REPLY_LENGTH: usize = 12;
 
-/// The word of the first parameter's information. The others follow it, and then the end item.
-const FIRST_INFORMATION: u64 = 15;
+/// The word of the first parameter's descriptor. The others follow it, and then the end item.
+const FIRST_DESCRIPTOR: u64 = 15;
 
 /// The first word in which a parameter may stand, in a block with this number of parameters.
 pub fn first_offset(count: u64) -> u64
     requires { count ≤ most_words }
     ensures { result ≡ first_offset count }
 {
-    FIRST_INFORMATION + count + 1
+    FIRST_DESCRIPTOR + count + 1
 }
 
 /// Whether a block with this number of parameters, of which there are at most 9, may end there.
@@ -36,28 +36,28 @@ pub fn is_end(count: u64, end: u64) -> bool
     first_offset(count) <= end && end <= MOST_WORDS
 }
 
-/// The number of the call's tag: word 0, or 0 where there is none.
+/// The number of the call's tag: word 0, or 0 if there is none.
 pub fn tag_word(words: &[u64]) -> u64
     ensures { result ≡ tag_word words.now }
 {
     word_at(words, 0)
 }
 
-/// The number of parameters: word 2, or 0 where there is none.
+/// The number of parameters: word 2, or 0 if there is none.
 pub fn count_in(words: &[u64]) -> u64
     ensures { result ≡ count_in words.now }
 {
     word_at(words, 2)
 }
 
-/// The information words of parameters, of which there are at most 9: as many as word 2 counts, or
+/// The descriptors of parameters, of which there are at most 9: as many as word 2 counts, or
 /// as there are.
-pub fn informations(words: &[u64]) -> &[u64]
+pub fn descriptors(words: &[u64]) -> &[u64]
     requires { count_in words.now ≤ most_parameters }
-    ensures value { result.now ≡ informations words.now }
+    ensures value { result.now ≡ descriptors words.now }
     ensures few { length result.now ≤ most_parameters }
 {
-    part_of(words, FIRST_INFORMATION, count_in(words))
+    part_of(words, FIRST_DESCRIPTOR, count_in(words))
 }
 
 /// The end in words that the end item says. There are at most 9 parameters.
@@ -65,5 +65,5 @@ pub fn end_in(words: &[u64]) -> u64
     requires { count_in words.now ≤ most_parameters }
     ensures { result ≡ end_in words.now }
 {
-    offset_of(word_at(words, FIRST_INFORMATION + count_in(words)))
+    offset_of(word_at(words, FIRST_DESCRIPTOR + count_in(words)))
 }

@@ -5,28 +5,29 @@
 // The laws, in `laws`:
 // - `copies_are_whole`: no double fetch. The count and the end that were fetched before a copy
 //   without a fault are those that stand in it, so that nothing but the copied words decides.
-// - `parameters_lie_inside`: each parameter of a copy without a fault lies behind the end item and
+// - `parameters_lie_inside`: each parameter of a copy without a fault lies after the end item and
 //   within the copy, with the type and the size of its argument; `nothing_else_is_refused` is the
 //   converse.
 // - `faultless_copies_fit`, `blocks_come_back`, `unread_parts_do_not_matter`.
 //
-// The layout follows Chromium's `sandbox/win`: a count, an information word for each parameter, an
+// The layout follows Chromium's `sandbox/win`: a count, a descriptor for each parameter, an
 // end item and then the parameters, as in `crosscall_params`, of which `sharedmem_ipc_server` and
 // `crosscall_server` take a copy, compare its head with what was read first and then check each
 // parameter in the copy. The numbers of words, types and tags are this crate's own.
 #![tactic(auto)]
 
 mod calls;
+mod copies;
 mod encoding;
 mod faults;
 mod laws;
 mod layout;
 mod packing;
 mod replies;
-mod taken;
 mod words;
 
 pub use calls::{BlockRefused, Call, decode};
+pub use copies::BlockCopy;
 pub use encoding::{TooBig, encode, encodes};
 pub use faults::{BlockFault, fault_of};
 pub use laws::{
@@ -35,5 +36,4 @@ pub use laws::{
 };
 pub use layout::{FIRST_REPLY_WORD, MOST_PARAMETERS, MOST_WORDS, REPLY_LENGTH};
 pub use replies::{read_reply, replies_come_back, reply_words};
-pub use taken::Taken;
 pub use words::Words;

@@ -1,11 +1,11 @@
 // Information words, and the words of a parameter.
 ghost use Rattle.std.specs.Prelude.{◌≡◌, ◌<◌, ◌≤◌, ◌+◌, ◌*◌, ◌^◌, length, slice_index, drop};
-ghost use Rattle.sb_block.specs.Packing.{type_of, offset_of, size_of, information, words_for, unit_word, part_of, unpacked, string_in, number_in};
+ghost use Rattle.sb_block.specs.Packing.{type_of, offset_of, size_of, descriptor, words_for, unit_word, part_of, unpacked, string_in, number_in};
 ghost use Rattle.sb_block.specs.Layout.{most_words};
 
 use arrayvec::ArrayVec;
 
-/// The type of a parameter: the upper half of its information word.
+/// The type of a parameter: the upper half of its descriptor.
 pub fn type_of(word: u64) -> u64
     ensures value { result ≡ type_of word }
     ensures small { result < 2 ^ 32 }
@@ -29,12 +29,12 @@ pub fn size_of(word: u64) -> u64
     word & 0xffff
 }
 
-/// The information word of a type, an offset in words and a size in bytes.
-pub fn information(kind: u64, offset: u64, size: u64) -> u64
+/// The descriptor of a type, an offset in words and a size in bytes.
+pub fn descriptor(kind: u64, offset: u64, size: u64) -> u64
     requires kind { kind < 2 ^ 32 }
     requires offset { offset < 2 ^ 16 }
     requires size { size < 2 ^ 16 }
-    ensures { result ≡ information kind offset size }
+    ensures { result ≡ descriptor kind offset size }
 {
     size | offset << 16 | kind << 32
 }
@@ -110,19 +110,19 @@ fn unpacked(words: &[u64], count: usize) -> ArrayVec<u16, 256>
     units
 }
 
-/// The units of the string that an information word describes.
-pub fn string_in(words: &[u64], information: u64) -> ArrayVec<u16, 256>
+/// The units of the string that a descriptor describes.
+pub fn string_in(words: &[u64], descriptor: u64) -> ArrayVec<u16, 256>
     requires { length words.now ≤ most_words }
-    ensures { result.items ≡ string_in information words.now }
+    ensures { result.items ≡ string_in descriptor words.now }
 {
-    let size = size_of(information);
-    let part = part_of(words, offset_of(information), words_for(size));
+    let size = size_of(descriptor);
+    let part = part_of(words, offset_of(descriptor), words_for(size));
     unpacked(part, (size / 2) as usize)
 }
 
-/// The word at the offset of an information word, or 0 past the end.
-pub fn number_in(words: &[u64], information: u64) -> u64
-    ensures { result ≡ number_in information words.now }
+/// The word at the offset of a descriptor, or 0 past the end.
+pub fn number_in(words: &[u64], descriptor: u64) -> u64
+    ensures { result ≡ number_in descriptor words.now }
 {
-    word_at(words, offset_of(information))
+    word_at(words, offset_of(descriptor))
 }

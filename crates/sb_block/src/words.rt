@@ -83,7 +83,7 @@ impl Words {
         }
     }
 
-    /// An equal list of words. It takes no memory.
+    /// An equal list of words. Does not allocate.
     pub fn copy(&self) -> Words
         ensures { result ≡ self.now }
     {

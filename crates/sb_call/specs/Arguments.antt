@@ -27,11 +27,11 @@ fit (k ∷ ks) (a ∷ more) = fits_kind k a && fit ks more
 abbrev pub fits : CallTag → List Arg → Bool
 fits tag args = fit (shape_of tag) args
 
--- the argument at a place, and a number where there is none
+-- the argument at a place, and a number if there is none
 abbrev pub arg_at : List Arg → ℕ → Arg
 arg_at args i = slice_index_or args i (arg.Num 0)
 
--- the kind of a parameter, and a handle where there is none
+-- the kind of a parameter, and a handle if there is none
 abbrev pub kind_at : CallTag → ℕ → ParamKind
 kind_at tag i = slice_index_or (shape_of tag) i Handle
 

@@ -1,6 +1,6 @@
 pub mod Arguments
 pub mod CallWords
-pub mod Equalities
+pub mod Parameters
 pub mod ShortNames
 pub mod Statuses
 pub mod Tags

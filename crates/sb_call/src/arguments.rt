@@ -3,9 +3,9 @@ ghost use Rattle.std.specs.Prelude.{◌≡◌};
 ghost use Rattle.sb_call.specs.Arguments.{fits_kind, fit, fits};
 
 use crate::tags::{CallTag, ParamKind, shape};
-use sb_items::{Copies, Items, NoMemory};
+use sb_items::Items;
 use sb_wide::{Wide, is_name};
-use std::alloc::Global;
+use std::alloc::AllocError;
 
 /// An argument of a call: a number, also for a handle, or a wide string, also for a name.
 #[derive(PartialEq)]
@@ -16,7 +16,6 @@ pub enum Arg {
     Str(Wide),
 }
 
-// By hand, so that it is proved here once and not at each place that drops one.
 impl Drop for Arg {
     fn drop(self) {
         match self {
@@ -26,11 +25,13 @@ impl Drop for Arg {
     }
 }
 
-impl Copies for Arg {
-    fn copy(&self, alloc: Global) -> Result<Arg, NoMemory> {
+impl Clone for Arg {
+    ghost is_clone = { λ arg clone. clone ≡ arg };
+
+    fn clone(&self) -> Result<Arg, AllocError> {
         match self {
             Arg::Num(number) => Ok(Arg::Num(*number)),
-            Arg::Str(text) => Ok(Arg::Str(text.copy(alloc)?)),
+            Arg::Str(text) => Ok(Arg::Str(text.clone()?)),
         }
     }
 }

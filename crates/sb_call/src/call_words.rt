@@ -42,7 +42,7 @@ pub fn every_tag() -> &'static [CallTag]
     ]
 }
 
-/// The call that a word names. None exactly where no call has that word.
+/// The call that a word names. None exactly if no call has that word.
 pub fn tag_of_word(word: &[u8]) -> Option<CallTag>
     ensures { result ≡ tag_of_word word.now }
 {

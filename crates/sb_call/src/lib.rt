@@ -5,8 +5,8 @@
 
 mod arguments;
 mod call_words;
-mod equalities;
 mod laws;
+mod parameters;
 mod replies;
 mod short_names;
 mod statuses;
@@ -15,6 +15,7 @@ mod tags;
 pub use arguments::{Arg, Args, fits};
 pub use call_words::{call_word, every_tag, tag_of_word};
 pub use laws::{fitting_args, tags_and_numbers};
+pub use parameters::{parameter_word, parameter_words};
 pub use replies::{Answer, Extended, Reply};
 pub use short_names::ShortName;
 pub use statuses::{

@@ -106,7 +106,7 @@ pub struct Answer {
 }
 
 /// What a target is replied to a call. The words are as they stand in the channel, so a reply that
-/// was stored by hand may have any.
+/// was stored directly may have any.
 #[derive(Drop, PartialEq)]
 pub struct Reply {
     /// The mark of the call that is answered.

@@ -42,7 +42,7 @@ fn is_short_name(bytes: &[u8]) -> bool
 }
 
 impl ShortName {
-    /// The name of these bytes. None exactly where they are not 1 to 32 of the characters of a name.
+    /// The name of these bytes. None exactly if they are not 1 to 32 of the characters of a name.
     pub fn new(bytes: &[u8]) -> Option<ShortName>
         ensures some { IsSome result ↔ (is_short_name bytes.now ≡ true) }
         ensures value { IfSome result (λ name. name ≡ bytes.now) }

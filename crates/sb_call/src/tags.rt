@@ -1,5 +1,6 @@
 // The calls that a target may forward: their tags, numbers and parameters.
-ghost use Rattle.std.specs.Prelude.{◌≡◌};
+ghost use Rattle.std.specs.Prelude.{◌≡◌, slice_get};
+ghost use Rattle.sb_call.specs.Parameters.{is_number_kind};
 ghost use Rattle.sb_call.specs.Tags.{tag_of, number_of, shape_of};
 
 /// A call that a target may forward. Each tag has the number that stands for it in a block.
@@ -32,7 +33,7 @@ pub enum CallTag {
 /// What a parameter of a call is.
 #[derive(Clone, Copy, Debug)]
 pub enum ParamKind {
-    /// A wide string without a further rule.
+    /// A wide string without another rule.
     Text,
     /// A wide string that is a name.
     Name,
@@ -42,6 +43,27 @@ pub enum ParamKind {
     Handle,
 }
 
+impl ParamKind {
+    /// Whether such a parameter is a number.
+    pub fn is_number(self) -> bool
+        ensures { result ≡ is_number_kind self }
+    {
+        match self {
+            ParamKind::Num | ParamKind::Handle => true,
+            ParamKind::Text | ParamKind::Name => false,
+        }
+    }
+}
+
+impl CallTag {
+    /// The kind of a parameter, numbered from 0. None exactly if the call has no such parameter.
+    pub fn param_kind(self, param: u32) -> Option<ParamKind>
+        ensures { result ≡ slice_get (shape_of self) param }
+    {
+        shape(self).get(param as usize).copied()
+    }
+}
+
 /// The number of a tag, from 1 to 11.
 pub fn number_of(tag: CallTag) -> u64
     ensures { result ≡ number_of tag }
@@ -49,7 +71,7 @@ pub fn number_of(tag: CallTag) -> u64
     tag as u64
 }
 
-/// The tag of a number. None exactly where no tag has that number.
+/// The tag of a number. None exactly if no tag has that number.
 pub fn tag_of(number: u64) -> Option<CallTag>
     ensures { result ≡ tag_of number }
 {

@@ -5,10 +5,6 @@ use Rattle.std.specs.Cmp.{IsPartialEquivalence}
 use Rattle.std.proofs.Common.{sym, ◌∙◌}
 use Rattle.std.proofs.lemmas.Bool.{false≢true}
 
--- a fact that a test decides, in another form
-pub decides_as : {P Q : Type 0} {r : Bool} → Decides r P → (P → Q) → (Q → P) → Decides r Q
-decides_as d f g = (λ e. f (d.0 e), λ q. d.1 (g q))
-
 -- what no value meets is decided by `false`
 pub decides_never : {P : Type 0} → (P → false ≡ true) → Decides false P
 decides_never f = (λ e. absurd (false≢true e), f)

@@ -1,17 +1,18 @@
 // A list of values.
 ghost use Rattle.std.specs.Prelude.{◌≡◌, ◌++◌, ◌∷◌, [], length, OnOk, OnErr};
+ghost use Rattle.std.specs.Slice.Iter.{iter_rest};
 
-use crate::copies::Copies;
 use crate::memory::NoMemory;
-use std::alloc::Global;
+use std::alloc::{AllocError, Global};
 use std::marker::Model;
+use std::ops::DerefSlice;
+use std::slice;
 
-/// A list of values. Contracts see it as the list of what the values are.
+/// A list of values, which is a slice of them. Contracts see it as the list of what the values are.
 pub struct Items<T> {
     items: Vec<T>,
 }
 
-// By hand, so that it is proved here once and not at each place that drops one.
 impl<T: Drop> Drop for Items<T> {
     fn drop(self) {
         let Items { items: _ } = self;
@@ -30,14 +31,14 @@ impl<T> Model for Items<T> {
 }
 
 impl<T> Items<T> {
-    /// The list of these items. It takes no memory.
+    /// The list of these items. Does not allocate.
     pub fn new(items: Vec<T>) -> Items<T>
         ensures { result ≡ items.items }
     {
         Items { items }
     }
 
-    /// The items, given back. It takes no memory.
+    /// The items, given back. Does not allocate.
     pub fn into_items(self) -> Vec<T>
         ensures { result.items ≡ self }
     {
@@ -61,7 +62,16 @@ impl<T> Items<T> {
 }
 
 impl<T: Drop> Items<T> {
-    /// The list of no items. It takes no memory.
+    /// The list of no items, which grows in the memory of `alloc`. Does not allocate.
+    pub fn empty(alloc: Global) -> Items<T>
+        ensures { result ≡ [] }
+    {
+        Items {
+            items: Vec::new(alloc),
+        }
+    }
+
+    /// The list of no items. Does not allocate.
     pub fn none(alloc: Global) -> Items<T>
         ensures { result ≡ [] }
     {
@@ -83,13 +93,37 @@ impl<T: Drop> Items<T> {
     }
 }
 
-impl<T: Copies> Copies for Items<T> {
-    fn copy(&self, alloc: Global) -> Result<Items<T>, NoMemory> {
-        let mut items = Vec::with_capacity(alloc, self.items.len())?;
-        for item in &self.items {
-            items.push(item.copy(alloc)?)?;
-        }
-        Ok(Items { items })
+impl<T> DerefSlice for Items<T> {
+    type Elem = T;
+
+    ghost deref_gives = { λ list items. items ≡ list };
+
+    fn deref(&self) -> &[T] {
+        self.items.as_slice()
+    }
+}
+
+impl<'a, T> IntoIterator for &'a Items<T> {
+    type Item = &'a T;
+
+    type IntoIter = slice::Iter<'a, T>;
+
+    ghost into_iter_gives = { λ list iter. iter_rest iter ≡ list.now };
+
+    fn into_iter(self) -> slice::Iter<'a, T> {
+        self.items.iter()
+    }
+}
+
+impl<T: Clone> Clone for Items<T> {
+    ghost use Rattle.std.specs.List.{AllZip};
+
+    ghost is_clone = { AllZip T.is_clone };
+
+    fn clone(&self) -> Result<Items<T>, AllocError> {
+        Ok(Items {
+            items: self.items.clone()?,
+        })
     }
 }
 

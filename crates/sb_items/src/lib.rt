@@ -1,13 +1,10 @@
-// Lists of values: one type for every list of the repository, how values are copied where memory may run out, and when
-// `==` tells whether two values are equal.
+// Lists of values, one type for every list of the repository, and the errors of calls that may run out of memory.
 #![tactic(auto)]
 
-mod copies;
-mod exact;
 mod items;
 mod memory;
+mod refusals;
 
-pub use copies::Copies;
-pub use exact::{Exact, is_same};
 pub use items::Items;
 pub use memory::NoMemory;
+pub use refusals::Refused;

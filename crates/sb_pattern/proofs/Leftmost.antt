@@ -18,7 +18,7 @@ begins_once : (us : List ℕ) → begins 63 us ≡ true → begins 42 us ≡ fal
 begins_once [] h = refl
 begins_once (u ∷ us) h = let e = eqb-true u 63 h in ap (λ v. eqb v 42) e
 
--- what is at the place is the fault, where this is the first place
+-- what is at the place is the fault, if this is the first place
 star_here : (n : ℕ) (u : ℕ) (us : List ℕ) → (eqb u 42 && begins 42 us) ≡ true → star_fault n (u ∷ us) ≡ Some (DoubleStar n)
 star_here n u us h = ap (λ b. cond b (Some (DoubleStar n)) (cond (eqb u 42 && begins 63 us) (Some (StarQuestion n)) (star_fault (n + 1) us))) h
 

@@ -24,7 +24,7 @@ cells_step u (v ∷ us) h = ap (λ b. cond b (Lit 63 ∷ cells_of us) (cell_of u
 literal : (u : ℕ) → eqb u 42 ≡ false → eqb u 63 ≡ false → cell_of u ≡ Lit u
 literal u s q = λ i. cond (s i) Any (cond (q i) One (Lit u))
 
--- the spelling begins with `?` where the cells do
+-- the spelling begins with `?` if the cells do
 begins_question : (cells : List Cell) → begins 63 (text_of cells) ≡ begins_with_one cells
 begins_question [] = refl
 begins_question (One ∷ cells) = refl
@@ -121,7 +121,7 @@ first_one v (w ∷ us) q = by (eqb v 47 && eqb w 63)
     by true = refl
     by false = one_cell v (cells_of (w ∷ us)) q
 
--- without its first unit a text has no fault where it had none
+-- without its first unit a text has no fault if it had none
 fault_later : (n u : ℕ) (us : List ℕ) → star_fault n (u ∷ us) ≡ None → star_fault (n + 1) us ≡ None
 fault_later n u us e = by (eqb u 42 && begins 42 us) (eqb u 42 && begins 63 us) e
   where

@@ -33,7 +33,7 @@ LiteralsMatchTheSame = (literals us : List ℕ) → matches (map Lit literals) u
 abbrev pub StarMatchesAll : Type 0
 StarMatchesAll = (us : List ℕ) → matches (Any ∷ []) us ≡ true
 
--- a string is matched where its folding is
+-- a string is matched if its folding is
 abbrev pub MatchingFoldsTheString : Type 0
 MatchingFoldsTheString = (cells : List Cell) (us : List ℕ) → matches cells (map folded us) ≡ matches cells us
 

@@ -1,13 +1,11 @@
 -- The text of a pattern.
-use Rattle.std.specs.Prelude.{◌≡◌, ◌↔◌, ◌+◌, ◌&&◌, ◌||◌, ◌==◌, ◌≤◌, ◌<◌, ℕ, Bool, true, false, not, nat_le, nat_lt, List, [], ◌∷◌, length, drop, Option, None, Some, Result, Ok, Err, if◌then◌else◌, ⊤}
+use Rattle.std.specs.Prelude.{◌≡◌, ◌↔◌, ◌+◌, ◌&&◌, ◌||◌, ◌==◌, ◌≤◌, ◌<◌, ℕ, Bool, true, false, not, nat_le, nat_lt, List, [], ◌∷◌, length, drop, Option, None, Some, Result, Ok, Err, if◌then◌else◌}
 use Rattle.std.specs.List.{flat_map}
 use Rattle.sb_pattern.specs.Limits.{most_units}
 use Rattle.sb_pattern.specs.declared.cells.Cell.{Cell}
 use Rattle.sb_pattern.specs.declared.cells.Cell.TheVariants.{Lit, One, Any}
 use Rattle.sb_pattern.specs.declared.faults.PatternFault.{PatternFault}
 use Rattle.sb_pattern.specs.declared.faults.PatternFault.TheVariants.{DoubleStar, StarQuestion, TooLong}
-use Rattle.sb_pattern.specs.declared.faults.PatternRefused.{PatternRefused}
-use Rattle.sb_pattern.specs.declared.faults.PatternRefused.TheVariants as refused
 
 -- `*`, `?`, or a unit that stands for itself
 abbrev pub cell_of : ℕ → Cell
@@ -36,7 +34,7 @@ star_fault n (u ∷ us) =
 abbrev pub fault_of : List ℕ → Option PatternFault
 fault_of text = if nat_lt most_units (length text) then Some TooLong else star_fault 0 text
 
--- the fault, where there is one
+-- the fault, if there is one
 abbrev pub unless : Option PatternFault → List Cell → Result (List Cell) PatternFault
 unless None cells = Ok cells
 unless (Some fault) cells = Err fault
@@ -44,12 +42,6 @@ unless (Some fault) cells = Err fault
 -- the cells of a text, or its fault
 abbrev pub reading : List ℕ → Result (List Cell) PatternFault
 reading text = unless (fault_of text) (cells_of text)
-
--- the program read the text, or had no memory
-abbrev pub IsReading : Result (List Cell) PatternFault → Result (List Cell) PatternRefused → Type 0
-IsReading wanted (Ok cells) = wanted ≡ Ok cells
-IsReading wanted (Err (refused.Fault fault)) = wanted ≡ Err fault
-IsReading wanted (Err refused.NoMemory) = ⊤
 
 -- how a cell is written
 abbrev pub cell_text : Cell → List ℕ
@@ -86,11 +78,11 @@ abbrev pub is_spellable : List Cell → Bool
 is_spellable [] = true
 is_spellable (cell ∷ later) = may_precede cell later && is_spellable later
 
--- cells are a pattern where each may stand before those after it and their text has at most 256 units
+-- cells are a pattern if each may stand before those after it and their text has at most 256 units
 abbrev pub is_pattern : List Cell → Bool
 is_pattern cells = nat_le (length (text_of cells)) most_units && is_spellable cells
 
--- cells are a pattern exactly where their text is read as they are
+-- cells are a pattern exactly if their text is read as they are
 abbrev pub PatternsAreRead : Type 0
 PatternsAreRead = (cells : List Cell) → (is_pattern cells ≡ true) ↔ (reading (text_of cells) ≡ Ok cells)
 
@@ -129,7 +121,7 @@ IsFaultOf text (StarQuestion place) = (length text ≤ most_units) × (is_star_b
 abbrev pub FaultsAreLeftmost : Type 0
 FaultsAreLeftmost = (text : List ℕ) (fault : PatternFault) → (reading text ≡ Err fault) ↔ IsFaultOf text fault
 
--- a text is a pattern exactly where it has at most 256 units and no bad star
+-- a text is a pattern exactly if it has at most 256 units and no bad star
 abbrev pub FaultlessTextsAreRead : Type 0
 FaultlessTextsAreRead = (text : List ℕ)
     → (reading text ≡ Ok (cells_of text)) ↔ ((length text ≤ most_units) × ((place : ℕ) → is_bad_star text place ≡ false))

@@ -3,7 +3,7 @@
 /// A cell of a pattern.
 #[derive(Clone, Copy, Debug, PartialEq, Eq)]
 pub enum Cell {
-    /// This unit, in either case where it is an ASCII letter.
+    /// This unit, in either case if it is an ASCII letter.
     Lit(u16),
     /// Any one unit, written `?`.
     One,

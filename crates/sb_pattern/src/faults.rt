@@ -2,7 +2,7 @@
 ghost use Rattle.std.specs.Prelude.{◌≡◌};
 ghost use Rattle.sb_pattern.specs.Faults.{fault_number};
 
-use sb_wide::NoMemory;
+use sb_items::Refused;
 use thiserror::Error;
 
 /// Why a text is no pattern. Indices count the text's units from 0.
@@ -32,24 +32,5 @@ impl PatternFault {
     }
 }
 
-/// Why there is no pattern of a text.
-#[derive(Clone, Copy, Debug, Error)]
-pub enum PatternRefused {
-    /// The text has this fault.
-    #[error("no pattern: {0}")]
-    Fault(PatternFault),
-    /// There was no memory.
-    #[error("out of memory")]
-    NoMemory,
-}
-
-impl From<NoMemory> for PatternRefused {
-    ghost use Rattle.std.specs.Prelude.{◌≡◌};
-    ghost use Rattle.sb_pattern.specs.declared.faults.PatternRefused.TheVariants.{NoMemory};
-
-    ghost from_gives = { λ _ refused. refused ≡ NoMemory };
-
-    fn from(_error: NoMemory) -> PatternRefused {
-        PatternRefused::NoMemory
-    }
-}
+/// Why there is no pattern of a text: its fault, or no memory.
+pub type PatternRefused = Refused<PatternFault>;

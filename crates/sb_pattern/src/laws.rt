@@ -1,9 +1,8 @@
 // Laws of patterns. None of these functions does anything: each contract is a law.
-ghost use Rattle.sb_pattern.specs.Chunks.{ChunksAreTheRuns};
 ghost use Rattle.sb_pattern.specs.Matching.{LiteralsMatchTheSame, StarMatchesAll, MatchingFoldsTheString, MatchingFoldsTheLiterals};
 ghost use Rattle.sb_pattern.specs.Reading.{FaultsAreLeftmost, FaultlessTextsAreRead, TextsComeBack, PatternsAreRead, ReadingGivesPatterns};
 
-/// The text of what was read is the text that was read, what was read is a pattern, and cells are a pattern exactly where
+/// The text of what was read is the text that was read, what was read is a pattern, and cells are a pattern exactly if
 /// their text is read as they are.
 pub fn texts_and_patterns()
     ensures texts { TextsComeBack }
@@ -11,8 +10,8 @@ pub fn texts_and_patterns()
     ensures patterns { PatternsAreRead }
 {}
 
-/// A text is a pattern exactly where it has at most 256 units and no `*` before `*` or `?`. The fault of any other text is too
-/// many units, and else the leftmost such `*`: a fault is reported at a place exactly where such a `*` is there and none
+/// A text is a pattern exactly if it has at most 256 units and no `*` before `*` or `?`. The fault of any other text is too
+/// many units, and else the leftmost such `*`: a fault is reported at a place exactly if such a `*` is there and none
 /// before it.
 pub fn faults_are_leftmost()
     ensures fault { FaultsAreLeftmost }
@@ -33,9 +32,4 @@ pub fn star_matches_all()
 pub fn matching_folds()
     ensures string { MatchingFoldsTheString }
     ensures literals { MatchingFoldsTheLiterals }
-{}
-
-/// The chunks of cells cut out the parts between the stars.
-pub fn chunks_are_the_runs()
-    ensures { ChunksAreTheRuns }
 {}

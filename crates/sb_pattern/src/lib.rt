@@ -4,8 +4,6 @@
 #![tactic(auto)]
 
 mod cells;
-mod chunks;
-mod equalities;
 mod faults;
 mod laws;
 mod limits;
@@ -14,11 +12,10 @@ mod patterns;
 mod reading;
 
 pub use cells::Cell;
-pub use chunks::Chunks;
 pub use faults::{PatternFault, PatternRefused};
 pub use laws::{
-    chunks_are_the_runs, faults_are_leftmost, literals_match_the_same, matching_folds,
-    star_matches_all, texts_and_patterns,
+    faults_are_leftmost, literals_match_the_same, matching_folds, star_matches_all,
+    texts_and_patterns,
 };
 pub use limits::MOST_UNITS;
 pub use patterns::Pattern;

@@ -7,7 +7,7 @@ ghost use Rattle.sb_pattern.specs.Rows.{IsRow};
 ghost use Rattle.sb_pattern.specs.declared.cells.Cell.{Cell};
 
 use crate::cells::Cell;
-use sb_wide::fold;
+use sb_wide::to_ascii_uppercase;
 
 // The places in a pattern of 256 cells, its end included.
 const PLACES: usize = 257;
@@ -52,7 +52,7 @@ fn matches_from(
 {
     match cell {
         Cell::Any => without_cell || without_unit,
-        Cell::Lit(wanted) => fold(unit) == fold(wanted) && without_both,
+        Cell::Lit(wanted) => to_ascii_uppercase(unit) == to_ascii_uppercase(wanted) && without_both,
         Cell::One => without_both,
     }
 }

@@ -1,18 +1,17 @@
 // Patterns: read from a text, written as one, and matched.
 ghost use Rattle.std.specs.Prelude.{◌≡◌, ◌≤◌, length, true, IfOk, Ok};
-ghost use Rattle.sb_pattern.specs.Chunks.{chunks_of};
+ghost use Rattle.sb_items.specs.Refusals.{Gives};
 ghost use Rattle.sb_pattern.specs.Limits.{most_units};
 ghost use Rattle.sb_pattern.specs.Matching.{matches};
-ghost use Rattle.sb_pattern.specs.Reading.{reading, text_of, is_pattern, IsReading};
+ghost use Rattle.sb_pattern.specs.Reading.{reading, text_of, is_pattern};
 
 use crate::cells::Cell;
-use crate::chunks::{Chunks, chunks_of};
 use crate::faults::PatternRefused;
 use crate::matching::matches;
 use crate::reading::{cells_of, fault_of, units_of};
-use sb_items::{Copies, NoMemory};
+use sb_items::NoMemory;
 use sb_wide::Wide;
-use std::alloc::Global;
+use std::alloc::{AllocError, Global};
 use std::marker::Model;
 
 /// A pattern over wide strings, seen as its list of cells.
@@ -20,7 +19,6 @@ pub struct Pattern {
     cells: Vec<Cell>,
 }
 
-// By hand, so that it is proved here once and not at each place that drops one.
 impl Drop for Pattern {
     fn drop(self) {
         let Pattern { cells: _ } = self;
@@ -45,11 +43,11 @@ impl Pattern {
     /// sandbox, but that two stars in a row and a star before a question mark are refused.
     ///
     /// # Errors
-    /// `TooLong` exactly where the text has more than 256 units. Otherwise `DoubleStar` or `StarQuestion` exactly where
+    /// `TooLong` exactly if the text has more than 256 units. Otherwise `DoubleStar` or `StarQuestion` exactly if
     /// a `*` is followed by `*` or by `?`, with the index of the leftmost such star. `NoMemory` if there is none for
     /// the cells.
     pub fn read(alloc: Global, text: &[u16]) -> Result<Pattern, PatternRefused>
-        ensures { IsReading (reading text.now) result }
+        ensures { Gives (reading text.now) result }
     {
         if let Some(fault) = fault_of(text) {
             return Err(PatternRefused::Fault(fault));
@@ -82,18 +80,8 @@ impl Pattern {
         &self.cells
     }
 
-    /// The runs of cells between the stars, the first and the last run included, also where they are empty.
-    ///
-    /// # Errors
-    /// `NoMemory` if there is none for the list.
-    pub fn chunks(&self, alloc: Global) -> Result<Chunks, NoMemory>
-        ensures { IfOk result (λ chunks. chunks ≡ chunks_of self.now) }
-    {
-        chunks_of(alloc, self.cells())
-    }
-
     /// Whether the pattern matches the units, all of them: a literal matches a unit that is equal after folding, `?` any one
-    /// unit, and `*` any run of units, the empty one included. It takes no memory, and one step for each cell and unit.
+    /// unit, and `*` any run of units, the empty one included. It does not allocate, and one step for each cell and unit.
     pub fn matches_plain(&self, units: &[u16]) -> bool
         ensures { result ≡ matches self.now units.now }
     {
@@ -101,9 +89,11 @@ impl Pattern {
     }
 }
 
-impl Copies for Pattern {
-    fn copy(&self, alloc: Global) -> Result<Pattern, NoMemory> {
-        let cells = Vec::from_slice(alloc, &self.cells)?;
+impl Clone for Pattern {
+    ghost is_clone = { λ pattern clone. clone ≡ pattern };
+
+    fn clone(&self) -> Result<Pattern, AllocError> {
+        let cells = Vec::from_slice(*self.cells.allocator(), &self.cells)?;
         Ok(Pattern { cells })
     }
 }

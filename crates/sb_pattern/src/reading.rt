@@ -6,7 +6,7 @@ ghost use Rattle.sb_pattern.specs.Reading.{cell_of, cell_text, cells_of, fault_o
 use crate::cells::Cell;
 use crate::faults::PatternFault;
 use crate::limits::MOST_UNITS;
-use sb_wide::NoMemory;
+use sb_items::NoMemory;
 use std::alloc::Global;
 
 const STAR: u16 = 42;

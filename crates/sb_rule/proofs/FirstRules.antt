@@ -26,7 +26,7 @@ abbrev is_rule : Verdict → Bool
 is_rule (verdict.Rule line action) = true
 is_rule verdict.NoRule = false
 
--- the line and the action of a verdict, and stand-ins where it is none
+-- the line and the action of a verdict, and stand-ins if it is none
 abbrev line_in : Verdict → ℕ
 line_in (verdict.Rule line action) = line
 line_in verdict.NoRule = 0
@@ -38,7 +38,7 @@ action_in other verdict.NoRule = other
 abbrev Decider : List Rule → CallTag → List Arg → ℕ → Action → Type 0
 Decider rules tag args line action = (rule : Rule) × IsFirstThatHolds rules tag args rule × (rule.line ≡ line) × (rule.action ≡ action)
 
--- the first of rules, where it holds
+-- the first of rules, if it holds
 decided_here : (rule : Rule) (rules : List Rule) (tag : CallTag) (args : List Arg) (line : ℕ) (action : Action) → rule_holds rule tag args ≡ true
     → verdict_by_rule rule ≡ verdict.Rule line action → Decider (rule ∷ rules) tag args line action
 decided_here rule rules tag args line action holds e = (
@@ -48,7 +48,7 @@ decided_here rule rules tag args line action holds e = (
   ap (action_in action) e,
 )
 
--- and one after it, where it does not
+-- and one after it, if it does not
 decided_later : (rule : Rule) (rules : List Rule) (tag : CallTag) (args : List Arg) (line : ℕ) (action : Action) → rule_holds rule tag args ≡ false
     → Decider rules tag args line action → Decider (rule ∷ rules) tag args line action
 decided_later rule rules tag args line action fails d =

@@ -1,2 +1,1 @@
 pub mod FirstRules
-pub mod Pairs

@@ -26,12 +26,12 @@ test_holds (Equal text) (arg.Str units) = is_same units text
 test_holds (Like pattern) (arg.Str units) = matches pattern units
 test_holds _ _ = false
 
--- a condition holds where its test does; a negated one holds where its test does not
+-- a condition holds if its test does; a negated one holds if its test does not
 abbrev pub cond_holds : Cond → List Arg → Bool
 cond_holds cond args =
     if cond.negated then not (test_holds cond.test (arg_at args cond.param)) else test_holds cond.test (arg_at args cond.param)
 
--- a rule holds where it is for the tag and all its conditions hold
+-- a rule holds if it is for the tag and all its conditions hold
 abbrev pub rule_holds : Rule → CallTag → List Arg → Bool
 rule_holds rule tag args = number_of rule.tag == number_of tag && list_all (λ cond. cond_holds cond args) rule.conds
 
@@ -48,7 +48,7 @@ verdict_by (rule ∷ rules) tag args = if rule_holds rule tag args then verdict_
 abbrev pub verdict_of : Policy → CallTag → List Arg → Verdict
 verdict_of policy tag args = verdict_by policy.rules tag args
 
--- the policy of a target, and one without rules where there is none
+-- the policy of a target, and one without rules if there is none
 abbrev pub policy_at : List Policy → ℕ → Policy
 policy_at policies target = slice_index_or policies target (record { name = []; rules = [] })
 
@@ -56,7 +56,7 @@ policy_at policies target = slice_index_or policies target (record { name = []; 
 abbrev pub some_rule_holds : List Rule → CallTag → List Arg → Bool
 some_rule_holds rules tag args = list_any (λ rule. rule_holds rule tag args) rules
 
--- a rule that holds decides where no rule before it holds
+-- a rule that holds decides if no rule before it holds
 abbrev pub FirstRuleDecides : Type 0
 FirstRuleDecides = (before : List Rule) (rule : Rule) (after : List Rule) (tag : CallTag) (args : List Arg)
     → some_rule_holds before tag args ≡ false → rule_holds rule tag args ≡ true
@@ -70,13 +70,13 @@ pub record IsFirstThatHolds (rules : List Rule) (tag : CallTag) (args : List Arg
   pub none_before : some_rule_holds before tag args ≡ false
   pub holds : rule_holds rule tag args ≡ true
 
--- where a rule decides, it is the first of the rules that holds, and line and action are its own
+-- if a rule decides, it is the first of the rules that holds, and line and action are its own
 abbrev pub DecidingRuleIsFirst : Type 0
 DecidingRuleIsFirst = (rules : List Rule) (tag : CallTag) (args : List Arg) (line : ℕ) (action : Action)
     → verdict_by rules tag args ≡ verdict.Rule line action
     → (rule : Rule) × IsFirstThatHolds rules tag args rule × (rule.line ≡ line) × (rule.action ≡ action)
 
--- there is no rule exactly where no rule holds
+-- there is no rule exactly if no rule holds
 abbrev pub NoRuleWhereNoneHolds : Type 0
 NoRuleWhereNoneHolds = (rules : List Rule) (tag : CallTag) (args : List Arg)
     → (verdict_by rules tag args ≡ verdict.NoRule) ↔ (some_rule_holds rules tag args ≡ false)

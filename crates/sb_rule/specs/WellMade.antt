@@ -1,15 +1,15 @@
 -- Which policies are well made.
-use Rattle.std.specs.Prelude.{◌≡◌, ◌||◌, ℕ, Bool, true, false, not, ◌&&◌, ◌==◌, nat_eq, nat_le, nat_lt, if◌then◌else◌, List, [], ◌∷◌, length}
+use Rattle.std.specs.Prelude.{ℕ, Bool, true, false, not, ◌&&◌, ◌==◌, nat_eq, nat_le, nat_lt, List, [], ◌∷◌, length}
 use Rattle.std.specs.Bool.{beq}
 use Rattle.std.specs.List.{list_all, list_any}
 use Rattle.std.specs.Cmp.Lexicographic.{pointwise}
-use Rattle.sb_wide.specs.Wide.{is_unit, utf16_of}
+use Rattle.sb_wide.specs.Surrogates.{is_paired}
+use Rattle.sb_wide.specs.Wide.{is_text_unit}
 use Rattle.sb_call.specs.Arguments.{kind_at}
+use Rattle.sb_call.specs.Parameters.{is_number_kind}
 use Rattle.sb_call.specs.Tags.{shape_of}
 use Rattle.sb_call.specs.declared.tags.CallTag.{CallTag}
 use Rattle.sb_call.specs.declared.tags.CallTag.TheVariants.{FileOpen, KeyOpen, EventOpen}
-use Rattle.sb_call.specs.declared.tags.ParamKind.{ParamKind}
-use Rattle.sb_call.specs.declared.tags.ParamKind.TheVariants as kind
 use Rattle.sb_pattern.specs.Limits.{most_units}
 use Rattle.sb_pattern.specs.Reading.{text_of, is_pattern}
 use Rattle.sb_pattern.specs.declared.cells.Cell.{Cell}
@@ -23,29 +23,7 @@ use Rattle.sb_rule.specs.declared.conditions.Test.TheVariants.{OneOf, Range, Mas
 use Rattle.sb_rule.specs.declared.policies.Policy.{Policy}
 use Rattle.sb_rule.specs.declared.policies.Rule.{Rule}
 
--- the first half of a surrogate pair
-abbrev pub is_high : ℕ → Bool
-is_high u = nat_le 0xD800 u && nat_le u 0xDBFF
-
--- the second half of a surrogate pair
-abbrev pub is_low : ℕ → Bool
-is_low u = nat_le 0xDC00 u && nat_le u 0xDFFF
-
--- either half
-abbrev pub is_surrogate : ℕ → Bool
-is_surrogate u = is_high u || is_low u
-
--- no surrogate stands alone: the two halves of a pair stand side by side, and any other unit is no surrogate
-abbrev pub is_paired : List ℕ → Bool
-is_paired [] = true
-is_paired (u ∷ []) = not (is_surrogate u)
-is_paired (u ∷ v ∷ us) = if is_high u && is_low v then is_paired us else not (is_surrogate u) && is_paired (v ∷ us)
-
--- a unit of 16 bits that is neither a control unit nor `"`
-abbrev pub is_text_unit : ℕ → Bool
-is_text_unit u = nat_le 32 u && is_unit u && not (u == 34)
-
--- a string that can stand between quotes: at most 256 units, all of them text, and no surrogate alone
+-- a string that can stand between quotes: at most 256 units, all of them text, and well-formed UTF-16
 abbrev pub is_policy_text : List ℕ → Bool
 is_policy_text us = nat_le (length us) most_units && list_all is_text_unit us && is_paired us
 
@@ -68,13 +46,6 @@ is_number_test (Range lo hi) = true
 is_number_test (Mask mask) = true
 is_number_test (Equal text) = false
 is_number_test (Like pattern) = false
-
--- a parameter that is a number
-abbrev pub is_number_kind : ParamKind → Bool
-is_number_kind kind.Text = false
-is_number_kind kind.Name = false
-is_number_kind kind.Num = true
-is_number_kind kind.Handle = true
 
 -- the parameter is one of the call's, the test is of its kind, and it is sensible
 abbrev pub is_well_formed : CallTag → Cond → Bool
@@ -115,16 +86,3 @@ abbrev pub last_unit : Cell → ℕ
 last_unit (Lit u) = u
 last_unit One = 63
 last_unit Any = 42
-
--- a character of Unicode, which no surrogate is
-abbrev pub is_character : ℕ → Bool
-is_character c = nat_lt c 0xD800 || (nat_le 0xE000 c && nat_lt c 0x11_0000)
-
--- the units of characters have no surrogate alone
-abbrev pub CharactersArePaired : Type 0
-CharactersArePaired = (cs : List ℕ) → list_all is_character cs ≡ true → is_paired (utf16_of cs) ≡ true
-
--- units without a surrogate alone are those of characters
-abbrev pub PairedUnitsAreCharacters : Type 0
-PairedUnitsAreCharacters = (us : List ℕ) → list_all is_unit us ≡ true → is_paired us ≡ true
-    → (cs : List ℕ) × (list_all is_character cs ≡ true) × (utf16_of cs ≡ us)

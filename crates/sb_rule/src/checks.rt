@@ -4,52 +4,22 @@ ghost use Rattle.std.specs.List.{list_any, list_all};
 ghost use Rattle.std.specs.Cmp.Lexicographic.{pointwise};
 ghost use Rattle.sb_call.specs.Arguments.{kind_at};
 ghost use Rattle.sb_pattern.specs.Reading.{text_of};
-ghost use Rattle.sb_rule.specs.Pairs.{is_paired_after};
-ghost use Rattle.sb_rule.specs.WellMade.{is_high, is_low, is_paired, is_text_unit, is_policy_text, is_like_text, is_number_test, is_number_kind, is_sensible, is_well_formed, is_for_readers, is_well_made_rule, is_well_made, are_named_apart, are_well_made, is_named, last_unit};
+ghost use Rattle.sb_wide.specs.Surrogates.{is_paired, is_paired_after};
+ghost use Rattle.sb_rule.specs.WellMade.{is_policy_text, is_like_text, is_number_test, is_sensible, is_well_formed, is_for_readers, is_well_made_rule, is_well_made, are_named_apart, are_well_made, is_named, last_unit};
+ghost use Rattle.sb_wide.specs.Wide.{is_text_unit};
 
 use crate::actions::Action;
 use crate::conditions::{Cond, Test};
 use crate::limits::{MOST_CONDITIONS, MOST_NUMBERS, MOST_POLICIES, MOST_RULES};
 use crate::policies::{Policies, Policy, Rule};
-use sb_call::{CallTag, ParamKind, ShortName, shape};
+use sb_call::{CallTag, ShortName};
 use sb_pattern::{Cell, MOST_UNITS, Pattern};
-
-fn is_high(unit: u16) -> bool
-    ensures { result ≡ is_high unit }
-{
-    matches!(unit, 0xD800..=0xDBFF)
-}
-
-fn is_low(unit: u16) -> bool
-    ensures { result ≡ is_low unit }
-{
-    matches!(unit, 0xDC00..=0xDFFF)
-}
+use sb_wide::{is_high_surrogate, is_low_surrogate, is_well_formed_utf16, walks_find_pairs};
 
 fn is_text_unit(unit: u16) -> bool
     ensures { result ≡ is_text_unit unit }
 {
     unit >= 32 && unit != 34
-}
-
-fn units_are_paired(units: &[u16]) -> bool
-    ensures { result ≡ is_paired_after false units.now }
-{
-    let mut after_high = false;
-    for unit in units {
-        if is_low(*unit) != after_high {
-            return false;
-        }
-        after_high = is_high(*unit);
-    }
-    !after_high
-}
-
-#[tactic(auto, using(crate::proofs::Pairs::paired_after))]
-fn is_paired(units: &[u16]) -> bool
-    ensures { result ≡ is_paired units.now }
-{
-    units_are_paired(units)
 }
 
 fn are_text_units(units: &[u16]) -> bool
@@ -61,7 +31,7 @@ fn are_text_units(units: &[u16]) -> bool
 fn is_policy_text(units: &[u16]) -> bool
     ensures { result ≡ is_policy_text units.now }
 {
-    units.len() <= MOST_UNITS && are_text_units(units) && is_paired(units)
+    units.len() <= MOST_UNITS && are_text_units(units) && is_well_formed_utf16(units)
 }
 
 // The last unit of a cell's text. The only other one is the `/` before a question mark.
@@ -81,18 +51,18 @@ fn cells_are_paired(cells: &[Cell]) -> bool
     let mut after_high = false;
     for cell in cells {
         let unit = last_unit(*cell);
-        if is_low(unit) != after_high {
+        if is_low_surrogate(unit) != after_high {
             return false;
         }
-        after_high = is_high(unit);
+        after_high = is_high_surrogate(unit);
     }
     !after_high
 }
 
-#[tactic(auto, using(crate::proofs::Pairs::paired_after))]
 fn are_paired_cells(cells: &[Cell]) -> bool
     ensures { result ≡ is_paired (text_of cells.now) }
 {
+    walks_find_pairs();
     cells_are_paired(cells)
 }
 
@@ -135,22 +105,11 @@ fn is_number_test(test: &Test) -> bool
     }
 }
 
-/// Whether a parameter of this kind is a number.
-pub fn is_number_kind(kind: ParamKind) -> bool
-    ensures { result ≡ is_number_kind kind }
-{
-    match kind {
-        ParamKind::Num | ParamKind::Handle => true,
-        ParamKind::Text | ParamKind::Name => false,
-    }
-}
-
 fn is_well_formed(tag: CallTag, cond: &Cond) -> bool
     ensures { result ≡ is_well_formed tag cond.now }
 {
-    match shape(tag).get(cond.param as usize) {
-        Some(kind) => is_number_test(&cond.test) == is_number_kind(*kind)
-            && is_sensible(&cond.test),
+    match tag.param_kind(cond.param) {
+        Some(kind) => is_number_test(&cond.test) == kind.is_number() && is_sensible(&cond.test),
         None => false,
     }
 }
@@ -177,7 +136,7 @@ fn is_well_made_rule(rule: &Rule) -> bool
 {
     rule.conds.len() <= MOST_CONDITIONS
         && is_for_readers(rule.action, rule.tag)
-        && are_well_formed(rule.tag, rule.conds.as_slice())
+        && are_well_formed(rule.tag, &rule.conds)
 }
 
 fn are_well_made_rules(rules: &[Rule]) -> bool
@@ -189,13 +148,13 @@ fn are_well_made_rules(rules: &[Rule]) -> bool
 /// Whether a policy is well made: it has at most 256 rules, each with at most 8 conditions, each condition is well formed,
 /// and a rule with the action `ReadOnly` is for `file.open`, `key.open` or `event.open`.
 ///
-/// A condition is well formed where its parameter is one of the call's, its test is of a number on a number or handle and
+/// A condition is well formed if its parameter is one of the call's, its test is of a number on a number or handle and
 /// of a string on a text or name, a list has 1 to 16 numbers, a range is not empty, and a string, or a pattern's text, has
-/// at most 256 units, none below 32 and no `"`, and no surrogate alone.
+/// at most 256 units, none below 32 and no `"`, and well-formed UTF-16.
 pub fn well_made(policy: &Policy) -> bool
     ensures { result ≡ is_well_made policy.now }
 {
-    policy.rules.len() <= MOST_RULES && are_well_made_rules(policy.rules.as_slice())
+    policy.rules.len() <= MOST_RULES && are_well_made_rules(&policy.rules)
 }
 
 fn is_named(policies: &[Policy], name: &ShortName) -> bool
@@ -228,6 +187,6 @@ pub(crate) fn each_well_made(policies: &[Policy]) -> bool
 pub fn all_well_made(policies: &Policies) -> bool
     ensures { result ≡ are_well_made policies.now.list }
 {
-    let list = policies.list.as_slice();
+    let list = &policies.list;
     list.len() <= MOST_POLICIES && are_named_apart(list) && each_well_made(list)
 }

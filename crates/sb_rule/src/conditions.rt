@@ -1,9 +1,10 @@
 // The conditions of a rule.
+ghost use Rattle.std.specs.Prelude.{◌≡◌};
 
-use sb_items::{Copies, Items, NoMemory};
+use sb_items::Items;
 use sb_pattern::Pattern;
 use sb_wide::Wide;
-use std::alloc::Global;
+use std::alloc::AllocError;
 
 /// The numbers of a test.
 pub type Numbers = Items<u64>;
@@ -24,7 +25,6 @@ pub enum Test {
     Like(Pattern),
 }
 
-// By hand, so that it is proved here once and not at each place that drops one.
 impl Drop for Test {
     fn drop(self) {
         match self {
@@ -37,14 +37,16 @@ impl Drop for Test {
     }
 }
 
-impl Copies for Test {
-    fn copy(&self, alloc: Global) -> Result<Test, NoMemory> {
+impl Clone for Test {
+    ghost is_clone = { λ value clone. clone ≡ value };
+
+    fn clone(&self) -> Result<Test, AllocError> {
         Ok(match self {
-            Test::OneOf(numbers) => Test::OneOf(numbers.copy(alloc)?),
+            Test::OneOf(numbers) => Test::OneOf(numbers.clone()?),
             Test::Range { lo, hi } => Test::Range { lo: *lo, hi: *hi },
             Test::Mask(mask) => Test::Mask(*mask),
-            Test::Equal(text) => Test::Equal(text.copy(alloc)?),
-            Test::Like(pattern) => Test::Like(pattern.copy(alloc)?),
+            Test::Equal(text) => Test::Equal(text.clone()?),
+            Test::Like(pattern) => Test::Like(pattern.clone()?),
         })
     }
 }
@@ -54,13 +56,12 @@ impl Copies for Test {
 pub struct Cond {
     /// The parameter, numbered from 0.
     pub param: u32,
-    /// Whether the condition holds where the test does not.
+    /// Whether the condition holds if the test does not.
     pub negated: bool,
     /// The test.
     pub test: Test,
 }
 
-// By hand, so that it is proved here once and not at each place that drops one.
 impl Drop for Cond {
     fn drop(self) {
         let Cond {
@@ -71,15 +72,17 @@ impl Drop for Cond {
     }
 }
 
-impl Copies for Cond {
-    fn copy(&self, alloc: Global) -> Result<Cond, NoMemory> {
+impl Clone for Cond {
+    ghost is_clone = { λ value clone. clone ≡ value };
+
+    fn clone(&self) -> Result<Cond, AllocError> {
         Ok(Cond {
             param: self.param,
             negated: self.negated,
-            test: self.test.copy(alloc)?,
+            test: self.test.clone()?,
         })
     }
 }
 
-/// The conditions of a rule, which hold where all of them do.
+/// The conditions of a rule, which hold if all of them do.
 pub type Conds = Items<Cond>;

@@ -34,7 +34,6 @@ pub struct PlainJudge {
     ghost well_made: { list_all is_well_made targets ≡ true },
 }
 
-// By hand, so that it is proved here once and not at each place that drops one.
 impl Drop for PlainJudge {
     fn drop(self) {
         let PlainJudge { targets: _ } = self;
@@ -42,13 +41,13 @@ impl Drop for PlainJudge {
 }
 
 impl PlainJudge {
-    /// The judge of targets with these policies, one for each target in order. None exactly where some policy is not
+    /// The judge of targets with these policies, one for each target in order. None exactly if some policy is not
     /// well made.
     pub fn new(targets: PolicyList) -> Option<PlainJudge>
         ensures some { IsSome result ↔ (list_all is_well_made targets ≡ true) }
         ensures targets { IfSome result (λ judge. judge.targets ≡ targets) }
     {
-        if each_well_made(targets.as_slice()) {
+        if each_well_made(&targets) {
             Some(PlainJudge { targets })
         } else {
             None
@@ -62,7 +61,7 @@ impl Judge for PlainJudge {
     ghost well_made = { λ judge. judge.well_made };
 
     fn judge(&self, target: u32, tag: CallTag, args: &[Arg]) -> Verdict {
-        match self.targets.as_slice().get(target as usize) {
+        match self.targets.get(target as usize) {
             Some(policy) => verdict_plain(policy, tag, args),
             None => Verdict::NoRule,
         }

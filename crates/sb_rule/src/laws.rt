@@ -1,15 +1,14 @@
-// Laws of verdicts and the strings of policies. None of these functions does anything: each contract is a law.
+// Laws of verdicts. None of these functions does anything: each contract is a law.
 ghost use Rattle.sb_rule.specs.Verdicts.{FirstRuleDecides, DecidingRuleIsFirst, NoRuleWhereNoneHolds, RulesWithoutConditionsDecide, AppendingKeepsVerdicts};
-ghost use Rattle.sb_rule.specs.WellMade.{CharactersArePaired, PairedUnitsAreCharacters};
 
-/// A rule that holds decides where no rule before it holds; and where a verdict is a rule, one of the rules is the first that
+/// A rule that holds decides if no rule before it holds; and if a verdict is a rule, one of the rules is the first that
 /// holds, and line and action are its own.
 pub fn first_rule_decides()
     ensures first { FirstRuleDecides }
     ensures deciding { DecidingRuleIsFirst }
 {}
 
-/// There is no rule exactly where no rule holds.
+/// There is no rule exactly if no rule holds.
 pub fn no_rule_where_none_holds()
     ensures { NoRuleWhereNoneHolds }
 {}
@@ -22,10 +21,4 @@ pub fn rules_without_conditions_decide()
 /// Rules appended never change a verdict that a rule gave before.
 pub fn appending_keeps_verdicts()
     ensures { AppendingKeepsVerdicts }
-{}
-
-/// The units of characters have no surrogate alone, and units without a surrogate alone are those of characters.
-pub fn characters_are_paired()
-    ensures characters { CharactersArePaired }
-    ensures units { PairedUnitsAreCharacters }
 {}

@@ -7,21 +7,22 @@
 mod actions;
 mod checks;
 mod conditions;
-mod equalities;
 mod judges;
 mod laws;
 mod limits;
 mod policies;
 mod verdicts;
+mod well_made_policies;
 
 pub use actions::Action;
-pub use checks::{all_well_made, is_for_readers, is_number_kind, well_made};
+pub use checks::{all_well_made, is_for_readers, well_made};
 pub use conditions::{Cond, Conds, Numbers, Test};
 pub use judges::{Judge, PlainJudge};
 pub use laws::{
-    appending_keeps_verdicts, characters_are_paired, first_rule_decides, no_rule_where_none_holds,
+    appending_keeps_verdicts, first_rule_decides, no_rule_where_none_holds,
     rules_without_conditions_decide,
 };
 pub use limits::{MOST_CONDITIONS, MOST_NUMBERS, MOST_POLICIES, MOST_RULES};
 pub use policies::{Policies, Policy, PolicyList, Rule, Rules};
 pub use verdicts::{Verdict, verdict_plain};
+pub use well_made_policies::WellMadePolicies;

@@ -1,10 +1,11 @@
 // Policies: named lists of rules.
+ghost use Rattle.std.specs.Prelude.{◌≡◌};
 
 use crate::actions::Action;
 use crate::conditions::Conds;
 use sb_call::{CallTag, ShortName};
-use sb_items::{Copies, Items, NoMemory};
-use std::alloc::Global;
+use sb_items::Items;
+use std::alloc::AllocError;
 
 /// A rule: for the calls of one tag for which all its conditions hold, an action.
 #[derive(PartialEq)]
@@ -19,7 +20,6 @@ pub struct Rule {
     pub line: u32,
 }
 
-// By hand, so that it is proved here once and not at each place that drops one.
 impl Drop for Rule {
     fn drop(self) {
         let Rule {
@@ -31,11 +31,13 @@ impl Drop for Rule {
     }
 }
 
-impl Copies for Rule {
-    fn copy(&self, alloc: Global) -> Result<Rule, NoMemory> {
+impl Clone for Rule {
+    ghost is_clone = { λ value clone. clone ≡ value };
+
+    fn clone(&self) -> Result<Rule, AllocError> {
         Ok(Rule {
             tag: self.tag,
-            conds: self.conds.copy(alloc)?,
+            conds: self.conds.clone()?,
             action: self.action,
             line: self.line,
         })
@@ -54,18 +56,19 @@ pub struct Policy {
     pub rules: Rules,
 }
 
-// By hand, so that it is proved here once and not at each place that drops one.
 impl Drop for Policy {
     fn drop(self) {
         let Policy { name: _, rules: _ } = self;
     }
 }
 
-impl Copies for Policy {
-    fn copy(&self, alloc: Global) -> Result<Policy, NoMemory> {
+impl Clone for Policy {
+    ghost is_clone = { λ value clone. clone ≡ value };
+
+    fn clone(&self) -> Result<Policy, AllocError> {
         Ok(Policy {
             name: self.name.copy(),
-            rules: self.rules.copy(alloc)?,
+            rules: self.rules.clone()?,
         })
     }
 }
@@ -87,10 +90,12 @@ impl Drop for Policies {
     }
 }
 
-impl Copies for Policies {
-    fn copy(&self, alloc: Global) -> Result<Policies, NoMemory> {
+impl Clone for Policies {
+    ghost is_clone = { λ value clone. clone ≡ value };
+
+    fn clone(&self) -> Result<Policies, AllocError> {
         Ok(Policies {
-            list: self.list.copy(alloc)?,
+            list: self.list.clone()?,
         })
     }
 }

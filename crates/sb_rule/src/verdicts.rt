@@ -8,7 +8,7 @@ use crate::actions::Action;
 use crate::conditions::{Cond, Test};
 use crate::policies::{Policy, Rule};
 use sb_call::{Arg, CallTag, number_of};
-use sb_wide::same;
+use sb_wide::eq_ignore_ascii_case;
 
 /// What a policy says of a call.
 #[derive(Clone, Copy, Debug, PartialEq, Eq)]
@@ -29,10 +29,13 @@ fn test_holds(test: &Test, arg: &Arg) -> bool
     ensures { result ≡ test_holds test.now arg.now }
 {
     match (test, arg) {
-        (Test::OneOf(numbers), Arg::Num(value)) => is_one_of(numbers.as_slice(), *value),
+        (Test::OneOf(numbers), Arg::Num(value)) => is_one_of(numbers, *value),
         (Test::Range { lo, hi }, Arg::Num(value)) => *lo <= *value && *value <= *hi,
         (Test::Mask(mask), Arg::Num(value)) => *value & *mask != 0,
-        (Test::Equal(text), Arg::Str(units)) => same(units.as_units(), text.as_units()),
+        (Test::Equal(text), Arg::Str(units)) => eq_ignore_ascii_case(
+            units.as_units(),
+            text.as_units(),
+        ),
         (Test::Like(pattern), Arg::Str(units)) => pattern.matches_plain(units.as_units()),
         _ => false,
     }
@@ -63,17 +66,17 @@ fn conds_hold(conds: &[Cond], args: &[Arg]) -> bool
 fn rule_holds(rule: &Rule, tag: CallTag, args: &[Arg]) -> bool
     ensures { result ≡ rule_holds rule.now tag args.now }
 {
-    number_of(rule.tag) == number_of(tag) && conds_hold(rule.conds.as_slice(), args)
+    number_of(rule.tag) == number_of(tag) && conds_hold(&rule.conds, args)
 }
 
 /// The verdict of a policy on a call: the line and the action of the first rule for the call's tag whose conditions all
-/// hold, and `NoRule` exactly where there is none. Rules are tried in the order of the list. Where the policy is well
+/// hold, and `NoRule` exactly if there is none. Rules are tried in the order of the list. If the policy is well
 /// made and the arguments fit the tag, each condition finds its argument; elsewhere a condition whose parameter is not
 /// there looks at the number 0.
 pub fn verdict_plain(policy: &Policy, tag: CallTag, args: &[Arg]) -> Verdict
     ensures { result ≡ verdict_of policy.now tag args.now }
 {
-    for rule in policy.rules.as_slice() {
+    for rule in &policy.rules {
         if rule_holds(rule, tag, args) {
             return Verdict::Rule {
                 line: rule.line,

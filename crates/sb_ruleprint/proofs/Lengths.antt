@@ -25,7 +25,7 @@ use Rattle.sb_rule.specs.declared.policies.Policy.{Policy}
 use Rattle.sb_rule.specs.declared.policies.Rule.{Rule}
 use Rattle.sb_text.specs.TokenLaws.{written_token, written_line}
 use Rattle.sb_text.specs.Tokens.{Lexeme, Word, Quoted, utf8_of}
-use Rattle.sb_ruleprint.specs.Parameters.{parameter_words, parameter_word}
+use Rattle.sb_call.specs.Parameters.{parameter_words, parameter_word}
 use Rattle.sb_ruleprint.specs.Printing.{number_word, range_word, or_tokens, numbers_tokens, test_tokens, not_tokens, cond_tokens, joined_tokens, conds_tokens, rule_tokens, heading_tokens, policy_lines, has_read_only, version_word, version_tokens, spaced, printed}
 use Rattle.sb_text.specs.PlainLines.{line_text}
 use Rattle.sb_ruleprint.specs.Values.{is_policy_of_values}

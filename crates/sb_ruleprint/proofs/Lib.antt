@@ -1,4 +1,2 @@
 pub mod Lengths
 pub mod Spaces
-pub mod WrittenStrings
-pub mod QuotedStrings

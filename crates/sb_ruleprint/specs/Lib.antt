@@ -1,4 +1,2 @@
-pub mod Parameters
 pub mod Printing
 pub mod Values
-pub mod Strings

@@ -16,7 +16,7 @@ use Rattle.sb_text.specs.TokenLaws.{written_token}
 use Rattle.sb_text.specs.Tokens.{Lexeme, Word, Quoted, utf8_of}
 use Rattle.sb_rule.specs.Actions.{action_word}
 use Rattle.sb_call.specs.CallWords.{call_word}
-use Rattle.sb_ruleprint.specs.Parameters.{parameter_word}
+use Rattle.sb_call.specs.Parameters.{parameter_word}
 
 -- a number: `0x` and lower-case hexadecimal digits
 abbrev pub number_word : ℕ → List ℕ
@@ -26,7 +26,7 @@ number_word n = 48 ∷ 120 ∷ hexadecimal n
 abbrev pub range_word : ℕ → ℕ → List ℕ
 range_word lo hi = number_word lo ++ 46 ∷ 46 ∷ number_word hi
 
--- a further number: `or N`
+-- another number: `or N`
 abbrev pub or_tokens : ℕ → List Lexeme
 or_tokens n = Word (codes "or") ∷ Word (number_word n) ∷ []
 
@@ -43,16 +43,16 @@ test_tokens (Mask mask) = Word (codes "has") ∷ Word (number_word mask) ∷ []
 test_tokens (Equal text) = Word (codes "is") ∷ Quoted (utf8_of text) ∷ []
 test_tokens (Like pattern) = Word (codes "like") ∷ Quoted (utf8_of (text_of pattern)) ∷ []
 
--- `not`, where a condition is negated
+-- `not`, if a condition is negated
 abbrev pub not_tokens : Bool → List Lexeme
 not_tokens true = Word (codes "not") ∷ []
 not_tokens false = []
 
--- a condition: `not` where it is negated, the name of its parameter, and its test
+-- a condition: `not` if it is negated, the name of its parameter, and its test
 abbrev pub cond_tokens : CallTag → Cond → List Lexeme
 cond_tokens tag cond = not_tokens cond.negated ++ Word (parameter_word tag cond.param) ∷ test_tokens cond.test
 
--- a condition behind `when` or `and`
+-- a condition after `when` or `and`
 abbrev pub joined_tokens : List ℕ → CallTag → Cond → List Lexeme
 joined_tokens joint tag cond = Word joint ∷ cond_tokens tag cond
 
@@ -82,7 +82,7 @@ is_read_only _ = false
 abbrev pub has_read_only : Policy → Bool
 has_read_only policy = list_any (λ rule. is_read_only rule.action) policy.rules
 
--- version 2 where some rule only lets read, and else version 1
+-- version 2 if some rule only lets read, and else version 1
 abbrev pub version_word : List Policy → List ℕ
 version_word policies = if list_any has_read_only policies then codes "2" else codes "1"
 
@@ -107,7 +107,7 @@ abbrev pub relined_rules : ℕ → List Rule → List Rule
 relined_rules n [] = []
 relined_rules n (rule ∷ rules) = record rule { line = n } ∷ relined_rules (n + 1) rules
 
--- policies whose rules have the numbers of their lines, where the first heading stands on line n
+-- policies whose rules have the numbers of their lines, if the first heading stands on line n
 abbrev pub relined_from : ℕ → List Policy → List Policy
 relined_from n [] = []
 relined_from n (policy ∷ policies) =

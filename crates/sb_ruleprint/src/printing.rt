@@ -1,7 +1,6 @@
 // Printing policies.
 ghost use Rattle.std.specs.Prelude.{◌≡◌, ◌++◌, ◌∷◌, [], map, codes, true, length, ◌<◌, ◌^◌, IfOk, OnOk};
 ghost use Rattle.std.specs.List.{flat_map, list_all, list_any};
-ghost use Rattle.sb_rule.specs.WellMade.{are_well_made};
 ghost use Rattle.sb_rule.specs.Actions.{action_word};
 ghost use Rattle.sb_call.specs.CallWords.{call_word};
 ghost use Rattle.sb_ruleprint.specs.Printing.{number_word, range_word, or_tokens, numbers_tokens, test_tokens, not_tokens, cond_tokens, joined_tokens, conds_tokens, rule_tokens, heading_tokens, policy_lines, is_read_only, has_read_only, version_word, version_tokens, spaced, printed};
@@ -9,10 +8,10 @@ ghost use Rattle.sb_text.specs.PlainLines.{line_text};
 ghost use Rattle.sb_text.specs.Tokens.{utf8_of};
 ghost use Rattle.sb_ruleprint.specs.Values.{is_number, is_test_of_values, is_rule_of_values, is_policy_of_values};
 
-use crate::parameters::parameter_word;
-use sb_call::{CallTag, call_word};
-use sb_rule::{Action, Cond, Policies, Policy, Rule, Test};
-use sb_wide::{NoMemory, put_hexadecimal};
+use sb_call::{CallTag, call_word, parameter_word};
+use sb_items::NoMemory;
+use sb_rule::{Action, Cond, Policy, Rule, Test, WellMadePolicies};
+use sb_wide::put_hexadecimal;
 use std::alloc::Global;
 
 // Each of these appends to the text, and what it has read of the policies is in the ranges of its types. After an error the text
@@ -82,7 +81,7 @@ fn put_test(text: &mut Vec<u8>, test: &Test) -> Result<(), NoMemory>
     match test {
         Test::OneOf(numbers) => {
             put_word(text, b"is")?;
-            put_numbers(text, numbers.as_slice())
+            put_numbers(text, numbers)
         }
         Test::Range { lo, hi } => {
             text.extend_from_slice(b" in ")?;
@@ -151,7 +150,7 @@ fn put_rule(text: &mut Vec<u8>, rule: &Rule) -> Result<(), NoMemory>
 {
     text.extend_from_slice(rule.action.word())?;
     put_word(text, call_word(rule.tag))?;
-    put_conds(text, rule.tag, rule.conds.as_slice())?;
+    put_conds(text, rule.tag, &rule.conds)?;
     text.push(b'\n')?;
     Ok(())
 }
@@ -173,7 +172,7 @@ fn put_policy(text: &mut Vec<u8>, policy: &Policy) -> Result<(), NoMemory>
     text.extend_from_slice(b"policy")?;
     put_word(text, policy.name.bytes())?;
     text.push(b'\n')?;
-    put_rules(text, policy.rules.as_slice())
+    put_rules(text, &policy.rules)
 }
 
 fn put_policies(text: &mut Vec<u8>, policies: &[Policy]) -> Result<(), NoMemory>
@@ -195,7 +194,7 @@ fn is_read_only(rule: &Rule) -> bool
 fn has_read_only(policy: &Policy) -> bool
     ensures { result ≡ has_read_only policy.now }
 {
-    policy.rules.as_slice().iter().any(is_read_only)
+    policy.rules.iter().any(is_read_only)
 }
 
 fn have_read_only(policies: &[Policy]) -> bool
@@ -224,20 +223,19 @@ fn policies_text(alloc: Global, policies: &[Policy]) -> Result<Vec<u8>, NoMemory
 
 /// The text of policies.
 ///
-/// The first line is `sandbox-policy 2` where some rule has the action `ReadOnly`, and `sandbox-policy 1` otherwise. Then
-/// each policy has its heading and one line for each rule. One space stands between each two tokens, and an LF behind each
+/// The first line is `sandbox-policy 2` if some rule has the action `ReadOnly`, and `sandbox-policy 1` otherwise. Then
+/// each policy has its heading and one line for each rule. One space stands between each two tokens, and an LF after each
 /// line. Numbers are `0x` and lower-case hexadecimal digits without leading zeros. Strings and patterns are their text, in
 /// UTF-8, between quotes. The text has fewer than 2^32 bytes. The names that it has are short, and its numbers have 64 bits.
 ///
 /// # Errors
 /// `NoMemory` if there is none for the text.
 #[tactic(auto, using(crate::proofs::Lengths::printed_short))]
-pub fn print_policies(alloc: Global, policies: &Policies) -> Result<Vec<u8>, NoMemory>
-    requires { are_well_made policies.now.list ≡ true }
+pub fn print_policies(alloc: Global, policies: &WellMadePolicies) -> Result<Vec<u8>, NoMemory>
     ensures text { IfOk result (λ text. text.items ≡ printed policies.now.list) }
     ensures short { IfOk result (λ text. length text.items < 2 ^ 32) }
     ensures values { OnOk result (list_all is_policy_of_values policies.now.list ≡ true) }
 {
-    let text = policies_text(alloc, policies.list.as_slice())?;
+    let text = policies_text(alloc, &policies.policies().list)?;
     Ok(text)
 }

@@ -11,10 +11,10 @@ use Rattle.sb_rule.specs.declared.policies.Rule.{Rule}
 use Rattle.sb_ruletext.proofs.Conjunctions.{both, and_true}
 use Rattle.sb_ruletext.specs.Lines.{with_last_rules, check_heading}
 use Rattle.sb_text.specs.Steps.{◌>>=◌}
-use Rattle.sb_ruletext.specs.declared.faults.TextKind.{TextKind}
-use Rattle.sb_ruletext.specs.declared.faults.TextKind.TheVariants.{TooMany, NoHeading}
+use Rattle.sb_ruletext.specs.declared.faults.PolicyFaultKind.{PolicyFaultKind}
+use Rattle.sb_ruletext.specs.declared.faults.PolicyFaultKind.TheVariants.{TooMany, NoHeading}
 
--- a policy with these rules behind its own
+-- a policy with these rules after its own
 abbrev pub longer : Policy → List Rule → Policy
 longer policy rules = record { name = policy.name; rules = policy.rules ++ rules }
 
@@ -27,21 +27,21 @@ alone : (b : Bool) (last : Policy) → (cond b (Ok last) (Err TooMany) >>= λ la
 alone true last = refl
 alone false last = refl
 
--- rules are added to the last policy, where it has room for them
+-- rules are added to the last policy, if it has room for them
 pub last_rules : (before : List Policy) (last : Policy) (rules : List Rule)
     → with_last_rules (before ++ last ∷ []) rules
     ≡ cond (nat_le (length last.rules + length rules) 256) (Ok (before ++ longer last rules ∷ [])) (Err TooMany)
 unfolding with_last_rules
 last_rules [] last rules = alone (nat_le (length last.rules + length rules) 256) (longer last rules)
 last_rules (policy ∷ []) last rules =
-    ap (λ (others : Result (List Policy) TextKind). others >>= λ others. Ok (policy ∷ others)) (last_rules [] last rules)
+    ap (λ (others : Result (List Policy) PolicyFaultKind). others >>= λ others. Ok (policy ∷ others)) (last_rules [] last rules)
     ∙ onto policy (nat_le (length last.rules + length rules) 256) [] (longer last rules)
 last_rules (policy ∷ next ∷ before) last rules =
-    ap (λ (others : Result (List Policy) TextKind). others >>= λ others. Ok (policy ∷ others)) (last_rules (next ∷ before) last rules)
+    ap (λ (others : Result (List Policy) PolicyFaultKind). others >>= λ others. Ok (policy ∷ others)) (last_rules (next ∷ before) last rules)
     ∙ onto policy (nat_le (length last.rules + length rules) 256) (next ∷ before) (longer last rules)
 
 -- the policies so far with the rules of a line
-abbrev pub added : List Policy → Result (List Rule) TextKind → Result (List Policy) TextKind
+abbrev pub added : List Policy → Result (List Rule) PolicyFaultKind → Result (List Policy) PolicyFaultKind
 added policies rules = check_heading policies >>= λ headed. rules >>= λ rules. with_last_rules policies rules
 
 -- a policy of this name with these rules
@@ -140,7 +140,7 @@ well_made_more policies name h k l =
     and_true _ _ (and_true _ _ few (apart_with policies (policy_of name []) (both _ _ (both _ _ h).0).1 k))
     (list_all-append is_well_made policies (policy_of name [] ∷ []) ∙ and_true _ _ (both _ _ h).1 refl)
 
--- there is room for one more policy behind the last
+-- there is room for one more policy after the last
 pub room_more : (before : List Policy) (last : Policy) → nat_lt (length before) 7 ≡ nat_lt (length (before ++ last ∷ [])) 8
 room_more before last =
     let shifted : nat_lt (length before) 7 ≡ nat_lt (length before + 1) 8 = grind (arith, nat_tests) in

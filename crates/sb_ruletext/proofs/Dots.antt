@@ -29,7 +29,7 @@ one : (b : ℕ) (rest : Option (List ℕ × List ℕ)) → option_map (λ ends. 
 one b None = refl
 one b (Some ends) = refl
 
--- one more byte is passed where no `..` stands
+-- one more byte is passed if no `..` stands
 pub passed_one : (word : List ℕ) (n : ℕ) → n < length word → after_dots (drop n word) ≡ None
     → ends_after (take n word) (around_dots (drop n word)) ≡ ends_after (take (n + 1) word) (around_dots (drop (n + 1) word))
 passed_one [] n l h = absurd (omega (arith, l))

@@ -1,22 +1,22 @@
 -- Items that are joined by a word: what was read, and what is left.
 use Rattle.std.proofs.Common.{◌≡◌, refl, sym, ap, ◌∙◌, ℕ, suc, ◌+◌, ◌-◌, ◌<◌, ◌≤◌, List, [], ◌∷◌, ◌++◌, length, length-append, true, false, Ok, Err, append_assoc, arith}
 use Rattle.sb_ruletext.specs.Steps.{excess, joined_at}
-use Rattle.sb_ruletext.specs.declared.faults.TextKind.{TextKind}
+use Rattle.sb_ruletext.specs.declared.faults.PolicyFaultKind.{PolicyFaultKind}
 use Rattle.sb_text.specs.Steps.{◌>>=◌, Read, Reads, begins_with, later}
 use Rattle.sb_text.specs.Tokens.{Lexeme}
-use Rattle.sb_text.specs.declared.refusals.Refused.{Refused}
-use Rattle.sb_text.specs.declared.refusals.Refused.TheVariants as refused
+use Rattle.sb_items.specs.declared.refusals.Refused.{Refused}
+use Rattle.sb_items.specs.declared.refusals.Refused.TheVariants as refused
 
 -- how an item is read
 abbrev ItemAt : Type 0 → Type 0
-ItemAt A = List Lexeme → Read A TextKind
+ItemAt A = List Lexeme → Read A PolicyFaultKind
 
 -- items that were read, and those that follow
-abbrev pub with_items : {A : Type 0} → List A → Read (List A) TextKind → Read (List A) TextKind
+abbrev pub with_items : {A : Type 0} → List A → Read (List A) PolicyFaultKind → Read (List A) PolicyFaultKind
 with_items done (Ok read) = Ok (done ++ read.0, read.1)
 with_items done (Err kind) = Err kind
 
-one_item : {A : Type 0} (done : List A) (first : A) (others : Read (List A) TextKind)
+one_item : {A : Type 0} (done : List A) (first : A) (others : Read (List A) PolicyFaultKind)
     → with_items done (others >>= λ others. Ok (first ∷ others.0, others.1)) ≡ with_items (done ++ first ∷ []) others
 one_item done first (Ok read) = ap (λ items. Ok (items, read.1)) (sym (append_assoc done (first ∷ []) read.0))
 one_item done first (Err kind) = refl
@@ -30,7 +30,7 @@ left_after most done item = ap (λ n. most - n) (sym (length-append done (item �
 grown : {A : Type 0} → (most : ℕ) (done : List A) (item : A) → length done < most → length (done ++ item ∷ []) ≤ most
 grown most done item l = let e : length (done ++ item ∷ []) ≡ length done + 1 = length-append done (item ∷ []) in omega (arith, l, e)
 
-item_bad : {A : Type 0} (k : ℕ) (joint : List ℕ) (item_at : ItemAt A) (done : List A) (tokens : List Lexeme) (kind : TextKind)
+item_bad : {A : Type 0} (k : ℕ) (joint : List ℕ) (item_at : ItemAt A) (done : List A) (tokens : List Lexeme) (kind : PolicyFaultKind)
     → item_at tokens ≡ Err kind → with_items done (joined_at (suc k) joint item_at tokens) ≡ Err kind
 unfolding joined_at
 item_bad k joint item_at done tokens kind h = rw (h) refl
@@ -48,7 +48,7 @@ unfolding joined_at
 item_more k joint item_at done tokens item rest h b = rw (h) rw (b) (one_item done item (joined_at k joint item_at (later rest)))
 
 -- the fault of an item
-pub joined_bad : {A : Type 0} (most : ℕ) (joint : List ℕ) (item_at : ItemAt A) (done : List A) (tokens : List Lexeme) (kind : TextKind)
+pub joined_bad : {A : Type 0} (most : ℕ) (joint : List ℕ) (item_at : ItemAt A) (done : List A) (tokens : List Lexeme) (kind : PolicyFaultKind)
     → length done < most → item_at tokens ≡ Err kind → with_items done (joined_at (most - length done) joint item_at tokens) ≡ Err kind
 joined_bad most joint item_at done tokens kind l h =
     rw (left_of most (length done) l) (item_bad (most - (length done + 1)) joint item_at done tokens kind h)
@@ -60,7 +60,7 @@ pub joined_last : {A : Type 0} (most : ℕ) (joint : List ℕ) (item_at : ItemAt
 joined_last most joint item_at done tokens item rest l h b =
     rw (left_of most (length done) l) (item_last (most - (length done + 1)) joint item_at done tokens item rest h b)
 
--- an item, and the word behind it
+-- an item, and the word after it
 pub joined_more : {A : Type 0} (most : ℕ) (joint : List ℕ) (item_at : ItemAt A) (done : List A) (tokens : List Lexeme) (item : A) (rest : List Lexeme)
     → length done < most → item_at tokens ≡ Ok (item, rest) → begins_with joint rest ≡ true
     → with_items done (joined_at (most - length done) joint item_at tokens)
@@ -76,15 +76,15 @@ joined_full most joint item_at done tokens l = let e : most - length done ≡ 0 
 
 -- why an item is refused is why all are
 pub joined_refused : {A : Type 0} (most : ℕ) (joint : List ℕ) (item_at : ItemAt A) (done : List A) (tokens rest after : List Lexeme)
-    (whole : Read (List A) TextKind) (why : Refused TextKind)
+    (whole : Read (List A) PolicyFaultKind) (why : Refused PolicyFaultKind)
     → length done < most → with_items done (joined_at (most - length done) joint item_at tokens) ≡ whole
     → Reads (item_at tokens) (Err why) rest → Reads whole (Err why) after
 joined_refused most joint item_at done tokens rest after whole (refused.Fault kind) l i h = sym i ∙ joined_bad most joint item_at done tokens kind l h
 joined_refused most joint item_at done tokens rest after whole refused.NoMemory l i h = tt
 
--- one more item was read, and the word behind it
+-- one more item was read, and the word after it
 pub joined_after : {A : Type 0} (most : ℕ) (joint : List ℕ) (item_at : ItemAt A) (done now : List A) (tokens rest after : List Lexeme) (item : A)
-    (whole : Read (List A) TextKind)
+    (whole : Read (List A) PolicyFaultKind)
     → length done < most → with_items done (joined_at (most - length done) joint item_at tokens) ≡ whole
     → item_at tokens ≡ Ok (item, rest) → now ≡ done ++ item ∷ [] → begins_with joint rest ≡ true → after ≡ later rest
     → (length now ≤ most) × (with_items now (joined_at (most - length now) joint item_at after) ≡ whole)

@@ -6,7 +6,9 @@ use Rattle.sb_pattern.specs.Reading.{reading, star_fault, cells_of, unless, Text
 use Rattle.sb_pattern.specs.declared.cells.Cell.{Cell}
 use Rattle.sb_pattern.specs.declared.faults.PatternFault.{PatternFault}
 use Rattle.sb_pattern.specs.declared.faults.PatternFault.TheVariants.{TooLong}
-use Rattle.sb_rule.specs.WellMade.{is_paired, is_text_unit, is_policy_text, is_like_text}
+use Rattle.sb_rule.specs.WellMade.{is_policy_text, is_like_text}
+use Rattle.sb_wide.specs.Wide.{is_text_unit}
+use Rattle.sb_wide.specs.Surrogates.{is_paired}
 use Rattle.sb_ruletext.proofs.Conjunctions.{and_true}
 
 -- text of at most 256 units

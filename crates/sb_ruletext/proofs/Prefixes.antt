@@ -3,8 +3,8 @@ use Rattle.std.proofs.Common.{◌≡◌, refl, sym, ap, ◌∙◌, List, [], ◌
 use Rattle.sb_rule.specs.declared.policies.Policy.{Policy}
 use Rattle.sb_ruletext.specs.Laws.{FirstFaultsStay, LinesBeforeAreRead, SilentTextsLackAVersion}
 use Rattle.sb_ruletext.specs.PolicyTexts.{grammar, reading}
-use Rattle.sb_ruletext.specs.declared.faults.TextKind.{TextKind}
-use Rattle.sb_ruletext.specs.declared.faults.TextKind.TheVariants.{NotUtf8}
+use Rattle.sb_ruletext.specs.declared.faults.PolicyFaultKind.{PolicyFaultKind}
+use Rattle.sb_ruletext.specs.declared.faults.PolicyFaultKind.TheVariants.{NotUtf8}
 use Rattle.sb_text.specs.LineLaws.{ended}
 use Rattle.sb_text.specs.Lines.{NumberedLine, lines_of}
 use Rattle.sb_text.specs.ReadingLaws as laws
@@ -15,11 +15,11 @@ use Rattle.sb_text.specs.Utf8.{not_utf8_line}
 pub read_by_lines : (text : List ℕ) → not_utf8_line text ≡ None → reading text ≡ read_by grammar (lines_of text)
 read_by_lines text h = ap (λ line. where_utf8 NotUtf8 line (read_by grammar (lines_of text))) h
 
-pub first_faults_stay : laws.FirstFaultsStay (List Policy) TextKind → FirstFaultsStay
+pub first_faults_stay : laws.FirstFaultsStay (List Policy) PolicyFaultKind → FirstFaultsStay
 first_faults_stay law front rest other fault u v s l e =
     read_by_lines (ended front ++ other) v ∙ law grammar front rest other fault s l (sym (read_by_lines (ended front ++ rest) u) ∙ e)
 
-pub lines_before_are_read : laws.LinesBeforeAreRead (List Policy) TextKind → LinesBeforeAreRead
+pub lines_before_are_read : laws.LinesBeforeAreRead (List Policy) PolicyFaultKind → LinesBeforeAreRead
 lines_before_are_read law front rest fault u v s l e =
     let read = law grammar front rest fault s l (sym (read_by_lines (ended front ++ rest) u) ∙ e) in
     (read.0, read_by_lines (ended front) v ∙ read.1)

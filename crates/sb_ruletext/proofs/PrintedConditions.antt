@@ -18,16 +18,16 @@ use Rattle.sb_text.specs.NumberLaws.{HexadecimalsAreRead}
 use Rattle.sb_text.specs.Tokens.{Lexeme, Word, utf8_of}
 use Rattle.sb_pattern.specs.Limits.{most_units}
 use Rattle.sb_ruletext.specs.Conditions.{number_at, string, cells, pattern, test_at, is_number_at, plain_condition_at, condition_at, conditions_of}
-use Rattle.sb_ruleprint.specs.Parameters.{parameter_word, parameter_words}
+use Rattle.sb_call.specs.Parameters.{parameter_word, parameter_words}
 use Rattle.sb_ruleprint.specs.Printing.{number_word, numbers_tokens, test_tokens, not_tokens, cond_tokens, joined_tokens}
 use Rattle.sb_ruleprint.specs.Values.{is_number, is_test_of_values}
 use Rattle.sb_ruletext.specs.Steps.{joined_at}
 use Rattle.sb_text.specs.Steps.{◌>>=◌, or_fault, Read, begins_with, later, end_at}
 use Rattle.sb_call.specs.CallWords.{is_word}
-use Rattle.sb_ruletext.specs.declared.faults.TextKind.{TextKind}
-use Rattle.sb_ruletext.specs.declared.faults.TextKind.TheVariants.{UnknownWord, UnknownParam, BadNumber, BadPattern}
+use Rattle.sb_ruletext.specs.declared.faults.PolicyFaultKind.{PolicyFaultKind}
+use Rattle.sb_ruletext.specs.declared.faults.PolicyFaultKind.TheVariants.{UnknownWord, UnknownParam, BadNumber, BadPattern}
 use Rattle.sb_ruletext.proofs.Conjunctions.{both}
-use Rattle.sb_ruleprint.specs.Strings.{ComesBack, StringsComeBack}
+use Rattle.sb_text.specs.Strings.{ComesBack, StringsComeBack}
 use Rattle.sb_ruletext.proofs.PrintedWords.{parameter_back, apart_at, within, number_back, range_back}
 
 pub number_small : (n : ℕ) → is_number n ≡ true → n < 2 ^ 64
@@ -38,12 +38,12 @@ number_small n h = grind (arith, nat_tests)
 number_read : HexadecimalsAreRead → (n : ℕ) (rest : List Lexeme) → is_number n ≡ true → number_at (Word (number_word n) ∷ rest) ≡ Ok (n, rest)
 number_read law n rest h = ap (λ o. or_fault BadNumber o >>= λ n. Ok (n, rest)) (number_back law n (number_small n h))
 
--- what `joined_at` does behind the first of at most m + 1 items
-abbrev and_others : {A : Type 0} → ℕ → List ℕ → (List Lexeme → Read A TextKind) → A × List Lexeme → Read (List A) TextKind
+-- what `joined_at` does after the first of at most m + 1 items
+abbrev and_others : {A : Type 0} → ℕ → List ℕ → (List Lexeme → Read A PolicyFaultKind) → A × List Lexeme → Read (List A) PolicyFaultKind
 and_others m joint item_at first =
     cond (begins_with joint first.1) (joined_at m joint item_at (later first.1) >>= λ others. Ok (first.0 ∷ others.0, others.1)) (Ok (first.0 ∷ [], first.1))
 
-joined_step : {A : Type 0} (m : ℕ) (joint : List ℕ) (item_at : List Lexeme → Read A TextKind) (tokens : List Lexeme)
+joined_step : {A : Type 0} (m : ℕ) (joint : List ℕ) (item_at : List Lexeme → Read A PolicyFaultKind) (tokens : List Lexeme)
     → joined_at (suc m) joint item_at tokens ≡ item_at tokens >>= and_others m joint item_at
 unfolding joined_at
 joined_step m joint item_at tokens = refl
@@ -126,11 +126,11 @@ of_its_kind false true h = sym h
 of_its_kind false false h = refl
 
 -- a parameter, and the tokens after it
-abbrev then_tokens : List Lexeme → ℕ → Read ℕ TextKind
+abbrev then_tokens : List Lexeme → ℕ → Read ℕ PolicyFaultKind
 then_tokens tokens param = Ok (param, tokens)
 
 -- the condition with this test
-abbrev with_test : ℕ → Bool → Test × List Lexeme → Read Cond TextKind
+abbrev with_test : ℕ → Bool → Test × List Lexeme → Read Cond PolicyFaultKind
 with_test param negated test = Ok (record { param = param; negated = negated; test = test.0 }, test.1)
 
 plain_read : Texts → (negated : Bool) (tag : CallTag) (cond : Cond) (rest : List Lexeme)
@@ -189,4 +189,4 @@ joined_read laws (suc m) tag cond (next ∷ more) k s =
 pub conditions_read : Texts → (tag : CallTag) (cond : Cond) (more : List Cond)
     → length more ≤ 7 → AreSound tag (cond ∷ more) → conditions_of tag (cond_tokens tag cond ++ and_tokens tag more) ≡ Ok (cond ∷ more)
 conditions_read laws tag cond more k s =
-    ap (λ (r : Read (List Cond) TextKind). r >>= λ conds. end_at UnknownWord UnknownWord conds.1 >>= λ end. Ok conds.0) (joined_read laws 7 tag cond more k s)
+    ap (λ (r : Read (List Cond) PolicyFaultKind). r >>= λ conds. end_at UnknownWord UnknownWord conds.1 >>= λ end. Ok conds.0) (joined_read laws 7 tag cond more k s)

@@ -18,8 +18,8 @@ use Rattle.sb_text.specs.Steps.{◌>>=◌, or_fault, Read}
 use Rattle.sb_call.specs.CallWords.{call_word}
 use Rattle.sb_rule.specs.Actions.{action_word}
 use Rattle.sb_ruletext.specs.Words.{action_of}
-use Rattle.sb_ruletext.specs.declared.faults.TextKind.{TextKind}
-use Rattle.sb_ruletext.specs.declared.faults.TextKind.TheVariants.{UnknownWord, UnknownCall, TooMany, NotReadOnly}
+use Rattle.sb_ruletext.specs.declared.faults.PolicyFaultKind.{PolicyFaultKind}
+use Rattle.sb_ruletext.specs.declared.faults.PolicyFaultKind.TheVariants.{UnknownWord, UnknownCall, TooMany, NotReadOnly}
 use Rattle.sb_ruletext.proofs.PrintedConditions.{AreSound, Texts, conditions_read}
 use Rattle.sb_ruletext.proofs.PrintedWords.{call_back}
 
@@ -34,11 +34,11 @@ when_read laws tag (cond ∷ conds) k s = conditions_read laws tag cond conds (f
     few conds k = grind (arith, nat_tests)
 
 -- a rule with these conditions on a line
-abbrev ruled : ℕ → Action → CallTag → List Cond → Result (List Rule) TextKind
+abbrev ruled : ℕ → Action → CallTag → List Cond → Result (List Rule) PolicyFaultKind
 ruled line action tag conds = Ok (record { tag = tag; conds = conds; action = action; line = line } ∷ [])
 
 -- a call, and the tokens after it
-abbrev then_tokens : List Lexeme → CallTag → Read CallTag TextKind
+abbrev then_tokens : List Lexeme → CallTag → Read CallTag PolicyFaultKind
 then_tokens tokens tag = Ok (tag, tokens)
 
 rule_read : Texts → (line : ℕ) (action : Action) (tag : CallTag) (conds : List Cond)
@@ -58,7 +58,7 @@ abbrev pub policy_of : List ℕ → List Rule → Policy
 policy_of name rules = record { name = name; rules = rules }
 
 -- the policies up to the last
-abbrev behind : List Policy → Policy → Result (List Policy) TextKind
+abbrev behind : List Policy → Policy → Result (List Policy) PolicyFaultKind
 behind done last = Ok (done ++ last ∷ [])
 
 last_rules : (done : List Policy) (policy : Policy) (rules : List Rule) → with_last_rules (done ++ policy ∷ []) rules ≡ with_rules policy rules >>= behind done
@@ -66,13 +66,13 @@ unfolding with_last_rules
 last_rules [] policy rules = refl
 last_rules (first ∷ []) policy rules = more (with_rules policy rules)
   where
-    more : (r : Result Policy TextKind) → ((r >>= λ last. Ok (last ∷ [])) >>= λ others. Ok (first ∷ others)) ≡ r >>= behind (first ∷ [])
+    more : (r : Result Policy PolicyFaultKind) → ((r >>= λ last. Ok (last ∷ [])) >>= λ others. Ok (first ∷ others)) ≡ r >>= behind (first ∷ [])
     more (Ok last) = refl
     more (Err kind) = refl
 last_rules (first ∷ second ∷ done) policy rules =
     ap (λ r. r >>= λ others. Ok (first ∷ others)) (last_rules (second ∷ done) policy rules) ∙ more (with_rules policy rules)
   where
-    more : (r : Result Policy TextKind) → ((r >>= behind (second ∷ done)) >>= λ others. Ok (first ∷ others)) ≡ r >>= behind (first ∷ second ∷ done)
+    more : (r : Result Policy PolicyFaultKind) → ((r >>= behind (second ∷ done)) >>= λ others. Ok (first ∷ others)) ≡ r >>= behind (first ∷ second ∷ done)
     more (Ok last) = refl
     more (Err kind) = refl
 

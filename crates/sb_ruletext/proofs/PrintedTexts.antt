@@ -25,8 +25,8 @@ use Rattle.sb_text.specs.Steps.{◌>>=◌, Read, end_at, version_of}
 use Rattle.sb_rule.specs.Actions.{action_word}
 use Rattle.sb_ruletext.specs.Words.{action_of}
 use Rattle.sb_ruletext.proofs.Prefixes.{read_by_lines}
-use Rattle.sb_ruletext.specs.declared.faults.TextKind.{TextKind}
-use Rattle.sb_ruletext.specs.declared.faults.TextKind.TheVariants.{UnknownWord, TooMany, SameName}
+use Rattle.sb_ruletext.specs.declared.faults.PolicyFaultKind.{PolicyFaultKind}
+use Rattle.sb_ruletext.specs.declared.faults.PolicyFaultKind.TheVariants.{UnknownWord, TooMany, SameName}
 use Rattle.sb_text.specs.PlainLines.{is_plain_line, numbered, PlainLinesAreUtf8, PlainLinesAreRead, PlainTokensAreRead}
 use Rattle.sb_ruletext.proofs.PrintedRules.{policy_of, rule_line_read}
 use Rattle.sb_ruletext.proofs.Conjunctions.{both, and_true}
@@ -83,11 +83,11 @@ rules_read laws version done name before n (rule ∷ rules) lines h v a few =
 -- a heading
 
 -- a name, with which the line ends
-abbrev then_end : List ℕ → Read (List ℕ) TextKind
+abbrev then_end : List ℕ → Read (List ℕ) PolicyFaultKind
 then_end name = Ok (name, [])
 
--- what `heading` does with a name, where there is room for one more policy or not
-abbrev headed : List Policy → Bool → Result (List ℕ) TextKind → Result (List Policy) TextKind
+-- what `heading` does with a name, if there is room for one more policy or not
+abbrev headed : List Policy → Bool → Result (List ℕ) PolicyFaultKind → Result (List Policy) PolicyFaultKind
 headed done few name =
     (name >>= then_end) >>= λ name. end_at UnknownWord UnknownWord name.1 >>= λ end. if few then Ok (done ++ policy_of name.0 [] ∷ []) else Err TooMany
 
@@ -189,7 +189,7 @@ first_actions_of_all (policy ∷ policies) h = let parts = or_false _ _ h in (fi
 
 -- the whole text
 
--- the policies below the version line, where some rule only lets read or none does
+-- the policies below the version line, if some rule only lets read or none does
 below_read : Laws → (policies : List Policy) → list_all is_well_made policies ≡ true → list_all is_policy_of_values policies ≡ true
     → are_named_apart policies ≡ true → length policies ≤ 8 → (t : Bool) → list_any has_read_only policies ≡ t
     → read_below grammar 1 (version_of (codes "sandbox-policy") 2 (Word (codes "sandbox-policy") ∷ Word (if t then codes "2" else codes "1") ∷ [])) (numbered 2 (flat_map policy_lines policies)) ≡ Ok (relined policies)

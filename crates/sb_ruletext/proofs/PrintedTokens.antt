@@ -21,7 +21,7 @@ use Rattle.sb_rule.specs.declared.policies.Policy.{Policy}
 use Rattle.sb_rule.specs.declared.policies.Rule.{Rule}
 use Rattle.sb_text.specs.NumberLaws.{HexadecimalsAreRead}
 use Rattle.sb_text.specs.Tokens.{Word, Quoted, utf8_of}
-use Rattle.sb_ruleprint.specs.Parameters.{parameter_word, parameter_words}
+use Rattle.sb_call.specs.Parameters.{parameter_word, parameter_words}
 use Rattle.sb_ruleprint.specs.Printing.{numbers_tokens, test_tokens, not_tokens, cond_tokens, joined_tokens, conds_tokens, rule_tokens, heading_tokens, policy_lines, has_read_only, version_tokens, printed_lines}
 use Rattle.sb_ruleprint.specs.Values.{is_number, is_test_of_values, is_rule_of_values, is_policy_of_values}
 use Rattle.sb_rule.specs.Actions.{action_word}
@@ -29,7 +29,7 @@ use Rattle.sb_call.specs.CallWords.{call_word}
 use Rattle.sb_ruletext.proofs.PrintedConditions.{AreSound, Texts, later_sound, number_small, string_back}
 use Rattle.sb_text.specs.PlainLines.{is_plain_byte, is_plain, is_plain_line}
 use Rattle.sb_ruletext.proofs.Conjunctions.{both, and_true, all_more}
-use Rattle.sb_ruleprint.specs.Strings.{StringsComeBack}
+use Rattle.sb_text.specs.Strings.{StringsComeBack}
 use Rattle.sb_ruletext.proofs.PrintedWords.{within, number_plain, range_plain}
 
 -- words

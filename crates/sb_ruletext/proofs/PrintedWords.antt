@@ -15,14 +15,14 @@ use Rattle.sb_rule.specs.declared.actions.Action.TheVariants.{Allow, Deny, Alarm
 use Rattle.sb_text.specs.NumberLaws.{HexadecimalsAreRead}
 use Rattle.sb_text.specs.Numbers.{is_hexadecimal_digit, number_of}
 use Rattle.sb_ruletext.specs.Conditions.{after_dots, around_from, around_dots, range, range_of}
-use Rattle.sb_ruleprint.specs.Parameters.{parameter_word, parameter_words}
+use Rattle.sb_call.specs.Parameters.{parameter_word, parameter_words}
 use Rattle.sb_ruleprint.specs.Printing.{number_word, range_word, is_read_only}
 use Rattle.sb_call.specs.CallWords.{is_word, call_word, tag_of_word}
 use Rattle.sb_rule.specs.Actions.{action_word}
 use Rattle.sb_ruletext.specs.Words.{place_of, action_of, parameter_of}
 use Rattle.sb_text.specs.Steps.{◌>>=◌, or_fault}
-use Rattle.sb_ruletext.specs.declared.faults.TextKind.{TextKind}
-use Rattle.sb_ruletext.specs.declared.faults.TextKind.TheVariants.{BadNumber}
+use Rattle.sb_ruletext.specs.declared.faults.PolicyFaultKind.{PolicyFaultKind}
+use Rattle.sb_ruletext.specs.declared.faults.PolicyFaultKind.TheVariants.{BadNumber}
 use Rattle.sb_rule.specs.declared.conditions.Test.{Test}
 use Rattle.sb_rule.specs.declared.conditions.Test.TheVariants.{Range}
 use Rattle.sb_text.specs.PlainLines.{is_plain_byte}
@@ -155,7 +155,7 @@ dots_back (x ∷ y ∷ a) b h =
     ∙ ap (around_from x None) (dots_back (y ∷ a) b (both _ _ h).1)
 
 -- the range of two ends
-abbrev ranged : Option (List ℕ × List ℕ) → Result Test TextKind
+abbrev ranged : Option (List ℕ × List ℕ) → Result Test PolicyFaultKind
 ranged ends = do
   ends ← or_fault BadNumber ends
   lo ← or_fault BadNumber (number_of ends.0)

@@ -15,7 +15,9 @@ use Rattle.sb_pattern.specs.declared.cells.Cell.{Cell}
 use Rattle.sb_pattern.specs.declared.faults.PatternFault.{PatternFault}
 use Rattle.sb_pattern.specs.declared.faults.PatternFault.TheVariants.{TooLong}
 use Rattle.sb_rule.specs.Limits.{most_conditions, most_numbers}
-use Rattle.sb_rule.specs.WellMade.{is_text_unit, is_paired, is_policy_text, is_like_text, is_sensible, is_number_test, is_well_formed, is_for_readers, is_well_made_rule, are_well_made, is_named}
+use Rattle.sb_rule.specs.WellMade.{is_policy_text, is_like_text, is_sensible, is_number_test, is_well_formed, is_for_readers, is_well_made_rule, are_well_made, is_named}
+use Rattle.sb_wide.specs.Wide.{is_text_unit}
+use Rattle.sb_wide.specs.Surrogates.{is_paired}
 use Rattle.sb_rule.specs.declared.actions.Action.{Action}
 use Rattle.sb_rule.specs.declared.conditions.Cond.{Cond}
 use Rattle.sb_rule.specs.declared.conditions.Test.{Test}
@@ -30,7 +32,7 @@ use Rattle.sb_text.specs.TokenLaws.{is_quoted_byte, is_quoted_text, has_quoted_t
 use Rattle.sb_text.specs.Tokens.{Lexeme, Word, Quoted, Bad, string_of, tokens_of}
 use Rattle.sb_text.specs.Utf8.{not_utf8_line}
 use Rattle.sb_text.specs.declared.refusals.LineFault.{LineFault}
-use Rattle.sb_ruleprint.specs.Parameters.{parameter_words}
+use Rattle.sb_call.specs.Parameters.{parameter_words}
 use Rattle.sb_ruletext.specs.Conditions.{number_at, numbers_at, around_dots, range, range_of, range_at, string, cells, pattern, string_at, pattern_at, is_at, in_at, has_at, like_at, test_at, parameter_at, is_number_at, plain_condition_at, condition_at, conditions_at, conditions_of}
 use Rattle.sb_ruletext.specs.Grants.{grant_of, rules_of}
 use Rattle.sb_ruletext.specs.Laws.{ReadPoliciesAreWellMade}
@@ -38,14 +40,14 @@ use Rattle.sb_ruletext.specs.Lines.{new_name, name_at, with_policy, heading, cal
 use Rattle.sb_ruletext.specs.PolicyTexts.{add_line, grammar, policy_version}
 use Rattle.sb_ruletext.specs.Steps.{word_or, quoted_or, line_end, joined_at}
 use Rattle.sb_ruletext.specs.Words.{action_of, parameter_of, place_of}
-use Rattle.sb_ruletext.specs.declared.faults.TextKind.{TextKind}
-use Rattle.sb_ruletext.specs.declared.faults.TextKind.TheVariants.{NotUtf8, UnknownWord, UnknownCall, UnknownParam, WrongKind, BadNumber, EmptyRange, BadPattern, SameName, NoHeading, NotReadOnly}
+use Rattle.sb_ruletext.specs.declared.faults.PolicyFaultKind.{PolicyFaultKind}
+use Rattle.sb_ruletext.specs.declared.faults.PolicyFaultKind.TheVariants.{NotUtf8, UnknownWord, UnknownCall, UnknownParam, WrongKind, BadNumber, EmptyRange, BadPattern, SameName, NoHeading, NotReadOnly}
 use Rattle.sb_ruletext.specs.declared.grants.Grant.{Grant}
 use Rattle.sb_ruletext.proofs.Added.{last_rules, chosen, added_nowhere, well_made_longer, well_made_more}
 use Rattle.sb_ruletext.proofs.Conjunctions.{both, and_true}
 use Rattle.sb_ruletext.proofs.Patterns.{short_text, read_like}
 use Rattle.sb_ruletext.proofs.PrintedWords.{as_many}
-use Rattle.sb_ruleprint.specs.Strings.{QuotedStringsAreText}
+use Rattle.sb_text.specs.Strings.{QuotedStringsAreText}
 use Rattle.sb_ruletext.proofs.WellMade.{granted_well_made, one_well_made}
 
 -- steps
@@ -78,7 +80,7 @@ later_text : (tokens : List Lexeme) → AreText tokens → AreText (later tokens
 later_text [] t = refl
 later_text (token ∷ tokens) t = (both (is_quoted_text token) (list_all is_quoted_text tokens) t).1
 
-word_rest : (quoted : TextKind) (tokens : List Lexeme) (x : List ℕ × List Lexeme) → word_or quoted tokens ≡ Ok x → AreText tokens → AreText x.1
+word_rest : (quoted : PolicyFaultKind) (tokens : List Lexeme) (x : List ℕ × List Lexeme) → word_or quoted tokens ≡ Ok x → AreText tokens → AreText x.1
 word_rest quoted (Word w ∷ tokens) x h t =
     subst (λ (y : List ℕ × List Lexeme). AreText y.1) {x = (w, tokens)} (ok_same (w, tokens) x h) (both (is_quoted_text (Word w)) (list_all is_quoted_text tokens) t).1
 word_rest quoted (Quoted q ∷ tokens) x h t = absurd cc
@@ -90,7 +92,7 @@ record QuotedFine (x : List ℕ × List Lexeme) : Type 0 where
   text : is_quoted_text (Quoted x.0) ≡ true
   rest : AreText x.1
 
-quoted_fine : (word : TextKind) (tokens : List Lexeme) (x : List ℕ × List Lexeme) → quoted_or word tokens ≡ Ok x → AreText tokens → QuotedFine x
+quoted_fine : (word : PolicyFaultKind) (tokens : List Lexeme) (x : List ℕ × List Lexeme) → quoted_or word tokens ≡ Ok x → AreText tokens → QuotedFine x
 quoted_fine word (Quoted q ∷ tokens) x h t =
     let parts = both (is_quoted_text (Quoted q)) (list_all is_quoted_text tokens) t in
     subst QuotedFine {x = (q, tokens)} (ok_same (q, tokens) x h) (record { text = parts.0; rest = parts.1 })
@@ -123,7 +125,7 @@ record IsItem {A : Type 0} (p : A → Bool) (x : A × List Lexeme) : Type 0 wher
   item : p x.0 ≡ true
   rest : AreText x.1
 
-joined_next : {A : Type 0} (p : A → Bool) (most : ℕ) (first : A) (rest : List Lexeme) (b : Bool) (others : Read (List A) TextKind) (x : List A × List Lexeme)
+joined_next : {A : Type 0} (p : A → Bool) (most : ℕ) (first : A) (rest : List Lexeme) (b : Bool) (others : Read (List A) PolicyFaultKind) (x : List A × List Lexeme)
     → p first ≡ true → AreText rest → ((y : List A × List Lexeme) → others ≡ Ok y → IsJoined p most y)
     → cond b (others >>= λ others. Ok (first ∷ others.0, others.1)) (Ok (first ∷ [], rest)) ≡ Ok x → IsJoined p (suc most) x
 joined_next p most first rest true others x i t f h =
@@ -136,7 +138,7 @@ joined_next p most first rest false others x i t f h =
     subst (IsJoined p (suc most)) {x = (first ∷ [], rest)} (ok_same (first ∷ [], rest) x h)
     (record { some = omega arith; few = omega arith; each = and_true _ _ i refl; rest = t })
 
-joined_fine : {A : Type 0} (p : A → Bool) (item_at : List Lexeme → Read A TextKind)
+joined_fine : {A : Type 0} (p : A → Bool) (item_at : List Lexeme → Read A PolicyFaultKind)
     → ((tokens : List Lexeme) (x : A × List Lexeme) → item_at tokens ≡ Ok x → AreText tokens → IsItem p x)
     → (most : ℕ) (joint : List ℕ) (tokens : List Lexeme) (x : List A × List Lexeme) → joined_at most joint item_at tokens ≡ Ok x → AreText tokens → IsJoined p most x
 unfolding joined_at
@@ -156,7 +158,7 @@ record IsTest (is_number : Bool) (x : Test × List Lexeme) : Type 0 where
   kind : is_number_test x.0 ≡ is_number
   rest : AreText x.1
 
-abbrev Tests : Bool → Read Test TextKind → Type 0
+abbrev Tests : Bool → Read Test PolicyFaultKind → Type 0
 Tests is_number read = (x : Test × List Lexeme) → read ≡ Ok x → IsTest is_number x
 
 number_fine : (tokens : List Lexeme) (x : ℕ × List Lexeme) → number_at tokens ≡ Ok x → AreText tokens → IsItem (λ n. true) x
@@ -270,7 +272,7 @@ record IsParameter (tag : CallTag) (x : ℕ × List Lexeme) : Type 0 where
   within : nat_lt x.0 (length (shape_of tag)) ≡ true
   rest : AreText x.1
 
-found : {A : Type 0} (kind : TextKind) (o : Option A) (x : A) → or_fault kind o ≡ Ok x → o ≡ Some x
+found : {A : Type 0} (kind : PolicyFaultKind) (o : Option A) (x : A) → or_fault kind o ≡ Ok x → o ≡ Some x
 found kind (Some x) y h = cc
 found kind None y h = absurd cc
 
@@ -328,7 +330,7 @@ condition_fine : Texts → (tag : CallTag) (tokens : List Lexeme) (x : Cond × L
     → condition_at tag tokens ≡ Ok x → AreText tokens → IsItem (is_well_formed tag) x
 unfolding condition_at
 condition_fine laws tag tokens x h t =
-    branches (λ (read : Read Cond TextKind). read ≡ Ok x → IsItem (is_well_formed tag) x) (begins_with (codes "not") tokens)
+    branches (λ (read : Read Cond PolicyFaultKind). read ≡ Ok x → IsItem (is_well_formed tag) x) (begins_with (codes "not") tokens)
     (plain_condition_at true tag (later tokens)) (plain_condition_at false tag tokens)
     (λ e. plain_fine laws true tag (later tokens) x e (later_text tokens t)) (λ e. plain_fine laws false tag tokens x e t) h
 
@@ -347,14 +349,14 @@ conditions_fine laws tag tokens conds h t =
 
 when_fine : Texts → (tag : CallTag) (tokens : List Lexeme) (conds : List Cond) → when_of tag tokens ≡ Ok conds → AreText tokens → AreConditions tag conds
 when_fine laws tag tokens conds h t =
-    branches (λ (read : Result (List Cond) TextKind). read ≡ Ok conds → AreConditions tag conds) (is_end tokens) (Ok []) _
+    branches (λ (read : Result (List Cond) PolicyFaultKind). read ≡ Ok conds → AreConditions tag conds) (is_end tokens) (Ok []) _
     (λ e. subst (AreConditions tag) {x = []} (ok_same [] conds e) (record { few = omega arith; each = refl }))
-    (branches (λ (read : Result (List Cond) TextKind). read ≡ Ok conds → AreConditions tag conds) (begins_with (codes "when") tokens) (conditions_of tag (later tokens)) (Err UnknownWord)
+    (branches (λ (read : Result (List Cond) PolicyFaultKind). read ≡ Ok conds → AreConditions tag conds) (begins_with (codes "when") tokens) (conditions_of tag (later tokens)) (Err UnknownWord)
     (λ e. conditions_fine laws tag (later tokens) conds e (later_text tokens t)) (λ e. absurd cc)) h
 
 -- rules
 
-abbrev Rules : Result (List Rule) TextKind → Type 0
+abbrev Rules : Result (List Rule) PolicyFaultKind → Type 0
 Rules read = (rules : List Rule) → read ≡ Ok rules → list_all is_well_made_rule rules ≡ true
 
 rule_fine : Texts → (line : ℕ) (action : Action) (tokens : List Lexeme) → AreText tokens → Rules (rule line action tokens)
@@ -400,7 +402,7 @@ grant_fine laws line tokens t rules h =
 
 -- policies
 
-abbrev Kept : Result (List Policy) TextKind → Type 0
+abbrev Kept : Result (List Policy) PolicyFaultKind → Type 0
 Kept read = (new : List Policy) → read ≡ Ok new → are_well_made new ≡ true
 
 -- policies as those before the last, and the last
@@ -418,7 +420,7 @@ has_last policy (next ∷ policies) =
 rules_kept : (policies : List Policy) (rules : List Rule) → are_well_made policies ≡ true → list_all is_well_made_rule rules ≡ true → Kept (with_last_rules policies rules)
 rules_kept [] rules h k new e = no_heading (sym (added_nowhere rules) ∙ e)
   where
-    no_heading : ◌≡◌ {A = Result (List Policy) TextKind} (Err NoHeading) (Ok new) → are_well_made new ≡ true
+    no_heading : ◌≡◌ {A = Result (List Policy) PolicyFaultKind} (Err NoHeading) (Ok new) → are_well_made new ≡ true
     no_heading e = absurd cc
 rules_kept (policy ∷ policies) rules h k new e =
     let parts = has_last policy policies in
@@ -429,7 +431,7 @@ rules_kept (policy ∷ policies) rules h k new e =
     subst (λ ps. are_well_made ps ≡ true) t.1
     (well_made_longer parts.before parts.last.name parts.last.rules rules (subst (λ ps. are_well_made ps ≡ true) parts.same h) k few)
 
-added_kept : (policies : List Policy) (read : Result (List Rule) TextKind) → are_well_made policies ≡ true → Rules read
+added_kept : (policies : List Policy) (read : Result (List Rule) PolicyFaultKind) → are_well_made policies ≡ true → Rules read
     → Kept (check_heading policies >>= λ headed. read >>= λ rules. with_last_rules policies rules)
 added_kept policies read h f new e =
     let c = made (check_heading policies) (λ headed. read >>= λ rules. with_last_rules policies rules) new e in
@@ -478,7 +480,7 @@ line_kept laws version policies line tokens h t new e =
 
 -- texts
 
-abbrev KeptText : Result (List Policy) (LineFault TextKind) → Type 0
+abbrev KeptText : Result (List Policy) (LineFault PolicyFaultKind) → Type 0
 KeptText read = (new : List Policy) → read ≡ Ok new → are_well_made new ≡ true
 
 lines_kept : Texts → (version : ℕ) (lines : List NumberedLine) (policies : List Policy) → are_well_made policies ≡ true
@@ -490,7 +492,7 @@ lines_kept laws version (line ∷ lines) policies h t new e =
     by_line (add_line version policies line) (line_kept laws version policies line.number (tokens_of line.text) h parts.0)
     (λ more k. lines_kept laws version lines more k parts.1) new e
   where
-    by_line : (read : Result (List Policy) TextKind) → Kept read
+    by_line : (read : Result (List Policy) PolicyFaultKind) → Kept read
         → ((more : List Policy) → are_well_made more ≡ true → KeptText (read_lines (add_line version) more lines))
         → KeptText (on_line line.number read >>= λ more. read_lines (add_line version) more lines)
     by_line (Ok more) f g new e = g more (f more refl) new e

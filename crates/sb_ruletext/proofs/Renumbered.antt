@@ -15,8 +15,8 @@ use Rattle.sb_ruletext.specs.Lines.{name_at, with_policy, heading, call_at, chec
 use Rattle.sb_ruletext.specs.PolicyTexts.{grammar}
 use Rattle.sb_call.specs.CallWords.{is_word}
 use Rattle.sb_ruletext.specs.Words.{action_of}
-use Rattle.sb_ruletext.specs.declared.faults.TextKind.{TextKind}
-use Rattle.sb_ruletext.specs.declared.faults.TextKind.TheVariants.{TooMany, UnknownWord, SameName}
+use Rattle.sb_ruletext.specs.declared.faults.PolicyFaultKind.{PolicyFaultKind}
+use Rattle.sb_ruletext.specs.declared.faults.PolicyFaultKind.TheVariants.{TooMany, UnknownWord, SameName}
 use Rattle.sb_ruletext.specs.declared.grants.Grant.{Grant}
 use Rattle.sb_ruletext.specs.declared.grants.Grant.TheVariants.{FilesAny, FilesReadonly, FilesQuery, PipesAny, RegistryAny, RegistryReadonly, EventsAny, EventsReadonly}
 use Rattle.sb_text.specs.LineLaws.{ended}
@@ -105,7 +105,7 @@ last_moves f (policy ∷ next ∷ policies) rules =
     moved (map (renumbered_policy f)) (map (renumbered_policy f)) (with_last_rules (next ∷ policies) rules) _
     (λ others. Ok (policy ∷ others)) (λ others. Ok (renumbered_policy f policy ∷ others)) (last_moves f (next ∷ policies) rules) (λ others. refl)
 
-added_moves : (f : ℕ → ℕ) (policies : List Policy) (rules others : Result (List Rule) TextKind) → on_value (map (renumbered_rule f)) rules ≡ others
+added_moves : (f : ℕ → ℕ) (policies : List Policy) (rules others : Result (List Rule) PolicyFaultKind) → on_value (map (renumbered_rule f)) rules ≡ others
     → on_value (map (renumbered_policy f)) (added policies rules) ≡ added (map (renumbered_policy f) policies) others
 added_moves f [] rules others h = refl
 added_moves f (policy ∷ policies) rules others h =
@@ -134,7 +134,7 @@ unfolding heading
 heading_moves f policies tokens =
     then (map (renumbered_policy f)) (name_at policies tokens) _ (λ name. end_at UnknownWord UnknownWord name.1 >>= λ end. with_policy (map (renumbered_policy f) policies) name.0)
     (λ name. then (map (renumbered_policy f)) (end_at UnknownWord UnknownWord name.1) _ _ (λ end. policy_moves f policies name.0))
-    ∙ ap (λ (read : Read (List ℕ) TextKind). read >>= λ name. end_at UnknownWord UnknownWord name.1 >>= λ end. with_policy (map (renumbered_policy f) policies) name.0) (same_name f policies tokens)
+    ∙ ap (λ (read : Read (List ℕ) PolicyFaultKind). read >>= λ name. end_at UnknownWord UnknownWord name.1 >>= λ end. with_policy (map (renumbered_policy f) policies) name.0) (same_name f policies tokens)
 
 -- a line adds the same, with other numbers
 line_moves : (f : ℕ → ℕ) (version : ℕ) (policies : List Policy) (line : ℕ) (tokens : List Lexeme)
@@ -149,7 +149,7 @@ line_moves f version policies line [] = refl
 line_moves f version policies line (Quoted q ∷ tokens) = refl
 line_moves f version policies line (Bad ∷ tokens) = refl
 
-pub skipped_lines_count_alone : laws.SkippedLinesCountAlone (List Policy) TextKind → SkippedLinesCountAlone
+pub skipped_lines_count_alone : laws.SkippedLinesCountAlone (List Policy) PolicyFaultKind → SkippedLinesCountAlone
 skipped_lines_count_alone law front line rest i k s u v =
     let f = behind (length (raw_lines (ended front))) in
     read_by_lines (ended front ++ (ended line ++ rest)) v

@@ -8,36 +8,36 @@ use Rattle.sb_pattern.specs.declared.faults.PatternFault.{PatternFault}
 use Rattle.sb_pattern.specs.declared.faults.PatternFault.TheVariants.{TooLong}
 use Rattle.sb_pattern.specs.Limits.{most_units}
 use Rattle.sb_rule.specs.Limits.{most_conditions, most_numbers}
-use Rattle.sb_rule.specs.WellMade.{is_number_kind}
+use Rattle.sb_call.specs.Parameters.{is_number_kind}
 use Rattle.sb_rule.specs.declared.conditions.Cond.{Cond}
 use Rattle.sb_rule.specs.declared.conditions.Test.{Test}
 use Rattle.sb_rule.specs.declared.conditions.Test.TheVariants.{OneOf, Range, Mask, Equal, Like}
 use Rattle.sb_ruletext.specs.Steps.{word_or, quoted_or, line_end, joined_at}
 use Rattle.sb_call.specs.CallWords.{is_word}
 use Rattle.sb_ruletext.specs.Words.{parameter_of}
-use Rattle.sb_ruletext.specs.declared.faults.TextKind.{TextKind}
-use Rattle.sb_ruletext.specs.declared.faults.TextKind.TheVariants.{UnknownWord, UnknownParam, WrongKind, BadNumber, EmptyRange, BadPattern}
+use Rattle.sb_ruletext.specs.declared.faults.PolicyFaultKind.{PolicyFaultKind}
+use Rattle.sb_ruletext.specs.declared.faults.PolicyFaultKind.TheVariants.{UnknownWord, UnknownParam, WrongKind, BadNumber, EmptyRange, BadPattern}
 use Rattle.sb_text.specs.Numbers.{number_of}
 use Rattle.sb_text.specs.Steps.{◌>>=◌, or_fault, Read, begins_with, later}
 use Rattle.sb_text.specs.Tokens.{Lexeme, string_of}
 
 -- N: a number
-abbrev pub number_at : List Lexeme → Read ℕ TextKind
+abbrev pub number_at : List Lexeme → Read ℕ PolicyFaultKind
 number_at tokens = do
   (word, rest) ← word_or WrongKind tokens
   n ← or_fault BadNumber (number_of word)
   Ok (n, rest)
 
 -- N or N ..
-abbrev pub numbers_at : List Lexeme → Read (List ℕ) TextKind
+abbrev pub numbers_at : List Lexeme → Read (List ℕ) PolicyFaultKind
 numbers_at tokens = joined_at most_numbers (codes "or") number_at tokens
 
--- what follows `..`, where the word begins with it
+-- what follows `..`, if the word begins with it
 abbrev pub after_dots : List ℕ → Option (List ℕ)
 after_dots (b ∷ c ∷ bs) = if b == 46 && c == 46 then Some bs else None
 after_dots _ = None
 
--- a byte, and what stands around the first `..` from it on: nothing before it where `..` stands here
+-- a byte, and what stands around the first `..` from it on: nothing before it if `..` stands here
 abbrev pub around_from : ℕ → Option (List ℕ) → Option (List ℕ × List ℕ) → Option (List ℕ × List ℕ)
 around_from b (Some after) ends = Some ([], after)
 around_from b None ends = option_map (λ ends. (b ∷ ends.0, ends.1)) ends
@@ -47,12 +47,12 @@ abbrev pub around_dots : List ℕ → Option (List ℕ × List ℕ)
 around_dots [] = None
 around_dots (b ∷ bs) = around_from b (after_dots (b ∷ bs)) (around_dots bs)
 
--- LO to HI, where LO is not above HI
-abbrev pub range : ℕ → ℕ → Result Test TextKind
+-- LO to HI, if LO is not above HI
+abbrev pub range : ℕ → ℕ → Result Test PolicyFaultKind
 range lo hi = if nat_le lo hi then Ok (Range lo hi) else Err EmptyRange
 
 -- LO..HI: two numbers joined by `..`
-abbrev pub range_of : List ℕ → Result Test TextKind
+abbrev pub range_of : List ℕ → Result Test PolicyFaultKind
 range_of word = do
   (before, after) ← or_fault BadNumber (around_dots word)
   lo ← or_fault BadNumber (number_of before)
@@ -60,61 +60,61 @@ range_of word = do
   range lo hi
 
 -- LO..HI as one word
-abbrev pub range_at : List Lexeme → Read Test TextKind
+abbrev pub range_at : List Lexeme → Read Test PolicyFaultKind
 range_at tokens = do
   (word, rest) ← word_or WrongKind tokens
   test ← range_of word
   Ok (test, rest)
 
 -- what stands between quotes, as a string of a policy
-abbrev pub string : List ℕ → Result (List ℕ) TextKind
+abbrev pub string : List ℕ → Result (List ℕ) PolicyFaultKind
 string quoted = if nat_le (length (string_of quoted)) most_units then Ok (string_of quoted) else Err (BadPattern TooLong)
 
 -- the cells of a pattern, or its fault as one of the text
-abbrev pub cells : Result (List Cell) PatternFault → Result (List Cell) TextKind
+abbrev pub cells : Result (List Cell) PatternFault → Result (List Cell) PolicyFaultKind
 cells (Ok pattern) = Ok pattern
 cells (Err fault) = Err (BadPattern fault)
 
 -- what stands between quotes, as a pattern
-abbrev pub pattern : List ℕ → Result (List Cell) TextKind
+abbrev pub pattern : List ℕ → Result (List Cell) PolicyFaultKind
 pattern quoted = cells (reading (string_of quoted))
 
 -- "S": a string
-abbrev pub string_at : List Lexeme → Read Test TextKind
+abbrev pub string_at : List Lexeme → Read Test PolicyFaultKind
 string_at tokens = do
   (quoted, rest) ← quoted_or WrongKind tokens
   text ← string quoted
   Ok (Equal text, rest)
 
 -- "P": a pattern
-abbrev pub pattern_at : List Lexeme → Read Test TextKind
+abbrev pub pattern_at : List Lexeme → Read Test PolicyFaultKind
 pattern_at tokens = do
   (quoted, rest) ← quoted_or WrongKind tokens
   cells ← pattern quoted
   Ok (Like cells, rest)
 
 -- `is` and its value, on a number or on a string
-abbrev pub is_at : Bool → List Lexeme → Read Test TextKind
+abbrev pub is_at : Bool → List Lexeme → Read Test PolicyFaultKind
 is_at true tokens = numbers_at tokens >>= λ (numbers, rest). Ok (OneOf numbers, rest)
 is_at false tokens = string_at tokens
 
 -- `in` and its value
-abbrev pub in_at : Bool → List Lexeme → Read Test TextKind
+abbrev pub in_at : Bool → List Lexeme → Read Test PolicyFaultKind
 in_at true tokens = range_at tokens
 in_at false tokens = Err WrongKind
 
 -- `has` and its value
-abbrev pub has_at : Bool → List Lexeme → Read Test TextKind
+abbrev pub has_at : Bool → List Lexeme → Read Test PolicyFaultKind
 has_at true tokens = number_at tokens >>= λ (mask, rest). Ok (Mask mask, rest)
 has_at false tokens = Err WrongKind
 
 -- `like` and its value
-abbrev pub like_at : Bool → List Lexeme → Read Test TextKind
+abbrev pub like_at : Bool → List Lexeme → Read Test PolicyFaultKind
 like_at true tokens = Err WrongKind
 like_at false tokens = pattern_at tokens
 
 -- a test word, and a value that fits it; the first argument tells whether the parameter is a number
-unfoldable pub test_at : Bool → List Lexeme → Read Test TextKind
+unfoldable pub test_at : Bool → List Lexeme → Read Test PolicyFaultKind
 test_at is_number tokens = do
   (word, rest) ← word_or UnknownWord tokens
   if is_word (codes "is") word then is_at is_number rest
@@ -124,7 +124,7 @@ test_at is_number tokens = do
       else Err UnknownWord)))
 
 -- the name of a parameter of the call
-abbrev pub parameter_at : CallTag → List Lexeme → Read ℕ TextKind
+abbrev pub parameter_at : CallTag → List Lexeme → Read ℕ PolicyFaultKind
 parameter_at tag tokens = do
   (word, rest) ← word_or UnknownParam tokens
   param ← or_fault UnknownParam (parameter_of tag word)
@@ -135,23 +135,23 @@ abbrev pub is_number_at : CallTag → ℕ → Bool
 is_number_at tag param = is_number_kind (kind_at tag param)
 
 -- a parameter, a test word and a value
-abbrev pub plain_condition_at : Bool → CallTag → List Lexeme → Read Cond TextKind
+abbrev pub plain_condition_at : Bool → CallTag → List Lexeme → Read Cond PolicyFaultKind
 plain_condition_at negated tag tokens = do
   (param, rest) ← parameter_at tag tokens
   (test, after) ← test_at (is_number_at tag param) rest
   Ok (record { param = param; negated = negated; test = test }, after)
 
 -- COND: an optional `not` before them
-unfoldable pub condition_at : CallTag → List Lexeme → Read Cond TextKind
+unfoldable pub condition_at : CallTag → List Lexeme → Read Cond PolicyFaultKind
 condition_at tag tokens =
     if begins_with (codes "not") tokens then plain_condition_at true tag (later tokens) else plain_condition_at false tag tokens
 
 -- COND and COND ..
-abbrev pub conditions_at : CallTag → List Lexeme → Read (List Cond) TextKind
+abbrev pub conditions_at : CallTag → List Lexeme → Read (List Cond) PolicyFaultKind
 conditions_at tag tokens = joined_at most_conditions (codes "and") (condition_at tag) tokens
 
 -- the same up to the line's end
-abbrev pub conditions_of : CallTag → List Lexeme → Result (List Cond) TextKind
+abbrev pub conditions_of : CallTag → List Lexeme → Result (List Cond) PolicyFaultKind
 conditions_of tag tokens = do
   (conds, rest) ← conditions_at tag tokens
   end ← line_end rest

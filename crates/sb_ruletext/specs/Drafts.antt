@@ -3,7 +3,7 @@ use Rattle.std.specs.Prelude.{◌≡◌, ⊤, ℕ, Bool, true, false, List, [], 
 use Rattle.sb_rule.specs.declared.policies.Policy.{Policy}
 use Rattle.sb_rule.specs.declared.policies.Rule.{Rule}
 
--- the policies before the last, the name of the last and its rules; none where there is no last one
+-- the policies before the last, the name of the last and its rules; none if there is no last one
 abbrev pub drafted : List Policy → Option (List ℕ) → List Rule → List Policy
 drafted before None rules = []
 drafted before (Some name) rules = before ++ record { name = name; rules = rules } ∷ []

@@ -1,10 +1,10 @@
 -- The faults of policy texts.
 use Rattle.std.specs.Prelude.{ℕ}
-use Rattle.sb_ruletext.specs.declared.faults.TextKind.{TextKind}
-use Rattle.sb_ruletext.specs.declared.faults.TextKind.TheVariants.{NotUtf8, BadVersion, UnknownWord, UnknownCall, UnknownParam, WrongKind, BadNumber, EmptyRange, BadPattern, TooMany, SameName, NoHeading, NotReadOnly}
+use Rattle.sb_ruletext.specs.declared.faults.PolicyFaultKind.{PolicyFaultKind}
+use Rattle.sb_ruletext.specs.declared.faults.PolicyFaultKind.TheVariants.{NotUtf8, BadVersion, UnknownWord, UnknownCall, UnknownParam, WrongKind, BadNumber, EmptyRange, BadPattern, TooMany, SameName, NoHeading, NotReadOnly}
 
 -- the number of a kind of fault
-abbrev pub kind_number : TextKind → ℕ
+abbrev pub kind_number : PolicyFaultKind → ℕ
 kind_number NotUtf8 = 1
 kind_number BadVersion = 2
 kind_number UnknownWord = 3

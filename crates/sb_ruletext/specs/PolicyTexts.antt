@@ -2,8 +2,8 @@
 use Rattle.std.specs.Prelude.{ℕ, List, [], Option, Result, codes}
 use Rattle.sb_rule.specs.declared.policies.Policy.{Policy}
 use Rattle.sb_ruletext.specs.Lines.{line_of}
-use Rattle.sb_ruletext.specs.declared.faults.TextKind.{TextKind}
-use Rattle.sb_ruletext.specs.declared.faults.TextKind.TheVariants.{NotUtf8, BadVersion}
+use Rattle.sb_ruletext.specs.declared.faults.PolicyFaultKind.{PolicyFaultKind}
+use Rattle.sb_ruletext.specs.declared.faults.PolicyFaultKind.TheVariants.{NotUtf8, BadVersion}
 use Rattle.sb_text.specs.Lines.{NumberedLine}
 use Rattle.sb_text.specs.Readings.{Grammar, read_text}
 use Rattle.sb_text.specs.Steps.{version_of}
@@ -11,21 +11,21 @@ use Rattle.sb_text.specs.Tokens.{tokens_of}
 use Rattle.sb_text.specs.declared.refusals.LineFault.{LineFault}
 
 -- the first fault of a policy text
-abbrev pub TextFault : Type 0
-TextFault = LineFault TextKind
+abbrev pub PolicyFault : Type 0
+PolicyFault = LineFault PolicyFaultKind
 
 -- the version line: `sandbox-policy 1` or `sandbox-policy 2`
 abbrev pub policy_version : List ℕ → Option ℕ
 policy_version line = version_of (codes "sandbox-policy") 2 (tokens_of line)
 
 -- the policies so far, and what a line of a text of this version adds to them
-abbrev pub add_line : ℕ → List Policy → NumberedLine → Result (List Policy) TextKind
+abbrev pub add_line : ℕ → List Policy → NumberedLine → Result (List Policy) PolicyFaultKind
 add_line version policies line = line_of version policies line.number (tokens_of line.text)
 
 -- policy texts
-abbrev pub grammar : Grammar (List Policy) TextKind
+abbrev pub grammar : Grammar (List Policy) PolicyFaultKind
 grammar = record { version = policy_version; no_version = BadVersion; start = []; add = add_line }
 
 -- the policies of a text, or its first fault
-abbrev pub reading : List ℕ → Result (List Policy) TextFault
+abbrev pub reading : List ℕ → Result (List Policy) PolicyFault
 reading text = read_text NotUtf8 grammar text

@@ -3,7 +3,7 @@ use Rattle.std.specs.Prelude.{ℕ, ◌+◌, ◌==◌, List, [], ◌∷◌, Optio
 use Rattle.sb_call.specs.CallWords.{is_word, named}
 use Rattle.sb_call.specs.declared.tags.CallTag.{CallTag}
 use Rattle.sb_rule.specs.Actions.{action_word}
-use Rattle.sb_ruleprint.specs.Parameters.{parameter_words}
+use Rattle.sb_call.specs.Parameters.{parameter_words}
 use Rattle.sb_rule.specs.declared.actions.Action.{Action}
 use Rattle.sb_rule.specs.declared.actions.Action.TheVariants.{Allow, Deny, Alarm, Fake, ReadOnly}
 

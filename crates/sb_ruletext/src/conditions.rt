@@ -2,13 +2,14 @@
 ghost use Rattle.std.specs.Prelude.{◌≡◌, None, Some, MatchOption};
 ghost use Rattle.sb_ruletext.specs.Conditions.{number_at, numbers_at, after_dots, around_dots, range_of, range_at, pattern, string, string_at, pattern_at, is_at, in_at, has_at, like_at, test_at, parameter_at, is_number_at, plain_condition_at, condition_at, conditions_at, conditions_of};
 ghost use Rattle.sb_ruletext.specs.Steps.{excess};
-ghost use Rattle.sb_text.specs.Steps.{Gives, Reads};
+ghost use Rattle.sb_items.specs.Refusals.{Gives};
+ghost use Rattle.sb_text.specs.Steps.{Reads};
 
 use crate::faults::LineRefused;
-use crate::faults::TextKind::{self, BadNumber, UnknownParam, UnknownWord, WrongKind};
+use crate::faults::PolicyFaultKind::{self, BadNumber, UnknownParam, UnknownWord, WrongKind};
 use crate::readers::{line_end, quoted_or, word_or};
 use crate::words::parameter_of;
-use sb_call::{CallTag, ParamKind, shape};
+use sb_call::CallTag;
 use sb_pattern::{MOST_UNITS, Pattern, PatternFault, PatternRefused};
 use sb_rule::{Cond, Conds, MOST_CONDITIONS, MOST_NUMBERS, Numbers, Test};
 use sb_text::{Token, Tokens, number_of, or_fault, string_of};
@@ -23,12 +24,12 @@ fn number_at(tokens: &mut Tokens) -> Result<u64, LineRefused>
     or_fault(BadNumber, number_of(word))
 }
 
-// The fault where one more begins than there may be.
-fn excess(tokens: &Tokens) -> TextKind
+// The fault if one more begins than there may be.
+fn excess(tokens: &Tokens) -> PolicyFaultKind
     ensures { result ≡ excess tokens.now }
 {
     match tokens.peek() {
-        Some(Token::Word(_)) | Some(Token::Quoted(_)) => TextKind::TooMany,
+        Some(Token::Word(_)) | Some(Token::Quoted(_)) => PolicyFaultKind::TooMany,
         Some(Token::Bad) | None => UnknownWord,
     }
 }
@@ -38,7 +39,7 @@ fn excess(tokens: &Tokens) -> TextKind
 fn numbers_at(alloc: Global, tokens: &mut Tokens) -> Result<Numbers, LineRefused>
     ensures { Reads (numbers_at tokens.old) result tokens.new }
 {
-    let mut numbers = Numbers::new(Vec::new(alloc));
+    let mut numbers = Numbers::empty(alloc);
     while numbers.len() < MOST_NUMBERS {
         numbers.push(number_at(tokens)?)?;
         if !tokens.pass_word(b"or") {
@@ -48,7 +49,7 @@ fn numbers_at(alloc: Global, tokens: &mut Tokens) -> Result<Numbers, LineRefused
     Err(LineRefused::Fault(excess(tokens)))
 }
 
-// What follows `..`, where the bytes begin with it.
+// What follows `..`, if the bytes begin with it.
 fn after_dots(bytes: &[u8]) -> Option<&[u8]>
     ensures { MatchOption result (after_dots bytes.now ≡ None) (λ after. after_dots bytes.now ≡ Some after.now) }
 {
@@ -84,7 +85,7 @@ fn range_of(word: &[u8]) -> Result<Test, LineRefused>
     if lo <= hi {
         Ok(Test::Range { lo, hi })
     } else {
-        Err(LineRefused::Fault(TextKind::EmptyRange))
+        Err(LineRefused::Fault(PolicyFaultKind::EmptyRange))
     }
 }
 
@@ -101,7 +102,7 @@ fn string(alloc: Global, quoted: &str) -> Result<Wide, LineRefused>
 {
     let text = string_of(alloc, quoted)?;
     if text.len() > MOST_UNITS {
-        return Err(LineRefused::Fault(TextKind::BadPattern(PatternFault::TooLong)));
+        return Err(LineRefused::Fault(PolicyFaultKind::BadPattern(PatternFault::TooLong)));
     }
     Ok(text)
 }
@@ -113,7 +114,9 @@ pub(crate) fn pattern(alloc: Global, quoted: &str) -> Result<Pattern, LineRefuse
     let text = string_of(alloc, quoted)?;
     match Pattern::read(alloc, text.as_units()) {
         Ok(pattern) => Ok(pattern),
-        Err(PatternRefused::Fault(fault)) => Err(LineRefused::Fault(TextKind::BadPattern(fault))),
+        Err(PatternRefused::Fault(fault)) => Err(LineRefused::Fault(PolicyFaultKind::BadPattern(
+            fault,
+        ))),
         Err(PatternRefused::NoMemory) => Err(LineRefused::NoMemory),
     }
 }
@@ -183,17 +186,12 @@ fn like_at(alloc: Global, is_number: bool, tokens: &mut Tokens) -> Result<Test, 
 fn test_at(alloc: Global, is_number: bool, tokens: &mut Tokens) -> Result<Test, LineRefused>
     ensures { Reads (test_at is_number tokens.old) result tokens.new }
 {
-    let word = word_or(UnknownWord, tokens)?;
-    if word == b"is".as_slice() {
-        is_at(alloc, is_number, tokens)
-    } else if word == b"in".as_slice() {
-        in_at(is_number, tokens)
-    } else if word == b"has".as_slice() {
-        has_at(is_number, tokens)
-    } else if word == b"like".as_slice() {
-        like_at(alloc, is_number, tokens)
-    } else {
-        Err(LineRefused::Fault(UnknownWord))
+    match word_or(UnknownWord, tokens)? {
+        b"is" => is_at(alloc, is_number, tokens),
+        b"in" => in_at(is_number, tokens),
+        b"has" => has_at(is_number, tokens),
+        b"like" => like_at(alloc, is_number, tokens),
+        _ => Err(LineRefused::Fault(UnknownWord)),
     }
 }
 
@@ -209,9 +207,9 @@ fn parameter_at(tag: CallTag, tokens: &mut Tokens) -> Result<u32, LineRefused>
 fn is_number_at(tag: CallTag, param: u32) -> bool
     ensures { result ≡ is_number_at tag param }
 {
-    match shape(tag).get(param as usize) {
-        Some(ParamKind::Text) | Some(ParamKind::Name) => false,
-        Some(ParamKind::Num) | Some(ParamKind::Handle) | None => true,
+    match tag.param_kind(param) {
+        Some(kind) => kind.is_number(),
+        None => true,
     }
 }
 
@@ -247,7 +245,7 @@ fn condition_at(alloc: Global, tag: CallTag, tokens: &mut Tokens) -> Result<Cond
 fn conditions_at(alloc: Global, tag: CallTag, tokens: &mut Tokens) -> Result<Conds, LineRefused>
     ensures { Reads (conditions_at tag tokens.old) result tokens.new }
 {
-    let mut conds = Conds::new(Vec::new(alloc));
+    let mut conds = Conds::empty(alloc);
     while conds.len() < MOST_CONDITIONS {
         conds.push(condition_at(alloc, tag, tokens)?)?;
         if !tokens.pass_word(b"and") {

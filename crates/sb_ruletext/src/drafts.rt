@@ -7,10 +7,10 @@ ghost use Rattle.sb_ruletext.specs.Drafts.{is_headed};
 ghost use Rattle.sb_ruletext.specs.Lines.{with_policy, with_last_rules};
 ghost use Rattle.sb_text.specs.Steps.{Becomes};
 
-use crate::faults::{LineRefused, TextKind};
+use crate::faults::{LineRefused, PolicyFaultKind};
 use sb_call::ShortName;
+use sb_items::NoMemory;
 use sb_rule::{MOST_POLICIES, MOST_RULES, Policy, PolicyList, Rule, Rules};
-use sb_wide::NoMemory;
 use std::alloc::Global;
 use std::marker::Model;
 use std::mem;
@@ -82,7 +82,7 @@ impl Draft {
         ensures kept { OnErr result (self.new ≡ self.old) }
     {
         if !self.has_room() {
-            return Err(LineRefused::Fault(TextKind::TooMany));
+            return Err(LineRefused::Fault(PolicyFaultKind::TooMany));
         }
         reserve_one(&mut self.before)?;
         if let Some(last) = mem::replace(&mut self.last_name, Some(name)) {
@@ -102,10 +102,10 @@ impl Draft {
         ensures kept { OnErr result (self.new ≡ self.old) }
     {
         if self.last_name.is_none() {
-            return Err(LineRefused::Fault(TextKind::NoHeading));
+            return Err(LineRefused::Fault(PolicyFaultKind::NoHeading));
         }
-        if self.last_rules.as_slice().len() + rules.as_slice().len() > MOST_RULES {
-            return Err(LineRefused::Fault(TextKind::TooMany));
+        if self.last_rules.len() + rules.len() > MOST_RULES {
+            return Err(LineRefused::Fault(PolicyFaultKind::TooMany));
         }
         let mut rules = rules.into_items();
         match self.last_rules.append(&mut rules) {

@@ -8,11 +8,11 @@ use thiserror::Error;
 
 /// What is wrong with a line of a policy text.
 #[derive(Clone, Copy, Debug, Error)]
-pub enum TextKind {
+pub enum PolicyFaultKind {
     /// The text is not UTF-8.
     #[error("the text is not UTF-8")]
     NotUtf8,
-    /// The first line that says something is neither `sandbox-policy 1` nor `sandbox-policy 2`.
+    /// The first line that is neither blank nor a comment is neither `sandbox-policy 1` nor `sandbox-policy 2`.
     #[error("no version line")]
     BadVersion,
     /// A word that is not known here, a token that is missing, broken or one too many.
@@ -50,34 +50,34 @@ pub enum TextKind {
     NotReadOnly,
 }
 
-impl TextKind {
+impl PolicyFaultKind {
     /// The number of the kind, from 1 to 13.
     pub fn number(self) -> u64
         ensures { result ≡ kind_number self }
     {
         match self {
-            TextKind::NotUtf8 => 1,
-            TextKind::BadVersion => 2,
-            TextKind::UnknownWord => 3,
-            TextKind::UnknownCall => 4,
-            TextKind::UnknownParam => 5,
-            TextKind::WrongKind => 6,
-            TextKind::BadNumber => 7,
-            TextKind::EmptyRange => 8,
-            TextKind::BadPattern(_) => 9,
-            TextKind::TooMany => 10,
-            TextKind::SameName => 11,
-            TextKind::NoHeading => 12,
-            TextKind::NotReadOnly => 13,
+            PolicyFaultKind::NotUtf8 => 1,
+            PolicyFaultKind::BadVersion => 2,
+            PolicyFaultKind::UnknownWord => 3,
+            PolicyFaultKind::UnknownCall => 4,
+            PolicyFaultKind::UnknownParam => 5,
+            PolicyFaultKind::WrongKind => 6,
+            PolicyFaultKind::BadNumber => 7,
+            PolicyFaultKind::EmptyRange => 8,
+            PolicyFaultKind::BadPattern(_) => 9,
+            PolicyFaultKind::TooMany => 10,
+            PolicyFaultKind::SameName => 11,
+            PolicyFaultKind::NoHeading => 12,
+            PolicyFaultKind::NotReadOnly => 13,
         }
     }
 }
 
 /// The first fault of a policy text.
-pub type TextFault = LineFault<TextKind>;
+pub type PolicyFault = LineFault<PolicyFaultKind>;
 
 /// Why there are no policies of a text: its first fault, or no memory.
-pub type TextRefused = Refused<TextFault>;
+pub type TextRefused = Refused<PolicyFault>;
 
 // Why there is nothing of a line, whose number is not known here.
-pub(crate) type LineRefused = Refused<TextKind>;
+pub(crate) type LineRefused = Refused<PolicyFaultKind>;

@@ -5,10 +5,9 @@ ghost use Rattle.sb_ruletext.specs.declared.grants.Grant.TheVariants.{FilesAny, 
 ghost use Rattle.sb_ruletext.specs.Grants.{grant_word, grants, grant_of, like_at, reads_at, opens_at, allowing, rules_of};
 
 use sb_call::CallTag;
-use sb_items::Copies;
+use sb_items::NoMemory;
 use sb_pattern::Pattern;
 use sb_rule::{Action, Cond, Conds, Numbers, Rule, Rules, Test};
-use sb_wide::NoMemory;
 use std::alloc::Global;
 
 /// The access bits that a reader is refused: all but those that read, as in Chromium's Windows sandbox.
@@ -81,10 +80,10 @@ pub(crate) fn grant_of(word: &[u8]) -> Option<Grant>
 }
 
 // `name like P`, and for `file.rename` also `to like P`.
-fn like_at(alloc: Global, param: u32, pattern: &Pattern) -> Result<Cond, NoMemory>
+fn like_at(param: u32, pattern: &Pattern) -> Result<Cond, NoMemory>
     ensures { IfOk result (λ cond. cond ≡ like_at param pattern.now) }
 {
-    let pattern = pattern.copy(alloc)?;
+    let pattern = pattern.clone()?;
     Ok(Cond {
         param,
         negated: false,
@@ -107,7 +106,7 @@ fn reads_at(param: u32) -> Cond
 fn opens_at(alloc: Global, param: u32) -> Result<Cond, NoMemory>
     ensures { IfOk result (λ cond. cond ≡ opens_at param) }
 {
-    let mut numbers = Numbers::new(Vec::new(alloc));
+    let mut numbers = Numbers::empty(alloc);
     numbers.push(OPEN)?;
     Ok(Cond {
         param,
@@ -116,12 +115,12 @@ fn opens_at(alloc: Global, param: u32) -> Result<Cond, NoMemory>
     })
 }
 
-// The rule that allows a call where its name matches the pattern.
+// The rule that allows a call if its name matches the pattern.
 fn named(alloc: Global, line: u32, tag: CallTag, pattern: &Pattern) -> Result<Rule, NoMemory>
     ensures { IfOk result (λ rule. rule ≡ allowing line tag (like_at 0 pattern.now ∷ [])) }
 {
-    let mut conds = Conds::new(Vec::new(alloc));
-    conds.push(like_at(alloc, 0, pattern)?)?;
+    let mut conds = Conds::empty(alloc);
+    conds.push(like_at(0, pattern)?)?;
     Ok(Rule {
         tag,
         conds,
@@ -130,7 +129,7 @@ fn named(alloc: Global, line: u32, tag: CallTag, pattern: &Pattern) -> Result<Ru
     })
 }
 
-// The rule that allows to open what is there, where its name matches the pattern and the access only reads.
+// The rule that allows to open what is there, if its name matches the pattern and the access only reads.
 fn reading(alloc: Global, line: u32, tag: CallTag, pattern: &Pattern) -> Result<Rule, NoMemory>
     ensures { IfOk result (λ rule. rule ≡ allowing line tag (like_at 0 pattern.now ∷ reads_at 1 ∷ [])) }
 {
@@ -144,11 +143,11 @@ fn renaming(alloc: Global, line: u32, pattern: &Pattern) -> Result<Rule, NoMemor
     ensures { IfOk result (λ rule. rule ≡ allowing line FileRename (like_at 0 pattern.now ∷ like_at 1 pattern.now ∷ [])) }
 {
     let mut rule = named(alloc, line, CallTag::FileRename, pattern)?;
-    rule.conds.push(like_at(alloc, 1, pattern)?)?;
+    rule.conds.push(like_at(1, pattern)?)?;
     Ok(rule)
 }
 
-// The rule that allows `file.create` to open a file that is there, where the access only reads.
+// The rule that allows `file.create` to open a file that is there, if the access only reads.
 fn opening(alloc: Global, line: u32, pattern: &Pattern) -> Result<Rule, NoMemory>
     ensures { IfOk result (λ rule. rule ≡ allowing line FileCreate (like_at 0 pattern.now ∷ reads_at 2 ∷ opens_at 4 ∷ [])) }
 {
@@ -162,7 +161,7 @@ fn opening(alloc: Global, line: u32, pattern: &Pattern) -> Result<Rule, NoMemory
 fn files_any(alloc: Global, line: u32, pattern: &Pattern) -> Result<Rules, NoMemory>
     ensures { IfOk result (λ rules. rules ≡ rules_of line FilesAny pattern.now) }
 {
-    let mut rules = Rules::new(Vec::new(alloc));
+    let mut rules = Rules::empty(alloc);
     rules.push(named(alloc, line, CallTag::FileCreate, pattern)?)?;
     rules.push(named(alloc, line, CallTag::FileOpen, pattern)?)?;
     rules.push(named(alloc, line, CallTag::FileQuery, pattern)?)?;
@@ -174,7 +173,7 @@ fn files_any(alloc: Global, line: u32, pattern: &Pattern) -> Result<Rules, NoMem
 fn files_readonly(alloc: Global, line: u32, pattern: &Pattern) -> Result<Rules, NoMemory>
     ensures { IfOk result (λ rules. rules ≡ rules_of line FilesReadonly pattern.now) }
 {
-    let mut rules = Rules::new(Vec::new(alloc));
+    let mut rules = Rules::empty(alloc);
     rules.push(reading(alloc, line, CallTag::FileOpen, pattern)?)?;
     rules.push(opening(alloc, line, pattern)?)?;
     rules.push(named(alloc, line, CallTag::FileQuery, pattern)?)?;
@@ -185,12 +184,12 @@ fn files_readonly(alloc: Global, line: u32, pattern: &Pattern) -> Result<Rules, 
 pub(crate) fn one(alloc: Global, rule: Rule) -> Result<Rules, NoMemory>
     ensures { IfOk result (λ rules. rules ≡ rule ∷ []) }
 {
-    let mut rules = Rules::new(Vec::new(alloc));
+    let mut rules = Rules::empty(alloc);
     rules.push(rule)?;
     Ok(rules)
 }
 
-// The rules that allow two calls where their names match the pattern.
+// The rules that allow two calls if their names match the pattern.
 fn both(
     alloc: Global,
     line: u32,
@@ -200,7 +199,7 @@ fn both(
 ) -> Result<Rules, NoMemory>
     ensures { IfOk result (λ rules. rules ≡ allowing line first (like_at 0 pattern.now ∷ []) ∷ allowing line second (like_at 0 pattern.now ∷ []) ∷ []) }
 {
-    let mut rules = Rules::new(Vec::new(alloc));
+    let mut rules = Rules::empty(alloc);
     rules.push(named(alloc, line, first, pattern)?)?;
     rules.push(named(alloc, line, second, pattern)?)?;
     Ok(rules)

@@ -14,7 +14,7 @@ mod printing_laws;
 mod readers;
 mod words;
 
-pub use faults::{TextFault, TextKind, TextRefused};
+pub use faults::{PolicyFault, PolicyFaultKind, TextRefused};
 pub use laws::{
     first_faults_stay, lines_before_are_read, read_policies_are_well_made,
     silent_texts_lack_a_version, skipped_lines_count_alone,

@@ -1,13 +1,14 @@
 // Reading the lines below the version line.
 ghost use Rattle.std.specs.Prelude.{◌≡◌, OnErr};
 ghost use Rattle.sb_ruletext.specs.Lines.{new_name, name_at, heading, call_at, check_action, when_of, rule, grant_at, granted_at, grant, check_heading, with_grant, with_rule, line_of};
-ghost use Rattle.sb_text.specs.Steps.{Gives, Reads, Becomes};
+ghost use Rattle.sb_items.specs.Refusals.{Gives};
+ghost use Rattle.sb_text.specs.Steps.{Reads, Becomes};
 ghost use Rattle.sb_text.specs.Tokens.{tokens_of};
 
 use crate::conditions::{conditions_of, pattern};
 use crate::drafts::Draft;
 use crate::faults::LineRefused;
-use crate::faults::TextKind::{self, UnknownCall, UnknownWord};
+use crate::faults::PolicyFaultKind::{self, UnknownCall, UnknownWord};
 use crate::grants::{Grant, grant_of, one, rules_of};
 use crate::readers::{line_end, quoted_or, word_or};
 use crate::words::action_of;
@@ -25,7 +26,7 @@ fn new_name(draft: &Draft, word: &[u8]) -> Result<ShortName, LineRefused>
         return Err(LineRefused::Fault(UnknownWord));
     };
     if draft.is_named(word) {
-        return Err(LineRefused::Fault(TextKind::SameName));
+        return Err(LineRefused::Fault(PolicyFaultKind::SameName));
     }
     Ok(name)
 }
@@ -38,7 +39,7 @@ fn name_at(draft: &Draft, tokens: &mut Tokens) -> Result<ShortName, LineRefused>
     new_name(draft, word)
 }
 
-// `policy NAME`, behind its first word. After an error the policies are as they were.
+// `policy NAME`, after its first word. After an error the policies are as they were.
 #[tactic(auto, unfolding(crate::specs::Lines::heading))]
 fn heading(alloc: Global, draft: &mut Draft, tokens: &mut Tokens) -> Result<(), LineRefused>
     ensures read { Becomes (heading draft.old tokens.old) result draft.new }
@@ -62,7 +63,7 @@ fn when_of(alloc: Global, tag: CallTag, tokens: &mut Tokens) -> Result<Conds, Li
     ensures { Gives (when_of tag tokens.old) result }
 {
     if tokens.is_end() {
-        return Ok(Conds::new(Vec::new(alloc)));
+        return Ok(Conds::empty(alloc));
     }
     if !tokens.pass_word(b"when") {
         return Err(LineRefused::Fault(UnknownWord));
@@ -70,14 +71,14 @@ fn when_of(alloc: Global, tag: CallTag, tokens: &mut Tokens) -> Result<Conds, Li
     conditions_of(alloc, tag, tokens)
 }
 
-// `ACTION CALL` and what follows, behind its first word.
+// `ACTION CALL` and what follows, after its first word.
 #[tactic(auto, unfolding(crate::specs::Lines::rule))]
 fn rule(alloc: Global, line: u32, action: Action, tokens: &mut Tokens) -> Result<Rules, LineRefused>
     ensures { Gives (rule line action tokens.old) result }
 {
     let tag = call_at(tokens)?;
     if !is_for_readers(action, tag) {
-        return Err(LineRefused::Fault(TextKind::NotReadOnly));
+        return Err(LineRefused::Fault(PolicyFaultKind::NotReadOnly));
     }
     let conds = when_of(alloc, tag, tokens)?;
     Ok(one(
@@ -107,7 +108,7 @@ fn granted_at(alloc: Global, tokens: &mut Tokens) -> Result<Pattern, LineRefused
     pattern(alloc, quoted)
 }
 
-// `grant GRANT "PATTERN"`, behind its first word.
+// `grant GRANT "PATTERN"`, after its first word.
 #[tactic(auto, unfolding(crate::specs::Lines::grant))]
 fn grant(alloc: Global, line: u32, tokens: &mut Tokens) -> Result<Rules, LineRefused>
     ensures { Gives (grant line tokens.old) result }
@@ -125,7 +126,7 @@ fn check_heading(draft: &Draft) -> Result<(), LineRefused>
     if draft.is_headed() {
         Ok(())
     } else {
-        Err(LineRefused::Fault(TextKind::NoHeading))
+        Err(LineRefused::Fault(PolicyFaultKind::NoHeading))
     }
 }
 
@@ -172,15 +173,12 @@ pub(crate) fn line_of(
     ensures kept { OnErr result (draft.new ≡ draft.old) }
 {
     let mut tokens = line.tokens();
-    let word = word_or(UnknownWord, &mut tokens)?;
-    if word == b"policy".as_slice() {
-        return heading(alloc, draft, &mut tokens);
+    match word_or(UnknownWord, &mut tokens)? {
+        b"policy" => heading(alloc, draft, &mut tokens),
+        b"grant" => add_grant(alloc, draft, line.number, &mut tokens),
+        word => match action_of(version, word) {
+            Some(action) => add_rule(alloc, draft, line.number, action, &mut tokens),
+            None => Err(LineRefused::Fault(UnknownWord)),
+        },
     }
-    if word == b"grant".as_slice() {
-        return add_grant(alloc, draft, line.number, &mut tokens);
-    }
-    let Some(action) = action_of(version, word) else {
-        return Err(LineRefused::Fault(UnknownWord));
-    };
-    add_rule(alloc, draft, line.number, action, &mut tokens)
 }

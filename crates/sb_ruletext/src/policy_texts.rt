@@ -1,15 +1,14 @@
 // Reading policy texts.
-ghost use Rattle.std.specs.Prelude.{◌≡◌, ◌<◌, ◌^◌, [], length, true, IfOk};
-ghost use Rattle.sb_rule.specs.WellMade.{are_well_made};
+ghost use Rattle.std.specs.Prelude.{◌≡◌, ◌<◌, ◌^◌, [], length};
 ghost use Rattle.sb_ruletext.specs.PolicyTexts.{grammar, reading};
-ghost use Rattle.sb_ruletext.specs.declared.faults.TextKind.TheVariants.{BadVersion};
-ghost use Rattle.sb_text.specs.Steps.{GivesAs};
+ghost use Rattle.sb_ruletext.specs.declared.faults.PolicyFaultKind.TheVariants.{BadVersion};
+ghost use Rattle.sb_items.specs.Refusals.{GivesAs};
 
 use crate::drafts::Draft;
-use crate::faults::{LineRefused, TextKind, TextRefused};
+use crate::faults::{LineRefused, PolicyFaultKind, TextRefused};
 use crate::laws::read_policies_are_well_made;
 use crate::lines::line_of;
-use sb_rule::Policies;
+use sb_rule::{Policies, WellMadePolicies};
 use sb_text::{Line, Lines, TextGrammar, read_text};
 use std::alloc::Global;
 
@@ -22,7 +21,7 @@ struct PolicyGrammar {
 impl<'b> TextGrammar<Lines<'b>> for PolicyGrammar {
     type Draft = Draft;
 
-    type Kind = TextKind;
+    type Kind = PolicyFaultKind;
 
     ghost grammar = { λ texts. grammar };
 
@@ -30,10 +29,10 @@ impl<'b> TextGrammar<Lines<'b>> for PolicyGrammar {
         line.version(b"sandbox-policy", 2)
     }
 
-    fn no_version(&self) -> TextKind
+    fn no_version(&self) -> PolicyFaultKind
         ensures { result ≡ BadVersion }
     {
-        TextKind::BadVersion
+        PolicyFaultKind::BadVersion
     }
 
     fn start(&self) -> Draft
@@ -47,22 +46,20 @@ impl<'b> TextGrammar<Lines<'b>> for PolicyGrammar {
     }
 }
 
-/// The policies of a text, or its first fault. The text has fewer than 2^32 bytes. The policies are well made.
+/// The policies of a text, which are well made, or its first fault. The text has fewer than 2^32 bytes.
 ///
 /// The grammar of policy texts is that of this project; the grants and the mask of access bits that they refuse to readers
 /// follow Chromium's low-level policy engine for Windows.
 ///
 /// # Errors
-/// `Fault` exactly where the text has a fault: the first one, by lines from the top and within a line from the left, but
-/// that a text that is not UTF-8 has this fault before all others. `NoMemory` where there was none for the policies.
-pub fn read_policies(alloc: Global, text: &[u8]) -> Result<Policies, TextRefused>
+/// `Fault` exactly if the text has a fault: the first one, by lines from the top and within a line from the left, but
+/// that a text that is not UTF-8 has this fault before all others. `NoMemory` if there was none for the policies.
+pub fn read_policies(alloc: Global, text: &[u8]) -> Result<WellMadePolicies, TextRefused>
     requires { length text.now < 2 ^ 32 }
-    ensures exactly { GivesAs (λ policies. policies.list) (reading text.now) result }
-    ensures well_made { IfOk result (λ policies. are_well_made policies.list ≡ true) }
+    ensures { GivesAs (λ policies. policies.list) (reading text.now) result }
 {
     read_policies_are_well_made();
-    let draft = read_text(&PolicyGrammar { alloc }, TextKind::NotUtf8, text)?;
-    Ok(Policies {
-        list: draft.into_policies()?,
-    })
+    let draft = read_text(&PolicyGrammar { alloc }, PolicyFaultKind::NotUtf8, text)?;
+    let list = draft.into_policies()?;
+    Ok(WellMadePolicies::from_well_made(Policies { list }))
 }

@@ -1,12 +1,11 @@
 // Printing policies as a text that is read again.
 ghost use Rattle.std.specs.Prelude.{◌≡◌, ◌<◌, ◌^◌, length, true, IfOk, Ok};
-ghost use Rattle.sb_rule.specs.WellMade.{are_well_made};
 ghost use Rattle.sb_ruleprint.specs.Printing.{printed, relined};
 ghost use Rattle.sb_ruletext.specs.PolicyTexts.{reading};
 
 use crate::printing_laws::printed_policies_are_read;
-use sb_rule::Policies;
-use sb_wide::NoMemory;
+use sb_items::NoMemory;
+use sb_rule::WellMadePolicies;
 use std::alloc::Global;
 
 /// The text of policies, as `sb_ruleprint` writes it. It is read again as the same policies, in which each rule has the number
@@ -14,13 +13,13 @@ use std::alloc::Global;
 ///
 /// # Errors
 /// `NoMemory` if there is none for the text.
-pub fn print_policies(alloc: Global, policies: &Policies) -> Result<Vec<u8>, NoMemory>
-    requires { are_well_made policies.now.list ≡ true }
+pub fn print_policies(alloc: Global, policies: &WellMadePolicies) -> Result<Vec<u8>, NoMemory>
     ensures text { IfOk result (λ text. text.items ≡ printed policies.now.list) }
     ensures short { IfOk result (λ text. length text.items < 2 ^ 32) }
     ensures read_again { IfOk result (λ text. reading text.items ≡ Ok (relined policies.now.list)) }
 {
     printed_policies_are_read();
+    policies.establish_well_made();
     let text = sb_ruleprint::print_policies(alloc, policies)?;
     Ok(text)
 }

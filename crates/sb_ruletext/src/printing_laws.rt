@@ -2,8 +2,9 @@
 ghost use Rattle.sb_ruletext.specs.PrintingLaws.{PrintedPoliciesAreRead};
 
 use sb_pattern::texts_and_patterns;
-use sb_ruleprint::quoted_strings_are_read;
-use sb_text::{hexadecimals_are_read, not_utf8_line_tells, plain_lines_are_read};
+use sb_text::{
+    hexadecimals_are_read, not_utf8_line_tells, plain_lines_are_read, quoted_strings_are_read,
+};
 
 /// The text of policies that are well made is read as these policies, in which each rule has the number of the line on
 /// which it is printed.

@@ -1,14 +1,15 @@
 // Readers of a policy text's lines: in all of them a broken or missing token is an unknown word.
 ghost use Rattle.sb_ruletext.specs.Steps.{word_or, quoted_or, line_end};
-ghost use Rattle.sb_text.specs.Steps.{Gives, ReadsAs};
+ghost use Rattle.sb_items.specs.Refusals.{Gives};
+ghost use Rattle.sb_text.specs.Steps.{ReadsAs};
 
 use crate::faults::LineRefused;
-use crate::faults::TextKind::{self, UnknownWord};
+use crate::faults::PolicyFaultKind::{self, UnknownWord};
 use sb_text::{Tokens, end_at, quoted_at, word_at};
 
 /// A word: its bytes. A quoted token in its place has this fault; a broken one, or none, is `UnknownWord`.
 pub(crate) fn word_or<'a>(
-    quoted: TextKind,
+    quoted: PolicyFaultKind,
     tokens: &mut Tokens<'a>,
 ) -> Result<&'a [u8], LineRefused>
     ensures { ReadsAs (λ word. word.now) (word_or quoted tokens.old) result tokens.new }
@@ -17,13 +18,16 @@ pub(crate) fn word_or<'a>(
 }
 
 /// What stands between quotes. A word in its place has this fault; a broken token, or none, is `UnknownWord`.
-pub(crate) fn quoted_or<'a>(word: TextKind, tokens: &mut Tokens<'a>) -> Result<&'a str, LineRefused>
+pub(crate) fn quoted_or<'a>(
+    word: PolicyFaultKind,
+    tokens: &mut Tokens<'a>,
+) -> Result<&'a str, LineRefused>
     ensures { ReadsAs (λ quoted. quoted.now) (quoted_or word tokens.old) result tokens.new }
 {
     quoted_at(word, UnknownWord, UnknownWord, tokens)
 }
 
-/// The line is to end here. Any further token is `UnknownWord`.
+/// The line is to end here. Any extra token is `UnknownWord`.
 pub(crate) fn line_end(tokens: &Tokens) -> Result<(), LineRefused>
     ensures { Gives (line_end tokens.now) result }
 {

@@ -3,9 +3,8 @@ ghost use Rattle.std.specs.Prelude.{◌≡◌, ◌≤◌, ◌<◌, length, map, 
 ghost use Rattle.sb_call.specs.Tags.{shape_of};
 ghost use Rattle.sb_ruletext.specs.Words.{actions_of, action_of, place_of, parameter_of};
 
-use sb_call::CallTag;
+use sb_call::{CallTag, parameter_words};
 use sb_rule::Action;
-use sb_ruleprint::parameter_words;
 
 /// The version of policy texts from which on `readonly` is an action.
 const READ_ONLY_VERSION: u32 = 2;

@@ -1,7 +1,7 @@
 pub mod Actors
-pub mod CleanMarks
-pub mod Equalities
+pub mod CleanTables
 pub mod Limits
 pub mod Scripts
+pub mod SoundScripts
 pub mod Soundness
 pub mod Units

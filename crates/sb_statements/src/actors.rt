@@ -11,7 +11,7 @@ pub fn is_there(script: &Script, actor: Actor) -> bool
 {
     match actor {
         Actor::Worker { target } => (target as usize) < script.targets.len(),
-        Actor::Thread { target, thread } => match script.targets.as_slice().get(target as usize) {
+        Actor::Thread { target, thread } => match script.targets.get(target as usize) {
             Some(found) => (thread as usize) < found.threads.len(),
             None => false,
         },

@@ -3,25 +3,26 @@
 #![tactic(auto)]
 
 mod actors;
-mod equalities;
+mod clean_tables;
 mod laws;
 mod limits;
-mod marks;
 mod results;
 mod schedules;
 mod scripts;
+mod sound_scripts;
 mod soundness;
 mod statements;
 
 pub use actors::is_there;
+pub use clean_tables::{CleanTable, clean_table};
 pub use laws::sound_parts;
 pub use limits::{
     LAST_PLACE, MOST_CHANNELS, MOST_PATIENCE, MOST_START_LINES, MOST_STATEMENTS, MOST_TARGETS,
     MOST_THREADS,
 };
-pub use marks::{CleanMarks, clean_marks};
 pub use results::{CallResult, StmtResult};
 pub use schedules::{Actor, Schedule, Steps};
 pub use scripts::{Script, StartLine, StartLines, TargetScript, Targets, clean};
+pub use sound_scripts::SoundScript;
 pub use soundness::sound;
 pub use statements::{Statement, Statements, Threads, Word};

@@ -23,7 +23,6 @@ pub struct Schedule {
     pub rounds: u32,
 }
 
-// By hand, so that it is proved here once and not at each place that drops one.
 impl Drop for Schedule {
     fn drop(self) {
         let Schedule {

@@ -5,9 +5,8 @@ ghost use Rattle.sb_statements.specs.Scripts.{writes_channel, threads_write, is_
 
 use crate::statements::{Statement, Statements, Threads};
 use sb_call::ShortName;
-use sb_items::{Copies, Items, NoMemory};
+use sb_items::Items;
 use sb_wide::Wide;
-use std::alloc::Global;
 
 /// An object that is there at the start.
 #[derive(PartialEq)]
@@ -22,7 +21,6 @@ pub enum StartLine {
     Event { name: Wide, kind: u64, initial: u64 },
 }
 
-// By hand, so that it is proved here once and not at each place that drops one.
 impl Drop for StartLine {
     fn drop(self) {
         match self {
@@ -38,32 +36,6 @@ impl Drop for StartLine {
                 initial: _,
             } => {}
         }
-    }
-}
-
-impl Copies for StartLine {
-    fn copy(&self, alloc: Global) -> Result<StartLine, NoMemory> {
-        Ok(match self {
-            StartLine::Dir { name } => StartLine::Dir {
-                name: name.copy(alloc)?,
-            },
-            StartLine::File { name, attributes } => StartLine::File {
-                name: name.copy(alloc)?,
-                attributes: *attributes,
-            },
-            StartLine::Key { name } => StartLine::Key {
-                name: name.copy(alloc)?,
-            },
-            StartLine::Event {
-                name,
-                kind,
-                initial,
-            } => StartLine::Event {
-                name: name.copy(alloc)?,
-                kind: *kind,
-                initial: *initial,
-            },
-        })
     }
 }
 
@@ -83,7 +55,6 @@ pub struct TargetScript {
     pub threads: Threads,
 }
 
-// By hand, so that it is proved here once and not at each place that drops one.
 impl Drop for TargetScript {
     fn drop(self) {
         let TargetScript {
@@ -95,25 +66,14 @@ impl Drop for TargetScript {
     }
 }
 
-impl Copies for TargetScript {
-    fn copy(&self, alloc: Global) -> Result<TargetScript, NoMemory> {
-        Ok(TargetScript {
-            name: self.name.copy(),
-            policy: self.policy,
-            channels: self.channels,
-            threads: self.threads.copy(alloc)?,
-        })
-    }
-}
-
 /// The targets of a script, numbered from 0.
 pub type Targets = Items<TargetScript>;
 
 /// A script.
 #[derive(PartialEq)]
 pub struct Script {
-    /// How many loads of its channel's state a call makes at most where the channel is not clean, and how many rounds
-    /// over the channels where the target has no clean one. From 1 to 1,000,000 in a script that was read.
+    /// How many loads of its channel's state a call makes at most if the channel is not clean, and how many rounds
+    /// over the channels if the target has no clean one. From 1 to 1,000,000 in a script that was read.
     pub patience: u32,
     /// What is there at the start.
     pub start: StartLines,
@@ -132,16 +92,6 @@ impl Drop for Script {
     }
 }
 
-impl Copies for Script {
-    fn copy(&self, alloc: Global) -> Result<Script, NoMemory> {
-        Ok(Script {
-            patience: self.patience,
-            start: self.start.copy(alloc)?,
-            targets: self.targets.copy(alloc)?,
-        })
-    }
-}
-
 fn statements_write(target: u32, channel: u32, statements: &[Statement]) -> bool
     ensures { result ≡ list_any (writes_channel target channel) statements.now }
 {
@@ -153,13 +103,17 @@ fn statements_write(target: u32, channel: u32, statements: &[Statement]) -> bool
 fn threads_write(target: u32, channel: u32, threads: &[Statements]) -> bool
     ensures { result ≡ threads_write target channel threads.now }
 {
-    threads.iter().any(|statements| statements_write(target, channel, statements.as_slice()))
+    threads
+        .iter()
+        .any(|statements| statements_write(target, channel, statements))
 }
 
 fn targets_write(target: u32, channel: u32, targets: &[TargetScript]) -> bool
     ensures { result ≡ list_any (λ t. threads_write target channel t.threads) targets.now }
 {
-    targets.iter().any(|other| threads_write(target, channel, other.threads.as_slice()))
+    targets
+        .iter()
+        .any(|other| threads_write(target, channel, &other.threads))
 }
 
 /// Whether a channel of a target is clean: no store and no exchange statement of any thread of any target names a word
@@ -167,5 +121,5 @@ fn targets_write(target: u32, channel: u32, targets: &[TargetScript]) -> bool
 pub fn clean(script: &Script, target: u32, channel: u32) -> bool
     ensures { result ≡ is_clean script.now target channel }
 {
-    !targets_write(target, channel, script.targets.as_slice())
+    !targets_write(target, channel, &script.targets)
 }

@@ -130,7 +130,7 @@ fn are_targets(targets: &[TargetScript]) -> bool
     targets.len() <= MOST_TARGETS && names_differ(targets) && each_is_target(targets)
 }
 
-/// Whether a script is sound. It takes no memory. A sound script has
+/// Whether a script is sound. Does not allocate. A sound script has
 /// - a patience from 1 to 1,000,000,
 /// - at most 4,096 objects at the start, each with a name, attributes below 2^32, and a kind and an
 ///   initial state of 0 or 1,

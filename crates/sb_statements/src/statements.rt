@@ -3,8 +3,7 @@ ghost use Rattle.std.specs.Prelude.{◌≡◌};
 ghost use Rattle.sb_statements.specs.Scripts.{writes_channel};
 
 use sb_call::{Args, CallTag};
-use sb_items::{Copies, Items, NoMemory};
-use std::alloc::Global;
+use sb_items::Items;
 
 /// A word of a target's channels.
 #[derive(Clone, Copy, PartialEq, Eq)]
@@ -23,13 +22,13 @@ pub enum Statement {
         tag: CallTag,
         args: Args,
     },
-    /// Stores a value into a word by hand.
+    /// Stores a value into a word directly.
     Store {
         target: u32,
         word: Word,
         value: u64,
     },
-    /// Stores `to` into a word by hand, where it holds `from`.
+    /// Stores `to` into a word directly, if it holds `from`.
     Exchange {
         target: u32,
         word: Word,
@@ -50,7 +49,6 @@ pub enum Statement {
     },
 }
 
-// By hand, so that it is proved here once and not at each place that drops one.
 impl Drop for Statement {
     fn drop(self) {
         match self {
@@ -77,52 +75,6 @@ impl Drop for Statement {
     }
 }
 
-impl Copies for Statement {
-    fn copy(&self, alloc: Global) -> Result<Statement, NoMemory> {
-        Ok(match self {
-            Statement::Call { tag, args } => Statement::Call {
-                tag: *tag,
-                args: args.copy(alloc)?,
-            },
-            Statement::Store {
-                target,
-                word,
-                value,
-            } => Statement::Store {
-                target: *target,
-                word: *word,
-                value: *value,
-            },
-            Statement::Exchange {
-                target,
-                word,
-                from,
-                to,
-            } => Statement::Exchange {
-                target: *target,
-                word: *word,
-                from: *from,
-                to: *to,
-            },
-            Statement::Load { target, word } => Statement::Load {
-                target: *target,
-                word: *word,
-            },
-            Statement::Wait {
-                target,
-                word,
-                value,
-                most,
-            } => Statement::Wait {
-                target: *target,
-                word: *word,
-                value: *value,
-                most: *most,
-            },
-        })
-    }
-}
-
 impl Statement {
     // Whether this is a store or an exchange that names a word of the channel.
     pub(crate) fn writes_channel(&self, target: u32, channel: u32) -> bool
@@ -138,7 +90,7 @@ impl Statement {
                 target: named,
                 word,
                 ..
-            } => { *named == target && word.channel == channel }
+            } => *named == target && word.channel == channel,
             _ => false,
         }
     }

@@ -10,3 +10,5 @@ pub mod Values
 pub mod WordLemmas
 mod ReadingLaws
 pub mod PlainLines
+pub mod WrittenStrings
+pub mod QuotedStrings

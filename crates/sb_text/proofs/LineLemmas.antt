@@ -22,7 +22,7 @@ first_end bs = position_or_len (λ b. b == 10) bs
 drop_more : (n b : ℕ) (bs : List ℕ) → drop (1 + n + 1) (b ∷ bs) ≡ drop (n + 1) bs
 drop_more n b bs = let e : 1 + n + 1 ≡ suc (n + 1) = omega arith in ap (λ n. drop n (b ∷ bs)) e
 
--- where bytes follow the first LF, the last line ends as theirs does
+-- if bytes follow the first LF, the last line ends as theirs does
 ends_as : (bs : List ℕ) → 0 < length (drop (first_end bs + 1) bs) → is_ended bs ≡ is_ended (drop (first_end bs + 1) bs)
 ends_as [] h = absurd (omega arith)
 ends_as (b ∷ []) h = grind (arith, nat_tests, common_steps)
@@ -36,7 +36,7 @@ ends_as (b ∷ c ∷ bs) h = by_first (b == 10) h (ends_as (c ∷ bs))
         let d = drop_more (first_end (c ∷ bs)) b (c ∷ bs) in
         e (subst (λ (xs : List ℕ). 0 < length xs) d h) ∙ ap is_ended (sym d)
 
--- where none follow, the first line is the last
+-- if none follow, the first line is the last
 ends_here : (bs : List ℕ) → 0 < length bs → length (drop (first_end bs + 1) bs) ≡ 0 → is_ended bs ≡ nat_lt (length (take (first_end bs) bs)) (length bs)
 ends_here [] h k = absurd (omega arith)
 ends_here (b ∷ []) h k = grind (arith, nat_tests, common_steps)

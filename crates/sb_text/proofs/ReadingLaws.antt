@@ -10,17 +10,18 @@ use Rattle.sb_text.specs.LineLaws.{ended, is_line}
 use Rattle.sb_text.specs.Lines.{NumberedLine, raw_lines, lines_from, lines_of, is_skipped, without_cr}
 use Rattle.sb_text.specs.ReadingLaws.{FirstFaultsStay, LinesBeforeAreRead, MovesWith, SkippedLinesCountAlone}
 use Rattle.sb_text.specs.Readings.{Grammar, on_line, refused_on, read_lines, read_below, read_by, is_some_line, renumbered_line, renumbered, behind}
-use Rattle.sb_text.specs.Steps.{◌>>=◌, on_value, Gives, Becomes}
+use Rattle.sb_items.specs.Refusals.{Gives}
+use Rattle.sb_text.specs.Steps.{◌>>=◌, on_value, Becomes}
 use Rattle.sb_text.specs.declared.refusals.LineFault.{LineFault}
-use Rattle.sb_text.specs.declared.refusals.Refused.{Refused}
-use Rattle.sb_text.specs.declared.refusals.Refused.TheVariants.{Fault, NoMemory}
+use Rattle.sb_items.specs.declared.refusals.Refused.{Refused}
+use Rattle.sb_items.specs.declared.refusals.Refused.TheVariants.{Fault, NoMemory}
 
--- where no line is left, what was read so far is all
+-- if no line is left, what was read so far is all
 pub no_line : {D K : Type 0} (add : D → NumberedLine → Result D K) (sofar : D) → read_lines add sofar [] ≡ Ok sofar
 unfolding read_lines
 no_line add sofar = refl
 
--- behind a first line that adds to it the others are read
+-- after a first line that adds to it the others are read
 pub added_in_turn : {D K : Type 0} (add : D → NumberedLine → Result D K) (sofar more : D) (line : NumberedLine) (lines : List NumberedLine)
     → add sofar line ≡ Ok more → read_lines add sofar (line ∷ lines) ≡ read_lines add more lines
 unfolding read_lines
@@ -62,7 +63,7 @@ line_in (Err fault) = fault.line
 abbrev refused : {D K : Type 0} → LineFault K → Result D (LineFault K)
 refused fault = Err fault
 
--- where this is a fault, it has such a number
+-- if this is a fault, it has such a number
 abbrev IsFaultIn : {D K : Type 0} → (ℕ → Bool) → Result D (LineFault K) → LineFault K → Type 0
 IsFaultIn p read fault = read ≡ Err fault → p fault.line ≡ true
 
@@ -94,7 +95,7 @@ from_front : {D K : Type 0} (p : ℕ → Bool) (front : Result D (LineFault K)) 
 from_front p (Ok more) rest fault h n e = absurd (false≢true (sym n ∙ h more e))
 from_front p (Err other) rest fault h n e = e
 
--- behind a front that has no such fault it comes from the rest
+-- after a front that has no such fault it comes from the rest
 front_read : {D K : Type 0} (p : ℕ → Bool) (front : Result D (LineFault K)) (rest : D → Result D (LineFault K)) (fault : LineFault K)
     → IsFaultIn p front fault → p fault.line ≡ false → (front >>= rest) ≡ Err fault → (read : D) × (front ≡ Ok read)
 front_read p (Ok more) rest fault h n e = (more, refl)
@@ -224,7 +225,7 @@ one_line line h = ap raw_lines (sym (append-nil (ended line))) ∙ written_lines
 skipped : (n : ℕ) (line : List ℕ) (raw : List (List ℕ)) → is_skipped (without_cr line) ≡ true → lines_from n (line ∷ raw) ≡ lines_from (n + 1) raw
 skipped n line raw h = ap (λ b. cond b (lines_from (n + 1) raw) (record { number = n; text = without_cr line } ∷ lines_from (n + 1) raw)) h
 
--- a line that is skipped, put in behind the first lines, changes the numbers of the others
+-- a line that is skipped, put in after the first lines, changes the numbers of the others
 line_put_in : (front line rest : List ℕ) → is_line line ≡ true → is_skipped (without_cr line) ≡ true
     → lines_of (ended front ++ (ended line ++ rest)) ≡ map (renumbered_line (behind (length (raw_lines (ended front))))) (lines_of (ended front ++ rest))
 line_put_in front line rest i k =

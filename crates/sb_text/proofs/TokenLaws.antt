@@ -301,7 +301,7 @@ onto_part_more : (w : List ℕ) (b : ℕ) (parts : List (List ℕ)) → onto_par
 onto_part_more w b [] = refl
 onto_part_more w b (part ∷ parts) = ap (λ v. v ∷ parts) (append_assoc w (b ∷ []) part)
 
--- the words of a line behind the bytes of a word
+-- the words of a line after the bytes of a word
 abbrev words_behind : List ℕ → List ℕ → List Lexeme
 words_behind w line = map Word (filter is_some_word (onto_part w (slice_split is_blank line)))
 
@@ -334,7 +334,7 @@ plain_line (c ∷ line) h = plain_step c line (both _ _ h).0 (plain_line line (b
 pub plain : PlainLinesHaveWords
 plain line h = (plain_line line h).between
 
--- behind a token that was found the others were found too
+-- after a token that was found the others were found too
 pub found_next : (token : Lexeme) (tokens others : List Lexeme) → are_found (token ∷ tokens) ≡ true → tokens ≡ others → are_found others ≡ true
 found_next token tokens others h e = subst (λ tokens. are_found tokens ≡ true) e (found_behind token tokens h)
   where

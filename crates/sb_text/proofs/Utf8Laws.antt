@@ -5,7 +5,7 @@ use Rattle.std.proofs.lemmas.Bool.Decides.{nat_tests}
 use Rattle.std.proofs.lemmas.Str.{utf8_valid_len-IsUtf8, utf8_valid_len-IsValidUpTo}
 use Rattle.sb_text.specs.Utf8Laws.{NotUtf8LineTells}
 
--- the line, where the front that is UTF-8 has n bytes
+-- the line, if the front that is UTF-8 has n bytes
 abbrev line_by : List ℕ → ℕ → Option ℕ
 line_by bs n = cond (nat_lt n (length bs)) (Some (count_by (λ b. b == 10) (take n bs) + 1)) None
 

@@ -11,3 +11,4 @@ pub mod NumberLaws
 pub mod Utf8Laws
 pub mod ReadingLaws
 pub mod PlainLines
+pub mod Strings

@@ -39,15 +39,15 @@ LinesHoldNoLf = (bs : List ℕ) → list_all is_line (raw_lines bs) ≡ true
 abbrev pub RawLinesJoin : Type 0
 RawLinesJoin = (bs : List ℕ) → flat_map whole (numbered_raw_lines bs) ≡ bs
 
--- there is a line for each LF, and one more where bytes follow the last LF
+-- there is a line for each LF, and one more if bytes follow the last LF
 abbrev pub LinesAreCounted : Type 0
 LinesAreCounted = (bs : List ℕ) → length (raw_lines bs) ≡ count_by (λ b. b == 10) bs + (if is_ended bs then 0 else 1)
 
--- the lines of a text that is cut behind an LF: those of its front, and then those of the rest
+-- the lines of a text that is cut after an LF: those of its front, and then those of the rest
 abbrev pub LinesAppend : Type 0
 LinesAppend = (front rest : List ℕ) → raw_lines (ended front ++ rest) ≡ raw_lines (ended front) ++ raw_lines rest
 
--- the same of the lines that say something, whose numbers go on in the rest
+-- the same of the lines that are neither blank nor comments, whose numbers go on in the rest
 abbrev pub SayingLinesAppend : Type 0
 SayingLinesAppend = (front rest : List ℕ) → lines_of (ended front ++ rest) ≡ lines_of (ended front) ++ lines_from (1 + length (raw_lines (ended front))) (raw_lines rest)
 

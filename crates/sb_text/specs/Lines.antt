@@ -2,7 +2,7 @@
 use Rattle.std.specs.Prelude.{ℕ, ◌+◌, ◌-◌, Bool, true, ◌||◌, ◌&&◌, List, [], ◌∷◌, length, take, slice_index, nat_lt, ◌==◌, if◌then◌else◌}
 use Rattle.std.specs.List.{onto_first}
 
--- the bytes between LFs: a line for each LF, and one more where bytes follow the last LF
+-- the bytes between LFs: a line for each LF, and one more if bytes follow the last LF
 abbrev pub raw_lines : List ℕ → List (List ℕ)
 raw_lines [] = []
 raw_lines (b ∷ bs) = if b == 10 then [] ∷ raw_lines bs else onto_first b (raw_lines bs)
@@ -19,7 +19,7 @@ pub record NumberedRawLine : Type 0 where
   pub bytes : List ℕ
   pub is_ended : Bool
 
--- these lines as they stand between LFs, numbered from n: an LF follows each but the last, and the last where the test says so
+-- these lines as they stand between LFs, numbered from n: an LF follows each but the last, and the last if the test says so
 abbrev pub numbered_from : ℕ → Bool → List (List ℕ) → List NumberedRawLine
 numbered_from n last_ended [] = []
 numbered_from n last_ended (line ∷ []) = record { number = n; bytes = line; is_ended = last_ended } ∷ []
@@ -56,13 +56,13 @@ pub record NumberedLine : Type 0 where
   pub number : ℕ
   pub text : List ℕ
 
--- of these lines, whose first has number n: those that say something
+-- of these lines, whose first has number n: those that are neither blank nor comments
 abbrev pub lines_from : ℕ → List (List ℕ) → List NumberedLine
 lines_from n [] = []
 lines_from n (line ∷ lines) =
     if is_skipped (without_cr line) then lines_from (n + 1) lines
     else record { number = n; text = without_cr line } ∷ lines_from (n + 1) lines
 
--- the lines of a text that say something, numbered from 1 among all its lines
+-- the lines of a text that are neither blank nor comments, numbered from 1 among all its lines
 abbrev pub lines_of : List ℕ → List NumberedLine
 lines_of text = lines_from 1 (raw_lines text)

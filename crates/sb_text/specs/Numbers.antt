@@ -14,7 +14,7 @@ is_hexadecimal_digit b = is_decimal_digit b || (nat_le 65 b && nat_le b 70) || (
 abbrev pub digit_of : ℕ → ℕ
 digit_of b = if nat_le 97 b then b - 87 else (if nat_le 65 b then b - 55 else b - 48)
 
--- the value of digits in a base, highest first, behind digits whose value is n
+-- the value of digits in a base, highest first, after digits whose value is n
 abbrev pub value_from : ℕ → ℕ → List ℕ → ℕ
 value_from base n [] = n
 value_from base n (b ∷ bs) = value_from base (n * base + digit_of b) bs

@@ -8,7 +8,7 @@ use Rattle.sb_text.specs.TokenLaws.{is_quoted_byte, written_line}
 use Rattle.sb_text.specs.Tokens.{Lexeme, Word, Quoted, Bad, tokens_of}
 use Rattle.sb_text.specs.Words.{is_some_word, words_of}
 
--- printable ASCII behind `#`
+-- printable ASCII after `#`
 abbrev pub is_plain_byte : ℕ → Bool
 is_plain_byte b = nat_le 36 b && nat_le b 126
 
@@ -36,7 +36,7 @@ numbered n (tokens ∷ lines) = record { number = n; text = written_line tokens 
 abbrev pub PlainLinesAreUtf8 : Type 0
 PlainLinesAreUtf8 = (lines : List (List Lexeme)) → list_all is_plain_line lines ≡ true → IsUtf8 (flat_map line_text lines)
 
--- their text has these lines, each of which says something
+-- their text has these lines, none of which is blank or a comment
 abbrev pub PlainLinesAreRead : Type 0
 PlainLinesAreRead = (lines : List (List Lexeme)) → list_all is_plain_line lines ≡ true → lines_of (flat_map line_text lines) ≡ numbered 1 lines
 

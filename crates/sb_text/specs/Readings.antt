@@ -4,8 +4,8 @@ use Rattle.sb_text.specs.Lines.{NumberedLine, lines_of}
 use Rattle.sb_text.specs.Steps.{◌>>=◌}
 use Rattle.sb_text.specs.Utf8.{not_utf8_line}
 use Rattle.sb_text.specs.declared.refusals.LineFault.{LineFault}
-use Rattle.sb_text.specs.declared.refusals.Refused.{Refused}
-use Rattle.sb_text.specs.declared.refusals.Refused.TheVariants.{Fault, NoMemory}
+use Rattle.sb_items.specs.declared.refusals.Refused.{Refused}
+use Rattle.sb_items.specs.declared.refusals.Refused.TheVariants.{Fault, NoMemory}
 
 -- a kind of fault on a line
 abbrev pub on_line : {A K : Type 0} → ℕ → Result A K → Result A (LineFault K)
@@ -22,8 +22,8 @@ unfoldable pub read_lines : {D K : Type 0} → (D → NumberedLine → Result D 
 read_lines add sofar [] = Ok sofar
 read_lines add sofar (line ∷ lines) = on_line line.number (add sofar line) >>= λ more. read_lines add more lines
 
--- a grammar of texts: the version that the first line with tokens names, and the fault where it names none; what is read before
--- any further line, and what a further line of a text of this version adds to what was read so far
+-- a grammar of texts: the version that the first line with tokens names, and the fault if it names none; what is read before
+-- any further line, and what another line of a text of this version adds to what was read so far
 pub record Grammar (D K : Type 0) : Type 0 where
   pub version : List ℕ → Option ℕ
   pub no_version : K
@@ -35,12 +35,12 @@ abbrev pub read_below : {D K : Type 0} → Grammar D K → ℕ → Option ℕ �
 read_below grammar line None lines = Err (record { line = line; kind = grammar.no_version })
 read_below grammar line (Some version) lines = read_lines (grammar.add version) grammar.start lines
 
--- what is read of the lines with tokens; where there is none, the version is missing on line 1
+-- what is read of the lines with tokens; if there is none, the version is missing on line 1
 abbrev pub read_by : {D K : Type 0} → Grammar D K → List NumberedLine → Result D (LineFault K)
 read_by grammar [] = Err (record { line = 1; kind = grammar.no_version })
 read_by grammar (first ∷ lines) = read_below grammar first.number (grammar.version first.text) lines
 
--- what is read where there is no line on which a text is not UTF-8; where there is one, this fault comes before all others
+-- what is read if there is no line on which a text is not UTF-8; if there is one, this fault comes before all others
 abbrev pub where_utf8 : {D K : Type 0} → K → Option ℕ → Result D (LineFault K) → Result D (LineFault K)
 where_utf8 not_utf8 None read = read
 where_utf8 not_utf8 (Some line) read = Err (record { line = line; kind = not_utf8 })
@@ -63,6 +63,6 @@ abbrev pub renumbered : {A K : Type 0} → (ℕ → ℕ) → (A → A) → Resul
 renumbered f moved (Ok x) = Ok (moved x)
 renumbered f moved (Err fault) = Err (record { line = f fault.line; kind = fault.kind })
 
--- the number of a line where one is put in behind the first n
+-- the number of a line if one is put in after the first n
 abbrev pub behind : ℕ → ℕ → ℕ
 behind n k = if nat_lt n k then k + 1 else k

@@ -2,8 +2,8 @@
 use Rattle.std.specs.Prelude.{◌≡◌, ⊤, ℕ, ◌+◌, ◌-◌, ◌&&◌, nat_eq, nat_le, Bool, true, false, List, [], ◌∷◌, Option, None, Some, Result, Ok, Err, if◌then◌else◌}
 use Rattle.std.specs.Cmp.Lexicographic.{pointwise}
 use Rattle.sb_text.specs.Tokens.{Lexeme, Word, Quoted, Bad}
-use Rattle.sb_text.specs.declared.refusals.Refused.{Refused}
-use Rattle.sb_text.specs.declared.refusals.Refused.TheVariants.{Fault, NoMemory}
+use Rattle.sb_items.specs.declared.refusals.Refused.{Refused}
+use Rattle.sb_items.specs.declared.refusals.Refused.TheVariants.{Fault, NoMemory}
 
 infixl 10 ◌>>=◌
 -- one step after another: the fault of the first, or what the second makes of its value
@@ -67,12 +67,6 @@ version_of name most (Word w ∷ Word (d ∷ []) ∷ []) =
     if pointwise nat_eq w name && nat_le 49 d && nat_le d (48 + most) then Some (d - 48) else None
 version_of name most _ = None
 
--- what is wanted was given, or its fault, or there was no memory
-abbrev pub Gives : {A K : Type 0} → Result A K → Result A (Refused K) → Type 0
-Gives wanted (Ok x) = wanted ≡ Ok x
-Gives wanted (Err (Fault kind)) = wanted ≡ Err kind
-Gives wanted (Err NoMemory) = ⊤
-
 -- what stands at a place of a line was read, with these tokens left, or its fault was met, or there was no memory
 abbrev pub Reads : {A K : Type 0} → Read A K → Result A (Refused K) → List Lexeme → Type 0
 Reads wanted (Ok x) rest = wanted ≡ Ok (x, rest)
@@ -80,11 +74,6 @@ Reads wanted (Err (Fault kind)) rest = wanted ≡ Err kind
 Reads wanted (Err NoMemory) rest = ⊤
 
 -- the same of a value that is wanted as it is seen by this function
-abbrev pub GivesAs : {A B K : Type 0} → (B → A) → Result A K → Result B (Refused K) → Type 0
-GivesAs seen wanted (Ok x) = wanted ≡ Ok (seen x)
-GivesAs seen wanted (Err (Fault kind)) = wanted ≡ Err kind
-GivesAs seen wanted (Err NoMemory) = ⊤
-
 abbrev pub ReadsAs : {A B K : Type 0} → (B → A) → Read A K → Result B (Refused K) → List Lexeme → Type 0
 ReadsAs seen wanted (Ok x) rest = wanted ≡ Ok (seen x, rest)
 ReadsAs seen wanted (Err (Fault kind)) rest = wanted ≡ Err kind

@@ -55,7 +55,7 @@ is_quoted_text Bad = true
 abbrev pub has_quoted_text : NumberedLine → Bool
 has_quoted_text line = list_all is_quoted_text (tokens_of line.text)
 
--- the first byte that is no blank, and 0 where there is none
+-- the first byte that is no blank, and 0 if there is none
 abbrev pub first_byte : List ℕ → ℕ
 first_byte [] = 0
 first_byte (b ∷ bs) = if is_blank b then first_byte bs else b
@@ -92,8 +92,8 @@ PlainLinesHaveWords = (line : List ℕ) → list_all (λ b. not (b == 34)) line 
 abbrev pub SayingLinesHaveTokens : Type 0
 SayingLinesHaveTokens = (line : List ℕ) → is_skipped line ≡ false → 0 < length (tokens_of line)
 
--- a line without tokens is skipped, and one with a token, also one that breaks the rules, exactly where its first byte that is no
--- blank is `#`. So one whose first token is quoted is not, and one whose first token is a word exactly where that begins with `#`
+-- a line without tokens is skipped, and one with a token, also one that breaks the rules, exactly if its first byte that is no
+-- blank is `#`. So one whose first token is quoted is not, and one whose first token is a word exactly if that begins with `#`
 abbrev pub FirstTokenSkips : Type 0
 FirstTokenSkips =
     ((line : List ℕ) → tokens_of line ≡ [] → is_skipped line ≡ true)

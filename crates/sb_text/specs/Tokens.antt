@@ -14,7 +14,7 @@ pub data Lexeme : Type 0 where
   Quoted : List ℕ → Lexeme
   Bad : Lexeme
 
--- where in a line: between tokens, in a word or a quoted token with these bytes so far, or behind its second `"`
+-- where in a line: between tokens, in a word or a quoted token with these bytes so far, or after its second `"`
 pub data Place : Type 0 where
   Between : Place
   InWord : List ℕ → Place

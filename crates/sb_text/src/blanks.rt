@@ -1,4 +1,4 @@
-// Blanks, and the lines that say nothing.
+// Blanks, and the blank or comment lines.
 ghost use Rattle.std.specs.Prelude.{◌≡◌, drop, true};
 ghost use Rattle.sb_text.specs.Lines.{is_blank, is_skipped};
 

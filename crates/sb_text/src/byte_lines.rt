@@ -1,4 +1,4 @@
-// The lines of bytes that say something, one after another.
+// The lines of bytes that are neither blank nor comments, one after another.
 ghost use Rattle.std.specs.Prelude.{◌≡◌, ◌∷◌, ◌<◌, ◌^◌, [], length, MatchOption};
 ghost use Rattle.sb_text.specs.Lines.{NumberedLine, lines_of};
 ghost use Rattle.sb_text.specs.Words.{words_of};
@@ -8,7 +8,7 @@ use crate::cuts::{bytes_without_cr, cut_bytes};
 use crate::words::Words;
 use std::marker::Model;
 
-/// A line of bytes that says something.
+/// A line of bytes that is neither blank nor a comment.
 #[derive(Clone, Copy)]
 pub struct ByteLine<'a> {
     /// The number of the line among all lines, from 1.
@@ -26,7 +26,7 @@ impl<'a> ByteLine<'a> {
     }
 }
 
-/// What is left of bytes: the lines that say something, with their numbers.
+/// What is left of bytes: the lines that are neither blank nor comments, with their numbers.
 #[derive(Drop)]
 pub struct ByteLines<'a> {
     rest: &'a [u8],
@@ -56,7 +56,7 @@ impl<'a> ByteLines<'a> {
         }
     }
 
-    /// The next line that says something.
+    /// The next line that is neither blank nor a comment.
     pub fn next_line(&mut self) -> Option<ByteLine<'a>>
         ensures { MatchOption result ((self.old ≡ []) × (self.new ≡ []))
             (λ line. self.old ≡ record { number = line.number; text = line.text.now } ∷ self.new) }

@@ -3,7 +3,7 @@ ghost use Rattle.std.specs.Prelude.{◌≡◌, ◌∷◌, ◌==◌, ◌<◌, ◌
 ghost use Rattle.std.specs.List.{position_or_len};
 ghost use Rattle.sb_text.specs.Lines.{raw_lines, raw_lines_from, without_cr};
 
-// How many bytes stand before the first LF, all where there is none.
+// How many bytes stand before the first LF, all if there is none.
 fn line_len(bytes: &[u8]) -> usize
     ensures value { result ≡ position_or_len (λ b. b == 10) bytes.now }
     ensures within { result ≤ length bytes.now }
@@ -14,7 +14,7 @@ fn line_len(bytes: &[u8]) -> usize
         .unwrap_or(bytes.len())
 }
 
-// How many bytes of a line stand before the one CR at its end, all where there is none.
+// How many bytes of a line stand before the one CR at its end, all if there is none.
 fn text_len(line: &[u8]) -> usize
     ensures value { take result line.now ≡ without_cr line.now }
     ensures within { result ≤ length line.now }
@@ -34,7 +34,7 @@ pub fn after_ascii(text: &str, at: usize) -> &str
     &text[at + 1..]
 }
 
-// What follows the LF at a place of a text, nothing where the text ends there.
+// What follows the LF at a place of a text, nothing if the text ends there.
 fn after_lf(text: &str, end: usize) -> &str
     requires { end < length text.now → slice_index text.now end ≡ 10 }
     ensures { result.now ≡ drop (end + 1) text.now }
@@ -99,7 +99,7 @@ pub fn bytes_without_cr(line: &[u8]) -> &[u8]
     &line[..text_len(line)]
 }
 
-/// The number of lines of fewer than 2^32 bytes: the number of LF, and one more where bytes follow the last LF.
+/// The number of lines of fewer than 2^32 bytes: the number of LF, and one more if bytes follow the last LF.
 pub fn line_count(bytes: &[u8]) -> u32
     requires { length bytes.now < 2 ^ 32 }
     ensures { result ≡ length (raw_lines bytes.now) }

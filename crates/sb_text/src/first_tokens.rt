@@ -65,7 +65,7 @@ fn quoted<'a>(text: &'a str) -> (Token<'a>, &'a str)
     (Token::Bad, "")
 }
 
-// A quoted token, where a blank or nothing follows its second quote.
+// A quoted token, if a blank or nothing follows its second quote.
 fn closed<'a>(quoted: &'a str, rest: &'a str) -> (Token<'a>, &'a str)
     ensures token { scan (AfterQuote quoted.now) rest.now ≡ lexeme_of result.0 ∷ tokens_of result.1.now }
     ensures shorter { length result.1.now ≤ length rest.now }
@@ -90,7 +90,7 @@ fn first_token<'a>(text: &'a str) -> (Token<'a>, &'a str)
     }
 }
 
-/// The first token of a text, where there is one, and what follows it. Nothing follows one that breaks the rules.
+/// The first token of a text, if there is one, and what follows it. Nothing follows one that breaks the rules.
 pub fn cut_token<'a>(text: &'a str) -> (Option<Token<'a>>, &'a str)
     ensures { tokens_of text.now ≡ at_hand result.0 (tokens_of result.1.now) }
 {

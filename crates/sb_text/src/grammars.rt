@@ -3,8 +3,8 @@ ghost use Rattle.std.specs.Prelude.{◌≡◌};
 ghost use Rattle.sb_text.specs.Readings.{Grammar};
 ghost use Rattle.sb_text.specs.Steps.{Becomes};
 
-use crate::refusals::Refused;
 use crate::text_lines::TextLines;
+use sb_items::Refused;
 
 /// A grammar of texts whose lines are cut as `L`. It holds what its lines are read with.
 pub trait TextGrammar<L: TextLines> {
@@ -20,7 +20,7 @@ pub trait TextGrammar<L: TextLines> {
     fn version(&self, line: &L::Line) -> Option<u32>
         ensures { result ≡ (grammar self.now).version (L.numbered line.now).text };
 
-    /// What is wrong where the first line names no version, or there is no line.
+    /// What is wrong if the first line names no version, or there is no line.
     fn no_version(&self) -> Self::Kind
         ensures { result ≡ (grammar self.now).no_version };
 
@@ -28,10 +28,10 @@ pub trait TextGrammar<L: TextLines> {
     fn start(&self) -> Self::Draft
         ensures { result ≡ (grammar self.now).start };
 
-    /// What a further line of a text of this version adds to what was read so far. After an error the draft is of no more use.
+    /// What another line of a text of this version adds to what was read so far. After an error the draft is unspecified.
     ///
     /// # Errors
-    /// `Fault` exactly where something is wrong with the line, the first such from the left. `NoMemory` where there was none.
+    /// `Fault` exactly if something is wrong with the line, the first such from the left. `NoMemory` if there was none.
     fn add(
         &self,
         version: u32,

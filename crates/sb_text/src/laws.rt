@@ -3,6 +3,7 @@ ghost use Rattle.sb_text.specs.ReadingLaws.{FirstFaultsStay, LinesBeforeAreRead,
 ghost use Rattle.sb_text.specs.LineLaws.{WrittenRawLinesAreRead, RawLinesAreLines, WrittenLinesAreRead, LinesHoldNoLf, RawLinesJoin, LinesAreCounted, LinesAppend, SayingLinesAppend, NumbersAreWithin, OneCrIsDropped, OtherEndsAreKept};
 ghost use Rattle.sb_text.specs.Utf8Laws.{NotUtf8LineTells};
 ghost use Rattle.sb_text.specs.TokenLaws.{TokenIsReadBeforeBlank, BrokenTokensAreBad, WrittenTokensAreRead, TokensAreFound, BlanksAreNothing, PlainLinesHaveWords, SayingLinesHaveTokens, FirstTokenSkips, QuotedTokensAreText};
+ghost use Rattle.sb_text.specs.Strings.{StringsComeBack, QuotedStringsAreText};
 ghost use Rattle.sb_text.specs.NumberLaws.{DecimalsAreRead, HexadecimalsAreRead};
 ghost use Rattle.sb_text.specs.PlainLines.{PlainLinesAreUtf8, PlainLinesAreRead, PlainTokensAreRead, PlainWordsAreRead};
 
@@ -31,17 +32,17 @@ pub fn raw_lines_join()
     ensures { RawLinesJoin }
 {}
 
-/// There is a line for each LF, and one more where bytes follow the last LF.
+/// There is a line for each LF, and one more if bytes follow the last LF.
 pub fn lines_are_counted()
     ensures { LinesAreCounted }
 {}
 
-/// A text cut behind an LF: its lines are those of its front, and then those of the rest.
+/// A text cut after an LF: its lines are those of its front, and then those of the rest.
 pub fn lines_append()
     ensures { LinesAppend }
 {}
 
-/// The same of the lines that say something, whose numbers go on in the rest.
+/// The same of the lines that are neither blank nor comments, whose numbers go on in the rest.
 pub fn saying_lines_append()
     ensures { SayingLinesAppend }
 {}
@@ -87,7 +88,7 @@ pub fn saying_lines_have_tokens()
     ensures { SayingLinesHaveTokens }
 {}
 
-/// A line without tokens is skipped, and one with a token, also one that breaks the rules, exactly where its first byte that
+/// A line without tokens is skipped, and one with a token, also one that breaks the rules, exactly if its first byte that
 /// is no blank is `#`.
 pub fn first_token_skips()
     ensures { FirstTokenSkips }
@@ -128,7 +129,7 @@ pub fn other_ends_are_kept()
     ensures { OtherEndsAreKept }
 {}
 
-/// There is no line where bytes are not UTF-8 where all of them are; else it is one more than the
+/// There is no line where bytes are not UTF-8 if all of them are; else it is one more than the
 /// number of LF in their longest front that is.
 pub fn not_utf8_line_tells()
     ensures { NotUtf8LineTells }
@@ -141,7 +142,14 @@ pub fn first_faults_stay<D, K>()
     ensures { FirstFaultsStay D K }
 {}
 
-/// The lines before the one with the fault, where some of them have tokens, are read.
+/// A well-formed string of text units is read back from what is written of it between quotes, and what stands between quotes in
+/// a text that is UTF-8 means such a string.
+pub fn quoted_strings_are_read()
+    ensures written { StringsComeBack }
+    ensures read { QuotedStringsAreText }
+{}
+
+/// The lines before the one with the fault, if some of them have tokens, are read.
 #[tactic(auto, using(crate::proofs::ReadingLaws::lines_before))]
 pub fn lines_before_are_read<D, K>()
     ensures { LinesBeforeAreRead D K }

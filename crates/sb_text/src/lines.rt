@@ -1,4 +1,4 @@
-// The lines of a text that say something, one after another.
+// The lines of a text that are neither blank nor comments, one after another.
 ghost use Rattle.std.specs.Prelude.{◌≡◌, ◌∷◌, ◌+◌, ◌<◌, ◌≤◌, ◌^◌, [], length, MatchOption};
 ghost use Rattle.sb_text.specs.Lines.{NumberedLine, lines_of, lines_from, raw_lines};
 ghost use Rattle.sb_text.specs.Steps.{version_of};
@@ -9,7 +9,7 @@ use crate::cuts::{cut_text, text_without_cr};
 use crate::tokens::{Token, Tokens};
 use std::marker::Model;
 
-/// A line that says something.
+/// A line that is neither blank nor a comment.
 #[derive(Clone, Copy)]
 pub struct Line<'a> {
     /// The number of the line in its text, from 1.
@@ -45,7 +45,7 @@ impl<'a> Line<'a> {
     }
 }
 
-/// What is left of a text: the lines that say something, with their numbers.
+/// What is left of a text: the lines that are neither blank nor comments, with their numbers.
 #[derive(Drop)]
 pub struct Lines<'a> {
     rest: &'a str,
@@ -75,7 +75,7 @@ impl<'a> Lines<'a> {
         }
     }
 
-    /// The next line that says something.
+    /// The next line that is neither blank nor a comment.
     pub fn next_line(&mut self) -> Option<Line<'a>>
         ensures { MatchOption result ((self.old ≡ []) × (self.new ≡ []))
             (λ line. self.old ≡ record { number = line.number; text = line.text.now } ∷ self.new) }

@@ -25,14 +25,14 @@ fn digit_of(byte: u8) -> u64
     }
 }
 
-// The value of digits with one more behind them.
+// The value of digits with one more after them.
 fn with_digit(base: u64, value: u64, digit: u8) -> Option<u64>
     ensures { result ≡ below_2_64 (value * base + digit_of digit) }
 {
     value.checked_mul(base)?.checked_add(digit_of(digit))
 }
 
-// The value of digits, highest first, where it is below 2^64.
+// The value of digits, highest first, if it is below 2^64.
 #[tactic(auto, using(crate::proofs::Values::value_past))]
 fn value_of(base: u64, digits: &[u8]) -> Option<u64>
     requires { 1 ≤ base }
@@ -57,7 +57,7 @@ fn are_hexadecimal_digits(word: &[u8]) -> bool
     word.iter().all(|byte| is_hexadecimal_digit(*byte))
 }
 
-/// The value of 1 to 20 decimal digits, where it is below 2^64.
+/// The value of 1 to 20 decimal digits, if it is below 2^64.
 pub fn decimal_of(word: &[u8]) -> Option<u64>
     ensures { result ≡ decimal_of word.now }
 {
@@ -77,7 +77,7 @@ fn hexadecimal_of(word: &[u8]) -> Option<u64>
     value_of(16, word)
 }
 
-/// The value of 1 to 20 decimal digits, or of `0x` and 1 to 16 hexadecimal digits in either case, where it is below 2^64.
+/// The value of 1 to 20 decimal digits, or of `0x` and 1 to 16 hexadecimal digits in either case, if it is below 2^64.
 pub fn number_of(word: &[u8]) -> Option<u64>
     ensures { result ≡ number_of word.now }
 {

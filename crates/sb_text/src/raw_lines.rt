@@ -12,7 +12,7 @@ pub struct RawLine<'a> {
     pub number: u32,
     /// The bytes of the line without its LF.
     pub bytes: &'a [u8],
-    /// Whether an LF follows them. It does but for bytes that follow the last LF.
+    /// Whether an LF follows them. It does except for bytes that follow the last LF.
     pub is_ended: bool,
 }
 

@@ -1,13 +1,14 @@
 // Reading a text line by line, with the first fault and its line.
 ghost use Rattle.std.specs.Prelude.{◌<◌, ◌^◌, length};
 ghost use Rattle.sb_text.specs.Readings.{read_lines, read_by, read_text};
-ghost use Rattle.sb_text.specs.Steps.{Gives};
+ghost use Rattle.sb_items.specs.Refusals.{Gives};
 
 use crate::grammars::TextGrammar;
 use crate::lines::Lines;
-use crate::refusals::{LineFault, Refused};
+use crate::refusals::{LineFault, on_line};
 use crate::text_lines::TextLines;
 use crate::utf8::text_of;
+use sb_items::Refused;
 
 // What the lines below the first add.
 #[tactic(auto, using(crate::proofs::ReadingLaws::no_line, crate::proofs::ReadingLaws::added_in_turn))]
@@ -23,7 +24,7 @@ fn read_below<L: TextLines, G: TextGrammar<L>>(
     while let Some(line) = lines.next_line() {
         match grammar.add(version, &mut draft, &line) {
             Ok(()) => {}
-            Err(refused) => return Err(refused.on(L::number_of(&line))),
+            Err(refused) => return Err(on_line(refused, L::number_of(&line))),
         }
     }
     Ok(draft)
@@ -32,8 +33,8 @@ fn read_below<L: TextLines, G: TextGrammar<L>>(
 /// What the lines of a text say by a grammar, or the first fault.
 ///
 /// # Errors
-/// `Fault` exactly where the text has a fault: the first one, by lines from the top. A text without a line that says something
-/// lacks its version, on line 1. `NoMemory` where there was none for what is read.
+/// `Fault` exactly if the text has a fault: the first one, by lines from the top. A text of blank and comment lines alone
+/// lacks its version, on line 1. `NoMemory` if there was none for what is read.
 pub fn read_by<L: TextLines, G: TextGrammar<L>>(
     grammar: &G,
     lines: L,
@@ -42,18 +43,18 @@ pub fn read_by<L: TextLines, G: TextGrammar<L>>(
 {
     let mut lines = lines;
     let Some(first) = lines.next_line() else {
-        return Err(Refused::Fault(grammar.no_version()).on(1));
+        return Err(on_line(Refused::Fault(grammar.no_version()), 1));
     };
     match grammar.version(&first) {
         Some(version) => read_below(grammar, version, lines),
-        None => Err(Refused::Fault(grammar.no_version()).on(L::number_of(&first))),
+        None => Err(on_line(Refused::Fault(grammar.no_version()), L::number_of(&first))),
     }
 }
 
 /// The same of a text that has to be UTF-8, of fewer than 2^32 bytes.
 ///
 /// # Errors
-/// As `read_by`, but where the text is not UTF-8 it has the fault `not_utf8` before all others.
+/// As `read_by`, but if the text is not UTF-8 it has the fault `not_utf8` before all others.
 pub fn read_text<'a, G: TextGrammar<Lines<'a>>>(
     grammar: &G,
     not_utf8: G::Kind,
@@ -64,6 +65,6 @@ pub fn read_text<'a, G: TextGrammar<Lines<'a>>>(
 {
     match text_of(text) {
         Ok(text) => read_by(grammar, Lines::new(text)),
-        Err(fault) => Err(Refused::Fault(not_utf8).on(fault.line)),
+        Err(fault) => Err(on_line(Refused::Fault(not_utf8), fault.line)),
     }
 }

@@ -1,8 +1,8 @@
-// Why there is nothing of a text, or of one of its lines.
+// The faults of a text by their lines.
 ghost use Rattle.std.specs.Prelude.{◌≡◌};
 ghost use Rattle.sb_text.specs.Readings.{refused_on};
 
-use sb_wide::NoMemory;
+use sb_items::Refused;
 use std::fmt::Display;
 use thiserror::Error;
 
@@ -17,37 +17,12 @@ pub struct LineFault<K> {
     pub kind: K,
 }
 
-/// Why nothing was read.
-#[derive(Clone, Copy, Debug, Error)]
-#[error_bound(F: Display)]
-pub enum Refused<F> {
-    /// This fault was met, and none before it.
-    #[error("{0}")]
-    Fault(F),
-    /// There was no memory.
-    #[error("out of memory")]
-    NoMemory,
-}
-
-impl<F> From<NoMemory> for Refused<F> {
-    ghost use Rattle.std.specs.Prelude.{◌≡◌};
-    ghost use Rattle.sb_text.specs.declared.refusals.Refused.TheVariants.{NoMemory};
-
-    ghost from_gives = { λ _ refused. refused ≡ NoMemory };
-
-    fn from(_error: NoMemory) -> Refused<F> {
-        Refused::NoMemory
-    }
-}
-
-impl<K> Refused<K> {
-    /// The same of a text in which this line has a number.
-    pub fn on(self, line: u32) -> Refused<LineFault<K>>
-        ensures { result ≡ refused_on line self }
-    {
-        match self {
-            Refused::Fault(kind) => Refused::Fault(LineFault { line, kind }),
-            Refused::NoMemory => Refused::NoMemory,
-        }
+/// The refusal of a line as that of a text in which the line has this number.
+pub fn on_line<K>(refused: Refused<K>, line: u32) -> Refused<LineFault<K>>
+    ensures { result ≡ refused_on line refused }
+{
+    match refused {
+        Refused::Fault(kind) => Refused::Fault(LineFault { line, kind }),
+        Refused::NoMemory => Refused::NoMemory,
     }
 }

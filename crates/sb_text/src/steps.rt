@@ -1,11 +1,12 @@
 // Reading a line from left to right: a word, a quoted token, and the line's end, each with its faults.
 ghost use Rattle.std.specs.Prelude.{◌≡◌, true, IfOk};
 ghost use Rattle.std.specs.List.{list_all};
-ghost use Rattle.sb_text.specs.Steps.{word_at, quoted_at, end_at, or_fault, Gives, ReadsAs};
+ghost use Rattle.sb_items.specs.Refusals.{Gives};
+ghost use Rattle.sb_text.specs.Steps.{word_at, quoted_at, end_at, or_fault, ReadsAs};
 ghost use Rattle.sb_text.specs.TokenLaws.{is_quoted_byte};
 
-use crate::refusals::Refused;
 use crate::tokens::{Token, Tokens};
+use sb_items::Refused;
 
 /// A word: its bytes. `quoted` is the fault of a quoted token in its place, `bad` that of one that breaks the rules, and
 /// `missing` that of none.

@@ -1,11 +1,11 @@
-// Lines that say something, one after another, whatever they are cut from.
+// Lines that are neither blank nor comments, one after another, whatever they are cut from.
 ghost use Rattle.std.specs.Prelude.{◌≡◌, ◌∷◌, [], List, MatchOption};
 ghost use Rattle.sb_text.specs.Lines.{NumberedLine};
 
 use crate::byte_lines::{ByteLine, ByteLines};
 use crate::lines::{Line, Lines};
 
-/// The lines of a text that say something, one after another.
+/// The lines of a text that are neither blank nor comments, one after another.
 pub trait TextLines: Drop {
     /// A line.
     type Line: Drop;
@@ -14,7 +14,7 @@ pub trait TextLines: Drop {
 
     ghost numbered: { Self.Line → NumberedLine };
 
-    /// The next line that says something.
+    /// The next line that is neither blank nor a comment.
     fn next_line(&mut self) -> Option<Self::Line>
         ensures { MatchOption result ((left self.old ≡ []) × (left self.new ≡ [])) (λ line. left self.old ≡ numbered line ∷ left self.new) };
 

@@ -85,7 +85,7 @@ impl<'a> Tokens<'a> {
         }
     }
 
-    /// Passes a word where the line goes on with it, and returns whether it does.
+    /// Passes a word if the line goes on with it, and returns whether it does.
     pub fn pass_word(&mut self, expected: &[u8]) -> bool
         ensures begins { result ≡ begins_with expected.now self.old }
         ensures rest { self.new ≡ (if result then later self.old else self.old) }

@@ -3,7 +3,8 @@ ghost use Rattle.std.specs.Prelude.{◌≡◌, ◌<◌, ◌^◌, ◌+◌, ◌≤
 ghost use Rattle.sb_text.specs.Utf8.{not_utf8_line};
 ghost use Rattle.sb_text.specs.Tokens.{string_of};
 
-use sb_wide::{NoMemory, Wide, units};
+use sb_items::NoMemory;
+use sb_wide::Wide;
 use std::alloc::Global;
 use std::str;
 use thiserror::Error;
@@ -16,9 +17,9 @@ pub struct NotUtf8 {
     pub line: u32,
 }
 
-/// The text that bytes are, where all of them are UTF-8.
+/// The text that bytes are, if all of them are UTF-8.
 ///
-/// They must be fewer than 2^32. Where they are not UTF-8, the line is one more than the number of
+/// They must be fewer than 2^32. If they are not UTF-8, the line is one more than the number of
 /// LF in their longest front that is.
 pub fn text_of(bytes: &[u8]) -> Result<&str, NotUtf8>
     requires { length bytes.now < 2 ^ 32 }
@@ -46,5 +47,5 @@ fn lf_count(bytes: &[u8]) -> u32
 pub fn string_of(alloc: Global, quoted: &str) -> Result<Wide, NoMemory>
     ensures { IfOk result (λ wide. wide ≡ string_of quoted.now) }
 {
-    units(alloc, quoted)
+    Wide::from_str(alloc, quoted)
 }

@@ -4,3 +4,4 @@ pub mod Printable
 pub mod Quotes
 pub mod Padding
 pub mod Kept
+pub mod Pairs

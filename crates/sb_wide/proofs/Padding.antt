@@ -5,7 +5,7 @@ use Rattle.std.proofs.Common.{ap, arith}
 use Rattle.std.proofs.Math.ListN.{replicate}
 use Rattle.std.proofs.lemmas.List.{drop-replicate, append-nil}
 
--- zeros before the digits, where they are fewer than eight
+-- zeros before the digits, if they are fewer than eight
 pub filled_to_eight : (numeral : List ℕ) → padded_integral (format_spec 32 0 4 8 (2 ^ 64 - 1)) false [] numeral ≡ drop (length numeral) (codes "00000000") ++ numeral
 unfolding padded_integral char_count
 filled_to_eight numeral = rw (append-nil numeral, drop-replicate {X = ℕ} (length numeral) 8 48)

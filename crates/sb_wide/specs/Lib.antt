@@ -1,4 +1,5 @@
 pub mod Wide
 pub mod Names
 pub mod Quoting
+pub mod Surrogates
 pub mod Numbers

@@ -6,6 +6,6 @@ use Rattle.std.specs.Fmt.{digits}
 abbrev pub hexadecimal : ℕ → List ℕ
 hexadecimal n = digits 16 false n
 
--- the same, with zeros before them where they are fewer than eight
+-- the same, with zeros before them if they are fewer than eight
 abbrev pub eight_digits : ℕ → List ℕ
 eight_digits n = drop (length (hexadecimal n)) (codes "00000000") ++ hexadecimal n

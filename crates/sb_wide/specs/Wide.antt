@@ -1,5 +1,5 @@
 -- Wide strings: their units, and when two are the same after folding.
-use Rattle.std.specs.Prelude.{◌≡◌, ◌↔◌, IsTrue, ℕ, ◌-◌, Bool, true, ◌&&◌, nat_eq, nat_le, nat_lt, List, map, length, if◌then◌else◌, slice_index}
+use Rattle.std.specs.Prelude.{◌≡◌, ◌↔◌, IsTrue, ℕ, ◌-◌, Bool, true, not, ◌&&◌, ◌==◌, nat_eq, nat_le, nat_lt, List, map, length, if◌then◌else◌, slice_index}
 use Rattle.std.specs.List.{flat_map}
 use Rattle.std.specs.Char.Escape.{encode_utf16}
 use Rattle.std.specs.Cmp.{IsEquivalence}
@@ -8,6 +8,10 @@ use Rattle.std.specs.Cmp.Lexicographic.{pointwise}
 -- a unit is below 65,536
 abbrev pub is_unit : ℕ → Bool
 is_unit u = nat_lt u 65536
+
+-- a unit of 16 bits that is neither a control unit nor `"`
+abbrev pub is_text_unit : ℕ → Bool
+is_text_unit u = nat_le 32 u && is_unit u && not (u == 34)
 
 -- the UTF-16 units of characters
 abbrev pub utf16_of : List ℕ → List ℕ
@@ -29,7 +33,7 @@ is_same a b = pointwise nat_eq (map folded a) (map folded b)
 abbrev pub FoldsOnce : Type 0
 FoldsOnce = (u : ℕ) → folded (folded u) ≡ folded u
 
--- the test holds exactly where two wide strings are the same
+-- the test holds exactly if two wide strings are the same
 abbrev pub TestsSame : Type 0
 TestsSame = (a b : List ℕ) → IsTrue (is_same a b) ↔ IsSame a b
 

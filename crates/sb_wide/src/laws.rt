@@ -1,19 +1,20 @@
-// Laws of folding, names and quoting. None of these functions changes anything: each contract is a law.
+// Laws of folding, names, quoting and surrogate pairs. None of these functions changes anything: each contract is a law.
 ghost use Rattle.sb_wide.specs.Wide.{FoldsOnce, TestsSame, SameIsEquivalence, SameAtEachPlace, SameAsFolded};
 ghost use Rattle.sb_wide.specs.Names.{PathsAreNames, PathsHaveTheirComponents, NamesArePaths, DotsAreNoComponents};
 ghost use Rattle.sb_wide.specs.Quoting.{QuotesArePrintable, QuotesDiffer};
+ghost use Rattle.sb_wide.specs.Surrogates.{CharactersArePaired, PairedUnitsAreCharacters, WalksFindPairs};
 
 /// Folding twice is folding once.
 pub fn folds_once()
     ensures { FoldsOnce }
 {}
 
-/// `same` holds exactly where the folded lists are equal.
+/// `eq_ignore_ascii_case` holds exactly if the folded lists are equal.
 pub fn tests_same()
     ensures { TestsSame }
 {}
 
-/// `same` is reflexive, symmetric and transitive.
+/// `eq_ignore_ascii_case` is reflexive, symmetric and transitive.
 pub fn same_is_equivalence()
     ensures { SameIsEquivalence }
 {}
@@ -52,4 +53,16 @@ pub fn quotes_are_printable()
 /// Different units are quoted differently.
 pub fn quotes_differ()
     ensures { QuotesDiffer }
+{}
+
+/// A walk unit by unit finds whether units are well-formed UTF-16.
+#[tactic(auto, using(crate::proofs::Pairs::paired_after))]
+pub fn walks_find_pairs()
+    ensures { WalksFindPairs }
+{}
+
+/// The units of characters are well-formed UTF-16, and such units are those of characters.
+pub fn characters_are_paired()
+    ensures characters { CharactersArePaired }
+    ensures units { PairedUnitsAreCharacters }
 {}

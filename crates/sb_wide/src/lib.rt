@@ -1,5 +1,5 @@
-// Wide strings: lists of UTF-16 units, how they are folded and compared, which of them are names, and how they are written
-// between quotes.
+// Wide strings: lists of UTF-16 units, how they are folded and compared, which of them are names and which well-formed UTF-16,
+// and how they are written between quotes.
 #![tactic(auto)]
 
 mod laws;
@@ -7,13 +7,16 @@ mod names;
 mod numbers;
 mod quoting;
 mod strings;
+mod surrogates;
 
 pub use laws::{
-    dots_are_no_components, folds_once, names_are_paths, paths_are_names, quotes_are_printable,
-    quotes_differ, same_as_folded, same_at_each_place, same_is_equivalence, tests_same,
+    characters_are_paired, dots_are_no_components, folds_once, names_are_paths, paths_are_names,
+    quotes_are_printable, quotes_differ, same_as_folded, same_at_each_place, same_is_equivalence,
+    tests_same, walks_find_pairs,
 };
-pub use names::{fold, is_component, is_name, same};
+pub use names::{eq_ignore_ascii_case, is_component, is_name, to_ascii_uppercase};
 pub use numbers::{put_decimal, put_eight_digits, put_hexadecimal};
-pub use quoting::{quote_into, quoted_len};
+pub use quoting::quote_into;
 pub use sb_items::NoMemory;
-pub use strings::{Wide, units, wide_of};
+pub use strings::Wide;
+pub use surrogates::{is_high_surrogate, is_low_surrogate, is_well_formed_utf16};

@@ -7,7 +7,7 @@ ghost use Rattle.sb_wide.specs.Names.{is_name_of, is_component, is_ordinary, end
 /// A unit from 97 to 122, an ASCII letter `a` to `z`, as the capital letter 32 below it, and any other unit as it is.
 ///
 /// No other letter has a folding: this is not Unicode's case folding.
-pub fn fold(unit: u16) -> u16
+pub fn to_ascii_uppercase(unit: u16) -> u16
     ensures { result ≡ folded unit }
 {
     match unit {
@@ -17,10 +17,13 @@ pub fn fold(unit: u16) -> u16
 }
 
 /// Whether two lists of units are equal after folding each unit.
-pub fn same(a: &[u16], b: &[u16]) -> bool
+pub fn eq_ignore_ascii_case(a: &[u16], b: &[u16]) -> bool
     ensures { result ≡ is_same a.now b.now }
 {
-    a.len() == b.len() && a.iter().zip(b).all(|(x, y)| fold(*x) == fold(*y))
+    a.len() == b.len()
+        && a.iter()
+            .zip(b)
+            .all(|(x, y)| to_ascii_uppercase(*x) == to_ascii_uppercase(*y))
 }
 
 const BACKSLASH: u16 = 92;

@@ -9,7 +9,7 @@ use std::io::Write;
 /// Appends a number in decimal.
 ///
 /// # Errors
-/// `NoMemory` where there was none for the digits.
+/// `NoMemory` if there was none for the digits.
 pub fn put_decimal(out: &mut Vec<u8>, number: u64) -> Result<(), NoMemory>
     ensures { OnOk result (out.new.items ≡ out.old.items ++ decimal number) }
 {
@@ -21,7 +21,7 @@ pub fn put_decimal(out: &mut Vec<u8>, number: u64) -> Result<(), NoMemory>
 /// Appends a number in lower-case hexadecimal digits, without zeros before them.
 ///
 /// # Errors
-/// `NoMemory` where there was none for the digits.
+/// `NoMemory` if there was none for the digits.
 pub fn put_hexadecimal(out: &mut Vec<u8>, number: u64) -> Result<(), NoMemory>
     ensures { OnOk result (out.new.items ≡ out.old.items ++ hexadecimal number) }
 {
@@ -34,7 +34,7 @@ pub fn put_hexadecimal(out: &mut Vec<u8>, number: u64) -> Result<(), NoMemory>
 /// Appends a number in lower-case hexadecimal, of at least eight digits.
 ///
 /// # Errors
-/// `NoMemory` where there was none for the digits.
+/// `NoMemory` if there was none for the digits.
 #[tactic(auto, using(crate::proofs::Padding::filled_to_eight))]
 pub fn put_eight_digits(out: &mut Vec<u8>, number: u64) -> Result<(), NoMemory>
     ensures { OnOk result (out.new.items ≡ out.old.items ++ eight_digits number) }

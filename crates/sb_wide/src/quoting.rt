@@ -1,32 +1,9 @@
 // How units are written between quotes.
-ghost use Rattle.std.specs.Prelude.{◌≡◌, ◌^◌, ◌<◌, ◌++◌, ◌≤◌, length, take, vec_len, OnOk, OnErr};
+ghost use Rattle.std.specs.Prelude.{◌≡◌, ◌<◌, ◌++◌, take, vec_len, OnOk, OnErr};
 ghost use Rattle.std.specs.List.{flat_map};
 ghost use Rattle.sb_wide.specs.Quoting.{quoted, quoted_unit, hex_digit};
 
 use sb_items::NoMemory;
-
-/// How many bytes `quote_into` appends for these units, of which there are fewer than 2^60.
-pub fn quoted_len(units: &[u16]) -> u64
-    requires { length units.now < 2 ^ 60 }
-    ensures { result ≡ length (quoted units.now) }
-{
-    let mut len = 2;
-    for unit in units {
-        len += unit_len(*unit);
-    }
-    len
-}
-
-fn unit_len(unit: u16) -> u64
-    ensures len { result ≡ length (quoted_unit unit) }
-    ensures small { result ≤ 6 }
-{
-    match unit {
-        34 | 92 => 2,
-        32..=126 => 1,
-        _ => 6,
-    }
-}
 
 fn hex_digit(digit: u16) -> u8
     requires { digit < 16 }
@@ -43,7 +20,7 @@ fn hex_digit(digit: u16) -> u8
 /// other unit is `\u` and four lower-case hexadecimal digits.
 ///
 /// # Errors
-/// `NoMemory` where there was none for the bytes. Then `out` is as it was.
+/// `NoMemory` if there was none for the bytes. Then `out` is as it was.
 pub fn quote_into(out: &mut Vec<u8>, units: &[u16]) -> Result<(), NoMemory>
     ensures ok { OnOk result (out.new.items ≡ out.old.items ++ quoted units.now) }
     ensures err { OnErr result (out.new.items ≡ out.old.items) }

@@ -3,16 +3,15 @@ ghost use Rattle.std.specs.Prelude.{◌≡◌, IfOk, length};
 ghost use Rattle.std.specs.Str.{chars};
 ghost use Rattle.sb_wide.specs.Wide.{utf16_of};
 
-use sb_items::{Copies, Exact, NoMemory};
-use std::alloc::Global;
+use sb_items::NoMemory;
+use std::alloc::{AllocError, Global};
 use std::marker::Model;
 
-/// A list of UTF-16 units. A surrogate may stand alone.
+/// A list of UTF-16 units. They need not be well-formed UTF-16.
 pub struct Wide {
     units: Vec<u16>,
 }
 
-// By hand, so that it is proved here once and not at each place that drops one.
 impl Drop for Wide {
     fn drop(self) {
         let Wide { units: _ } = self;
@@ -28,14 +27,14 @@ impl Model for Wide {
 }
 
 impl Wide {
-    /// The wide string of these units. It takes no memory.
+    /// The wide string of these units. Does not allocate.
     pub fn new(units: Vec<u16>) -> Wide
         ensures { result ≡ units.items }
     {
         Wide { units }
     }
 
-    /// The units, given back. It takes no memory.
+    /// The units, given back. Does not allocate.
     pub fn into_units(self) -> Vec<u16>
         ensures { result.items ≡ self }
     {
@@ -56,11 +55,41 @@ impl Wide {
     {
         self.units.len()
     }
+
+    /// The UTF-16 units of a text: one for each character below 65,536, and a pair of surrogates for each other.
+    ///
+    /// # Errors
+    /// `NoMemory` if there was none for the units.
+    pub fn from_str(alloc: Global, text: &str) -> Result<Wide, NoMemory>
+        ensures { IfOk result (λ w. w ≡ utf16_of (chars text.now)) }
+    {
+        let mut units = Vec::new(alloc);
+        for character in text.chars() {
+            let mut pair = [0; 2];
+            units.extend_from_slice(character.encode_utf16(&mut pair))?;
+        }
+        Ok(Wide { units })
+    }
+
+    /// The wide string of a copy of these units.
+    ///
+    /// # Errors
+    /// `NoMemory` if there was none for the copy.
+    pub fn from_units(alloc: Global, units: &[u16]) -> Result<Wide, NoMemory>
+        ensures { IfOk result (λ w. w ≡ units.now) }
+    {
+        let units = Vec::from_slice(alloc, units)?;
+        Ok(Wide { units })
+    }
 }
 
-impl Copies for Wide {
-    fn copy(&self, alloc: Global) -> Result<Wide, NoMemory> {
-        wide_of(alloc, &self.units)
+impl Clone for Wide {
+    ghost is_clone = { λ text clone. clone ≡ text };
+
+    fn clone(&self) -> Result<Wide, AllocError> {
+        Ok(Wide {
+            units: Vec::from_slice(*self.units.allocator(), &self.units)?,
+        })
     }
 }
 
@@ -77,36 +106,4 @@ impl PartialEq for Wide {
     fn eq(&self, other: &Wide) -> bool {
         self.units == other.units
     }
-}
-
-impl Exact for Wide {
-    ghost use Rattle.std.specs.Cmp.Lexicographic.{bytes_decides};
-
-    ghost decides = { bytes_decides };
-}
-
-/// The UTF-16 units of a text: one for each character below 65,536, and a pair of surrogates for each other.
-///
-/// # Errors
-/// `NoMemory` where there was none for the units.
-pub fn units(alloc: Global, text: &str) -> Result<Wide, NoMemory>
-    ensures { IfOk result (λ w. w ≡ utf16_of (chars text.now)) }
-{
-    let mut units = Vec::new(alloc);
-    for character in text.chars() {
-        let mut pair = [0; 2];
-        units.extend_from_slice(character.encode_utf16(&mut pair))?;
-    }
-    Ok(Wide { units })
-}
-
-/// The wide string of a copy of these units.
-///
-/// # Errors
-/// `NoMemory` where there was none for the copy.
-pub fn wide_of(alloc: Global, units: &[u16]) -> Result<Wide, NoMemory>
-    ensures { IfOk result (λ w. w ≡ units.now) }
-{
-    let units = Vec::from_slice(alloc, units)?;
-    Ok(Wide { units })
 }

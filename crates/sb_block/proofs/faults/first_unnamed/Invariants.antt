@@ -5,9 +5,9 @@ use Rattle.sb_block.proofs.faults.first_unnamed.Given as goal
 
 abbrev pub invariant-loop-kind : goal.invariant-loop-kind
 invariant-loop-kind l =
-    (option_map (λ n. n + l.at) (first_unnamed l.kinds l.informations l.words)
-    ≡ first_unnamed l.initial.kinds l.initial.informations l.words)
-    × (l.at + length l.informations ≤ 9)
+    (option_map (λ n. n + l.at) (first_unnamed l.kinds l.descriptors l.words)
+    ≡ first_unnamed l.initial.kinds l.initial.descriptors l.words)
+    × (l.at + length l.descriptors ≤ 9)
 
 abbrev pub decreases-loop-kind : goal.decreases-loop-kind
 decreases-loop-kind l = length l.kinds

@@ -1,9 +1,0 @@
-use Rattle.sb_ruleprint.proofs.QuotedStrings.{quoted_is_text}
-use Rattle.sb_ruleprint.proofs.WrittenStrings.{string_back}
-use Rattle.sb_ruleprint.proofs.laws.quoted_strings_are_read.Goals as goal
-
-pub returns-clause-written : goal.returns-clause-written
-returns-clause-written c = string_back
-
-pub returns-clause-read : goal.returns-clause-read
-returns-clause-read c = quoted_is_text

@@ -1,0 +1,23 @@
+-- Strings as they stand between quotes: what is written of one, and what it means.
+use Rattle.std.specs.Prelude.{◌≡◌, ℕ, true, List}
+use Rattle.std.specs.List.{list_all}
+use Rattle.std.specs.Str.{IsUtf8}
+use Rattle.sb_wide.specs.Wide.{is_text_unit}
+use Rattle.sb_wide.specs.Surrogates.{is_paired}
+use Rattle.sb_text.specs.Tokens.{utf8_of, string_of}
+use Rattle.sb_text.specs.TokenLaws.{is_quoted_byte}
+
+-- a string comes back, and what is written of it is UTF-8 and can stand between quotes
+pub record ComesBack (units : List ℕ) : Type 0 where
+  pub string : string_of (utf8_of units) ≡ units
+  pub utf8 : IsUtf8 (utf8_of units)
+  pub quoted : list_all is_quoted_byte (utf8_of units) ≡ true
+
+-- so does each text without a surrogate alone
+abbrev pub StringsComeBack : Type 0
+StringsComeBack = (units : List ℕ) → list_all is_text_unit units ≡ true → is_paired units ≡ true → ComesBack units
+
+-- what stands between quotes, and is UTF-8, means such a text
+abbrev pub QuotedStringsAreText : Type 0
+QuotedStringsAreText = (quoted : List ℕ) → IsUtf8 quoted → list_all is_quoted_byte quoted ≡ true
+    → (list_all is_text_unit (string_of quoted) ≡ true) × (is_paired (string_of quoted) ≡ true)
