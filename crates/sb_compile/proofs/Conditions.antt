@@ -1,4 +1,4 @@
--- The group of a condition holds where the condition does.
+-- The group of a condition holds if the condition does.
 use Rattle.std.specs.Prelude.{nat_lt, Option, None, Some, option_map, option_and_then, is_some, nat_le, bit_and, bit_or}
 use Rattle.std.specs.Bool.{beq}
 use Rattle.std.specs.List.{list_any}
@@ -15,7 +15,8 @@ use Rattle.sb_call.specs.declared.tags.ParamKind.TheVariants as kind
 use Rattle.sb_pattern.specs.declared.cells.Cell.{Cell}
 use Rattle.sb_pattern.specs.declared.cells.Cell.TheVariants.{Lit}
 use Rattle.sb_rule.specs.Verdicts.{test_holds, cond_holds}
-use Rattle.sb_rule.specs.WellMade.{is_number_kind, is_number_test, is_sensible, is_well_formed}
+use Rattle.sb_call.specs.Parameters.{is_number_kind}
+use Rattle.sb_rule.specs.WellMade.{is_number_test, is_sensible, is_well_formed}
 use Rattle.sb_rule.specs.declared.conditions.Cond.{Cond}
 use Rattle.sb_rule.specs.declared.conditions.Test.{Test}
 use Rattle.sb_rule.specs.declared.conditions.Test.TheVariants as test
@@ -25,7 +26,7 @@ use Rattle.sb_opcode.specs.Opcodes.{Opcode}
 use Rattle.sb_opcode.specs.Opcodes as op
 use Rattle.sb_opcode.specs.declared.opcodes.Seek.TheVariants.{Skip}
 use Rattle.sb_opcode.specs.Fragments.{after_fragment, at_end}
-use Rattle.sb_opcode.specs.Meaning.{one_holds, all_hold, after_opcode, after_all, turned, group_holds}
+use Rattle.sb_opcode.specs.Meaning.{one_holds, all_hold, after_opcode, after_all, negate_if, group_holds}
 use Rattle.sb_compile.specs.Compiling.{opcode, here, closed, cond_code, test_code, first_code, later_code, or_true, runs_code}
 use Rattle.sb_compile.proofs.Ends.{are_plain, group_closed}
 use Rattle.sb_compile.proofs.Members.{is_member, are_members, member, members_plain, star_members, here_members, is_placed, is_placed_well}
@@ -36,7 +37,7 @@ abbrev pub is_number : Arg → Bool
 is_number (arg.Num n) = true
 is_number (arg.Str us) = false
 
--- an argument of numbers where the kind of its parameter is one of numbers
+-- an argument of numbers if the kind of its parameter is one of numbers
 abbrev pub fits_test : Test → Arg → Bool
 fits_test test arg = cond (is_number_test test) (is_number arg) (not (is_number arg))
 
@@ -68,7 +69,7 @@ any_number param (n ∷ ns) value = λ i. (left_one (eqb value n) (arg.Num value
 abbrev pub test_left : ℕ → Test → Arg → Option Arg
 test_left param test arg = after_all (test_code param test) arg
 
--- the opcodes of a test hold where the test does
+-- the opcodes of a test hold if the test does
 numbers_hold : (param n m : ℕ) (ns : List ℕ) (a : Arg) → is_number a ≡ true
     → list_any (λ op. is_some (after_opcode op a)) (test_code param (test.OneOf (n ∷ m ∷ ns))) ≡ test_holds (test.OneOf (n ∷ m ∷ ns)) a
 numbers_hold param n m ns (arg.Num value) h = any_number param (n ∷ m ∷ ns) value
@@ -100,55 +101,55 @@ choices_plain : (param : ℕ) (ns : List ℕ) → are_plain (map (λ k. opcode p
 choices_plain param [] = refl
 choices_plain param (n ∷ ns) = choices_plain param ns
 
--- opcodes without OR hold where nothing stops them
+-- opcodes without OR hold if nothing stops them
 members_mean : (negated : Bool) (args : List Arg) (tag : CallTag) (param : ℕ) (op : Opcode) (ops : List Opcode) → are_members tag param false (op ∷ ops) ≡ true
-    → group_holds args (closed negated (op ∷ ops)) ≡ turned negated (is_some (after_all (op ∷ ops) (arg_at args param)))
+    → group_holds args (closed negated (op ∷ ops)) ≡ negate_if negated (is_some (after_all (op ∷ ops) (arg_at args param)))
 members_mean negated args tag param op ops h =
     let m = member tag param false op (and_parts (is_member tag param false op) (are_members tag param false ops) h).0 in
     group_closed negated args op ops (members_plain tag param false (op ∷ ops) h)
-    ∙ (λ i. turned negated (cond (m.choice_is i) (one_holds (op ∷ ops) (arg_at args (m.param_is i))) (all_hold (op ∷ ops) (arg_at args (m.param_is i)))))
+    ∙ (λ i. negate_if negated (cond (m.choice_is i) (one_holds (op ∷ ops) (arg_at args (m.param_is i))) (all_hold (op ∷ ops) (arg_at args (m.param_is i)))))
 
 true_holds : (a : Arg) → all_hold (opcode 0 0 op.True ∷ []) a ≡ true
 true_holds (arg.Num n) = refl
 true_holds (arg.Str us) = refl
 
 or_true_mean : (negated : Bool) (args : List Arg) (tag : CallTag) (param : ℕ) (ops : List Opcode) → are_members tag param false ops ≡ true
-    → group_holds args (closed negated (or_true ops)) ≡ turned negated (is_some (after_all (or_true ops) (arg_at args param)))
+    → group_holds args (closed negated (or_true ops)) ≡ negate_if negated (is_some (after_all (or_true ops) (arg_at args param)))
 or_true_mean negated args tag param [] h =
     group_closed negated args (opcode 0 0 op.True) [] refl
-    ∙ ap (turned negated) (true_holds (arg_at args 0) ∙ sym (true_holds (arg_at args param)))
+    ∙ ap (negate_if negated) (true_holds (arg_at args 0) ∙ sym (true_holds (arg_at args param)))
 or_true_mean negated args tag param (op ∷ ops) h = members_mean negated args tag param op ops h
 
 runs_mean : (negated : Bool) (args : List Arg) (tag : CallTag) (param : ℕ) (run : List Cell) (runs : List (List Cell)) → is_string_at tag param ≡ true
     → group_holds args (closed negated (runs_code param (run ∷ runs)))
-    ≡ turned negated (is_some (after_all (runs_code param (run ∷ runs)) (arg_at args param)))
+    ≡ negate_if negated (is_some (after_all (runs_code param (run ∷ runs)) (arg_at args param)))
 runs_mean negated args tag param run [] h = members_mean negated args tag param (here param (bit_or FOLD EXACT) run) [] (here_members tag param run h)
 runs_mean negated args tag param run (next ∷ runs) h =
     or_true_mean negated args tag param (first_code param run ++ later_code param (next ∷ runs)) (star_members tag param run next runs h)
 
 -- the group of a test
 test_means : (negated : Bool) (args : List Arg) (tag : CallTag) (param : ℕ) (test : Test) → is_placed tag param test ≡ true → is_sensible test ≡ true
-    → fits_test test (arg_at args param) ≡ true → group_holds args (closed negated (test_code param test)) ≡ turned negated (test_holds test (arg_at args param))
+    → fits_test test (arg_at args param) ≡ true → group_holds args (closed negated (test_code param test)) ≡ negate_if negated (test_holds test (arg_at args param))
 test_means negated args tag param (test.OneOf []) p s h = absurd (false≢true s)
 test_means negated args tag param (test.OneOf (n ∷ [])) p s h =
-    group_closed negated args (opcode param 0 (op.Num n)) [] refl ∙ ap (turned negated) (number_holds param n (arg_at args param) h)
+    group_closed negated args (opcode param 0 (op.Num n)) [] refl ∙ ap (negate_if negated) (number_holds param n (arg_at args param) h)
 test_means negated args tag param (test.OneOf (n ∷ m ∷ ns)) p s h =
     group_closed negated args (opcode param OR (op.Num n)) (map (λ k. opcode param OR (op.Num k)) (m ∷ ns)) (choices_plain param (n ∷ m ∷ ns))
-    ∙ ap (turned negated) (numbers_hold param n m ns (arg_at args param) h)
+    ∙ ap (negate_if negated) (numbers_hold param n m ns (arg_at args param) h)
 test_means negated args tag param (test.Range lo hi) p s h =
-    group_closed negated args (opcode param 0 (op.Range lo hi)) [] refl ∙ ap (turned negated) (range_holds param lo hi (arg_at args param) h)
+    group_closed negated args (opcode param 0 (op.Range lo hi)) [] refl ∙ ap (negate_if negated) (range_holds param lo hi (arg_at args param) h)
 test_means negated args tag param (test.Mask mask) p s h =
-    group_closed negated args (opcode param 0 (op.Mask mask)) [] refl ∙ ap (turned negated) (mask_holds param mask (arg_at args param) h)
+    group_closed negated args (opcode param 0 (op.Mask mask)) [] refl ∙ ap (negate_if negated) (mask_holds param mask (arg_at args param) h)
 test_means negated args tag param (test.Equal text) p s h =
     group_closed negated args (opcode param (bit_or FOLD EXACT) (op.Text (map Lit text) (Skip 0))) [] refl
-    ∙ ap (turned negated) (equal_holds param text (arg_at args param) h)
+    ∙ ap (negate_if negated) (equal_holds param text (arg_at args param) h)
 test_means negated args tag param (test.Like cells) p s h =
     let r = runs_of cells in
     let arg = arg_at args param in
     ap (λ runs. group_holds args (closed negated (runs_code param runs))) r.are
     ∙ runs_mean negated args tag param r.first r.others p
-    ∙ ap (λ runs. turned negated (is_some (after_all (runs_code param runs) arg))) (sym r.are)
-    ∙ ap (turned negated) (like_holds param cells arg h)
+    ∙ ap (λ runs. negate_if negated (is_some (after_all (runs_code param runs) arg))) (sym r.are)
+    ∙ ap (negate_if negated) (like_holds param cells arg h)
 
 -- an argument that fits is of the kind of its parameter
 kind_fits : (k : ParamKind) (a : Arg) (numeric : Bool) → fits_kind k a ≡ true → beq numeric (is_number_kind k) ≡ true → cond numeric (is_number a) (not (is_number a)) ≡ true
@@ -165,10 +166,10 @@ kind_fits kind.Handle (arg.Num n) true f b = refl
 kind_fits kind.Handle (arg.Num n) false f b = absurd (false≢true b)
 kind_fits kind.Handle (arg.Str us) numeric f b = absurd (false≢true f)
 
-turn : (negated holds : Bool) → turned negated holds ≡ cond negated (not holds) holds
+turn : (negated holds : Bool) → negate_if negated holds ≡ cond negated (not holds) holds
 turn negated holds = refl
 
--- the group of a well-formed condition holds where the condition does
+-- the group of a well-formed condition holds if the condition does
 pub cond_means : (kinds : FittingArgsAreOfTheirKinds) (tag : CallTag) (args : List Arg) (c : Cond) → fits tag args ≡ true → is_well_formed tag c ≡ true
     → group_holds args (cond_code c) ≡ cond_holds c args
 cond_means kinds tag args c f w =

@@ -12,7 +12,7 @@ use Rattle.sb_opcode.specs.Opcodes.{OpKind}
 use Rattle.sb_opcode.specs.Opcodes as op
 use Rattle.sb_opcode.specs.declared.options.Options.{Options}
 use Rattle.sb_opcode.specs.Fragments.{after_seek, at_end}
-use Rattle.sb_opcode.specs.Meaning.{units_left, after_opcode, after_all, all_hold, one_holds, is_negated, turned, group_holds}
+use Rattle.sb_opcode.specs.Meaning.{units_left, after_opcode, after_all, all_hold, one_holds, is_negated, negate_if, group_holds}
 use Rattle.sb_compile.specs.Compiling.{closed, end_bits, with_options}
 
 -- the options of opcodes that do not end a group
@@ -110,13 +110,13 @@ abbrev pub plain_holds : List Arg → Opcode → List Opcode → Bool
 plain_holds args op ops = cond (has op.options OR) (one_holds (op ∷ ops) (arg_at args op.param)) (all_hold (op ∷ ops) (arg_at args op.param))
 
 pub group_closed : (negated : Bool) (args : List Arg) (op : Opcode) (ops : List Opcode) → are_plain (op ∷ ops) ≡ true
-    → group_holds args (closed negated (op ∷ ops)) ≡ turned negated (plain_holds args op ops)
+    → group_holds args (closed negated (op ∷ ops)) ≡ negate_if negated (plain_holds args op ops)
 group_closed negated args op [] h =
     let arg = arg_at args op.param in
-    λ i. turned (closed_negated negated op [] h i)
+    λ i. negate_if (closed_negated negated op [] h i)
     (cond ((kept negated op.options.0 (and_parts (is_plain op) true h).0).choice_kept i) (closed_one negated (op ∷ []) arg h i)
     (is_some (closed_after negated (op ∷ []) arg h i)))
 group_closed negated args op (next ∷ ops) h =
     let arg = arg_at args op.param in
-    λ i. turned (closed_negated negated op (next ∷ ops) h i)
+    λ i. negate_if (closed_negated negated op (next ∷ ops) h i)
     (cond (has op.options OR) (closed_one negated (op ∷ next ∷ ops) arg h i) (is_some (closed_after negated (op ∷ next ∷ ops) arg h i)))

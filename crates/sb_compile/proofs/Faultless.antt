@@ -54,7 +54,7 @@ or_parts : (a b : Bool) → (a || b) ≡ false → (a ≡ false) × (b ≡ false
 or_parts true b h = absurd (false≢true (sym h))
 or_parts false b h = (refl, h)
 
--- the last opcode of a group has options that fit, where it had such before
+-- the last opcode of a group has options that fit, if it had such before
 end_fits : (negated : Bool) (op : Opcode) → is_plain op ≡ true → is_act op ≡ false → is_unfit op ≡ false → is_unfit (with_options (end_bits negated) op) ≡ false
 end_fits negated op plain no_act fit =
     let k = kept negated op.options.0 plain in

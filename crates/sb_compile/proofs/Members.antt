@@ -11,7 +11,8 @@ use Rattle.sb_call.specs.Tags.{shape_of}
 use Rattle.sb_call.specs.declared.tags.CallTag.{CallTag}
 use Rattle.sb_pattern.specs.declared.cells.Cell.{Cell}
 use Rattle.sb_pattern.specs.declared.cells.Cell.TheVariants.{Lit}
-use Rattle.sb_rule.specs.WellMade.{is_number_kind, is_number_test, is_sensible, is_well_formed}
+use Rattle.sb_call.specs.Parameters.{is_number_kind}
+use Rattle.sb_rule.specs.WellMade.{is_number_test, is_sensible, is_well_formed}
 use Rattle.sb_rule.specs.declared.conditions.Cond.{Cond}
 use Rattle.sb_rule.specs.declared.conditions.Test.{Test}
 use Rattle.sb_rule.specs.declared.conditions.Test.TheVariants as test

@@ -1,4 +1,4 @@
--- The opcodes of a pattern hold where the pattern matches.
+-- The opcodes of a pattern hold if the pattern matches.
 use Rattle.std.specs.Prelude.{Option, None, Some, option_map, option_and_then, is_some}
 use Rattle.std.specs.List.{slice_split, onto_first, list_all}
 use Rattle.std.proofs.Common.{◌≡◌, ◌∙◌, ℕ, Bool, true, false, not, List, [], ◌∷◌, ◌++◌, ◌&&◌, refl, ap, sym}
@@ -97,7 +97,7 @@ runs_hold param run [] us free others =
 runs_hold param run (next ∷ runs) us free others =
     true_alone (first_code param run ++ later_code param (next ∷ runs)) us ∙ first_holds param run next runs us free others
 
--- the opcodes of a pattern hold, one after the other, where it matches
+-- the opcodes of a pattern hold, one after the other, if it matches
 pub pattern_holds : PatternOpcodesHoldWhereItMatches
 pattern_holds param cells us =
     let r = runs_of cells in

@@ -1,4 +1,4 @@
--- The first place where a fragment stands can be taken without loss where a `*` follows it.
+-- The first place where a fragment stands can be taken without loss if a `*` follows it.
 use Rattle.std.specs.Prelude.{Option, None, Some, option_and_then, is_some}
 use Rattle.std.specs.List.{list_all, prefix_len}
 use Rattle.std.specs.Option.{option_or}
@@ -28,7 +28,7 @@ if_fits : (b : Bool) {m : Bool} (test : List ℕ → Bool) (left : Option (List 
 if_fits true test left e = e
 if_fits false test left e = refl
 
--- cells without `*` match where they stand as a fragment, and the cells after them match what is left
+-- cells without `*` match if they stand as a fragment, and the cells after them match what is left
 pub free_first : (run later : List Cell) (us : List ℕ) → is_free run ≡ true
     → matches (run ++ later) us ≡ holds_of (matches later) (after_fragment true run us)
 free_first [] later us free = refl
@@ -38,7 +38,7 @@ free_first (One ∷ run) later [] free = refl
 free_first (One ∷ run) later (u ∷ us) free = free_first run later us free
 free_first (Lit w ∷ run) later (u ∷ us) free = if_fits (eqb (folded u) (folded w)) (matches later) (after_fragment true run us) (free_first run later us free)
 
--- a test that holds of a longer string where it holds of its rest
+-- a test that holds of a longer string if it holds of its rest
 abbrev Grows : (List ℕ → Bool) → Type 0
 Grows test = (u : ℕ) (us : List ℕ) → test us ≡ true → test (u ∷ us) ≡ true
 
@@ -72,7 +72,7 @@ grows_by test more zero u us h = more u us h
 grows_by test more (suc n) u [] h = ap test (drop-nil n) ∙ h
 grows_by test more (suc n) u (v ∷ us) h = grows_by test more n v us h
 
--- where the rest after the first place of a fragment passes, what follows this many units passes
+-- if the rest after the first place of a fragment passes, what follows this many units passes
 first_passes : (test : List ℕ → Bool) → Grows test → (run : List Cell) (us : List ℕ)
     → holds_of test (after_first true run us) ≡ true → test (drop (length run) us) ≡ true
 first_passes test more run [] h = one_passes (after_fragment true run []) (fragment_rest run []) h
@@ -136,7 +136,7 @@ skip_free (One ∷ run) (u ∷ us) =
     ap (λ n. after_seek (Skip n) true (drop n (One ∷ run)) (u ∷ us)) (one_more run)
     ∙ ap (option_and_then (after_fragment true (drop (prefix_len is_one run) run))) (units_step (prefix_len is_one run) u us) ∙ skip_free run us
 
--- cells without `*` alone match where the string ends with them
+-- cells without `*` alone match if the string ends with them
 pub free_alone : (run : List Cell) (us : List ℕ) → is_free run ≡ true → matches run us ≡ is_some (at_end (after_fragment true run us))
 free_alone [] [] free = refl
 free_alone [] (u ∷ us) free = refl
@@ -167,7 +167,7 @@ always_or : (b : Bool) → (b || false) ≡ b
 always_or true = refl
 always_or false = refl
 
--- and where they are as many as the units and stand in front
+-- and if they are as many as the units and stand in front
 pub free_whole : (run : List Cell) (us : List ℕ) → is_free run ≡ true → matches run us ≡ (eqb (length run) (length us) && is_some (after_fragment true run us))
 free_whole [] [] free = refl
 free_whole [] (u ∷ us) free = ap (λ b. b && true) (sym (uneven (length us)))
@@ -202,7 +202,7 @@ end_step run u us false true true l s h =
 end_step run u us false false true l s h = absurd (grind (arith, nat_tests))
 end_step run u us false false false l s h = refl
 
--- a fragment after a `*`, with nothing behind it, stands at the end
+-- a fragment after a `*`, with nothing after it, stands at the end
 pub at_the_end : (run : List Cell) (us : List ℕ) → is_free run ≡ true → matches (Any ∷ run) us ≡ is_some (after_end true run us)
 at_the_end run [] free =
     free_whole run [] free ∙ none_step (eqb (length run) 0) (leb (length run) 0) refl refl
@@ -222,7 +222,7 @@ pub star_matches_all : (us : List ℕ) → matches (Any ∷ []) us ≡ true
 star_matches_all [] = refl
 star_matches_all (u ∷ us) = star_matches_all us
 
--- a string is the same as another where it ends with the other's units
+-- a string is the same as another if it ends with the other's units
 pub same_alone : (text us : List ℕ) → is_same us text ≡ is_some (at_end (after_fragment true (map Lit text) us))
 same_alone [] [] = refl
 same_alone [] (u ∷ us) = refl

@@ -20,7 +20,7 @@ use Rattle.sb_compile.specs.Steps.{last_if, is_none}
 use Rattle.sb_compile.proofs.Members.{both, is_placed_well}
 use Rattle.sb_compile.proofs.Runs.{runs_of}
 
--- an opcode is the last where no others follow
+-- an opcode is the last if no others follow
 pub closed_step : (negated : Bool) (op : Opcode) (ops : List Opcode) → closed negated (op ∷ ops) ≡ last_if (is_none ops) negated op ∷ closed negated ops
 closed_step negated op [] = refl
 closed_step negated op (next ∷ ops) = refl
@@ -38,7 +38,7 @@ onto_later param c cells = let r = runs_of cells in ap (λ runs. is_none (later_
     by run [] = refl
     by run (next ∷ runs) = refl
 
--- there are opcodes for what follows a `*` exactly where something follows
+-- there are opcodes for what follows a `*` exactly if something follows
 later_none : (param : ℕ) (cells : List Cell) → is_none (later_code param (slice_split is_any cells)) ≡ is_none cells
 later_none param [] = refl
 later_none param (Any ∷ cells) = let r = runs_of cells in ap (λ runs. is_none (later_code param ([] ∷ runs))) r.are
@@ -105,7 +105,7 @@ star_pushed negated param later some =
     or_true_none [] h = absurd (false≢true (sym h))
     or_true_none (op ∷ ops) h = refl
 
--- the code of a rule is pushed where it is for the call
+-- the code of a rule is pushed if it is for the call
 pub rule_pushed : (tag : CallTag) (rule : Rule) (later : List Rule) (rest : List Rule) (before middle whole : List Opcode) → eqb (number_of rule.tag) (number_of tag) ≡ true
     → rest ≡ rule ∷ later → middle ≡ before ++ rule_code rule → before ++ code_of rest tag ≡ whole → middle ++ code_of later tag ≡ whole
 rule_pushed tag rule later rest before middle whole mine cut pushed e =

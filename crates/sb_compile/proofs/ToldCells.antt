@@ -38,7 +38,7 @@ not_one : (b : Bool) (u : ℕ) (rest : List ℕ) → eqb u 63 ≡ b → eqb (get
 not_one true u rest e = refl
 not_one false u rest e = e
 
--- a text begins with `?` where its cells do
+-- a text begins with `?` if its cells do
 begins_alike : (cells : List Cell) → is_fragment cells ≡ true → eqb (get_or (text_of cells) 0 0) 63 ≡ begins_with_one cells
 begins_alike [] h = refl
 begins_alike (One ∷ cells) h = refl

@@ -20,7 +20,7 @@ use Rattle.sb_compile.proofs.Splits.{apart, clash, same_head, cancel, is_letter,
 use Rattle.sb_compile.proofs.ToldOpcodes.{line_parts, same_opcode}
 use Rattle.sb_compile.proofs.ToldOptions.{options_end}
 
--- texts are cut in one way behind their first line
+-- texts are cut in one way after their first line
 split_line : (a b r s : List ℕ) → is_one_line a ≡ true → is_one_line b ≡ true → a ++ r ≡ b ++ s → (a ≡ b) × (r ≡ s)
 split_line [] b r s ha hb e = absurd (false≢true ha)
 split_line (x ∷ xs) [] r s ha hb e = absurd (false≢true hb)
@@ -112,7 +112,7 @@ split_code quotes at (a ∷ xs) (b ∷ bs) r s ha hb hr hs e =
     let later = split_code quotes (at + 1) xs bs r s p.1 q.1 hr hs (ap (drop 1) e) in
     ((λ i. first i ∷ later.0 i), later.1)
 
--- the number of a call that was read, and 0 where none was
+-- the number of a call that was read, and 0 if none was
 abbrev number_in : Option CallTag → ℕ
 number_in None = 0
 number_in (Some tag) = number_of tag

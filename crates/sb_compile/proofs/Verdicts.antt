@@ -31,7 +31,7 @@ conds_mean kinds tag args (c ∷ cs) f h =
     let p = and_parts (is_well_formed tag c) (list_all (is_well_formed tag) cs) h in
     λ i. cond_means kinds tag args c f p.0 i && conds_mean kinds tag args cs f p.1 i
 
--- the code of a rule for the call holds where its conditions do
+-- the code of a rule for the call holds if its conditions do
 pub rule_means : (kinds : FittingArgsAreOfTheirKinds) (tag : CallTag) (args : List Arg) (rule : Rule) → fits tag args ≡ true → list_all (is_well_formed tag) rule.conds ≡ true
     → rule_holds args (rule_code rule) ≡ list_all (λ c. cond_holds c args) rule.conds
 rule_means kinds tag args rule f h = ap (list_all (group_holds args)) (groups_are tag rule h) ∙ conds_mean kinds tag args rule.conds f h

@@ -43,12 +43,12 @@ is_one (Lit u) = false
 abbrev pub here : ℕ → ℕ → List Cell → Opcode
 here param bits cells = opcode param bits (op.Text (drop (prefix_len is_one cells) cells) (Skip (prefix_len is_one cells)))
 
--- the cells before the first `*`, where there are any
+-- the cells before the first `*`, if there are any
 abbrev pub first_code : ℕ → List Cell → List Opcode
 first_code param [] = []
 first_code param (cell ∷ cells) = here param FOLD (cell ∷ cells) ∷ []
 
--- the cells after the last `*`, where there are any
+-- the cells after the last `*`, if there are any
 abbrev pub last_code : ℕ → List Cell → List Opcode
 last_code param [] = []
 last_code param (cell ∷ cells) = opcode param FOLD (op.Text (cell ∷ cells) ToEnd) ∷ []
@@ -59,7 +59,7 @@ later_code param [] = []
 later_code param (run ∷ []) = last_code param run
 later_code param (run ∷ next ∷ runs) = opcode param FOLD (op.Text run Forward) ∷ later_code param (next ∷ runs)
 
--- opcodes, and True where there are none
+-- opcodes, and True if there are none
 abbrev pub or_true : List Opcode → List Opcode
 or_true [] = opcode 0 0 op.True ∷ []
 or_true (first ∷ later) = first ∷ later
@@ -86,7 +86,7 @@ with_options bits op = record op { options = options_of (bit_or op.options.0 bit
 abbrev pub end_bits : Bool → ℕ
 end_bits negated = if negated then bit_or CLEAR NEGATE else CLEAR
 
--- a group: its last opcode has CLEAR, and NEGATE where the condition is negated
+-- a group: its last opcode has CLEAR, and NEGATE if the condition is negated
 abbrev pub closed : Bool → List Opcode → List Opcode
 closed negated [] = []
 closed negated (op ∷ []) = with_options (end_bits negated) op ∷ []
@@ -108,7 +108,7 @@ is_for tag rule = number_of rule.tag == number_of tag
 abbrev pub code_of : List Rule → CallTag → List Opcode
 code_of rules tag = flat_map rule_code (filter (is_for tag) rules)
 
--- a policy as code: its name, and the code of each call by its number, empty where the call has no rules
+-- a policy as code: its name, and the code of each call by its number, empty if the call has no rules
 pub record Compiled : Type 0 where
   pub name : List ℕ
   pub codes : List (List Opcode)

@@ -23,7 +23,7 @@ pub record IsCompiled (code : VerifiedCode) (index : Index) : Type 0 where
   pub codes : code.code ≡ code_of rules code.tag
   pub indexed : IsIndex rules code.tag index
 
--- the index, where there is one, is of the rules that were compiled
+-- the index, if there is one, is of the rules that were compiled
 abbrev pub IsIndexed : VerifiedCode → Option Index → Type 0
 IsIndexed code None = ⊤
 IsIndexed code (Some index) = IsCompiled code index

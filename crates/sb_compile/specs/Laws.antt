@@ -28,12 +28,12 @@ abbrev pub CompiledCodeIsFaultless : Type 0
 CompiledCodeIsFaultless = (policy : Policy) (tag : CallTag)
     → is_well_made policy ≡ true → code_of policy.rules tag ≢ [] → fault_of tag (code_of policy.rules tag) ≡ None
 
--- the opcodes of a pattern hold of a string one after the other exactly where the pattern matches it
+-- the opcodes of a pattern hold of a string one after the other exactly if the pattern matches it
 abbrev pub PatternOpcodesHoldWhereItMatches : Type 0
 PatternOpcodesHoldWhereItMatches = (param : ℕ) (cells : List Cell) (units : List ℕ)
     → all_hold (test_code param (test.Like cells)) (arg.Str units) ≡ matches cells units
 
--- the group of a condition that is well formed for a call holds of arguments that fit exactly where the condition does
+-- the group of a condition that is well formed for a call holds of arguments that fit exactly if the condition does
 abbrev pub GroupsHoldWhereConditionsDo : Type 0
 GroupsHoldWhereConditionsDo = (tag : CallTag) (cond : Cond) (args : List Arg)
     → is_well_formed tag cond ≡ true → fits tag args ≡ true → group_holds args (cond_code cond) ≡ cond_holds cond args

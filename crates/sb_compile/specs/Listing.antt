@@ -36,7 +36,7 @@ kind_text (Mask mask) param = codes "mask p" ++ decimal param ++ number_text mas
 kind_text (Text cells seek) param = codes "text p" ++ decimal param ++ codes " " ++ seek_text seek ++ codes " " ++ quoted (text_of cells)
 kind_text (Act action line) param = codes "action " ++ action_word action ++ codes " line " ++ decimal line
 
--- a word, where an option is there
+-- a word, if an option is there
 abbrev pub word_if : Bool → List ℕ → List ℕ
 word_if has word = if has then word else []
 
@@ -54,7 +54,7 @@ abbrev pub opcode_lines : ℕ → List Opcode → List ℕ
 opcode_lines at [] = []
 opcode_lines at (op ∷ ops) = opcode_line at op ++ opcode_lines (at + 1) ops
 
--- a heading and a line for each opcode, where there is code
+-- a heading and a line for each opcode, if there is code
 abbrev pub code_lines : List ℕ → CallTag → List Opcode → List ℕ
 code_lines name tag [] = []
 code_lines name tag (op ∷ ops) = codes "code " ++ name ++ codes " " ++ call_word tag ++ 10 ∷ opcode_lines 0 (op ∷ ops)

@@ -26,7 +26,7 @@ abbrev pub lines_from : ℕ → List Opcode → List (List ℕ)
 lines_from at [] = []
 lines_from at (op ∷ ops) = opcode_line at op ∷ lines_from (at + 1) ops
 
--- a heading and a line for each opcode, where there is code
+-- a heading and a line for each opcode, if there is code
 abbrev pub lines_of : List ℕ → CallTag → List Opcode → List (List ℕ)
 lines_of name tag [] = []
 lines_of name tag (op ∷ ops) = heading name tag ∷ lines_from 0 (op ∷ ops)

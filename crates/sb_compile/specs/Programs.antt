@@ -5,7 +5,7 @@ use Rattle.sb_call.specs.declared.tags.CallTag.{CallTag}
 use Rattle.sb_opcode.specs.Opcodes.{Opcode}
 use Rattle.sb_opcode.specs.Verified.{VerifiedCode}
 
--- the opcodes for a call, and none where it has no rules
+-- the opcodes for a call, and none if it has no rules
 abbrev pub code_in_call : Option VerifiedCode → List Opcode
 code_in_call None = []
 code_in_call (Some verified) = verified.code

@@ -1,5 +1,5 @@
 // The code of a call, judged by the rules that an index leaves.
-ghost use Rattle.std.specs.Prelude.{◌≡◌, ◌≤◌, true, length, IfOk, None};
+ghost use Rattle.std.specs.Prelude.{◌≡◌, ◌≤◌, true, length, IfOk, None, Some};
 ghost use Rattle.std.specs.List.{list_all};
 ghost use Rattle.sb_call.specs.Arguments.{fits};
 ghost use Rattle.sb_rule.specs.Limits.{most_rules};
@@ -45,7 +45,7 @@ impl Model for CallCode {
     ghost invariant = { λ c. IsIndexed c.rules c.index };
 }
 
-// The index of the rules for a tag, if there are enough of them.
+// The index of the rules for a tag, if there are enough of them and it can leave out some.
 fn index_of(
     alloc: Global,
     rules: &[Rule],
@@ -61,7 +61,12 @@ fn index_of(
     if code.len() < FEWEST_INDEXED {
         return Ok(None);
     }
-    Ok(Some(Index::new(alloc, rules, tag)?))
+    let index = Index::new(alloc, rules, tag)?;
+    if index.tells() {
+        Ok(Some(index))
+    } else {
+        Ok(None)
+    }
 }
 
 impl CallCode {
@@ -99,13 +104,38 @@ impl CallCode {
         requires { fits self.now.tag args.now ≡ true }
         ensures { result ≡ meaning self.now.code args.now }
     {
-        candidates_have_each_that_holds();
-        compiled_rules_are_few();
         match &self.index {
-            Some(index) => judge_among(&self.rules, &index.candidates(args), args),
+            Some(index) => judge_by(&self.rules, index, args),
+            None if self.rules.len() > 1 => judge_each(&self.rules, args),
             None => eval(self.rules.code(), args),
         }
     }
+}
+
+// The verdict of the first rule that holds. A rule that does not is left at once.
+#[tactic(auto, using(crate::proofs::Candidates::past_one, crate::proofs::Candidates::at_one, crate::proofs::Candidates::at_end))]
+fn judge_each(rules: &RuleCodes, args: &[Arg]) -> Verdict
+    ensures { result ≡ meaning rules.now.code args.now }
+{
+    for number in 0..rules.len() {
+        if let Some(verdict) = rules.judge_rule(number, args) {
+            return verdict;
+        }
+    }
+    Verdict::NoRule
+}
+
+// The verdict of the first of the rules that an index leaves which holds. It is no part of the code for a single rule, which needs
+// no room for a set.
+#[inline(never)]
+fn judge_by(rules: &RuleCodes, index: &Index, args: &[Arg]) -> Verdict
+    requires indexed { IsIndexed rules.now (Some index.now) }
+    requires fits { fits rules.now.tag args.now ≡ true }
+    ensures { result ≡ meaning rules.now.code args.now }
+{
+    candidates_have_each_that_holds();
+    compiled_rules_are_few();
+    judge_among(rules, &index.candidates(args), args)
 }
 
 // The verdict of the first rule in a set that holds.

@@ -19,7 +19,7 @@ use sb_wide::NoMemory;
 pub(crate) struct Group {
     /// The number of the parameter, from 0.
     pub param: u32,
-    /// Whether the condition is met where its opcodes say that it is not.
+    /// Whether the condition is met if its opcodes say that it is not.
     pub negated: bool,
 }
 

@@ -23,8 +23,8 @@ pub fn compiled_code_is_faultless()
     tags_and_numbers();
 }
 
-/// The opcodes of a pattern hold of a string, one after the other, exactly where the pattern matches it. So taking each run of
-/// cells between two stars at its first place loses nothing. The group of a condition holds exactly where the condition does.
+/// The opcodes of a pattern hold of a string, one after the other, exactly if the pattern matches it. So taking each run of
+/// cells between two stars at its first place loses nothing. The group of a condition holds exactly if the condition does.
 pub fn groups_hold_where_conditions_do()
     ensures pattern { PatternOpcodesHoldWhereItMatches }
     ensures condition { GroupsHoldWhereConditionsDo }
@@ -32,7 +32,7 @@ pub fn groups_hold_where_conditions_do()
     fitting_args();
 }
 
-/// Where two well-made policies differ in the letter case of strings and patterns alone, their programs say the same.
+/// If two well-made policies differ in the letter case of strings and patterns alone, their programs say the same.
 pub fn letter_case_does_not_matter()
     ensures { LetterCaseDoesNotMatter }
 {
@@ -46,8 +46,8 @@ pub fn listings_are_lines()
     ensures { ListingsAreLines }
 {}
 
-/// Programs of one name whose code differs for a call are listed differently, where the opcodes are as compiling makes them. So
-/// two well-made policies of one name, whose values have the sizes of their types, are listed alike only where their programs are
+/// Programs of one name whose code differs for a call are listed differently, if the opcodes are as compiling makes them. So
+/// two well-made policies of one name, whose values have the sizes of their types, are listed alike only if their programs are
 /// the same.
 pub fn listings_differ()
     ensures codes { ListingsDiffer }

@@ -172,7 +172,7 @@ fn put_heading(out: &mut Vec<u8>, name: &[u8], tag: CallTag) -> Result<(), NoMem
     Ok(())
 }
 
-// The heading of a code and its lines, and nothing where there are no opcodes.
+// The heading of a code and its lines, and nothing if there are no opcodes.
 pub(crate) fn put_code(
     out: &mut Vec<u8>,
     name: &[u8],

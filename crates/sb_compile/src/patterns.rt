@@ -47,7 +47,7 @@ fn star_at(cells: &[Cell]) -> Option<usize>
     cells.iter().position(is_star)
 }
 
-// The cells before the first star, and those after it. None where there is no star.
+// The cells before the first star, and those after it. None if there is no star.
 #[tactic(auto, using(crate::proofs::Stars::no_star, crate::proofs::Stars::first_star, crate::proofs::Stars::star_below))]
 fn cut_at_star(cells: &[Cell]) -> Option<(&[Cell], &[Cell])>
     ensures parts { MatchOption result (slice_split is_any cells.now ≡ cells.now ∷ [])

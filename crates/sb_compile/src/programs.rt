@@ -65,7 +65,7 @@ fn compile_call(alloc: Global, policy: &Policy, tag: CallTag) -> Result<Option<C
 /// ended by its action; a call without rules has no code.
 ///
 /// # Errors
-/// `NoMemory` where there was none for the program.
+/// `NoMemory` if there was none for the program.
 pub fn compile(alloc: Global, policy: &Policy) -> Result<Program, NoMemory>
     requires { is_well_made policy.now ≡ true }
     ensures { IfOk result (λ program. program ≡ program_of policy.now) }
@@ -82,7 +82,7 @@ pub fn compile(alloc: Global, policy: &Policy) -> Result<Program, NoMemory>
 
 impl Program {
     /// The verdict of the policy that was compiled: the line and the action of its first rule for the call whose conditions
-    /// hold, and `NoRule` where there is none. The arguments must fit the call. Does not allocate.
+    /// hold, and `NoRule` if there is none. The arguments must fit the call. Does not allocate.
     pub fn judge(&self, tag: CallTag, args: &[Arg]) -> Verdict
         requires { fits tag args.now ≡ true }
         ensures verdict { result ≡ program_verdict self.now tag args.now }
@@ -106,7 +106,7 @@ impl Program {
         }
     }
 
-    /// The code of a call. None exactly where the call has no rules.
+    /// The code of a call. None exactly if the call has no rules.
     pub fn code(&self, tag: CallTag) -> Option<&Verified>
         ensures { MatchOption result (code_in self.now tag ≡ []) (λ code. (code.now.code ≡ code_in self.now tag) × (code.now.tag ≡ tag)) }
     {
@@ -133,7 +133,7 @@ impl Program {
     /// each opcode, with its place, what it does and its options.
     ///
     /// # Errors
-    /// `NoMemory` where there was none for the text.
+    /// `NoMemory` if there was none for the text.
     pub fn listing(&self, alloc: Global) -> Result<Vec<u8>, NoMemory>
         ensures { IfOk result (λ text. text.items ≡ listing_of self.now) }
     {

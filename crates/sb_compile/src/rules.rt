@@ -80,7 +80,7 @@ fn push_rule(code: &mut Code, rule: &Rule) -> Result<(), NoMemory>
     push(code, 0, Options::empty(), OpKind::Act { action, line })
 }
 
-// The code of the rules that are for a call. Where no rule is, it takes no memory.
+// The code of the rules that are for a call. If no rule is, it does not allocate.
 #[tactic(auto, using(crate::proofs::Steps::some_code))]
 pub(crate) fn code_of(alloc: Global, rules: &[Rule], tag: CallTag) -> Result<Code, NoMemory>
     requires few { length rules.now ≤ most_rules }

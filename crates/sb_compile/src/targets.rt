@@ -2,14 +2,14 @@
 ghost use Rattle.std.specs.Prelude.{◌≡◌, ◌<◌, true, length, map, IfOk, MatchOption};
 ghost use Rattle.std.specs.List.{list_all};
 ghost use Rattle.sb_rule.specs.Verdicts.{policy_at};
-ghost use Rattle.sb_rule.specs.WellMade.{is_well_made, are_well_made};
+ghost use Rattle.sb_rule.specs.WellMade.{is_well_made};
 ghost use Rattle.sb_compile.specs.Compiling.{program_of, policies_of_targets};
 ghost use Rattle.sb_compile.specs.Targets.{nothing, policies_in};
 
 use crate::programs::{Program, compile};
 use sb_call::{Arg, CallTag};
 use sb_items::{Items, NoMemory};
-use sb_rule::{Judge, Policies, Policy, Verdict};
+use sb_rule::{Judge, Policies, Policy, Verdict, WellMadePolicies};
 use sb_statements::{Script, TargetScript};
 use std::alloc::Global;
 use std::marker::Model;
@@ -76,13 +76,13 @@ impl<'a> Programs<'a> {
     /// `NoMemory` if there is none for the programs.
     pub fn new(
         alloc: Global,
-        policies: &'a Policies,
+        policies: &'a WellMadePolicies,
         script: &Script,
     ) -> Result<Programs<'a>, NoMemory>
-        requires { are_well_made policies.now.list ≡ true }
         ensures { IfOk result (λ programs. programs.policies ≡ policies_of_targets policies.now.list script.now.targets) }
     {
-        let programs = compile_all(alloc, policies.list.as_slice())?;
+        let policies = policies.policies();
+        let programs = compile_all(alloc, &policies.list)?;
         let numbers = numbers_of(alloc, script.targets.as_slice())?;
         Ok(Programs {
             policies,

@@ -1,5 +1,5 @@
 -- A rule that holds passes each question that the arguments meet.
-use Rattle.std.proofs.Common.{rules, ◌≡◌, ◌∙◌, ◌≤◌, ◌<◌, ◌%◌, ℕ, Bool, true, false, not, cond, List, [], ◌∷◌, ◌&&◌, ◌||◌, drop, eqb, leb, refl, ap, sym, arith}
+use Rattle.std.proofs.Common.{◌≡◌, ◌∙◌, ◌≤◌, ◌%◌, ℕ, Bool, true, false, not, cond, List, [], ◌∷◌, ◌&&◌, ◌||◌, drop, eqb, refl, ap, sym, arith}
 use Rattle.std.specs.Prelude.{nat_eq, nat_le}
 use Rattle.std.specs.List.{list_all, list_any}
 use Rattle.std.proofs.lemmas.Bool.{and_parts, and_from, eqb-true, false≢true}
@@ -9,19 +9,16 @@ use Rattle.sb_call.specs.Arguments.{arg_at}
 use Rattle.sb_call.specs.Tags.{number_of}
 use Rattle.sb_call.specs.declared.arguments.Arg.{Arg}
 use Rattle.sb_call.specs.declared.arguments.Arg.TheVariants as arg
-use Rattle.sb_call.specs.declared.tags.CallTag.{CallTag}
 use Rattle.sb_pattern.specs.Matching.{matches, matches_some_rest}
 use Rattle.sb_pattern.specs.declared.cells.Cell.{Cell}
 use Rattle.sb_pattern.specs.declared.cells.Cell.TheVariants.{Lit, One, Any}
-use Rattle.sb_rule.specs.Verdicts.{test_holds, cond_holds, rule_holds}
+use Rattle.sb_rule.specs.Verdicts.{test_holds, cond_holds}
 use Rattle.sb_rule.specs.declared.conditions.Cond.{Cond}
 use Rattle.sb_rule.specs.declared.conditions.Test.{Test}
 use Rattle.sb_rule.specs.declared.conditions.Test.TheVariants.{OneOf, Range, Mask, Equal, Like}
-use Rattle.sb_rule.specs.declared.policies.Rule.{Rule}
 use Rattle.sb_index.specs.Fronts.{key, edge, past}
 use Rattle.sb_index.specs.Laws.{RulesThatHoldPass}
-use Rattle.sb_index.specs.Questions.{number_in, units_in, value_of, lies, number_may_lie, front_may_lie, is_in_bucket, is_cell_in_bucket, needs_bucket, test_may_pass, cond_may_pass, may_pass, meets}
-use Rattle.sb_index.specs.declared.questions.Feature.{Feature}
+use Rattle.sb_index.specs.Questions.{number_in, units_in, lies, number_may_lie, front_may_lie, is_in_bucket, is_cell_in_bucket, needs_bucket, test_may_pass, cond_may_pass, meets}
 use Rattle.sb_index.specs.declared.questions.Feature.TheVariants.{Number, Front}
 use Rattle.sb_index.specs.declared.questions.Question.{Question}
 use Rattle.sb_index.specs.declared.questions.Question.TheVariants.{Within, Without}
@@ -141,7 +138,7 @@ not_is : (b : Bool) → not b ≡ true → b ≡ false
 not_is false h = refl
 not_is true h = absurd (false≢true h)
 
--- a test that holds passes, where it is of the parameter that is asked about
+-- a test that holds passes, if it is of the parameter that is asked about
 if_same : (a b : ℕ) (x : Bool) → (a ≡ b → x ≡ true) → cond (eqb a b) x true ≡ true
 if_same a b x f = by (eqb a b) refl
   where

@@ -3,12 +3,11 @@ use Rattle.std.specs.Int.{bit_at, trailing_zeros, w64}
 use Rattle.std.specs.Int.RustNames.{bit_and, bit_or}
 use Rattle.std.specs.Prelude.{slice_index_or, slice_set}
 use Rattle.std.proofs.lemmas.Bool.Decides.{nat_tests}
-use Rattle.std.proofs.Common.{◌≡◌, ◌≢◌, ◌∙◌, ◌==◌, Bool, true, false, cond, ◌≤◌, ◌<◌, ◌+◌, ◌-◌, ◌*◌, ◌/◌, ◌%◌, ◌^◌, ℕ, zero, suc, min, ltb, List, [], ◌∷◌, length, refl, ap, sym, arith, eqb}
+use Rattle.std.proofs.Common.{◌≡◌, ◌≢◌, ◌∙◌, ◌==◌, Bool, true, false, ◌≤◌, ◌<◌, ◌+◌, ◌-◌, ◌*◌, ◌/◌, ◌%◌, ◌^◌, ℕ, zero, suc, min, ltb, List, [], ◌∷◌, length, refl, ap, sym, arith, eqb}
 use Rattle.std.proofs.lemmas.Bool.{eqb-true, false≢true}
-use Rattle.std.proofs.lemmas.List.{get_or-set_same, get_or-set_other, get_or_default, get_or_past}
-use Rattle.std.proofs.lemmas.Nat.Bits.{bit_at_and, bit_at_ones, bit_at_set_same, bit_at_set_other, bit_at-zero, bit_at_above, bit_at-trailing_zeros, shr_and_one}
+use Rattle.std.proofs.lemmas.List.{get_or-set_same, get_or-set_other, get_or_past}
+use Rattle.std.proofs.lemmas.Nat.Bits.{bit_at-lt, bit_at_and, bit_at_or, bit_at_ones, bit_at_set_same, bit_at_set_other, bit_at-zero, bit_at_above, bit_at-trailing_zeros, shr_and_one}
 use Rattle.std.proofs.lemmas.Nat.{shr-shr}
-use Rattle.sb_wide.specs.Wide.{folded}
 use Rattle.sb_index.specs.Sets.{Has}
 
 pub all_has : (k : ℕ) → k < 256 → Has ((2 ^ 64 - 1) ∷ (2 ^ 64 - 1) ∷ (2 ^ 64 - 1) ∷ (2 ^ 64 - 1) ∷ []) k
@@ -27,6 +26,12 @@ both_have a b i h k = bit_at_and a b i ∙ (λ t. min (h t) (k t))
 
 pub clear_bit : (n i : ℕ) → (bit_and (n / 2 ^ i) 1 == 0) ≡ true → bit_at n i ≡ 0
 clear_bit n i h = sym (shr_and_one n i) ∙ eqb-true (bit_and (n / 2 ^ i) 1) 0 h
+
+pub set_bit : (n i : ℕ) → (bit_and (n / 2 ^ i) 1 == 0) ≡ false → bit_at n i ≡ 1
+set_bit n i h = one (bit_at n i) (bit_at-lt n i) (ap (λ m. eqb m 0) (sym (shr_and_one n i)) ∙ h)
+  where
+    one : (m : ℕ) → m < 2 → eqb m 0 ≡ false → m ≡ 1
+    one m h t = grind (arith, nat_tests, h, t)
 
 no_bit : (P : Type 0) (i : ℕ) → bit_at 0 i ≡ 1 → P
 no_bit P i h = absurd (omega (arith, h, bit_at-zero i))
@@ -58,10 +63,10 @@ bit_set n i h = bit_at_set_same w64 n i h
 self_is : (k : ℕ) → eqb k k ≡ true
 self_is k = grind (arith, nat_tests)
 
-equal_is : (a b : ℕ) → a ≡ b → eqb a b ≡ true
+pub equal_is : (a b : ℕ) → a ≡ b → eqb a b ≡ true
 equal_is a b e = ap (λ n. eqb n b) e ∙ self_is b
 
-differ : (a b : ℕ) → eqb a b ≡ false → a ≢ b
+pub differ : (a b : ℕ) → eqb a b ≡ false → a ≢ b
 differ a b t e = false≢true (sym t ∙ equal_is a b e)
 
 less : (a b : ℕ) → ltb a b ≡ true → a < b
@@ -148,19 +153,39 @@ lowest_left words from at small low some fits before =
         let none = zeros (k - at) (omega (arith, later, g)) in
         absurd (omega (arith, one, none))
 
--- one unit more is in the bits
-pub present_more : (units : List ℕ) (bits at f : ℕ) → at < length units → f ≡ folded (slice_index_or units at 0)
-    → ((i : ℕ) (d : ℕ) → i < at → bit_at bits (folded (slice_index_or units i d) % 64) ≡ 1)
-    → (i : ℕ) (d : ℕ) → i < at + 1 → bit_at (with_bit bits (f % 64)) (folded (slice_index_or units i d) % 64) ≡ 1
-present_more units bits at f within fold before i d h = by (ltb i at) refl
-  where
-    small : f % 64 < 64
-    small = omega arith
+-- a bit that one has is in either
+left_has : (a b i : ℕ) → bit_at a i ≡ 1 → bit_at (bit_or a b) i ≡ 1
+left_has a b i h = omega (arith, bit_at_or a b i, h, bit_at-lt b i)
 
-    by : (b : Bool) → ltb i at ≡ b → bit_at (with_bit bits (f % 64)) (folded (slice_index_or units i d) % 64) ≡ 1
-    by true t = bit_kept bits (f % 64) (folded (slice_index_or units i d) % 64) small (before i d (less i at t))
-    by false t =
-        let last : i ≡ at = omega (arith, h, not_less i at t) in
-        ap (λ j. bit_at (with_bit bits (f % 64)) (folded (slice_index_or units j d) % 64)) last
-        ∙ ap (λ u. bit_at (with_bit bits (f % 64)) (folded u % 64)) (get_or_default units at d 0 within)
-        ∙ ap (λ u. bit_at (with_bit bits (f % 64)) (u % 64)) (sym fold) ∙ bit_set bits (f % 64) small
+right_has : (a b i : ℕ) → bit_at b i ≡ 1 → bit_at (bit_or a b) i ≡ 1
+right_has a b i h = omega (arith, bit_at_or a b i, h, bit_at-lt a i)
+
+-- what four words have together
+abbrev pub union_of : List ℕ → List ℕ → List ℕ
+union_of a b =
+    bit_or (slice_index_or a 0 0) (slice_index_or b 0 0) ∷ bit_or (slice_index_or a 1 0) (slice_index_or b 1 0)
+    ∷ bit_or (slice_index_or a 2 0) (slice_index_or b 2 0) ∷ bit_or (slice_index_or a 3 0) (slice_index_or b 3 0) ∷ []
+
+pub united_left : (a b : List ℕ) (k : ℕ) → length a ≡ 4 → Has a k → Has (union_of a b) k
+united_left a b k four h = at (k / 64) (k % 64) h
+  where
+    at : (w i : ℕ) → bit_at (slice_index_or a w 0) i ≡ 1 → bit_at (slice_index_or (union_of a b) w 0) i ≡ 1
+    at zero i h = left_has (slice_index_or a 0 0) (slice_index_or b 0 0) i h
+    at (suc zero) i h = left_has (slice_index_or a 1 0) (slice_index_or b 1 0) i h
+    at (suc (suc zero)) i h = left_has (slice_index_or a 2 0) (slice_index_or b 2 0) i h
+    at (suc (suc (suc zero))) i h = left_has (slice_index_or a 3 0) (slice_index_or b 3 0) i h
+    at (suc (suc (suc (suc w)))) i h =
+        let past : slice_index_or a (suc (suc (suc (suc w)))) 0 ≡ 0 = get_or_past a (suc (suc (suc (suc w)))) 0 (omega (arith, four)) in
+        no_bit _ i (ap (λ n. bit_at n i) (sym past) ∙ h)
+
+pub united_right : (a b : List ℕ) (k : ℕ) → length b ≡ 4 → Has b k → Has (union_of a b) k
+united_right a b k four h = at (k / 64) (k % 64) h
+  where
+    at : (w i : ℕ) → bit_at (slice_index_or b w 0) i ≡ 1 → bit_at (slice_index_or (union_of a b) w 0) i ≡ 1
+    at zero i h = right_has (slice_index_or a 0 0) (slice_index_or b 0 0) i h
+    at (suc zero) i h = right_has (slice_index_or a 1 0) (slice_index_or b 1 0) i h
+    at (suc (suc zero)) i h = right_has (slice_index_or a 2 0) (slice_index_or b 2 0) i h
+    at (suc (suc (suc zero))) i h = right_has (slice_index_or a 3 0) (slice_index_or b 3 0) i h
+    at (suc (suc (suc (suc w)))) i h =
+        let past : slice_index_or b (suc (suc (suc (suc w)))) 0 ≡ 0 = get_or_past b (suc (suc (suc (suc w)))) 0 (omega (arith, four)) in
+        no_bit _ i (ap (λ n. bit_at n i) (sym past) ∙ h)

@@ -1,5 +1,5 @@
 -- What can be asked of a rule and of the arguments of a call, so that a rule that holds of them passes.
-use Rattle.std.specs.Prelude.{◌≡◌, ℕ, ◌%◌, Bool, true, false, not, ◌&&◌, ◌==◌, nat_le, List, [], ◌∷◌, drop, if◌then◌else◌}
+use Rattle.std.specs.Prelude.{ℕ, ◌%◌, Bool, true, false, not, ◌&&◌, ◌==◌, nat_le, List, [], drop, if◌then◌else◌}
 use Rattle.std.specs.List.{list_all, list_any}
 use Rattle.sb_wide.specs.Wide.{folded}
 use Rattle.sb_call.specs.Arguments.{arg_at}
@@ -75,11 +75,11 @@ test_may_pass (Within (Number wanted) first last) param test = if param == wante
 test_may_pass (Within (Front wanted skip) first last) param test = if param == wanted then front_may_lie test skip first last else true
 test_may_pass (Without wanted bucket) param test = if param == wanted then not (needs_bucket test bucket) else true
 
--- a negated condition passes, and another where its test does
+-- a negated condition passes, and another if its test does
 abbrev pub cond_may_pass : Question → Cond → Bool
 cond_may_pass question cond = if cond.negated then true else test_may_pass question cond.param cond.test
 
--- a rule passes where all its conditions do
+-- a rule passes if all its conditions do
 abbrev pub may_pass : Question → Rule → Bool
 may_pass question rule = list_all (cond_may_pass question) rule.conds
 

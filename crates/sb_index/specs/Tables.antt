@@ -1,10 +1,11 @@
 -- Indexes of the rules for one call.
-use Rattle.std.specs.Prelude.{◌≡◌, ◌<◌, ◌≤◌, ℕ, ◌+◌, ◌-◌, ◌^◌, ◌==◌, Bool, true, nat_lt, List, [], length, filter, slice_index_or, if◌then◌else◌, Option, None, Some, ⊤}
+use Rattle.std.specs.Prelude.{◌≡◌, ◌<◌, ℕ, ◌+◌, ◌==◌, Bool, true, List, length, filter, slice_index_or, Option, None, Some, ⊤}
 use Rattle.sb_call.specs.Tags.{number_of}
 use Rattle.sb_call.specs.declared.arguments.Arg.{Arg}
 use Rattle.sb_call.specs.declared.tags.CallTag.{CallTag}
 use Rattle.sb_rule.specs.Verdicts.{rule_holds}
 use Rattle.sb_rule.specs.declared.policies.Rule.{Rule}
+use Rattle.sb_index.specs.Bounds.{first_of, last_of}
 use Rattle.sb_index.specs.Questions.{may_pass}
 use Rattle.sb_index.specs.Sets.{Has}
 use Rattle.sb_index.specs.declared.questions.Feature.{Feature}
@@ -27,20 +28,13 @@ abbrev pub Covers : List Rule → CallTag → Question → List ℕ → Type 0
 Covers rules tag question set = (j : ℕ) (d : Rule) → j < length (rules_for tag rules)
     → may_pass question (slice_index_or (rules_for tag rules) j d) ≡ true → Has set j
 
--- the bounds divide all numbers into slots: the first number of one, and the last
-abbrev pub first_of : List ℕ → ℕ → ℕ
-first_of bounds slot = if slot == 0 then 0 else slice_index_or bounds (slot - 1) 0
-
-abbrev pub last_of : List ℕ → ℕ → ℕ
-last_of bounds slot = if nat_lt slot (length bounds) then slice_index_or bounds slot 0 - 1 else 2 ^ 64 - 1
-
 -- a set for each slot, which has the rules that pass the question for the numbers of the slot
 abbrev pub AreSlots : List Rule → CallTag → Feature → List ℕ → List (List ℕ) → Type 0
 AreSlots rules tag feature bounds sets = (slot : ℕ) (e : List ℕ) → slot < length sets
     → Covers rules tag (Within feature (first_of bounds slot) (last_of bounds slot)) (slice_index_or sets slot e)
 
 abbrev pub IsTable : List Rule → CallTag → Table → Type 0
-IsTable rules tag table = (length table.sets.items ≡ length table.bounds.items + 1) × AreSlots rules tag table.feature table.bounds.items table.sets.items
+IsTable rules tag table = (length table.sets.items ≡ length table.bounds + 1) × AreSlots rules tag table.feature table.bounds table.sets.items
 
 -- a set for each bucket, which has the rules that pass the question for strings without a unit in the bucket
 abbrev pub AreBuckets : List Rule → CallTag → ℕ → List (List ℕ) → Type 0

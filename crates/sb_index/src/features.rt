@@ -1,11 +1,12 @@
 // Which features tell the rules of a call apart, and the bounds of the ranges of their values. Nothing is promised of
 // these: an index is one with any features and bounds.
-ghost use Rattle.std.specs.Prelude.{◌≤◌, ◌^◌, ◌<◌, length, IfOk};
+ghost use Rattle.std.specs.Prelude.{◌≤◌};
 
-use crate::fronts::{edge, key, past, skipped};
+use crate::bounds::{Bounds, MOST_BOUNDS};
 use crate::questions::Feature;
+use crate::values::{Values, values_of};
 use sb_call::{CallTag, ParamKind, number_of, shape};
-use sb_rule::{Cond, MOST_RULES, Rule, Test};
+use sb_rule::{MOST_RULES, Rule};
 use sb_wide::NoMemory;
 use std::alloc::Global;
 
@@ -23,49 +24,23 @@ fn push_range(bounds: &mut Vec<u64>, lo: u64, hi: u64) -> Result<(), NoMemory> {
     Ok(())
 }
 
-fn push_numbers(bounds: &mut Vec<u64>, test: &Test) -> Result<(), NoMemory> {
-    match test {
-        Test::OneOf(numbers) => {
-            for number in numbers.as_slice() {
+fn push_values(bounds: &mut Vec<u64>, values: Values<'_>) -> Result<(), NoMemory> {
+    match values {
+        Values::Among(numbers) => {
+            for number in numbers {
                 push_range(bounds, *number, *number)?;
             }
             Ok(())
         }
-        Test::Range { lo, hi } => push_range(bounds, *lo, *hi),
-        Test::Mask(_) | Test::Equal(_) | Test::Like(_) => Ok(()),
-    }
-}
-
-fn push_fronts(bounds: &mut Vec<u64>, test: &Test, skip: usize) -> Result<(), NoMemory> {
-    match test {
-        Test::OneOf(_) | Test::Range { .. } | Test::Mask(_) => Ok(()),
-        Test::Equal(text) => {
-            let key = key(skipped(text.as_units(), skip));
-            push_range(bounds, key, key)
-        }
-        Test::Like(pattern) => {
-            let cells = past(pattern.cells(), skip);
-            push_range(bounds, edge(cells, 0), edge(cells, 65535))
-        }
-    }
-}
-
-fn push_cond(bounds: &mut Vec<u64>, feature: Feature, cond: &Cond) -> Result<(), NoMemory> {
-    if cond.negated {
-        return Ok(());
-    }
-    match feature {
-        Feature::Number { param } if param == cond.param => push_numbers(bounds, &cond.test),
-        Feature::Front { param, skip } if param == cond.param => {
-            push_fronts(bounds, &cond.test, skip)
-        }
-        _ => Ok(()),
+        Values::Between { lo, hi } => push_range(bounds, lo, hi),
     }
 }
 
 fn push_rule(bounds: &mut Vec<u64>, feature: Feature, rule: &Rule) -> Result<(), NoMemory> {
     for cond in rule.conds.as_slice() {
-        push_cond(bounds, feature, cond)?;
+        if let Some(values) = values_of(feature, cond) {
+            push_values(bounds, values)?;
+        }
     }
     Ok(())
 }
@@ -81,7 +56,7 @@ fn most_bounds(rules: &[Rule], tag: CallTag) -> usize
     if many < MOST_RULES {
         2 * many + 2
     } else {
-        2 * MOST_RULES + 2
+        MOST_BOUNDS
     }
 }
 
@@ -91,9 +66,7 @@ pub fn bounds_of(
     rules: &[Rule],
     tag: CallTag,
     feature: Feature,
-) -> Result<Vec<u64>, NoMemory>
-    ensures { IfOk result (λ bounds. length bounds.items ≤ 514) }
-{
+) -> Result<Bounds, NoMemory> {
     let mut bounds = Vec::new(alloc);
     for rule in rules {
         if number_of(rule.tag) == number_of(tag) {
@@ -101,12 +74,7 @@ pub fn bounds_of(
         }
     }
     bounds.sort_unstable();
-    bounds.dedup();
-    let most = most_bounds(rules, tag);
-    if bounds.len() > most {
-        bounds.truncate(most);
-    }
-    Ok(Vec::from_slice(alloc, &bounds)?)
+    Bounds::new(alloc, &bounds, most_bounds(rules, tag))
 }
 
 // The front of a parameter that has the most bounds.

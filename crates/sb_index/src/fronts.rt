@@ -3,7 +3,7 @@ ghost use Rattle.std.specs.Prelude.{◌≡◌, ◌+◌, ◌*◌, ◌^◌, ◌≤
 ghost use Rattle.sb_index.specs.Fronts.{digit, key, edge, past};
 
 use sb_pattern::Cell;
-use sb_wide::fold;
+use sb_wide::to_ascii_uppercase;
 
 // Four digits as one number, the first digit highest.
 fn join(a: u16, b: u16, c: u16, d: u16) -> u64
@@ -15,7 +15,7 @@ fn join(a: u16, b: u16, c: u16, d: u16) -> u64
 fn digit(unit: u16) -> u16
     ensures { result ≡ digit unit }
 {
-    fold(unit)
+    to_ascii_uppercase(unit)
 }
 
 // The first digit of a string, and the string after it.

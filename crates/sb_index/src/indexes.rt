@@ -26,7 +26,7 @@ pub struct Index {
     pub buckets: Option<Buckets>,
 }
 
-// Puts the table of a parameter to the others, where the rules for the tag differ by its feature.
+// Puts the table of a parameter to the others, if the rules for the tag differ by its feature.
 fn push_table(
     alloc: Global,
     tables: &mut Vec<Table>,
@@ -70,9 +70,14 @@ fn buckets_of(alloc: Global, rules: &[Rule], tag: CallTag) -> Result<Option<Buck
     requires { length rules.now ≤ most_rules }
     ensures { IfOk result (λ buckets. IsBuckets rules.now tag buckets) }
 {
-    match first_string(tag) {
-        Some(param) => Ok(Some(Buckets::new(alloc, rules, tag, param)?)),
-        None => Ok(None),
+    let Some(param) = first_string(tag) else {
+        return Ok(None);
+    };
+    let buckets = Buckets::new(alloc, rules, tag, param)?;
+    if buckets.tell() {
+        Ok(Some(buckets))
+    } else {
+        Ok(None)
     }
 }
 
@@ -91,6 +96,11 @@ impl Index {
         Ok(Index { tables, buckets })
     }
 
+    /// Whether it leaves out a rule for some arguments.
+    pub fn tells(&self) -> bool {
+        self.tables.len() > 0 || self.buckets.is_some()
+    }
+
     /// The candidates: rules that are not in this set do not hold of the arguments. Rules are numbered from 0 among the
     /// rules for the tag. Does not allocate.
     pub fn candidates(&self, args: &[Arg]) -> RuleSet
@@ -99,6 +109,9 @@ impl Index {
         let mut set = RuleSet::all();
         for table in &self.tables {
             table.narrow(args, &mut set);
+        }
+        if set.is_small() {
+            return set;
         }
         if let Some(buckets) = &self.buckets {
             buckets.narrow(args, &mut set);

@@ -3,15 +3,19 @@
 // arguments, which has a set of rules for each range of values, and the sets are intersected.
 #![tactic(auto)]
 
+mod bounds;
 mod buckets;
-mod conditions;
 mod features;
 mod fronts;
 mod indexes;
 mod laws;
+mod marks;
+mod needs;
 mod questions;
 mod sets;
+mod slots;
 mod tables;
+mod values;
 
 pub use indexes::Index;
 pub use laws::rules_that_hold_pass;

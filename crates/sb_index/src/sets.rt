@@ -52,6 +52,30 @@ impl RuleSet {
         self.words = [a & e, b & f, c & g, d & h];
     }
 
+    /// Puts the numbers of another set into the set.
+    pub fn unite(&mut self, other: &RuleSet)
+        ensures kept { (k : ℕ) → Has self.old k → Has self.new k }
+        ensures added { (k : ℕ) → Has other.now k → Has self.new k }
+    {
+        let [a, b, c, d] = self.words;
+        let [e, f, g, h] = other.words;
+        self.words = [a | e, b | f, c | g, d | h];
+    }
+
+    /// The same set.
+    pub fn copy(&self) -> RuleSet
+        ensures { result ≡ self.now }
+    {
+        RuleSet { words: self.words }
+    }
+
+    /// Whether the set has at most one number of each 64.
+    pub fn is_small(&self) -> bool {
+        self.words
+            .iter()
+            .all(|word| *word & word.saturating_sub(1) == 0)
+    }
+
     /// The lowest number of the set from one on.
     pub fn next_from(&self, from: usize) -> Option<usize>
         ensures { MatchOption result ((k : ℕ) → from ≤ k → k < 256 → Has self.now k → ⊥)

@@ -1,17 +1,18 @@
 // Tables: a set of rules for each range of the values of one feature.
-ghost use Rattle.std.specs.Prelude.{◌≡◌, ◌≤◌, ◌<◌, ◌+◌, List, length, IfOk};
+ghost use Rattle.std.specs.Prelude.{◌≡◌, ◌≤◌, ◌+◌, List, length, IfOk};
 ghost use Rattle.sb_call.specs.Arguments.{arg_at};
 ghost use Rattle.sb_rule.specs.Limits.{most_rules};
 ghost use Rattle.sb_index.specs.Questions.{value_of, number_in, units_in};
 ghost use Rattle.sb_call.specs.declared.tags.CallTag.{CallTag};
 ghost use Rattle.sb_rule.specs.declared.policies.Rule.{Rule};
-ghost use Rattle.sb_index.specs.Tables.{AreSlots, HasAllThatHold, IsTable, first_of, last_of};
+ghost use Rattle.sb_index.specs.Tables.{AreSlots, HasAllThatHold, IsTable};
 
-use crate::conditions::passing;
+use crate::bounds::Bounds;
 use crate::fronts::{key, skipped};
 use crate::laws::rules_that_hold_pass;
-use crate::questions::{Feature, Question};
+use crate::questions::Feature;
 use crate::sets::RuleSet;
+use crate::slots::marks_of;
 use sb_call::{Arg, CallTag};
 use sb_rule::Rule;
 use sb_wide::NoMemory;
@@ -23,7 +24,7 @@ pub struct Table {
     /// The feature.
     pub feature: Feature,
     /// The bounds: each is the first value of a part.
-    pub bounds: Vec<u64>,
+    pub bounds: Bounds,
     /// The sets, one more than there are bounds.
     pub sets: Vec<RuleSet>,
 }
@@ -57,69 +58,20 @@ fn value_of(feature: Feature, args: &[Arg]) -> u64
     }
 }
 
-fn first_of(bounds: &[u64], slot: usize) -> u64
-    requires { slot ≤ length bounds.now }
-    ensures { result ≡ first_of bounds.now slot }
-{
-    if slot == 0 { 0 } else { bounds[slot - 1] }
-}
-
-fn last_of(bounds: &[u64], slot: usize) -> u64
-    ensures { result ≡ last_of bounds.now slot }
-{
-    if slot < bounds.len() {
-        bounds[slot].saturating_sub(1)
-    } else {
-        u64::MAX
-    }
-}
-
-// The slot of a value.
-fn slot_of(bounds: &[u64], value: u64) -> usize
-    ensures within { result ≤ length bounds.now }
-    ensures first { first_of bounds.now result ≤ value }
-    ensures last { value ≤ last_of bounds.now result }
-{
-    let mut low = 0;
-    let mut high = bounds.len();
-    while low < high {
-        let middle = low + (high - low) / 2;
-        if bounds[middle] <= value {
-            low = middle + 1;
-        } else {
-            high = middle;
-        }
-    }
-    low
-}
-
 // The sets of the slots.
 fn sets_of(
     alloc: Global,
     rules: &[Rule],
     tag: CallTag,
     feature: Feature,
-    bounds: &[u64],
+    bounds: &Bounds,
 ) -> Result<Vec<RuleSet>, NoMemory>
-    requires few { length rules.now ≤ most_rules }
-    requires short { length bounds.now ≤ 514 }
+    requires { length rules.now ≤ most_rules }
     ensures many { IfOk result (λ sets. length sets.items ≡ length bounds.now + 1) }
     ensures slots { IfOk result (λ sets. AreSlots rules.now tag feature bounds.now sets.items) }
 {
-    let mut sets = Vec::new(alloc);
-    for slot in 0..bounds.len() + 1 {
-        let first = first_of(bounds, slot);
-        let last = last_of(bounds, slot);
-        sets.push(passing(
-            rules,
-            tag,
-            Question::Within {
-                feature,
-                first,
-                last,
-            },
-        ))?;
-    }
+    let marks = marks_of(alloc, rules, tag, feature, bounds)?;
+    let sets = marks.sets(alloc, bounds.len() + 1)?;
     Ok(sets)
 }
 
@@ -133,10 +85,9 @@ impl Table {
         rules: &[Rule],
         tag: CallTag,
         feature: Feature,
-        bounds: Vec<u64>,
+        bounds: Bounds,
     ) -> Result<Table, NoMemory>
-        requires few { length rules.now ≤ most_rules }
-        requires short { length bounds.items ≤ 514 }
+        requires { length rules.now ≤ most_rules }
         ensures { IfOk result (λ table. IsTable rules.now tag table) }
     {
         let sets = sets_of(alloc, rules, tag, feature, &bounds)?;
@@ -153,7 +104,7 @@ impl Table {
         ensures { (rules : List Rule) (tag : CallTag) → IsTable rules tag self.now → HasAllThatHold rules tag args.now set.old → HasAllThatHold rules tag args.now set.new }
     {
         rules_that_hold_pass();
-        let slot = slot_of(&self.bounds, value_of(self.feature, args));
+        let slot = self.bounds.slot_of(value_of(self.feature, args));
         if let Some(slot) = self.sets.get(slot) {
             set.intersect(slot);
         }

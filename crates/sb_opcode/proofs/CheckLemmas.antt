@@ -5,7 +5,7 @@ use Rattle.sb_opcode.specs.Groups.{is_act}
 use Rattle.sb_opcode.specs.Faults.{ends_with_act}
 use Rattle.sb_opcode.specs.Opcodes.{Opcode}
 
--- the same, where the opcode before these ends so
+-- the same, if the opcode before these ends so
 abbrev pub ends_after : Bool → List Opcode → Bool
 ends_after ends [] = ends
 ends_after ends (op ∷ ops) = ends_with_act (op ∷ ops)

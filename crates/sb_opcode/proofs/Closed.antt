@@ -83,7 +83,7 @@ alone op true a w =
     let none : groups_of (op ∷ []) ≡ [] = rw a refl in
     absurd (false≢true (ap has_group (sym none) ∙ w refl))
 
--- where the rules are closed, no action stands within a group
+-- if the rules are closed, no action stands within a group
 pub closed_by_rules : (inside : Bool) (ops : List Opcode) → list_all is_closed_rule (rules_of ops) ≡ true
     → (inside ≡ true → goes_into_group (rules_of ops) ≡ true) → closed_from inside ops ≡ true
 closed_by_rules inside [] h w = refl

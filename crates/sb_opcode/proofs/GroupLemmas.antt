@@ -29,7 +29,7 @@ parts_are_the_list test (op ∷ ops) = by (test op) (parts_are_the_list test ops
     by true e = ap (λ l. op ∷ l) e
     by false e = onto_joins op (cut_after test ops) ∙ ap (λ l. op ∷ l) e
 
--- where no element is found, none passes
+-- if no element is found, none passes
 none_found : {X : Type 0} (p : X → Bool) (xs : List X) → nat_lt (position_or_len p xs) (length xs) ≡ false → list_all (λ x. not (p x)) xs ≡ true
 none_found p [] h = refl
 none_found p (x ∷ xs) h = by (p x) refl (none_found p xs)

@@ -146,7 +146,7 @@ act_known h a b later =
     by false false false false false true e5 e0 e1 e2 e3 e4 = grind (arith, nat_tests)
     by false false false false false false e5 e0 e1 e2 e3 e4 = grind (arith, nat_tests)
 
--- the same where an opcode is passed over
+-- the same if an opcode is passed over
 abbrev with_act : Option (Opcode × List ℕ) → Option (Bool × List ℕ)
 with_act first = option_map (λ r. (is_act r.0, r.1)) first
 

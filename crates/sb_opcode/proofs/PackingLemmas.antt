@@ -1,6 +1,6 @@
 -- What unpacking gives: it is packing the other way round, and it goes record by record.
 use Rattle.std.specs.Prelude.{◌==◌, ◌↔◌, IsTrue, Option, None, Some, option_map, option_and_then, is_some, unwrap_or}
-use Rattle.std.proofs.Common.{◌≡◌, ◌≢◌, ◌∙◌, ◌≤◌, ◌<◌, ◌+◌, ℕ, zero, suc, true, false, List, [], ◌∷◌, ◌++◌, length, refl, ap, sym, subst, arith}
+use Rattle.std.proofs.Common.{◌≡◌, ◌≢◌, ◌∙◌, ◌≤◌, ◌<◌, ℕ, zero, suc, true, false, List, [], ◌∷◌, ◌++◌, length, refl, ap, sym, subst, arith}
 use Rattle.std.specs.List.{list_all}
 use Rattle.std.proofs.lemmas.Bool.{and_parts, false≢true}
 use Rattle.std.proofs.lemmas.Bool.Decides.{nat_tests}
@@ -91,7 +91,7 @@ opcodes_pack words h = within_packs (length words) words (opcodes_of words) (the
 pub opcodes_there : (words : List ℕ) → is_packed words ≡ true → unpacked words ≡ Some (opcodes_of words)
 opcodes_there words h = there (unpacked words) h
 
--- where words begin with a record, they are packed where the words after it are
+-- if words begin with a record, they are packed if the words after it are
 mapped_some : (op : Opcode) (o : Option (List Opcode)) → is_some (option_map (λ ops. op ∷ ops) o) ≡ is_some o
 mapped_some op None = refl
 mapped_some op (Some ops) = refl
@@ -166,7 +166,7 @@ pub pushed_opcodes : (words : List ℕ) (op : Opcode) → is_packed words ≡ tr
     → opcodes_of (words ++ record_of op) ≡ opcodes_of words ++ op ∷ []
 pushed_opcodes words op h k = ap (λ o. unwrap_or o []) (packed_with words op h k)
 
--- words that begin with no record are packed where there are none
+-- words that begin with no record are packed if there are none
 later_of : (words later : List ℕ) → Some later ≡ option_map (λ r. r.1) (first_record words) → (r : Opcode × List ℕ) × (first_record words ≡ Some r) × (r.1 ≡ later)
 later_of words later e = unmapped (λ r. r.1) (first_record words) later (sym e)
 
@@ -198,7 +198,7 @@ not_packing words h ops sized e =
 pub opcodes_sized : (words : List ℕ) → is_packed words ≡ true → list_all is_sized (opcodes_of words) ≡ true
 opcodes_sized words h = (opcodes_pack words h).1
 
--- there are words exactly where there are opcodes
+-- there are words exactly if there are opcodes
 pub empty_words : (words : List ℕ) → is_packed words ≡ true → (IsTrue (length words == 0)) ↔ (opcodes_of words ≡ [])
 empty_words words h = (λ e. none words e, λ e. by (ap packed (sym e) ∙ packing_of_opcodes words h))
   where

@@ -32,7 +32,7 @@ walk_step args s t op before mid whole e a h w =
     ∙ (λ i. cond (sym a i && not (is_failed s)) (action_of_rule (op ∷ [])) (walk args (cond (sym a i) Between (step args s op)) mid))
     ∙ ap (walk args s) (sym e) ∙ w
 
--- and where the rule fails
+-- and if the rule fails
 pub walk_passed : (args : List Arg) (t : Standing) (mid after : List Opcode) (whole : Verdict) → is_failed t ≡ true
     → after ≡ after_action mid → walk args t mid ≡ whole → walk args Between after ≡ whole
 walk_passed args t mid after whole f e w =

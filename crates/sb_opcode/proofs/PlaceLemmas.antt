@@ -1,14 +1,15 @@
 -- Each way of seeking a fragment finds the places where it fits.
 use Rattle.std.specs.Prelude.{Option, None, Some, option_and_then, is_some, unwrap_or, nat_le, slice_index_or}
 use Rattle.std.specs.Option.{option_or}
-use Rattle.std.proofs.Common.{◌≡◌, ◌∙◌, ◌≤◌, ◌<◌, ℕ, ◌+◌, ◌-◌, zero, suc, Bool, true, false, cond, List, [], ◌∷◌, ◌++◌, length, drop, refl, ap, sym, subst, arith}
+use Rattle.std.proofs.Common.{◌≡◌, ◌∙◌, ◌≤◌, ◌<◌, ℕ, ◌+◌, ◌-◌, zero, suc, Bool, true, false, cond, List, [], ◌∷◌, ◌++◌, length, drop, map, refl, ap, sym, subst, arith}
 use Rattle.std.proofs.Math.Seq.{drop-nil}
 use Rattle.std.proofs.lemmas.Bool.{false≢true}
 use Rattle.std.proofs.lemmas.Bool.Decides.{nat_tests}
-use Rattle.std.proofs.lemmas.List.{drop-drop, drop_all, get_or-drop, length-append, length-drop}
+use Rattle.std.proofs.lemmas.List.{drop-drop, drop_all, get_or-drop, length-append, length-drop, length-map}
 use Rattle.sb_pattern.specs.declared.cells.Cell.{Cell}
 use Rattle.sb_pattern.specs.declared.cells.Cell.TheVariants.{One, Any}
 use Rattle.sb_opcode.specs.Options.{has, FOLD}
+use Rattle.sb_opcode.specs.Unpacking.{cell_of}
 use Rattle.sb_opcode.specs.declared.opcodes.Seek.TheVariants.{Skip}
 use Rattle.sb_opcode.specs.Fragments.{unit_fits, after_fragment, after_first, after_end, after_seek, at_end}
 use Rattle.sb_opcode.specs.Meaning.{after_text}
@@ -51,7 +52,7 @@ back fold (c ∷ cells) (u ∷ us) f =
     let later : Fits fold cells us = (omega (arith, f.0), (λ i less. f.1 (suc i) (omega (arith, less)))) in
     (λ i. cond (first i) (after_fragment fold cells us) None) ∙ back fold cells us later
 
--- at a place within the string, a fragment fits exactly where it fits the front of what is left
+-- at a place within the string, a fragment fits exactly if it fits the front of what is left
 abbrev Left : Bool → List Cell → List ℕ → ℕ → Type 0
 Left fold cells us n = (n ≤ length us) × Fits fold cells (drop n us)
 
@@ -90,6 +91,57 @@ skip_leaves fold cells us rest n = (to (nat_le n (length us)) refl, there)
         let inside : nat_le n (length us) ≡ true = grind (arith, nat_tests, l.0) in
         (λ i. option_and_then (after_fragment fold cells) (cond (inside i) (Some (drop n us)) None))
         ∙ back fold cells (drop n us) l.1 ∙ ap Some (follows cells us n ∙ sym f.1)
+
+-- a string does not end with a fragment at a place from which on it has more units or fewer
+pub never_ends : (fold : Bool) (cells : List Cell) (us : List ℕ) (n : ℕ) → (n + length cells ≡ length us → ⊥)
+    → at_end (after_seek (Skip n) fold cells us) ≡ None
+never_ends fold cells us n h = by (after_seek (Skip n) fold cells us) refl
+  where
+    by : (o : Option (List ℕ)) → after_seek (Skip n) fold cells us ≡ o → at_end o ≡ None
+    by None e = refl
+    by (Some []) e =
+        let f = (skip_leaves fold cells us [] n).0 e in
+        let less : length (drop (n + length cells) us) ≡ length us - (n + length cells) = length-drop (n + length cells) us in
+        absurd (h (omega (arith, f.0.0, ap length f.1, less)))
+    by (Some (u ∷ rest)) e = refl
+
+pub ends_not : (fold : Bool) (words us : List ℕ) (n : ℕ) → (n + length words ≡ length us → ⊥)
+    → at_end (after_seek (Skip n) fold (map cell_of words) us) ≡ None
+ends_not fold words us n h =
+    let same : length (map cell_of words) ≡ length words = length-map words cell_of in
+    never_ends fold (map cell_of words) us n (λ e. h (omega (arith, e, same)))
+
+-- a fragment does not stand at the front of a string that is too short, or whose unit at the place of the last cell does not fit
+none_either : {X : Type 0} (b : Bool) (x : Option X) → x ≡ None → cond b x None ≡ None
+none_either true x e = e
+none_either false x e = refl
+
+pub misfits : (fold : Bool) (words us : List ℕ) (n : ℕ) → n + 1 ≡ length words
+    → (n < length us → unit_fits fold (cell_of (slice_index_or words n 0)) (slice_index_or us n 0) ≡ false) → after_fragment fold (map cell_of words) us ≡ None
+misfits fold [] us n e h = absurd (omega (arith, e))
+misfits fold (w ∷ words) [] n e h = refl
+misfits fold (w ∷ words) (u ∷ us) zero e h = ap (λ b. cond b (after_fragment fold (map cell_of words) us) None) (h (omega arith))
+misfits fold (w ∷ words) (u ∷ us) (suc n) e h =
+    none_either (unit_fits fold (cell_of w) u) (after_fragment fold (map cell_of words) us)
+    (misfits fold words us n (omega (arith, e)) (λ g. h (omega (arith, g))))
+
+whole : (n : ℕ) → 0 < n → n - 1 + 1 ≡ n
+whole n h = omega (arith, h)
+
+pub too_short : (fold : Bool) (words us : List ℕ) → 0 < length words → length us ≤ length words - 1 → after_fragment fold (map cell_of words) us ≡ None
+too_short fold words us some short =
+    misfits fold words us (length words - 1) (whole (length words) some) (λ g. absurd (omega (arith, g, short)))
+
+pub last_misfits : (fold : Bool) (words us : List ℕ) → 0 < length words
+    → unit_fits fold (cell_of (slice_index_or words (length words - 1) 0)) (slice_index_or us (length words - 1) 0) ≡ false
+    → after_fragment fold (map cell_of words) us ≡ None
+last_misfits fold words us some h = misfits fold words us (length words - 1) (whole (length words) some) (λ g. h)
+
+-- a fragment without cells stands at the front
+pub no_cells : (fold : Bool) (words us : List ℕ) → length words ≡ 0 → after_first fold (map cell_of words) us ≡ Some us
+no_cells fold [] [] h = refl
+no_cells fold [] (u ∷ us) h = refl
+no_cells fold (w ∷ words) us h = absurd (omega (arith, h))
 
 -- the first place
 abbrev First : Bool → List Cell → List ℕ → ℕ → Type 0

@@ -14,8 +14,8 @@ use Rattle.sb_opcode.specs.Opcodes.{Opcode}
 use Rattle.sb_opcode.specs.Opcodes.{OpKind}
 use Rattle.sb_opcode.specs.Opcodes.{False, True, Num, Range, Mask, Text, Act}
 use Rattle.sb_opcode.proofs.Closed.{closed_from, has_group, goes_into_group, groups_from, rules_closed, closed_by_rules}
-use Rattle.sb_opcode.specs.Meaning.{after_opcode, after_all, all_hold, one_holds, is_negated, turned, group_holds, action_of_rule, judged_by, meaning}
-use Rattle.sb_opcode.specs.Walking.{Standing, Between, All, One, Decided, Failed, begun, entered, all_so_far, one_so_far, looked_at, passed, closed, step, walk}
+use Rattle.sb_opcode.specs.Meaning.{after_opcode, after_all, all_hold, one_holds, is_negated, negate_if, group_holds, action_of_rule, judged_by, meaning}
+use Rattle.sb_opcode.specs.Walking.{Standing, Between, All, One, Decided, Failed, group_start, entered, all_so_far, one_so_far, looked_at, group_end, closed, step, walk}
 use Rattle.sb_rule.specs.declared.verdicts.Verdict.{Verdict}
 use Rattle.sb_rule.specs.declared.verdicts.Verdict.TheVariants.{Rule, NoRule}
 
@@ -23,11 +23,11 @@ use Rattle.sb_rule.specs.declared.verdicts.Verdict.TheVariants.{Rule, NoRule}
 abbrev pub rest_holds : List Arg → Standing → List (List Opcode) → Bool
 rest_holds args Between groups = list_all (group_holds args) groups
 rest_holds args (All left) [] = false
-rest_holds args (All left) (group ∷ groups) = turned (is_negated group) (all_hold group left) && list_all (group_holds args) groups
+rest_holds args (All left) (group ∷ groups) = negate_if (is_negated group) (all_hold group left) && list_all (group_holds args) groups
 rest_holds args (One whole) [] = false
-rest_holds args (One whole) (group ∷ groups) = turned (is_negated group) (one_holds group whole) && list_all (group_holds args) groups
+rest_holds args (One whole) (group ∷ groups) = negate_if (is_negated group) (one_holds group whole) && list_all (group_holds args) groups
 rest_holds args (Decided holds) [] = false
-rest_holds args (Decided holds) (group ∷ groups) = turned (is_negated group) holds && list_all (group_holds args) groups
+rest_holds args (Decided holds) (group ∷ groups) = negate_if (is_negated group) holds && list_all (group_holds args) groups
 rest_holds args Failed groups = false
 
 -- what the rest of a code gives: the rules begin with what is left of the present rule
@@ -47,12 +47,12 @@ is_within Failed = false
 -- a group that begins is the rest of that group
 begins : (args : List Arg) (arg : Arg) (op : Opcode) (ops : List Opcode) (groups : List (List Opcode)) (b : Bool)
     → rest_holds args (cond b (One arg) (All arg)) ((op ∷ ops) ∷ groups)
-    ≡ (turned (is_negated (op ∷ ops)) (cond b (one_holds (op ∷ ops) arg) (all_hold (op ∷ ops) arg)) && list_all (group_holds args) groups)
+    ≡ (negate_if (is_negated (op ∷ ops)) (cond b (one_holds (op ∷ ops) arg) (all_hold (op ∷ ops) arg)) && list_all (group_holds args) groups)
 begins args arg op ops groups true = refl
 begins args arg op ops groups false = refl
 
 enters : (args : List Arg) (op : Opcode) (ops : List Opcode) (groups : List (List Opcode))
-    → rest_holds args (begun args op) ((op ∷ ops) ∷ groups) ≡ rest_holds args Between ((op ∷ ops) ∷ groups)
+    → rest_holds args (group_start args op) ((op ∷ ops) ∷ groups) ≡ rest_holds args Between ((op ∷ ops) ∷ groups)
 enters args op ops groups = begins args (arg_at args op.param) op ops groups (has op.options OR)
 
 entered_holds : (args : List Arg) (s : Standing) (op : Opcode) (ops : List Opcode) (groups : List (List Opcode))
@@ -85,13 +85,13 @@ entered_inside args Failed op = refl
 -- within a group, what is left of it after an opcode that is not its last
 all_goes_on : (args : List Arg) (next : Opcode) (ops : List Opcode) (groups : List (List Opcode)) (o : Option Arg)
     → rest_holds args (all_so_far o) ((next ∷ ops) ∷ groups)
-    ≡ (turned (is_negated (next ∷ ops)) (is_some (option_and_then (after_all (next ∷ ops)) o)) && list_all (group_holds args) groups)
+    ≡ (negate_if (is_negated (next ∷ ops)) (is_some (option_and_then (after_all (next ∷ ops)) o)) && list_all (group_holds args) groups)
 all_goes_on args next ops groups None = refl
 all_goes_on args next ops groups (Some left) = refl
 
 one_goes_on : (args : List Arg) (whole : Arg) (next : Opcode) (ops : List Opcode) (groups : List (List Opcode)) (o : Option Arg)
     → rest_holds args (one_so_far whole o) ((next ∷ ops) ∷ groups)
-    ≡ (turned (is_negated (next ∷ ops)) (is_some o || one_holds (next ∷ ops) whole) && list_all (group_holds args) groups)
+    ≡ (negate_if (is_negated (next ∷ ops)) (is_some o || one_holds (next ∷ ops) whole) && list_all (group_holds args) groups)
 one_goes_on args whole next ops groups None = refl
 one_goes_on args whole next ops groups (Some left) = refl
 
@@ -103,32 +103,32 @@ looked_at_holds args (One whole) op next ops groups h = one_goes_on args whole n
 looked_at_holds args (Decided holds) op next ops groups h = refl
 looked_at_holds args Failed op next ops groups h = refl
 
-passed_holds : (args : List Arg) (b : Bool) (groups : List (List Opcode)) → rest_holds args (passed b) groups ≡ (b && list_all (group_holds args) groups)
-passed_holds args true groups = refl
-passed_holds args false groups = refl
+group_end_holds : (args : List Arg) (b : Bool) (groups : List (List Opcode)) → rest_holds args (group_end b) groups ≡ (b && list_all (group_holds args) groups)
+group_end_holds args true groups = refl
+group_end_holds args false groups = refl
 
 -- within a group, what is left of the rule after the last opcode of that group
 all_ends : (args : List Arg) (negated : Bool) (groups : List (List Opcode)) (o : Option Arg)
     → rest_holds args (closed negated (all_so_far o)) groups
-    ≡ (turned negated (is_some (option_and_then (after_all []) o)) && list_all (group_holds args) groups)
-all_ends args negated groups None = passed_holds args (turned negated false) groups
-all_ends args negated groups (Some left) = passed_holds args (turned negated true) groups
+    ≡ (negate_if negated (is_some (option_and_then (after_all []) o)) && list_all (group_holds args) groups)
+all_ends args negated groups None = group_end_holds args (negate_if negated false) groups
+all_ends args negated groups (Some left) = group_end_holds args (negate_if negated true) groups
 
 one_ends : (args : List Arg) (whole : Arg) (negated : Bool) (groups : List (List Opcode)) (o : Option Arg)
     → rest_holds args (closed negated (one_so_far whole o)) groups
-    ≡ (turned negated (is_some o || one_holds [] whole) && list_all (group_holds args) groups)
-one_ends args whole negated groups None = passed_holds args (turned negated false) groups
-one_ends args whole negated groups (Some left) = passed_holds args (turned negated true) groups
+    ≡ (negate_if negated (is_some o || one_holds [] whole) && list_all (group_holds args) groups)
+one_ends args whole negated groups None = group_end_holds args (negate_if negated false) groups
+one_ends args whole negated groups (Some left) = group_end_holds args (negate_if negated true) groups
 
 closed_holds : (args : List Arg) (s : Standing) (op : Opcode) (groups : List (List Opcode)) → is_inside s ≡ true
     → rest_holds args (closed (has op.options NEGATE) (looked_at s op)) groups ≡ rest_holds args s ((op ∷ []) ∷ groups)
 closed_holds args Between op groups h = absurd (false≢true h)
 closed_holds args (All left) op groups h = all_ends args (has op.options NEGATE) groups (after_opcode op left)
 closed_holds args (One whole) op groups h = one_ends args whole (has op.options NEGATE) groups (after_opcode op whole)
-closed_holds args (Decided holds) op groups h = passed_holds args (turned (has op.options NEGATE) holds) groups
+closed_holds args (Decided holds) op groups h = group_end_holds args (negate_if (has op.options NEGATE) holds) groups
 closed_holds args Failed op groups h = refl
 
--- one step: what is left of the rule holds before an opcode exactly where what is left after it does
+-- one step: what is left of the rule holds before an opcode exactly if what is left after it does
 step_holds : (args : List Arg) (s : Standing) (op : Opcode) (groups : List (List Opcode)) → (is_last op ≡ false → has_group groups ≡ true)
     → rest_holds args (step args s op) groups
     ≡ rest_holds args s (if is_last op then (op ∷ []) ∷ groups else onto_first op groups)
@@ -227,16 +227,16 @@ action_means args (One whole) op ops a w later = absurd (false≢true (sym w))
 action_means args (Decided holds) op ops a w later = absurd (false≢true (sym w))
 action_means args Failed op ops a w later = rw a later
 
--- the next opcode is within a group only where this one is not the last of its own
-passed_outside : (b : Bool) → is_within (passed b) ≡ false
-passed_outside true = refl
-passed_outside false = refl
+-- the next opcode is within a group only if this one is not the last of its own
+group_end_outside : (b : Bool) → is_within (group_end b) ≡ false
+group_end_outside true = refl
+group_end_outside false = refl
 
 closed_outside : (negated : Bool) (s : Standing) → is_within (closed negated s) ≡ false
-closed_outside negated Between = passed_outside (turned negated true)
-closed_outside negated (All left) = passed_outside (turned negated true)
-closed_outside negated (One whole) = passed_outside (turned negated false)
-closed_outside negated (Decided holds) = passed_outside (turned negated holds)
+closed_outside negated Between = group_end_outside (negate_if negated true)
+closed_outside negated (All left) = group_end_outside (negate_if negated true)
+closed_outside negated (One whole) = group_end_outside (negate_if negated false)
+closed_outside negated (Decided holds) = group_end_outside (negate_if negated holds)
 closed_outside negated Failed = refl
 
 step_within : (args : List Arg) (s : Standing) (op : Opcode) → is_within (step args s op) ≡ true → not (is_last op) ≡ true

@@ -234,7 +234,7 @@ closed_all before (op ∷ ops) h =
     let s = step before op ops h in
     and_from (not (is_open (before, op))) (none_open (Some op) ops) s.0 (closed_all (Some op) ops s.1)
 
--- where no element passes, none is found
+-- if no element passes, none is found
 all_before : {X : Type 0} (test : X → Bool) (xs : List X) → list_all test xs ≡ true → prefix_len test xs ≡ length xs
 all_before test [] h = refl
 all_before test (x ∷ xs) h =

@@ -5,7 +5,7 @@ use Rattle.std.specs.Option.{option_or}
 use Rattle.sb_call.specs.Arguments.{kind_at}
 use Rattle.sb_call.specs.Tags.{shape_of}
 use Rattle.sb_call.specs.declared.tags.CallTag.{CallTag}
-use Rattle.sb_rule.specs.WellMade.{is_number_kind}
+use Rattle.sb_call.specs.Parameters.{is_number_kind}
 use Rattle.sb_opcode.specs.Groups.{is_act, is_last}
 use Rattle.sb_opcode.specs.Options.{has, NEGATE, CLEAR, OR, FOLD, EXACT, has_options}
 use Rattle.sb_opcode.specs.Opcodes.{Opcode}
@@ -29,7 +29,7 @@ is_text_kind (Range lo hi) = false
 is_text_kind (Mask m) = false
 is_text_kind (Act action line) = false
 
--- the group of an opcode goes on behind it: it is no action and has no CLEAR
+-- the group of an opcode goes on after it: it is no action and has no CLEAR
 abbrev pub goes_on : Option Opcode → Bool
 goes_on None = false
 goes_on (Some op) = not (is_act op) && not (is_last op)
@@ -45,7 +45,7 @@ is_unfit op =
     (has op.options NEGATE && not (has op.options CLEAR)) || (is_text_kind op.kind && has op.options OR) || (is_act op && has_options op.options)
     || (not (is_text_kind op.kind) && (has op.options FOLD || has op.options EXACT))
 
--- an opcode, with the one before it where there is one, leaves a group open: an action within a group, an opcode that
+-- an opcode, with the one before it if there is one, leaves a group open: an action within a group, an opcode that
 -- differs from the one before it in the group, or options that do not fit
 abbrev pub is_open : Option Opcode × Opcode → Bool
 is_open pair = (goes_on pair.0 && (is_act pair.1 || differs pair.0 pair.1)) || is_unfit pair.1

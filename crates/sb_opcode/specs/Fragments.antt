@@ -19,7 +19,7 @@ after_fragment fold [] us = Some us
 after_fragment fold (cell ∷ cells) [] = None
 after_fragment fold (cell ∷ cells) (u ∷ us) = if unit_fits fold cell u then after_fragment fold cells us else None
 
--- what is left after this many units, where there are as many
+-- what is left after this many units, if there are as many
 abbrev pub after_units : ℕ → List ℕ → Option (List ℕ)
 after_units n us = if nat_le n (length us) then Some (drop n us) else None
 

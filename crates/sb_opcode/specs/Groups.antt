@@ -36,7 +36,7 @@ rules_of ops = cut_after is_act ops
 abbrev pub groups_of : List Opcode → List (List Opcode)
 groups_of rule = cut_after is_last (filter (λ op. not (is_act op)) rule)
 
--- what follows the first action, and nothing where there is none
+-- what follows the first action, and nothing if there is none
 abbrev pub after_action : List Opcode → List Opcode
 after_action [] = []
 after_action (op ∷ ops) = if is_act op then ops else after_action ops

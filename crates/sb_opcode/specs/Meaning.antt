@@ -66,18 +66,18 @@ is_negated (op ∷ []) = has op.options NEGATE
 is_negated (op ∷ next ∷ ops) = is_negated (next ∷ ops)
 
 -- a truth, or its opposite
-abbrev pub turned : Bool → Bool → Bool
-turned negated holds = if negated then not holds else holds
+abbrev pub negate_if : Bool → Bool → Bool
+negate_if negated holds = if negated then not holds else holds
 
 -- the group looks at the argument of its parameter: with OR one of its opcodes is to hold, without it all are, one after
 -- the other; NEGATE turns that round
 abbrev pub group_holds : List Arg → List Opcode → Bool
 group_holds args [] = true
 group_holds args (op ∷ ops) =
-    turned (is_negated (op ∷ ops))
+    negate_if (is_negated (op ∷ ops))
     (if has op.options OR then one_holds (op ∷ ops) (arg_at args op.param) else all_hold (op ∷ ops) (arg_at args op.param))
 
--- a rule holds where all its groups do
+-- a rule holds if all its groups do
 abbrev pub rule_holds : List Arg → List Opcode → Bool
 rule_holds args rule = list_all (group_holds args) (groups_of rule)
 
@@ -98,6 +98,6 @@ judged_by args (rule ∷ rules) = if rule_holds args rule then action_of_rule ru
 abbrev pub meaning : List Opcode → List Arg → Verdict
 meaning ops args = judged_by args (rules_of ops)
 
--- what one of the rules of a code says: its verdict, where it holds
+-- what one of the rules of a code says: its verdict, if it holds
 abbrev pub rule_verdict : List Arg → List Opcode → Verdict
 rule_verdict args rule = if rule_holds args rule then action_of_rule rule else NoRule

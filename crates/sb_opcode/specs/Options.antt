@@ -6,7 +6,7 @@ use Rattle.sb_opcode.specs.declared.options.Options.{Options}
 abbrev pub options_of : ℕ → Options
 options_of bits = record { 0 = bits }
 
--- the group's result is turned round
+-- the group's result is negated
 abbrev pub NEGATE : ℕ
 NEGATE = 1
 

@@ -35,7 +35,7 @@ skip_number (Skip n) = n
 skip_number Forward = 0
 skip_number ToEnd = 0
 
--- the part of the first word that says where a fragment is to stand, and 0 where there is none
+-- the part of the first word that says where a fragment is to stand, and 0 if there is none
 abbrev pub seek_bits : OpKind → ℕ
 seek_bits (Text cells seek) = seek_number seek * 2 ^ 16 + skip_number seek * 2 ^ 32
 seek_bits False = 0

@@ -19,7 +19,7 @@ FitsAt fold cells units place =
 abbrev pub FirstFitsAt : Bool → List Cell → List ℕ → ℕ → Type 0
 FirstFitsAt fold cells units place = FitsAt fold cells units place × ((before : ℕ) → before < place → FitsAt fold cells units before → ⊥)
 
--- Skip leaves what follows the fragment, exactly where it fits this many units on
+-- Skip leaves what follows the fragment, exactly if it fits this many units on
 abbrev pub SkipLeavesWhatFollows : Type 0
 SkipLeavesWhatFollows = (fold : Bool) (cells : List Cell) (units rest : List ℕ) (n : ℕ)
     → (after_seek (Skip n) fold cells units ≡ Some rest) ↔ (FitsAt fold cells units n × (rest ≡ drop (n + length cells) units))
@@ -30,17 +30,17 @@ ForwardTakesTheFirstPlace = (fold : Bool) (cells : List Cell) (units rest : List
     → (after_seek Forward fold cells units ≡ Some rest)
     ↔ ((place : ℕ) × FirstFitsAt fold cells units place × (rest ≡ drop (place + length cells) units))
 
--- and finds none exactly where the fragment fits nowhere
+-- and finds none exactly if the fragment fits nowhere
 abbrev pub ForwardMissesNoPlace : Type 0
 ForwardMissesNoPlace = (fold : Bool) (cells : List Cell) (units : List ℕ)
     → (after_seek Forward fold cells units ≡ None) ↔ ((place : ℕ) → FitsAt fold cells units place → ⊥)
 
--- ToEnd leaves nothing, exactly where the fragment fits at the end
+-- ToEnd leaves nothing, exactly if the fragment fits at the end
 abbrev pub EndIsTheLastPlace : Type 0
 EndIsTheLastPlace = (fold : Bool) (cells : List Cell) (units rest : List ℕ)
     → (after_seek ToEnd fold cells units ≡ Some rest) ↔ (FitsAt fold cells units (length units - length cells) × (rest ≡ []))
 
--- with EXACT nothing is left, exactly where nothing is left without it
+-- with EXACT nothing is left, exactly if nothing is left without it
 abbrev pub ExactLeavesNothing : Type 0
 ExactLeavesNothing = (cells : List Cell) (seek : Seek) (options : Options) (units rest : List ℕ) → has options EXACT ≡ true
     → (after_text cells seek options units ≡ Some rest) ↔ ((after_seek seek (has options FOLD) cells units ≡ Some []) × (rest ≡ []))

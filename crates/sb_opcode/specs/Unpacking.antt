@@ -78,7 +78,7 @@ text_record head param count second later =
     then option_map (λ seek. (opcode_in head param (Text (map cell_of (take count later)) seek), drop count later)) (seek_in head)
     else None
 
--- the first opcode and the words after its record, where the words begin with a record
+-- the first opcode and the words after its record, if the words begin with a record
 abbrev pub first_record : List ℕ → Option (Opcode × List ℕ)
 first_record (head ∷ param ∷ first ∷ second ∷ later) =
     if not (nat_lt param (2 ^ 32)) then None
@@ -93,7 +93,7 @@ unpacked_within zero (word ∷ words) = None
 unpacked_within (suc n) (word ∷ words) =
     option_and_then (λ first. option_map (λ ops. first.0 ∷ ops) (unpacked_within n first.1)) (first_record (word ∷ words))
 
--- the opcodes whose packing the words are, where there are such opcodes; a record has a word at least
+-- the opcodes whose packing the words are, if there are such opcodes; a record has a word at least
 abbrev pub unpacked : List ℕ → Option (List Opcode)
 unpacked words = unpacked_within (length words) words
 
@@ -105,7 +105,7 @@ is_packed words = is_some (unpacked words)
 abbrev pub opcodes_of : List ℕ → List Opcode
 opcodes_of words = unwrap_or (unpacked words) []
 
--- words unpack to opcodes exactly where they are the packing of these
+-- words unpack to opcodes exactly if they are the packing of these
 abbrev pub PackingComesBack : Type 0
 PackingComesBack = (words : List ℕ) (ops : List Opcode)
     → (unpacked words ≡ Some ops) ↔ ((packed ops ≡ words) × (list_all is_sized ops ≡ true))
@@ -143,7 +143,7 @@ kind_known kind first second =
 abbrev pub opcode_known : ℕ → ℕ → OpKind → Opcode
 opcode_known head param kind = record { kind = kind; param = param % 2 ^ 32; options = options_of (options_part head) }
 
--- the words after a record: past its cells, where it has some
+-- the words after a record: past its cells, if it has some
 abbrev pub after_known : ℕ → ℕ → List ℕ → List ℕ
 after_known head first later = if kind_part head == 5 then drop first later else later
 

@@ -7,7 +7,7 @@ use Rattle.sb_call.specs.declared.arguments.Arg.TheVariants as arg
 use Rattle.sb_opcode.specs.Groups.{is_act, is_last}
 use Rattle.sb_opcode.specs.Options.{has, NEGATE, OR}
 use Rattle.sb_opcode.specs.Opcodes.{Opcode}
-use Rattle.sb_opcode.specs.Meaning.{after_opcode, turned, action_of_rule}
+use Rattle.sb_opcode.specs.Meaning.{after_opcode, negate_if, action_of_rule}
 use Rattle.sb_rule.specs.declared.verdicts.Verdict.{Verdict}
 use Rattle.sb_rule.specs.declared.verdicts.Verdict.TheVariants.{NoRule}
 use Rattle.sb_opcode.specs.declared.effects.Place.{Place}
@@ -37,12 +37,12 @@ standing_of (state.Decided holds) = Decided holds
 standing_of state.Failed = Failed
 
 -- before the first opcode of a group
-abbrev pub begun : List Arg → Opcode → Standing
-begun args op = if has op.options OR then One (arg_at args op.param) else All (arg_at args op.param)
+abbrev pub group_start : List Arg → Opcode → Standing
+group_start args op = if has op.options OR then One (arg_at args op.param) else All (arg_at args op.param)
 
 -- before an opcode, within its group
 abbrev pub entered : List Arg → Standing → Opcode → Standing
-entered args Between op = begun args op
+entered args Between op = group_start args op
 entered args (All left) op = All left
 entered args (One whole) op = One whole
 entered args (Decided holds) op = Decided holds
@@ -67,15 +67,15 @@ looked_at (Decided holds) op = Decided holds
 looked_at Failed op = Failed
 
 -- after a group that holds, or does not
-abbrev pub passed : Bool → Standing
-passed holds = if holds then Between else Failed
+abbrev pub group_end : Bool → Standing
+group_end holds = if holds then Between else Failed
 
 -- after the last opcode of a group
 abbrev pub closed : Bool → Standing → Standing
-closed negated Between = passed (turned negated true)
-closed negated (All left) = passed (turned negated true)
-closed negated (One whole) = passed (turned negated false)
-closed negated (Decided holds) = passed (turned negated holds)
+closed negated Between = group_end (negate_if negated true)
+closed negated (All left) = group_end (negate_if negated true)
+closed negated (One whole) = group_end (negate_if negated false)
+closed negated (Decided holds) = group_end (negate_if negated holds)
 closed negated Failed = Failed
 
 -- after an opcode that is no action
@@ -99,7 +99,7 @@ abbrev pub walk : List Arg → Standing → List Opcode → Verdict
 walk args s [] = NoRule
 walk args s (op ∷ ops) = if is_act op && not (is_failed s) then action_of_rule (op ∷ []) else walk args (moved args s op) ops
 
--- what the first rule gives where it does not fail, and nothing of the rules after it
+-- what the first rule gives if it does not fail, and nothing of the rules after it
 abbrev pub rule_walk : List Arg → Standing → List Opcode → Verdict
 rule_walk args s [] = NoRule
 rule_walk args s (op ∷ ops) = if is_act op then (if is_failed s then NoRule else action_of_rule (op ∷ [])) else rule_walk args (step args s op) ops

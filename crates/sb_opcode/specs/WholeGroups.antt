@@ -45,7 +45,7 @@ is_whole_rule rule = acts_at_end rule && list_all is_whole_group (groups_of rule
 abbrev pub PartsAreTheList : Type 0
 PartsAreTheList = (test : Opcode → Bool) (ops : List Opcode) → flat_map (λ part. part) (cut_after test ops) ≡ ops
 
--- a code has no fault exactly where it ends with an action, its rules are whole, and each of its opcodes suits its parameter
+-- a code has no fault exactly if it ends with an action, its rules are whole, and each of its opcodes suits its parameter
 abbrev pub FaultlessCodesAreWhole : Type 0
 FaultlessCodesAreWhole = (tag : CallTag) (ops : List Opcode)
     → (fault_of tag ops ≡ None)

@@ -10,7 +10,6 @@ use crate::opcodes::{OpKind, Opcode};
 use crate::options::Options;
 use bitflags::Flags;
 use sb_call::{CallTag, ParamKind, shape};
-use sb_rule::is_number_kind;
 
 fn is_act(opcode: &Opcode<'_>) -> bool
     ensures { result ≡ is_act (opcode_of opcode.now) }
@@ -37,7 +36,7 @@ fn ends_with_act(code: &Code) -> bool
     ends
 }
 
-// Whether the group goes on behind an opcode.
+// Whether the group goes on after an opcode.
 fn goes_on(before: &Option<Opcode<'_>>) -> bool
     ensures { result ≡ goes_on (option_map opcode_of before.now) }
 {
@@ -95,8 +94,8 @@ fn first_open(code: &Code) -> Option<u32>
 fn is_number_at(tag: CallTag, param: u32) -> bool
     ensures { result ≡ is_number_at tag param }
 {
-    match shape(tag).get(param as usize) {
-        Some(kind) => is_number_kind(*kind),
+    match tag.param_kind(param) {
+        Some(kind) => kind.is_number(),
         None => false,
     }
 }
@@ -104,8 +103,8 @@ fn is_number_at(tag: CallTag, param: u32) -> bool
 fn is_string_at(tag: CallTag, param: u32) -> bool
     ensures { result ≡ is_string_at tag param }
 {
-    match shape(tag).get(param as usize) {
-        Some(kind) => !is_number_kind(*kind),
+    match tag.param_kind(param) {
+        Some(kind) => !kind.is_number(),
         None => false,
     }
 }

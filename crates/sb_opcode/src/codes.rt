@@ -19,9 +19,9 @@ use std::marker::Model;
 /// Opcodes, packed in one list of words and seen as the list of opcodes whose packing the words are. There are fewer than
 /// 2^32 opcodes.
 ///
-/// Each opcode is a record of four words, followed by its cells where it is a text opcode. The first word is
+/// Each opcode is a record of four words, followed by its cells if it is a text opcode. The first word is
 /// `kind + options * 2^8 + seek * 2^16 + skip * 2^32`, where the kinds are numbered from `False` 0 to `Act` 6 in their
-/// order and the seeks from `Skip` 0 to `ToEnd` 2, and seek and skip are 0 where there are none. The second word is the
+/// order and the seeks from `Skip` 0 to `ToEnd` 2, and seek and skip are 0 if there are none. The second word is the
 /// parameter. The third and the fourth are the number and 0, `lo` and `hi`, the mask and 0, the number of cells and 0, the
 /// number of the action and the line, or 0 and 0. A cell is one word: a unit is itself, `?` is 65536, `*` is 65537.
 pub struct Code {

@@ -1,7 +1,8 @@
 // What one opcode leaves of an argument.
-ghost use Rattle.std.specs.Prelude.{◌≡◌, map, option_map};
+ghost use Rattle.std.specs.Prelude.{◌≡◌, Bool, false, None, map, option_map};
 ghost use Rattle.sb_opcode.specs.Records.{kind_of, opcode_of};
 ghost use Rattle.sb_opcode.specs.Unpacking.{cell_of};
+ghost use Rattle.sb_opcode.specs.Fragments.{after_seek, at_end};
 ghost use Rattle.sb_opcode.specs.Meaning.{number_holds, after_text, units_left, after_opcode};
 ghost use Rattle.sb_opcode.specs.Walking.{arg_from};
 
@@ -17,6 +18,7 @@ pub(crate) enum Place<'a> {
     Units(&'a [u16]),
 }
 
+#[inline(always)]
 fn number_holds(opcode: &Opcode<'_>, value: u64) -> bool
     ensures { result ≡ number_holds (kind_of opcode.now.kind) value }
 {
@@ -29,6 +31,19 @@ fn number_holds(opcode: &Opcode<'_>, value: u64) -> bool
     }
 }
 
+// Whether a string may end with a fragment that stands where it is sought, by their lengths.
+#[inline(always)]
+fn may_end(seek: Seek, cells: &[u64], units: &[u16]) -> bool
+    ensures { result ≡ false → (fold : Bool) → at_end (after_seek seek fold (map cell_of cells.now) units.now) ≡ None }
+{
+    match seek {
+        Seek::Skip(count) => units.len() >= cells.len()
+            && units.len() - cells.len() == count as usize,
+        Seek::Forward | Seek::ToEnd => true,
+    }
+}
+
+#[inline(always)]
 fn after_text<'a>(
     cells: &[u64],
     seek: Seek,
@@ -37,14 +52,17 @@ fn after_text<'a>(
 ) -> Option<&'a [u16]>
     ensures { option_map (λ us. us.now) result ≡ after_text (map cell_of cells.now) seek options units.now }
 {
-    let left = after_seek(seek, options.contains(Options::FOLD), cells, units)?;
-    if options.contains(Options::EXACT) {
-        at_end(left)
-    } else {
-        Some(left)
+    let folding = options.contains(Options::FOLD);
+    if !options.contains(Options::EXACT) {
+        return after_seek(seek, folding, cells, units);
     }
+    if !may_end(seek, cells, units) {
+        return None;
+    }
+    at_end(after_seek(seek, folding, cells, units)?)
 }
 
+#[inline(always)]
 fn units_left<'a>(opcode: &Opcode<'_>, units: &'a [u16]) -> Option<&'a [u16]>
     ensures { option_map (λ us. us.now) result ≡ units_left (kind_of opcode.now.kind) opcode.now.options units.now }
 {
@@ -60,6 +78,7 @@ fn units_left<'a>(opcode: &Opcode<'_>, units: &'a [u16]) -> Option<&'a [u16]>
 }
 
 // What an opcode leaves of an argument of which it holds.
+#[inline(always)]
 pub(crate) fn after_opcode<'a>(opcode: &Opcode<'_>, place: Place<'a>) -> Option<Place<'a>>
     ensures { option_map arg_from result ≡ after_opcode (opcode_of opcode.now) (arg_from place.entry) }
 {

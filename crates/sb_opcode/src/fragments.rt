@@ -1,43 +1,78 @@
 // Where a fragment stands in a string. The fragment's cells are packed words, and a position is what is left of the
 // string from there on.
-ghost use Rattle.std.specs.Prelude.{◌≡◌, map, option_map, Some};
+ghost use Rattle.std.specs.Prelude.{◌≡◌, false, map, option_map, None, Some};
 ghost use Rattle.sb_opcode.specs.Unpacking.{cell_of};
 ghost use Rattle.sb_opcode.specs.Fragments.{unit_fits, after_fragment, after_units, after_first, after_end, after_seek, at_end};
 
 use crate::opcodes::Seek;
-use sb_wide::fold;
+use sb_wide::to_ascii_uppercase;
 
 // The word of `?`, above those of all units.
 const ONE: u64 = 65536;
 
+#[inline(always)]
 fn unit_fits(folding: bool, cell: u64, unit: u16) -> bool
     ensures { result ≡ unit_fits folding (cell_of cell) unit }
 {
+    if cell == u64::from(unit) {
+        return true;
+    }
     if cell >= ONE {
         return cell == ONE;
     }
-    let wanted = cell as u16;
-    if folding {
-        fold(unit) == fold(wanted)
-    } else {
-        unit == wanted
-    }
+    folding && to_ascii_uppercase(unit) == to_ascii_uppercase(cell as u16)
 }
 
+// Whether the string is long enough and its unit at the place of the fragment's last cell fits. Names often begin alike, so this
+// tells apart at once what differs late.
+#[inline(always)]
+#[tactic(auto, using(crate::proofs::PlaceLemmas::too_short, crate::proofs::PlaceLemmas::last_misfits))]
+fn may_stand(folding: bool, cells: &[u64], units: &[u16]) -> bool
+    ensures { result ≡ false → after_fragment folding (map cell_of cells.now) units.now ≡ None }
+{
+    if cells.len() == 0 {
+        return true;
+    }
+    let last = cells.len() - 1;
+    if last >= units.len() {
+        return false;
+    }
+    unit_fits(folding, cells[last], units[last])
+}
+
+// Four cells at a time, as long as there are four, and then one by one.
+#[inline(always)]
 fn after_fragment<'a>(folding: bool, cells: &[u64], units: &'a [u16]) -> Option<&'a [u16]>
     ensures { option_map (λ us. us.now) result ≡ after_fragment folding (map cell_of cells.now) units.now }
 {
-    let mut cells = cells;
-    let mut units = units;
-    while let Some((cell, later_cells)) = cells.split_first() {
-        let (unit, later_units) = units.split_first()?;
+    if !may_stand(folding, cells, units) {
+        return None;
+    }
+    let mut wanted = cells;
+    let mut left = units;
+    while let [a, b, c, d, later_cells @ ..] = wanted {
+        let [p, q, r, s, later_units @ ..] = left else {
+            break;
+        };
+        if !unit_fits(folding, *a, *p)
+            || !unit_fits(folding, *b, *q)
+            || !unit_fits(folding, *c, *r)
+            || !unit_fits(folding, *d, *s)
+        {
+            return None;
+        }
+        wanted = later_cells;
+        left = later_units;
+    }
+    while let Some((cell, later_cells)) = wanted.split_first() {
+        let (unit, later_units) = left.split_first()?;
         if !unit_fits(folding, *cell, *unit) {
             return None;
         }
-        cells = later_cells;
-        units = later_units;
+        wanted = later_cells;
+        left = later_units;
     }
-    Some(units)
+    Some(left)
 }
 
 fn after_units(count: u16, units: &[u16]) -> Option<&[u16]>
@@ -53,14 +88,19 @@ fn after_units(count: u16, units: &[u16]) -> Option<&[u16]>
 fn after_first<'a>(folding: bool, cells: &[u64], units: &'a [u16]) -> Option<&'a [u16]>
     ensures { option_map (λ us. us.now) result ≡ after_first folding (map cell_of cells.now) units.now }
 {
+    let Some((first, later_cells)) = cells.split_first() else {
+        return Some(units);
+    };
     let mut rest = units;
-    while let Some((_, later)) = rest.split_first() {
-        if let Some(left) = after_fragment(folding, cells, rest) {
-            return Some(left);
+    while let Some((unit, later)) = rest.split_first() {
+        if unit_fits(folding, *first, *unit) {
+            if let Some(left) = after_fragment(folding, later_cells, later) {
+                return Some(left);
+            }
         }
         rest = later;
     }
-    after_fragment(folding, cells, rest)
+    None
 }
 
 fn after_end<'a>(folding: bool, cells: &[u64], units: &'a [u16]) -> Option<&'a [u16]>
@@ -89,7 +129,7 @@ pub(crate) fn after_seek<'a>(
     }
 }
 
-// The position, where nothing is left.
+// The position, if nothing is left.
 pub(crate) fn at_end(left: &[u16]) -> Option<&[u16]>
     ensures { option_map (λ us. us.now) result ≡ at_end (Some left.now) }
 {

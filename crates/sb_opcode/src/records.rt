@@ -70,7 +70,7 @@ fn after_text(head: u64, param: u64, count: u64, second: u64, later: &[u64]) -> 
     }
 }
 
-// The words after the first record. None where the words begin with no record.
+// The words after the first record. None if the words begin with no record.
 pub(crate) fn after_record(words: &[u64]) -> Option<&[u64]>
     ensures { option_map (λ w. w.now) result ≡ option_map (λ r. r.1) (first_record words.now) }
 {
@@ -89,6 +89,7 @@ pub(crate) fn after_record(words: &[u64]) -> Option<&[u64]>
     }
 }
 
+#[inline(always)]
 fn seek_known(head: u64) -> Seek
     ensures { result ≡ seek_known head }
 {
@@ -99,6 +100,7 @@ fn seek_known(head: u64) -> Seek
     }
 }
 
+#[inline(always)]
 fn action_known(number: u64) -> Action
     ensures { result ≡ action_known number }
 {
@@ -111,6 +113,7 @@ fn action_known(number: u64) -> Action
     }
 }
 
+#[inline(always)]
 fn kind_known<'a>(kind: u64, first: u64, second: u64) -> OpKind<'a>
     ensures { kind_of result ≡ kind_known kind first second }
 {
@@ -130,7 +133,8 @@ fn kind_known<'a>(kind: u64, first: u64, second: u64) -> OpKind<'a>
     }
 }
 
-// The words after a record of packed words: past its cells, where it has some.
+// The words after a record of packed words: past its cells, if it has some.
+#[inline(always)]
 fn after_known(head: u64, first: u64, later: &[u64]) -> &[u64]
     requires { (kind_part head == 5) ≡ true → first ≤ length later.now }
     ensures { result.now ≡ after_known head first later.now }
@@ -144,6 +148,7 @@ fn after_known(head: u64, first: u64, later: &[u64]) -> &[u64]
 }
 
 // What the first opcode of packed words does.
+#[inline(always)]
 fn does_known<'a>(head: u64, first: u64, second: u64, later: &'a [u64]) -> OpKind<'a>
     requires { (kind_part head == 5) ≡ true → first ≤ length later.now }
     ensures { kind_of result ≡ does_known head first second later.now }
@@ -158,6 +163,7 @@ fn does_known<'a>(head: u64, first: u64, second: u64, later: &'a [u64]) -> OpKin
 }
 
 // The first record of packed words, and the words after it. The words are not tested again.
+#[inline(always)]
 #[tactic(auto, using(crate::proofs::KnownLemmas::cells_there))]
 fn first_known<'a>(words: &'a [u64]) -> Option<(Opcode<'a>, &'a [u64])>
     requires { is_packed words.now ≡ true }
@@ -217,6 +223,7 @@ impl<'a> Records<'a> {
         Records { rest: words }
     }
 
+    #[inline(always)]
     #[tactic(auto, using(crate::proofs::KnownLemmas::no_opcode))]
     /// The next opcode. Nothing of its words is tested again.
     pub fn next_record(&mut self) -> Option<Opcode<'a>>
@@ -228,7 +235,7 @@ impl<'a> Records<'a> {
     }
 
     #[tactic(auto, using(crate::proofs::KnownLemmas::no_passed))]
-    /// Passes over the next opcode, and over its cells by their number. Returns whether it is an action, and None where
+    /// Passes over the next opcode, and over its cells by their number. Returns whether it is an action, and None if
     /// there is no opcode.
     pub fn pass_record(&mut self) -> Option<bool>
         ensures { MatchOption result ((self.old ≡ []) × (self.new ≡ [])) (λ acts. IsPassed acts self.old self.new) }

@@ -1,9 +1,10 @@
 // Where the walk over a code stands within a rule, and what an opcode makes of it.
-ghost use Rattle.std.specs.Prelude.{◌≡◌};
+ghost use Rattle.std.specs.Prelude.{◌≡◌, true};
 ghost use Rattle.sb_call.specs.Arguments.{arg_at};
+ghost use Rattle.sb_opcode.specs.Groups.{is_last};
 ghost use Rattle.sb_opcode.specs.Records.{opcode_of};
-ghost use Rattle.sb_opcode.specs.Meaning.{turned};
-ghost use Rattle.sb_opcode.specs.Walking.{arg_from, standing_of, begun, entered, looked_at, passed, closed, step, is_failed};
+ghost use Rattle.sb_opcode.specs.Meaning.{negate_if};
+ghost use Rattle.sb_opcode.specs.Walking.{arg_from, standing_of, group_start, entered, looked_at, group_end, closed, step, is_failed, Between};
 
 use crate::effects::{Place, after_opcode};
 use crate::opcodes::Opcode;
@@ -27,6 +28,7 @@ pub(crate) enum State<'a> {
 }
 
 // The argument of a parameter, from its beginning on.
+#[inline(always)]
 fn place_at(args: &[Arg], param: u32) -> Place<'_>
     ensures { arg_from result ≡ arg_at args.now param }
 {
@@ -38,8 +40,8 @@ fn place_at(args: &[Arg], param: u32) -> Place<'_>
 }
 
 // Before the first opcode of a group.
-fn begun<'a>(opcode: &Opcode<'_>, args: &'a [Arg]) -> State<'a>
-    ensures { standing_of result ≡ begun args.now (opcode_of opcode.now) }
+fn group_start<'a>(opcode: &Opcode<'_>, args: &'a [Arg]) -> State<'a>
+    ensures { standing_of result ≡ group_start args.now (opcode_of opcode.now) }
 {
     let place = place_at(args, opcode.param);
     if opcode.options.contains(Options::OR) {
@@ -54,7 +56,7 @@ fn entered<'a>(state: State<'a>, opcode: &Opcode<'_>, args: &'a [Arg]) -> State<
     ensures { standing_of result ≡ entered args.now (standing_of state.entry) (opcode_of opcode.now) }
 {
     match state {
-        State::Between => begun(opcode, args),
+        State::Between => group_start(opcode, args),
         State::All(_) | State::One(_) | State::Decided(_) | State::Failed => state,
     }
 }
@@ -76,15 +78,17 @@ fn looked_at<'a>(state: State<'a>, opcode: &Opcode<'_>) -> State<'a>
     }
 }
 
-fn turned(negated: bool, holds: bool) -> bool
-    ensures { result ≡ turned negated holds }
+#[inline(always)]
+fn negate_if(negated: bool, holds: bool) -> bool
+    ensures { result ≡ negate_if negated holds }
 {
     if negated { !holds } else { holds }
 }
 
 // After a group that holds, or does not.
-fn passed<'a>(holds: bool) -> State<'a>
-    ensures { standing_of result ≡ passed holds }
+#[inline(always)]
+fn group_end<'a>(holds: bool) -> State<'a>
+    ensures { standing_of result ≡ group_end holds }
 {
     if holds { State::Between } else { State::Failed }
 }
@@ -94,15 +98,46 @@ fn closed<'a>(state: State<'a>, negated: bool) -> State<'a>
     ensures { standing_of result ≡ closed negated (standing_of state.entry) }
 {
     match state {
-        State::Between | State::All(_) => passed(turned(negated, true)),
-        State::One(_) => passed(turned(negated, false)),
-        State::Decided(holds) => passed(turned(negated, holds)),
+        State::Between | State::All(_) => group_end(negate_if(negated, true)),
+        State::One(_) => group_end(negate_if(negated, false)),
+        State::Decided(holds) => group_end(negate_if(negated, holds)),
         State::Failed => State::Failed,
     }
 }
 
-// After an opcode that is no action.
+// Whether a group begins with an opcode and ends with it.
+#[inline(always)]
+fn is_alone(state: State<'_>, opcode: &Opcode<'_>) -> bool
+    ensures state { result ≡ true → standing_of state.entry ≡ Between }
+    ensures last { result ≡ true → is_last (opcode_of opcode.now) ≡ true }
+{
+    matches!(state, State::Between) && opcode.options.contains(Options::CLEAR)
+}
+
+// After the one opcode of a group.
+#[inline(always)]
+fn step_alone<'a>(opcode: &Opcode<'_>, args: &'a [Arg]) -> State<'a>
+    requires { is_last (opcode_of opcode.now) ≡ true }
+    ensures { standing_of result ≡ step args.now Between (opcode_of opcode.now) }
+{
+    let holds = after_opcode(opcode, place_at(args, opcode.param)).is_some();
+    group_end(negate_if(opcode.options.contains(Options::NEGATE), holds))
+}
+
+// After an opcode that is no action. Most groups have one opcode, and for these nothing is kept.
+#[inline(always)]
 pub(crate) fn step<'a>(state: State<'a>, opcode: &Opcode<'_>, args: &'a [Arg]) -> State<'a>
+    ensures { standing_of result ≡ step args.now (standing_of state.entry) (opcode_of opcode.now) }
+{
+    if is_alone(state, opcode) {
+        return step_alone(opcode, args);
+    }
+    let opcode = *opcode;
+    step_within(state, &opcode, args)
+}
+
+// After an opcode that is no action, within a group of several.
+fn step_within<'a>(state: State<'a>, opcode: &Opcode<'_>, args: &'a [Arg]) -> State<'a>
     ensures { standing_of result ≡ step args.now (standing_of state.entry) (opcode_of opcode.now) }
 {
     let state = looked_at(entered(state, opcode, args), opcode);
@@ -114,6 +149,7 @@ pub(crate) fn step<'a>(state: State<'a>, opcode: &Opcode<'_>, args: &'a [Arg]) -
 }
 
 // Whether the rule does not hold.
+#[inline(always)]
 pub(crate) fn is_failed(state: State<'_>) -> bool
     ensures { result ≡ is_failed (standing_of state.entry) }
 {

@@ -74,7 +74,7 @@ pub struct VerifyRefused {
 /// Verifies a code for the calls of a tag. Does not allocate.
 ///
 /// # Errors
-/// `NoAction`, `OpenGroup` and `BadParam` exactly where the code has this as its first fault, by their order and then by
+/// `NoAction`, `OpenGroup` and `BadParam` exactly if the code has this as its first fault, by their order and then by
 /// the place. The code is given back.
 pub fn verify(tag: CallTag, code: Code) -> Result<Verified, VerifyRefused>
     ensures { MatchResult result (λ verified. (fault_of tag code ≡ None) × (verified.tag ≡ tag) × (verified.code ≡ code))
@@ -99,7 +99,7 @@ pub struct WordsRefused {
 /// given. Does not allocate.
 ///
 /// # Errors
-/// `NotPacked` exactly where the words are the packing of no opcodes, and `Code` exactly where they are the packing of
+/// `NotPacked` exactly if the words are the packing of no opcodes, and `Code` exactly if they are the packing of
 /// opcodes that `verify` refuses, with the same fault. The words are given back.
 pub fn verify_words(tag: CallTag, words: Vec<u64>) -> Result<Verified, WordsRefused>
     requires { length words.items < 2 ^ 32 }

@@ -51,7 +51,7 @@ fn walk(code: &Code, args: &[Arg]) -> Verdict
 /// The verdict of a verified code on a call whose arguments fit: the line and the action of the first rule all of whose
 /// groups hold, and `NoRule` exactly if no rule holds.
 ///
-/// A group looks at the argument of its parameter. With OR one of its opcodes is to hold; without it all are, where each
+/// A group looks at the argument of its parameter. With OR one of its opcodes is to hold; without it all are, if each
 /// text opcode begins in the string where the one before it ended, and the first at the beginning. NEGATE on the last
 /// opcode negates the group's result. A fragment with `*` stands nowhere.
 ///

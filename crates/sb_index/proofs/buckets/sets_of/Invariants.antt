@@ -1,6 +1,10 @@
-use Rattle.std.proofs.Common.{◌≡◌, length}
-use Rattle.sb_index.specs.Tables.{AreBuckets}
+use Rattle.std.proofs.Common.{◌≡◌, ◌≤◌, ◌<◌, ℕ, [], length, take}
+use Rattle.std.specs.Prelude.{slice_index_or}
+use Rattle.sb_index.specs.Tables.{Covers, rules_for}
+use Rattle.sb_index.specs.declared.questions.Question.TheVariants.{Without}
 use Rattle.sb_index.proofs.buckets.sets_of.Given as goal
 
-abbrev pub invariant-loop-bucket : goal.invariant-loop-bucket
-invariant-loop-bucket l = (length l.sets.items ≡ l.bucket) × AreBuckets l.rules l.tag l.param l.sets.items
+abbrev pub invariant-loop-rule : goal.invariant-loop-rule
+invariant-loop-rule l =
+    (l.at ≡ length (rules_for l.tag (take l.rule-index l.rules))) × (l.at ≤ l.rule-index) × (length l.sets.items ≡ 64)
+    × ((bucket : ℕ) → bucket < 64 → Covers (take l.rule-index l.rules) l.tag (Without l.param bucket) (slice_index_or l.sets.items bucket []))

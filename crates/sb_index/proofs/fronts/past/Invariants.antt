@@ -1,4 +1,4 @@
-use Rattle.std.proofs.Common.{◌≡◌, length}
+use Rattle.std.proofs.Common.{◌≡◌}
 use Rattle.sb_index.specs.Fronts.{past}
 use Rattle.sb_index.proofs.fronts.past.Given as goal
 

@@ -1,4 +1,4 @@
-use Rattle.std.proofs.Common.{rules, ◌≡◌, ◌<◌, true, false, length, ap, refl, arith}
+use Rattle.std.proofs.Common.{rules, ◌≡◌, true, false, length, ap, refl, arith}
 use Rattle.sb_opcode.specs.Groups.{is_act}
 use Rattle.sb_opcode.specs.Records.{opcode_of}
 use Rattle.sb_opcode.specs.Walking.{walk, standing_of, is_failed, Between}

@@ -1,13 +1,15 @@
-use Rattle.std.proofs.Common.{◌≡◌, ◌<◌, ◌%◌, ℕ, length, subst}
+use Rattle.std.proofs.Common.{◌≡◌, subst}
 use Rattle.std.specs.Int.{bit_at}
-use Rattle.std.specs.Prelude.{slice_index_or}
-use Rattle.sb_wide.specs.Wide.{folded}
+use Rattle.std.specs.List.{list_any}
+use Rattle.std.specs.Prelude.{if◌then◌else◌}
+use Rattle.sb_index.specs.Questions.{is_in_bucket}
 use Rattle.sb_index.proofs.buckets.Buckets.narrow.Goals as goal
 
 pub narrow_by-requires-clause-bits : goal.narrow_by-requires-clause-bits
 narrow_by-requires-clause-bits c =
-    subst (λ us. (i : ℕ) (d : ℕ) → i < length us → bit_at c.present-bits.result (folded (slice_index_or us i d) % 64) ≡ 1)
-    c.units_in.ensures c.present-bits.ensures
+    let bucket = c.lowest.result in
+    let bits = c.units_bits-bits in
+    subst (λ us. bit_at bits.result bucket ≡ (if list_any (is_in_bucket bucket) us then 1 else 0)) c.units_in.ensures (bits.ensures bucket)
 
-pub loop-bucket-preserved : goal.loop-bucket-preserved
-loop-bucket-preserved c rules tag is old = c.narrow_by.ensures rules tag is (c.loop-bucket.invariant rules tag is old)
+pub loop-left-preserved : goal.loop-left-preserved
+loop-left-preserved c rules tag is old = c.narrow_by.ensures rules tag is (c.loop-left.invariant rules tag is old)

@@ -1,4 +1,4 @@
-use Rattle.std.proofs.Common.{◌≡◌, ◌≤◌, List, length}
+use Rattle.std.proofs.Common.{◌≤◌, List, length}
 use Rattle.sb_call.specs.declared.tags.CallTag.{CallTag}
 use Rattle.sb_rule.specs.declared.policies.Rule.{Rule}
 use Rattle.sb_index.specs.Tables.{IsIndex, HasAllThatHold}

@@ -1,4 +1,4 @@
-use Rattle.std.proofs.Common.{◌≡◌, ◌≤◌, ◌<◌, ◌-◌, ℕ}
+use Rattle.std.proofs.Common.{◌≤◌, ◌<◌, ◌-◌, ℕ}
 use Rattle.sb_index.specs.Sets.{Has}
 use Rattle.sb_index.proofs.sets.RuleSet.next_from.Given as goal
 

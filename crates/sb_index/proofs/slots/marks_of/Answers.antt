@@ -1,0 +1,22 @@
+use Rattle.sb_index.specs.Bounds.{first_of, last_of}
+use Rattle.sb_index.specs.Marks.{IsMarked}
+use Rattle.sb_index.specs.declared.questions.Question.TheVariants.{Within}
+use Rattle.sb_index.proofs.TableLemmas.{next_put, rule_put}
+use Rattle.sb_index.proofs.slots.marks_of.Goals as goal
+
+pub loop-rule-preserved : goal.loop-rule-preserved
+loop-rule-preserved c =
+    let rules = c.args.rules.now in
+    let tag = c.args.tag in
+    let bounds = c.args.bounds.now in
+    let i = c.loop-rule.rule-index in
+    let rule = c.rule-item.result in
+    let old = c.loop-rule.invariant in
+    let put = c.put_next-at in
+    let next = next_put rules tag i rule c.loop-rule.at put.result c.loop-rule-test.true c.rule-item.is old.1 old.2 put.ensures.next in (
+      put.ensures.sized,
+      next.0,
+      next.1,
+      λ slot h. rule_put rules tag (Within c.args.feature (first_of bounds slot) (last_of bounds slot)) i rule c.loop-rule.at (IsMarked c.loop-rule.marks slot)
+          (IsMarked put.new.marks slot) c.loop-rule-test.true c.rule-item.is old.1 (old.3 slot h) (put.ensures.kept slot) (λ mine. put.ensures.added mine slot h),
+    )

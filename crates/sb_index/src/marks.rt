@@ -1,0 +1,130 @@
+// Rules that are put to the slots in which they may hold.
+ghost use Rattle.std.specs.Prelude.{◌≡◌, ◌<◌, ◌≤◌, ◌+◌, ◌-◌, ℕ, [], length, IfOk, slice_index_or};
+ghost use Rattle.sb_index.specs.Marks.{AreKept, AreSized, HasUpTo, IsMarked};
+ghost use Rattle.sb_index.specs.Sets.{Has};
+
+use crate::sets::RuleSet;
+use sb_wide::NoMemory;
+use std::alloc::Global;
+
+/// In which slots rules may hold: some in single slots, the others from the slot in which they begin to that in which they end. So a rule
+/// takes as long in all slots as in one.
+#[derive(Drop)]
+pub struct Marks {
+    /// For each slot the rules that may hold in it.
+    pub points: Vec<RuleSet>,
+    /// For each slot the rules that may hold from it on.
+    pub begins: Vec<RuleSet>,
+    /// For each slot, the last one first, the rules that may hold up to it.
+    pub ends: Vec<RuleSet>,
+}
+
+/// Empty sets.
+pub fn empty_sets(alloc: Global, count: usize) -> Result<Vec<RuleSet>, NoMemory>
+    ensures { IfOk result (λ sets. length sets.items ≡ count) }
+{
+    let mut sets = Vec::with_capacity(alloc, count)?;
+    for _ in 0..count {
+        sets.push(RuleSet::none())?;
+    }
+    Ok(sets)
+}
+
+/// Puts a number into one of the sets.
+pub fn put(sets: &mut Vec<RuleSet>, slot: usize, number: usize)
+    requires slot { slot < length sets.old.items }
+    requires number { number < 256 }
+    ensures many { length sets.new.items ≡ length sets.old.items }
+    ensures added { Has (slice_index_or sets.new.items slot []) number }
+    ensures kept { (s : ℕ) (k : ℕ) → Has (slice_index_or sets.old.items s []) k → Has (slice_index_or sets.new.items s []) k }
+{
+    sets[slot].insert(number);
+}
+
+// For each set what the sets up to it have together.
+fn unions(alloc: Global, sets: &[RuleSet]) -> Result<Vec<RuleSet>, NoMemory>
+    ensures many { IfOk result (λ all. length all.items ≡ length sets.now) }
+    ensures up { IfOk result (λ all. (slot : ℕ) (k : ℕ) → slot < length sets.now → HasUpTo sets.now slot k → Has (slice_index_or all.items slot []) k) }
+{
+    let mut all = Vec::with_capacity(alloc, sets.len())?;
+    let mut set = RuleSet::none();
+    for one in sets {
+        set.unite(one);
+        all.push(set.copy())?;
+    }
+    Ok(all)
+}
+
+// The rules that may hold in a slot.
+fn merged(point: &RuleSet, begun: &RuleSet, unended: &RuleSet) -> RuleSet
+    ensures point { (k : ℕ) → Has point.now k → Has result k }
+    ensures both { (k : ℕ) → Has begun.now k → Has unended.now k → Has result k }
+{
+    let mut set = begun.copy();
+    set.intersect(unended);
+    set.unite(point);
+    set
+}
+
+impl Marks {
+    /// No rule in any slot.
+    ///
+    /// # Errors
+    /// `NoMemory` if there was none for the sets.
+    pub fn new(alloc: Global, slots: usize) -> Result<Marks, NoMemory>
+        ensures { IfOk result (λ marks. AreSized marks slots) }
+    {
+        let points = empty_sets(alloc, slots)?;
+        let begins = empty_sets(alloc, slots)?;
+        let ends = empty_sets(alloc, slots)?;
+        Ok(Marks {
+            points,
+            begins,
+            ends,
+        })
+    }
+
+    /// Puts a rule to one slot.
+    pub fn put_point(&mut self, slots: usize, slot: usize, number: usize)
+        requires sized { AreSized self.old slots }
+        requires slot { slot < slots }
+        requires number { number < 256 }
+        ensures sized { AreSized self.new slots }
+        ensures kept { AreKept self.old self.new }
+        ensures added { IsMarked self.new slot number }
+    {
+        put(&mut self.points, slot, number);
+    }
+
+    /// Puts a rule to the slots from the first to the last.
+    pub fn put_run(&mut self, slots: usize, first: usize, last: usize, number: usize)
+        requires sized { AreSized self.old slots }
+        requires first { first < slots }
+        requires last { last < slots }
+        requires number { number < 256 }
+        ensures sized { AreSized self.new slots }
+        ensures kept { AreKept self.old self.new }
+        ensures added { (slot : ℕ) → first ≤ slot → slot ≤ last → IsMarked self.new slot number }
+    {
+        put(&mut self.begins, first, number);
+        put(&mut self.ends, slots - 1 - last, number);
+    }
+
+    /// For each slot the rules that may hold in it.
+    ///
+    /// # Errors
+    /// `NoMemory` if there was none for the sets.
+    pub fn sets(&self, alloc: Global, slots: usize) -> Result<Vec<RuleSet>, NoMemory>
+        requires { AreSized self.now slots }
+        ensures many { IfOk result (λ sets. length sets.items ≡ slots) }
+        ensures marked { IfOk result (λ sets. (slot : ℕ) (k : ℕ) → slot < slots → IsMarked self.now slot k → Has (slice_index_or sets.items slot []) k) }
+    {
+        let begun = unions(alloc, &self.begins)?;
+        let unended = unions(alloc, &self.ends)?;
+        let mut sets = Vec::with_capacity(alloc, slots)?;
+        for slot in 0..slots {
+            sets.push(merged(&self.points[slot], &begun[slot], &unended[slots - 1 - slot]))?;
+        }
+        Ok(sets)
+    }
+}
