@@ -3,8 +3,8 @@ use Rattle.std.proofs.Common.{◌≡◌, ◌≢◌, ℕ, ◌-◌, ◌<◌, ◌==
 use Rattle.std.proofs.lemmas.Bool.Decides.{nat_tests}
 use Rattle.std.proofs.lemmas.List.{get_or_past}
 use Rattle.std.specs.Prelude.{Option, None, Some, ◌||◌}
-use Rattle.sb_arena.specs.Forests.{Forest, Row, bare_row, has, row_at, parent_of, value_at, without, rows_freed, rows_with}
-use Rattle.sb_arena.specs.Laws.{AddsLeaveParents, AddsSetValues, FreesClearValues, LinksSetParents, NumbersAreFree, SetsSetValues, UnlinksClearParents}
+use Rattle.sb_arena.specs.Forests.{Forest, HasVacancy, Row, bare_row, has, node_number, row_at, parent_of, value_at, without, rows_freed, rows_with}
+use Rattle.sb_arena.specs.Laws.{AddsLeaveParents, AddsSetValues, FreesClearValues, LinksSetParents, NumbersAreFree, SetsSetValues, UnlinksClearParents, VacanciesKeepNumbers, VacanciesLeaveNodes}
 use Rattle.sb_arena.proofs.LinkLaws.{same_of, other_of, is_same, at_set}
 use Rattle.sb_arena.proofs.Readers.{live_present, same_past}
 use Rattle.sb_arena.proofs.Roots.{parent_one, parent_others}
@@ -109,3 +109,23 @@ sets_set_values T f c n value live = at_set None f.values c (Some value) n (live
 
 pub frees_clear_values : (T : Type 0) → FreesClearValues T
 frees_clear_values T f c n live = at_set None f.values c None n (live_present f.values c live)
+
+-- a free node that is new
+abbrev vacant : (T : Type 0) → Forest T → Forest T
+vacant T f = record { rows = f.rows ++ bare_row ∷ []; values = f.values ++ None ∷ []; free = length f.rows ∷ [] }
+
+pub vacancies_leave_nodes : (T : Type 0) → VacanciesLeaveNodes T
+vacancies_leave_nodes T f n = by (length f.free == 0)
+  where
+    by : (b : Bool) → (value_at (if b then vacant T f else f) n ≡ value_at f n) × (parent_of (if b then vacant T f else f) n ≡ parent_of f n)
+    by true = (same_past None f.values n, ap (λ r. r.parent) (same_past bare_row f.rows n))
+    by false = (refl, refl)
+
+pub vacancies_keep_numbers : (T : Type 0) → VacanciesKeepNumbers T
+vacancies_keep_numbers T f = by (length f.free == 0) refl
+  where
+    by : (b : Bool) → (length f.free == 0) ≡ b
+        → HasVacancy (if b then vacant T f else f)
+        × (node_number (if b then vacant T f else f) ≡ (if b then length f.rows else get_or f.free (length f.free - 1) 0))
+    by true e = (refl, refl)
+    by false e = (e, rw e refl)

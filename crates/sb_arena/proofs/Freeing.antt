@@ -2,16 +2,16 @@
 use Rattle.std.proofs.Common.{◌≡◌, ◌≢◌, ℕ, ◌+◌, ◌-◌, ◌<◌, ◌≤◌, ◌==◌, Bool, true, false, cond, zero, suc, refl, sym, ◌∙◌, ap, subst, arith, List, [], ◌∷◌, ◌++◌, length, get_or, set, length-set, ◌⊎◌, inl, inr}
 use Rattle.std.proofs.lemmas.Bool.{false≢true}
 use Rattle.std.proofs.lemmas.Grind.{common_steps}
-use Rattle.std.proofs.lemmas.List.{length-append, length-map}
+use Rattle.std.proofs.lemmas.List.{get_or_past, length-append, length-map}
 use Rattle.std.specs.Prelude.{Option, None, Some, ◌||◌, IsSome, if◌then◌else◌, slice_index}
-use Rattle.sb_arena.specs.Forests.{Row, bare_row, row_at, without, Forest, IsLive, IsSound, with_node, node_number, has, Single, parent_of, children_of}
+use Rattle.sb_arena.specs.Forests.{Row, bare_row, row_at, without, Forest, IsLive, IsSound, with_node, with_vacancy, node_number, has, Single, parent_of, children_of}
 use Rattle.sb_arena.proofs.LinkLaws.{same_of, other_of, is_same, is_other, at_set}
 use Rattle.sb_arena.proofs.LinkTies.{same_row}
 use Rattle.sb_arena.proofs.Readers.{live_present}
 use Rattle.sb_arena.specs.declared.links.Link.{Link}
 use Rattle.sb_arena.specs.Links.{at, no_link, linked, unlinked as unlinked_links, rows_of, row_of, IsTied}
 use Rattle.sb_arena.proofs.LinkTies.{rows_linked, has_last, has_still}
-use Rattle.sb_arena.proofs.Readers.{rows_added, live_in, unlinked, parent_present}
+use Rattle.sb_arena.proofs.Readers.{rows_added, live_in, same_past, unlinked, parent_present}
 use Rattle.sb_arena.proofs.UnlinkTies.{rows_unlinked}
 use Rattle.sb_arena.proofs.ChainLemmas.{Below, few}
 
@@ -272,6 +272,50 @@ module _ {T : Type 0} (links : List Link) (values : List (Option T)) (free : Lis
         one : {A : Type 0} (xs : List A) (x : A) → length (xs ++ x ∷ []) ≡ length xs + 1
         one xs x = grind (arith, common_steps)
 
+  -- a free node that is new
+  module _ (none : free ≡ []) where
+    abbrev grown : List (Option T)
+    grown = values ++ None ∷ []
+
+    one_more : {A : Type 0} (xs : List A) (x : A) → length (xs ++ x ∷ []) ≡ length xs + 1
+    one_more xs x = grind (arith, common_steps)
+
+    pub vacant_long : length (links ++ no_link ∷ []) ≡ length grown
+    vacant_long = one_more links no_link ∙ ap (λ k. k + 1) tied.0 ∙ sym (one_more values None)
+
+    pub vacant_kept : IsSound (record { rows = rows_of (links ++ no_link ∷ []); values = grown; free = length links ∷ [] })
+    vacant_kept = record { single = (refl, tt); all = all_here; dead = dead_here }
+      where
+        in_old : (n : ℕ) → n < length grown → n ≢ length links → n < length values
+        in_old n l ne = grind (arith, one_more values None, tied.0, l, ne)
+
+        all_here : (n : ℕ) → n < length grown → get_or grown n None ≡ None → has n (length links ∷ []) ≡ true
+        all_here n l e = by (length links == n) refl
+          where
+            by : (b : Bool) → b ≡ (length links == n) → (b || false) ≡ true
+            by true t = refl
+            by false t = absurd (false≢true (ap (λ k. has n k) (sym none) ∙ sound.all n (in_old n l (λ s. other_of (length links) n t (sym s))) (sym (same_past None values n) ∙ e)))
+
+        dead_here : (n : ℕ) → has n (length links ∷ []) ≡ true → (n < length grown) × (get_or grown n None ≡ None) × (row_at (rows_of (links ++ no_link ∷ [])) n ≡ bare_row)
+        dead_here n h = by (length links == n) refl h
+          where
+            by : (b : Bool) → b ≡ (length links == n) → (b || false) ≡ true
+                → (n < length grown) × (get_or grown n None ≡ None) × (row_at (rows_of (links ++ no_link ∷ [])) n ≡ bare_row)
+            by true t w =
+                let same : length links ≡ n = same_of (length links) n t in (
+                  grind (arith, one_more values None, tied.0, same),
+                  same_past None values n ∙ get_or_past values n None (omega (arith, tied.0, same)),
+                  ap (λ rs. row_at rs n) (rows_added links tied.1) ∙ same_past bare_row (rows_of links) n
+                      ∙ get_or_past (rows_of links) n bare_row (omega (arith, length-map links (row_of links), same)),
+                )
+            by false t w = absurd (false≢true w)
+
+    pub vacant_whole : record { rows = rows_of (links ++ no_link ∷ []); values = grown; free = length links ∷ [] } ≡ with_vacancy f
+    vacant_whole =
+        (λ i. record { rows = rows_added links tied.1 i; values = grown; free = sym (length-map links (row_of links)) i ∷ [] })
+        ∙ sym (ap (λ k. with_vacancy (record { rows = rows_of links; values = values; free = k })) none)
+        ∙ ap with_vacancy e
+
 -- nothing was left, and nothing is
 pub none_left : {A : Type 0} (xs ys : List A) → xs ≡ ys ++ [] → length xs ≡ 0 → (xs ≡ []) × (ys ≡ [])
 none_left xs [] e h = (e, refl)
@@ -282,3 +326,8 @@ room_kept xs x k h = simp length-append (omega arith)
 
 pub still_room : (n : ℕ) {a b : ℕ} → n ≤ a → a ≤ b → n ≤ b
 still_room n h k = omega arith
+
+-- a list of no elements
+pub empty : {A : Type 0} (xs : List A) → length xs ≡ 0 → xs ≡ []
+empty [] e = refl
+empty (x ∷ xs) e = absurd (omega (arith, e))

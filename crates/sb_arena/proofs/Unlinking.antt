@@ -20,7 +20,7 @@ module _ {T : Type 0} (links : List Link) (values : List (Option T)) (free : Lis
   parent_is : (at links c).parent ≡ parent_of f c
   parent_is = ap (λ r. r.parent) (sym (row_read links c in_c)) ∙ ap (λ f. parent_of f c) e
 
-  -- nothing is to be done where it hangs nowhere
+  -- nothing is to be done if it hangs nowhere
   pub unlink_none : (at links c).parent ≡ None → f ≡ without_parent f c
   unlink_none h = by (parent_of f c) (sym parent_is ∙ h)
     where

@@ -18,7 +18,7 @@ abbrev pub Single : List ℕ → Type 0
 Single [] = Unit {0}
 Single (x ∷ xs) = (has x xs ≡ false) × Single xs
 
--- rows and values stand by the numbers of nodes; a node is live where it has a value, and the others are free, the one freed last at the end
+-- rows and values stand by the numbers of nodes; a node is live if it has a value, and the others are free, the one freed last at the end
 pub record Forest (T : Type 0) : Type 0 where
   pub rows : List Row
   pub values : List (Option T)
@@ -65,12 +65,12 @@ IsRooted rows = (n : ℕ) → (k : ℕ) × (ancestor rows k (Some n) ≡ None)
 abbrev pub IsShallow : List Row → Type 0
 IsShallow rows = (n : ℕ) → ancestor rows (suc (length rows)) (Some n) ≡ None
 
--- the next sibling of a node, where it has a parent
+-- the next sibling of a node, if it has a parent
 abbrev pub next_below : List Row → ℕ → Option ℕ → Option ℕ
 next_below rows n None = None
 next_below rows n (Some p) = after n (row_at rows p).children
 
--- the rows where node c is made the last child of node p
+-- the rows if node c is made the last child of node p
 abbrev pub rows_with : List Row → ℕ → ℕ → List Row
 rows_with rows c p =
     let set_parent = slice_set rows c (record (row_at rows c) { parent = Some p }) in
@@ -80,13 +80,13 @@ rows_with rows c p =
 abbrev pub without : ℕ → List ℕ → List ℕ
 without c xs = filter (λ x. not (x == c)) xs
 
--- the rows where node c is no longer a child of node p
+-- the rows if node c is no longer a child of node p
 abbrev pub rows_without : List Row → ℕ → ℕ → List Row
 rows_without rows c p =
     let set_parent = slice_set rows c (record (row_at rows c) { parent = None }) in
     slice_set set_parent p (record (row_at set_parent p) { children = without c (row_at rows p).children })
 
--- the rows where node c has no parent
+-- the rows if node c has no parent
 abbrev pub rows_freed : List Row → ℕ → Option ℕ → List Row
 rows_freed rows c None = rows
 rows_freed rows c (Some p) = rows_without rows c p
@@ -100,7 +100,7 @@ module _ {T : Type 0} where
   abbrev pub value_at : Forest T → ℕ → Option T
   value_at f n = slice_index_or f.values n None
 
-  -- a node is live where it has a value
+  -- a node is live if it has a value
   abbrev pub IsLive : Forest T → ℕ → Type 0
   IsLive f n = IsSome (value_at f n)
 
@@ -129,15 +129,26 @@ module _ {T : Type 0} where
       then record { rows = f.rows ++ bare_row ∷ []; values = f.values ++ Some value ∷ []; free = [] }
       else record { rows = f.rows; values = slice_set f.values (slice_index f.free (length f.free - 1)) (Some value); free = take (length f.free - 1) f.free }
 
-  -- the forest where a node is free, and its number the next to be taken
+  -- a node is free
+  abbrev pub HasVacancy : Forest T → Type 0
+  HasVacancy f = (length f.free == 0) ≡ false
+
+  -- the forest with a free node, which is a new one if there was none
+  abbrev pub with_vacancy : Forest T → Forest T
+  with_vacancy f =
+      if length f.free == 0
+      then record { rows = f.rows ++ bare_row ∷ []; values = f.values ++ None ∷ []; free = length f.rows ∷ [] }
+      else f
+
+  -- the forest if a node is free, and its number the next to be taken
   abbrev pub without_node : Forest T → ℕ → Forest T
   without_node f n = record f { values = slice_set f.values n None; free = f.free ++ n ∷ [] }
 
-  -- the forest where a node has another value
+  -- the forest if a node has another value
   abbrev pub with_value : Forest T → ℕ → T → Forest T
   with_value f n value = record f { values = slice_set f.values n (Some value) }
 
-  -- parents and children agree: c is a child of p exactly where p is the parent of c
+  -- parents and children agree: c is a child of p exactly if p is the parent of c
   abbrev pub Agrees : Forest T → Type 0
   Agrees f = (c p : ℕ) → (has c (children_of f p) ≡ true → parent_of f c ≡ Some p) × (parent_of f c ≡ Some p → has c (children_of f p) ≡ true)
 
@@ -147,11 +158,11 @@ module _ {T : Type 0} where
     pub dead : (n : ℕ) → has n f.free ≡ true → (n < length f.values) × (slice_index_or f.values n None ≡ None) × (row_at f.rows n ≡ bare_row)
     pub all : (n : ℕ) → n < length f.values → slice_index_or f.values n None ≡ None → has n f.free ≡ true
 
-  -- the forest where c is the last child of p
+  -- the forest if c is the last child of p
   abbrev pub with_child : Forest T → ℕ → ℕ → Forest T
   with_child f c p = record f { rows = rows_with f.rows c p }
 
-  -- the forest where c has no parent
+  -- the forest if c has no parent
   abbrev pub without_parent : Forest T → ℕ → Forest T
   without_parent f c = record f { rows = rows_freed f.rows c (parent_of f c) }
 

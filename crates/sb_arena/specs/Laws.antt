@@ -1,6 +1,6 @@
 -- Laws of forests: what each change does to parents and values.
 use Rattle.std.specs.Prelude.{◌≡◌, ◌<◌, ℕ, ◌==◌, length, Some, None, if◌then◌else◌}
-use Rattle.sb_arena.specs.Forests.{Forest, IsLive, IsSound, parent_of, value_at, node_number, with_child, with_node, with_value, without_node, without_parent}
+use Rattle.sb_arena.specs.Forests.{Forest, IsLive, IsSound, parent_of, value_at, HasVacancy, node_number, with_child, with_node, with_vacancy, with_value, without_node, without_parent}
 
 -- a node that is linked has its parent, and every other node the one that it had
 abbrev pub LinksSetParents : Type 0 → Type 0
@@ -35,3 +35,12 @@ SetsSetValues T = (f : Forest T) (c n : ℕ) (value : T) → IsLive f c
 abbrev pub FreesClearValues : Type 0 → Type 0
 FreesClearValues T = (f : Forest T) (c n : ℕ) → IsLive f c
     → value_at (without_node f c) n ≡ (if n == c then None else value_at f n)
+
+-- a free node more gives no node another value, and none another parent
+abbrev pub VacanciesLeaveNodes : Type 0 → Type 0
+VacanciesLeaveNodes T = (f : Forest T) (n : ℕ)
+    → (value_at (with_vacancy f) n ≡ value_at f n) × (parent_of (with_vacancy f) n ≡ parent_of f n)
+
+-- and the next node has the number that it would have had
+abbrev pub VacanciesKeepNumbers : Type 0 → Type 0
+VacanciesKeepNumbers T = (f : Forest T) → HasVacancy (with_vacancy f) × (node_number (with_vacancy f) ≡ node_number f)

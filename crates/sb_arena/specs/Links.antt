@@ -11,7 +11,7 @@ no_link = record { parent = None; first = None; last = None; next = None; prev =
 abbrev pub at : List Link → ℕ → Link
 at links n = slice_index_or links n no_link
 
--- the next sibling counts only where there is a parent
+-- the next sibling counts only if there is a parent
 abbrev pub next_where : Option ℕ → Option ℕ → Option ℕ
 next_where None next = None
 next_where (Some p) next = next

@@ -1,6 +1,6 @@
 // An arena: nodes that are linked as trees, each known by its number.
 ghost use Rattle.std.specs.Prelude.{◌≡◌, ◌<◌, ◌^◌, [], Some, None, IfOk, IfErr, OnOk, OnErr, IsSome, is_some, option_map, length, vec_capacity, ◌≤◌};
-ghost use Rattle.sb_arena.specs.Forests.{no_nodes, with_node, with_child, row_at, value_at, IsLive, parent_of, children_of, next_of, without_parent, node_number, without_node, with_value, IsRooted, IsShallow, IsSound, Agrees, HasLiveLinks, HasSingleChildren, first_of, IsAbove};
+ghost use Rattle.sb_arena.specs.Forests.{no_nodes, with_node, with_vacancy, with_child, row_at, value_at, IsLive, parent_of, children_of, next_of, without_parent, node_number, without_node, with_value, IsRooted, IsShallow, IsSound, Agrees, HasLiveLinks, HasSingleChildren, first_of, IsAbove};
 
 use crate::links::{Link, fresh, link_last, link_of, next_linked, unlink_from};
 use std::alloc::{AllocError, Global};
@@ -17,7 +17,8 @@ pub struct AddRefused<T> {
     pub value: T,
 }
 
-/// Nodes with values, linked as trees: a node has at most one parent, and its children are in order. Only `add` takes memory.
+/// Nodes with values, linked as trees: a node has at most one parent, and its children are in order. Only `add` and `reserve`
+/// take memory.
 #[derive(Drop)]
 pub struct Arena<T> {
     links: Vec<Link>,
@@ -119,7 +120,7 @@ impl<T> Arena<T> {
         }
     }
 
-    /// The parent of the node, or None where it has none.
+    /// The parent of the node, or None if it has none.
     #[tactic(auto, using(crate::proofs::LinkTies::row_read))]
     pub fn parent(&self, node: NodeId) -> Option<NodeId>
         requires { IsLive self.now node.0 }
@@ -128,7 +129,7 @@ impl<T> Arena<T> {
         named(link_of(&self.links, node.0).parent)
     }
 
-    /// The first child of the node, or None where it has none.
+    /// The first child of the node, or None if it has none.
     #[tactic(auto, using(crate::proofs::LinkTies::row_read, crate::proofs::Readers::first_read))]
     pub fn first_child(&self, node: NodeId) -> Option<NodeId>
         requires { IsLive self.now node.0 }
@@ -137,7 +138,7 @@ impl<T> Arena<T> {
         named(link_of(&self.links, node.0).first)
     }
 
-    /// The next child of the node's parent, or None where the node is the last child or has no parent.
+    /// The next child of the node's parent, or None if the node is the last child or has no parent.
     pub fn next(&self, node: NodeId) -> Option<NodeId>
         requires { IsLive self.now node.0 }
         ensures { option_map (λ n. n.0) result ≡ next_of self.now node.0 }
@@ -169,7 +170,7 @@ impl<T> Arena<T> {
 }
 
 impl<T> Arena<T> {
-    /// Takes a node away from its parent, where it has one. Its children stay its own.
+    /// Takes a node away from its parent, if it has one. Its children stay its own.
     pub fn unlink(&mut self, child: NodeId)
         requires { IsLive self.old child.0 }
         ensures { self.new ≡ without_parent self.old child.0 }
@@ -181,11 +182,11 @@ impl<T> Arena<T> {
 }
 
 impl<T: Drop> Arena<T> {
-    /// Adds a node that has neither parent nor children. It has the number of the node freed last where there is a free one,
+    /// Adds a node that has neither parent nor children. It has the number of the node freed last if there is a free one,
     /// and then no memory is taken.
     ///
     /// # Errors
-    /// `AddRefused` with the value where there was no memory. The arena is then as it was.
+    /// `AddRefused` with the value if there was no memory. The arena is then as it was.
     pub fn add(&mut self, value: T) -> Result<NodeId, AddRefused<T>>
         ensures number { IfOk result (λ node. node.0 ≡ node_number self.old) }
         ensures ok { OnOk result (self.new ≡ with_node self.old value) }
@@ -208,6 +209,25 @@ impl<T: Drop> Arena<T> {
                 Ok(NodeId(number as u64))
             }
         }
+    }
+
+    /// Takes the memory for one more node, so that the next `add` takes none: there is a free node afterwards.
+    ///
+    /// # Errors
+    /// `AllocError` if there is none for a node. The arena is then as it was.
+    pub fn reserve(&mut self) -> Result<(), AllocError>
+        ensures ok { OnOk result (self.new ≡ with_vacancy self.old) }
+        ensures err { OnErr result (self.new ≡ self.old) }
+    {
+        if !self.free.as_slice().is_empty() {
+            return Ok(());
+        }
+        let number = self.links.as_slice().len();
+        make_room(&mut self.links, &mut self.values, &mut self.free)?;
+        self.links.push_reserved(fresh());
+        self.values.push_reserved(None);
+        self.free.push_reserved(number as u64);
+        Ok(())
     }
 
     /// Replaces the value of the node and returns the old one. Its parent and children stay.

@@ -8,4 +8,4 @@ mod laws;
 mod links;
 
 pub use arena::{AddRefused, Arena, NodeId};
-pub use laws::{calls_change_one_value, links_change_one_parent};
+pub use laws::{calls_change_one_value, links_change_one_parent, vacancies_change_nothing};

@@ -68,7 +68,7 @@ pub(crate) fn fresh() -> Link
     }
 }
 
-// The next sibling of a node, where it has a parent.
+// The next sibling of a node, if it has a parent.
 pub(crate) fn next_linked(link: Link) -> Option<u64>
     ensures { result ≡ next_linked link }
 {

@@ -3,12 +3,13 @@ use Rattle.std.proofs.Common.{◌≡◌, ◌+◌, ℕ, Bool, true, false, refl, 
 use Rattle.std.proofs.lemmas.Bool.{false≢true}
 use Rattle.std.proofs.lemmas.Bool.Decides.{nat_tests}
 use Rattle.std.specs.Prelude.{Option, None, Some, not}
-use Rattle.sb_call.specs.Statuses.{invalid_parameter, name_exists, type_mismatch}
+use Rattle.sb_call.specs.Statuses.{name_exists, type_mismatch}
 use Rattle.sb_handles.specs.Effects.{Effect, grants, refused}
 use Rattle.sb_names.specs.Keys.{key_of}
 use Rattle.sb_names.specs.Laws.{PutsAreFound}
 use Rattle.sb_names.specs.Maps.{found, is_key}
-use Rattle.sb_event.specs.Events.{Events, create_by, is_invalid, on_event, open_by}
+use Rattle.sb_event.specs.Events.{Events, create_by, on_event, open_by, shown}
+use Rattle.sb_event.specs.Kinds.{kind_number}
 use Rattle.sb_event.specs.Laws.{CreatesGrantTheirEvent, IsGrantedOn, OpensGrantTheirEvent, is_granted}
 use Rattle.sb_event.specs.declared.rows.EventRow.{EventRow}
 
@@ -19,7 +20,7 @@ own_key (u ∷ us) =
     rw same (own_key us)
 
 pub creates_grant_their_event : PutsAreFound EventRow → CreatesGrantTheirEvent
-creates_grant_their_event puts events handles target name kind initial = by (is_invalid kind initial) (found events.rows name) refl
+creates_grant_their_event puts events handles target name kind initial = by (found events.rows name) refl
   where
     P : Effect Events → Type 0
     P effect = is_granted effect.answer.status ≡ true → IsGrantedOn effect handles target name 0
@@ -29,16 +30,14 @@ creates_grant_their_event puts events handles target name kind initial = by (is_
 
     there : (row : EventRow) (same : Bool) → found events.rows name ≡ Some row
         → P (if not same then refused events handles type_mismatch
-        else grants events handles target (on_event row.number 0) name_exists (row.kind ∷ row.initial ∷ []))
+        else grants events handles target (on_event row.number 0) name_exists (shown row.kind row.initial))
     there row true f h = (row, f, refl)
     there row false f h = absurd (false≢true h)
 
-    by : (invalid : Bool) (row : Option EventRow) → found events.rows name ≡ row
-        → P (if invalid then refused events handles invalid_parameter else create_by row events handles target name kind initial)
-    by true row f h = absurd (false≢true h)
-    by false None f h =
+    by : (row : Option EventRow) → found events.rows name ≡ row → P (create_by row events handles target name kind initial)
+    by None f h =
         (new, puts events.rows name name new ∙ ap (λ b. if b then Some new else found events.rows name) (own_key (key_of name)), refl)
-    by false (Some row) f h = there row (row.kind == kind) f h
+    by (Some row) f h = there row (kind_number row.kind == kind_number kind) f h
 
 pub opens_grant_their_event : OpensGrantTheirEvent
 opens_grant_their_event events handles target name access = by (found events.rows name) refl

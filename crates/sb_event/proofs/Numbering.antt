@@ -47,7 +47,7 @@ one_more keeps folds events rows name row number next own e is_name are = record
   named = subst AreNamed (sym e) (named_put (key_of name) row events.rows are.named (folds name is_name));
 }
 
--- one more was made where the name was free
+-- one more was made if the name was free
 pub one_more_if_free : PutsKeepNumbers EventRow → NamesFold → (events : Events) (rows : Rows EventRow) (name : List ℕ) (row : EventRow) (number : ℕ)
     → number ≡ events.made + 1 → row.number ≡ events.made + 1 → is_there events.rows name ≡ false → rows ≡ put_new events.rows name row → is_name_of name ≡ true
     → AreMade events → AreMade (record { rows = rows; made = number })

@@ -7,6 +7,7 @@ use Rattle.sb_handles.specs.Tables.{Table, with_handle}
 use Rattle.sb_names.specs.Keys.{key_of}
 use Rattle.sb_names.specs.Maps.{is_key, found}
 use Rattle.sb_event.specs.Events.{Events, create, on_event, open_by_name}
+use Rattle.sb_event.specs.declared.kinds.EventKind.{EventKind}
 use Rattle.sb_event.specs.declared.rows.EventRow.{EventRow}
 
 -- something was made or opened
@@ -18,7 +19,7 @@ abbrev pub ChangesNothing : Events → Table → Effect Events → Type 0
 ChangesNothing events handles effect = (effect.service ≡ events) × (effect.handles ≡ handles)
 
 abbrev pub RefusedCreatesChangeNothing : Type 0
-RefusedCreatesChangeNothing = (events : Events) (handles : Table) (target : ℕ) (name : List ℕ) (kind initial : ℕ)
+RefusedCreatesChangeNothing = (events : Events) (handles : Table) (target : ℕ) (name : List ℕ) (kind : EventKind) (initial : Bool)
     → is_granted (create events handles target name kind initial).answer.status ≡ false
     → ChangesNothing events handles (create events handles target name kind initial)
 
@@ -29,7 +30,7 @@ RefusedOpensChangeNothing = (events : Events) (handles : Table) (target : ℕ) (
 
 -- an event that was made is found under its name with its kind and initial state, and under every other name what was before
 abbrev pub CreatesAreFound : Type 0
-CreatesAreFound = (events : Events) (handles : Table) (target : ℕ) (name other : List ℕ) (kind initial : ℕ)
+CreatesAreFound = (events : Events) (handles : Table) (target : ℕ) (name other : List ℕ) (kind : EventKind) (initial : Bool)
     → found (create events handles target name kind initial).service.rows other
     ≡ (if (create events handles target name kind initial).answer.status == success && is_key (key_of other) (key_of name)
     then Some (record { number = events.made + 1; kind = kind; initial = initial })
@@ -41,7 +42,7 @@ OpensLeaveEvents = (events : Events) (handles : Table) (target : ℕ) (name : Li
 
 -- what stands under a key stands there still after event.create
 abbrev pub CreatesKeepEvents : Type 0
-CreatesKeepEvents = (events : Events) (handles : Table) (target : ℕ) (name key : List ℕ) (kind initial : ℕ) (row : EventRow)
+CreatesKeepEvents = (events : Events) (handles : Table) (target : ℕ) (name key : List ℕ) (kind : EventKind) (initial : Bool) (row : EventRow)
     → lookup (is_key key) events.rows ≡ Some row
     → lookup (is_key key) (create events handles target name kind initial).service.rows ≡ Some row
 
@@ -51,7 +52,7 @@ IsGrantedOn effect handles target name access =
     (row : EventRow) × (found effect.service.rows name ≡ Some row) × (effect.handles ≡ with_handle handles target (on_event row.number access))
 
 abbrev pub CreatesGrantTheirEvent : Type 0
-CreatesGrantTheirEvent = (events : Events) (handles : Table) (target : ℕ) (name : List ℕ) (kind initial : ℕ)
+CreatesGrantTheirEvent = (events : Events) (handles : Table) (target : ℕ) (name : List ℕ) (kind : EventKind) (initial : Bool)
     → is_granted (create events handles target name kind initial).answer.status ≡ true
     → IsGrantedOn (create events handles target name kind initial) handles target name 0
 

@@ -1,13 +1,17 @@
 // The events by their names, and the calls on them.
-ghost use Rattle.std.specs.Prelude.{◌≡◌, ◌+◌, ◌<◌, ◌^◌, true, None, IfOk, OnOk, OnErr};
+ghost use Rattle.std.specs.Prelude.{◌≡◌, ◌+◌, ◌<◌, ◌^◌, ◌∷◌, [], true, None, IfOk, OnOk, OnErr};
 ghost use Rattle.sb_wide.specs.Names.{is_name_of};
 ghost use Rattle.sb_handles.specs.Effects.{IsDone};
+ghost use Rattle.sb_call.specs.Statuses.{granting};
 ghost use Rattle.sb_names.specs.Maps.{found};
-ghost use Rattle.sb_event.specs.Events.{AreEvents, no_events, with_event, on_event, is_invalid, create, create_by, open_by_name, can_start, started};
+ghost use Rattle.sb_event.specs.Kinds.{kind_number, state_number};
+ghost use Rattle.sb_event.specs.Events.{AreEvents, no_events, with_event, on_event, create, create_by, open_by_name, can_start, started};
 
+use crate::kinds::{EventKind, state_number};
 use crate::rows::EventRow;
-use sb_call::{Answer, INVALID_PARAMETER, NAME_EXISTS, NAME_NOT_FOUND, SUCCESS, TYPE_MISMATCH};
-use sb_handles::{HandleTable, Held, Object, Service};
+use bitflags::Flags;
+use sb_call::{Answer, NAME_EXISTS, NAME_NOT_FOUND, SUCCESS, TYPE_MISMATCH};
+use sb_handles::{Access, HandleTable, Held, Object, Service, Sharing};
 use sb_names::{NameMap, names_fold, numbers_are_kept};
 use sb_wide::NoMemory;
 use std::alloc::Global;
@@ -19,7 +23,6 @@ pub struct EventService {
     made: u64,
 }
 
-// By hand, so that it is proved here once and not at each place that drops one.
 impl Drop for EventService {
     fn drop(self) {
         let EventService { rows: _, made: _ } = self;
@@ -37,8 +40,8 @@ impl Model for EventService {
 }
 
 // A handle on the event of this number, with this access.
-fn on_event(number: u64, access: u64) -> Held
-    ensures { result ≡ on_event number access }
+fn on_event(number: u64, access: Access) -> Held
+    ensures { result ≡ on_event number access.0 }
 {
     Held {
         object: Object {
@@ -46,8 +49,15 @@ fn on_event(number: u64, access: u64) -> Held
             number,
         },
         access,
-        sharing: 0,
+        sharing: Sharing::empty(),
     }
+}
+
+// The answer with this status and handle, which shows what an event was made with.
+fn showing(status: u32, handle: u64, kind: EventKind, initial: bool) -> Answer
+    ensures { result ≡ granting status handle (kind_number kind ∷ state_number initial ∷ []) }
+{
+    Answer::with_words(status, handle, kind.number(), state_number(initial))
 }
 
 impl EventService {
@@ -77,7 +87,7 @@ impl EventService {
     }
 
     // Makes an event under a name that is free, with the next number.
-    fn add_next(&mut self, name: &[u16], kind: u64, initial: u64) -> Result<u64, NoMemory>
+    fn add_next(&mut self, name: &[u16], kind: EventKind, initial: bool) -> Result<u64, NoMemory>
         requires name { is_name_of name.now ≡ true }
         requires made { self.old.made < 2 ^ 63 }
         ensures number { IfOk result (λ number. number ≡ self.old.made + 1) }
@@ -103,8 +113,8 @@ impl EventService {
         handles: &mut HandleTable,
         target: u32,
         name: &[u16],
-        kind: u64,
-        initial: u64,
+        kind: EventKind,
+        initial: bool,
     ) -> Result<Answer, NoMemory>
         requires name { is_name_of name.now ≡ true }
         requires absent { found self.old.rows name.now ≡ None }
@@ -114,62 +124,58 @@ impl EventService {
     {
         handles.reserve()?;
         let number = self.add_next(name, kind, initial)?;
-        let handle = handles.grant_reserved(target, on_event(number, 0));
-        Ok(Answer::with_words(SUCCESS, handle, kind, initial))
+        let handle = handles.grant_reserved(target, on_event(number, Access::empty()));
+        Ok(showing(SUCCESS, handle, kind, initial))
     }
 
     /// Makes an event, or opens the one that is there, and grants the target a handle on it with access 0. The first of
     /// these that applies is the answer:
-    /// - `INVALID_PARAMETER` where `kind` or `initial` is above 1;
-    /// - `TYPE_MISMATCH` where an event of another kind is there;
-    /// - `NAME_EXISTS` with a handle where one of this kind is there;
+    /// - `TYPE_MISMATCH` if an event of another kind is there;
+    /// - `NAME_EXISTS` with a handle if one of this kind is there;
     /// - `SUCCESS` with a handle on a new event.
     ///
     /// With a handle come the kind and the initial state of the event, as two extended words.
     ///
     /// # Errors
-    /// `NoMemory` where there was none for a name or a handle; then nothing is changed.
+    /// `NoMemory` if there was none for a name or a handle; then nothing is changed.
     pub fn create(
         &mut self,
         handles: &mut HandleTable,
         target: u32,
         name: &[u16],
-        kind: u64,
-        initial: u64,
+        kind: EventKind,
+        initial: bool,
     ) -> Result<Answer, NoMemory>
         requires name { is_name_of name.now ≡ true }
         requires made { self.old.made < 2 ^ 63 }
         ensures effect { IfOk result (λ a. IsDone (create self.old handles.old.table target name.now kind initial) self.new handles.new.table a) }
         ensures err { OnErr result ((self.new ≡ self.old) × (handles.new.table ≡ handles.old.table)) }
     {
-        if kind > 1 || initial > 1 {
-            return Ok(Answer::refusal(INVALID_PARAMETER));
-        }
         match self.rows.find(name) {
-            Some(row) if row.kind != kind => Ok(Answer::refusal(TYPE_MISMATCH)),
+            Some(row) if row.kind.number() != kind.number() => Ok(Answer::refusal(TYPE_MISMATCH)),
             Some(row) => {
-                let handle = handles.grant(target, on_event(row.number, 0))?;
-                Ok(Answer::with_words(NAME_EXISTS, handle, row.kind, row.initial))
+                let handle = handles.grant(target, on_event(row.number, Access::empty()))?;
+                Ok(showing(NAME_EXISTS, handle, row.kind, row.initial))
             }
             None => self.create_new(handles, target, name, kind, initial),
         }
     }
 
     /// Opens the event of a name, and grants the target a handle on it with this access. The answer is `NAME_NOT_FOUND`
-    /// where there is none, and else `SUCCESS` with the handle and the kind and initial state of the event, as two
+    /// if there is none, and else `SUCCESS` with the handle and the kind and initial state of the event, as two
     /// extended words.
     ///
     /// # Errors
-    /// `NoMemory` where there was none for the handle; then nothing is changed.
+    /// `NoMemory` if there was none for the handle; then nothing is changed.
     pub fn open_by_name(
         &mut self,
         handles: &mut HandleTable,
         target: u32,
         name: &[u16],
-        access: u64,
+        access: Access,
     ) -> Result<Answer, NoMemory>
         requires name { is_name_of name.now ≡ true }
-        ensures effect { IfOk result (λ a. IsDone (open_by_name self.old handles.old.table target name.now access) self.new handles.new.table a) }
+        ensures effect { IfOk result (λ a. IsDone (open_by_name self.old handles.old.table target name.now access.0) self.new handles.new.table a) }
         ensures service { self.new ≡ self.old }
         ensures err { OnErr result (handles.new.table ≡ handles.old.table) }
     {
@@ -177,7 +183,7 @@ impl EventService {
             None => Ok(Answer::refusal(NAME_NOT_FOUND)),
             Some(row) => {
                 let handle = handles.grant(target, on_event(row.number, access))?;
-                Ok(Answer::with_words(SUCCESS, handle, row.kind, row.initial))
+                Ok(showing(SUCCESS, handle, row.kind, row.initial))
             }
         }
     }
@@ -189,12 +195,12 @@ impl EventService {
         self.rows.find(name).is_none()
     }
 
-    /// Places an event of the opening namespace. It answers false, and changes nothing, exactly where an event of that
+    /// Places an event of the opening namespace. It answers false, and changes nothing, exactly if an event of that
     /// name is there.
     ///
     /// # Errors
-    /// `NoMemory` where there was none for the name; then nothing is changed.
-    pub fn start(&mut self, name: &[u16], kind: u64, initial: u64) -> Result<bool, NoMemory>
+    /// `NoMemory` if there was none for the name; then nothing is changed.
+    pub fn start(&mut self, name: &[u16], kind: EventKind, initial: bool) -> Result<bool, NoMemory>
         requires name { is_name_of name.now ≡ true }
         requires made { self.old.made < 2 ^ 63 }
         ensures answer { IfOk result (λ b. b ≡ can_start self.old name.now) }

@@ -3,10 +3,12 @@
 #![tactic(auto)]
 
 mod events;
+mod kinds;
 mod laws;
 mod rows;
 
 pub use events::EventService;
+pub use kinds::EventKind;
 pub use laws::{
     calls_grant_their_event, events_are_found_where_made, events_stay, refused_calls_change_nothing,
 };

@@ -1,12 +1,14 @@
 // What is kept of an event.
 
+use crate::kinds::EventKind;
+
 /// An event.
 #[derive(Clone, Copy)]
 pub struct EventRow {
     /// Its number among all events ever made, from 1.
     pub number: u64,
-    /// 0 or 1.
-    pub kind: u64,
-    /// 0 or 1.
-    pub initial: u64,
+    /// What it was made as.
+    pub kind: EventKind,
+    /// Whether it was signaled at first.
+    pub initial: bool,
 }

@@ -44,5 +44,5 @@ by_create P files handles target name request refuses makes takes supersedes ove
         (refuses not_a_directory (λ h. absurd (omega (arith, h))))
         (chosen P (is_directory (object_of files number).kind && (wants_file request || replaces request.disposition))
         (refused files handles file_is_a_directory) _ (refuses file_is_a_directory (λ h. absurd (omega (arith, h))))
-        (chosen P (is_shared_out files number request.access request.sharing) (refused files handles sharing_violation) _
+        (chosen P (is_shared_out files number request.access.0 request.sharing.0) (refused files handles sharing_violation) _
         (refuses sharing_violation (λ h. absurd (omega (arith, h)))) (opened number f))))

@@ -92,7 +92,7 @@ none_twice : IsDistinct nat_eq []
 unfolding IsDistinct
 none_twice = tt
 
--- where nothing was made
+-- if nothing was made
 pub files_none : (names : Rows ℕ) (objects : List FileObject) (shares : Shares) → names ≡ [] → shares ≡ []
     → AreObjects (record { names = names; objects = objects; shares = shares })
 files_none names objects shares n s = record {

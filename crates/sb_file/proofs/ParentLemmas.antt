@@ -55,7 +55,7 @@ from_parents files h =
 pub with_other_shares : (files : Files) (shares : Shares) → HasDirectories files → HasDirectories (record files { shares = shares })
 with_other_shares files shares h = from_parents (record files { shares = shares }) (to_parents files h)
 
--- where each directory that was made stays one
+-- if each directory that was made stays one
 module _ (names : Rows ℕ) (old new : List FileObject) (made : list_all (λ row. is_given (length old) row.1) names ≡ true)
     (stays : (n : ℕ) → is_given (length old) n ≡ true → is_directory_at old n ≡ true → is_directory_at new n ≡ true) where
   still_with : (path : List ℕ) → is_directory_with (is_directory_at old) names path ≡ true → is_directory_with (is_directory_at new) names path ≡ true
@@ -97,7 +97,7 @@ module _ (files : Files) (made : list_all (λ row. is_given (length files.object
           let below : n - 1 < length files.objects = grind (arith, nat_tests, given) in
           ap (λ o. is_directory o.kind) (get_or_append_left files.objects (object ∷ []) (record { kind = kind.File; attributes = 0 }) (n - 1) below) ∙ h
 
-  -- where one has other attributes
+  -- if one has other attributes
   pub with_other_attributes : (objects : List FileObject) (place : ℕ) (object : FileObject) → objects ≡ slice_set files.objects place object
       → object.kind ≡ (slice_index_or files.objects place (record { kind = kind.File; attributes = 0 })).kind → HasDirectories (record files { objects = objects })
   with_other_attributes objects place object e same =

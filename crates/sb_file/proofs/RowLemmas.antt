@@ -22,7 +22,7 @@ pub widened : {X : Type 0} (p q : X → Bool) (xs : List X) → ((x : X) → p x
 widened p q [] f h = refl
 widened p q (x ∷ xs) f h = all_with q x xs (f x (first_of p x xs h)) (widened p q xs f (others_of p x xs h))
 
--- a value that is found passes where all values do
+-- a value that is found passes if all values do
 pub found_passes : (p : ℕ → Bool) (rows : Rows ℕ) (name : List ℕ) (number : ℕ) → found rows name ≡ Some number → list_all (λ row. p row.1) rows ≡ true → p number ≡ true
 found_passes p [] name number f all = absurd (cc)
 found_passes p (row ∷ rows) name number f all =

@@ -3,6 +3,7 @@ use Rattle.std.specs.Prelude.{◌≡◌, ℕ, true, false, [], ◌∷◌, codes,
 use Rattle.sb_call.specs.Statuses.{refusal, showing, granting, success, invalid_parameter, name_collision, path_not_found, sharing_violation, file_is_a_directory, not_a_directory}
 use Rattle.sb_call.specs.declared.replies.Answer.{Answer}
 use Rattle.sb_handles.specs.Effects.{Effect}
+use Rattle.sb_handles.specs.Masks.{access_of, sharing_of}
 use Rattle.sb_handles.specs.Tables.{no_handles, without_handle}
 use Rattle.sb_file.specs.Files.{Files, no_files, started, query, rename, closed}
 use Rattle.sb_file.specs.Creation.{create, open_by_name}
@@ -11,7 +12,7 @@ use Rattle.sb_file.specs.declared.requests.FileRequest.{FileRequest}
 -- what a call asks for, by its numbers
 abbrev asked : ℕ → ℕ → ℕ → ℕ → ℕ → FileRequest
 asked attributes access sharing disposition options =
-    record { attributes = attributes; access = access; sharing = sharing; disposition = disposition; options = options }
+    record { attributes = attributes; access = access_of access; sharing = sharing_of sharing; disposition = disposition; options = options }
 
 -- one directory
 abbrev opening : Files

@@ -2,6 +2,7 @@
 use Rattle.std.specs.Prelude.{◌+◌, ℕ, Bool, true, false, ◌&&◌, ◌||◌, not, ◌==◌, nat_lt, List, [], ◌∷◌, length, Option, None, Some, if◌then◌else◌}
 use Rattle.sb_call.specs.Statuses.{meets, success, invalid_parameter, name_not_found, name_collision, path_not_found, sharing_violation, file_is_a_directory, not_a_directory}
 use Rattle.sb_handles.specs.Effects.{Effect, refused, grants}
+use Rattle.sb_handles.specs.Masks.{access_of, sharing_of}
 use Rattle.sb_handles.specs.Shares.{opened}
 use Rattle.sb_handles.specs.Tables.{Table}
 use Rattle.sb_handles.specs.declared.objects.Held.{Held}
@@ -14,7 +15,7 @@ use Rattle.sb_file.specs.Files.{Files, has_parent, is_directory, kind_of, object
 use Rattle.sb_file.specs.declared.objects.FileObject.{FileObject}
 use Rattle.sb_file.specs.declared.requests.FileRequest.{FileRequest}
 
--- what to do where the name is there, and where it is not: its file is replaced whole, it is opened, it is made,
+-- what to do if the name is there, and if it is not: its file is replaced whole, it is opened, it is made,
 -- opened or made, its content is replaced, or replaced or made
 abbrev pub supersede : ℕ
 supersede = 0
@@ -70,7 +71,7 @@ wants_file request = meets request.options non_directory_option
 -- what is asked for is out of range, or excludes itself
 abbrev pub is_invalid : FileRequest → Bool
 is_invalid request =
-    nat_lt 5 request.disposition || nat_lt 7 request.sharing
+    nat_lt 5 request.disposition || nat_lt 7 request.sharing.0
     || (wants_directory request && wants_file request)
     || (wants_directory request && replaces request.disposition)
 
@@ -116,7 +117,7 @@ create_by (Some number) files handles target name request =
     else (if not (is_directory (object_of files number).kind) && wants_directory request then refused files handles not_a_directory
     else (if is_directory (object_of files number).kind && (wants_file request || replaces request.disposition)
     then refused files handles file_is_a_directory
-    else (if is_shared_out files number request.access request.sharing then refused files handles sharing_violation
+    else (if is_shared_out files number request.access.0 request.sharing.0 then refused files handles sharing_violation
     else open_by files handles target number request)))
 
 -- file.create: the first case that applies
@@ -129,7 +130,7 @@ create files handles target name request =
 -- file.open asks for what is there, with attributes 0
 abbrev pub open_request : ℕ → ℕ → ℕ → FileRequest
 open_request access sharing options =
-    record { attributes = 0; access = access; sharing = sharing; disposition = open_existing; options = options }
+    record { attributes = 0; access = access_of access; sharing = sharing_of sharing; disposition = open_existing; options = options }
 
 -- and is such a file.create
 abbrev pub open_by_name : Files → Table → ℕ → List ℕ → ℕ → ℕ → ℕ → Effect Files

@@ -108,7 +108,7 @@ rename files name to =
     if not (has_parent files name) then rename_is_refused files path_not_found
     else rename_by (found files.names name) files name to
 
--- a file or directory of the opening namespace can be placed where its parent is there, a directory, and its name is free
+-- a file or directory of the opening namespace can be placed if its parent is there, a directory, and its name is free
 abbrev pub can_start : Files → List ℕ → Bool
 can_start files name = has_parent files name && not (is_there files.names name)
 
@@ -116,7 +116,7 @@ can_start files name = has_parent files name && not (is_there files.names name)
 abbrev pub kind_of : Bool → FileKind
 kind_of dir = if dir then kind.Directory else kind.File
 
--- the files with one of the opening namespace, where it can be placed
+-- the files with one of the opening namespace, if it can be placed
 abbrev pub started : Files → List ℕ → Bool → ℕ → Files
 started files name dir attributes =
     if can_start files name then with_object files name (record { kind = kind_of dir; attributes = attributes }) else files

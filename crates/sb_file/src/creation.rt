@@ -12,7 +12,7 @@ ghost use Rattle.sb_names.specs.Nodes.{IsAt, number_of, rows_of};
 ghost use Rattle.sb_file.specs.Files.{Agrees};
 ghost use Rattle.sb_file.specs.Creation.{create, create_by, is_violation, object_asked, on_file, open_by_name, share_of};
 
-use crate::files::{FileService, add_object, object_at, set_attributes, sought};
+use crate::files::{FileService, object_at, set_attributes, sought};
 use crate::objects::FileObject;
 use crate::requests::{
     CREATE_NEW, FileRequest, OPEN_EXISTING, OPEN_OR_CREATE, OVERWRITE, SUPERSEDE, is_invalid,
@@ -22,7 +22,7 @@ use sb_call::{
     Answer, FILE_IS_A_DIRECTORY, INVALID_PARAMETER, NAME_COLLISION, NAME_NOT_FOUND,
     NOT_A_DIRECTORY, PATH_NOT_FOUND, SHARING_VIOLATION, SUCCESS,
 };
-use sb_handles::{HandleTable, Held, ShareRefused, ShareTable, agreement_is_kept, opens_come_back};
+use sb_handles::{Access, HandleTable, Held, ShareRefused, ShareTable, Sharing, agreement_is_kept};
 use sb_names::{NameTree, NodeId, Seek, numbers_are_kept, parents_are_kept};
 use sb_wide::NoMemory;
 
@@ -35,7 +35,7 @@ const WAS_CREATED: u64 = 2;
 
 const WAS_OVERWRITTEN: u64 = 3;
 
-// Grants a handle on an object, and lets it take part in sharing, where no open handle conflicts.
+// Grants a handle on an object, and lets it take part in sharing, if no open handle conflicts.
 fn open(
     shares: &mut ShareTable,
     handles: &mut HandleTable,
@@ -45,11 +45,11 @@ fn open(
     requires file { is_file held.object.service ≡ true }
     requires agree { AgreesOnFiles shares.old handles.old.table }
     ensures handle { IfOk result (λ handle. handle ≡ handles.old.table.granted + 1) }
-    ensures free { OnOk result (conflict_of shares.old held.object.number held.access held.sharing ≡ None) }
+    ensures free { OnOk result (conflict_of shares.old held.object.number held.access.0 held.sharing.0 ≡ None) }
     ensures shares { OnOk result (shares.new ≡ opened shares.old held.object.number (handles.old.table.granted + 1) (record { access = held.access; sharing = held.sharing })) }
     ensures handles { OnOk result (handles.new.table ≡ with_handle handles.old.table target held) }
     ensures agree { AgreesOnFiles shares.new handles.new.table }
-    ensures refused { IfErr result (λ why. IsRefusal (conflict_of shares.old held.object.number held.access held.sharing) why) }
+    ensures refused { IfErr result (λ why. IsRefusal (conflict_of shares.old held.object.number held.access.0 held.sharing.0) why) }
     ensures err { OnErr result ((shares.new ≡ shares.old) × (handles.new.table ≡ handles.old.table)) }
 {
     agreement_is_kept();
@@ -65,7 +65,7 @@ fn open(
     }
 }
 
-// What is answered where no handle was granted: a sharing violation, unless there was no memory.
+// What is answered if no handle was granted: a sharing violation, unless there was no memory.
 fn not_opened(refused: ShareRefused) -> Result<Answer, NoMemory>
     ensures answer { IfOk result (λ a. a ≡ refusal sharing_violation) }
     ensures violation { OnOk result (is_violation refused ≡ true) }
@@ -88,35 +88,33 @@ fn create_new(
     request: FileRequest,
 ) -> Result<u64, NoMemory>
     requires name { is_name_of name.now ≡ true }
-    requires at { IsAt names.old (number_of directory) (key_of (parent_of name.now)) }
-    requires absent { found (rows_of names.old) name.now ≡ None }
+    requires at { IsAt names.old.nodes (number_of directory) (key_of (parent_of name.now)) }
+    requires absent { found (rows_of names.old.nodes) name.now ≡ None }
     requires made { length objects.old.items < 2 ^ 63 }
     requires agree { AgreesOnFiles shares.old handles.old.table }
     ensures handle { IfOk result (λ handle. handle ≡ handles.old.table.granted + 1) }
-    ensures names { OnOk result (rows_of names.new ≡ put (rows_of names.old) name.now (length objects.old.items + 1)) }
+    ensures names { OnOk result (rows_of names.new.nodes ≡ put (rows_of names.old.nodes) name.now (length objects.old.items + 1)) }
     ensures objects { OnOk result (objects.new.items ≡ objects.old.items ++ object_asked request ∷ []) }
     ensures shares { OnOk result (shares.new ≡ opened shares.old (length objects.old.items + 1) (handles.old.table.granted + 1) (share_of request)) }
     ensures handles { OnOk result (handles.new.table ≡ with_handle handles.old.table target (on_file (length objects.old.items + 1) request)) }
     ensures agree { AgreesOnFiles shares.new handles.new.table }
-    ensures err { OnErr result ((names.new ≡ names.old) × (objects.new.items ≡ objects.old.items) × (shares.new ≡ shares.old) × (handles.new.table ≡ handles.old.table)) }
+    ensures err { OnErr result ((rows_of names.new.nodes ≡ rows_of names.old.nodes) × (objects.new.items ≡ objects.old.items) × (shares.new ≡ shares.old) × (handles.new.table ≡ handles.old.table)) }
 {
     agreement_is_kept();
-    opens_come_back();
     handles.numbers_rise();
     handles.reserve()?;
+    objects.reserve(1)?;
+    let new = names.reserve_at(directory, name)?;
+    let number = objects.as_slice().len() as u64 + 1;
+    let held = on_file(number, request);
     let handle = handles.granted() + 1;
-    let held = on_file(objects.as_slice().len() as u64 + 1, request);
-    match shares.try_open(held.object.number, handle, held.access, held.sharing) {
+    match shares.try_open(number, handle, held.access, held.sharing) {
         Ok(()) => {}
         Err(_) => return Err(NoMemory),
     }
-    match add_object(names, objects, directory, name, object_asked(request)) {
-        Ok(_) => Ok(handles.grant_reserved(target, held)),
-        Err(error) => {
-            shares.leave(held.object.number, handle);
-            Err(error)
-        }
-    }
+    names.add_reserved(new, number);
+    objects.push_reserved(object_asked(request));
+    Ok(handles.grant_reserved(target, held))
 }
 
 impl FileService {
@@ -167,21 +165,21 @@ impl FileService {
     /// results are those of Windows' `NtCreateFile`.
     ///
     /// Statuses, the first that applies:
-    /// - invalid parameter where disposition or sharing is out of range, both options are set, or option 1 is set and the
+    /// - invalid parameter if disposition or sharing is out of range, both options are set, or option 1 is set and the
     ///   disposition is 0, 4 or 5;
-    /// - path not found where the parent of the name is not there or is a file;
-    /// - where the name is not there, name not found for disposition 1 or 4, and else success: a directory where option 1
+    /// - path not found if the parent of the name is not there or is a file;
+    /// - if the name is not there, name not found for disposition 1 or 4, and else success: a directory if option 1
     ///   is set, and else a file, with the attributes;
     /// - name collision for disposition 2;
-    /// - not a directory where a file is there and option 1 is set;
-    /// - file is a directory where a directory is there and option 0x40 is set or the disposition is 0, 4 or 5;
-    /// - sharing violation where the access and its sharing conflict with an open handle;
+    /// - not a directory if a file is there and option 1 is set;
+    /// - file is a directory if a directory is there and option 0x40 is set or the disposition is 0, 4 or 5;
+    /// - sharing violation if the access and its sharing conflict with an open handle;
     /// - success; dispositions 0, 4 and 5 replace the attributes.
     ///
-    /// The extended word is 0 where it was superseded, 1 opened, 2 created, 3 overwritten.
+    /// The extended word is 0 if it was superseded, 1 opened, 2 created, 3 overwritten.
     ///
     /// # Errors
-    /// `NoMemory` where there was none for the object or the handle; then all is as before.
+    /// `NoMemory` if there was none for the object or the handle; then all is as before.
     pub fn create(
         &mut self,
         handles: &mut HandleTable,
@@ -228,20 +226,20 @@ impl FileService {
     /// Opens a file or directory that is there, and grants a handle on it: `create` of a request `to_open`.
     ///
     /// # Errors
-    /// `NoMemory` where there was none for the handle; then all is as before.
+    /// `NoMemory` if there was none for the handle; then all is as before.
     pub fn open_by_name(
         &mut self,
         handles: &mut HandleTable,
         target: u32,
         name: &[u16],
-        access: u64,
-        sharing: u64,
+        access: Access,
+        sharing: Sharing,
         options: u64,
     ) -> Result<Answer, NoMemory>
         requires name { is_name_of name.now ≡ true }
         requires made { length self.old.objects < 2 ^ 63 }
         requires agree { Agrees self.old handles.old.table }
-        ensures effect { IfOk result (λ a. IsDone (open_by_name self.old handles.old.table target name.now access sharing options) self.new handles.new.table a) }
+        ensures effect { IfOk result (λ a. IsDone (open_by_name self.old handles.old.table target name.now access.0 sharing.0 options) self.new handles.new.table a) }
         ensures agree { Agrees self.new handles.new.table }
         ensures err { OnErr result ((self.new ≡ self.old) × (handles.new.table ≡ handles.old.table)) }
     {

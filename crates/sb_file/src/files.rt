@@ -13,7 +13,7 @@ use sb_call::{
     Answer, INVALID_PARAMETER, NAME_COLLISION, NAME_NOT_FOUND, PATH_NOT_FOUND, SHARING_VIOLATION,
     SUCCESS,
 };
-use sb_handles::{ShareTable, handles_are_on_one_object};
+use sb_handles::{Access, ShareTable, Sharing, handles_are_on_one_object};
 use sb_names::{
     NameTree, NodeId, Seek, is_below, numbers_are_kept, parents_are_kept, renames_keep_numbers,
 };
@@ -22,10 +22,10 @@ use std::alloc::Global;
 use std::marker::Model;
 
 // The access that a rename needs of the object itself: delete.
-const RENAME_ACCESS: u64 = 0x1_0000;
+const RENAME_ACCESS: Access = Access::DELETE;
 
 // The sharing that a rename leaves: read, write and delete.
-const RENAME_SHARING: u64 = 7;
+const RENAME_SHARING: Sharing = Sharing::ALL;
 
 /// The files and directories: a tree of names, each object that was ever made, and the open handles on them.
 ///
@@ -39,7 +39,6 @@ pub struct FileService {
     pub(crate) shares: ShareTable,
 }
 
-// By hand, so that it is proved here once and not at each place that drops one.
 impl Drop for FileService {
     fn drop(self) {
         let FileService {
@@ -56,9 +55,9 @@ impl Model for FileService {
 
     ghost Value = { Files };
 
-    ghost view = { λ s. record { names = rows_of s.names; objects = s.objects.items; shares = s.shares } };
+    ghost view = { λ s. record { names = rows_of s.names.nodes; objects = s.objects.items; shares = s.shares } };
 
-    ghost invariant = { λ s. AreObjects (record { names = rows_of s.names; objects = s.objects.items; shares = s.shares }) };
+    ghost invariant = { λ s. AreObjects (record { names = rows_of s.names.nodes; objects = s.objects.items; shares = s.shares }) };
 }
 
 // The object of a number; a file for one that was not made.
@@ -93,13 +92,13 @@ pub(crate) fn add_object(
     object: FileObject,
 ) -> Result<u64, NoMemory>
     requires name { is_name_of name.now ≡ true }
-    requires at { IsAt names.old (number_of directory) (key_of (parent_of name.now)) }
-    requires absent { found (rows_of names.old) name.now ≡ None }
+    requires at { IsAt names.old.nodes (number_of directory) (key_of (parent_of name.now)) }
+    requires absent { found (rows_of names.old.nodes) name.now ≡ None }
     requires made { length objects.old.items < 2 ^ 63 }
     ensures number { IfOk result (λ number. number ≡ length objects.old.items + 1) }
-    ensures names { OnOk result (rows_of names.new ≡ put (rows_of names.old) name.now (length objects.old.items + 1)) }
+    ensures names { OnOk result (rows_of names.new.nodes ≡ put (rows_of names.old.nodes) name.now (length objects.old.items + 1)) }
     ensures objects { OnOk result (objects.new.items ≡ objects.old.items ++ object ∷ []) }
-    ensures err { OnErr result ((names.new ≡ names.old) × (objects.new.items ≡ objects.old.items)) }
+    ensures err { OnErr result ((names.new.nodes ≡ names.old.nodes) × (objects.new.items ≡ objects.old.items)) }
 {
     objects.reserve(1)?;
     let number = objects.len() as u64 + 1;
@@ -122,7 +121,7 @@ fn admits(objects: &[FileObject], parent: Option<u64>) -> bool
 #[tactic(auto, using(crate::proofs::SeekLemmas::parent_gone, crate::proofs::SeekLemmas::parent_admits))]
 pub(crate) fn sought(names: &NameTree, objects: &[FileObject], name: &[u16]) -> Seek
     requires { is_name_of name.now ≡ true }
-    ensures { IsSought names.now objects.now name.now result }
+    ensures { IsSought names.now.nodes objects.now name.now result }
 {
     let seek = names.seek(name);
     match seek {
@@ -165,7 +164,7 @@ impl FileService {
     }
 
     /// Shows the attributes and the kind of what stands under a name. Statuses, the first that applies: path not found
-    /// where the parent of the name is not there or is a file; name not found; success, with the attributes and 0 for a
+    /// if the parent of the name is not there or is a file; name not found; success, with the attributes and 0 for a
     /// file or 1 for a directory as the extended words.
     pub fn query(&self, name: &[u16]) -> Answer
         requires name { is_name_of name.now ≡ true }
@@ -182,13 +181,13 @@ impl FileService {
     }
 
     /// Gives a file or directory, and all below it, a new name: each name begins with `to` in the place of `name`. The
-    /// handles stay with their objects. Statuses, the first that applies: path not found where the parent of `name` is not
-    /// there or is a file; name not found; invalid parameter where `to` lies below `name`; path not found where the parent
-    /// of `to` is not there or is a file; name collision where `to` is there, also as `name` itself; sharing violation
-    /// where deleting the object conflicts with an open handle on it; success.
+    /// handles stay with their objects. Statuses, the first that applies: path not found if the parent of `name` is not
+    /// there or is a file; name not found; invalid parameter if `to` lies below `name`; path not found if the parent
+    /// of `to` is not there or is a file; name collision if `to` is there, also as `name` itself; sharing violation
+    /// if deleting the object conflicts with an open handle on it; success.
     ///
     /// # Errors
-    /// `NoMemory` where there was none for the new names; then all is as before.
+    /// `NoMemory` if there was none for the new names; then all is as before.
     pub fn rename(&mut self, name: &[u16], to: &[u16]) -> Result<Answer, NoMemory>
         requires name { is_name_of name.now ≡ true }
         requires to { is_name_of to.now ≡ true }
@@ -235,11 +234,11 @@ impl FileService {
         }
     }
 
-    /// Places a directory or a file of the opening namespace. It answers false, and changes nothing, exactly where the
+    /// Places a directory or a file of the opening namespace. It answers false, and changes nothing, exactly if the
     /// parent of the name is not there or is a file, or the name is there.
     ///
     /// # Errors
-    /// `NoMemory` where there was none for it; then nothing is changed.
+    /// `NoMemory` if there was none for it; then nothing is changed.
     pub fn start(&mut self, name: &[u16], dir: bool, attributes: u64) -> Result<bool, NoMemory>
         requires name { is_name_of name.now ≡ true }
         requires made { length self.old.objects < 2 ^ 63 }

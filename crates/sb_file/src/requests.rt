@@ -3,10 +3,11 @@ ghost use Rattle.std.specs.Prelude.{◌≡◌};
 ghost use Rattle.sb_file.specs.Creation.{is_invalid, object_asked, on_file, open_request, replaces, wants_directory, wants_file};
 
 use crate::objects::{FileKind, FileObject};
+use bitflags::Flags;
 use sb_call::meets;
-use sb_handles::{Held, Object, Service};
+use sb_handles::{Access, Held, Object, Service, Sharing};
 
-// What to do where the name is there, and where it is not: its file is replaced whole, it is opened, it is made, opened or
+// What to do if the name is there, and if it is not: its file is replaced whole, it is opened, it is made, opened or
 // made, its content is replaced, or replaced or made.
 pub(crate) const SUPERSEDE: u64 = 0;
 
@@ -31,11 +32,11 @@ const NON_DIRECTORY_OPTION: u64 = 0x40;
 pub struct FileRequest {
     /// The attributes of what is made, or whose content is replaced, as a mask.
     pub attributes: u64,
-    /// The access of the handle, as a mask.
-    pub access: u64,
-    /// What may be done beside the handle: 1 read, 2 write, 4 delete.
-    pub sharing: u64,
-    /// What to do where the name is there and where it is not: 0 to supersede, 1 to open, 2 to create, 3 to open or create, 4 to
+    /// The access of the handle.
+    pub access: Access,
+    /// What may be done beside the handle.
+    pub sharing: Sharing,
+    /// What to do if the name is there and if it is not: 0 to supersede, 1 to open, 2 to create, 3 to open or create, 4 to
     /// overwrite, 5 to overwrite or create.
     pub disposition: u64,
     /// 1 for directories alone, 0x40 for files alone; other bits are not looked at.
@@ -44,8 +45,8 @@ pub struct FileRequest {
 
 impl FileRequest {
     /// What file.open asks for: to open what is there, with attributes 0.
-    pub fn to_open(access: u64, sharing: u64, options: u64) -> FileRequest
-        ensures { result ≡ open_request access sharing options }
+    pub fn to_open(access: Access, sharing: Sharing, options: u64) -> FileRequest
+        ensures { result ≡ open_request access.0 sharing.0 options }
     {
         FileRequest {
             attributes: 0,
@@ -83,7 +84,7 @@ pub(crate) fn is_invalid(request: FileRequest) -> bool
     ensures { result ≡ is_invalid request }
 {
     request.disposition > OVERWRITE_OR_CREATE
-        || request.sharing > 7
+        || request.sharing.bits() > 7
         || wants_directory(request) && wants_file(request)
         || wants_directory(request) && replaces(request.disposition)
 }

@@ -30,7 +30,7 @@ number_of (Some n) = n
 not_later : (o h object lower : ℕ) (key : ℕ × ℕ) → by_object (o, h) key ≡ Less → object ≡ o → lower ≤ h → is_at object lower key ≡ false
 not_later o h object lower key e same l = grind (arith, nat_tests, e, same, l)
 
--- behind a handle, no lower handle of its object is open
+-- after a handle, no lower handle of its object is open
 pub none_lower : (o h lower : ℕ) (rows : Shares) → AllByRecursion (λ key. by_object (o, h) key ≡ Less) (keys_of rows) → lower ≤ h → share_on rows o lower ≡ None
 none_lower o h lower [] all l = refl
 none_lower o h lower (row ∷ rows) all l = rw (not_later o h o lower row.0 all.0 refl l) (none_lower o h lower rows all.1 l)

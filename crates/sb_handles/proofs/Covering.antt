@@ -66,20 +66,20 @@ module _ (sets : Sets) (key : ℕ × ℕ) (access sharing : ℕ) where
 
   listed_so : (share : Share) → HasShare sets key share → conflicts access sharing share ≡ true → is_listed true ≡ true
   listed_so share has c =
-      let outer = and_parts (takes_part access && takes_part share.access) (exceeds access share.sharing || exceeds share.access sharing) c in
-      let part : takes_part share.access ≡ true = (and_parts (takes_part access) (takes_part share.access) outer.0).1 in
-      one_of_two (exceeds access share.sharing) (exceeds share.access sharing) (is_unshared sets key access true) (is_exceeding sets key sharing true)
+      let outer = and_parts (takes_part access && takes_part share.access.0) (exceeds access share.sharing.0 || exceeds share.access.0 sharing) c in
+      let part : takes_part share.access.0 ≡ true = (and_parts (takes_part access) (takes_part share.access.0) outer.0).1 in
+      one_of_two (exceeds access share.sharing.0) (exceeds share.access.0 sharing) (is_unshared sets key access true) (is_exceeding sets key sharing true)
       (one_of_three _ _ _ _ _ _
-      (asked_unshared (meets access read_bits) (meets share.sharing share_read) (takes_part share.access) (is_some (get by_object sets.unread key)) part has.unread)
-      (asked_unshared (meets access write_bits) (meets share.sharing share_write) (takes_part share.access) (is_some (get by_object sets.unwritten key)) part has.unwritten)
-      (asked_unshared (meets access delete_bits) (meets share.sharing share_delete) (takes_part share.access) (is_some (get by_object sets.undeleted key)) part has.undeleted))
+      (asked_unshared (meets access read_bits) (meets share.sharing.0 share_read) (takes_part share.access.0) (is_some (get by_object sets.unread key)) part has.unread)
+      (asked_unshared (meets access write_bits) (meets share.sharing.0 share_write) (takes_part share.access.0) (is_some (get by_object sets.unwritten key)) part has.unwritten)
+      (asked_unshared (meets access delete_bits) (meets share.sharing.0 share_delete) (takes_part share.access.0) (is_some (get by_object sets.undeleted key)) part has.undeleted))
       (one_of_three _ _ _ _ _ _
-      (asked_done (meets share.access read_bits) (meets sharing share_read) (is_some (get by_object sets.reading key)) has.reads)
-      (asked_done (meets share.access write_bits) (meets sharing share_write) (is_some (get by_object sets.writing key)) has.writes)
-      (asked_done (meets share.access delete_bits) (meets sharing share_delete) (is_some (get by_object sets.deleting key)) has.deletes))
+      (asked_done (meets share.access.0 read_bits) (meets sharing share_read) (is_some (get by_object sets.reading key)) has.reads)
+      (asked_done (meets share.access.0 write_bits) (meets sharing share_write) (is_some (get by_object sets.writing key)) has.writes)
+      (asked_done (meets share.access.0 delete_bits) (meets sharing share_delete) (is_some (get by_object sets.deleting key)) has.deletes))
       outer.1
 
-  -- a handle conflicts exactly where it stands in a set that is asked, and conflicts
+  -- a handle conflicts exactly if it stands in a set that is asked, and conflicts
   pub listed_exactly : (entry : Option Share) → ((share : Share) → entry ≡ Some share → HasShare sets key share)
       → is_listed (conflicts_by access sharing entry) ≡ conflicts_by access sharing entry
   listed_exactly None has = none_listed

@@ -5,6 +5,6 @@ use Rattle.std.specs.Prelude.{◌&&◌}
 use Rattle.std.specs.BTreeMap.{is_at}
 use Rattle.sb_handles.specs.Shares.{by_object}
 
--- two pairs stand at one place of the order exactly where they are equal
+-- two pairs stand at one place of the order exactly if they are equal
 pub same_pair : (a b c d : ℕ) → is_at (by_object (a, b)) (c, d) ≡ (a == c && b == d)
 same_pair a b c d = grind (arith, nat_tests)

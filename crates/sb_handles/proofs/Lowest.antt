@@ -48,7 +48,7 @@ module _ {V : Type 0} (object : ℕ) (p : ℕ → Bool) where
       by false same false h e again = again e
       by true same false h e again = unmet row n f same h
 
-  -- behind a handle, no lower handle of its object is there
+  -- after a handle, no lower handle of its object is there
   none_lower : (h n : ℕ) (es : List ((ℕ × ℕ) × V)) → AllByRecursion (λ key. by_object (object, h) key ≡ Less) (keys_of es) → n ≤ h → at n es ≡ None
   none_lower h n [] all l = refl
   none_lower h n (row ∷ es) all l = rw (not_later object h n row.0 all.0 l) (none_lower h n es all.1 l)
@@ -154,7 +154,7 @@ pub lowest_alike : (p q : ℕ → Bool) (a : Option ℕ) → ((n : ℕ) → p n 
 lowest_alike p q None same i = λ n f. sym (same n) ∙ i n f
 lowest_alike p q (Some a) same i = (i.0, sym (same a) ∙ i.1, λ n l. sym (same n) ∙ i.2 n l)
 
--- no number passes where none can
+-- no number passes if none can
 pub lowest_none : (p : ℕ → Bool) → ((n : ℕ) → p n ≡ false) → IsLowest p None
 lowest_none p none = λ n f. none n
 

@@ -496,7 +496,7 @@ held_on_one shares table target number held h agree found other there =
         here true false q = absurd (false≢true q)
         here false t q = absurd (false≢true q)
 
--- what is open behind a row is open with it
+-- what is open after a row is open with it
 still_on : (shares : Shares) (row : (ℕ × ℕ) × Share) (object handle : ℕ) → IsOn (row ∷ shares) object handle → IsOn shares object handle
 still_on shares row object handle on other there = on other (by (on_key other handle row.0))
   where

@@ -16,7 +16,7 @@ abbrev pub is_pipe : Service → Bool
 is_pipe service.Pipe = true
 is_pipe _ = false
 
--- how a handle stands to others of this file or directory, where it is one on it
+-- how a handle stands to others of this file or directory, if it is one on it
 abbrev pub file_share_by : ℕ → Option OpenHandle → Option Share
 file_share_by object None = None
 file_share_by object (Some handle) =

@@ -50,7 +50,7 @@ abbrev pub HeldOnOne : Type 0
 HeldOnOne = (shares : Shares) (table : Table) (target number : ℕ) (held : Held) → IsTable table → AgreesOnFiles shares table
     → held_by table target number ≡ Some held → IsOn shares held.object.number number
 
--- a handle that is open on one object at most is left where its share of the object is taken out
+-- a handle that is open on one object at most is left when its share of the object is taken out
 abbrev pub OneIsLeft : Type 0
 OneIsLeft = (shares : Shares) (object handle : ℕ) → SharesRise shares → IsOn shares object handle → left_on shares object handle ≡ left shares handle
 
@@ -82,7 +82,7 @@ ConflictsAreLowest = (shares : Shares) (object access sharing handle lower : ℕ
     → conflict_of shares object access sharing ≡ Some handle → lower < handle → share_on shares object lower ≡ Some share
     → conflicts access sharing share ≡ false
 
--- and where none is given, no handle of the object conflicts
+-- and if none is given, no handle of the object conflicts
 abbrev pub NoConflictMeansNone : Type 0
 NoConflictMeansNone = (shares : Shares) (object access sharing handle : ℕ) (share : Share) → conflict_of shares object access sharing ≡ None
     → share_on shares object handle ≡ Some share → conflicts access sharing share ≡ false
@@ -94,12 +94,12 @@ IsConflicting table object access sharing number handle =
     × (handle.held.object.number ≡ object)
     × (conflicts access sharing (record { access = handle.held.access; sharing = handle.held.sharing }) ≡ true)
 
--- where shares and table agree, a conflict is with a handle that some target holds
+-- if shares and table agree, a conflict is with a handle that some target holds
 abbrev pub ConflictsAreHeld : Type 0
 ConflictsAreHeld = (shares : Shares) (table : Table) (object access sharing number : ℕ) → SharesRise shares → AgreesOnFiles shares table
     → conflict_of shares object access sharing ≡ Some number → (handle : OpenHandle) × IsConflicting table object access sharing number handle
 
--- and where some target holds such a handle, there is a conflict
+-- and if some target holds such a handle, there is a conflict
 abbrev pub HeldHandlesConflict : Type 0
 HeldHandlesConflict = (shares : Shares) (table : Table) (object access sharing number : ℕ) (handle : OpenHandle) → AgreesOnFiles shares table
     → IsConflicting table object access sharing number handle → is_some (conflict_of shares object access sharing) ≡ true

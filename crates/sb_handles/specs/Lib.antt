@@ -2,6 +2,7 @@ pub mod Agreements
 pub mod Effects
 pub mod Histories
 pub mod Laws
+pub mod Masks
 pub mod Sets
 pub mod Shares
 pub mod Slots

@@ -28,12 +28,12 @@ is_met asked entry hit = asked && (is_some entry && hit)
 
 -- the sets of its share have a handle of an object
 pub record HasShare (sets : Sets) (key : ℕ × ℕ) (share : Share) : Type 0 where
-  pub reads : meets share.access read_bits ≡ true → is_some (get by_object sets.reading key) ≡ true
-  pub writes : meets share.access write_bits ≡ true → is_some (get by_object sets.writing key) ≡ true
-  pub deletes : meets share.access delete_bits ≡ true → is_some (get by_object sets.deleting key) ≡ true
-  pub unread : (takes_part share.access && not (meets share.sharing share_read)) ≡ true → is_some (get by_object sets.unread key) ≡ true
-  pub unwritten : (takes_part share.access && not (meets share.sharing share_write)) ≡ true → is_some (get by_object sets.unwritten key) ≡ true
-  pub undeleted : (takes_part share.access && not (meets share.sharing share_delete)) ≡ true → is_some (get by_object sets.undeleted key) ≡ true
+  pub reads : meets share.access.0 read_bits ≡ true → is_some (get by_object sets.reading key) ≡ true
+  pub writes : meets share.access.0 write_bits ≡ true → is_some (get by_object sets.writing key) ≡ true
+  pub deletes : meets share.access.0 delete_bits ≡ true → is_some (get by_object sets.deleting key) ≡ true
+  pub unread : (takes_part share.access.0 && not (meets share.sharing.0 share_read)) ≡ true → is_some (get by_object sets.unread key) ≡ true
+  pub unwritten : (takes_part share.access.0 && not (meets share.sharing.0 share_write)) ≡ true → is_some (get by_object sets.unwritten key) ≡ true
+  pub undeleted : (takes_part share.access.0 && not (meets share.sharing.0 share_delete)) ≡ true → is_some (get by_object sets.undeleted key) ≡ true
 
 -- so they have each handle that is open, and handles have 64 bits
 pub record HasShares (shares : ℕ × ℕ → Option Share) (sets : Sets) : Type 0 where

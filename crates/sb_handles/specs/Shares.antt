@@ -46,7 +46,7 @@ exceeds access sharing =
 -- a new access with its sharing conflicts with an open handle
 abbrev pub conflicts : ℕ → ℕ → Share → Bool
 conflicts access sharing share =
-    takes_part access && takes_part share.access && (exceeds access share.sharing || exceeds share.access sharing)
+    takes_part access && takes_part share.access.0 && (exceeds access share.sharing.0 || exceeds share.access.0 sharing)
 
 -- how each open handle stands to others of its object: by object and handle, in strictly rising order
 abbrev pub Shares : Type 0

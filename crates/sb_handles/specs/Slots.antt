@@ -4,14 +4,14 @@ use Rattle.sb_handles.specs.declared.objects.Held.{Held}
 use Rattle.sb_handles.specs.declared.objects.OpenHandle.{OpenHandle}
 use Rattle.sb_handles.specs.declared.tables.Slot.{Slot}
 
--- the open handles, where the first slot has this number
+-- the open handles, if the first slot has this number
 abbrev pub open_from : ℕ → List (Option Slot) → List OpenHandle
 open_from first [] = []
 open_from first (None ∷ slots) = open_from (first + 1) slots
 open_from first (Some slot ∷ slots) =
     (record { target = slot.target; number = first; held = slot.held }) ∷ open_from (first + 1) slots
 
--- the slot of a number, where the first slot has the number first
+-- the slot of a number, if the first slot has the number first
 abbrev pub slot_of : ℕ → List (Option Slot) → ℕ → Option Slot
 slot_of first [] number = None
 slot_of first (slot ∷ slots) number = if first == number then slot else slot_of (first + 1) slots number

@@ -35,7 +35,7 @@ pub fn opens_come_back()
     ensures { OpensComeBack }
 {}
 
-/// A handle that a target holds is open on its object at most, and is left where its share of the object is taken out.
+/// A handle that a target holds is open on its object at most, and is left when its share of the object is taken out.
 #[tactic(auto, using(crate::proofs::TableLaws::held_on_one, crate::proofs::TableLaws::one_is_left))]
 pub fn handles_are_on_one_object()
     ensures held { HeldOnOne }
@@ -58,7 +58,7 @@ pub fn numbers_are_granted_once()
     ensures granted { GrantedNeverFalls }
 {}
 
-/// The handle that a conflict names is open on the object, and is the lowest that conflicts; where none is named, none conflicts.
+/// The handle that a conflict names is open on the object, and is the lowest that conflicts; if none is named, none conflicts.
 #[tactic(auto, using(crate::proofs::ConflictLaws::conflicts_are_open, crate::proofs::ConflictLaws::conflicts_are_lowest, crate::proofs::ConflictLaws::no_conflict_means_none))]
 pub fn conflicts_are_lowest()
     ensures there { ConflictsAreOpen }
@@ -66,7 +66,7 @@ pub fn conflicts_are_lowest()
     ensures none { NoConflictMeansNone }
 {}
 
-/// Where shares and a handle table agree, a new access conflicts exactly where some target holds a handle that conflicts.
+/// If shares and a handle table agree, a new access conflicts exactly if some target holds a handle that conflicts.
 #[tactic(auto, using(crate::proofs::ConflictLaws::conflicts_are_held, crate::proofs::ConflictLaws::held_handles_conflict))]
 pub fn conflicts_are_held()
     ensures held { ConflictsAreHeld }

@@ -3,6 +3,7 @@
 #![tactic(auto)]
 
 mod laws;
+mod masks;
 mod objects;
 mod sets;
 mod shares;
@@ -13,6 +14,7 @@ pub use laws::{
     handles_are_on_one_object, numbers_are_granted_once, numbers_are_new, opens_come_back,
     pipe_handles_are_counted,
 };
+pub use masks::{Access, Sharing};
 pub use objects::{Held, NotHeld, Object, OpenHandle, Service, Share, ShareRefused};
 pub use shares::ShareTable;
 pub use tables::HandleTable;

@@ -1,5 +1,6 @@
 // What a handle is held on, and how.
 
+use crate::masks::{Access, Sharing};
 use thiserror::Error;
 
 /// The service to which an object belongs.
@@ -24,15 +25,15 @@ pub struct Object {
     pub number: u64,
 }
 
-/// What stands behind a handle.
+/// What a handle is open on.
 #[derive(Clone, Copy)]
 pub struct Held {
     /// The object.
     pub object: Object,
-    /// The access that was asked for, as a mask; 0 where the call has none.
-    pub access: u64,
-    /// What may be done beside it: 1 read, 2 write, 4 delete; 0 where the call has none.
-    pub sharing: u64,
+    /// The access that was asked for; 0 if the call has none.
+    pub access: Access,
+    /// What may be done beside it; 0 if the call has none.
+    pub sharing: Sharing,
 }
 
 /// A handle that a target holds.
@@ -42,17 +43,17 @@ pub struct OpenHandle {
     pub target: u32,
     /// The number of the handle among all ever granted, from 1.
     pub number: u64,
-    /// What stands behind it.
+    /// What it is open on.
     pub held: Held,
 }
 
 /// How an open handle stands to others of its object.
 #[derive(Clone, Copy)]
 pub struct Share {
-    /// The access of the handle, as a mask.
-    pub access: u64,
-    /// What may be done beside it: 1 read, 2 write, 4 delete.
-    pub sharing: u64,
+    /// The access of the handle.
+    pub access: Access,
+    /// What may be done beside it.
+    pub sharing: Sharing,
 }
 
 /// The target holds no handle of that number.

@@ -5,46 +5,34 @@ ghost use Rattle.sb_handles.specs.Shares.{by_object, takes_part, exceeds, confli
 ghost use Rattle.sb_handles.specs.Sets.{HasShare, HasShares, IsLowest, conflicts_by, is_exceeding, is_met, is_unshared, lower_of};
 ghost use Rattle.sb_handles.specs.declared.objects.Share.{Share};
 
+use crate::masks::{Access, Sharing};
 use crate::objects::Share;
-use sb_call::meets;
+use bitflags::Flags;
 use sb_wide::NoMemory;
 use std::alloc::Global;
 use std::collections::BTreeMap;
 
-// The bits of an access that read data or execute: by themselves or by a generic right.
-const READ_BITS: u64 = 0xB000_0021;
-
-// The bits of an access that write or append data.
-const WRITE_BITS: u64 = 0x5000_0006;
-
-// The bits of an access that delete.
-const DELETE_BITS: u64 = 0x1001_0000;
-
-const SHARE_READ: u64 = 1;
-
-const SHARE_WRITE: u64 = 2;
-
-const SHARE_DELETE: u64 = 4;
-
 // Whether an access reads, writes or deletes: no other takes part in sharing.
-pub(crate) fn takes_part(access: u64) -> bool
-    ensures { result ≡ takes_part access }
+pub(crate) fn takes_part(access: Access) -> bool
+    ensures { result ≡ takes_part access.0 }
 {
-    meets(access, READ_BITS) || meets(access, WRITE_BITS) || meets(access, DELETE_BITS)
+    access.intersects(Access::READS)
+        || access.intersects(Access::WRITES)
+        || access.intersects(Access::DELETES)
 }
 
 // Whether an access does what a sharing does not share.
-fn exceeds(access: u64, sharing: u64) -> bool
-    ensures { result ≡ exceeds access sharing }
+fn exceeds(access: Access, sharing: Sharing) -> bool
+    ensures { result ≡ exceeds access.0 sharing.0 }
 {
-    meets(access, READ_BITS) && !meets(sharing, SHARE_READ)
-        || meets(access, WRITE_BITS) && !meets(sharing, SHARE_WRITE)
-        || meets(access, DELETE_BITS) && !meets(sharing, SHARE_DELETE)
+    access.intersects(Access::READS) && !sharing.intersects(Sharing::READ)
+        || access.intersects(Access::WRITES) && !sharing.intersects(Sharing::WRITE)
+        || access.intersects(Access::DELETES) && !sharing.intersects(Sharing::DELETE)
 }
 
 // Whether a new access with its sharing conflicts with an open handle.
-fn conflicts(access: u64, sharing: u64, share: Share) -> bool
-    ensures { result ≡ conflicts access sharing share }
+fn conflicts(access: Access, sharing: Sharing, share: Share) -> bool
+    ensures { result ≡ conflicts access.0 sharing.0 share }
 {
     takes_part(access)
         && takes_part(share.access)
@@ -56,10 +44,10 @@ fn conflicts_at(
     shares: &BTreeMap<(u64, u64), Share>,
     object: u64,
     handle: u64,
-    access: u64,
-    sharing: u64,
+    access: Access,
+    sharing: Sharing,
 ) -> bool
-    ensures { result ≡ conflicts_by access sharing (get by_object shares.now (object, handle)) }
+    ensures { result ≡ conflicts_by access.0 sharing.0 (get by_object shares.now (object, handle)) }
 {
     match shares.get(&(object, handle)) {
         Some(share) => conflicts(access, sharing, *share),
@@ -78,16 +66,16 @@ fn note(set: &mut BTreeMap<(u64, u64), ()>, key: (u64, u64), belongs: bool) -> R
     Ok(())
 }
 
-// The lowest handle of an object in a set with which a new access conflicts, where such a set is to be asked.
+// The lowest handle of an object in a set with which a new access conflicts, if such a set is to be asked.
 fn first_in(
     asked: bool,
     set: &BTreeMap<(u64, u64), ()>,
     shares: &BTreeMap<(u64, u64), Share>,
     object: u64,
-    access: u64,
-    sharing: u64,
+    access: Access,
+    sharing: Sharing,
 ) -> Option<u64>
-    ensures { IsLowest (λ handle. is_met asked (get by_object set.now (object, handle)) (conflicts_by access sharing (get by_object shares.now (object, handle)))) result }
+    ensures { IsLowest (λ handle. is_met asked (get by_object set.now (object, handle)) (conflicts_by access.0 sharing.0 (get by_object shares.now (object, handle)))) result }
 {
     if !asked {
         return None;
@@ -155,19 +143,23 @@ impl Sets {
     {
         let Share { access, sharing } = share;
         let part = takes_part(access);
-        note(&mut self.reading, key, meets(access, READ_BITS))?;
-        note(&mut self.writing, key, meets(access, WRITE_BITS))?;
-        note(&mut self.deleting, key, meets(access, DELETE_BITS))?;
-        note(&mut self.unread, key, part && !meets(sharing, SHARE_READ))?;
+        note(&mut self.reading, key, access.intersects(Access::READS))?;
+        note(&mut self.writing, key, access.intersects(Access::WRITES))?;
+        note(&mut self.deleting, key, access.intersects(Access::DELETES))?;
+        note(
+            &mut self.unread,
+            key,
+            part && !sharing.intersects(Sharing::READ),
+        )?;
         note(
             &mut self.unwritten,
             key,
-            part && !meets(sharing, SHARE_WRITE),
+            part && !sharing.intersects(Sharing::WRITE),
         )?;
         note(
             &mut self.undeleted,
             key,
-            part && !meets(sharing, SHARE_DELETE),
+            part && !sharing.intersects(Sharing::DELETE),
         )?;
         Ok(())
     }
@@ -189,13 +181,13 @@ impl Sets {
         &self,
         shares: &BTreeMap<(u64, u64), Share>,
         object: u64,
-        access: u64,
-        sharing: u64,
+        access: Access,
+        sharing: Sharing,
     ) -> Option<u64>
-        ensures { IsLowest (λ handle. is_unshared self.now (object, handle) access (conflicts_by access sharing (get by_object shares.now (object, handle)))) result }
+        ensures { IsLowest (λ handle. is_unshared self.now (object, handle) access.0 (conflicts_by access.0 sharing.0 (get by_object shares.now (object, handle)))) result }
     {
         let read = first_in(
-            meets(access, READ_BITS),
+            access.intersects(Access::READS),
             &self.unread,
             shares,
             object,
@@ -203,7 +195,7 @@ impl Sets {
             sharing,
         );
         let written = first_in(
-            meets(access, WRITE_BITS),
+            access.intersects(Access::WRITES),
             &self.unwritten,
             shares,
             object,
@@ -211,7 +203,7 @@ impl Sets {
             sharing,
         );
         let deleted = first_in(
-            meets(access, DELETE_BITS),
+            access.intersects(Access::DELETES),
             &self.undeleted,
             shares,
             object,
@@ -226,13 +218,13 @@ impl Sets {
         &self,
         shares: &BTreeMap<(u64, u64), Share>,
         object: u64,
-        access: u64,
-        sharing: u64,
+        access: Access,
+        sharing: Sharing,
     ) -> Option<u64>
-        ensures { IsLowest (λ handle. is_exceeding self.now (object, handle) sharing (conflicts_by access sharing (get by_object shares.now (object, handle)))) result }
+        ensures { IsLowest (λ handle. is_exceeding self.now (object, handle) sharing.0 (conflicts_by access.0 sharing.0 (get by_object shares.now (object, handle)))) result }
     {
         let read = first_in(
-            !meets(sharing, SHARE_READ),
+            !sharing.intersects(Sharing::READ),
             &self.reading,
             shares,
             object,
@@ -240,7 +232,7 @@ impl Sets {
             sharing,
         );
         let written = first_in(
-            !meets(sharing, SHARE_WRITE),
+            !sharing.intersects(Sharing::WRITE),
             &self.writing,
             shares,
             object,
@@ -248,7 +240,7 @@ impl Sets {
             sharing,
         );
         let deleted = first_in(
-            !meets(sharing, SHARE_DELETE),
+            !sharing.intersects(Sharing::DELETE),
             &self.deleting,
             shares,
             object,
@@ -263,11 +255,11 @@ impl Sets {
         &self,
         shares: &BTreeMap<(u64, u64), Share>,
         object: u64,
-        access: u64,
-        sharing: u64,
+        access: Access,
+        sharing: Sharing,
     ) -> Option<u64>
         requires { HasShares (get by_object shares.now) self.now }
-        ensures { IsLowest (λ handle. conflicts_by access sharing (get by_object shares.now (object, handle))) result }
+        ensures { IsLowest (λ handle. conflicts_by access.0 sharing.0 (get by_object shares.now (object, handle))) result }
     {
         if !takes_part(access) {
             return None;

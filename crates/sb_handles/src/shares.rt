@@ -2,6 +2,7 @@
 ghost use Rattle.std.specs.Prelude.{◌≡◌, None, [], IfErr, OnOk, OnErr};
 ghost use Rattle.sb_handles.specs.Shares.{SharesRise, conflict_of, opened, left_on, IsRefusal};
 
+use crate::masks::{Access, Sharing};
 use crate::objects::{Share, ShareRefused};
 use crate::sets::Sets;
 use std::alloc::Global;
@@ -10,9 +11,9 @@ use std::marker::Model;
 
 /// How the open handles of each object stand to one another.
 ///
-/// An access reads, writes or deletes, each also by a generic right; any other takes no part. Sharing is 1 for reading, 2
-/// for writing and 4 for deleting. A new access conflicts with an open handle of the same object if it does what the
-/// handle does not share, or the handle does what the new one does not share.
+/// An access reads, writes or deletes, each also by a generic right; any other takes no part. A new access conflicts with
+/// an open handle of the same object if it does what the handle does not share, or the handle does what the new one does
+/// not share.
 pub struct ShareTable {
     // By object and handle.
     shares: BTreeMap<(u64, u64), Share>,
@@ -52,8 +53,8 @@ impl ShareTable {
 
     /// The lowest open handle of an object that a new access with its sharing conflicts with. It takes the time of a few
     /// look-ups, however many handles are open.
-    pub fn check(&self, object: u64, access: u64, sharing: u64) -> Option<u64>
-        ensures { result ≡ conflict_of self.now object access sharing }
+    pub fn check(&self, object: u64, access: Access, sharing: Sharing) -> Option<u64>
+        ensures { result ≡ conflict_of self.now object access.0 sharing.0 }
     {
         let _count = self.shares.len();
         self.sets
@@ -69,12 +70,12 @@ impl ShareTable {
         &mut self,
         object: u64,
         handle: u64,
-        access: u64,
-        sharing: u64,
+        access: Access,
+        sharing: Sharing,
     ) -> Result<(), ShareRefused>
-        ensures free { OnOk result (conflict_of self.old object access sharing ≡ None) }
+        ensures free { OnOk result (conflict_of self.old object access.0 sharing.0 ≡ None) }
         ensures ok { OnOk result (self.new ≡ opened self.old object handle (record { access = access; sharing = sharing })) }
-        ensures refused { IfErr result (λ refused. IsRefusal (conflict_of self.old object access sharing) refused) }
+        ensures refused { IfErr result (λ refused. IsRefusal (conflict_of self.old object access.0 sharing.0) refused) }
         ensures err { OnErr result (self.new ≡ self.old) }
     {
         if let Some(handle) = self.check(object, access, sharing) {

@@ -8,7 +8,7 @@ use sb_wide::NoMemory;
 use std::alloc::Global;
 use std::marker::Model;
 
-// What stands behind an open handle.
+// What an open handle is open on.
 #[derive(Clone, Copy)]
 pub(crate) struct Slot {
     target: u32,
@@ -23,7 +23,6 @@ pub struct HandleTable {
     slots: Vec<Option<Slot>>,
 }
 
-// By hand, so that it is proved here once and not at each place that drops one.
 impl Drop for HandleTable {
     fn drop(self) {
         let HandleTable { slots: _ } = self;
@@ -41,7 +40,7 @@ impl Model for HandleTable {
     ghost view = { λ t. record { table = record { handles = open_from 1 t.slots.items; granted = length t.slots.items }; capacity = vec_capacity t.slots } };
 }
 
-// The slot of a number, where it is open.
+// The slot of a number, if it is open.
 #[tactic(auto, using(crate::proofs::SlotLemmas::slot_at, crate::proofs::SlotLemmas::slot_below, crate::proofs::SlotLemmas::slot_in))]
 fn slot_of(slots: &[Option<Slot>], number: u64) -> Option<Slot>
     ensures slot { result ≡ slot_of 1 slots.now number }
@@ -121,7 +120,7 @@ impl HandleTable {
     }
 
     #[tactic(auto, using(crate::proofs::SlotLemmas::found_slot))]
-    /// What a target holds under a number, or nothing where it holds no handle of that number.
+    /// What a target holds under a number, or nothing if it holds no handle of that number.
     pub fn lookup(&self, target: u32, number: u64) -> Option<Held>
         ensures { result ≡ held_by self.now.table target number }
     {
@@ -134,10 +133,10 @@ impl HandleTable {
     }
 
     #[tactic(auto, using(crate::proofs::SlotLemmas::found_slot, crate::proofs::SlotLemmas::emptied))]
-    /// Closes a handle that a target holds, and gives what stood behind it.
+    /// Closes a handle that a target holds, and gives what it was open on.
     ///
     /// # Errors
-    /// `NotHeld` exactly where the target holds no handle of that number; then nothing is changed.
+    /// `NotHeld` exactly if the target holds no handle of that number; then nothing is changed.
     pub fn close(&mut self, target: u32, number: u64) -> Result<Held, NotHeld>
         ensures held { IfOk result (λ held. held_by self.old.table target number ≡ Some held) }
         ensures ok { OnOk result (self.new.table ≡ without_handle self.old.table target number) }

@@ -17,7 +17,7 @@ use Rattle.sb_kernel.specs.Namespaces.{Space}
 module _ (files_closed : ClosesKeepFiles) (other_files : ClosesLeaveFiles) (pipes_closed : ClosesKeepPipes) (other_pipes : ClosesLeavePipes)
     (ns : Space) (kept : IsKept ns) (table : IsTable ns.handles) (are_pipes : pipes.ArePipes ns.pipes)
     (target handle : ℕ) (held : Held) (found : held_by ns.handles target handle ≡ Some held) where
-  -- each handle that is left has its row, where names, keys and events are as they were
+  -- each handle that is left has its row, if names, keys and events are as they were
   still_held : (after : Space) → after.files.names ≡ ns.files.names → after.keys ≡ ns.keys → after.events ≡ ns.events
       → after.handles ≡ without_handle ns.handles target handle → after.pipes.made ≡ ns.pipes.made → AreHeld after
   still_held after names keys events less same = held_closed ns after target handle (row_stays ns after names keys events) less same kept.held

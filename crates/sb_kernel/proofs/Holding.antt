@@ -26,6 +26,9 @@ use Rattle.sb_pipe.specs.declared.rows.PipeRow.{PipeRow}
 use Rattle.sb_key.specs.Laws as key_laws
 use Rattle.sb_key.specs.Registry as registry
 use Rattle.sb_event.specs.Events as events
+use Rattle.sb_event.specs.declared.kinds.EventKind.{EventKind}
+use Rattle.sb_pipe.specs.declared.modes.PipeForm.{PipeForm}
+use Rattle.sb_pipe.specs.declared.modes.PipeMode.{PipeMode}
 use Rattle.sb_event.specs.Laws as event_laws
 use Rattle.sb_event.specs.Events.{number_of}
 use Rattle.sb_kernel.specs.Held.{AreHeld, AreNarrow, HasRow, HaveRows, IsUnder, is_narrow, itself}
@@ -35,7 +38,7 @@ use Rattle.sb_names.specs.Laws.{PutsKeepRows}
 use Rattle.sb_names.specs.Trees.{has_parent}
 use Rattle.sb_kernel.specs.Namespaces.{Space, empty_space, on_events, on_files, on_keys, on_pipes}
 
--- where each object that has a row keeps one
+-- if each object that has a row keeps one
 rows_stay : (before after : Space) → ((kind : Service) (number : ℕ) → HasRow before kind number → HasRow after kind number)
     → (handles : List OpenHandle) → HaveRows before handles → HaveRows after handles
 rows_stay before after keeps [] h = tt
@@ -93,7 +96,7 @@ held_after before after keeps (inr (target, one, own, narrow, more)) come held =
       pipes_come = come;
     }
 
--- where names, keys and events are as they were, each object keeps its row
+-- if names, keys and events are as they were, each object keeps its row
 pub row_stays : (before after : Space) → after.files.names ≡ before.files.names → after.keys ≡ before.keys → after.events ≡ before.events
     → (kind : Service) (number : ℕ) → HasRow before kind number → HasRow after kind number
 row_stays before after f k v service.File number h = subst (λ names. IsUnder itself names number) (sym f) h
@@ -120,10 +123,10 @@ by_status status P succeeded refused = by (status == success) refl
     by false e = refused (λ same. absurd (grind (arith, nat_tests, e, same)))
 
 -- narrow numbers
-narrow_of : (held : Held) → nat_lt held.access (2 ^ 32) ≡ true → nat_lt held.sharing (2 ^ 32) ≡ true → is_narrow held ≡ true
+narrow_of : (held : Held) → nat_lt held.access.0 (2 ^ 32) ≡ true → nat_lt held.sharing.0 (2 ^ 32) ≡ true → is_narrow held ≡ true
 narrow_of held a b = rw (a, b) refl
 
--- no more pipes than handles, where handles are as many or one more
+-- no more pipes than handles, if handles are as many or one more
 still_come : (made : ℕ) (before after : Table) (ns : Space) → IsGrantOn ns before after → made ≤ before.granted → made ≤ after.granted
 still_come made before after ns (inl same) few = rw same few
 still_come made before after ns (inr (target, one, own, narrow, more)) few =
@@ -132,8 +135,8 @@ still_come made before after ns (inr (target, one, own, narrow, more)) few =
 
 -- files
 module _ (grants : file_laws.CreatesGrantTheirFile) (refuses : file_laws.RefusalsChangeNothing) (stays : file_laws.CreatesKeepNames)
-    (ns : Space) (target : ℕ) (name : List ℕ) (request : FileRequest) (access : nat_lt request.access (2 ^ 32) ≡ true)
-    (sharing : nat_lt request.sharing (2 ^ 32) ≡ true) (held : AreHeld ns) where
+    (ns : Space) (target : ℕ) (name : List ℕ) (request : FileRequest) (access : nat_lt request.access.0 (2 ^ 32) ≡ true)
+    (sharing : nat_lt request.sharing.0 (2 ^ 32) ≡ true) (held : AreHeld ns) where
   abbrev created : effects.Effect files.Files
   created = creation.create ns.files ns.handles target name request
 
@@ -160,7 +163,7 @@ module _ (grants : file_laws.CreatesGrantTheirFile) (refuses : file_laws.Refusal
 
 -- pipes
 module _ (grants : pipe_laws.CallsGrantTheirPipe) (refuses : pipe_laws.RefusalsChangeNothing) (counts : pipe_laws.CallsKeepCounts)
-    (ns : Space) (target : ℕ) (name : List ℕ) (mode form instances : ℕ) (held : AreHeld ns) where
+    (ns : Space) (target : ℕ) (name : List ℕ) (mode : PipeMode) (form : PipeForm) (instances : ℕ) (held : AreHeld ns) where
   abbrev piped : effects.Effect pipes.Pipes
   piped = pipes.create ns.pipes ns.handles target name mode form instances
 
@@ -246,7 +249,7 @@ module _ (grants : key_laws.OpensGrantTheirKey) (refuses : key_laws.RefusedOpens
 
 -- events
 module _ (grants : event_laws.CreatesGrantTheirEvent) (refuses : event_laws.RefusedCreatesChangeNothing) (stays : event_laws.CreatesKeepEvents)
-    (ns : Space) (target : ℕ) (name : List ℕ) (kind initial : ℕ) (held : AreHeld ns) where
+    (ns : Space) (target : ℕ) (name : List ℕ) (kind : EventKind) (initial : Bool) (held : AreHeld ns) where
   abbrev raised : effects.Effect events.Events
   raised = events.create ns.events ns.handles target name kind initial
 
@@ -367,7 +370,7 @@ module _ (puts : PutsKeepRows ℕ) (ns : Space) (name : List ℕ) (held : AreHel
       keep service.Key number (key, row, there, own) = (key, row, still key row there (registry.can_start ns.keys name) refl, own)
       keep service.Event number h = h
 
-module _ (puts : PutsKeepRows EventRow) (ns : Space) (name : List ℕ) (kind initial : ℕ) (held : AreHeld ns) where
+module _ (puts : PutsKeepRows EventRow) (ns : Space) (name : List ℕ) (kind : EventKind) (initial : Bool) (held : AreHeld ns) where
   pub event_started : AreHeld (record ns { events = events.started ns.events name kind initial })
   event_started = held_after ns (record ns { events = events.started ns.events name kind initial }) keep (inl refl) held.pipes_come held
     where

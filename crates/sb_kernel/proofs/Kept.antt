@@ -1,5 +1,5 @@
 -- What each call leaves of the kernel's agreements.
-use Rattle.std.proofs.Common.{◌≡◌, ◌∙◌, ℕ, ◌+◌, ◌≤◌, true, false, List, length, refl, sym, ap, subst, arith, inl, inr}
+use Rattle.std.proofs.Common.{◌≡◌, ◌∙◌, ℕ, ◌+◌, ◌≤◌, Bool, true, false, List, length, refl, sym, ap, subst, arith, inl, inr}
 use Rattle.std.specs.Prelude.{◌^◌, nat_lt}
 use Rattle.sb_wide.specs.Names.{is_name_of}
 use Rattle.sb_handles.specs.Agreements.{AgreesOnFiles, is_file, is_pipe}
@@ -19,6 +19,9 @@ use Rattle.sb_pipe.specs.Laws.{CallsGrantTheirPipe, CallsKeepCounts, GrantsLeave
 use Rattle.sb_pipe.specs.Pipes as pipes
 use Rattle.sb_key.specs.Registry as registry
 use Rattle.sb_event.specs.Events as events
+use Rattle.sb_event.specs.declared.kinds.EventKind.{EventKind}
+use Rattle.sb_pipe.specs.declared.modes.PipeForm.{PipeForm}
+use Rattle.sb_pipe.specs.declared.modes.PipeMode.{PipeMode}
 use Rattle.sb_kernel.specs.Kept.{IsKept}
 use Rattle.sb_statements.specs.Limits.{most_start_lines}
 use Rattle.sb_kernel.specs.Namespaces.{Space}
@@ -118,7 +121,7 @@ module _ (other_files : GrantsLeaveFiles) (other_pipes : GrantsLeavePipes) (ns :
 
   -- the same after each call, by what it left
   pub file_created : CreatesGrantTheirFile → files_refused.RefusalsChangeNothing → CreatesKeepNames → (target : ℕ) (name : List ℕ) (request : FileRequest)
-      → nat_lt request.access (2 ^ 32) ≡ true → nat_lt request.sharing (2 ^ 32) ≡ true → (f : files.Files) (after : Table)
+      → nat_lt request.access.0 (2 ^ 32) ≡ true → nat_lt request.sharing.0 (2 ^ 32) ≡ true → (f : files.Files) (after : Table)
       → f ≡ (creation.create ns.files ns.handles target name request).service
       → after ≡ (creation.create ns.files ns.handles target name request).handles
       → files.Agrees f after → IsKept (record ns { files = f; handles = after })
@@ -126,7 +129,7 @@ module _ (other_files : GrantsLeaveFiles) (other_pipes : GrantsLeavePipes) (ns :
       files_step_kept f after (rw (e, h) (file_step ns.files ns.handles target name request)) agree
       (rw (e, h) (files_held grants refuses stays ns target name request access sharing kept.held))
 
-  pub pipe_created : CallsGrantTheirPipe → pipes_refused.RefusalsChangeNothing → CallsKeepCounts → (target : ℕ) (name : List ℕ) (mode form instances : ℕ)
+  pub pipe_created : CallsGrantTheirPipe → pipes_refused.RefusalsChangeNothing → CallsKeepCounts → (target : ℕ) (name : List ℕ) (mode : PipeMode) (form : PipeForm) (instances : ℕ)
       → (p : pipes.Pipes) (after : Table)
       → p ≡ (pipes.create ns.pipes ns.handles target name mode form instances).service
       → after ≡ (pipes.create ns.pipes ns.handles target name mode form instances).handles
@@ -151,7 +154,7 @@ module _ (other_files : GrantsLeaveFiles) (other_pipes : GrantsLeavePipes) (ns :
       keys_step_kept k after (rw (e, h) (key_open_step ns.keys ns.handles target name access))
       (rw (e, h) (reached_held grants refuses leaves ns target name access narrow kept.held))
 
-  pub event_created : CreatesGrantTheirEvent → events_refused.RefusedCreatesChangeNothing → CreatesKeepEvents → (target : ℕ) (name : List ℕ) (kind initial : ℕ)
+  pub event_created : CreatesGrantTheirEvent → events_refused.RefusedCreatesChangeNothing → CreatesKeepEvents → (target : ℕ) (name : List ℕ) (kind : EventKind) (initial : Bool)
       → (v : events.Events) (after : Table)
       → v ≡ (events.create ns.events ns.handles target name kind initial).service → after ≡ (events.create ns.events ns.handles target name kind initial).handles
       → IsKept (record ns { events = v; handles = after })

@@ -1,7 +1,6 @@
 pub mod Closing
 pub mod Holding
 pub mod Kept
-pub mod Misfits
 pub mod Placing
 pub mod Refusals
 pub mod Shortness

@@ -9,6 +9,7 @@ use Rattle.sb_file.specs.Files as files
 use Rattle.sb_file.specs.declared.objects.FileObject.{FileObject}
 use Rattle.sb_key.specs.Registry as registry
 use Rattle.sb_event.specs.Events as events
+use Rattle.sb_event.specs.Kinds.{kind_from, state_from}
 use Rattle.sb_kernel.specs.Kept.{MadeAtMost}
 use Rattle.sb_kernel.specs.Namespaces.{Space, empty_space}
 use Rattle.sb_kernel.specs.Openings.{placed, opened_from, OpeningsMakeFew}
@@ -61,10 +62,10 @@ placed_made n ns (Key name) few = by (registry.can_start ns.keys name) refl
 placed_made n ns (Event name kind initial) few = by (events.can_start ns.events name) refl
   where
     by : (b : Bool) → events.can_start ns.events name ≡ b
-        → MadeAtMost (n + 1) (unwrap_or (if b then Some (record ns { events = events.started ns.events name kind initial }) else None) ns)
+        → MadeAtMost (n + 1) (unwrap_or (if b then Some (record ns { events = events.started ns.events name (kind_from kind) (state_from initial) }) else None) ns)
     by false e = made_more n (n + 1) ns (omega arith) few
     by true e =
-        let more : (events.started ns.events name kind initial).made ≡ ns.events.made + 1 = rw e refl in
+        let more : (events.started ns.events name (kind_from kind) (state_from initial)).made ≡ ns.events.made + 1 = rw e refl in
         record {
           files = grind (arith, few.files);
           pipes = grind (arith, few.pipes);
@@ -94,7 +95,7 @@ opened_none at ns line lines h = by (placed ns line) h
     by None h = refl
     by (Some next) h = absurd (false≢true (sym h))
 
--- objects placed in turn where at most n were made before
+-- objects placed in turn if at most n were made before
 made_from : (lines : List StartLine) (at n : ℕ) (ns final : Space) → MadeAtMost n ns → opened_from at ns lines ≡ Ok final → MadeAtMost (n + length lines) final
 made_from [] at n ns final few e = subst (MadeAtMost (n + 0)) (same ns final e) (made_more n (n + 0) ns (omega arith) few)
   where

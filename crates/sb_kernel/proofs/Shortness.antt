@@ -1,11 +1,11 @@
 -- An answer has at most seven extended words.
 use Rattle.std.proofs.Common.{◌≤◌, ℕ, Bool, true, false, not, ◌||◌, ◌==◌, if◌then◌else◌, List, [], ◌∷◌, length, Option, None, Some, lit≤, arith}
 use Rattle.sb_call.specs.Statuses.{refusal, path_not_found}
-use Rattle.sb_call.specs.declared.arguments.Arg.{Arg}
-use Rattle.sb_call.specs.declared.arguments.Arg.TheVariants.{Num, Str}
 use Rattle.sb_call.specs.declared.replies.Answer.{Answer}
-use Rattle.sb_call.specs.declared.tags.CallTag.TheVariants as tag
 use Rattle.sb_event.specs.Events as events
+use Rattle.sb_event.specs.declared.kinds.EventKind.{EventKind}
+use Rattle.sb_pipe.specs.declared.modes.PipeForm.{PipeForm}
+use Rattle.sb_pipe.specs.declared.modes.PipeMode.{PipeMode}
 use Rattle.sb_event.specs.declared.rows.EventRow.{EventRow}
 use Rattle.sb_file.specs.Creation as creation
 use Rattle.sb_file.specs.Creation.{open_existing}
@@ -19,8 +19,9 @@ use Rattle.sb_names.specs.Maps.{found}
 use Rattle.sb_pipe.specs.Pipes as pipes
 use Rattle.sb_pipe.specs.declared.rows.PipeRow.{PipeRow}
 use Rattle.sb_kernel.specs.Laws.{AnswersAreShort}
-use Rattle.sb_kernel.specs.Namespaces.{Space, close_by, event_create, event_open, file_create, file_open, file_query, file_rename, handle_close, key_create, key_open, ping, pipe_create}
-use Rattle.sb_kernel.proofs.Misfits.{asked}
+use Rattle.sb_kernel.specs.Namespaces.{Space, close_by, done, perform_by}
+use Rattle.sb_kernel.specs.Requests.{Request, asked}
+use Rattle.sb_kernel.specs.Requests as request
 
 -- an answer with at most seven extended words
 abbrev IsShort : Answer → Type 0
@@ -75,11 +76,11 @@ short_rename fs name to =
     either_renamed (not (files.has_parent fs name)) (files.rename_is_refused fs path_not_found) (files.rename_by (found fs.names name) fs name to) (lit≤ tt) (short_rename_by (found fs.names name) fs name to)
 
 -- pipes
-short_pipe_by : (o : Option PipeRow) (ps : pipes.Pipes) (handles : Table) (target : ℕ) (name : List ℕ) (mode form instances : ℕ) → IsShort (pipes.create_by o ps handles target name mode form instances).answer
+short_pipe_by : (o : Option PipeRow) (ps : pipes.Pipes) (handles : Table) (target : ℕ) (name : List ℕ) (mode : PipeMode) (form : PipeForm) (instances : ℕ) → IsShort (pipes.create_by o ps handles target name mode form instances).answer
 short_pipe_by None ps handles target name mode form instances = lit≤ tt
 short_pipe_by (Some row) ps handles target name mode form instances = grind arith
 
-short_pipe : (ps : pipes.Pipes) (handles : Table) (target : ℕ) (name : List ℕ) (mode form instances : ℕ) → IsShort (pipes.create ps handles target name mode form instances).answer
+short_pipe : (ps : pipes.Pipes) (handles : Table) (target : ℕ) (name : List ℕ) (mode : PipeMode) (form : PipeForm) (instances : ℕ) → IsShort (pipes.create ps handles target name mode form instances).answer
 short_pipe ps handles target name mode form instances = grind (arith, short_pipe_by (found ps.rows name) ps handles target name mode form instances)
 
 -- keys
@@ -98,11 +99,11 @@ short_key_open : (ks : registry.Keys) (handles : Table) (target : ℕ) (name : L
 short_key_open ks handles target name access = grind (arith, short_key_open_by (found ks.names name) ks handles target access)
 
 -- events
-short_event_by : (o : Option EventRow) (es : events.Events) (handles : Table) (target : ℕ) (name : List ℕ) (kind initial : ℕ) → IsShort (events.create_by o es handles target name kind initial).answer
+short_event_by : (o : Option EventRow) (es : events.Events) (handles : Table) (target : ℕ) (name : List ℕ) (kind : EventKind) (initial : Bool) → IsShort (events.create_by o es handles target name kind initial).answer
 short_event_by None es handles target name kind initial = lit≤ tt
 short_event_by (Some row) es handles target name kind initial = grind arith
 
-short_event : (es : events.Events) (handles : Table) (target : ℕ) (name : List ℕ) (kind initial : ℕ) → IsShort (events.create es handles target name kind initial).answer
+short_event : (es : events.Events) (handles : Table) (target : ℕ) (name : List ℕ) (kind : EventKind) (initial : Bool) → IsShort (events.create es handles target name kind initial).answer
 short_event es handles target name kind initial = grind (arith, short_event_by (found es.rows name) es handles target name kind initial)
 
 short_event_open : (o : Option EventRow) (es : events.Events) (handles : Table) (target access : ℕ) → IsShort (events.open_by o es handles target access).answer
@@ -114,118 +115,21 @@ short_close : (o : Option Held) (ns : Space) (target handle : ℕ) → IsShort (
 short_close None ns target handle = lit≤ tt
 short_close (Some held) ns target handle = lit≤ tt
 
-short_call_ping : (ns : Space) (args : List Arg) → IsShort (ping ns args).answer
-short_call_ping ns [] = lit≤ tt
-short_call_ping ns (Str a ∷ more) = lit≤ tt
-short_call_ping ns (Num a ∷ []) = lit≤ tt
-short_call_ping ns (Num a ∷ Num b ∷ more) = lit≤ tt
-short_call_ping ns (Num a ∷ Str b ∷ []) = lit≤ tt
-short_call_ping ns (Num a ∷ Str b ∷ other ∷ more) = lit≤ tt
+short_done : (ns : Space) (target : ℕ) (r : Request) → IsShort (done ns target r).answer
+short_done ns target (request.Ping cookie text) = lit≤ tt
+short_done ns target (request.FileCreate name wanted) = short_file ns.files ns.handles target name wanted
+short_done ns target (request.FileQuery name) = short_query ns.files name
+short_done ns target (request.FileRename name to) = short_rename ns.files name to
+short_done ns target (request.PipeCreate name mode form instances) = short_pipe ns.pipes ns.handles target name mode form instances
+short_done ns target (request.KeyCreate name access) = short_key ns.keys ns.handles target name access.0
+short_done ns target (request.KeyOpen name access) = short_key_open ns.keys ns.handles target name access.0
+short_done ns target (request.EventCreate name kind initial) = short_event ns.events ns.handles target name kind initial
+short_done ns target (request.EventOpen name access) = short_event_open (found ns.events.rows name) ns.events ns.handles target access.0
+short_done ns target (request.HandleClose handle) = short_close (held_by ns.handles target handle) ns target handle
 
-short_call_file_create : (ns : Space) (target : ℕ) (args : List Arg) → IsShort (file_create ns target args).answer
-short_call_file_create ns target [] = lit≤ tt
-short_call_file_create ns target (Num a ∷ more) = lit≤ tt
-short_call_file_create ns target (Str a ∷ []) = lit≤ tt
-short_call_file_create ns target (Str a ∷ Str b ∷ more) = lit≤ tt
-short_call_file_create ns target (Str a ∷ Num b ∷ []) = lit≤ tt
-short_call_file_create ns target (Str a ∷ Num b ∷ Str c ∷ more) = lit≤ tt
-short_call_file_create ns target (Str a ∷ Num b ∷ Num c ∷ []) = lit≤ tt
-short_call_file_create ns target (Str a ∷ Num b ∷ Num c ∷ Str d ∷ more) = lit≤ tt
-short_call_file_create ns target (Str a ∷ Num b ∷ Num c ∷ Num d ∷ []) = lit≤ tt
-short_call_file_create ns target (Str a ∷ Num b ∷ Num c ∷ Num d ∷ Str e ∷ more) = lit≤ tt
-short_call_file_create ns target (Str a ∷ Num b ∷ Num c ∷ Num d ∷ Num e ∷ []) = lit≤ tt
-short_call_file_create ns target (Str a ∷ Num b ∷ Num c ∷ Num d ∷ Num e ∷ Str f ∷ more) = lit≤ tt
-short_call_file_create ns target (Str a ∷ Num b ∷ Num c ∷ Num d ∷ Num e ∷ Num f ∷ []) = short_file ns.files ns.handles target a (asked b c d e f)
-short_call_file_create ns target (Str a ∷ Num b ∷ Num c ∷ Num d ∷ Num e ∷ Num f ∷ other ∷ more) = lit≤ tt
-
-short_call_file_open : (ns : Space) (target : ℕ) (args : List Arg) → IsShort (file_open ns target args).answer
-short_call_file_open ns target [] = lit≤ tt
-short_call_file_open ns target (Num a ∷ more) = lit≤ tt
-short_call_file_open ns target (Str a ∷ []) = lit≤ tt
-short_call_file_open ns target (Str a ∷ Str b ∷ more) = lit≤ tt
-short_call_file_open ns target (Str a ∷ Num b ∷ []) = lit≤ tt
-short_call_file_open ns target (Str a ∷ Num b ∷ Str c ∷ more) = lit≤ tt
-short_call_file_open ns target (Str a ∷ Num b ∷ Num c ∷ []) = lit≤ tt
-short_call_file_open ns target (Str a ∷ Num b ∷ Num c ∷ Str d ∷ more) = lit≤ tt
-short_call_file_open ns target (Str a ∷ Num b ∷ Num c ∷ Num d ∷ []) = short_file ns.files ns.handles target a (asked 0 b c open_existing d)
-short_call_file_open ns target (Str a ∷ Num b ∷ Num c ∷ Num d ∷ other ∷ more) = lit≤ tt
-
-short_call_file_query : (ns : Space) (args : List Arg) → IsShort (file_query ns args).answer
-short_call_file_query ns [] = lit≤ tt
-short_call_file_query ns (Num a ∷ more) = lit≤ tt
-short_call_file_query ns (Str a ∷ []) = short_query ns.files a
-short_call_file_query ns (Str a ∷ other ∷ more) = lit≤ tt
-
-short_call_file_rename : (ns : Space) (args : List Arg) → IsShort (file_rename ns args).answer
-short_call_file_rename ns [] = lit≤ tt
-short_call_file_rename ns (Num a ∷ more) = lit≤ tt
-short_call_file_rename ns (Str a ∷ []) = lit≤ tt
-short_call_file_rename ns (Str a ∷ Num b ∷ more) = lit≤ tt
-short_call_file_rename ns (Str a ∷ Str b ∷ []) = short_rename ns.files a b
-short_call_file_rename ns (Str a ∷ Str b ∷ other ∷ more) = lit≤ tt
-
-short_call_pipe_create : (ns : Space) (target : ℕ) (args : List Arg) → IsShort (pipe_create ns target args).answer
-short_call_pipe_create ns target [] = lit≤ tt
-short_call_pipe_create ns target (Num a ∷ more) = lit≤ tt
-short_call_pipe_create ns target (Str a ∷ []) = lit≤ tt
-short_call_pipe_create ns target (Str a ∷ Str b ∷ more) = lit≤ tt
-short_call_pipe_create ns target (Str a ∷ Num b ∷ []) = lit≤ tt
-short_call_pipe_create ns target (Str a ∷ Num b ∷ Str c ∷ more) = lit≤ tt
-short_call_pipe_create ns target (Str a ∷ Num b ∷ Num c ∷ []) = lit≤ tt
-short_call_pipe_create ns target (Str a ∷ Num b ∷ Num c ∷ Str d ∷ more) = lit≤ tt
-short_call_pipe_create ns target (Str a ∷ Num b ∷ Num c ∷ Num d ∷ []) = short_pipe ns.pipes ns.handles target a b c d
-short_call_pipe_create ns target (Str a ∷ Num b ∷ Num c ∷ Num d ∷ other ∷ more) = lit≤ tt
-
-short_call_key_create : (ns : Space) (target : ℕ) (args : List Arg) → IsShort (key_create ns target args).answer
-short_call_key_create ns target [] = lit≤ tt
-short_call_key_create ns target (Num a ∷ more) = lit≤ tt
-short_call_key_create ns target (Str a ∷ []) = lit≤ tt
-short_call_key_create ns target (Str a ∷ Str b ∷ more) = lit≤ tt
-short_call_key_create ns target (Str a ∷ Num b ∷ []) = short_key ns.keys ns.handles target a b
-short_call_key_create ns target (Str a ∷ Num b ∷ other ∷ more) = lit≤ tt
-
-short_call_key_open : (ns : Space) (target : ℕ) (args : List Arg) → IsShort (key_open ns target args).answer
-short_call_key_open ns target [] = lit≤ tt
-short_call_key_open ns target (Num a ∷ more) = lit≤ tt
-short_call_key_open ns target (Str a ∷ []) = lit≤ tt
-short_call_key_open ns target (Str a ∷ Str b ∷ more) = lit≤ tt
-short_call_key_open ns target (Str a ∷ Num b ∷ []) = short_key_open ns.keys ns.handles target a b
-short_call_key_open ns target (Str a ∷ Num b ∷ other ∷ more) = lit≤ tt
-
-short_call_event_create : (ns : Space) (target : ℕ) (args : List Arg) → IsShort (event_create ns target args).answer
-short_call_event_create ns target [] = lit≤ tt
-short_call_event_create ns target (Num a ∷ more) = lit≤ tt
-short_call_event_create ns target (Str a ∷ []) = lit≤ tt
-short_call_event_create ns target (Str a ∷ Str b ∷ more) = lit≤ tt
-short_call_event_create ns target (Str a ∷ Num b ∷ []) = lit≤ tt
-short_call_event_create ns target (Str a ∷ Num b ∷ Str c ∷ more) = lit≤ tt
-short_call_event_create ns target (Str a ∷ Num b ∷ Num c ∷ []) = short_event ns.events ns.handles target a b c
-short_call_event_create ns target (Str a ∷ Num b ∷ Num c ∷ other ∷ more) = lit≤ tt
-
-short_call_event_open : (ns : Space) (target : ℕ) (args : List Arg) → IsShort (event_open ns target args).answer
-short_call_event_open ns target [] = lit≤ tt
-short_call_event_open ns target (Num a ∷ more) = lit≤ tt
-short_call_event_open ns target (Str a ∷ []) = lit≤ tt
-short_call_event_open ns target (Str a ∷ Str b ∷ more) = lit≤ tt
-short_call_event_open ns target (Str a ∷ Num b ∷ []) = short_event_open (found ns.events.rows a) ns.events ns.handles target b
-short_call_event_open ns target (Str a ∷ Num b ∷ other ∷ more) = lit≤ tt
-
-short_handle_close : (ns : Space) (target : ℕ) (args : List Arg) → IsShort (handle_close ns target args).answer
-short_handle_close ns target [] = lit≤ tt
-short_handle_close ns target (Str a ∷ more) = lit≤ tt
-short_handle_close ns target (Num a ∷ []) = short_close (held_by ns.handles target a) ns target a
-short_handle_close ns target (Num a ∷ other ∷ more) = lit≤ tt
-
--- each call
 pub answers_are_short : AnswersAreShort
-answers_are_short ns target tag.Ping args = short_call_ping ns args
-answers_are_short ns target tag.FileCreate args = short_call_file_create ns target args
-answers_are_short ns target tag.FileOpen args = short_call_file_open ns target args
-answers_are_short ns target tag.FileQuery args = short_call_file_query ns args
-answers_are_short ns target tag.FileRename args = short_call_file_rename ns args
-answers_are_short ns target tag.PipeCreate args = short_call_pipe_create ns target args
-answers_are_short ns target tag.KeyCreate args = short_call_key_create ns target args
-answers_are_short ns target tag.KeyOpen args = short_call_key_open ns target args
-answers_are_short ns target tag.EventCreate args = short_call_event_create ns target args
-answers_are_short ns target tag.EventOpen args = short_call_event_open ns target args
-answers_are_short ns target tag.HandleClose args = short_handle_close ns target args
+answers_are_short ns target tag args = by (asked tag args)
+  where
+    by : (o : Option Request) → IsShort (perform_by o ns target).answer
+    by None = lit≤ tt
+    by (Some r) = short_done ns target r

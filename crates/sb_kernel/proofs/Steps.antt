@@ -15,6 +15,10 @@ use Rattle.sb_pipe.specs.Pipes as pipes
 use Rattle.sb_pipe.specs.declared.rows.PipeRow.{PipeRow}
 use Rattle.sb_key.specs.Registry as registry
 use Rattle.sb_event.specs.Events as events
+use Rattle.sb_event.specs.Kinds.{kind_number}
+use Rattle.sb_event.specs.declared.kinds.EventKind.{EventKind}
+use Rattle.sb_pipe.specs.declared.modes.PipeForm.{PipeForm}
+use Rattle.sb_pipe.specs.declared.modes.PipeMode.{PipeMode}
 use Rattle.sb_event.specs.declared.rows.EventRow.{EventRow}
 
 -- a handle more on an object of a service, of which at most one was made
@@ -74,7 +78,7 @@ create_by_step (Some number) f handles target name request =
     step_if made_files service.File f handles (request.disposition == creation.create_new) _ _ (inl (refl, refl))
     (step_if made_files service.File f handles (not (files.is_directory (files.object_of f number).kind) && creation.wants_directory request) _ _ (inl (refl, refl))
     (step_if made_files service.File f handles (files.is_directory (files.object_of f number).kind && (creation.wants_file request || creation.replaces request.disposition)) _ _ (inl (refl, refl))
-    (step_if made_files service.File f handles (files.is_shared_out f number request.access request.sharing) _ _ (inl (refl, refl))
+    (step_if made_files service.File f handles (files.is_shared_out f number request.access.0 request.sharing.0) _ _ (inl (refl, refl))
     (open_by_step f handles target number request))))
 
 pub file_step : (f : files.Files) (handles : Table) (target : ℕ) (name : List ℕ) (request : FileRequest)
@@ -86,7 +90,7 @@ file_step f handles target name request =
 
 -- pipes
 
-pipe_by_step : (o : Option PipeRow) (p : pipes.Pipes) (handles : Table) (target : ℕ) (name : List ℕ) (mode form instances : ℕ)
+pipe_by_step : (o : Option PipeRow) (p : pipes.Pipes) (handles : Table) (target : ℕ) (name : List ℕ) (mode : PipeMode) (form : PipeForm) (instances : ℕ)
     → IsStepOf (λ q. q.made) service.Pipe p handles (pipes.create_by o p handles target name mode form instances)
 pipe_by_step None p handles target name mode form instances =
     inr (record { target = target; held = pipes.on_pipe (p.made + 1); kind_is = refl; one = omega arith; handles_are = refl })
@@ -95,10 +99,10 @@ pipe_by_step (Some row) p handles target name mode form instances =
     (step_if (λ q. q.made) service.Pipe p handles (row.handles == row.instances) _ _ (inl (refl, refl))
     (inr (record { target = target; held = pipes.on_pipe row.number; kind_is = refl; one = omega arith; handles_are = refl })))
 
-pub pipe_step : (p : pipes.Pipes) (handles : Table) (target : ℕ) (name : List ℕ) (mode form instances : ℕ)
+pub pipe_step : (p : pipes.Pipes) (handles : Table) (target : ℕ) (name : List ℕ) (mode : PipeMode) (form : PipeForm) (instances : ℕ)
     → IsStepOf (λ q. q.made) service.Pipe p handles (pipes.create p handles target name mode form instances)
 pipe_step p handles target name mode form instances =
-    step_if (λ q. q.made) service.Pipe p handles (pipes.is_invalid mode form instances) _ _ (inl (refl, refl))
+    step_if (λ q. q.made) service.Pipe p handles (pipes.is_invalid instances) _ _ (inl (refl, refl))
     (pipe_by_step (found p.rows name) p handles target name mode form instances)
 
 -- keys
@@ -130,19 +134,18 @@ key_open_step k handles target name access =
 
 -- events
 
-event_by_step : (o : Option EventRow) (v : events.Events) (handles : Table) (target : ℕ) (name : List ℕ) (kind initial : ℕ)
+event_by_step : (o : Option EventRow) (v : events.Events) (handles : Table) (target : ℕ) (name : List ℕ) (kind : EventKind) (initial : Bool)
     → IsStepOf (λ q. q.made) service.Event v handles (events.create_by o v handles target name kind initial)
 event_by_step None v handles target name kind initial =
     inr (record { target = target; held = events.on_event (v.made + 1) 0; kind_is = refl; one = omega arith; handles_are = refl })
 event_by_step (Some row) v handles target name kind initial =
-    step_if (λ q. q.made) service.Event v handles (not (row.kind == kind)) _ _ (inl (refl, refl))
+    step_if (λ q. q.made) service.Event v handles (not (kind_number row.kind == kind_number kind)) _ _ (inl (refl, refl))
     (inr (record { target = target; held = events.on_event row.number 0; kind_is = refl; one = omega arith; handles_are = refl }))
 
-pub event_step : (v : events.Events) (handles : Table) (target : ℕ) (name : List ℕ) (kind initial : ℕ)
+pub event_step : (v : events.Events) (handles : Table) (target : ℕ) (name : List ℕ) (kind : EventKind) (initial : Bool)
     → IsStepOf (λ q. q.made) service.Event v handles (events.create v handles target name kind initial)
 event_step v handles target name kind initial =
-    step_if (λ q. q.made) service.Event v handles (events.is_invalid kind initial) _ _ (inl (refl, refl))
-    (event_by_step (found v.rows name) v handles target name kind initial)
+    event_by_step (found v.rows name) v handles target name kind initial
 
 pub event_open_step : (o : Option EventRow) (v : events.Events) (handles : Table) (target access : ℕ)
     → IsStepOf (λ q. q.made) service.Event v handles (events.open_by o v handles target access)

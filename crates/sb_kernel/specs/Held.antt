@@ -32,7 +32,7 @@ HaveRows ns handles = AllByRecursion (λ handle. HasRow ns handle.held.object.se
 
 -- access and sharing are below 2^32
 abbrev pub is_narrow : Held → Bool
-is_narrow held = nat_lt held.access (2 ^ 32) && nat_lt held.sharing (2 ^ 32)
+is_narrow held = nat_lt held.access.0 (2 ^ 32) && nat_lt held.sharing.0 (2 ^ 32)
 
 abbrev pub AreNarrow : List OpenHandle → Type 0
 AreNarrow handles = list_all (λ handle. is_narrow handle.held) handles ≡ true

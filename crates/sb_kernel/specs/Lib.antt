@@ -1,3 +1,4 @@
+pub mod Requests
 pub mod Namespaces
 pub mod Openings
 pub mod Held

@@ -6,6 +6,7 @@ use Rattle.sb_statements.specs.declared.scripts.StartLine.TheVariants.{Dir, File
 use Rattle.sb_file.specs.Files as files
 use Rattle.sb_key.specs.Registry as registry
 use Rattle.sb_event.specs.Events as events
+use Rattle.sb_event.specs.Kinds.{kind_from, state_from}
 use Rattle.sb_kernel.specs.Kept.{MadeAtMost}
 use Rattle.sb_kernel.specs.Namespaces.{Space, empty_space}
 use Rattle.sb_kernel.specs.declared.openings.StartRefused.{StartRefused}
@@ -23,7 +24,7 @@ name_of (Event name kind initial) = name
 abbrev pub is_named : StartLine → Bool
 is_named line = is_name_of (name_of line)
 
--- the namespace with an object of the opening more. None where it cannot be placed: its parent is missing or no directory, or its name
+-- the namespace with an object of the opening more. None if it cannot be placed: its parent is missing or no directory, or its name
 -- is taken among the objects of its service
 abbrev pub placed : Space → StartLine → Option Space
 placed ns (Dir name) = if files.can_start ns.files name then Some (record ns { files = files.started ns.files name true 0 }) else None
@@ -31,7 +32,7 @@ placed ns (File name attributes) =
     if files.can_start ns.files name then Some (record ns { files = files.started ns.files name false attributes }) else None
 placed ns (Key name) = if registry.can_start ns.keys name then Some (record ns { keys = registry.started ns.keys name }) else None
 placed ns (Event name kind initial) =
-    if events.can_start ns.events name then Some (record ns { events = events.started ns.events name kind initial }) else None
+    if events.can_start ns.events name then Some (record ns { events = events.started ns.events name (kind_from kind) (state_from initial) }) else None
 
 -- the namespace after these objects in turn, or the place of the first that cannot be placed; the places count from this number
 abbrev pub opened_from : ℕ → Space → List StartLine → Result Space ℕ
@@ -45,7 +46,7 @@ opened_from at ns (line ∷ lines) = elim (placed ns line) [
 abbrev pub opened : List StartLine → Result Space ℕ
 opened lines = opened_from 0 empty_space lines
 
--- the namespace, or the empty one where some object cannot be placed
+-- the namespace, or the empty one if some object cannot be placed
 abbrev pub space_or_empty : Result Space ℕ → Space
 space_or_empty (Ok ns) = ns
 space_or_empty (Err at) = empty_space

@@ -17,7 +17,7 @@ pub fn refused_calls_change_nothing()
     refused_events_change_nothing();
 }
 
-/// `handle.close` of a number under which the target holds no handle is refused and leaves the namespace equal, also where
+/// `handle.close` of a number under which the target holds no handle is refused and leaves the namespace equal, also if
 /// another target holds one under it.
 #[tactic(auto, using(crate::proofs::Refusals::unheld_closes_change_nothing))]
 pub fn unheld_closes_change_nothing()

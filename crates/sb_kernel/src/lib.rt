@@ -4,6 +4,7 @@
 mod kernels;
 mod laws;
 mod openings;
+mod requests;
 mod services;
 
 pub use kernels::Kernel;

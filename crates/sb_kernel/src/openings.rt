@@ -37,7 +37,7 @@ impl Kernel {
     /// The namespace after the objects of the opening, placed in turn. They are at most 4,096, and each name is a name.
     ///
     /// # Errors
-    /// `BadStart` exactly where one cannot be placed, with the place of the first, and `NoMemory` where there was none.
+    /// `BadStart` exactly if one cannot be placed, with the place of the first, and `NoMemory` if there was none.
     pub fn start(alloc: Global, lines: &[StartLine]) -> Result<Kernel, StartRefused>
         requires few { length lines.now ≤ most_start_lines }
         requires names { list_all is_named lines.now ≡ true }

@@ -2,6 +2,7 @@
 use Rattle.std.specs.Prelude.{◌+◌, ℕ, Bool, ◌&&◌, not, List, [], ◌∷◌, Option, None, Some, if◌then◌else◌}
 use Rattle.sb_call.specs.Statuses.{success, name_not_found, path_not_found}
 use Rattle.sb_handles.specs.Effects.{Effect, refused, grants}
+use Rattle.sb_handles.specs.Masks.{access_of, sharing_of}
 use Rattle.sb_handles.specs.Tables.{Table}
 use Rattle.sb_handles.specs.declared.objects.Held.{Held}
 use Rattle.sb_handles.specs.declared.objects.Service.TheVariants as service
@@ -43,7 +44,7 @@ with_key keys name = record { names = put keys.names name (keys.made + 1); made 
 
 -- a handle on the key of this number, with this access; keys have no sharing
 abbrev pub on_key : ℕ → ℕ → Held
-on_key number access = record { object = record { service = service.Key; number = number }; access = access; sharing = 0 }
+on_key number access = record { object = record { service = service.Key; number = number }; access = access_of access; sharing = sharing_of 0 }
 
 -- key.create, by what stands under the name
 abbrev pub create_by : Option ℕ → Keys → Table → ℕ → List ℕ → ℕ → Effect Keys
@@ -69,10 +70,10 @@ open_by_name keys handles target name access =
     if not (has_parent keys.names name) then refused keys handles path_not_found
     else open_by (found keys.names name) keys handles target access
 
--- a key of the opening namespace can be placed where its parent is there and its name is free
+-- a key of the opening namespace can be placed if its parent is there and its name is free
 abbrev pub can_start : Keys → List ℕ → Bool
 can_start keys name = has_parent keys.names name && not (is_there keys.names name)
 
--- the keys with one of the opening namespace, where it can be placed
+-- the keys with one of the opening namespace, if it can be placed
 abbrev pub started : Keys → List ℕ → Keys
 started keys name = if can_start keys name then with_key keys name else keys

@@ -26,7 +26,7 @@ pub fn keys_stay()
     puts_keep_rows::<u64>();
 }
 
-/// Where each key stands below one that is there, or below the root, each does so after a call that makes a key.
+/// If each key stands below one that is there, or below the root, each does so after a call that makes a key.
 #[tactic(auto, using(crate::proofs::KeyLaws::creates_keep_trees))]
 pub fn keys_stand_below_keys()
     ensures { CreatesKeepTrees }

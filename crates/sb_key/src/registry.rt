@@ -4,8 +4,9 @@ ghost use Rattle.sb_wide.specs.Names.{is_name_of};
 ghost use Rattle.sb_handles.specs.Effects.{IsDone};
 ghost use Rattle.sb_key.specs.Registry.{AreKeys, no_keys, on_key, create, open_by_name, can_start, started};
 
+use bitflags::Flags;
 use sb_call::{Answer, Extended, NAME_NOT_FOUND, PATH_NOT_FOUND, SUCCESS};
-use sb_handles::{HandleTable, Held, Object, Service};
+use sb_handles::{Access, HandleTable, Held, Object, Service, Sharing};
 use sb_names::{NameTree, Seek, numbers_are_kept};
 use sb_wide::NoMemory;
 use std::alloc::Global;
@@ -24,7 +25,6 @@ pub struct KeyService {
     made: u64,
 }
 
-// By hand, so that it is proved here once and not at each place that drops one.
 impl Drop for KeyService {
     fn drop(self) {
         let KeyService { names: _, made: _ } = self;
@@ -37,14 +37,14 @@ impl Model for KeyService {
 
     ghost Value = { Keys };
 
-    ghost view = { λ s. record { names = rows_of s.names; made = s.made } };
+    ghost view = { λ s. record { names = rows_of s.names.nodes; made = s.made } };
 
-    ghost invariant = { λ s. AreMade (record { names = rows_of s.names; made = s.made }) };
+    ghost invariant = { λ s. AreMade (record { names = rows_of s.names.nodes; made = s.made }) };
 }
 
 // A handle on the key of this number, with this access.
-fn on_key(number: u64, access: u64) -> Held
-    ensures { result ≡ on_key number access }
+fn on_key(number: u64, access: Access) -> Held
+    ensures { result ≡ on_key number access.0 }
 {
     Held {
         object: Object {
@@ -52,7 +52,7 @@ fn on_key(number: u64, access: u64) -> Held
             number,
         },
         access,
-        sharing: 0,
+        sharing: Sharing::empty(),
     }
 }
 
@@ -84,22 +84,22 @@ impl KeyService {
 
     /// Makes a key, or opens the one that is there, and grants the target a handle on it with this access. The first of
     /// these that applies is the answer:
-    /// - `PATH_NOT_FOUND` where the parent is not there;
+    /// - `PATH_NOT_FOUND` if the parent is not there;
     /// - `SUCCESS` with a handle on the key that is there, and the extended word 2;
     /// - `SUCCESS` with a handle on a new key, and the extended word 1.
     ///
     /// # Errors
-    /// `NoMemory` where there was none for a name or a handle; then nothing is changed.
+    /// `NoMemory` if there was none for a name or a handle; then nothing is changed.
     pub fn create(
         &mut self,
         handles: &mut HandleTable,
         target: u32,
         name: &[u16],
-        access: u64,
+        access: Access,
     ) -> Result<Answer, NoMemory>
         requires name { is_name_of name.now ≡ true }
         requires made { self.old.made < 2 ^ 63 }
-        ensures effect { IfOk result (λ a. IsDone (create self.old handles.old.table target name.now access) self.new handles.new.table a) }
+        ensures effect { IfOk result (λ a. IsDone (create self.old handles.old.table target name.now access.0) self.new handles.new.table a) }
         ensures err { OnErr result ((self.new ≡ self.old) × (handles.new.table ≡ handles.old.table)) }
     {
         numbers_are_kept::<u64>();
@@ -122,21 +122,21 @@ impl KeyService {
 
     /// Opens the key of a name, and grants the target a handle on it with this access. The first of these that applies is
     /// the answer:
-    /// - `PATH_NOT_FOUND` where the parent is not there;
-    /// - `NAME_NOT_FOUND` where the key is not there;
+    /// - `PATH_NOT_FOUND` if the parent is not there;
+    /// - `NAME_NOT_FOUND` if the key is not there;
     /// - `SUCCESS` with the handle.
     ///
     /// # Errors
-    /// `NoMemory` where there was none for the handle; then nothing is changed.
+    /// `NoMemory` if there was none for the handle; then nothing is changed.
     pub fn open_by_name(
         &mut self,
         handles: &mut HandleTable,
         target: u32,
         name: &[u16],
-        access: u64,
+        access: Access,
     ) -> Result<Answer, NoMemory>
         requires name { is_name_of name.now ≡ true }
-        ensures effect { IfOk result (λ a. IsDone (open_by_name self.old handles.old.table target name.now access) self.new handles.new.table a) }
+        ensures effect { IfOk result (λ a. IsDone (open_by_name self.old handles.old.table target name.now access.0) self.new handles.new.table a) }
         ensures service { self.new ≡ self.old }
         ensures err { OnErr result (handles.new.table ≡ handles.old.table) }
     {
@@ -165,11 +165,11 @@ impl KeyService {
         }
     }
 
-    /// Places a key of the opening namespace. It answers false, and changes nothing, exactly where the parent is not
+    /// Places a key of the opening namespace. It answers false, and changes nothing, exactly if the parent is not
     /// there or the key is.
     ///
     /// # Errors
-    /// `NoMemory` where there was none for the name; then nothing is changed.
+    /// `NoMemory` if there was none for the name; then nothing is changed.
     pub fn start(&mut self, name: &[u16]) -> Result<bool, NoMemory>
         requires name { is_name_of name.now ≡ true }
         requires made { self.old.made < 2 ^ 63 }

@@ -94,7 +94,7 @@ module _ (f f' : Nodes) (a : ℕ) (v : Option NameNode) (d : Option ℕ) (change
   live_other : (n : ℕ) → n ≢ a → IsLive f' n → IsLive f n
   live_other n ne live = subst (λ o. is_some o ≡ true) (value_other n ne) live
 
-  -- components stay different where the one that comes is not there
+  -- components stay different if the one that comes is not there
   pub names_changed : HasNames f
       → ((node : NameNode) → v ≡ Some node → (is_component node.part ≡ true) × HasNoChild f d (key_of node.part)) → HasNames f'
   names_changed names fits = record {

@@ -1,4 +1,4 @@
--- Where the object of each directory passes a test, it does so after a name is put, and after one is renamed.
+-- If the object of each directory passes a test, it does so after a name is put, and after one is renamed.
 use Rattle.std.proofs.Common.{◌≡◌, ℕ, Bool, true, false, refl, sym, ◌∙◌, ap, subst, arith, List, [], ◌∷◌, ◌++◌, length, drop, if◌then◌else◌}
 use Rattle.std.proofs.lemmas.Bool.{false≢true}
 use Rattle.std.proofs.lemmas.Bool.Decides.{nat_tests}

@@ -39,7 +39,7 @@ module _ {V : Type 0} where
   value_of d None = d
   value_of d (Some v) = v
 
-  -- what is found behind the first row
+  -- what is found after the first row
   behind : (x : List ℕ × V) (xs : Rows V) (key : List ℕ) → Rises (x ∷ xs)
       → lookup (is_key key) xs ≡ cond (is_key key x.0) None (lookup (is_key key) (x ∷ xs))
   behind x xs key r = by (is_key key x.0) refl

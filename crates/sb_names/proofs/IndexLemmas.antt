@@ -15,12 +15,12 @@ use Rattle.sb_names.specs.Nodes.{Nodes, HasNoChild, IsChild, IsIndexed, is_child
 use Rattle.sb_names.specs.Orders.{by_pair}
 use Rattle.sb_names.proofs.MapLaws.{own_test}
 
--- two pairs stand at one place of the order exactly where they are equal
+-- two pairs stand at one place of the order exactly if they are equal
 pub same_pair : (a b c d : ℕ) → is_at (by_pair (a, b)) (c, d) ≡ (a == c && b == d)
 same_pair a b c d = grind (arith, nat_tests)
 
 -- the pairs with this hash, and numbers of 64 bits
-in_range : (first low high : ℕ × ℕ) (key : ℕ × ℕ) → low ≡ first → high ≡ (first.0, 2 ^ 64 - 1) → first.1 ≡ 0
+pub in_range : (first low high : ℕ × ℕ) (key : ℕ × ℕ) → low ≡ first → high ≡ (first.0, 2 ^ 64 - 1) → first.1 ≡ 0
     → range_contains by_pair (Included low) (Included high) key ≡ (key.0 == first.0 && nat_le key.1 (2 ^ 64 - 1))
 in_range first low high key l h z = rw (l, h, z) (grind (arith, nat_tests))
 
@@ -30,7 +30,7 @@ none_passes p xs e = ap (find p) e
 first_passes : {X : Type 0} (p : X → Bool) (x : X) (xs : List X) → p x ≡ true → find p (x ∷ xs) ≡ Some x
 first_passes p x xs h = rw h refl
 
--- where none passes, none of the later ones does
+-- if none passes, none of the later ones does
 rest_fails : {X : Type 0} (p : X → Bool) (x : X) (xs : List X) → find p (x ∷ xs) ≡ None → find p xs ≡ None
 rest_fails p x xs h = by (p x) h
   where
@@ -38,7 +38,7 @@ rest_fails p x xs h = by (p x) h
     by true h = absurd (cc)
     by false h = h
 
-abbrev with_hash : ℕ → ℕ × ℕ → Bool
+abbrev pub with_hash : ℕ → ℕ × ℕ → Bool
 with_hash hash key = range_contains by_pair (Included (hash, 0)) (Included (hash, 2 ^ 64 - 1)) key
 
 module _ {X : Type 0} (hash n : ℕ) (fits : n < 2 ^ 64) (p : ℕ → Bool) (passes : p n ≡ true) where
@@ -89,7 +89,7 @@ entry_there f index indexed n live =
     let same : (hash == hash) ≡ true = grind (arith, nat_tests) in
     indexed.0 (hash, n) (λ i. live i && same i)
 
--- where no node with the hash is the child, no node is
+-- if no node with the hash is the child, no node is
 pub no_child : {X : Type 0} (f : Nodes) (m : BTreeMap (ℕ × ℕ) X) (d : Option ℕ) (key : List ℕ) (hash : ℕ) (rest range : List ((ℕ × ℕ) × X))
     → IsIndexed (get by_pair m) f → hash ≡ hash_of d key
     → range ≡ entries_between by_pair (Included (hash, 0)) (Included (hash, 2 ^ 64 - 1)) m.entries

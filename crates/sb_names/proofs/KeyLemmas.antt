@@ -29,7 +29,7 @@ parent_none (u ∷ us) = by (is_backslash u) (list_any is_backslash us)
     by false true = omega arith
     by false false = refl
 
--- the last `\` is one of the later units, where there is one, and else this one or one before
+-- the last `\` is one of the later units, if there is one, and else this one or one before
 pub last_later : (u : ℕ) (us : List ℕ) (at last : ℕ)
     → (if list_any is_backslash (u ∷ us) then at + length (parent_of (u ∷ us)) else last)
     ≡ (if list_any is_backslash us then at + 1 + length (parent_of us) else (if is_backslash u then at else last))

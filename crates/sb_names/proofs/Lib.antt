@@ -1,7 +1,8 @@
+mod Extent
 pub mod AddLemmas
 pub mod Changes
 pub mod DirectoryLaws
-mod Extent
+pub mod EntryLemmas
 pub mod FoldLemmas
 pub mod Hanging
 pub mod IndexLemmas
@@ -13,14 +14,13 @@ pub mod Named
 pub mod NodeLemmas
 pub mod NumberLaws
 pub mod PathLemmas
-pub mod PlaceLemmas
 pub mod PutLemmas
 pub mod Removals
 pub mod RenameCases
 pub mod RenameLaws
 pub mod RenameLemmas
 pub mod RisingLemmas
-pub mod SearchLemmas
+pub mod RoomLemmas
 pub mod SeekLemmas
 pub mod Steps
 pub mod TreeLaws

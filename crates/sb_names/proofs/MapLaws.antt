@@ -7,12 +7,12 @@ use Rattle.std.specs.BTreeMap.{insert_entry}
 use Rattle.std.specs.Cmp.Lexicographic.{bytes_decides, nat_list_eq_equiv}
 use Rattle.std.proofs.lemmas.Map.{lookup-remove_entry}
 use Rattle.std.proofs.lemmas.Map.Keys.{IsDistinct-from_sorted}
-use Rattle.std.specs.Map.{keys_of, lookup, remove_entry}
+use Rattle.std.specs.Map.{keys_of, lookup}
 use Rattle.std.specs.Ordering.{match_ordering, is_eq}
 use Rattle.std.specs.declared.cmp.Ordering.{Ordering}
 use Rattle.std.specs.declared.cmp.Ordering.TheVariants.{Less, Equal, Greater}
 use Rattle.sb_names.specs.Keys.{key_of}
-use Rattle.sb_names.specs.Laws.{PutsComeBack, PutsAreFound, PutsKeepRows, OutIsOut}
+use Rattle.sb_names.specs.Laws.{PutsAreFound, PutsKeepRows, OutIsOut}
 use Rattle.sb_names.specs.Maps.{Rows, is_key}
 use Rattle.sb_names.proofs.RisingLemmas.{by_unit, own_key, key_test, equal_keys}
 
@@ -23,18 +23,6 @@ pub is_key_eq : (a b : List ℕ) → is_key a b ≡ true → a ≡ b
 is_key_eq a b h = (bytes_decides a b).0 h
 
 module _ {V : Type 0} (key : List ℕ) (value : V) where
-  pub comes_back : (rows : Rows V) → lookup (is_key key) rows ≡ None → remove_entry (is_key key) (insert_entry by_unit rows key value) ≡ rows
-  comes_back [] h = rw (own_test key) refl
-  comes_back (row ∷ rows) h = by (by_unit key row.0) refl (is_key key row.0) refl h (comes_back rows)
-    where
-      by : (o : Ordering) → by_unit key row.0 ≡ o → (b : Bool) → is_key key row.0 ≡ b → cond b (Some row.1) (lookup (is_key key) rows) ≡ None
-          → (lookup (is_key key) rows ≡ None → remove_entry (is_key key) (insert_entry by_unit rows key value) ≡ rows)
-          → remove_entry (is_key key) (match_ordering o ((key, value) ∷ row ∷ rows) ((row.0, value) ∷ rows) (row ∷ insert_entry by_unit rows key value)) ≡ row ∷ rows
-      by o e true t h f = absurd (cc)
-      by Less e false t h f = rw (own_test key) refl
-      by Equal e false t h f = absurd (false≢true (sym t ∙ key_test key row.0 ∙ ap is_eq e))
-      by Greater e false t h f = rw t (ap (λ more. row ∷ more) (f h))
-
   pub is_found : (other : List ℕ) (rows : Rows V)
       → lookup (is_key other) (insert_entry by_unit rows key value) ≡ (if is_key other key then Some value else lookup (is_key other) rows)
   is_found other [] = refl
@@ -57,9 +45,6 @@ module _ {V : Type 0} (key : List ℕ) (value : V) where
           absurd (false≢true (ap is_eq (sym e ∙ ap (by_unit key) (sym both) ∙ own_key key)))
       by Greater e false t true u i = rw u refl
       by Greater e b t false u i = rw u (i ∙ rw t refl)
-
-pub puts_come_back : (V : Type 0) → PutsComeBack V
-puts_come_back V rows name value h = comes_back (key_of name) value rows h
 
 pub puts_are_found : (V : Type 0) → PutsAreFound V
 puts_are_found V rows name other value = is_found (key_of name) value (key_of other) rows

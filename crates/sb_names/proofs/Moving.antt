@@ -25,7 +25,7 @@ module _ {V : Type 0} (index index' : ℕ × ℕ → Option V) (u : V) (hash nod
   pub put_others : KeepsEntries index index' node
   put_others q ne = updates q ∙ ap (λ b. cond b (Some u) (index q)) (other_pair hash node q ne)
 
-  -- and where the entry under the old hash is taken out
+  -- and if the entry under the old hash is taken out
   module _ (index'' : ℕ × ℕ → Option V) (removes : (q : ℕ × ℕ) → index'' q ≡ cond (is_at (by_pair (old, node)) q) None (index' q)) where
     pub moved_here : old ≢ hash → is_some (index'' (hash, node)) ≡ true
     moved_here apart = ap is_some (removes (hash, node)) ∙ ap (λ b. is_some (cond b None (index' (hash, node)))) (elsewhere (old == hash) refl) ∙ put_here
@@ -41,7 +41,7 @@ module _ {V : Type 0} (index index' : ℕ × ℕ → Option V) (u : V) (hash nod
 pub same_index : {X : Type 0} (f : Nodes) (m n : BTreeMap (ℕ × ℕ) X) → IsUnchanged m n → IsIndexed (get by_pair m) f → IsIndexed (get by_pair n) f
 same_index f m n same indexed = (λ q there. ap (λ es. is_some (lookup (is_at (by_pair q)) es)) same ∙ indexed.0 q there, indexed.1)
 
--- a directory is not below a node where no path to the root says so
+-- a directory is not below a node if no path to the root says so
 pub apart_on_paths : (f : Nodes) (a : ℕ) (d : Option ℕ) → IsApart f a d
     → (p : ℕ) → d ≡ Some p → (j : ℕ) → ancestor f.rows j (Some p) ≡ Some a → ⊥
 apart_on_paths f a None apart p e j h = false≢true (ap is_some e)

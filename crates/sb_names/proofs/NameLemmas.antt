@@ -18,7 +18,7 @@ any_in (u ∷ us) ys = by (is_backslash u) (any_in us ys)
     by true h = refl
     by false h = h
 
--- the parent of a path with more behind it
+-- the parent of a path with more after it
 pub parent_path : (q s : List ℕ) → parent_of (q ++ 92 ∷ s) ≡ q ++ parent_of (92 ∷ s)
 parent_path [] s = refl
 parent_path (u ∷ us) s = rw (any_in us s) (ap (λ more. u ∷ more) (parent_path us s))

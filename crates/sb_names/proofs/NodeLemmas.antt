@@ -134,7 +134,7 @@ module _ (f : Nodes) where
       pub child_name : (o : Option ℕ) (key : List ℕ) (n : ℕ) → IsChild f o key n → name_of f (Some n) ≡ name_of f o ++ 92 ∷ key
       child_name o key n child = name_step shallow n ∙ (λ i. name_of f (child.1 i) ++ 92 ∷ child.2 i)
 
-      -- where a component is missing, nothing below it is there
+      -- if a component is missing, nothing below it is there
       pub unnamed_below : (o : Option ℕ) (key r : List ℕ) → IsAt f o (name_of f o) → list_any is_backslash key ≡ false → is_path r ≡ true
           → HasNoChild f o key → IsUnnamed f (name_of f o ++ ((92 ∷ key) ++ r))
       unnamed_below o key r at plain path none n live e =

@@ -27,7 +27,7 @@ use Rattle.sb_names.proofs.TreeLaws.{keys_again, parent_folded}
 abbrev pub Has : Rows ℕ → List ℕ → Type 0
 Has rows key = is_some (lookup (is_key key) rows) ≡ true
 
--- a key that has a row passes where all keys do
+-- a key that has a row passes if all keys do
 pub key_passes : (test : List ℕ → Bool) (rows : Rows ℕ) (key : List ℕ) → list_all (λ row. test row.0) rows ≡ true → Has rows key → test key ≡ true
 key_passes test [] key all there = absurd (false≢true there)
 key_passes test (row ∷ rows) key all there = by (is_key key row.0) refl there (key_passes test rows key parts.1)

@@ -20,7 +20,7 @@ use Rattle.sb_names.proofs.NodeLemmas.{found_node, key_plain, name_root, name_st
 use Rattle.sb_names.proofs.Removals.{all_rows_named}
 use Rattle.sb_names.proofs.RisingLemmas.{rises_none, rises_put}
 
--- a key at or below another is the other with a path behind it
+-- a key at or below another is the other with a path after it
 pub with_path : (key rest : List ℕ) → is_at_or_below key (key ++ rest) ≡ is_path rest
 with_path [] [] = refl
 with_path [] (u ∷ us) = refl
@@ -50,7 +50,7 @@ path_more : (r y : List ℕ) → is_path r ≡ true → is_path (r ++ 92 ∷ y) 
 path_more [] y h = refl
 path_more (u ∷ us) y h = h
 
--- a name that is not the key itself is below it where its directory is at it or below
+-- a name that is not the key itself is below it if its directory is at it or below
 pub below_by_parent : (key x y : List ℕ) → list_any is_backslash y ≡ false → (key ≡ x ++ 92 ∷ y → ⊥) → is_at_or_below key (x ++ 92 ∷ y) ≡ is_at_or_below key x
 below_by_parent key x y plain ne = by (is_at_or_below key x) refl (is_at_or_below key (x ++ 92 ∷ y)) refl
   where

@@ -18,7 +18,7 @@ use Rattle.sb_names.proofs.PathLemmas.{directory_gone}
 use Rattle.sb_names.proofs.RisingLemmas.{by_unit}
 use Rattle.sb_names.proofs.TreeLemmas.{object_gone, object_root, object_there}
 
--- what follows from what holds where there was memory
+-- what follows from what holds if there was memory
 pub on_ok : {X E A B : Type 0} (r : Result X E) → (A → B) → OnOk r A → OnOk r B
 on_ok (Ok x) f a = f a
 on_ok (Err e) f a = a
@@ -64,7 +64,7 @@ module _ (f : Nodes) (names : HasNames f) (shallow : IsShallow f.rows) (live_lin
     pub none_sought : is_component part ≡ true → HasNoChild f d (key_of part) → found (rows_of f) name ≡ None
     none_sought is_part none = none_of (found (rows_of f) name) (name_gone f names shallow live_links name path part d is_path whole at is_part none)
 
-    -- where no name is found, no node has its component
+    -- if no name is found, no node has its component
     pub no_child_there : found (rows_of f) name ≡ None → HasNoChild f d (key_of part)
     no_child_there none n child =
         false≢true (sym (ap is_some none) ∙ name_there f names shallow live_links name path part d is_path whole at n child)

@@ -7,10 +7,6 @@ use Rattle.sb_names.specs.Maps.{Rows, Rises, is_key, is_there, found, put, witho
 use Rattle.sb_names.specs.Renames.{is_at_or_below, renamed_key, renamed_tree}
 use Rattle.sb_names.specs.Trees.{AreFolded, HasParents, IsTree, has_parent, has_parent_with}
 
--- what is put under a name that is not there, and taken out again, leaves the rows as they were
-abbrev pub PutsComeBack : Type 0 → Type 0
-PutsComeBack V = (rows : Rows V) (name : List ℕ) (value : V) → found rows name ≡ None → without (put rows name value) name ≡ rows
-
 -- what is put under a name is found there, and under every other name what was found before
 abbrev pub PutsAreFound : Type 0 → Type 0
 PutsAreFound V = (rows : Rows V) (name other : List ℕ) (value : V)
@@ -35,7 +31,7 @@ abbrev pub RenamesKeepTrees : Type 0
 RenamesKeepTrees = (rows rows' : Rows ℕ) (old new : List ℕ) → IsTree rows → AreFolded rows → is_name_of old ≡ true → is_name_of new ≡ true
     → renamed_tree rows old new ≡ Ok rows' → IsTree rows'
 
--- where the object of each directory passes a test, it does so after a name is put in such a directory
+-- if the object of each directory passes a test, it does so after a name is put in such a directory
 abbrev pub PutsKeepParents : Type 0
 PutsKeepParents = (test : ℕ → Bool) (rows : Rows ℕ) (name : List ℕ) (object : ℕ) → HasParents test rows → has_parent_with test rows name ≡ true
     → is_there rows name ≡ false → HasParents test (put rows name object)

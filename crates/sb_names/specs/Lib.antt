@@ -1,3 +1,4 @@
+pub mod Entries
 pub mod Hashes
 pub mod Keys
 pub mod Laws
@@ -5,7 +6,7 @@ pub mod Maps
 pub mod Nodes
 pub mod Numbers
 pub mod Orders
-pub mod Places
 pub mod Renames
+pub mod Rooms
 pub mod Seeks
 pub mod Trees

@@ -32,7 +32,7 @@ module _ {V : Type 0} where
   abbrev pub put : Rows V → List ℕ → V → Rows V
   put rows name value = insert_entry (slice_cmp nat_cmp) rows (key_of name) value
 
-  -- with a value under a name where nothing stands
+  -- with a value under a name that has none
   abbrev pub put_new : Rows V → List ℕ → V → Rows V
   put_new rows name value = if is_there rows name then rows else put rows name value
 

@@ -16,7 +16,7 @@ is_directory_there rows (u ∷ us) = is_there rows (u ∷ us)
 abbrev pub has_parent : Rows ℕ → List ℕ → Bool
 has_parent rows name = is_directory_there rows (parent_of name)
 
--- the object of a directory: none of its own for the root, and None where it is not there
+-- the object of a directory: none of its own for the root, and None if it is not there
 abbrev pub directory_object : Rows ℕ → List ℕ → Option (Option ℕ)
 directory_object rows [] = Some None
 directory_object rows (u ∷ us) = option_map (λ object. Some object) (found rows (u ∷ us))

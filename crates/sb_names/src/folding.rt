@@ -2,7 +2,7 @@
 ghost use Rattle.std.specs.Prelude.{◌≡◌};
 ghost use Rattle.sb_names.specs.Keys.{key_of};
 
-use sb_wide::{Wide, fold};
+use sb_wide::{Wide, to_ascii_uppercase};
 
 // A name folded, in the memory that it has.
 #[tactic(auto, using(crate::proofs::FoldLemmas::folded_more, crate::proofs::FoldLemmas::folded_whole, crate::proofs::FoldLemmas::length_folded))]
@@ -12,7 +12,7 @@ pub(crate) fn refolded(name: Wide) -> Wide
     let mut units = name.into_units();
     let mut at = 0;
     while at < units.len() {
-        units[at] = fold(units[at]);
+        units[at] = to_ascii_uppercase(units[at]);
         at += 1;
     }
     Wide::new(units)

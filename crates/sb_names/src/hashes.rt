@@ -7,7 +7,7 @@ ghost use Rattle.sb_names.specs.Nodes.{key_at, number_of};
 
 use crate::nodes::NameNode;
 use sb_arena::{Arena, NodeId};
-use sb_wide::fold;
+use sb_wide::to_ascii_uppercase;
 
 // The factor of the FNV hash of 64 bits.
 const FACTOR: u64 = 0x100_0000_01B3;
@@ -30,7 +30,7 @@ pub(crate) fn hash_of(directory: Option<NodeId>, part: &[u16]) -> u64
     for unit in part {
         hash = hash
             .wrapping_mul(FACTOR)
-            .wrapping_add(u64::from(fold(*unit)));
+            .wrapping_add(u64::from(to_ascii_uppercase(*unit)));
     }
     hash
 }

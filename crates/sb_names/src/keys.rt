@@ -1,34 +1,31 @@
 // Names as keys: compared and cut without regard to small and capital letters.
 ghost use Rattle.std.specs.Prelude.{◌≡◌, length};
-ghost use Rattle.std.specs.Cmp.Lexicographic.{slice_cmp};
-ghost use Rattle.std.specs.Ordering.{nat_cmp};
+ghost use Rattle.sb_names.specs.Maps.{is_key};
 ghost use Rattle.sb_names.specs.Keys.{key_of, parent_of, is_below, is_backslash};
 
-use sb_wide::fold;
-use std::cmp::Ordering;
+use sb_wide::to_ascii_uppercase;
 
 const BACKSLASH: u16 = 92;
 
-// How a key stands to a name, unit by unit.
-pub(crate) fn compare(key: &[u16], name: &[u16]) -> Ordering
-    ensures { result ≡ slice_cmp nat_cmp key.now (key_of name.now) }
+// Whether a key is that of a name.
+pub(crate) fn is_key(key: &[u16], name: &[u16]) -> bool
+    ensures { result ≡ is_key (key_of name.now) key.now }
 {
     let mut key = key;
     let mut name = name;
     while let Some((unit, more)) = key.split_first() {
         let Some((other, others)) = name.split_first() else {
-            return Ordering::Greater;
+            return false;
         };
-        match unit.cmp(&fold(*other)) {
-            Ordering::Equal => {}
-            order => return order,
+        if *unit != to_ascii_uppercase(*other) {
+            return false;
         }
         key = more;
         name = others;
     }
     match name.split_first() {
-        Some(_) => Ordering::Less,
-        None => Ordering::Equal,
+        Some(_) => false,
+        None => true,
     }
 }
 
@@ -70,14 +67,14 @@ pub fn is_below(name: &[u16], lower: &[u16]) -> bool
         let Some((other, others)) = lower.split_first() else {
             return false;
         };
-        if fold(*unit) != fold(*other) {
+        if to_ascii_uppercase(*unit) != to_ascii_uppercase(*other) {
             return false;
         }
         name = more;
         lower = others;
     }
     match lower.split_first() {
-        Some((unit, _)) => fold(*unit) == BACKSLASH,
+        Some((unit, _)) => to_ascii_uppercase(*unit) == BACKSLASH,
         None => false,
     }
 }

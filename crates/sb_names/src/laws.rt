@@ -1,14 +1,8 @@
 // Laws of maps from names and of trees of names. None of these functions changes anything: each contract is a law.
 ghost use Rattle.sb_names.specs.Numbers.{OutsKeepNumbers, PutsKeepNumbers, RenamesKeepNumbers};
-ghost use Rattle.sb_names.specs.Laws.{NamesFold, OutIsOut, PutsAreFound, PutsComeBack, PutsKeepParents, PutsKeepRows, PutsKeepTrees, RenamesAddNothing, RenamesAreFound, RenamesKeepParents, RenamesKeepTrees, RenamesLeaveNothing};
+ghost use Rattle.sb_names.specs.Laws.{NamesFold, OutIsOut, PutsAreFound, PutsKeepParents, PutsKeepRows, PutsKeepTrees, RenamesAddNothing, RenamesAreFound, RenamesKeepParents, RenamesKeepTrees, RenamesLeaveNothing};
 
 use sb_wide::{names_are_paths, paths_are_names};
-
-/// What is put under a name that is not there, and taken out again, leaves the rows as they were.
-#[tactic(auto, using(crate::proofs::MapLaws::puts_come_back))]
-pub fn puts_come_back<V>()
-    ensures { PutsComeBack V }
-{}
 
 /// What is put under a name is found there, and under every other name what was found before.
 #[tactic(auto, using(crate::proofs::MapLaws::puts_are_found))]
@@ -40,7 +34,7 @@ pub fn renames_keep_trees()
     ensures { RenamesKeepTrees }
 {}
 
-/// Where the object of each directory passes a test, it does so after a name is put into such a directory, or renamed into one.
+/// If the object of each directory passes a test, it does so after a name is put into such a directory, or renamed into one.
 #[tactic(auto, using(crate::proofs::DirectoryLaws::puts_keep_parents, crate::proofs::DirectoryLaws::renames_keep_parents))]
 pub fn parents_are_kept()
     ensures puts { PutsKeepParents }

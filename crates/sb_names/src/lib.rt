@@ -13,16 +13,18 @@ mod linked;
 mod maps;
 mod nodes;
 mod renaming;
+mod rooms;
 mod seeking;
 
 pub use faults::TreeFault;
 pub use keys::{is_below, parent};
 pub use laws::{
-    names_fold, numbers_are_kept, out_is_out, parents_are_kept, puts_are_found, puts_come_back,
-    puts_keep_rows, puts_keep_trees, renames_are_found, renames_keep_numbers, renames_keep_trees,
+    names_fold, numbers_are_kept, out_is_out, parents_are_kept, puts_are_found, puts_keep_rows,
+    puts_keep_trees, renames_are_found, renames_keep_numbers, renames_keep_trees,
 };
 pub use linked::NameTree;
 pub use maps::NameMap;
 pub use nodes::NameNode;
+pub use rooms::NewName;
 pub use sb_arena::NodeId;
 pub use seeking::Seek;

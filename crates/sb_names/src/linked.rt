@@ -5,14 +5,14 @@ ghost use Rattle.sb_arena.specs.Forests.{Agrees, HasLiveLinks, HasSingleChildren
 ghost use Rattle.sb_wide.specs.Names.{is_component, is_name_of};
 ghost use Rattle.sb_names.specs.Keys.{key_of, parent_of, is_backslash};
 ghost use Rattle.sb_names.specs.Maps.{Rises, found};
-ghost use Rattle.sb_names.specs.Trees.{AreFolded, AreNamed, IsTree, has_parent, parent_object};
+ghost use Rattle.sb_names.specs.Trees.{AreFolded, AreNamed, IsTree};
 ghost use Rattle.sb_names.specs.Nodes.{HasNames, HasNoChild, HasOneNodeEach, IsAt, IsChild, IsUnnamed, is_child, is_path, is_same_node, key_at, number_of, object_at, rows_of};
 
 use crate::hashes::hash_of;
 use crate::keys::parent_len;
 use crate::nodes::NameNode;
 use sb_arena::{Arena, NodeId};
-use sb_wide::{names_are_paths, paths_are_names, same};
+use sb_wide::{eq_ignore_ascii_case, names_are_paths, paths_are_names};
 use std::alloc::Global;
 use std::collections::BTreeMap;
 use std::marker::Model;
@@ -29,7 +29,6 @@ pub struct NameTree {
     pub(crate) alloc: Global,
 }
 
-// By hand, so that it is proved here once and not at each place that drops one.
 impl Drop for NameTree {
     fn drop(self) {
         let NameTree {
@@ -42,12 +41,13 @@ impl Drop for NameTree {
 
 impl Model for NameTree {
     ghost use Rattle.std.specs.BTreeMap.{get};
-    ghost use Rattle.sb_names.specs.Nodes.{Nodes, HasNames, IsIndexed};
+    ghost use Rattle.sb_names.specs.Nodes.{HasNames, IsIndexed};
     ghost use Rattle.sb_names.specs.Orders.{by_pair};
+    ghost use Rattle.sb_names.specs.Rooms.{Tree};
 
-    ghost Value = { Nodes };
+    ghost Value = { Tree };
 
-    ghost view = { λ t. t.nodes };
+    ghost view = { λ t. record { nodes = t.nodes; index = t.index.entries } };
 
     ghost invariant = { λ t. HasNames t.nodes × IsIndexed (get by_pair t.index) t.nodes };
 }
@@ -73,7 +73,7 @@ fn is_child(nodes: &Arena<NameNode>, directory: Option<NodeId>, part: &[u16], no
     if !is_same_node(nodes.parent(node), directory) {
         return false;
     }
-    same(nodes.value(node).part.as_units(), part)
+    eq_ignore_ascii_case(nodes.value(node).part.as_units(), part)
 }
 
 // How many units stand before the first `\`.
@@ -119,8 +119,8 @@ impl NameTree {
     #[tactic(auto, using(crate::proofs::NodeLemmas::no_names))]
     /// No name is there.
     pub fn new(alloc: Global) -> NameTree
-        ensures nodes { result ≡ no_nodes }
-        ensures rows { rows_of result ≡ [] }
+        ensures nodes { result.nodes ≡ no_nodes }
+        ensures rows { rows_of result.nodes ≡ [] }
     {
         NameTree {
             nodes: Arena::new(alloc),
@@ -131,21 +131,21 @@ impl NameTree {
 
     /// The nodes, for readers.
     pub fn arena(&self) -> &Arena<NameNode>
-        ensures { result.now ≡ self.now }
+        ensures { result.now ≡ self.now.nodes }
     {
         &self.nodes
     }
 
     /// Establishes for a proof what holds of every tree. It does nothing.
     pub fn establish_names(&self)
-        ensures names { HasNames self.now }
-        ensures shallow { IsShallow self.now.rows }
-        ensures live { HasLiveLinks self.now }
-        ensures agree { Agrees self.now }
-        ensures sound { IsSound self.now }
-        ensures even { length self.now.rows ≡ length self.now.values }
-        ensures single { HasSingleChildren self.now }
-        ensures small { length self.now.rows < 2 ^ 64 }
+        ensures names { HasNames self.now.nodes }
+        ensures shallow { IsShallow self.now.nodes.rows }
+        ensures live { HasLiveLinks self.now.nodes }
+        ensures agree { Agrees self.now.nodes }
+        ensures sound { IsSound self.now.nodes }
+        ensures even { length self.now.nodes.rows ≡ length self.now.nodes.values }
+        ensures single { HasSingleChildren self.now.nodes }
+        ensures small { length self.now.nodes.rows < 2 ^ 64 }
     {
         self.nodes.establish_forest();
     }
@@ -154,11 +154,11 @@ impl NameTree {
     /// Establishes for a proof what holds of the names of every tree: each is a name and stands in a directory that is there,
     /// they are folded and rise, and no two nodes have one name. It does nothing.
     pub fn establish_tree(&self)
-        ensures tree { IsTree (rows_of self.now) }
-        ensures named { AreNamed (rows_of self.now) }
-        ensures folded { AreFolded (rows_of self.now) }
-        ensures rise { Rises (rows_of self.now) }
-        ensures one { HasOneNodeEach self.now }
+        ensures tree { IsTree (rows_of self.now.nodes) }
+        ensures named { AreNamed (rows_of self.now.nodes) }
+        ensures folded { AreFolded (rows_of self.now.nodes) }
+        ensures rise { Rises (rows_of self.now.nodes) }
+        ensures one { HasOneNodeEach self.now.nodes }
     {
         self.establish_names();
         paths_are_names();
@@ -166,8 +166,8 @@ impl NameTree {
 
     // The node of a component in a directory.
     pub(crate) fn child(&self, directory: Option<NodeId>, part: &[u16]) -> Option<NodeId>
-        ensures found { IfSome result (λ node. IsChild self.now (number_of directory) (key_of part.now) node.0) }
-        ensures absent { IfNone result (HasNoChild self.now (number_of directory) (key_of part.now)) }
+        ensures found { IfSome result (λ node. IsChild self.now.nodes (number_of directory) (key_of part.now) node.0) }
+        ensures absent { IfNone result (HasNoChild self.now.nodes (number_of directory) (key_of part.now)) }
     {
         let hash = hash_of(directory, part);
         for ((_, number), _) in self.index.range((hash, 0)..=(hash, u64::MAX)) {
@@ -180,11 +180,11 @@ impl NameTree {
     }
 
     #[tactic(auto, using(crate::proofs::NodeLemmas::walked_on, crate::proofs::NodeLemmas::walk_ends))]
-    // The directory of this name, the root of an empty one: None where it is not there.
+    // The directory of this name, the root of an empty one: None if it is not there.
     pub(crate) fn directory(&self, path: &[u16]) -> Option<Option<NodeId>>
         requires { is_path path.now ≡ true }
-        ensures found { IfSome result (λ d. IsAt self.now (number_of d) (key_of path.now)) }
-        ensures absent { IfNone result (IsUnnamed self.now (key_of path.now)) }
+        ensures found { IfSome result (λ d. IsAt self.now.nodes (number_of d) (key_of path.now)) }
+        ensures absent { IfNone result (IsUnnamed self.now.nodes (key_of path.now)) }
         ensures root { IfNone result (path.now ≡ [] → ⊥) }
     {
         self.establish_names();
@@ -202,16 +202,16 @@ impl NameTree {
     }
 
     #[tactic(auto, using(crate::proofs::TreeLemmas::node_object, crate::proofs::TreeLemmas::node_directory, crate::proofs::TreeLemmas::node_part, crate::proofs::NodeLemmas::found_none))]
-    /// The node of a name, or None where the name is not there. Its value has the object of the name and its last component,
-    /// and its parent is the node of the directory in which the name stands: none where that is the root.
+    /// The node of a name, or None if the name is not there. Its value has the object of the name and its last component,
+    /// and its parent is the node of the directory in which the name stands: none if that is the root.
     pub fn node(&self, name: &[u16]) -> Option<NodeId>
         requires { is_name_of name.now ≡ true }
-        ensures found { IfSome result (λ node. IsAt self.now (Some node.0) (key_of name.now)) }
-        ensures object { IfSome result (λ node. object_at self.now node.0 ≡ found (rows_of self.now) name.now) }
-        ensures part { IfSome result (λ node. key_of name.now ≡ key_of (parent_of name.now) ++ 92 ∷ key_at self.now node.0) }
-        ensures parent { IfSome result (λ node. IsAt self.now (node_parent self.now node.0) (key_of (parent_of name.now))) }
-        ensures absent { IfNone result (IsUnnamed self.now (key_of name.now)) }
-        ensures row { IfNone result (found (rows_of self.now) name.now ≡ None) }
+        ensures found { IfSome result (λ node. IsAt self.now.nodes (Some node.0) (key_of name.now)) }
+        ensures object { IfSome result (λ node. object_at self.now.nodes node.0 ≡ found (rows_of self.now.nodes) name.now) }
+        ensures part { IfSome result (λ node. key_of name.now ≡ key_of (parent_of name.now) ++ 92 ∷ key_at self.now.nodes node.0) }
+        ensures parent { IfSome result (λ node. IsAt self.now.nodes (node_parent self.now.nodes node.0) (key_of (parent_of name.now))) }
+        ensures absent { IfNone result (IsUnnamed self.now.nodes (key_of name.now)) }
+        ensures row { IfNone result (found (rows_of self.now.nodes) name.now ≡ None) }
     {
         self.establish_names();
         match self.directory(name) {
@@ -223,38 +223,11 @@ impl NameTree {
     /// The object of a name.
     pub fn find(&self, name: &[u16]) -> Option<u64>
         requires { is_name_of name.now ≡ true }
-        ensures { result ≡ found (rows_of self.now) name.now }
+        ensures { result ≡ found (rows_of self.now.nodes) name.now }
     {
         self.establish_names();
         match self.node(name) {
             Some(node) => Some(self.nodes.value(node).object),
-            None => None,
-        }
-    }
-
-    #[tactic(auto, using(crate::proofs::PathLemmas::directory_there, crate::proofs::PathLemmas::directory_gone))]
-    /// Whether the directory in which a name stands is there; the root always is.
-    pub fn has_parent(&self, name: &[u16]) -> bool
-        requires { is_name_of name.now ≡ true }
-        ensures { result ≡ has_parent (rows_of self.now) name.now }
-    {
-        self.establish_names();
-        let (directory, _) = last_component(name);
-        self.directory(directory).is_some()
-    }
-
-    #[tactic(auto, using(crate::proofs::TreeLemmas::object_root, crate::proofs::TreeLemmas::object_gone))]
-    /// The object of the directory in which a name stands: none of its own for the root, and None where the directory is not
-    /// there.
-    pub fn parent_object(&self, name: &[u16]) -> Option<Option<u64>>
-        requires { is_name_of name.now ≡ true }
-        ensures { result ≡ parent_object (rows_of self.now) name.now }
-    {
-        self.establish_names();
-        let (directory, _) = last_component(name);
-        match self.directory(directory) {
-            Some(Some(node)) => Some(Some(self.nodes.value(node).object)),
-            Some(None) => Some(None),
             None => None,
         }
     }

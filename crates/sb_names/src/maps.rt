@@ -1,63 +1,137 @@
 // A map from names, compared folded, to what stands under each.
-ghost use Rattle.std.specs.Prelude.{◌≡◌, ◌≤◌, ◌+◌, ◌<◌, not, [], Ok, Err, IfOk, OnOk, OnErr, length, option_map};
-ghost use Rattle.std.specs.BTreeMap.{insert_entry};
-ghost use Rattle.std.specs.Cmp.Lexicographic.{slice_cmp};
-ghost use Rattle.std.specs.Ordering.{nat_cmp};
-ghost use Rattle.std.specs.List.Sorted.{IsSearchInRange};
+ghost use Rattle.std.specs.Prelude.{◌≡◌, not, [], None, IfOk, IfSome, OnOk, OnErr};
+ghost use Rattle.std.specs.BTreeMap.{IsUnchanged, get};
+ghost use Rattle.sb_names.specs.Entries.{AreHashed, IsKept, place_of, rows_in, value_by};
+ghost use Rattle.sb_names.specs.Hashes.{hash_of};
 ghost use Rattle.sb_names.specs.Keys.{key_of};
 ghost use Rattle.sb_names.specs.Maps.{Rises, found, is_there, put, put_new, replaced, without};
-ghost use Rattle.sb_names.specs.Places.{IsFound, IsPut, IsReplaced, IsOut};
+ghost use Rattle.sb_names.specs.Orders.{by_pair};
 
 use crate::folding::refolded;
-use crate::keys::compare;
-use sb_wide::{NoMemory, Wide, wide_of};
+use crate::hashes::hash_of;
+use crate::keys::is_key;
+use sb_wide::{NoMemory, Wide};
 use std::alloc::Global;
+use std::collections::BTreeMap;
 use std::marker::Model;
 
-/// A map from names to values. Names are compared folded, and no spelling is kept.
+/// A map from names to values. Names are compared folded, and no spelling is kept. Each call finds a name by an index, so that
+/// its time does not depend on the order in which names came.
 pub struct NameMap<V> {
-    // Folded names with their values, in rising order.
-    rows: Vec<(Wide, V)>,
+    // Each folded name with its value, under its hash and a number among the names with that hash.
+    index: BTreeMap<(u64, u64), (Wide, V)>,
+    alloc: Global,
 }
 
-// By hand, so that it is proved here once and not at each place that drops one.
 impl<V: Drop> Drop for NameMap<V> {
     fn drop(self) {
-        let NameMap { rows: _ } = self;
+        let NameMap { index: _, alloc: _ } = self;
     }
 }
 
 impl<V> Model for NameMap<V> {
-    ghost use Rattle.sb_names.specs.Maps.{Rows, Rises};
+    ghost use Rattle.sb_names.specs.Entries.{IsKept, rows_in};
+    ghost use Rattle.sb_names.specs.Maps.{Rows};
 
     ghost Value = { Rows V };
 
-    ghost view = { λ m. m.rows.items };
+    ghost view = { λ m. rows_in m.index.entries };
 
-    ghost invariant = { λ m. Rises m.rows.items };
+    ghost invariant = { λ m. IsKept m.index.entries };
 }
 
 // A name folded.
 fn folded(alloc: Global, name: &[u16]) -> Result<Wide, NoMemory>
     ensures { IfOk result (λ key. key ≡ key_of name.now) }
 {
-    Ok(refolded(wide_of(alloc, name)?))
+    Ok(refolded(Wide::from_units(alloc, name)?))
 }
 
-// Where a name stands among rows in rising order, or where it would stand.
-pub(crate) fn place<V>(rows: &[(Wide, V)], name: &[u16]) -> Result<usize, usize>
-    requires { Rises rows.now }
-    ensures bound { IsSearchInRange result (length rows.now) }
-    ensures found { IsFound (key_of name.now) rows.now result }
-    ensures put { (value : V) → IsPut (key_of name.now) value rows.now result }
-    ensures replaced { (value : V) → IsReplaced (key_of name.now) value rows.now result }
-    ensures out { IsOut (key_of name.now) rows.now result }
+// The number of a name among those with its hash, and its value.
+fn place<V: Copy>(
+    index: &BTreeMap<(u64, u64), (Wide, V)>,
+    hash: u64,
+    name: &[u16],
+) -> Option<(u64, V)>
+    requires hashed { AreHashed index.now.entries }
+    requires hash { hash ≡ hash_of None (key_of name.now) }
+    ensures { result ≡ place_of (key_of name.now) index.now.entries }
 {
-    rows.binary_search_by(
-        |row|
-            ensures { result ≡ slice_cmp nat_cmp row.now.0 (key_of name.entry.now) }
-        { compare(row.0.as_units(), name) },
-    )
+    for ((_, number), row) in index.range((hash, 0)..=(hash, u64::MAX)) {
+        if is_key(row.0.as_units(), name) {
+            return Some((*number, row.1));
+        }
+    }
+    None
+}
+
+// A number that no name with this hash has, or None if each number is taken.
+fn free_number<V>(index: &BTreeMap<(u64, u64), (Wide, V)>, hash: u64) -> Option<u64>
+    ensures { IfSome result (λ number. get by_pair index.now (hash, number) ≡ None) }
+{
+    let mut number = 0;
+    while index.contains_key(&(hash, number)) {
+        if number == u64::MAX {
+            return None;
+        }
+        number += 1;
+    }
+    Some(number)
+}
+
+// Puts a value under a name that is not there.
+fn add_row<V: Copy>(
+    index: &mut BTreeMap<(u64, u64), (Wide, V)>,
+    alloc: Global,
+    hash: u64,
+    name: &[u16],
+    value: V,
+) -> Result<(), NoMemory>
+    requires kept { IsKept index.old.entries }
+    requires hash { hash ≡ hash_of None (key_of name.now) }
+    requires absent { place_of (key_of name.now) index.old.entries ≡ None }
+    ensures kept { OnOk result (IsKept index.new.entries) }
+    ensures rows { OnOk result (rows_in index.new.entries ≡ put (rows_in index.old.entries) name.now value) }
+    ensures err { OnErr result (IsUnchanged index.old index.new) }
+{
+    let key = folded(alloc, name)?;
+    let Some(number) = free_number(index, hash) else {
+        return Err(NoMemory);
+    };
+    index.insert((hash, number), (key, value))?;
+    Ok(())
+}
+
+// Gives the row of a name another value. If there is no such row nothing is changed.
+fn set_row<V: Copy>(index: &mut BTreeMap<(u64, u64), (Wide, V)>, hash: u64, name: &[u16], value: V)
+    requires kept { IsKept index.old.entries }
+    requires hash { hash ≡ hash_of None (key_of name.now) }
+    ensures kept { IsKept index.new.entries }
+    ensures rows { rows_in index.new.entries ≡ replaced (rows_in index.old.entries) name.now value }
+{
+    let Some((number, _)) = place(index, hash, name) else {
+        return;
+    };
+    if let Some(row) = index.get_mut(&(hash, number)) {
+        row.1 = value;
+    }
+}
+
+// Takes the row of a name out, and returns its value.
+fn take_row<V: Copy>(
+    index: &mut BTreeMap<(u64, u64), (Wide, V)>,
+    hash: u64,
+    name: &[u16],
+) -> Option<V>
+    requires kept { IsKept index.old.entries }
+    requires hash { hash ≡ hash_of None (key_of name.now) }
+    ensures value { result ≡ value_by (place_of (key_of name.now) index.old.entries) }
+    ensures kept { IsKept index.new.entries }
+    ensures rows { rows_in index.new.entries ≡ without (rows_in index.old.entries) name.now }
+{
+    let (number, value) = place(index, hash, name)?;
+    index.remove(&(hash, number));
+    Some(value)
 }
 
 impl<V: Copy> NameMap<V> {
@@ -66,81 +140,78 @@ impl<V: Copy> NameMap<V> {
         ensures { result ≡ [] }
     {
         NameMap {
-            rows: Vec::new(alloc),
+            index: BTreeMap::new(alloc),
+            alloc,
         }
     }
 
     /// What stands under a name.
+    #[tactic(auto, using(crate::proofs::EntryLemmas::found_by_place))]
     pub fn find(&self, name: &[u16]) -> Option<V>
         ensures { result ≡ found self.now name.now }
     {
-        match place(&self.rows, name) {
-            Ok(at) => Some(self.rows[at].1),
-            Err(_) => None,
+        match place(&self.index, hash_of(None, name), name) {
+            Some((_, value)) => Some(value),
+            None => None,
         }
     }
 
     /// Puts a value under a name, in the place of what stood there.
     ///
     /// # Errors
-    /// `NoMemory` where there was none for the row; then nothing is changed.
+    /// `NoMemory` if there is none for the row; then nothing is changed.
+    #[tactic(auto, using(crate::proofs::EntryLemmas::put_there))]
     pub fn insert(&mut self, name: &[u16], value: V) -> Result<(), NoMemory>
         ensures ok { OnOk result (self.new ≡ put self.old name.now value) }
         ensures err { OnErr result (self.new ≡ self.old) }
     {
-        match place(&self.rows, name) {
-            Ok(at) => self.rows[at].1 = value,
-            Err(at) => {
-                let key = folded(*self.rows.allocator(), name)?;
-                self.rows.insert(at, (key, value))?;
-            }
+        let hash = hash_of(None, name);
+        if place(&self.index, hash, name).is_none() {
+            return add_row(&mut self.index, self.alloc, hash, name, value);
         }
+        set_row(&mut self.index, hash, name, value);
         Ok(())
     }
 
-    /// Puts a value under a name where nothing stands. It answers false, and changes nothing, where something does.
+    /// Puts a value under a name where nothing stands. Returns false, and changes nothing, if something does.
     ///
     /// # Errors
-    /// `NoMemory` where there was none for the row; then nothing is changed.
+    /// `NoMemory` if there is none for the row; then nothing is changed.
+    #[tactic(auto, using(crate::proofs::EntryLemmas::is_there_by_place))]
     pub fn insert_new(&mut self, name: &[u16], value: V) -> Result<bool, NoMemory>
         ensures free { IfOk result (λ b. b ≡ not (is_there self.old name.now)) }
         ensures ok { OnOk result (self.new ≡ put_new self.old name.now value) }
         ensures err { OnErr result (self.new ≡ self.old) }
     {
-        match place(&self.rows, name) {
-            Ok(_) => Ok(false),
-            Err(at) => {
-                let key = folded(*self.rows.allocator(), name)?;
-                self.rows.insert(at, (key, value))?;
-                Ok(true)
-            }
+        let hash = hash_of(None, name);
+        if place(&self.index, hash, name).is_some() {
+            return Ok(false);
         }
+        add_row(&mut self.index, self.alloc, hash, name, value)?;
+        Ok(true)
     }
 
-    /// Gives the row of a name another value. Where there is no such row nothing is changed.
+    /// Gives the row of a name another value. If there is no such row nothing is changed.
     pub fn replace(&mut self, name: &[u16], value: V)
         ensures { self.new ≡ replaced self.old name.now value }
     {
-        if let Ok(at) = place(&self.rows, name) {
-            self.rows[at].1 = value;
-        }
+        set_row(&mut self.index, hash_of(None, name), name, value);
     }
 
-    /// Takes the row of a name out, and gives what stood there.
+    /// Takes the row of a name out, and returns what stood there.
+    #[tactic(auto, using(crate::proofs::EntryLemmas::found_by_place))]
     pub fn remove(&mut self, name: &[u16]) -> Option<V>
         ensures value { result ≡ found self.old name.now }
         ensures rows { self.new ≡ without self.old name.now }
     {
-        match place(&self.rows, name) {
-            Ok(at) => Some(self.rows.remove(at).1),
-            Err(_) => None,
-        }
+        take_row(&mut self.index, hash_of(None, name), name)
     }
 
     /// The rows rise strictly, so that equal maps are equal lists. It changes nothing.
+    #[tactic(auto, using(crate::proofs::EntryLemmas::rows_in_rise))]
     pub fn rows_rise(&self)
         ensures { Rises self.now }
     {
-        let _count = self.rows.len();
+        let _count = self.index.len();
     }
 }

@@ -10,7 +10,6 @@ pub struct NameNode {
     pub object: u64,
 }
 
-// By hand, so that it is proved here once and not at each place that drops one.
 impl Drop for NameNode {
     fn drop(self) {
         let NameNode { part: _, object: _ } = self;

@@ -17,7 +17,7 @@ use crate::keys::is_below;
 use crate::linked::{NameTree, last_component};
 use crate::nodes::NameNode;
 use sb_arena::{Arena, NodeId, calls_change_one_value, links_change_one_parent};
-use sb_wide::{NoMemory, wide_of};
+use sb_wide::{NoMemory, Wide};
 use std::collections::BTreeMap;
 
 // Gives a node another value and another directory.
@@ -63,21 +63,21 @@ impl NameTree {
         directory: Option<NodeId>,
         part: &[u16],
     ) -> Result<(), NoMemory>
-        requires live { IsLive self.old node.0 }
-        requires there { IsThere self.old (number_of directory) }
-        requires apart { IsApart self.old node.0 (number_of directory) }
+        requires live { IsLive self.old.nodes node.0 }
+        requires there { IsThere self.old.nodes (number_of directory) }
+        requires apart { IsApart self.old.nodes node.0 (number_of directory) }
         requires part { is_component part.now ≡ true }
-        requires absent { HasNoChild self.old (number_of directory) (key_of part.now) }
-        ensures rows { OnOk result (rows_of self.new ≡ collected (map (λ row. (renamed_key (name_of self.old (Some node.0)) (name_of self.old (number_of directory) ++ 92 ∷ key_of part.now) row.0, row.1)) (rows_of self.old))) }
-        ensures kept { OnOk result (KeepsRows self.old self.new (name_of self.old (Some node.0)) (name_of self.old (number_of directory) ++ 92 ∷ key_of part.now)) }
-        ensures others { OnOk result (KeepsOtherNodes self.old self.new node.0) }
-        ensures err { OnErr result (self.new ≡ self.old) }
+        requires absent { HasNoChild self.old.nodes (number_of directory) (key_of part.now) }
+        ensures rows { OnOk result (rows_of self.new.nodes ≡ collected (map (λ row. (renamed_key (name_of self.old.nodes (Some node.0)) (name_of self.old.nodes (number_of directory) ++ 92 ∷ key_of part.now) row.0, row.1)) (rows_of self.old.nodes))) }
+        ensures kept { OnOk result (KeepsRows self.old.nodes self.new.nodes (name_of self.old.nodes (Some node.0)) (name_of self.old.nodes (number_of directory) ++ 92 ∷ key_of part.now)) }
+        ensures others { OnOk result (KeepsOtherNodes self.old.nodes self.new.nodes node.0) }
+        ensures err { OnErr result (self.new.nodes ≡ self.old.nodes) }
     {
         self.establish_names();
         let old_hash = hash_at(&self.nodes, node);
         let hash = hash_of(directory, part);
         let renamed = NameNode {
-            part: wide_of(self.alloc, part)?,
+            part: Wide::from_units(self.alloc, part)?,
             object: self.nodes.value(node).object,
         };
         reindex(&mut self.index, node.0, old_hash, hash)?;
@@ -100,14 +100,14 @@ impl NameTree {
         to: &[u16],
     ) -> Result<(), NoMemory>
         requires to { is_name_of to.now ≡ true }
-        requires node { IsAt self.old (Some node.0) (key_of from.now) }
-        requires directory { IsAt self.old (number_of directory) (key_of (parent_of to.now)) }
+        requires node { IsAt self.old.nodes (Some node.0) (key_of from.now) }
+        requires directory { IsAt self.old.nodes (number_of directory) (key_of (parent_of to.now)) }
         requires outside { is_below (key_of from.now) (key_of to.now) ≡ false }
-        requires absent { found (rows_of self.old) to.now ≡ None }
-        ensures rows { OnOk result (rows_of self.new ≡ renamed_rows (rows_of self.old) from.now to.now) }
-        ensures kept { OnOk result (KeepsRows self.old self.new (key_of from.now) (key_of to.now)) }
-        ensures others { OnOk result (KeepsAllBut self.old self.new (key_of from.now)) }
-        ensures err { OnErr result (self.new ≡ self.old) }
+        requires absent { found (rows_of self.old.nodes) to.now ≡ None }
+        ensures rows { OnOk result (rows_of self.new.nodes ≡ renamed_rows (rows_of self.old.nodes) from.now to.now) }
+        ensures kept { OnOk result (KeepsRows self.old.nodes self.new.nodes (key_of from.now) (key_of to.now)) }
+        ensures others { OnOk result (KeepsAllBut self.old.nodes self.new.nodes (key_of from.now)) }
+        ensures err { OnErr result (self.new.nodes ≡ self.old.nodes) }
     {
         self.establish_names();
         let (_, part) = last_component(to);
@@ -119,17 +119,17 @@ impl NameTree {
     /// node. Memory apart, it is refused with the first of these that applies.
     ///
     /// # Errors
-    /// `Absent` where `from` is not there, `IntoItself` where `to` lies below `from`, `NoParent` where the directory in
-    /// which `to` would stand is not there, `Exists` where `to` is there, also as `from` itself in other letters, and
-    /// `NoMemory` where there was none for the new component; then nothing is changed.
+    /// `Absent` if `from` is not there, `IntoItself` if `to` lies below `from`, `NoParent` if the directory in
+    /// which `to` would stand is not there, `Exists` if `to` is there, also as `from` itself in other letters, and
+    /// `NoMemory` if there was none for the new component; then nothing is changed.
     pub fn rename(&mut self, from: &[u16], to: &[u16]) -> Result<(), TreeFault>
         requires from { is_name_of from.now ≡ true }
         requires to { is_name_of to.now ≡ true }
-        ensures ok { OnOk result (renamed_tree (rows_of self.old) from.now to.now ≡ Ok (rows_of self.new)) }
-        ensures kept { OnOk result (KeepsRows self.old self.new (key_of from.now) (key_of to.now)) }
-        ensures others { OnOk result (KeepsAllBut self.old self.new (key_of from.now)) }
-        ensures fault { IfErr result (λ fault. IsFault (renamed_tree (rows_of self.old) from.now to.now) fault) }
-        ensures err { OnErr result (self.new ≡ self.old) }
+        ensures ok { OnOk result (renamed_tree (rows_of self.old.nodes) from.now to.now ≡ Ok (rows_of self.new.nodes)) }
+        ensures kept { OnOk result (KeepsRows self.old.nodes self.new.nodes (key_of from.now) (key_of to.now)) }
+        ensures others { OnOk result (KeepsAllBut self.old.nodes self.new.nodes (key_of from.now)) }
+        ensures fault { IfErr result (λ fault. IsFault (renamed_tree (rows_of self.old.nodes) from.now to.now) fault) }
+        ensures err { OnErr result (self.new.nodes ≡ self.old.nodes) }
     {
         self.establish_names();
         let Some(node) = self.node(from) else {

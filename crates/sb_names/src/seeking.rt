@@ -37,8 +37,8 @@ pub enum Seek {
 impl NameTree {
     // The object of a directory, or None for the root.
     fn object_of(&self, directory: Option<NodeId>) -> Option<u64>
-        requires { IsThere self.now (number_of directory) }
-        ensures { result ≡ object_by self.now (number_of directory) }
+        requires { IsThere self.now.nodes (number_of directory) }
+        ensures { result ≡ object_by self.now.nodes (number_of directory) }
     {
         match directory {
             Some(node) => Some(self.nodes.value(node).object),
@@ -50,8 +50,8 @@ impl NameTree {
     /// Walks the path of a name from the root, once, and tells where it leads.
     pub fn seek(&self, name: &[u16]) -> Seek
         requires { is_name_of name.now ≡ true }
-        ensures sought { IsSought self.now name.now result }
-        ensures parent { has_parent (rows_of self.now) name.now ≡ has_directory result }
+        ensures sought { IsSought self.now.nodes name.now result }
+        ensures parent { has_parent (rows_of self.now.nodes) name.now ≡ has_directory result }
     {
         self.establish_names();
         let (path, part) = last_component(name);
@@ -69,7 +69,6 @@ impl NameTree {
         }
     }
 
-    #[tactic(auto, using(crate::proofs::AddLemmas::at_there))]
     /// Adds a name that is not there with its object, in its directory, as `seek` gave it.
     ///
     /// # Errors
@@ -81,14 +80,14 @@ impl NameTree {
         object: u64,
     ) -> Result<(), NoMemory>
         requires name { is_name_of name.now ≡ true }
-        requires at { IsAt self.old (number_of directory) (key_of (parent_of name.now)) }
-        requires absent { found (rows_of self.old) name.now ≡ None }
-        ensures rows { OnOk result (rows_of self.new ≡ put (rows_of self.old) name.now object) }
-        ensures nodes { OnOk result (KeepsNodes self.old self.new) }
-        ensures err { OnErr result (self.new ≡ self.old) }
+        requires at { IsAt self.old.nodes (number_of directory) (key_of (parent_of name.now)) }
+        requires absent { found (rows_of self.old.nodes) name.now ≡ None }
+        ensures rows { OnOk result (rows_of self.new.nodes ≡ put (rows_of self.old.nodes) name.now object) }
+        ensures nodes { OnOk result (KeepsNodes self.old.nodes self.new.nodes) }
+        ensures err { OnErr result (self.new.nodes ≡ self.old.nodes) }
     {
-        self.establish_names();
-        let (_, part) = last_component(name);
-        self.put_node(directory, part, object)
+        let new = self.reserve_at(directory, name)?;
+        self.add_reserved(new, object);
+        Ok(())
     }
 }

@@ -121,7 +121,7 @@ count_fewer made pipe number rows all distinct =
         rw no (omega arith)
     later row rows more e i false p = i
 
--- a pipe is there exactly where it has handles
+-- a pipe is there exactly if it has handles
 pub there_by_count : (made pipe : ℕ) (rows : Rows PipeRow) → list_all (is_made made) rows ≡ true → is_some (pipe_of pipe rows) ≡ nat_lt 0 (count_of pipe rows)
 there_by_count made pipe [] all = refl
 there_by_count made pipe (row ∷ rows) all = by (row.1.number == pipe) (first_of (is_made made) row rows all) (there_by_count made pipe rows (others_of (is_made made) row rows all))

@@ -86,22 +86,22 @@ module _ (key : List ℕ) (number : ℕ) where
           rw (e, t) (ap (λ more. row ∷ more) (i u f)
           ∙ behind (nat_le pipe.handles 1) (remove_entry (is_key key) rows) (set_value (is_key key) rows (record pipe { handles = pipe.handles - 1 })))
 
--- where no pipe has the name
+-- if no pipe has the name
 pub dropped_nowhere : (rows : Rows PipeRow) (name : List ℕ) (number : ℕ) → found rows name ≡ None → StandsUnder name number rows → fewer rows number ≡ rows
 dropped_nowhere rows name number f u = absent (key_of name) number rows u f
 
--- where the pipe of that name has another number
+-- if the pipe of that name has another number
 pub dropped_for_another : (rows : Rows PipeRow) (name : List ℕ) (number : ℕ) (pipe : PipeRow) → found rows name ≡ Some pipe → (pipe.number == number) ≡ false
     → Rises rows → StandsUnder name number rows → fewer rows number ≡ rows
 dropped_for_another rows name number pipe f n r u = other (key_of name) number pipe n rows r u f
 
--- where it has more handles
+-- if it has more handles
 pub dropped_one : (rows : Rows PipeRow) (name : List ℕ) (number : ℕ) (pipe : PipeRow) → found rows name ≡ Some pipe → (pipe.number == number) ≡ true
     → nat_le pipe.handles 1 ≡ false → StandsUnder name number rows → fewer rows number ≡ replaced rows name (record pipe { handles = pipe.handles - 1 })
 dropped_one rows name number pipe f n more u = own (key_of name) number pipe n rows u f
     ∙ ap (λ b. if b then without rows name else replaced rows name (record pipe { handles = pipe.handles - 1 })) more
 
--- where it has no more
+-- if it has no more
 pub dropped_last : (rows : Rows PipeRow) (name : List ℕ) (number : ℕ) (pipe : PipeRow) → found rows name ≡ Some pipe → (pipe.number == number) ≡ true
     → nat_le pipe.handles 1 ≡ true → StandsUnder name number rows → fewer rows number ≡ without rows name
 dropped_last rows name number pipe f n last u = own (key_of name) number pipe n rows u f

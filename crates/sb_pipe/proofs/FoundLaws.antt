@@ -11,6 +11,8 @@ use Rattle.sb_names.specs.Laws.{PutsAreFound}
 use Rattle.sb_names.specs.Maps.{Rows, found, is_key}
 use Rattle.sb_pipe.specs.Laws.{CallsAddHandles, CallsGrantTheirPipe, CallsKeepCounts, CallsLeaveOthers, MadePipesAreAsAsked}
 use Rattle.sb_pipe.specs.Pipes.{Pipes, on_pipe}
+use Rattle.sb_pipe.specs.declared.modes.PipeForm.{PipeForm}
+use Rattle.sb_pipe.specs.declared.modes.PipeMode.{PipeMode}
 use Rattle.sb_pipe.specs.declared.rows.PipeRow.{PipeRow}
 use Rattle.sb_pipe.proofs.NamedLemmas.{own_key}
 use Rattle.sb_pipe.proofs.PipeLaws.{by_create}
@@ -44,7 +46,7 @@ other_set key other value (row ∷ rows) apart = by (is_key key row.0) refl (is_
     by false e c f i = rw f (ap (λ o. cond c (Some row.1) o) i)
 
 -- a pipe with one handle
-abbrev made_pipe : Pipes → ℕ → ℕ → ℕ → PipeRow
+abbrev made_pipe : Pipes → PipeMode → PipeForm → ℕ → PipeRow
 made_pipe pipes mode form instances = record { number = pipes.made + 1; mode = mode; form = form; instances = instances; handles = 1 }
 
 -- the same with one handle more

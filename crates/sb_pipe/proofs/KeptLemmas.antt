@@ -8,6 +8,8 @@ use Rattle.std.specs.List.{AllByRecursion, IsDistinct, list_all}
 use Rattle.sb_names.specs.Keys.{key_of}
 use Rattle.sb_names.specs.Maps.{Rows, found, put, replaced}
 use Rattle.sb_pipe.specs.Pipes.{Pipes, ArePipes, is_made, fewer, with_pipe, with_instance, closed}
+use Rattle.sb_pipe.specs.declared.modes.PipeForm.{PipeForm}
+use Rattle.sb_pipe.specs.declared.modes.PipeMode.{PipeMode}
 use Rattle.sb_pipe.specs.declared.rows.PipeRow.{PipeRow}
 use Rattle.sb_pipe.proofs.RowCases.{put_cases, set_cases, fewer_cases}
 
@@ -106,7 +108,7 @@ distinct_fewer rows number distinct =
     )) rows).1 distinct
 
 -- the pipes with one more
-pub pipes_with_pipe : (pipes : Pipes) (name : List ℕ) (mode form instances : ℕ) → found pipes.rows name ≡ None → 1 ≤ instances → instances ≤ 255 → ArePipes pipes
+pub pipes_with_pipe : (pipes : Pipes) (name : List ℕ) (mode : PipeMode) (form : PipeForm) (instances : ℕ) → found pipes.rows name ≡ None → 1 ≤ instances → instances ≤ 255 → ArePipes pipes
     → ArePipes (with_pipe pipes name mode form instances)
 pipes_with_pipe pipes name mode form instances f low high pipes_are =
     let row : PipeRow = record { number = pipes.made + 1; mode = mode; form = form; instances = instances; handles = 1 } in

@@ -143,7 +143,7 @@ numbered_fewer rows number n apart =
     later row rows more true i = refl
     later row rows more false i = i
 
--- no name is kept of a pipe that is gone: where there is nothing
+-- no name is kept of a pipe that is gone: if there is nothing
 pub live_none : AreOfPipes [] []
 live_none number h = by (number == 0) h
   where

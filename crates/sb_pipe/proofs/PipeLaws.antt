@@ -10,6 +10,8 @@ use Rattle.sb_handles.specs.declared.objects.Held.{Held}
 use Rattle.sb_names.specs.Maps.{found}
 use Rattle.sb_pipe.specs.Laws.{RefusalsChangeNothing, CallsGrantPipes, CallsMakeOne, PipesHaveHandles, CallsKeepPipes, ClosesKeepPipes, ClosesLeavePipes, GrantsLeavePipes}
 use Rattle.sb_pipe.specs.Pipes.{Pipes, ArePipes, Agrees, create, create_by, is_alike, is_invalid, on_pipe, with_instance, with_pipe}
+use Rattle.sb_pipe.specs.declared.modes.PipeForm.{PipeForm}
+use Rattle.sb_pipe.specs.declared.modes.PipeMode.{PipeMode}
 use Rattle.sb_pipe.specs.declared.rows.PipeRow.{PipeRow}
 use Rattle.sb_pipe.proofs.CountLemmas.{count_put, count_replaced, count_fewer, there_by_count}
 
@@ -25,7 +27,7 @@ chosen P true x y p q = p
 chosen P false x y p q = q
 
 -- what holds of a call that is refused, of one on a pipe that is there, and of one that makes a pipe, holds of each
-pub by_create : (P : Effect Pipes → Type 0) (pipes : Pipes) (handles : Table) (target : ℕ) (name : List ℕ) (mode form instances : ℕ)
+pub by_create : (P : Effect Pipes → Type 0) (pipes : Pipes) (handles : Table) (target : ℕ) (name : List ℕ) (mode : PipeMode) (form : PipeForm) (instances : ℕ)
     → ((status : ℕ) → (status ≡ success → ⊥) → P (refused pipes handles status))
     → ((row : PipeRow) → found pipes.rows name ≡ Some row
     → P (grants (with_instance pipes name row) handles target (on_pipe row.number) success ((row.handles + 1) ∷ [])))
@@ -33,7 +35,7 @@ pub by_create : (P : Effect Pipes → Type 0) (pipes : Pipes) (handles : Table) 
     → P (grants (with_pipe pipes name mode form instances) handles target (on_pipe (pipes.made + 1)) success (1 ∷ [])))
     → P (create pipes handles target name mode form instances)
 by_create P pipes handles target name mode form instances refuses adds makes =
-    chosen P (is_invalid mode form instances) (refused pipes handles invalid_parameter)
+    chosen P (is_invalid instances) (refused pipes handles invalid_parameter)
     (create_by (found pipes.rows name) pipes handles target name mode form instances) (refuses invalid_parameter (λ h. absurd (omega (arith, h))))
     (by (found pipes.rows name) refl)
   where
@@ -72,7 +74,7 @@ module _ (count : GrantsCount) where
       ∙ ap (λ n. n + (if row.number == pipe then 1 else 0)) (agree pipe)
       ∙ sym (count handles target pipe (on_pipe row.number))
 
-  pub pipe_agrees : (pipes : Pipes) (handles : Table) (target : ℕ) (name : List ℕ) (mode form instances : ℕ) → ArePipes pipes → Agrees pipes handles
+  pub pipe_agrees : (pipes : Pipes) (handles : Table) (target : ℕ) (name : List ℕ) (mode : PipeMode) (form : PipeForm) (instances : ℕ) → ArePipes pipes → Agrees pipes handles
       → found pipes.rows name ≡ None → Agrees (with_pipe pipes name mode form instances) (with_handle handles target (on_pipe (pipes.made + 1)))
   pipe_agrees pipes handles target name mode form instances are agree f pipe =
       count_put pipes.made pipe pipes.rows name (record { number = pipes.made + 1; mode = mode; form = form; instances = instances; handles = 1 }) f (omega arith) refl are.1

@@ -8,6 +8,8 @@ use Rattle.sb_names.specs.Laws.{NamesFold}
 use Rattle.sb_names.specs.Maps.{Rows, found, put, replaced}
 use Rattle.sb_pipe.specs.Keeping.{IsKept, is_numbered}
 use Rattle.sb_pipe.specs.Pipes.{ArePipes, fewer}
+use Rattle.sb_pipe.specs.declared.modes.PipeForm.{PipeForm}
+use Rattle.sb_pipe.specs.declared.modes.PipeMode.{PipeMode}
 use Rattle.sb_pipe.specs.declared.rows.PipeRow.{PipeRow}
 use Rattle.sb_pipe.proofs.KeptLemmas.{all_fewer, all_put, all_replaced, pipes_with_pipe, pipes_with_instance, pipes_closed}
 use Rattle.sb_pipe.proofs.NamedLemmas.{named_with_pipe, named_with_instance, named_fewer}
@@ -32,7 +34,7 @@ kept_with_instance names rows more name row e f room kept =
       all_replaced (λ row. is_name_of row.0) rows name row value f (λ key h. h) kept.3,
     )
 
-pub kept_with_pipe : NamesFold → (names after : List (Option (List ℕ))) (rows more : Rows PipeRow) (name : List ℕ) (mode form instances : ℕ)
+pub kept_with_pipe : NamesFold → (names after : List (Option (List ℕ))) (rows more : Rows PipeRow) (name : List ℕ) (mode : PipeMode) (form : PipeForm) (instances : ℕ)
     → after ≡ names ++ Some name ∷ []
     → more ≡ put rows name (record { number = length names + 1; mode = mode; form = form; instances = instances; handles = 1 })
     → is_name_of name ≡ true → found rows name ≡ None → 1 ≤ instances → instances ≤ 255 → IsKept names rows → IsKept after more

@@ -41,6 +41,10 @@ AreNames rows = list_all (λ row. is_name_of row.0) rows ≡ true
 abbrev pub IsKept : List (Option (List ℕ)) → Rows PipeRow → Type 0
 IsKept names rows = ArePipes (record { rows = rows; made = length names }) × AreNamed names rows × AreOfPipes names rows × AreNames rows
 
--- the pipe of this number, where there is one, stands under this name
+-- the pipe of this number, if there is one, stands under this name
 abbrev pub StandsUnder : List ℕ → ℕ → Rows PipeRow → Type 0
 StandsUnder name number rows = list_all (λ row. not (row.1.number == number) || is_key (key_of name) row.0) rows ≡ true
+
+-- the pipe of this number is there, under this name
+abbrev pub IsNamed : Rows PipeRow → ℕ → List ℕ → Type 0
+IsNamed rows number name = (is_numbered rows number ≡ true) × StandsUnder name number rows

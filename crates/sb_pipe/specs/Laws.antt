@@ -8,56 +8,58 @@ use Rattle.sb_handles.specs.declared.objects.Held.{Held}
 use Rattle.sb_names.specs.Keys.{key_of}
 use Rattle.sb_names.specs.Maps.{found, is_key}
 use Rattle.sb_pipe.specs.Pipes.{Pipes, ArePipes, Agrees, create, closed, on_pipe}
+use Rattle.sb_pipe.specs.declared.modes.PipeForm.{PipeForm}
+use Rattle.sb_pipe.specs.declared.modes.PipeMode.{PipeMode}
 use Rattle.sb_pipe.specs.declared.rows.PipeRow.{PipeRow}
 
 -- a call that answers a status other than success leaves pipes and handles as they are
 abbrev pub RefusalsChangeNothing : Type 0
-RefusalsChangeNothing = (pipes : Pipes) (handles : Table) (target : ℕ) (name : List ℕ) (mode form instances : ℕ)
+RefusalsChangeNothing = (pipes : Pipes) (handles : Table) (target : ℕ) (name : List ℕ) (mode : PipeMode) (form : PipeForm) (instances : ℕ)
     → ((create pipes handles target name mode form instances).answer.status ≡ success → ⊥)
     → ((create pipes handles target name mode form instances).service ≡ pipes)
     × ((create pipes handles target name mode form instances).handles ≡ handles)
 
 -- a call leaves the handles as they are, or grants one on a pipe
 abbrev pub CallsGrantPipes : Type 0
-CallsGrantPipes = (pipes : Pipes) (handles : Table) (target : ℕ) (name : List ℕ) (mode form instances : ℕ)
+CallsGrantPipes = (pipes : Pipes) (handles : Table) (target : ℕ) (name : List ℕ) (mode : PipeMode) (form : PipeForm) (instances : ℕ)
     → ((create pipes handles target name mode form instances).handles ≡ handles)
     ⊎ ((held : Held) × (is_pipe held.object.service ≡ true)
     × ((create pipes handles target name mode form instances).handles ≡ with_handle handles target held))
 
 -- one that answers success grants one handle, on the pipe that is found under the name after it
 abbrev pub CallsGrantTheirPipe : Type 0
-CallsGrantTheirPipe = (pipes : Pipes) (handles : Table) (target : ℕ) (name : List ℕ) (mode form instances : ℕ)
+CallsGrantTheirPipe = (pipes : Pipes) (handles : Table) (target : ℕ) (name : List ℕ) (mode : PipeMode) (form : PipeForm) (instances : ℕ)
     → (create pipes handles target name mode form instances).answer.status ≡ success
     → (row : PipeRow) × (found (create pipes handles target name mode form instances).service.rows name ≡ Some row)
     × ((create pipes handles target name mode form instances).handles ≡ with_handle handles target (on_pipe row.number))
 
 -- a pipe that was made has what was asked for, and one handle
 abbrev pub MadePipesAreAsAsked : Type 0
-MadePipesAreAsAsked = (pipes : Pipes) (handles : Table) (target : ℕ) (name : List ℕ) (mode form instances : ℕ)
+MadePipesAreAsAsked = (pipes : Pipes) (handles : Table) (target : ℕ) (name : List ℕ) (mode : PipeMode) (form : PipeForm) (instances : ℕ)
     → found pipes.rows name ≡ None → (create pipes handles target name mode form instances).answer.status ≡ success
     → found (create pipes handles target name mode form instances).service.rows name
     ≡ Some (record { number = pipes.made + 1; mode = mode; form = form; instances = instances; handles = 1 })
 
--- one that was there is as it was, but for the handle more
+-- one that was there is as it was, except for the handle more
 abbrev pub CallsAddHandles : Type 0
-CallsAddHandles = (pipes : Pipes) (handles : Table) (target : ℕ) (name : List ℕ) (mode form instances : ℕ) (row : PipeRow)
+CallsAddHandles = (pipes : Pipes) (handles : Table) (target : ℕ) (name : List ℕ) (mode : PipeMode) (form : PipeForm) (instances : ℕ) (row : PipeRow)
     → found pipes.rows name ≡ Some row → (create pipes handles target name mode form instances).answer.status ≡ success
     → found (create pipes handles target name mode form instances).service.rows name ≡ Some (record row { handles = row.handles + 1 })
 
 -- and under every other name is what was there
 abbrev pub CallsLeaveOthers : Type 0
-CallsLeaveOthers = (pipes : Pipes) (handles : Table) (target : ℕ) (name other : List ℕ) (mode form instances : ℕ)
+CallsLeaveOthers = (pipes : Pipes) (handles : Table) (target : ℕ) (name other : List ℕ) (mode : PipeMode) (form : PipeForm) (instances : ℕ)
     → is_key (key_of other) (key_of name) ≡ false
     → found (create pipes handles target name mode form instances).service.rows other ≡ found pipes.rows other
 
--- where no more pipes were made than handles granted, so it is after a call
+-- if no more pipes were made than handles granted, so it is after a call
 abbrev pub CallsKeepCounts : Type 0
-CallsKeepCounts = (pipes : Pipes) (handles : Table) (target : ℕ) (name : List ℕ) (mode form instances : ℕ) → pipes.made ≤ handles.granted
+CallsKeepCounts = (pipes : Pipes) (handles : Table) (target : ℕ) (name : List ℕ) (mode : PipeMode) (form : PipeForm) (instances : ℕ) → pipes.made ≤ handles.granted
     → (create pipes handles target name mode form instances).service.made ≤ (create pipes handles target name mode form instances).handles.granted
 
 -- it makes one pipe at most
 abbrev pub CallsMakeOne : Type 0
-CallsMakeOne = (pipes : Pipes) (handles : Table) (target : ℕ) (name : List ℕ) (mode form instances : ℕ)
+CallsMakeOne = (pipes : Pipes) (handles : Table) (target : ℕ) (name : List ℕ) (mode : PipeMode) (form : PipeForm) (instances : ℕ)
     → (create pipes handles target name mode form instances).service.made ≤ pipes.made + 1
 
 -- a pipe is there exactly while it has handles
@@ -67,7 +69,7 @@ PipesHaveHandles = (pipes : Pipes) (handles : Table) (pipe : ℕ) → ArePipes p
 
 -- a call keeps the agreement
 abbrev pub CallsKeepPipes : Type 0
-CallsKeepPipes = (pipes : Pipes) (handles : Table) (target : ℕ) (name : List ℕ) (mode form instances : ℕ) → ArePipes pipes → Agrees pipes handles
+CallsKeepPipes = (pipes : Pipes) (handles : Table) (target : ℕ) (name : List ℕ) (mode : PipeMode) (form : PipeForm) (instances : ℕ) → ArePipes pipes → Agrees pipes handles
     → Agrees (create pipes handles target name mode form instances).service (create pipes handles target name mode form instances).handles
 
 -- after a handle on a pipe was closed, `closed` makes pipes and handles agree again

@@ -1,3 +1,4 @@
 pub mod Keeping
 pub mod Laws
+pub mod Modes
 pub mod Pipes

@@ -1,13 +1,17 @@
 -- The pipes, and what each call on them does.
-use Rattle.std.specs.Prelude.{◌≡◌, ◌+◌, ◌-◌, ℕ, Bool, true, ◌&&◌, ◌||◌, not, ◌==◌, nat_eq, nat_lt, nat_le, List, [], ◌∷◌, Option, None, Some, map, if◌then◌else◌}
+use Rattle.std.specs.Prelude.{◌≡◌, ◌+◌, ◌-◌, ℕ, Bool, true, ◌&&◌, not, ◌==◌, nat_eq, nat_le, List, [], ◌∷◌, Option, None, Some, map, if◌then◌else◌}
 use Rattle.std.specs.List.{find, list_all, IsDistinct}
 use Rattle.sb_call.specs.Statuses.{success, invalid_parameter, access_denied, instance_not_available}
 use Rattle.sb_handles.specs.Agreements.{pipe_handles}
 use Rattle.sb_handles.specs.Effects.{Effect, refused, grants}
+use Rattle.sb_handles.specs.Masks.{access_of, sharing_of}
 use Rattle.sb_handles.specs.Tables.{Table}
 use Rattle.sb_handles.specs.declared.objects.Held.{Held}
 use Rattle.sb_handles.specs.declared.objects.Service.TheVariants as service
 use Rattle.sb_names.specs.Maps.{Rows, found, put, replaced}
+use Rattle.sb_pipe.specs.Modes.{form_number, mode_number}
+use Rattle.sb_pipe.specs.declared.modes.PipeForm.{PipeForm}
+use Rattle.sb_pipe.specs.declared.modes.PipeMode.{PipeMode}
 use Rattle.sb_pipe.specs.declared.rows.PipeRow.{PipeRow}
 
 -- the pipe under each name, and how many were ever made
@@ -19,7 +23,7 @@ abbrev pub no_pipes : Pipes
 no_pipes = record { rows = []; made = 0 }
 
 -- with a pipe more, which has one handle; its number is one more than the count of pipes ever made
-abbrev pub with_pipe : Pipes → List ℕ → ℕ → ℕ → ℕ → Pipes
+abbrev pub with_pipe : Pipes → List ℕ → PipeMode → PipeForm → ℕ → Pipes
 with_pipe pipes name mode form instances =
     record { rows = put pipes.rows name (record { number = pipes.made + 1; mode = mode; form = form; instances = instances; handles = 1 }); made = pipes.made + 1 }
 
@@ -29,19 +33,18 @@ with_instance pipes name row = record pipes { rows = replaced pipes.rows name (r
 
 -- a handle on the pipe of this number; pipes have neither access nor sharing
 abbrev pub on_pipe : ℕ → Held
-on_pipe number = record { object = record { service = service.Pipe; number = number }; access = 0; sharing = 0 }
+on_pipe number = record { object = record { service = service.Pipe; number = number }; access = access_of 0; sharing = sharing_of 0 }
 
--- the mode is 1 to 3, the form 0 or 1, and the instances are 1 to 255
-abbrev pub is_invalid : ℕ → ℕ → ℕ → Bool
-is_invalid mode form instances =
-    not (nat_le 1 mode && nat_le mode 3) || nat_lt 1 form || not (nat_le 1 instances && nat_le instances 255)
+-- the instances are not 1 to 255
+abbrev pub is_invalid : ℕ → Bool
+is_invalid instances = not (nat_le 1 instances && nat_le instances 255)
 
 -- the pipe was made with these properties
-abbrev pub is_alike : PipeRow → ℕ → ℕ → ℕ → Bool
-is_alike row mode form instances = row.mode == mode && row.form == form && row.instances == instances
+abbrev pub is_alike : PipeRow → PipeMode → PipeForm → ℕ → Bool
+is_alike row mode form instances = mode_number row.mode == mode_number mode && form_number row.form == form_number form && row.instances == instances
 
 -- pipe.create, by what stands under the name
-abbrev pub create_by : Option PipeRow → Pipes → Table → ℕ → List ℕ → ℕ → ℕ → ℕ → Effect Pipes
+abbrev pub create_by : Option PipeRow → Pipes → Table → ℕ → List ℕ → PipeMode → PipeForm → ℕ → Effect Pipes
 create_by (Some row) pipes handles target name mode form instances =
     if not (is_alike row mode form instances) then refused pipes handles access_denied
     else (if row.handles == row.instances then refused pipes handles instance_not_available
@@ -50,9 +53,9 @@ create_by None pipes handles target name mode form instances =
     grants (with_pipe pipes name mode form instances) handles target (on_pipe (pipes.made + 1)) success (1 ∷ [])
 
 -- pipe.create: the first case that applies
-abbrev pub create : Pipes → Table → ℕ → List ℕ → ℕ → ℕ → ℕ → Effect Pipes
+abbrev pub create : Pipes → Table → ℕ → List ℕ → PipeMode → PipeForm → ℕ → Effect Pipes
 create pipes handles target name mode form instances =
-    if is_invalid mode form instances then refused pipes handles invalid_parameter
+    if is_invalid instances then refused pipes handles invalid_parameter
     else create_by (found pipes.rows name) pipes handles target name mode form instances
 
 -- the rows with one handle fewer on the pipe of this number; a pipe whose last handle is closed is gone

@@ -26,7 +26,7 @@ pub fn calls_grant_their_pipe()
     puts_are_found::<PipeRow>();
 }
 
-/// A pipe that a call made has what was asked for; one that was there is as it was, but for the handle more; and every other
+/// A pipe that a call made has what was asked for; one that was there is as it was, except for the handle more; and every other
 /// name leads to what it did.
 #[tactic(auto, using(crate::proofs::FoundLaws::made_pipes_are_as_asked, crate::proofs::FoundLaws::calls_add_handles, crate::proofs::FoundLaws::calls_leave_others))]
 pub fn pipes_are_found_where_made()
@@ -37,13 +37,13 @@ pub fn pipes_are_found_where_made()
     puts_are_found::<PipeRow>();
 }
 
-/// Where no more pipes were made than handles granted, so it is after each call.
+/// If no more pipes were made than handles granted, so it is after each call.
 #[tactic(auto, using(crate::proofs::FoundLaws::calls_keep_counts))]
 pub fn pipes_come_with_handles()
     ensures { CallsKeepCounts }
 {}
 
-/// Where pipes and handles agree, a pipe is there exactly while it has handles.
+/// If pipes and handles agree, a pipe is there exactly while it has handles.
 #[tactic(auto, using(crate::proofs::PipeLaws::pipes_have_handles))]
 pub fn pipes_have_handles()
     ensures { PipesHaveHandles }

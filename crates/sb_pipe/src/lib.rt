@@ -3,6 +3,7 @@
 #![tactic(auto)]
 
 mod laws;
+mod modes;
 mod pipes;
 mod rows;
 
@@ -10,5 +11,6 @@ pub use laws::{
     agreement_is_kept, calls_grant_pipes, calls_grant_their_pipe, pipes_are_found_where_made,
     pipes_come_with_handles, pipes_have_handles, refusals_change_nothing,
 };
+pub use modes::{PipeForm, PipeMode};
 pub use pipes::PipeService;
 pub use rows::PipeRow;

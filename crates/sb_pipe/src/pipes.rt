@@ -1,17 +1,19 @@
 // The pipes of the namespace.
-ghost use Rattle.std.specs.Prelude.{◌≡◌, ◌<◌, ◌≤◌, ◌+◌, ◌-◌, ◌^◌, true, None, Some, IfOk, OnOk, OnErr, MatchOption, is_some, length, slice_set, if◌then◌else◌};
+ghost use Rattle.std.specs.Prelude.{◌≡◌, ◌<◌, ◌≤◌, ◌+◌, ◌-◌, ◌^◌, true, false, None, Some, IfOk, OnOk, OnErr, MatchOption, is_some, length, slice_set, if◌then◌else◌};
 ghost use Rattle.sb_wide.specs.Names.{is_name_of};
 ghost use Rattle.sb_handles.specs.Effects.{IsDone};
 ghost use Rattle.sb_handles.specs.Tables.{with_handle};
 ghost use Rattle.sb_names.specs.Maps.{found, put};
-ghost use Rattle.sb_pipe.specs.Keeping.{AreNames, is_numbered, name_at, StandsUnder};
+ghost use Rattle.sb_pipe.specs.Keeping.{AreNames, IsNamed, is_numbered, name_at, StandsUnder};
 ghost use Rattle.sb_pipe.specs.Pipes.{Agrees, ArePipes, no_pipes, on_pipe, is_invalid, is_alike, create, fewer, closed, with_pipe, with_instance};
 
+use crate::modes::{PipeForm, PipeMode};
 use crate::rows::PipeRow;
+use bitflags::Flags;
 use sb_call::{ACCESS_DENIED, Answer, INSTANCE_NOT_AVAILABLE, INVALID_PARAMETER, SUCCESS};
-use sb_handles::{HandleTable, Held, Object, Service, pipe_handles_are_counted};
+use sb_handles::{Access, HandleTable, Held, Object, Service, Sharing, pipe_handles_are_counted};
 use sb_names::{NameMap, names_fold};
-use sb_wide::{NoMemory, Wide, wide_of};
+use sb_wide::{NoMemory, Wide};
 use std::alloc::Global;
 use std::marker::Model;
 
@@ -25,7 +27,6 @@ pub struct PipeService {
     names: Vec<Option<Wide>>,
 }
 
-// By hand, so that it is proved here once and not at each place that drops one.
 impl Drop for PipeService {
     fn drop(self) {
         let PipeService { rows: _, names: _ } = self;
@@ -53,23 +54,25 @@ fn on_pipe(number: u64) -> Held
             service: Service::Pipe,
             number,
         },
-        access: 0,
-        sharing: 0,
+        access: Access::empty(),
+        sharing: Sharing::empty(),
     }
 }
 
-// Whether the mode, the form or the instances are out of range.
-fn is_invalid(mode: u64, form: u64, instances: u64) -> bool
-    ensures { result ≡ is_invalid mode form instances }
+// Whether the instances are out of range.
+fn is_invalid(instances: u64) -> bool
+    ensures { result ≡ is_invalid instances }
 {
-    !(1 <= mode && mode <= 3) || form > 1 || !(1 <= instances && instances <= 255)
+    !(1 <= instances && instances <= 255)
 }
 
 // Whether a pipe was made with these properties.
-fn is_alike(row: PipeRow, mode: u64, form: u64, instances: u64) -> bool
+fn is_alike(row: PipeRow, mode: PipeMode, form: PipeForm, instances: u64) -> bool
     ensures { result ≡ is_alike row mode form instances }
 {
-    row.mode == mode && row.form == form && row.instances == instances
+    row.mode.number() == mode.number()
+        && row.form.number() == form.number()
+        && row.instances == instances
 }
 
 // The name under which the pipe of a number was made, while it is there.
@@ -201,8 +204,8 @@ impl PipeService {
         handles: &mut HandleTable,
         target: u32,
         name: &[u16],
-        mode: u64,
-        form: u64,
+        mode: PipeMode,
+        form: PipeForm,
         instances: u64,
     ) -> Result<u64, NoMemory>
         requires name { is_name_of name.now ≡ true }
@@ -216,7 +219,7 @@ impl PipeService {
     {
         names_fold();
         let alloc = *self.names.allocator();
-        let kept = wide_of(alloc, name)?;
+        let kept = Wide::from_units(alloc, name)?;
         self.names.reserve(1)?;
         let row = PipeRow {
             number: self.names.len() as u64 + 1,
@@ -233,20 +236,20 @@ impl PipeService {
     /// Makes a pipe of this name and grants a handle on it, or grants one handle more on the pipe that is there. The statuses
     /// are those of Windows' `NtCreateNamedPipeFile`.
     ///
-    /// The mode is 1 to 3, the form 0 or 1, and the instances are 1 to 255: the pipe may have this many handles. Statuses, the
-    /// first that applies: invalid parameter where one of them is out of range; access denied where the pipe was made with
-    /// others; instance not available where it has as many handles as it may have; success, with the number of its handles
+    /// The instances are 1 to 255: the pipe may have this many handles. Statuses, the first that applies: invalid parameter
+    /// if the instances are out of range; access denied if the pipe was made with
+    /// others; instance not available if it has as many handles as it may have; success, with the number of its handles
     /// now as the extended word.
     ///
     /// # Errors
-    /// `NoMemory` where there was none for the pipe or the handle; then pipes and handles are as before.
+    /// `NoMemory` if there was none for the pipe or the handle; then pipes and handles are as before.
     pub fn create(
         &mut self,
         handles: &mut HandleTable,
         target: u32,
         name: &[u16],
-        mode: u64,
-        form: u64,
+        mode: PipeMode,
+        form: PipeForm,
         instances: u64,
     ) -> Result<Answer, NoMemory>
         requires name { is_name_of name.now ≡ true }
@@ -256,7 +259,7 @@ impl PipeService {
         ensures agree { Agrees self.new handles.new.table }
         ensures err { OnErr result ((self.new ≡ self.old) × (handles.new.table ≡ handles.old.table)) }
     {
-        if is_invalid(mode, form, instances) {
+        if is_invalid(instances) {
             return Ok(Answer::refusal(INVALID_PARAMETER));
         }
         self.pipes_are_made();
@@ -281,7 +284,7 @@ impl PipeService {
 
     #[tactic(auto, using(crate::proofs::NamedLemmas::kept_low, crate::proofs::NamedLemmas::kept_high))]
     /// Takes one handle from the pipe of a number, once the handle table has closed it. A pipe whose last handle is closed
-    /// is gone; where no pipe has that number nothing is changed.
+    /// is gone; if no pipe has that number nothing is changed.
     pub fn closed(&mut self, number: u64)
         ensures { self.new ≡ closed self.old number }
     {
@@ -291,6 +294,15 @@ impl PipeService {
                 forget(&mut self.names, number);
             }
         }
+    }
+
+    #[tactic(auto, using(crate::proofs::NamedLemmas::stands_under, crate::proofs::NamedLemmas::none_numbered))]
+    /// The name under which the pipe of a number was made, or nothing if that pipe is not there. It takes the same time
+    /// however many pipes are there.
+    pub fn name_of(&self, number: u64) -> Option<&[u16]>
+        ensures { MatchOption result (is_numbered self.now.rows number ≡ false) (λ name. IsNamed self.now.rows number name.now) }
+    {
+        name_of(&self.names, number)
     }
 
     /// No two pipes have one number, each number is one of those ever made, and each pipe has 1 handle to as many as it may

@@ -13,7 +13,7 @@ use Rattle.sb_handles.proofs.sets.first_in.Goals as goal
 -- src/sets.rt:101:13
 pub returns-then-conflicts_at : goal.returns-then-conflicts_at
 returns-then-conflicts_at c =
-    let p : ℕ → Bool = λ n. conflicts_by c.args.access c.args.sharing (get by_object c.args.shares.now (c.args.object, n)) in
+    let p : ℕ → Bool = λ n. conflicts_by c.args.access.0 c.args.sharing.0 (get by_object c.args.shares.now (c.args.object, n)) in
     let between = c.range-handle-items.ensures.between (search rules)
     ∙ (λ k. entries_between by_object (Included (c.new.ensures.start k)) (Included (c.new.ensures.end k)) c.args.set.now.entries) in
     let found : find (λ row. p row.0.1) c.loop-handle.handle-iterator ≡ Some (c.in-Some.field-0-0.now, c.in-Some.field-0-1.now) =
@@ -27,7 +27,7 @@ returns-then-conflicts_at c =
 -- src/sets.rt:86:1
 pub returns : goal.returns
 returns c =
-    let p : ℕ → Bool = λ n. conflicts_by c.args.access c.args.sharing (get by_object c.args.shares.now (c.args.object, n)) in
+    let p : ℕ → Bool = λ n. conflicts_by c.args.access.0 c.args.sharing.0 (get by_object c.args.shares.now (c.args.object, n)) in
     let between = c.range-handle-items.ensures.between (search rules)
     ∙ (λ k. entries_between by_object (Included (c.new.ensures.start k)) (Included (c.new.ensures.end k)) c.args.set.now.entries) in
     let found : find (λ row. p row.0.1) c.loop-handle.handle-iterator ≡ None =

@@ -7,5 +7,5 @@ use Rattle.sb_handles.proofs.sets.first_in.Given as goal
 
 abbrev pub invariant-loop-handle : goal.invariant-loop-handle
 invariant-loop-handle l =
-    find (λ row. conflicts_by l.access l.sharing (get by_object l.shares (l.object, row.0.1))) l.handle-iterator
-    ≡ find (λ row. conflicts_by l.access l.sharing (get by_object l.shares (l.object, row.0.1))) l.initial.handle-iterator
+    find (λ row. conflicts_by l.access.0 l.sharing.0 (get by_object l.shares (l.object, row.0.1))) l.handle-iterator
+    ≡ find (λ row. conflicts_by l.access.0 l.sharing.0 (get by_object l.shares (l.object, row.0.1))) l.initial.handle-iterator

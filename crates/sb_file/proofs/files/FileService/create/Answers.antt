@@ -9,22 +9,22 @@ use Rattle.sb_file.proofs.files.FileService.create.Goals as goal
 
 pub create_there-requires-clause-low : goal.create_there-requires-clause-low
 create_there-requires-clause-low c =
-    let inside : Files = record { names = rows_of c.self.inside.names; objects = c.self.inside.objects.items; shares = c.self.inside.shares } in
+    let inside : Files = record { names = rows_of c.self.inside.names.nodes; objects = c.self.inside.objects.items; shares = c.self.inside.shares } in
     (found_made inside c.args.name.now c.in-There.object c.self.invariant c.in-There.ensures.2).0
 
 pub create_there-requires-clause-high : goal.create_there-requires-clause-high
 create_there-requires-clause-high c =
-    let inside : Files = record { names = rows_of c.self.inside.names; objects = c.self.inside.objects.items; shares = c.self.inside.shares } in
+    let inside : Files = record { names = rows_of c.self.inside.names.nodes; objects = c.self.inside.objects.items; shares = c.self.inside.shares } in
     subst (λ files. c.in-There.object ≤ length files.objects) c.self.view_is
     (found_made inside c.args.name.now c.in-There.object c.self.invariant c.in-There.ensures.2).1
 
 pub invariant_of-self-in-Absent-2 : goal.invariant_of-self-in-Absent-2
 invariant_of-self-in-Absent-2 c =
-    let inside : Files = record { names = rows_of c.self.inside.names; objects = c.self.inside.objects.items; shares = c.self.inside.shares } in
-    let more : Files = record inside { names = rows_of c.create_new.new.names; objects = c.create_new.new.objects.items } in
+    let inside : Files = record { names = rows_of c.self.inside.names.nodes; objects = c.self.inside.objects.items; shares = c.self.inside.shares } in
+    let more : Files = record inside { names = rows_of c.create_new.new.names.nodes; objects = c.create_new.new.objects.items } in
     let parent = subst (λ objects. has_parent (record inside { objects = objects }) c.args.name.now ≡ true) c.deref.ensures.value (c.in-Absent-2.ensures.0 c.self.inside.shares) in
     let done = c.in_ok-handle-in-Absent-2.ensures in
-    let made = files_with_object c.numbers_are_kept.ensures.puts c.parents_are_kept.ensures.puts inside (rows_of c.create_new.new.names) c.create_new.new.objects.items
+    let made = files_with_object c.numbers_are_kept.ensures.puts c.parents_are_kept.ensures.puts inside (rows_of c.create_new.new.names.nodes) c.create_new.new.objects.items
     c.args.name.now (object_asked c.args.request) parent (ap is_some c.in-Absent-2.ensures.2) done.names done.objects c.self.invariant in
     let count : length c.create_new.new.objects.items ≡ length c.self.inside.objects.items + 1 =
     ap length done.objects ∙ length-append c.self.inside.objects.items (object_asked c.args.request ∷ []) in

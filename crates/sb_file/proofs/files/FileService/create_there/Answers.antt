@@ -7,7 +7,7 @@ use Rattle.sb_file.proofs.files.FileService.create_there.Goals as goal
 -- src/creation.rt:235:13
 pub invariant_of-self-then-disposition-eq-OPEN_EXISTING : goal.invariant_of-self-then-disposition-eq-OPEN_EXISTING
 invariant_of-self-then-disposition-eq-OPEN_EXISTING c =
-    let inside : Files = record { names = rows_of c.self.inside.names; objects = c.self.inside.objects.items; shares = c.self.inside.shares } in
+    let inside : Files = record { names = rows_of c.self.inside.names.nodes; objects = c.self.inside.objects.items; shares = c.self.inside.shares } in
     let high = subst (λ files. c.args.number ≤ length files.objects) (sym c.self.view_is) c.requires.high in
     files_opened_by inside c.open.new.shares c.args.number (c.args.handles.now.table.granted + 1) c.args.request c.on_file-held.result
     c.on_file-held.ensures c.in-Ok.ensures.shares c.requires.low high c.self.invariant
@@ -15,7 +15,7 @@ invariant_of-self-then-disposition-eq-OPEN_EXISTING c =
 -- src/creation.rt:239:13
 pub invariant_of-self-then-disposition-eq-SUPERSEDE : goal.invariant_of-self-then-disposition-eq-SUPERSEDE
 invariant_of-self-then-disposition-eq-SUPERSEDE c =
-    let inside : Files = record { names = rows_of c.self.inside.names; objects = c.self.inside.objects.items; shares = c.self.inside.shares } in
+    let inside : Files = record { names = rows_of c.self.inside.names.nodes; objects = c.self.inside.objects.items; shares = c.self.inside.shares } in
     let high = subst (λ files. c.args.number ≤ length files.objects) (sym c.self.view_is) c.requires.high in
     let in_use = files_opened_by inside c.open.new.shares c.args.number (c.args.handles.now.table.granted + 1) c.args.request c.on_file-held.result
     c.on_file-held.ensures c.in-Ok.ensures.shares c.requires.low high c.self.invariant in
@@ -24,7 +24,7 @@ invariant_of-self-then-disposition-eq-SUPERSEDE c =
 -- src/creation.rt:200:5
 pub invariant_of-self-2 : goal.invariant_of-self-2
 invariant_of-self-2 c =
-    let inside : Files = record { names = rows_of c.self.inside.names; objects = c.self.inside.objects.items; shares = c.self.inside.shares } in
+    let inside : Files = record { names = rows_of c.self.inside.names.nodes; objects = c.self.inside.objects.items; shares = c.self.inside.shares } in
     let high = subst (λ files. c.args.number ≤ length files.objects) (sym c.self.view_is) c.requires.high in
     let in_use = files_opened_by inside c.open.new.shares c.args.number (c.args.handles.now.table.granted + 1) c.args.request c.on_file-held.result
     c.on_file-held.ensures c.in-Ok.ensures.shares c.requires.low high c.self.invariant in

@@ -8,10 +8,10 @@ use Rattle.sb_handles.proofs.sets.Sets.lowest_conflict.Goals as goal
 
 pub returns : goal.returns
 returns c =
-    let p : ℕ → Bool = λ n. conflicts_by c.args.access c.args.sharing (get by_object c.args.shares.now (c.args.object, n)) in
+    let p : ℕ → Bool = λ n. conflicts_by c.args.access.0 c.args.sharing.0 (get by_object c.args.shares.now (c.args.object, n)) in
     subst (IsLowest p) (sym c.lower.ensures)
     (lowest_alike _ p _
-    (λ n. listed_exactly c.args.self.now (c.args.object, n) c.args.access c.args.sharing (get by_object c.args.shares.now (c.args.object, n))
+    (λ n. listed_exactly c.args.self.now (c.args.object, n) c.args.access.0 c.args.sharing.0 (get by_object c.args.shares.now (c.args.object, n))
     (λ share e. c.requires.listed (c.args.object, n) share e))
-    (lowest_of_two (λ n. is_unshared c.args.self.now (c.args.object, n) c.args.access (p n)) (λ n. is_exceeding c.args.self.now (c.args.object, n) c.args.sharing (p n))
+    (lowest_of_two (λ n. is_unshared c.args.self.now (c.args.object, n) c.args.access.0 (p n)) (λ n. is_exceeding c.args.self.now (c.args.object, n) c.args.sharing.0 (p n))
     c.lowest_unshared.result c.lowest_exceeding.result c.lowest_unshared.ensures c.lowest_exceeding.ensures))

@@ -8,10 +8,10 @@ use Rattle.sb_handles.proofs.sets.Sets.lowest_exceeding.Goals as goal
 
 pub returns : goal.returns
 returns c =
-    let p : ℕ → Bool = λ n. conflicts_by c.args.access c.args.sharing (get by_object c.args.shares.now (c.args.object, n)) in
-    let read = subst (λ a. IsLowest (λ n. is_met (not a) (get by_object c.args.self.now.reading (c.args.object, n)) (p n)) c.first_in-read.result) c.meets.ensures c.first_in-read.ensures in
-    let written = subst (λ a. IsLowest (λ n. is_met (not a) (get by_object c.args.self.now.writing (c.args.object, n)) (p n)) c.first_in-written.result) c.meets-2.ensures c.first_in-written.ensures in
-    let deleted = subst (λ a. IsLowest (λ n. is_met (not a) (get by_object c.args.self.now.deleting (c.args.object, n)) (p n)) c.first_in-deleted.result) c.meets-3.ensures c.first_in-deleted.ensures in
+    let p : ℕ → Bool = λ n. conflicts_by c.args.access.0 c.args.sharing.0 (get by_object c.args.shares.now (c.args.object, n)) in
+    let read = subst (λ a. IsLowest (λ n. is_met (not a) (get by_object c.args.self.now.reading (c.args.object, n)) (p n)) c.first_in-read.result) (c.intersects.ensures tt) c.first_in-read.ensures in
+    let written = subst (λ a. IsLowest (λ n. is_met (not a) (get by_object c.args.self.now.writing (c.args.object, n)) (p n)) c.first_in-written.result) (c.intersects-2.ensures tt) c.first_in-written.ensures in
+    let deleted = subst (λ a. IsLowest (λ n. is_met (not a) (get by_object c.args.self.now.deleting (c.args.object, n)) (p n)) c.first_in-deleted.result) (c.intersects-3.ensures tt) c.first_in-deleted.ensures in
     subst (IsLowest _) (sym (c.lower-2.ensures ∙ ap (lower_of c.first_in-read.result) c.lower.ensures))
     (lowest_of_two _ _ c.first_in-read.result (lower_of c.first_in-written.result c.first_in-deleted.result) read
     (lowest_of_two _ _ c.first_in-written.result c.first_in-deleted.result written deleted))

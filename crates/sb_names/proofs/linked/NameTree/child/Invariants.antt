@@ -6,5 +6,5 @@ use Rattle.sb_names.proofs.linked.NameTree.child.Given as goal
 
 abbrev pub invariant-loop-number : goal.invariant-loop-number
 invariant-loop-number l =
-    find (λ row. is_child l.self (number_of l.directory) (key_of l.part) row.0.1) l.number-iterator
-    ≡ find (λ row. is_child l.self (number_of l.directory) (key_of l.part) row.0.1) l.initial.number-iterator
+    find (λ row. is_child l.self.nodes (number_of l.directory) (key_of l.part) row.0.1) l.number-iterator
+    ≡ find (λ row. is_child l.self.nodes (number_of l.directory) (key_of l.part) row.0.1) l.initial.number-iterator

@@ -6,8 +6,8 @@ use Rattle.sb_names.proofs.linked.NameTree.directory.Given as goal
 -- the directory so far stands at what was read of the path
 abbrev pub invariant-loop-later : goal.invariant-loop-later
 invariant-loop-later l =
-    (key_of l.path ≡ name_of l.self (number_of l.here) ++ key_of l.rest)
-    × IsAt l.self (number_of l.here) (name_of l.self (number_of l.here)) × (is_path l.rest ≡ true)
+    (key_of l.path ≡ name_of l.self.nodes (number_of l.here) ++ key_of l.rest)
+    × IsAt l.self.nodes (number_of l.here) (name_of l.self.nodes (number_of l.here)) × (is_path l.rest ≡ true)
 
 abbrev pub decreases-loop-later : goal.decreases-loop-later
 decreases-loop-later l = length l.rest

@@ -1,4 +1,4 @@
-use Rattle.std.proofs.Common.{◌≡◌, ◌++◌, ◌∷◌, sym, subst, refl, map}
+use Rattle.std.proofs.Common.{◌≡◌, ◌++◌, ◌∷◌, ap, sym, subst, refl, map}
 use Rattle.std.specs.Prelude.{Some}
 use Rattle.std.specs.BTreeMap.{get}
 use Rattle.sb_arena.specs.Forests.{HasLiveLinks, IsLive, IsShallow}
@@ -19,10 +19,10 @@ invariant_of-self-2 c =
     let f = c.self.inside.nodes in
     let a = c.args.node.0 in
     let d = number_of c.args.directory in
-    let absent = subst (λ g. HasNoChild g d (key_of c.args.part.now)) (sym c.self.view_is) c.requires.absent in
-    let live = subst (λ g. IsLive g a) (sym c.self.view_is) c.requires.live in (
-      put_names f c.move_node.new.nodes a _ d c.args.part.now c.move_node.ensures c.in_ok-wide_of.ensures c.self.invariant.0 c.requires.part absent,
-      move_index f c.move_node.new.nodes a _ d c.args.part.now c.move_node.ensures c.in_ok-wide_of.ensures live (get by_pair c.self.inside.index)
+    let absent = subst (λ g. HasNoChild g d (key_of c.args.part.now)) (sym (ap (λ t. t.nodes) c.self.view_is)) c.requires.absent in
+    let live = subst (λ g. IsLive g a) (sym (ap (λ t. t.nodes) c.self.view_is)) c.requires.live in (
+      put_names f c.move_node.new.nodes a _ d c.args.part.now c.move_node.ensures c.in_ok-from_units.ensures c.self.invariant.0 c.requires.part absent,
+      move_index f c.move_node.new.nodes a _ d c.args.part.now c.move_node.ensures c.in_ok-from_units.ensures live (get by_pair c.self.inside.index)
           (get by_pair c.reindex.new.index) c.hash_of-hash.result c.self.invariant.1 c.hash_of-hash.ensures c.in_ok-reindex.ensures.here
           c.in_ok-reindex.ensures.others,
     )
@@ -34,14 +34,14 @@ returns-clause-rows c =
     let a = c.args.node.0 in
     let d = number_of c.args.directory in
     let part = c.args.part.now in
-    let absent = subst (λ g. HasNoChild g d (key_of part)) (sym c.self.view_is) c.requires.absent in
-    let live = subst (λ g. IsLive g a) (sym c.self.view_is) c.requires.live in
-    let apart = subst (λ g. IsApart g a d) (sym c.self.view_is) c.requires.apart in
-    let shallow = subst (λ g. IsShallow g.rows) (sym c.self.view_is) c.establish_names.ensures.shallow in
-    let links = subst (λ g. HasLiveLinks g) (sym c.self.view_is) c.establish_names.ensures.live in
-    let names' = put_names f f' a _ d part c.move_node.ensures c.in_ok-wide_of.ensures c.self.invariant.0 c.requires.part absent in
-    subst (λ g. rows_of f' ≡ collected (map (λ row. (renamed_key (name_of g (Some a)) (name_of g d ++ 92 ∷ key_of part) row.0, row.1)) (rows_of g))) c.self.view_is
-    (move_rows f f' a _ d part c.move_node.ensures c.in_ok-wide_of.ensures live c.self.invariant.0 names' shallow c.establish_forest.ensures.shallow links
+    let absent = subst (λ g. HasNoChild g d (key_of part)) (sym (ap (λ t. t.nodes) c.self.view_is)) c.requires.absent in
+    let live = subst (λ g. IsLive g a) (sym (ap (λ t. t.nodes) c.self.view_is)) c.requires.live in
+    let apart = subst (λ g. IsApart g a d) (sym (ap (λ t. t.nodes) c.self.view_is)) c.requires.apart in
+    let shallow = subst (λ g. IsShallow g.rows) (sym (ap (λ t. t.nodes) c.self.view_is)) c.establish_names.ensures.shallow in
+    let links = subst (λ g. HasLiveLinks g) (sym (ap (λ t. t.nodes) c.self.view_is)) c.establish_names.ensures.live in
+    let names' = put_names f f' a _ d part c.move_node.ensures c.in_ok-from_units.ensures c.self.invariant.0 c.requires.part absent in
+    subst (λ g. rows_of f' ≡ collected (map (λ row. (renamed_key (name_of g (Some a)) (name_of g d ++ 92 ∷ key_of part) row.0, row.1)) (rows_of g))) (ap (λ t. t.nodes) c.self.view_is)
+    (move_rows f f' a _ d part c.move_node.ensures c.in_ok-from_units.ensures live c.self.invariant.0 names' shallow c.establish_forest.ensures.shallow links
     c.establish_forest.ensures.live apart c.value.result.now c.value.ensures refl)
 
 pub returns-clause-kept : goal.returns-clause-kept
@@ -51,12 +51,12 @@ returns-clause-kept c =
     let a = c.args.node.0 in
     let d = number_of c.args.directory in
     let part = c.args.part.now in
-    let absent = subst (λ g. HasNoChild g d (key_of part)) (sym c.self.view_is) c.requires.absent in
-    let live = subst (λ g. IsLive g a) (sym c.self.view_is) c.requires.live in
-    let apart = subst (λ g. IsApart g a d) (sym c.self.view_is) c.requires.apart in
-    let shallow = subst (λ g. IsShallow g.rows) (sym c.self.view_is) c.establish_names.ensures.shallow in
-    let links = subst (λ g. HasLiveLinks g) (sym c.self.view_is) c.establish_names.ensures.live in
-    let names' = put_names f f' a _ d part c.move_node.ensures c.in_ok-wide_of.ensures c.self.invariant.0 c.requires.part absent in
-    subst (λ g. KeepsRows g f' (name_of g (Some a)) (name_of g d ++ 92 ∷ key_of part)) c.self.view_is
-    (move_keeps f f' a _ d part c.move_node.ensures c.in_ok-wide_of.ensures live c.self.invariant.0 names' shallow c.establish_forest.ensures.shallow links
+    let absent = subst (λ g. HasNoChild g d (key_of part)) (sym (ap (λ t. t.nodes) c.self.view_is)) c.requires.absent in
+    let live = subst (λ g. IsLive g a) (sym (ap (λ t. t.nodes) c.self.view_is)) c.requires.live in
+    let apart = subst (λ g. IsApart g a d) (sym (ap (λ t. t.nodes) c.self.view_is)) c.requires.apart in
+    let shallow = subst (λ g. IsShallow g.rows) (sym (ap (λ t. t.nodes) c.self.view_is)) c.establish_names.ensures.shallow in
+    let links = subst (λ g. HasLiveLinks g) (sym (ap (λ t. t.nodes) c.self.view_is)) c.establish_names.ensures.live in
+    let names' = put_names f f' a _ d part c.move_node.ensures c.in_ok-from_units.ensures c.self.invariant.0 c.requires.part absent in
+    subst (λ g. KeepsRows g f' (name_of g (Some a)) (name_of g d ++ 92 ∷ key_of part)) (ap (λ t. t.nodes) c.self.view_is)
+    (move_keeps f f' a _ d part c.move_node.ensures c.in_ok-from_units.ensures live c.self.invariant.0 names' shallow c.establish_forest.ensures.shallow links
     c.establish_forest.ensures.live apart)

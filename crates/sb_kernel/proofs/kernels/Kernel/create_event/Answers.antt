@@ -1,0 +1,10 @@
+use Rattle.sb_handles.specs.Tables.{IsTable}
+use Rattle.sb_kernel.proofs.Kept.{event_created}
+use Rattle.sb_kernel.specs.Namespaces.{Space}
+use Rattle.sb_kernel.proofs.kernels.Kernel.create_event.Goals as goal
+
+pub invariant_of-self-2 : goal.invariant_of-self-2
+invariant_of-self-2 c =
+    let ns : Space = record { files = c.self.inside.files; pipes = c.self.inside.pipes; keys = c.self.inside.keys; events = c.self.inside.events; handles = c.self.inside.handles.table } in
+    let table : IsTable ns.handles = rw (← c.self.view_is) at c.bounds.ensures.table in
+    event_created c.bounds.ensures.other_files c.bounds.ensures.other_pipes ns c.self.invariant table c.events_are_granted.ensures.creates c.events_are_granted.ensures.refused_creates c.events_are_granted.ensures.stay c.args.target c.args.name.now c.args.kind c.args.initial c.create.new.self c.create.new.handles.table c.in_ok-answer.ensures.effect.1 c.in_ok-answer.ensures.effect.2
