@@ -1,4 +1,4 @@
--- The clean marks of the first channels.
+-- Which of the first channels are clean.
 use Rattle.std.proofs.Common.{arith, ◌≡◌, refl, ℕ, zero, suc, ◌+◌, [], ◌∷◌, ◌++◌, length, length-append}
 use native.Mathlib.Numerals.{unary_clauses}
 use Rattle.sb_statements.specs.Scripts.{is_clean}

@@ -1,12 +1,12 @@
 -- A thread gives up no clean channel.
 use Rattle.std.proofs.Common.{◌≡◌, refl, ℕ, zero, suc, ◌+◌, Bool, true, false, cond, eqb, ◌&&◌, List, [], ◌∷◌, ◌++◌, length, get_or, Option, None, Some}
 use Rattle.sb_actor.specs.Acts.{value_in}
-use Rattle.sb_actor.specs.Places.{statement_at, first_stage, begun}
+use Rattle.sb_actor.specs.Places.{statement_at, first_stage, thread_start}
 use Rattle.sb_actor.specs.ThreadFollowing.{GivesUp, GivingUpIsKept}
 use Rattle.sb_actor.specs.ThreadStages.{ThreadStage, ThreadAt}
 use Rattle.sb_actor.specs.ThreadStages as stage
 use Rattle.sb_actor.specs.ThreadTable.{ThreadNext, thread_row, stray_row, goes_on, ends, after_round, after_fill, after_wait, after_fetch, is_clean_at, has_clean}
-use Rattle.sb_actor.specs.declared.acts.Seen.{Seen}
+use Rattle.sb_actor.specs.declared.acts.Observed.{Observed}
 use Rattle.sb_statements.specs.declared.results.CallResult.TheVariants as result
 use Rattle.sb_statements.specs.declared.results.StmtResult.{StmtResult}
 use Rattle.sb_statements.specs.declared.results.StmtResult.TheVariants as ended
@@ -39,9 +39,9 @@ module _ (script : Script) (x : ThreadAt) where
   either true p q h k = h
   either false p q h k = k
 
-  round : (rounds : ℕ) (fives : Bool) → Kept (after_round script x rounds fives)
-  round rounds fives =
-      either fives (ends script x (ended.Call result.NoChannel)) _ (over (ended.Call result.NoChannel))
+  round : (rounds : ℕ) (all_abandoned : Bool) → Kept (after_round script x rounds all_abandoned)
+  round rounds all_abandoned =
+      either all_abandoned (ends script x (ended.Call result.NoChannel)) _ (over (ended.Call result.NoChannel))
       (either (has_clean x.clean) (goes_on x (stage.Try 0 rounds true)) _ tt
       (either (eqb (rounds + 1) x.patience) (ends script x (ended.Call result.NoChannel)) (goes_on x (stage.Try 0 (rounds + 1) true)) (over (ended.Call result.NoChannel)) tt))
 
@@ -68,7 +68,7 @@ module _ (script : Script) (x : ThreadAt) where
       by_test true = tt
       by_test false = tt
 
-  stray : (loads most : ℕ) (o : Option Statement) (seen : Seen) → GivesUp x.clean x.stage → Kept ((stray_row script x loads most o).next seen)
+  stray : (loads most : ℕ) (o : Option Statement) (seen : Observed) → GivesUp x.clean x.stage → Kept ((stray_row script x loads most o).next seen)
   stray loads most (Some (statement.Call tag args)) seen h = h
   stray loads most (Some (statement.Store t w y)) seen h = over ended.Stored
   stray loads most (Some (statement.Exchange t w from to)) seen h = over (ended.Found (value_in seen))
@@ -78,11 +78,11 @@ module _ (script : Script) (x : ThreadAt) where
       (either (eqb (loads + 1) most) (ends script x (ended.Unmet most)) (goes_on x (stage.Stray (loads + 1) most)) (over (ended.Unmet most)) tt)
   stray loads most None seen h = h
 
-  kept : (s : ThreadStage) (seen : Seen) → GivesUp x.clean x.stage → Kept ((thread_row script x s).next seen)
-  kept (stage.Try c rounds fives) seen h =
+  kept : (s : ThreadStage) (seen : Observed) → GivesUp x.clean x.stage → Kept ((thread_row script x s).next seen)
+  kept (stage.Try c rounds all_abandoned) seen h =
       either (eqb (value_in seen) 1) (goes_on x (stage.Fill c 0)) _ tt
-      (either (eqb (c + 1) (length x.clean)) (after_round script x rounds (fives && eqb (value_in seen) 5)) (goes_on x (stage.Try (c + 1) rounds (fives && eqb (value_in seen) 5)))
-      (round rounds (fives && eqb (value_in seen) 5)) tt)
+      (either (eqb (c + 1) (length x.clean)) (after_round script x rounds (all_abandoned && eqb (value_in seen) 5)) (goes_on x (stage.Try (c + 1) rounds (all_abandoned && eqb (value_in seen) 5)))
+      (round rounds (all_abandoned && eqb (value_in seen) 5)) tt)
   kept (stage.Fill c i) seen h = filled c i
   kept (stage.Send c) seen h = either (eqb (value_in seen) 2) (goes_on x (stage.Wait c 0)) (ends script x (ended.Call (result.SendLost c (value_in seen)))) tt (over (ended.Call (result.SendLost c (value_in seen))))
   kept (stage.Wait c loads) seen h = waited c loads (value_in seen)
@@ -94,6 +94,6 @@ module _ (script : Script) (x : ThreadAt) where
 
 pub giving_up_is_kept : GivingUpIsKept
 giving_up_is_kept = (
-  λ script target thread. starts_so (begun script target thread).clean (statement_at script target thread 0),
+  λ script target thread. starts_so (thread_start script target thread).clean (statement_at script target thread 0),
   λ script x seen h. kept script x x.stage seen h,
 )

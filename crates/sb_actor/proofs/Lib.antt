@@ -1,6 +1,13 @@
+pub mod Begins
 pub mod Blocks
+pub mod CallCauses
+pub mod CallEnds
+pub mod CauseLists
+pub mod Caused
 pub mod Channels
+pub mod Finding
 pub mod GivingUp
+pub mod Holders
 pub mod Lists
 pub mod Parts
 pub mod Replies
@@ -12,5 +19,6 @@ pub mod Thread
 pub mod ThreadSteps
 pub mod ThreadTies
 pub mod Ties
+pub mod WaitCauses
 pub mod Worker
 pub mod WorkerSteps

@@ -43,11 +43,11 @@ module _ (clean : List Bool) (mids : ℕ → Mid) (served : List Served) where
       λ d at cl e. not_other k u.number (mids c) (was (subst (λ x. is_clean clean x ≡ true) e cl)) (agrees_owner u.number d u.place (mids c) at (subst (λ x. Agrees u.number u.place (mids x)) e (h.agrees d at cl))) ne in
       record {
         number = h.number;
-        marks = h.marks;
+        its_clean = h.its_clean;
         agrees = λ d at cl. subst (Agrees u.number u.place) (sym (upd_else mids c m d (elsewhere d at cl))) (h.agrees d at cl);
         only = λ d cl o. only_at d cl o (ℕ_discrete d c);
         calls = h.calls ∙ ap (λ l. map as_served (u.had ++ l)) (sym (waiting_at clean mids c m (place u.place) elsewhere));
-        fives = h.fives;
+        all_abandoned = h.all_abandoned;
         bears = h.bears;
       }
     where

@@ -40,7 +40,7 @@ one_of_all p (y ∷ ys) zero x h e =
 one_of_all p (y ∷ ys) (suc i) x h e = one_of_all p ys i x (and_parts (p y) (list_all p ys) h).1 e
 
 -- an element that is there has a place before the end
-within : {X : Type 0} (xs : List X) (i : ℕ) (x : X) → slice_get xs i ≡ Some x → i < length xs
+pub within : {X : Type 0} (xs : List X) (i : ℕ) (x : X) → slice_get xs i ≡ Some x → i < length xs
 within [] i x e = absurd (cc)
 within (y ∷ ys) zero x e = omega arith
 within (y ∷ ys) (suc i) x e = let l = within ys i x e in omega arith

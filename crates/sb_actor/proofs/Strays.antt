@@ -1,4 +1,4 @@
--- A step by hand keeps the rule: it stores into no clean channel.
+-- A direct step keeps the rule: it stores into no clean channel.
 use Rattle.std.proofs.Common.{◌≡◌, ℕ, Bool, true, List, length-set, set, get_or, sym, subst, refl, ap, ◌∙◌}
 use Rattle.std.proofs.lemmas.List.{set-get_or}
 use Rattle.sb_actor.specs.Moves.{is_clean, Deed, met, wrote, StrayMay, IsUnclean, stray_store, stray_exchange, stray_load, stray_wait}

@@ -57,7 +57,7 @@ module _ (clean : List Bool) (words : List ℕ) (worker : WorkerView) (threads :
         lasts = λ x cl. last_at x cl (ℕ_discrete x c);
         fits_worker =
             record {
-              marks = r.fits_worker.marks;
+              its_clean = r.fits_worker.its_clean;
               owners = λ x q cl o. let l = owner_at x q cl o (ℕ_discrete x c) in subst (λ z. q < z) (sym (length-set threads i v')) l;
               bearers = λ q l. r.fits_worker.bearers q (subst (λ z. z ≤ q) (length-set threads i v') l);
               borne = λ z x e cl. let b = r.fits_worker.borne z x e cl in (b.0, subst (λ y. b.0 < y) (sym (length-set threads i v')) b.1, b.2);
@@ -128,12 +128,12 @@ module _ (clean : List Bool) (words : List ℕ) (worker : WorkerView) (threads :
     no_call_fits : (p : ThreadPlace) → Old p → ((c : ℕ) → place p ≡ some c → is_clean clean c ≡ false) → FitsThread clean r.mids worker.served i (tv k clean no_call (h ++ []))
     no_call_fits p o unclean =
         record {
-          marks = o.marks;
+          its_clean = o.its_clean;
           number = o.number;
           agrees = λ c e cl. absurd (some-ne-none c (sym e));
           only = λ c cl own. absurd (off (sym (unclean c (o.only c cl own)) ∙ cl));
           calls = o.calls ∙ ap (map as_served) (ap (λ l. h ++ l) (nothing (place p) unclean) ∙ sym (append-nil (h ++ [])));
-          fives = λ _ c l. absurd (omega arith);
+          all_abandoned = λ _ c l. absurd (omega arith);
           bears = tt;
         }
       where
@@ -151,12 +151,12 @@ module _ (clean : List Bool) (words : List ℕ) (worker : WorkerView) (threads :
         (λ cl. (refl, (was cl).1, omega arith, λ q l. absurd (omega arith)))
         tt
         record {
-          marks = o.marks;
+          its_clean = o.its_clean;
           number = o.number;
           agrees = λ x q cl. upd_here r.mids c (filling k []) x (sym (some-injective c x q));
           only = λ x cl own. at_it o x cl own (ℕ_discrete x c);
           calls = o.calls ∙ ap (map as_served) (ap (λ l. h ++ l) (sym (nobody (is_clean clean c))) ∙ ap (λ l. l ++ cond (is_clean clean c) (served_at c (upd r.mids c (filling k []) c)) []) (sym (append-nil h)));
-          fives = tt;
+          all_abandoned = tt;
           bears = tt;
         }
       where
@@ -182,7 +182,7 @@ module _ (clean : List Bool) (words : List ℕ) (worker : WorkerView) (threads :
             found = grind (arith, nat_tests)
 
             by_place : Dec (d ≡ c) → is_clean clean d ≡ false
-            by_place (no ne) = o.fives first d (omega arith)
+            by_place (no ne) = o.all_abandoned first d (omega arith)
             by_place (yes q) = subst (λ x. is_clean clean x ≡ false) (sym q) (by_clean (is_clean clean c) refl)
               where
                 by_clean : (b : Bool) → is_clean clean c ≡ b → is_clean clean c ≡ false
@@ -192,12 +192,12 @@ module _ (clean : List Bool) (words : List ℕ) (worker : WorkerView) (threads :
         by_last : Old (Try c f) → (b : Bool) → FitsThread clean r.mids worker.served i (tv k clean (cond b (Try (c + 1) (f && eqb (get_or words w 0) 5)) no_call) (h ++ []))
         by_last o true =
             record {
-              marks = o.marks;
+              its_clean = o.its_clean;
               number = o.number;
               agrees = λ x q cl. absurd (some-ne-none x (sym q));
               only = λ x cl own. absurd (some-ne-none x (sym (o.only x cl own)));
               calls = o.calls ∙ ap (map as_served) (sym (append-nil (h ++ [])));
-              fives = λ both d l. five o both d l;
+              all_abandoned = λ both d l. five o both d l;
               bears = tt;
             }
         by_last o false = no_call_fits (Try c f) o (λ x q. absurd (some-ne-none x (sym q)))
@@ -232,12 +232,12 @@ module _ (clean : List Bool) (words : List ℕ) (worker : WorkerView) (threads :
         (λ cl. let ch = old_chan cl in (put_else (1 + length ws) x (row words c) 0 ne ∙ ch.0, ch.1, more, stands_more ws x 1 (row words c) ch.3))
         tt
         record {
-          marks = o.marks;
+          its_clean = o.its_clean;
           number = o.number;
           agrees = λ y q cl. upd_here r.mids c m y (sym (some-injective c y q));
           only = keeps_place c (Fill c ws) m refl o;
           calls = same_calls _ _ _ o.calls (wait_nil r.mids c (λ cl. ap (served_at c) (o.agrees c refl cl)) ∙ sym (wait_nil (upd r.mids c m) c (λ cl. ap (served_at c) (upd_here r.mids c m c refl))));
-          fives = tt;
+          all_abandoned = tt;
           bears = tt;
         }
 
@@ -251,12 +251,12 @@ module _ (clean : List Bool) (words : List ℕ) (worker : WorkerView) (threads :
         (λ cl. let ch = old_chan cl in (refl, block, subst (Reads ws (put 0 3 (row words c))) (sym ch.1) (stands_else ws (length ws) 1 (row words c) 0 3 (omega arith) ch.3)))
         tt
         record {
-          marks = o.marks;
+          its_clean = o.its_clean;
           number = o.number;
           agrees = λ y q cl. inl (upd_here r.mids c m y (sym (some-injective c y q)));
           only = keeps_place c (Fill c ws) m refl o;
           calls = same_calls _ _ _ o.calls (wait_nil r.mids c (λ cl. ap (served_at c) (o.agrees c refl cl)) ∙ sym (wait_nil (upd r.mids c m) c (λ cl. ap (served_at c) (upd_here r.mids c m c refl))));
-          fives = tt;
+          all_abandoned = tt;
           bears = block;
         }
     send_step c ws at_i lc is block false e =
@@ -277,12 +277,12 @@ module _ (clean : List Bool) (words : List ℕ) (worker : WorkerView) (threads :
         let four : get_or words w 0 ≡ 4 = was_true (get_or words w 0) 4 e in
         thread_look (tv k clean (Wait c b) h) (thread_result (tv k clean (Wait c b) h) wait true (get_or words w 0)) wait true at_i (word_inside c 0 lc is (omega arith)) refl
         record {
-          marks = o.marks;
+          its_clean = o.its_clean;
           number = o.number;
           agrees = λ y q cl. subst (λ x. Agrees k (Fetch c b []) (r.mids x)) (some-injective c y q) (acked_at four (subst (λ x. is_clean clean x ≡ true) (sym (some-injective c y q)) cl) (o.agrees c refl (subst (λ x. is_clean clean x ≡ true) (sym (some-injective c y q)) cl)));
           only = o.only;
           calls = same_calls _ _ _ o.calls refl;
-          fives = tt;
+          all_abandoned = tt;
           bears = o.bears;
         }
       where
@@ -295,7 +295,7 @@ module _ (clean : List Bool) (words : List ℕ) (worker : WorkerView) (threads :
     wait_step c b at_i lc is false e =
         let o : Old (Wait c b) = r.fits i (tv k clean (Wait c b) h) at_i in
         thread_look (tv k clean (Wait c b) h) (thread_result (tv k clean (Wait c b) h) wait false (get_or words w 0)) wait false at_i (word_inside c 0 lc is (omega arith)) refl
-        record { marks = o.marks; number = o.number; agrees = o.agrees; only = o.only; calls = same_calls _ _ _ o.calls refl; fives = tt; bears = o.bears }
+        record { its_clean = o.its_clean; number = o.number; agrees = o.agrees; only = o.only; calls = same_calls _ _ _ o.calls refl; all_abandoned = tt; bears = o.bears }
 
     fetch_step : (c : ℕ) (b ws : List ℕ) → get_elem? threads i ≡ some (tv k clean (Fetch c b ws) h) → c < length clean → w ≡ at c (4 + length ws) → length ws < 12 → After (Fetch c b ws) fetch true
     fetch_step c b ws at_i lc is l2 =
@@ -303,12 +303,12 @@ module _ (clean : List Bool) (words : List ℕ) (worker : WorkerView) (threads :
         let lj : 4 + length ws < 65 = omega arith in
         thread_look (tv k clean (Fetch c b ws) h) (thread_result (tv k clean (Fetch c b ws) h) fetch true (get_or words w 0)) fetch true at_i (word_inside c (4 + length ws) lc is lj) refl
         record {
-          marks = o.marks;
+          its_clean = o.its_clean;
           number = o.number;
           agrees = λ y q cl. subst (λ x. Agrees k (Fetch c b (ws ++ get_or words w 0 ∷ [])) (r.mids x)) (some-injective c y q) (more lj (subst (λ x. is_clean clean x ≡ true) (sym (some-injective c y q)) cl) (o.agrees c refl (subst (λ x. is_clean clean x ≡ true) (sym (some-injective c y q)) cl)));
           only = o.only;
           calls = same_calls _ _ _ o.calls refl;
-          fives = tt;
+          all_abandoned = tt;
           bears = o.bears;
         }
       where
@@ -329,12 +329,12 @@ module _ (clean : List Bool) (words : List ℕ) (worker : WorkerView) (threads :
         (λ cl. (refl, (subst (λ (y : Mid). Chan y (sees c worker) (row words c)) (o.agrees c refl cl).1 (r.chans c cl)).2))
         tt
         record {
-          marks = o.marks;
+          its_clean = o.its_clean;
           number = o.number;
           agrees = λ x q cl. absurd (some-ne-none x (sym q));
           only = λ x cl own. by_place o x cl own (ℕ_discrete x c);
           calls = o.calls ∙ ap (map as_served) (ap (λ l. h ++ l) (by_clean o (is_clean clean c) refl) ∙ sym (append-nil (h ++ cond (is_clean clean c) (call c b ws ∷ []) [])));
-          fives = λ _ x l. absurd (omega arith);
+          all_abandoned = λ _ x l. absurd (omega arith);
           bears = tt;
         }
       where
@@ -358,12 +358,12 @@ module _ (clean : List Bool) (words : List ℕ) (worker : WorkerView) (threads :
         (λ cl. absurd (off (sym unclean ∙ cl))) (λ cl. inl refl) (λ cl. absurd (off (sym unclean ∙ cl)))
         tt
         record {
-          marks = o.marks;
+          its_clean = o.its_clean;
           number = o.number;
           agrees = λ x q cl. absurd (some-ne-none x (sym q));
           only = λ x cl own. by_place o x cl own (ℕ_discrete x c);
           calls = o.calls ∙ ap (map as_served) (ap (λ l. h ++ l) (ap (λ y. cond y (served_at c (r.mids c)) []) unclean) ∙ sym (append-nil (h ++ [])));
-          fives = λ _ x l. absurd (omega arith);
+          all_abandoned = λ _ x l. absurd (omega arith);
           bears = tt;
         }
       where

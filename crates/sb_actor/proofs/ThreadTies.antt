@@ -11,7 +11,7 @@ use Rattle.sb_actor.specs.ThreadStages.{ThreadStage, ThreadAt}
 use Rattle.sb_actor.specs.ThreadStages as stage
 use Rattle.sb_actor.specs.ThreadTable.{ThreadNext, thread_row, goes_on, ends, after_round, after_try, after_fill, after_send, after_wait, after_fetch, reply_by, is_clean_at, has_clean}
 use Rattle.sb_actor.specs.Ties.{thread_place_of, thread_deed, HoldsThread}
-use Rattle.sb_actor.specs.declared.acts.Seen.{Seen}
+use Rattle.sb_actor.specs.declared.acts.Observed.{Observed}
 use Rattle.sb_actor.specs.Views.{ThreadPlace, Try, Fill, Wait, Fetch, ThreadView}
 use Rattle.sb_statements.specs.declared.results.CallResult.TheVariants as result
 use Rattle.sb_statements.specs.declared.results.StmtResult.{StmtResult}
@@ -31,7 +31,7 @@ outside block (Some (statement.Load t w)) = refl
 outside block (Some (statement.Wait t w x most)) = refl
 outside block None = refl
 
-module _ (script : Script) (v : ThreadView) (x : ThreadAt) (number : v.number ≡ x.thread) (marks : v.clean ≡ x.clean) (n : ℕ) (seen : Seen) where
+module _ (script : Script) (v : ThreadView) (x : ThreadAt) (number : v.number ≡ x.thread) (marks : v.clean ≡ x.clean) (n : ℕ) (seen : Observed) where
   -- the view holds where a thread stands, by its place alone
   held : (d : Deed) (p : ThreadPlace) (s : ThreadStage) → v.place ≡ p → thread_place v.clean p d (met d n) n ≡ thread_place_of x.block s
       → HoldsThread (thread_view v d n) (goes_on x s).thread
@@ -71,39 +71,39 @@ module _ (script : Script) (v : ThreadView) (x : ThreadAt) (number : v.number �
       by_test true = refl
       by_test false = refl
 
-  module _ (c rounds : ℕ) (fives : Bool) (e : v.place ≡ Try c fives) (inside : c < length x.clean) where
+  module _ (c rounds : ℕ) (all_abandoned : Bool) (e : v.place ≡ Try c all_abandoned) (inside : c < length x.clean) where
     abbrev Holds : ThreadNext → Type 0
     Holds next = HoldsThread (thread_view v take_it n) next.thread
 
     abbrev five : Bool
-    five = fives && eqb n 5
+    five = all_abandoned && eqb n 5
 
-    -- behind the last channel
+    -- after the last channel
     round : eqb n 1 ≡ false → eqb (c + 1) (length x.clean) ≡ true → Holds (after_round script x rounds five)
     round q last = by_tests five (has_clean x.clean) (eqb (rounds + 1) x.patience)
       where
         no_more : ltb (c + 1) (length v.clean) ≡ false
         no_more = let same = ap length marks in grind (arith, nat_tests)
 
-        begins_anew : thread_place v.clean (Try c fives) take_it (met take_it n) n ≡ no_call
+        begins_anew : thread_place v.clean (Try c all_abandoned) take_it (met take_it n) n ≡ no_call
         begins_anew = ap (λ b. cond b (Fill c []) (try_next v.clean c five)) q ∙ ap (λ b. cond b (Try (c + 1) five) no_call) no_more
 
         by_tests : (f a p : Bool) → Holds (cond f (ends script x (ended.Call result.NoChannel)) (cond a (goes_on x (stage.Try 0 rounds true)) (cond p (ends script x (ended.Call result.NoChannel)) (goes_on x (stage.Try 0 (rounds + 1) true)))))
-        by_tests true a p = over take_it (Try c fives) (ended.Call result.NoChannel) e begins_anew
-        by_tests false true p = held take_it (Try c fives) (stage.Try 0 rounds true) e begins_anew
-        by_tests false false true = over take_it (Try c fives) (ended.Call result.NoChannel) e begins_anew
-        by_tests false false false = held take_it (Try c fives) (stage.Try 0 (rounds + 1) true) e begins_anew
+        by_tests true a p = over take_it (Try c all_abandoned) (ended.Call result.NoChannel) e begins_anew
+        by_tests false true p = held take_it (Try c all_abandoned) (stage.Try 0 rounds true) e begins_anew
+        by_tests false false true = over take_it (Try c all_abandoned) (ended.Call result.NoChannel) e begins_anew
+        by_tests false false false = held take_it (Try c all_abandoned) (stage.Try 0 (rounds + 1) true) e begins_anew
 
-    tried : Holds (after_try script x c rounds fives n)
+    tried : Holds (after_try script x c rounds all_abandoned n)
     tried = by_met (eqb n 1) refl (eqb (c + 1) (length x.clean)) refl
       where
         by_met : (a : Bool) → eqb n 1 ≡ a → (b : Bool) → eqb (c + 1) (length x.clean) ≡ b → Holds (cond a (goes_on x (stage.Fill c 0)) (cond b (after_round script x rounds five) (goes_on x (stage.Try (c + 1) rounds five))))
-        by_met true q b r = held take_it (Try c fives) (stage.Fill c 0) e (ap (λ b. cond b (Fill c []) (try_next v.clean c five)) q)
+        by_met true q b r = held take_it (Try c all_abandoned) (stage.Fill c 0) e (ap (λ b. cond b (Fill c []) (try_next v.clean c five)) q)
         by_met false q true r = round q r
         by_met false q false r =
             let same = ap length marks in
             let more : ltb (c + 1) (length v.clean) ≡ true = grind (arith, nat_tests) in
-            held take_it (Try c fives) (stage.Try (c + 1) rounds five) e (ap (λ b. cond b (Fill c []) (try_next v.clean c five)) q ∙ ap (λ b. cond b (Try (c + 1) five) no_call) more)
+            held take_it (Try c all_abandoned) (stage.Try (c + 1) rounds five) e (ap (λ b. cond b (Fill c []) (try_next v.clean c five)) q ∙ ap (λ b. cond b (Try (c + 1) five) no_call) more)
 
   -- what the law says of a stage
   record Goes (s : ThreadStage) (d : Deed) : Type 0 where
@@ -116,12 +116,12 @@ module _ (script : Script) (v : ThreadView) (x : ThreadAt) (number : v.number �
 
   follows : (s : ThreadStage) (d : Deed) → v.place ≡ thread_place_of x.block s → IsSoundThreadStage (length x.clean) x.patience x.block s → IsBlock x.thread x.block → GivesUp x.clean s
       → thread_deed x.block s ≡ Some d → Tells (thread_row script x s).step n seen → Goes s d
-  follows (stage.Try c rounds fives) d e h b u q tell =
-      subst (Goes (stage.Try c rounds fives)) (some_same take_it d q)
+  follows (stage.Try c rounds all_abandoned) d e h b u q tell =
+      subst (Goes (stage.Try c rounds all_abandoned)) (some_same take_it d q)
       record {
         may = subst (λ p. ThreadMay v p (at c 0) take_it) (sym e) (there c h.0, refl);
         writes = refl;
-        holds = subst (λ z. HoldsThread (thread_view v take_it n) (after_try script x c rounds fives z).thread) (sym tell) (tried c rounds fives e h.0);
+        holds = subst (λ z. HoldsThread (thread_view v take_it n) (after_try script x c rounds all_abandoned z).thread) (sym tell) (tried c rounds all_abandoned e h.0);
       }
   follows (stage.Fill c i) d e h b u q tell =
       let long = b.high in

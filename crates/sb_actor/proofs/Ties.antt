@@ -11,7 +11,7 @@ use Rattle.sb_actor.specs.Ties.{worker_place_of, worker_deed, HoldsWorker}
 use Rattle.sb_actor.specs.WorkerStages.{WorkerStage, WorkerAt}
 use Rattle.sb_actor.specs.WorkerStages as stage
 use Rattle.sb_actor.specs.WorkerTable.{worker_plan, after_look, after_count, after_end, after_copy, after_reply, at_stage, look_next}
-use Rattle.sb_actor.specs.declared.acts.Seen.{Seen}
+use Rattle.sb_actor.specs.declared.acts.Observed.{Observed}
 use Rattle.sb_actor.specs.Views.{WorkerPlace, Look, Count, End, Copy, Whole, Reply, WorkerView}
 use Rattle.sb_actor.proofs.Lists.{take_snoc}
 
@@ -42,7 +42,7 @@ take_length [] (suc n) l = absurd (omega arith)
 take_length (x ∷ r) (suc n) l = ap suc (take_length r n (omega arith))
 
 -- a worker at a stage, and a view that holds where it stands
-module _ (v : WorkerView) (t k ch : ℕ) (l : length v.clean ≡ k) (c : v.channel ≡ ch) (i : ch < k) (n : ℕ) (seen : Seen) where
+module _ (v : WorkerView) (t k ch : ℕ) (l : length v.clean ≡ k) (c : v.channel ≡ ch) (i : ch < k) (n : ℕ) (seen : Observed) where
   abbrev W : WorkerStage → WorkerAt
   W s = record { target = t; channels = k; channel = ch; stage = s }
 
@@ -145,7 +145,7 @@ module _ (v : WorkerView) (t k ch : ℕ) (l : length v.clean ≡ k) (c : v.chann
         holds = subst (λ z. HoldsWorker (worker_view v copy n) (at_stage (W (stage.Copy x y ws)) (after_copy x y (ws ++ z ∷ [])))) (sym tell) (stays copy (Copy x y ws) (after_copy x y (ws ++ n ∷ [])) refl e (copies x y ws));
       }
   follows (stage.Take x) d e h q tell = absurd (cc)
-  follows (stage.Mark x) d e h q tell = absurd (cc)
+  follows (stage.Answer x) d e h q tell = absurd (cc)
   follows (stage.Give x r) d e h q tell = absurd (cc)
   follows (stage.Reply x r zero) d e h q tell =
       subst (λ z. Follows v (W (stage.Reply x r 0)) z n seen) (some_same (answer (get_or r 0 0)) d q)

@@ -29,7 +29,7 @@ worker_keeps clean words v threads w d known may =
     (λ (cl : List Bool).
     v.channel < length cl → WorkerMay (V cl) v.place w d → Rule clean words (V cl) threads
     → Rule clean (set words w (wrote d (met d (get_or words w 0)) (get_or words w 0))) (worker_view (V cl) d (get_or words w 0)) threads)
-    (sym known.fits_worker.marks)
+    (sym known.fits_worker.its_clean)
     (λ l m k. worker_steps clean words threads w v.channel v.served l v.place d k m)
     lc
     may
@@ -49,7 +49,7 @@ starts clean words threads sized opened first = record {
   chans = λ c cl. (state c cl, sees_look (first_worker clean) c refl);
   lasts = λ c cl. tt;
   fits_worker = record {
-    marks = refl;
+    its_clean = refl;
     owners = λ c k cl o. absurd (some-ne-none k (sym o));
     bearers = λ k l. refl;
     borne = λ n x e cl. absurd (some-ne-none x (sym e));
@@ -69,10 +69,10 @@ starts clean words threads sized opened first = record {
     one : (i : ℕ) → FitsThread clean (λ c. idle) [] i (first_thread clean i)
     one i = record {
       number = refl;
-      marks = refl;
+      its_clean = refl;
       agrees = λ c e cl. absurd (some-ne-none c (sym e));
       only = λ c cl o. absurd (some-ne-none i (sym o));
       calls = refl;
-      fives = λ _ c l. absurd (omega arith);
+      all_abandoned = λ _ c l. absurd (omega arith);
       bears = tt;
     }

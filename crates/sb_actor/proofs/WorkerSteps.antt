@@ -136,7 +136,7 @@ module _ (clean : List Bool) (words : List ℕ) (threads : List ThreadView) (w :
         (λ x cl. subst (λ l. Last l x (r.mids x)) (sym (append-nil sv)) (r.lasts x cl))
         (subst (λ l. FitsWorker clean r.mids n (wv clean c' p' l)) (sym (append-nil sv))
         record {
-          marks = r.fits_worker.marks;
+          its_clean = r.fits_worker.its_clean;
           owners = r.fits_worker.owners;
           bearers = r.fits_worker.bearers;
           borne = r.fits_worker.borne;
@@ -331,14 +331,14 @@ module _ (clean : List Bool) (words : List ℕ) (threads : List ThreadView) (w :
           (λ cl. absurd (off (sym un ∙ cl)))
           (λ x cl. last_else x (r.mids x) (λ s. off (sym un ∙ subst (λ y. is_clean clean y ≡ true) s cl)) (r.lasts x cl))
           record {
-            marks = r.fits_worker.marks;
+            its_clean = r.fits_worker.its_clean;
             owners = r.fits_worker.owners;
             bearers = λ k l. calls_stay k (unclean_call k un) ∙ r.fits_worker.bearers k l;
             borne = borne_at (λ cl. absurd (off (sym un ∙ cl)));
             replied = replied_at la;
             replies = tt;
           }
-          (λ x u f. record { marks = f.marks; number = f.number; agrees = f.agrees; only = f.only; calls = calls_stay u.number (unclean_call u.number un) ∙ f.calls; fives = f.fives; bears = f.bears })
+          (λ x u f. record { its_clean = f.its_clean; number = f.number; agrees = f.agrees; only = f.only; calls = calls_stay u.number (unclean_call u.number un) ∙ f.calls; all_abandoned = f.all_abandoned; bears = f.bears })
 
       ack_clean : w ≡ at c 0 → length a ≡ 12 → is_clean clean c ≡ true → (b : Bool) → met acknowledge (get_or words w 0) ≡ b → After (Reply t a) acknowledge b
       ack_clean is la cl false e =
@@ -359,7 +359,7 @@ module _ (clean : List Bool) (words : List ℕ) (threads : List ThreadView) (w :
           (refl, q.whole_block, sees_look (W true) c refl, record { size = la; mark = rd.4 ∙ ap mark_of rd.0 }, stands_else a 12 4 (row words c) 0 4 (omega arith) (subst (λ z. Stands a z 4 (row words c)) la rd.3)))
           (λ x cx. last_at q x cx (ℕ_discrete x c))
           record {
-            marks = r.fits_worker.marks;
+            its_clean = r.fits_worker.its_clean;
             owners = λ x z cx o. owner_at q x z cx o (ℕ_discrete x c);
             bearers = λ z l. calls_stay z (not_mine q.number z cl mark (λ s. omega arith)) ∙ r.fits_worker.bearers z l;
             borne = borne_at (λ _. (q.number, below, mark));
@@ -383,7 +383,7 @@ module _ (clean : List Bool) (words : List ℕ) (threads : List ThreadView) (w :
           thread_at q mark x u f (no ne) =
               let k : Mid = acked q.number q.block a in
               let g = thread_else clean r.mids sv q.number c k (λ _. inr (ap owner q.is)) (λ _. inr refl) x u ne f in
-              record { marks = g.marks; number = g.number; agrees = g.agrees; only = g.only; calls = calls_stay u.number (not_mine q.number u.number cl mark ne) ∙ g.calls; fives = g.fives; bears = g.bears }
+              record { its_clean = g.its_clean; number = g.number; agrees = g.agrees; only = g.only; calls = calls_stay u.number (not_mine q.number u.number cl mark ne) ∙ g.calls; all_abandoned = g.all_abandoned; bears = g.bears }
           thread_at q mark x u f (yes s) =
               let k : Mid = acked q.number q.block a in
               let here : place u.place ≡ some c = f.only c cl (ap owner q.is ∙ ap some (sym s)) in
@@ -393,7 +393,7 @@ module _ (clean : List Bool) (words : List ℕ) (threads : List ThreadView) (w :
               let new_wait : waiting clean (upd r.mids c k) (some c) ≡ call c q.block a ∷ [] = ap (λ z. cond z (served_at c (upd r.mids c k c)) []) cl ∙ ap (served_at c) (upd_here r.mids c k c refl) in
               let same : serve c t a ≡ as_served (call c q.block a) = ap (λ z. serve c z a) q.reads.0 in
               record {
-                marks = f.marks;
+                its_clean = f.its_clean;
                 number = f.number;
                 agrees = λ y p cy. subst (λ z. Agrees u.number u.place (upd r.mids c k z)) (some-injective c y (sym here ∙ p)) (subst (Agrees u.number u.place) (sym (upd_here r.mids c k c refl)) after);
                 only = λ y cy o. by_place q here f y cy o (ℕ_discrete y c);
@@ -404,7 +404,7 @@ module _ (clean : List Bool) (words : List ℕ) (threads : List ThreadView) (w :
                     ∙ sym (map_snoc as_served u.had (call c q.block a))
                     ∙ ap (λ l. map as_served (u.had ++ l)) (sym new_wait)
                     ∙ ap (λ z. map as_served (u.had ++ waiting clean (upd r.mids c k) z)) (sym here);
-                fives = f.fives;
+                all_abandoned = f.all_abandoned;
                 bears = f.bears;
               }
             where

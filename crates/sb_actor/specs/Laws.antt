@@ -1,5 +1,5 @@
 -- The laws of the rule: it holds at the opening, and each step that an actor may make keeps it.
-use Rattle.std.specs.Prelude.{◌≡◌, ℕ, ◌*◌, ◌%◌, ◌<◌, ◌==◌, Bool, true, List, [], length, slice_index, slice_set, if◌then◌else◌}
+use Rattle.std.specs.Prelude.{◌≡◌, ◌≢◌, ◌⊎◌, ℕ, ◌≤◌, ◌*◌, ◌%◌, ◌<◌, ◌==◌, Bool, true, List, [], length, slice_index, slice_set, if◌then◌else◌}
 use Rattle.std.specs.List.{list_all}
 use mathlib.Core.Option.{some}
 use lib.ListN.{get_elem?}
@@ -8,8 +8,8 @@ use Rattle.sb_call.specs.declared.arguments.Arg.{Arg}
 use Rattle.sb_call.specs.declared.tags.CallTag.{CallTag}
 use Rattle.sb_actor.specs.Views.{ThreadView, Look, WorkerView}
 use Rattle.sb_actor.specs.Places.{mark_at}
-use Rattle.sb_actor.specs.Moves.{IsBlock, Deed, met, wrote, thread_view, ThreadMay, worker_view, WorkerMay, StrayMay, no_call}
-use Rattle.sb_actor.specs.Rule.{Rule}
+use Rattle.sb_actor.specs.Moves.{IsBlock, Deed, is_clean, met, wrote, thread_view, ThreadMay, worker_view, WorkerMay, StrayMay, no_call}
+use Rattle.sb_actor.specs.Rule.{Rule, place, row}
 
 -- the words after a step on word w
 abbrev pub words_after : List ℕ → ℕ → Deed → List ℕ
@@ -60,3 +60,18 @@ Starts = (clean : List Bool) (words : List ℕ) (threads : List ThreadView) → 
 abbrev pub BlocksAreWhole : Type 0
 BlocksAreWhole = (tag : CallTag) (args : List Arg) (k place : ℕ) → encodes tag args ≡ true → list_all has_units args ≡ true → place < 65536
     → IsBlock k (block tag args (mark_at k place))
+
+-- at a channel is this thread of the target, and no other
+pub record IsHeldByOne (threads : List ThreadView) (c : ℕ) : Type 0 where
+  pub thread : ℕ
+  pub view : ThreadView
+  pub listed : get_elem? threads thread ≡ some view
+  pub there : place view.place ≡ some c
+  pub alone : (i : ℕ) (v : ThreadView) → get_elem? threads i ≡ some v → place v.place ≡ some c → i ≡ thread
+
+-- at a clean channel whose state is 1 is no thread, and else its state is from 2 to 4, and exactly one thread of the target is there
+abbrev pub ChannelsHaveOneThread : Type 0
+ChannelsHaveOneThread = (clean : List Bool) (words : List ℕ) (worker : WorkerView) (threads : List ThreadView) (c : ℕ) → Rule clean words worker threads
+    → is_clean clean c ≡ true
+    → ((row words c 0 ≡ 1) × ((i : ℕ) (v : ThreadView) → get_elem? threads i ≡ some v → place v.place ≢ some c))
+    ⊎ ((2 ≤ row words c 0) × (row words c 0 ≤ 4) × IsHeldByOne threads c)

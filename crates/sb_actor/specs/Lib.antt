@@ -1,4 +1,6 @@
 pub mod Acts
+pub mod Causes
+pub mod Findings
 pub mod Fitting
 pub mod Following
 pub mod Laws

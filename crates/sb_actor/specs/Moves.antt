@@ -56,7 +56,7 @@ at c j = c * 65 + j
 abbrev pub is_clean : List Bool → ℕ → Bool
 is_clean clean c = slice_index_or clean c false
 
--- the next channel, or channel 0 behind the last
+-- the next channel, or channel 0 after the last
 abbrev pub next : List Bool → ℕ → ℕ
 next clean c = if nat_lt (c + 1) (length clean) then c + 1 else 0
 
@@ -64,13 +64,13 @@ next clean c = if nat_lt (c + 1) (length clean) then c + 1 else 0
 abbrev pub no_call : ThreadPlace
 no_call = Try 0 true
 
--- behind the last channel the next round begins with nothing but 5
+-- after the last channel the next round begins with nothing but 5
 abbrev pub try_next : List Bool → ℕ → Bool → ThreadPlace
-try_next clean c fives = if nat_lt (c + 1) (length clean) then Try (c + 1) fives else no_call
+try_next clean c all_abandoned = if nat_lt (c + 1) (length clean) then Try (c + 1) all_abandoned else no_call
 
 -- where a thread stands after a step that found n
 abbrev pub thread_place : List Bool → ThreadPlace → Deed → Bool → ℕ → ThreadPlace
-thread_place clean (Try c fives) take_it b n = if b then Fill c [] else try_next clean c (fives && n == 5)
+thread_place clean (Try c all_abandoned) take_it b n = if b then Fill c [] else try_next clean c (all_abandoned && n == 5)
 thread_place clean (Fill c words) (fill x) b n = Fill c (words ++ x ∷ [])
 thread_place clean (Fill c words) send b n = if b then Wait c words else no_call
 thread_place clean (Wait c block) wait b n = if b then Fetch c block [] else Wait c block
@@ -101,7 +101,7 @@ pub record IsBlock (number : ℕ) (block : List ℕ) : Type 0 where
 
 -- the step that a thread may make, on word w
 abbrev pub ThreadMay : ThreadView → ThreadPlace → ℕ → Deed → Type 0
-ThreadMay v (Try c fives) w take_it = (c < length v.clean) × (w ≡ at c 0)
+ThreadMay v (Try c all_abandoned) w take_it = (c < length v.clean) × (w ≡ at c 0)
 ThreadMay v (Fill c words) w (fill x) = (c < length v.clean) × (w ≡ at c (1 + length words)) × (length words < 64)
 ThreadMay v (Fill c words) w send = (c < length v.clean) × (w ≡ at c 0) × IsBlock v.number words
 ThreadMay v (Wait c block) w wait = (c < length v.clean) × (w ≡ at c 0)
@@ -110,7 +110,7 @@ ThreadMay v (Fetch c block words) w fetch = (c < length v.clean) × (w ≡ at c 
 ThreadMay v (Fetch c block words) w free = (c < length v.clean) × (w ≡ at c 0) × (length words ≡ 12)
 ThreadMay v p w d = ⊥
 
--- behind the count, the end and each word of the copy
+-- after the count, the end and each word of the copy
 abbrev pub counted : ℕ → WorkerPlace
 counted n = if nat_lt 9 n then Whole (copied n 0 []) else End n
 

@@ -66,8 +66,8 @@ abbrev pub clean_channels : Script → ℕ → List Bool
 clean_channels script target = clean_upto script target (channels_of (slice_get script.targets target))
 
 -- the thread before its first step
-abbrev pub begun : Script → ℕ → ℕ → ThreadAt
-begun script target thread = begins script (record {
+abbrev pub thread_start : Script → ℕ → ℕ → ThreadAt
+thread_start script target thread = begins script (record {
   target = target;
   thread = thread;
   patience = script.patience;

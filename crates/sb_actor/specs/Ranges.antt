@@ -1,9 +1,10 @@
--- What holds of each stage of an actor. Of a worker: its numbers are in their ranges, and its reply has twelve words and bears the mark of its copy.
-use Rattle.std.specs.Prelude.{◌≡◌, ℕ, ◌+◌, ◌<◌, ◌≤◌, List, length, slice_index}
-use Rattle.sb_block.specs.Copies.{Copied, mark_of}
+-- What holds of each stage of an actor. Of a worker: its numbers are in their ranges, what it has copied until it is answered keeps the rule of a copy, and
+-- its reply has twelve words and bears the mark of its copy.
+use Rattle.std.specs.Prelude.{◌≡◌, ℕ, ◌+◌, ◌<◌, ◌≤◌, true, List, length, slice_index}
+use Rattle.sb_block.specs.Copies.{Copied, is_copy, mark_of}
 use Rattle.sb_actor.specs.ThreadStages.{ThreadStage}
 use Rattle.sb_actor.specs.ThreadStages as thread
-use Rattle.sb_actor.specs.WorkerStages.{WorkerStage, Look, Count, End, Copy, Take, Mark, Give, Reply, Ack}
+use Rattle.sb_actor.specs.WorkerStages.{WorkerStage, Look, Count, End, Copy, Take, Answer, Give, Reply, Ack}
 
 -- a reply of twelve words, the first of which is the mark of the copy
 pub record IsReplyTo (taken : Copied) (reply : List ℕ) : Type 0 where
@@ -15,8 +16,8 @@ IsSoundStage Look = Unit {0}
 IsSoundStage Count = Unit {0}
 IsSoundStage (End count) = count ≤ 9
 IsSoundStage (Copy count end words) = (count ≤ 9) × (16 + count ≤ end) × (end ≤ 64) × (length words < end)
-IsSoundStage (Take taken) = Unit {0}
-IsSoundStage (Mark taken) = Unit {0}
+IsSoundStage (Take taken) = is_copy taken ≡ true
+IsSoundStage (Answer taken) = is_copy taken ≡ true
 IsSoundStage (Give taken reply) = IsReplyTo taken reply
 IsSoundStage (Reply taken reply at) = (at < 12) × IsReplyTo taken reply
 IsSoundStage (Ack taken reply) = IsReplyTo taken reply
@@ -24,7 +25,7 @@ IsSoundStage (Ack taken reply) = IsReplyTo taken reply
 -- and of a thread with this patience and this block, on this many channels: it is at one of them, its rounds and loads are fewer than the
 -- patience, and what it fills and fetches lies within the block and the reply
 abbrev pub IsSoundThreadStage : ℕ → ℕ → List ℕ → ThreadStage → Type 0
-IsSoundThreadStage channels patience block (thread.Try c rounds fives) = (c < channels) × (rounds < patience) × (0 < length block)
+IsSoundThreadStage channels patience block (thread.Try c rounds all_abandoned) = (c < channels) × (rounds < patience) × (0 < length block)
 IsSoundThreadStage channels patience block (thread.Fill c i) = (c < channels) × (i < length block)
 IsSoundThreadStage channels patience block (thread.Send c) = c < channels
 IsSoundThreadStage channels patience block (thread.Wait c loads) = (c < channels) × (loads < patience)

@@ -40,7 +40,7 @@ row words c j = cond (nat_lt j 65) (slice_index words (c * 65 + j)) 0
 abbrev pub Stands : List ℕ → ℕ → ℕ → Row → Type 0
 Stands words n j f = (i : ℕ) → i < n → f (j + i) ≡ slice_index words i
 
--- where channel c sees the worker: elsewhere it looks
+-- if channel c sees the worker: elsewhere it looks
 abbrev pub sees : ℕ → WorkerView → WorkerPlace
 sees c v = cond (c == v.channel) v.place Look
 
@@ -78,7 +78,7 @@ as_served x = record { channel = x.channel; taken = whole x.block; reply = x.rep
 
 -- the channel at which a thread is
 abbrev pub place : ThreadPlace → Option ℕ
-place (Try c fives) = none
+place (Try c all_abandoned) = none
 place (Fill c words) = some c
 place (Wait c block) = some c
 place (Fetch c block words) = some c
@@ -96,21 +96,21 @@ waiting clean mids (some c) = cond (is_clean clean c) (served_at c (mids c)) []
 
 -- where the thread of number k stands at a clean channel
 abbrev pub Agrees : ℕ → ThreadPlace → Mid → Type 0
-Agrees k (Try c fives) m = Unit {0}
+Agrees k (Try c all_abandoned) m = Unit {0}
 Agrees k (Fill c words) m = m ≡ filling k words
 Agrees k (Wait c block) m = (m ≡ ready k block) ⊎ ((reply : List ℕ) × (m ≡ acked k block reply))
 Agrees k (Fetch c block words) m = (reply : List ℕ) × (m ≡ acked k block reply) × (length words ≤ 12) × (words ≡ take (length words) reply)
 
--- where a thread found nothing but 5 in this round, no channel below is clean
-abbrev pub Fives : List Bool → ThreadPlace → Type 0
-Fives clean (Try c fives) = fives ≡ true → (d : ℕ) → d < c → is_clean clean d ≡ false
-Fives clean (Fill c words) = Unit {0}
-Fives clean (Wait c block) = Unit {0}
-Fives clean (Fetch c block words) = Unit {0}
+-- if a thread found nothing but 5 in this round, no channel below is clean
+abbrev pub AllAbandoned : List Bool → ThreadPlace → Type 0
+AllAbandoned clean (Try c all_abandoned) = all_abandoned ≡ true → (d : ℕ) → d < c → is_clean clean d ≡ false
+AllAbandoned clean (Fill c words) = Unit {0}
+AllAbandoned clean (Wait c block) = Unit {0}
+AllAbandoned clean (Fetch c block words) = Unit {0}
 
 -- the block that a thread handed over bears its number, also on a channel that is not clean
 abbrev pub Bears : ℕ → ThreadPlace → Type 0
-Bears k (Try c fives) = Unit {0}
+Bears k (Try c all_abandoned) = Unit {0}
 Bears k (Fill c words) = Unit {0}
 Bears k (Wait c block) = IsBlock k block
 Bears k (Fetch c block words) = IsBlock k block
@@ -128,17 +128,17 @@ Replies (Reply taken reply) = (0 < length reply) × (length reply ≤ 12) × (sl
 module _ (clean : List Bool) (mids : ℕ → Mid) (served : List Served) where
   pub record FitsThread (i : ℕ) (v : ThreadView) : Type 0 where
     pub number : v.number ≡ i
-    pub marks : v.clean ≡ clean
+    pub its_clean : v.clean ≡ clean
     pub agrees : (c : ℕ) → place v.place ≡ some c → is_clean clean c ≡ true → Agrees v.number v.place (mids c)
     pub only : (c : ℕ) → is_clean clean c ≡ true → owner (mids c) ≡ some v.number → place v.place ≡ some c
     pub calls : calls_of clean v.number served ≡ map as_served (v.had ++ waiting clean mids (place v.place))
-    pub fives : Fives clean v.place
+    pub all_abandoned : AllAbandoned clean v.place
     pub bears : Bears v.number v.place
 
 -- of the worker, beside this many threads
 module _ (clean : List Bool) (mids : ℕ → Mid) (threads : ℕ) where
   pub record FitsWorker (v : WorkerView) : Type 0 where
-    pub marks : v.clean ≡ clean
+    pub its_clean : v.clean ≡ clean
     pub owners : (c k : ℕ) → is_clean clean c ≡ true → owner (mids c) ≡ some k → k < threads
     pub bearers : (k : ℕ) → threads ≤ k → calls_of clean k v.served ≡ []
     pub borne : (n : ℕ) (x : Served) → get_elem? v.served n ≡ some x → is_clean clean x.channel ≡ true → (k : ℕ) × (k < threads) × (mark_of x.taken / 65536 ≡ k + 1)
@@ -156,7 +156,7 @@ Last served c (filling k words) = Unit {0}
 Last served c (ready k block) = Unit {0}
 Last served c (acked k block reply) = (before : List Served) × (filter (is_on c) served ≡ before ++ as_served (record { channel = c; block = block; reply = reply }) ∷ [])
 
--- the rule, over the words of a target with these clean marks, the view of its worker, and those of its threads, in order
+-- the rule, over the words of a target with these clean channels, the view of its worker, and those of its threads, in order
 pub record Rule (clean : List Bool) (words : List ℕ) (worker : WorkerView) (threads : List ThreadView) : Type 0 where
   pub mids : ℕ → Mid
   pub sized : length words ≡ length clean * 65

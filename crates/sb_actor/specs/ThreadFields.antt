@@ -6,15 +6,15 @@ use Rattle.sb_actor.specs.declared.phases.ThreadPhase.{ThreadPhase}
 use Rattle.sb_actor.specs.declared.phases.ThreadPhase.TheVariants as phase
 
 abbrev pub thread_stage : ThreadPhase → ℕ → ℕ → Bool → ℕ → ℕ → List ℕ → ThreadStage
-thread_stage phase.Try c count fives at most reply = Try c count fives
-thread_stage phase.Fill c count fives at most reply = Fill c at
-thread_stage phase.Send c count fives at most reply = Send c
-thread_stage phase.Wait c count fives at most reply = Wait c count
-thread_stage phase.Fetch c count fives at most reply = Fetch c (take at reply)
-thread_stage phase.Free c count fives at most reply = Free c (take at reply)
-thread_stage phase.Abandon c count fives at most reply = Abandon c
-thread_stage phase.Stray c count fives at most reply = Stray count most
-thread_stage phase.Over c count fives at most reply = Over
+thread_stage phase.Try c count all_abandoned at most reply = Try c count all_abandoned
+thread_stage phase.Fill c count all_abandoned at most reply = Fill c at
+thread_stage phase.Send c count all_abandoned at most reply = Send c
+thread_stage phase.Wait c count all_abandoned at most reply = Wait c count
+thread_stage phase.Fetch c count all_abandoned at most reply = Fetch c (take at reply)
+thread_stage phase.Free c count all_abandoned at most reply = Free c (take at reply)
+thread_stage phase.Abandon c count all_abandoned at most reply = Abandon c
+thread_stage phase.Stray c count all_abandoned at most reply = Stray count most
+thread_stage phase.Over c count all_abandoned at most reply = Over
 
 -- the numbers of a phase are in their ranges: a call has a block, and its rounds and loads are fewer than the patience
 abbrev pub is_thread_sound : ThreadPhase → ℕ → ℕ → ℕ → ℕ → List ℕ → Bool

@@ -16,7 +16,7 @@ pub data ThreadStage : Type 0 where
   Over : ThreadStage
 
 -- a thread of a target, with what it keeps of its script (the patience, and for each channel of its target whether it is clean), at
--- one of its statements, with the block of that where it is a call
+-- one of its statements, with the block of that if it is a call
 pub record ThreadAt : Type 0 where
   pub target : ℕ
   pub thread : ℕ

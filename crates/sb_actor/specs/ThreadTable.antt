@@ -9,7 +9,7 @@ use Rattle.sb_actor.specs.Places.{statement_at, mark_at, begins}
 use Rattle.sb_actor.specs.ThreadStages.{ThreadStage, Try, Fill, Send, Wait, Fetch, Free, Abandon, Stray, Over, ThreadAt}
 use Rattle.sb_actor.specs.declared.acts.Act.{Act}
 use Rattle.sb_actor.specs.declared.acts.Act.TheVariants as act
-use Rattle.sb_actor.specs.declared.acts.Seen.{Seen}
+use Rattle.sb_actor.specs.declared.acts.Observed.{Observed}
 use Rattle.sb_statements.specs.declared.results.CallResult.{CallResult}
 use Rattle.sb_statements.specs.declared.results.CallResult.TheVariants as result
 use Rattle.sb_statements.specs.declared.results.StmtResult.{StmtResult}
@@ -18,7 +18,7 @@ use Rattle.sb_statements.specs.declared.scripts.Script.{Script}
 use Rattle.sb_statements.specs.declared.statements.Statement.{Statement}
 use Rattle.sb_statements.specs.declared.statements.Statement.TheVariants as statement
 
--- what a step leads to: the thread after it, and the result where it ended the statement
+-- what a step leads to: the thread after it, and the result if it ended the statement
 pub record ThreadNext : Type 0 where
   pub thread : ThreadAt
   pub ended : Option StmtResult
@@ -26,9 +26,9 @@ pub record ThreadNext : Type 0 where
 -- a row: the step, and what it leads to, by what it found
 pub record ThreadRow : Type 0 where
   pub step : Act
-  pub next : Seen → ThreadNext
+  pub next : Observed → ThreadNext
 
-abbrev pub row : Act → (Seen → ThreadNext) → ThreadRow
+abbrev pub row : Act → (Observed → ThreadNext) → ThreadRow
 row step next = record { step = step; next = next }
 
 -- steps on the words of a channel of the thread's target
@@ -67,27 +67,27 @@ is_clean_at x c = slice_index_or x.clean c true
 abbrev pub has_clean : List Bool → Bool
 has_clean clean = list_any (λ mark. mark) clean
 
--- behind the last channel a round is counted: no channel where all of this round found 5, or where the target has no clean
+-- after the last channel a round is counted: no channel if all of this round found 5, or if the target has no clean
 -- channel and the rounds counted are the patience. On a target that has one the rounds have no bound, and are not kept
 abbrev pub after_round : Script → ThreadAt → ℕ → Bool → ThreadNext
-after_round script x rounds fives =
-    if fives then ends script x (Call result.NoChannel)
+after_round script x rounds all_abandoned =
+    if all_abandoned then ends script x (Call result.NoChannel)
     else (if has_clean x.clean then goes_on x (Try 0 rounds true)
     else (if rounds + 1 == x.patience then ends script x (Call result.NoChannel)
     else goes_on x (Try 0 (rounds + 1) true)))
 
 -- the channel was free, or the next one is tried
 abbrev pub after_try : Script → ThreadAt → ℕ → ℕ → Bool → ℕ → ThreadNext
-after_try script x c rounds fives found =
+after_try script x c rounds all_abandoned found =
     if found == free then goes_on x (Fill c 0)
-    else (if c + 1 == length x.clean then after_round script x rounds (fives && found == abandoned)
-    else goes_on x (Try (c + 1) rounds (fives && found == abandoned)))
+    else (if c + 1 == length x.clean then after_round script x rounds (all_abandoned && found == abandoned)
+    else goes_on x (Try (c + 1) rounds (all_abandoned && found == abandoned)))
 
 -- the block is filled with its last word
 abbrev pub after_fill : ThreadAt → ℕ → ℕ → ThreadStage
 after_fill x c i = if i + 1 == length x.block then Send c else Fill c (i + 1)
 
--- the block is handed over, where the channel is still the thread's
+-- the block is handed over, if the channel is still the thread's
 abbrev pub after_send : Script → ThreadAt → ℕ → ℕ → ThreadNext
 after_send script x c found = if found == busy then goes_on x (Wait c 0) else ends script x (Call (result.SendLost c found))
 
@@ -126,7 +126,7 @@ stray_row script x loads most None = row act.Idle (λ s. stays x)
 -- the table. A finished thread's step does nothing
 abbrev pub thread_row : Script → ThreadAt → ThreadStage → ThreadRow
 -- at a phase = the step, and what it leads to by what it found
-thread_row script x (Try c rounds fives) = row (exchange_state x c free busy) (λ s. after_try script x c rounds fives (value_in s))
+thread_row script x (Try c rounds all_abandoned) = row (exchange_state x c free busy) (λ s. after_try script x c rounds all_abandoned (value_in s))
 thread_row script x (Fill c i) = row (store_block x c i (slice_index x.block i)) (λ s. goes_on x (after_fill x c i))
 thread_row script x (Send c) = row (exchange_state x c busy ready) (λ s. after_send script x c (value_in s))
 thread_row script x (Wait c loads) = row (load_state x c) (λ s. goes_on x (after_wait x c loads (value_in s)))
@@ -141,5 +141,5 @@ abbrev pub thread_plan : Script → ThreadAt → Act
 thread_plan script x = (thread_row script x x.stage).step
 
 -- what a step that found this leads to
-abbrev pub thread_after : Script → ThreadAt → Seen → ThreadNext
+abbrev pub thread_after : Script → ThreadAt → Observed → ThreadNext
 thread_after script x seen = (thread_row script x x.stage).next seen

@@ -9,14 +9,14 @@ use Rattle.sb_actor.specs.ThreadStages as thread
 use Rattle.sb_actor.specs.Views.{ThreadPlace, Try, Fill, Wait, Fetch, WorkerPlace, Look, Count, End, Copy, Whole, Reply, ThreadView, WorkerView}
 use Rattle.sb_actor.specs.Moves.{Deed, take_it, fill, send, wait, fetch, free, abandon, look, load_count, load_end, copy, answer, acknowledge, no_call}
 
--- Take, Mark and Give leave the view at the whole copy
+-- Take, Answer and Give leave the view at the whole copy
 abbrev pub worker_place_of : WorkerStage → WorkerPlace
 worker_place_of worker.Look = Look
 worker_place_of worker.Count = Count
 worker_place_of (worker.End c) = End c
 worker_place_of (worker.Copy c e words) = Copy c e words
 worker_place_of (worker.Take taken) = Whole taken
-worker_place_of (worker.Mark taken) = Whole taken
+worker_place_of (worker.Answer taken) = Whole taken
 worker_place_of (worker.Give taken reply) = Whole taken
 worker_place_of (worker.Reply taken reply at) = if at == 0 then Whole taken else Reply taken (take at reply)
 worker_place_of (worker.Ack taken reply) = Reply taken reply
@@ -28,7 +28,7 @@ worker_deed worker.Count = Some load_count
 worker_deed (worker.End c) = Some load_end
 worker_deed (worker.Copy c e words) = Some copy
 worker_deed (worker.Take taken) = None
-worker_deed (worker.Mark taken) = None
+worker_deed (worker.Answer taken) = None
 worker_deed (worker.Give taken reply) = None
 worker_deed (worker.Reply taken reply at) = Some (answer (slice_index reply at))
 worker_deed (worker.Ack taken reply) = Some acknowledge
@@ -41,7 +41,7 @@ pub record HoldsWorker (v : WorkerView) (w : WorkerAt) : Type 0 where
 
 -- a thread that is in no call, or not yet at a channel
 abbrev pub thread_place_of : List ℕ → ThreadStage → ThreadPlace
-thread_place_of block (thread.Try c rounds fives) = Try c fives
+thread_place_of block (thread.Try c rounds all_abandoned) = Try c all_abandoned
 thread_place_of block (thread.Fill c i) = Fill c (take i block)
 thread_place_of block (thread.Send c) = Fill c block
 thread_place_of block (thread.Wait c loads) = Wait c block
@@ -53,7 +53,7 @@ thread_place_of block thread.Over = no_call
 
 -- the kind of a thread's step in a call
 abbrev pub thread_deed : List ℕ → ThreadStage → Option Deed
-thread_deed block (thread.Try c rounds fives) = Some take_it
+thread_deed block (thread.Try c rounds all_abandoned) = Some take_it
 thread_deed block (thread.Fill c i) = Some (fill (slice_index block i))
 thread_deed block (thread.Send c) = Some send
 thread_deed block (thread.Wait c loads) = Some wait

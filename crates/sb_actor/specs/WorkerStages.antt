@@ -10,7 +10,7 @@ pub data WorkerStage : Type 0 where
   End : ℕ → WorkerStage
   Copy : ℕ → ℕ → List ℕ → WorkerStage
   Take : Copied → WorkerStage
-  Mark : Copied → WorkerStage
+  Answer : Copied → WorkerStage
   Give : Copied → List ℕ → WorkerStage
   Reply : Copied → List ℕ → ℕ → WorkerStage
   Ack : Copied → List ℕ → WorkerStage

@@ -4,17 +4,17 @@ use Rattle.sb_block.specs.Copies.{Copied, copied, is_end, mark_of}
 use Rattle.sb_block.specs.Packing.{offset_of}
 use Rattle.sb_block.specs.Replies.{reply_words}
 use Rattle.sb_actor.specs.Acts.{value_in, turn_in, reply_in, state_word, block_word, ready, acknowledged}
-use Rattle.sb_actor.specs.WorkerStages.{WorkerStage, Look, Count, End, Copy, Take, Mark, Give, Reply, Ack, WorkerAt}
+use Rattle.sb_actor.specs.WorkerStages.{WorkerStage, Look, Count, End, Copy, Take, Answer, Give, Reply, Ack, WorkerAt}
 use Rattle.sb_actor.specs.declared.acts.Act.{Act}
 use Rattle.sb_actor.specs.declared.acts.Act.TheVariants as act
-use Rattle.sb_actor.specs.declared.acts.Seen.{Seen}
+use Rattle.sb_actor.specs.declared.acts.Observed.{Observed}
 
 -- a row: the step, and the worker after it, by what the step found
 pub record WorkerRow : Type 0 where
   pub step : Act
-  pub next : Seen → WorkerAt
+  pub next : Observed → WorkerAt
 
-abbrev pub row : Act → (Seen → WorkerAt) → WorkerRow
+abbrev pub row : Act → (Observed → WorkerAt) → WorkerRow
 row step next = record { step = step; next = next }
 
 -- steps on the words of the worker's channel
@@ -34,7 +34,7 @@ exchange_state w from to = act.Exchange w.target (state_word w.channel) from to
 abbrev pub at_stage : WorkerAt → WorkerStage → WorkerAt
 at_stage w stage = record w { stage = stage }
 
--- the worker that looks at the next channel, behind the last at channel 0
+-- the worker that looks at the next channel, after the last at channel 0
 abbrev pub look_next : WorkerAt → WorkerAt
 look_next w = record w { channel = (w.channel + 1) % w.channels; stage = Look }
 
@@ -54,15 +54,15 @@ after_end count end = if is_end count end then Copy count end [] else Take (copi
 abbrev pub after_copy : ℕ → ℕ → List ℕ → WorkerStage
 after_copy count end words = if length words == end then Take (copied count end words) else Copy count end words
 
--- where the turn is held the worker tries again
+-- if the turn is held the worker tries again
 abbrev pub after_take : Copied → Bool → WorkerStage
-after_take taken got = if got then Mark taken else Take taken
+after_take taken got = if got then Answer taken else Take taken
 
 -- the reply is stored with its twelfth word
 abbrev pub after_reply : Copied → List ℕ → ℕ → WorkerStage
 after_reply taken reply at = if at == 11 then Ack taken reply else Reply taken reply (at + 1)
 
--- the table. Behind Ack the worker looks on, also where the exchange found another value, which then stays
+-- the table. After Ack the worker looks on, also if the exchange found another value, which then stays
 abbrev pub worker_row : WorkerAt → WorkerStage → WorkerRow
 -- at a phase = the step, and the worker after it by what the step found
 worker_row w Look = row (load_state w) (λ s. after_look w (value_in s))
@@ -70,7 +70,7 @@ worker_row w Count = row (load_block w 2) (λ s. at_stage w (after_count (value_
 worker_row w (End count) = row (load_block w (15 + count)) (λ s. at_stage w (after_end count (offset_of (value_in s))))
 worker_row w (Copy count end words) = row (load_block w (length words)) (λ s. at_stage w (after_copy count end (words ++ value_in s ∷ [])))
 worker_row w (Take taken) = row act.Take (λ s. at_stage w (after_take taken (turn_in s)))
-worker_row w (Mark taken) = row act.Mark (λ s. at_stage w (Give taken (reply_words (reply_in s))))
+worker_row w (Answer taken) = row act.Answer (λ s. at_stage w (Give taken (reply_words (reply_in s))))
 worker_row w (Give taken reply) = row act.Give (λ s. at_stage w (Reply taken reply 0))
 worker_row w (Reply taken reply at) = row (store_block w (3 + at) (slice_index reply at)) (λ s. at_stage w (after_reply taken reply at))
 worker_row w (Ack taken reply) = row (exchange_state w ready acknowledged) (λ s. look_next w)
@@ -80,12 +80,12 @@ abbrev pub worker_plan : WorkerAt → Act
 worker_plan w = (worker_row w w.stage).step
 
 -- the worker after a step that found this
-abbrev pub worker_after : WorkerAt → Seen → WorkerAt
+abbrev pub worker_after : WorkerAt → Observed → WorkerAt
 worker_after w seen = (worker_row w w.stage).next seen
 
--- at Mark the book's reply bears the mark of the copy
-abbrev pub IsAnswer : WorkerStage → Seen → Type 0
-IsAnswer (Mark taken) seen = (reply_in seen).mark ≡ mark_of taken
+-- at Answer the book's reply bears the mark of the copy
+abbrev pub IsAnswer : WorkerStage → Observed → Type 0
+IsAnswer (Answer taken) seen = (reply_in seen).mark ≡ mark_of taken
 IsAnswer _ seen = Unit {0}
 
 -- the copy, from its end until the turn is given back
@@ -95,7 +95,7 @@ taken_in Count = None
 taken_in (End count) = None
 taken_in (Copy count end words) = None
 taken_in (Take taken) = Some taken
-taken_in (Mark taken) = Some taken
+taken_in (Answer taken) = Some taken
 taken_in (Give taken reply) = Some taken
 taken_in (Reply taken reply at) = None
 taken_in (Ack taken reply) = None
@@ -107,7 +107,7 @@ is_looking Count = false
 is_looking (End count) = false
 is_looking (Copy count end words) = false
 is_looking (Take taken) = false
-is_looking (Mark taken) = false
+is_looking (Answer taken) = false
 is_looking (Give taken reply) = false
 is_looking (Reply taken reply at) = false
 is_looking (Ack taken reply) = false

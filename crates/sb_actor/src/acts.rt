@@ -31,17 +31,17 @@ pub enum Act {
         word: Word,
         value: u64,
     },
-    /// It stores `to` into a word where that holds `from`.
+    /// It stores `to` into a word if that holds `from`.
     Exchange {
         target: u32,
         word: Word,
         from: u64,
         to: u64,
     },
-    /// A worker takes the turn, where nobody has it.
+    /// A worker takes the turn, if nobody has it.
     Take,
     /// The book answers a worker's copy.
-    Mark,
+    Answer,
     /// A worker gives the turn back.
     Give,
     /// Nothing: the thread is finished.
@@ -50,7 +50,7 @@ pub enum Act {
 
 /// What a step found.
 #[derive(Drop)]
-pub enum Seen {
+pub enum Observed {
     /// The value that a load or an exchange found.
     Value(u64),
     /// Nothing: a value was stored, or the turn given back.
@@ -61,14 +61,14 @@ pub enum Seen {
     Answered(Reply),
 }
 
-impl Seen {
-    /// The value that was found, 0 where the step found none.
+impl Observed {
+    /// The value that was found, 0 if the step found none.
     #[inline(always)]
     pub(crate) fn value(&self) -> u64
         ensures { result ≡ value_in self.now }
     {
         match self {
-            Seen::Value(value) => *value,
+            Observed::Value(value) => *value,
             _ => 0,
         }
     }
@@ -79,17 +79,17 @@ impl Seen {
         ensures { result ≡ turn_in self.now }
     {
         match self {
-            Seen::Turn(got) => *got,
+            Observed::Turn(got) => *got,
             _ => false,
         }
     }
 
-    /// What was replied, a reply of zeros where nothing was.
+    /// What was replied, a reply of zeros if nothing was.
     pub(crate) fn into_reply(self) -> Reply
         ensures { result ≡ reply_in self }
     {
         match self {
-            Seen::Answered(reply) => reply,
+            Observed::Answered(reply) => reply,
             _ => Reply {
                 mark: 0,
                 outcome: 0,

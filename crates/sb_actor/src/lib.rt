@@ -17,10 +17,11 @@ mod places;
 mod threads;
 mod workers;
 
-pub use acts::{ABANDONED, ACKNOWLEDGED, Act, BUSY, FREE, READY, Seen};
+pub use acts::{ABANDONED, ACKNOWLEDGED, Act, BUSY, FREE, Observed, READY};
 pub use laws::{
-    blocks_are_whole, clean_channels_are_kept, starts_in_rule, stray_keeps_rule, thread_follows,
-    thread_keeps_rule, worker_follows, worker_keeps_rule,
+    blocks_are_whole, calls_end_for_cause, channels_have_one_thread, clean_channels_are_kept,
+    results_have_causes, results_have_steps, starts_in_rule, stray_keeps_rule, thread_follows,
+    thread_keeps_rule, waits_end_for_cause, worker_follows, worker_keeps_rule,
 };
 pub use places::mark_at;
 pub use threads::ThreadState;

@@ -8,7 +8,7 @@ pub(crate) enum WorkerPhase {
     End,
     Copy,
     Take,
-    Mark,
+    Answer,
     Give,
     Reply,
     Ack,

@@ -1,15 +1,15 @@
 // The statements of a thread.
 ghost use Rattle.std.specs.Prelude.{◌≡◌, ◌<◌, ◌≤◌, length, true, option_map, IfSome};
 ghost use Rattle.sb_statements.specs.Limits.{most_statements};
-ghost use Rattle.sb_statements.specs.Soundness.{is_sound, is_statement};
+ghost use Rattle.sb_statements.specs.Soundness.{is_statement};
 ghost use Rattle.sb_actor.specs.Places.{statements_of, statement_at, mark_at, clean_upto};
 ghost use Rattle.sb_block.specs.Blocks.{block, encodes};
-ghost use Rattle.sb_statements.specs.CleanMarks.{AreCleanMarks};
+ghost use Rattle.sb_statements.specs.CleanTables.{IsCleanTable};
 
 use arrayvec::ArrayVec;
 use sb_block::{Words, encode};
 use sb_call::{Arg, CallTag};
-use sb_statements::{CleanMarks, Script, Statement, sound_parts};
+use sb_statements::{CleanTable, SoundScript, Statement, sound_parts};
 
 /// The mark of the call at a place of a thread.
 pub fn mark_at(thread: u32, place: u32) -> u64
@@ -18,9 +18,9 @@ pub fn mark_at(thread: u32, place: u32) -> u64
     (u64::from(thread) + 1) * 65536 + u64::from(place)
 }
 
-/// The statements of a thread, none where it is not there.
+/// The statements of a thread, none if it is not there.
 #[inline(always)]
-pub(crate) fn statements_of(script: &Script, target: u32, thread: u32) -> &[Statement]
+pub(crate) fn statements_of(script: &SoundScript, target: u32, thread: u32) -> &[Statement]
     ensures { result.now ≡ statements_of script.now target thread }
 {
     let Some(target) = script.targets.as_slice().get(target as usize) else {
@@ -35,7 +35,7 @@ pub(crate) fn statements_of(script: &Script, target: u32, thread: u32) -> &[Stat
 /// The statement at a place.
 #[inline(always)]
 pub(crate) fn statement_at(
-    script: &Script,
+    script: &SoundScript,
     target: u32,
     thread: u32,
     place: u32,
@@ -45,19 +45,19 @@ pub(crate) fn statement_at(
     statements_of(script, target, thread).get(place as usize)
 }
 
-/// The statement at a place of a sound script, which is sound, and at one of at most 4,096 places.
+/// The statement at a place, which is sound, and at one of at most 4,096 places.
 pub(crate) fn sound_statement_at(
-    script: &Script,
+    script: &SoundScript,
     target: u32,
     thread: u32,
     place: u32,
 ) -> Option<&Statement>
-    requires { is_sound script.now ≡ true }
     ensures value { option_map (λ s. s.now) result ≡ statement_at script.now target thread place }
     ensures statement { IfSome result (λ s. is_statement script.now.targets s.now ≡ true) }
     ensures place { IfSome result (λ s. place < most_statements) }
 {
     sound_parts();
+    script.establish_sound();
     statement_at(script, target, thread, place)
 }
 
@@ -76,12 +76,12 @@ pub(crate) fn block_of(tag: CallTag, args: &[Arg], mark: u64) -> Words
 /// Of the channels of a target, in order, whether each is clean. There are at most 8.
 #[tactic(auto, using(crate::proofs::Channels::clean_length, crate::proofs::Channels::clean_more))]
 pub(crate) fn clean_upto(
-    marks: &CleanMarks,
-    script: &Script,
+    table: &CleanTable,
+    script: &SoundScript,
     target: u32,
     channels: u32,
 ) -> ArrayVec<bool, 8>
-    requires marks { AreCleanMarks script.now marks.now }
+    requires table { IsCleanTable script.now table.now }
     requires target { target < 8 }
     requires few { channels ≤ 8 }
     ensures { result.items ≡ clean_upto script.now target channels }
@@ -89,7 +89,7 @@ pub(crate) fn clean_upto(
     let _script = script;
     let mut clean = ArrayVec::new();
     for channel in 0..channels {
-        clean.push(marks.is_clean(target, channel));
+        clean.push(table.is_clean(target, channel));
     }
     clean
 }

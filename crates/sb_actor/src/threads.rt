@@ -2,16 +2,16 @@
 ghost use Rattle.std.specs.Prelude.{◌≡◌, ◌+◌, ◌<◌, ◌≤◌, ℕ, [], length, true, Bool, slice_get, slice_index_or, Some, None, option_map};
 ghost use Rattle.std.specs.List.{list_any};
 ghost use Rattle.sb_statements.specs.Limits.{most_statements};
-ghost use Rattle.sb_statements.specs.Soundness.{is_sound, channels_of};
+ghost use Rattle.sb_statements.specs.Soundness.{channels_of};
 ghost use Rattle.sb_statements.specs.declared.scripts.Script.{Script};
 ghost use Rattle.sb_actor.specs.ThreadStages.{ThreadAt, Try};
-ghost use Rattle.sb_statements.specs.CleanMarks.{AreCleanMarks};
-ghost use Rattle.sb_actor.specs.Places.{statement_at, begins, begun, is_finished};
+ghost use Rattle.sb_statements.specs.CleanTables.{IsCleanTable};
+ghost use Rattle.sb_actor.specs.Places.{statement_at, begins, thread_start, is_finished};
 ghost use Rattle.sb_actor.specs.ThreadTable.{thread_plan, thread_after, stray_row, after_round, after_try, after_send, after_stray_load, reply_by, goes_on, ends, has_clean};
 
 use crate::acts::{
-    ABANDONED, ACKNOWLEDGED, Act, BUSY, FREE, READY, Seen, block_word, exchange, load, state_word,
-    store,
+    ABANDONED, ACKNOWLEDGED, Act, BUSY, FREE, Observed, READY, block_word, exchange, load,
+    state_word, store,
 };
 use crate::phases::ThreadPhase;
 use crate::places::{
@@ -21,7 +21,7 @@ use arrayvec::ArrayVec;
 use sb_block::{Words, read_reply};
 use sb_call::Reply;
 use sb_statements::{
-    CallResult, CleanMarks, Script, Statement, StmtResult, clean_marks, sound_parts,
+    CallResult, CleanTable, SoundScript, Statement, StmtResult, clean_table, sound_parts,
 };
 use std::marker::Model;
 
@@ -37,7 +37,7 @@ pub struct ThreadState {
     phase: ThreadPhase,
     channel: u32,
     count: u32,
-    fives: bool,
+    all_abandoned: bool,
     at: u32,
     most: u32,
     block: Words,
@@ -58,7 +58,7 @@ impl Model for ThreadState {
       clean = x.clean.items;
       place = x.place;
       block = x.block;
-      stage = thread_stage x.phase x.channel x.count x.fives x.at x.most x.reply;
+      stage = thread_stage x.phase x.channel x.count x.all_abandoned x.at x.most x.reply;
     } };
 
     ghost invariant = { λ x. (x.channel < length x.clean.items) × (length x.clean.items ≤ 8) × (0 < x.patience)
@@ -74,24 +74,24 @@ fn has_clean(clean: &[bool]) -> bool
 
 // How many channels a target has.
 #[tactic(auto, using(crate::proofs::Soundness::sound_channels))]
-fn channels_at(script: &Script, target: u32) -> u32
-    requires sound { is_sound script.now ≡ true }
+fn channels_at(script: &SoundScript, target: u32) -> u32
     requires there { target < length script.now.targets }
     ensures channels { result ≡ channels_of (slice_get script.now.targets target) }
     ensures some { 0 < result }
     ensures few { result ≤ 8 }
 {
     sound_parts();
+    script.establish_sound();
     script.targets.as_slice()[target as usize].channels
 }
 
 // The patience of a script.
 #[tactic(auto, using(crate::proofs::Soundness::sound_patience))]
-fn patience_of(script: &Script) -> u32
-    requires { is_sound script.now ≡ true }
+fn patience_of(script: &SoundScript) -> u32
     ensures patience { result ≡ script.now.patience }
     ensures some { 0 < result }
 {
+    script.establish_sound();
     script.patience
 }
 
@@ -148,34 +148,38 @@ fn reply_by(channel: u32, mark: u64, reply: Reply) -> CallResult
 }
 
 impl ThreadState {
-    /// A thread of a sound script before its first step. The target and the thread are there.
-    pub fn new(script: &Script, target: u32, thread: u32) -> ThreadState
-        requires sound { is_sound script.now ≡ true }
+    /// A thread before its first step. The target and the thread are there.
+    pub fn new(script: &SoundScript, target: u32, thread: u32) -> ThreadState
         requires there { target < length script.now.targets }
-        ensures { result ≡ begun script.now target thread }
+        ensures { result ≡ thread_start script.now target thread }
     {
-        ThreadState::with_marks(script, &clean_marks(script), target, thread)
+        ThreadState::with_table(script, &clean_table(script), target, thread)
     }
 
-    /// The same with the clean marks of the script, for whoever makes several threads.
+    /// The same with the clean table of the script, for whoever makes several threads.
     #[tactic(auto, using(crate::proofs::Soundness::few_targets, crate::proofs::Channels::clean_length))]
-    pub fn with_marks(script: &Script, marks: &CleanMarks, target: u32, thread: u32) -> ThreadState
-        requires sound { is_sound script.now ≡ true }
-        requires marks { AreCleanMarks script.now marks.now }
+    pub fn with_table(
+        script: &SoundScript,
+        table: &CleanTable,
+        target: u32,
+        thread: u32,
+    ) -> ThreadState
+        requires table { IsCleanTable script.now table.now }
         requires there { target < length script.now.targets }
-        ensures { result ≡ begun script.now target thread }
+        ensures { result ≡ thread_start script.now target thread }
     {
+        script.establish_sound();
         let channels = channels_at(script, target);
         let mut state = ThreadState {
             target,
             thread,
             patience: patience_of(script),
-            clean: clean_upto(marks, script, target, channels),
+            clean: clean_upto(table, script, target, channels),
             place: 0,
             phase: ThreadPhase::Over,
             channel: 0,
             count: 0,
-            fives: true,
+            all_abandoned: true,
             at: 0,
             most: 1,
             block: Words::empty(),
@@ -186,8 +190,7 @@ impl ThreadState {
     }
 
     // Begins with the statement at a place.
-    fn begin(&mut self, script: &Script, place: u32)
-        requires sound { is_sound script.now ≡ true }
+    fn begin(&mut self, script: &SoundScript, place: u32)
         ensures { self.new ≡ begins script.now self.old place }
     {
         self.place = place;
@@ -196,7 +199,7 @@ impl ThreadState {
                 self.block = block_of(*tag, args.as_slice(), mark_at(self.thread, place));
                 self.channel = 0;
                 self.count = 0;
-                self.fives = true;
+                self.all_abandoned = true;
                 self.phase = ThreadPhase::Try;
             }
             Some(Statement::Wait { most, .. }) => {
@@ -220,8 +223,7 @@ impl ThreadState {
 
     // The statement ends with this result.
     #[inline(always)]
-    fn end(&mut self, script: &Script, ended: StmtResult) -> Option<StmtResult>
-        requires sound { is_sound script.now ≡ true }
+    fn end(&mut self, script: &SoundScript, ended: StmtResult) -> Option<StmtResult>
         requires place { self.old.place < most_statements }
         ensures thread { self.new ≡ (ends script.now self.old ended).thread }
         ensures ended { result ≡ Some ended }
@@ -232,32 +234,36 @@ impl ThreadState {
 
     // It tries to take this channel next.
     #[inline(always)]
-    fn try_at(&mut self, channel: u32, rounds: u32, fives: bool) -> Option<StmtResult>
+    fn try_at(&mut self, channel: u32, rounds: u32, all_abandoned: bool) -> Option<StmtResult>
         requires channel { channel < length self.old.clean }
         requires rounds { rounds < self.old.patience }
         requires block { 0 < length self.old.block }
         requires place { self.old.place < most_statements }
-        ensures thread { self.new ≡ (goes_on self.old (Try channel rounds fives)).thread }
+        ensures thread { self.new ≡ (goes_on self.old (Try channel rounds all_abandoned)).thread }
         ensures ended { result ≡ None }
     {
         self.channel = channel;
         self.count = rounds;
-        self.fives = fives;
+        self.all_abandoned = all_abandoned;
         self.phase = ThreadPhase::Try;
         None
     }
 
-    // Behind the last channel.
+    // After the last channel.
     #[inline(always)]
-    fn after_round(&mut self, script: &Script, rounds: u32, fives: bool) -> Option<StmtResult>
-        requires sound { is_sound script.now ≡ true }
+    fn after_round(
+        &mut self,
+        script: &SoundScript,
+        rounds: u32,
+        all_abandoned: bool,
+    ) -> Option<StmtResult>
         requires rounds { rounds < self.old.patience }
         requires block { 0 < length self.old.block }
         requires place { self.old.place < most_statements }
-        ensures thread { self.new ≡ (after_round script.now self.old rounds fives).thread }
-        ensures ended { result ≡ (after_round script.now self.old rounds fives).ended }
+        ensures thread { self.new ≡ (after_round script.now self.old rounds all_abandoned).thread }
+        ensures ended { result ≡ (after_round script.now self.old rounds all_abandoned).ended }
     {
-        if fives {
+        if all_abandoned {
             return self.end(script, StmtResult::Call(CallResult::NoChannel));
         }
         if has_clean(self.clean.as_slice()) {
@@ -273,19 +279,18 @@ impl ThreadState {
     #[inline(always)]
     fn after_try(
         &mut self,
-        script: &Script,
+        script: &SoundScript,
         channel: u32,
         rounds: u32,
-        fives: bool,
+        all_abandoned: bool,
         found: u64,
     ) -> Option<StmtResult>
-        requires sound { is_sound script.now ≡ true }
         requires channel { channel < length self.old.clean }
         requires rounds { rounds < self.old.patience }
         requires block { 0 < length self.old.block }
         requires place { self.old.place < most_statements }
-        ensures thread { self.new ≡ (after_try script.now self.old channel rounds fives found).thread }
-        ensures ended { result ≡ (after_try script.now self.old channel rounds fives found).ended }
+        ensures thread { self.new ≡ (after_try script.now self.old channel rounds all_abandoned found).thread }
+        ensures ended { result ≡ (after_try script.now self.old channel rounds all_abandoned found).ended }
     {
         if found == FREE {
             self.channel = channel;
@@ -293,17 +298,16 @@ impl ThreadState {
             self.phase = ThreadPhase::Fill;
             return None;
         }
-        let fives = fives && found == ABANDONED;
+        let all_abandoned = all_abandoned && found == ABANDONED;
         if channel as usize + 1 == self.clean.len() {
-            return self.after_round(script, rounds, fives);
+            return self.after_round(script, rounds, all_abandoned);
         }
-        self.try_at(channel + 1, rounds, fives)
+        self.try_at(channel + 1, rounds, all_abandoned)
     }
 
     // By what the exchange from busy to ready found.
     #[inline(always)]
-    fn after_send(&mut self, script: &Script, channel: u32, found: u64) -> Option<StmtResult>
-        requires sound { is_sound script.now ≡ true }
+    fn after_send(&mut self, script: &SoundScript, channel: u32, found: u64) -> Option<StmtResult>
         requires channel { channel < length self.old.clean }
         requires place { self.old.place < most_statements }
         ensures thread { self.new ≡ (after_send script.now self.old channel found).thread }
@@ -325,12 +329,11 @@ impl ThreadState {
     #[inline(always)]
     fn after_stray_load(
         &mut self,
-        script: &Script,
+        script: &SoundScript,
         loads: u32,
         most: u32,
         met: bool,
     ) -> Option<StmtResult>
-        requires sound { is_sound script.now ≡ true }
         requires loads { loads < most }
         requires place { self.old.place < most_statements }
         ensures thread { self.new ≡ (after_stray_load script.now self.old loads most met).thread }
@@ -353,12 +356,11 @@ impl ThreadState {
     #[inline(always)]
     fn after_stray(
         &mut self,
-        script: &Script,
+        script: &SoundScript,
         loads: u32,
         most: u32,
-        seen: &Seen,
+        seen: &Observed,
     ) -> Option<StmtResult>
-        requires sound { is_sound script.now ≡ true }
         requires loads { loads < most }
         requires place { self.old.place < most_statements }
         ensures thread { self.new ≡ ((stray_row script.now self.old loads most (statement_at script.now self.old.target self.old.thread self.old.place)).next seen.now).thread }
@@ -378,7 +380,7 @@ impl ThreadState {
 
     /// Its one next step. The script is that of `new`.
     #[inline(always)]
-    pub fn plan(&self, script: &Script) -> Act
+    pub fn plan(&self, script: &SoundScript) -> Act
         ensures plan { result ≡ thread_plan script.now self.now }
     {
         let target = self.target;
@@ -401,18 +403,23 @@ impl ThreadState {
         }
     }
 
-    /// Goes on by what the step found, and gives the result where it ended a statement. The script is that of `new`.
+    /// Goes on by what the step found, and gives the result if it ended a statement. The script is that of `new`.
     #[inline(always)]
     #[tactic(auto, using(crate::proofs::Replies::whole_reply))]
-    pub fn after(&mut self, script: &Script, seen: Seen) -> Option<StmtResult>
-        requires sound { is_sound script.now ≡ true }
+    pub fn after(&mut self, script: &SoundScript, seen: Observed) -> Option<StmtResult>
         ensures thread { self.new ≡ (thread_after script.now self.old seen).thread }
         ensures ended { result ≡ (thread_after script.now self.old seen).ended }
     {
         let channel = self.channel;
         match self.phase {
             ThreadPhase::Try => {
-                self.after_try(script, channel, self.count, self.fives, seen.value())
+                self.after_try(
+                    script,
+                    channel,
+                    self.count,
+                    self.all_abandoned,
+                    seen.value(),
+                )
             }
             ThreadPhase::Fill => {
                 self.at += 1;
@@ -469,7 +476,7 @@ impl ThreadState {
         self.thread
     }
 
-    /// The place of its present statement, from 0. The number of statements where it is finished.
+    /// The place of its present statement, from 0. The number of statements if it is finished.
     pub fn place(&self) -> u32
         ensures { result ≡ self.now.place }
     {
@@ -477,7 +484,7 @@ impl ThreadState {
     }
 
     /// Whether each statement has ended. The script is that of `new`.
-    pub fn finished(&self, script: &Script) -> bool
+    pub fn finished(&self, script: &SoundScript) -> bool
         ensures { result ≡ is_finished script.now self.now }
     {
         self.place as usize >= statements_of(script, self.target, self.thread).len()

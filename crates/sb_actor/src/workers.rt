@@ -5,9 +5,11 @@ ghost use Rattle.sb_actor.specs.Ranges.{IsSoundStage};
 ghost use Rattle.sb_actor.specs.WorkerStages.{Look};
 ghost use Rattle.sb_actor.specs.WorkerTable.{worker_plan, worker_after, IsAnswer, taken_in, is_looking};
 
-use crate::acts::{ACKNOWLEDGED, Act, READY, Seen, block_word, exchange, load, state_word, store};
+use crate::acts::{
+    ACKNOWLEDGED, Act, Observed, READY, block_word, exchange, load, state_word, store,
+};
 use crate::phases::WorkerPhase;
-use sb_block::{Taken, Words, reply_words};
+use sb_block::{BlockCopy, Words, reply_words};
 use std::marker::Model;
 use std::mem;
 
@@ -23,7 +25,7 @@ pub struct WorkerState {
     count: u64,
     end: u64,
     words: Words,
-    taken: Taken,
+    taken: BlockCopy,
     reply: [u64; 12],
 }
 
@@ -45,7 +47,7 @@ impl Model for WorkerState {
         × (is_worker_sound w.phase w.at w.count w.end w.words w.taken w.reply ≡ true) };
 }
 
-// The channel behind this one, in turn.
+// The channel after this one, in turn.
 #[inline(always)]
 pub(crate) fn next_channel(channel: u32, channels: u32) -> u32
     requires within { channel < channels }
@@ -58,15 +60,15 @@ pub(crate) fn next_channel(channel: u32, channels: u32) -> u32
 }
 
 // A copy that keeps the rule of copies.
-fn taken_of(count: u64, end: u64, words: Words) -> Taken
+fn taken_of(count: u64, end: u64, words: Words) -> BlockCopy
     requires { is_copy (copied count end words) ≡ true }
     ensures { result ≡ copied count end words }
 {
-    Taken::of(count, end, words).unwrap()
+    BlockCopy::of(count, end, words).unwrap()
 }
 
 // A copy that ended before its first word.
-fn no_words(count: u64, end: u64) -> Taken
+fn no_words(count: u64, end: u64) -> BlockCopy
     requires { is_copy (copied count end []) ≡ true }
     ensures { result ≡ copied count end [] }
 {
@@ -107,7 +109,7 @@ impl WorkerState {
             WorkerPhase::End => load(target, block_word(channel, 15 + self.count as u32)),
             WorkerPhase::Copy => load(target, block_word(channel, self.words.len() as u32)),
             WorkerPhase::Take => Act::Take,
-            WorkerPhase::Mark => Act::Mark,
+            WorkerPhase::Answer => Act::Answer,
             WorkerPhase::Give => Act::Give,
             WorkerPhase::Reply => {
                 let value = self.reply[self.at as usize];
@@ -117,9 +119,9 @@ impl WorkerState {
         }
     }
 
-    /// Goes on by what the step found. At Mark it is a reply that bears the mark of the copy.
+    /// Goes on by what the step found. At Answer it is a reply that bears the mark of the copy.
     #[inline(always)]
-    pub fn after(&mut self, seen: Seen)
+    pub fn after(&mut self, seen: Observed)
         requires answer { IsAnswer self.old.stage seen }
         ensures { self.new ≡ worker_after self.old seen }
     {
@@ -162,10 +164,10 @@ impl WorkerState {
             }
             WorkerPhase::Take => {
                 if seen.turn() {
-                    self.phase = WorkerPhase::Mark;
+                    self.phase = WorkerPhase::Answer;
                 }
             }
-            WorkerPhase::Mark => {
+            WorkerPhase::Answer => {
                 self.reply = reply_words(&seen.into_reply());
                 self.phase = WorkerPhase::Give;
             }
@@ -188,23 +190,24 @@ impl WorkerState {
     }
 
     /// The copy, exactly from its end until the turn is given back.
-    pub fn taken(&self) -> Option<&Taken>
+    pub fn taken(&self) -> Option<&BlockCopy>
         ensures { option_map (λ t. t.now) result ≡ taken_in self.now.stage }
     {
         match self.phase {
-            WorkerPhase::Take | WorkerPhase::Mark | WorkerPhase::Give => Some(&self.taken),
+            WorkerPhase::Take | WorkerPhase::Answer | WorkerPhase::Give => Some(&self.taken),
             _ => None,
         }
     }
 
-    /// What holds of every worker: it stands at one of its 1 to 8 channels, the numbers of its stage are in their ranges, and its
-    /// reply has twelve words, the first of which is the mark of its copy. It does nothing: its contract is the facts.
+    /// What holds of every worker: it stands at one of its 1 to 8 channels, the numbers of its stage are in their ranges, what it has
+    /// copied keeps the rule of a copy, and its reply has twelve words, the first of which is the mark of its copy. It does nothing:
+    /// its contract is the facts.
     pub fn establish_sound(&self)
         ensures within { self.now.channel < self.now.channels }
         ensures few { self.now.channels ≤ 8 }
         ensures stage { IsSoundStage self.now.stage }
     {
-        let _channels = self.channels;
+        let _words = self.taken.words();
     }
 
     /// The target, from 0.

@@ -41,7 +41,7 @@ pub only_performed_calls_count : OnlyPerformedCallsCount
 only_performed_calls_count ns [] = refl
 only_performed_calls_count ns (e ∷ es) = one_entry ns e es e.decision refl (λ after. only_performed_calls_count after es)
 
--- what is said of a decision on a call with this verdict, where it is performed
+-- what is said of a decision on a call with this verdict, if it is performed
 abbrev Allowed : CallTag → List Arg → Verdict → Decision → Type 0
 Allowed asked asked_args v (Performed tag line action args) = (asked ≡ tag) × (v ≡ verdict.Rule line action) × Grants action asked_args args
 Allowed asked asked_args v (Refused f) = ⊤

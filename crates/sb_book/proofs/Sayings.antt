@@ -51,17 +51,17 @@ module _ (law : DecidingRuleIsFirst) (policy : Policy) (e : Entry) (before : Spa
         space = refl;
         replied = replied;
       }
-  by_rule tag args call same sound (verdict.Rule line Fake) judged replied = (record { faultless = sound; call = call; judged = judged }, refl)
-  by_rule tag args call same sound (verdict.Rule line Deny) judged replied = (record { faultless = sound; call = call; judged = judged }, tt, refl)
-  by_rule tag args call same sound (verdict.Rule line Alarm) judged replied = (record { faultless = sound; call = call; judged = judged }, tt, refl)
-  by_rule tag args call same sound verdict.NoRule judged replied = (record { faultless = sound; call = call; judged = judged }, tt, refl)
+  by_rule tag args call same sound (verdict.Rule line Fake) judged replied = (record { faultless = sound; call = call; judged = judged }, refl, replied)
+  by_rule tag args call same sound (verdict.Rule line Deny) judged replied = (record { faultless = sound; call = call; judged = judged }, tt, refl, replied)
+  by_rule tag args call same sound (verdict.Rule line Alarm) judged replied = (record { faultless = sound; call = call; judged = judged }, tt, refl, replied)
+  by_rule tag args call same sound verdict.NoRule judged replied = (record { faultless = sound; call = call; judged = judged }, tt, refl, replied)
 
   -- a fault, or else a verdict
   by_fault : (o : Option BlockFault) → fault e.taken ≡ o → Replies (by_decoded policy (call_unless o (call_of e.taken)))
       → Tells (by_decoded policy (call_unless o (call_of e.taken)))
   by_fault None sound replied =
       by_rule (call_of e.taken).tag (call_of e.taken).args refl refl sound (verdict_of policy (call_of e.taken).tag (call_of e.taken).args) refl replied
-  by_fault (Some f) there replied = (there, refl)
+  by_fault (Some f) there replied = (there, refl, replied)
 
   -- what is decided of its copy
   decided : e.decision ≡ decision_of policy e.taken → Replies e.decision → Tells e.decision

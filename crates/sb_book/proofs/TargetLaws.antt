@@ -1,4 +1,4 @@
--- The entries of one target, where others are put behind.
+-- The entries of one target, if others are put after them.
 use Rattle.std.proofs.Common.{◌∙◌, cond, [], ◌∷◌, ◌++◌, ap, eq-eqb, ne_eqb}
 use Rattle.std.proofs.lemmas.List.{append-nil}
 use Rattle.std.proofs.lemmas.List.Elements.{filter-append}

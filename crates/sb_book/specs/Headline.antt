@@ -1,6 +1,7 @@
 -- What each entry of a legal history says: of the copy that was taken, of the policy of its target, and of the namespace before and after it.
-use Rattle.std.specs.Prelude.{◌≡◌, ℕ, ◌+◌, List, take, None, Some, slice_get, ⊤}
+use Rattle.std.specs.Prelude.{◌≡◌, ℕ, ◌+◌, List, [], take, None, Some, slice_get, ⊤}
 use Rattle.sb_call.specs.declared.arguments.Arg.{Arg}
+use Rattle.sb_call.specs.Statuses.{success, invalid_parameter, access_denied}
 use Rattle.sb_call.specs.declared.tags.CallTag.{CallTag}
 use Rattle.sb_block.specs.Calls.{call_of}
 use Rattle.sb_block.specs.Copies.{Copied, mark_of}
@@ -13,7 +14,7 @@ use Rattle.sb_rule.specs.declared.actions.Action.TheVariants.{Allow, Deny, Alarm
 use Rattle.sb_rule.specs.declared.policies.Policy.{Policy}
 use Rattle.sb_rule.specs.declared.verdicts.Verdict.{Verdict}
 use Rattle.sb_rule.specs.declared.verdicts.Verdict.TheVariants.{Rule, NoRule}
-use Rattle.sb_book.specs.Histories.{Setting, IsLegalHistory, performed_reply, space_from}
+use Rattle.sb_book.specs.Histories.{Setting, IsLegalHistory, denied_outcome, faked_outcome, fault_words, performed_reply, refused_outcome, space_from}
 use Rattle.sb_book.specs.Laws.{IsAllowed}
 use Rattle.sb_book.specs.declared.decisions.Decision.{Decision}
 use Rattle.sb_book.specs.declared.decisions.Decision.TheVariants.{Refused, Denied, Faked, Performed}
@@ -42,12 +43,16 @@ pub record IsCarriedOut (policy : Policy) (e : Entry) (before after : Space) (ta
   pub space : after ≡ (perform before e.target tag args).space
   pub replied : e.reply ≡ performed_reply (mark_of e.taken) (perform before e.target tag args).answer
 
--- by the decision: a refused block has exactly that fault in the copy; a denied call was denied by that verdict; a faked call by that rule;
--- and these three leave the namespace as it was. A performed call was carried out as a rule allows
+-- the whole reply to a call that was not performed: under the copy's mark, this outcome and status, no handle, and these extended words
+abbrev pub IsReplied : Entry → ℕ → ℕ → List ℕ → Type 0
+IsReplied e outcome status ext = e.reply ≡ record { mark = mark_of e.taken; outcome = outcome; status = status; handle = 0; ext = ext }
+
+-- by the decision: a refused block has exactly that fault in the copy, and the reply tells it; a denied call was denied by that verdict; a faked call
+-- by that rule; and these three leave the namespace as it was. A performed call was carried out as a rule allows
 abbrev pub Says : Policy → Entry → Space → Space → Decision → Type 0
-Says policy e before after (Refused f) = (fault e.taken ≡ Some f) × (after ≡ before)
-Says policy e before after (Denied tag v) = IsJudged policy e.taken tag v × Denies v × (after ≡ before)
-Says policy e before after (Faked tag line) = IsJudged policy e.taken tag (Rule line Fake) × (after ≡ before)
+Says policy e before after (Refused f) = (fault e.taken ≡ Some f) × (after ≡ before) × IsReplied e refused_outcome invalid_parameter (fault_words f)
+Says policy e before after (Denied tag v) = IsJudged policy e.taken tag v × Denies v × (after ≡ before) × IsReplied e denied_outcome access_denied []
+Says policy e before after (Faked tag line) = IsJudged policy e.taken tag (Rule line Fake) × (after ≡ before) × IsReplied e faked_outcome success []
 Says policy e before after (Performed tag line action args) = IsCarriedOut policy e before after tag line action args
 
 -- the namespace after the first n of these entries

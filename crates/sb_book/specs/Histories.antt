@@ -1,11 +1,11 @@
 -- The history of what was decided, and when it is a legal one.
-use Rattle.std.specs.Prelude.{◌≡◌, ℕ, ◌<◌, List, [], ◌∷◌, ◌++◌, length, map, slice_index, ⊤}
+use Rattle.std.specs.Prelude.{◌≡◌, ℕ, ◌<◌, true, List, [], ◌∷◌, ◌++◌, length, map, slice_index, ⊤}
 use Rattle.sb_call.specs.Statuses.{success, invalid_parameter, access_denied}
 use Rattle.sb_call.specs.declared.replies.Answer.{Answer}
 use Rattle.sb_call.specs.declared.replies.Reply.{Reply}
 use Rattle.sb_statements.specs.declared.scripts.Script.{Script}
 use Rattle.sb_statements.specs.declared.scripts.StartLine.{StartLine}
-use Rattle.sb_block.specs.Copies.{Copied, mark_of}
+use Rattle.sb_block.specs.Copies.{Copied, is_copy, mark_of}
 use Rattle.sb_block.specs.declared.faults.BlockFault.{BlockFault}
 use Rattle.sb_block.specs.declared.faults.BlockFault.TheVariants.{TooManyParams, BadEnd, CountChanged, EndChanged, BadParamType, BadPlace, UnknownTag, WrongShape, BadSize, BadName}
 use Rattle.sb_rule.specs.Verdicts.{policy_at}
@@ -102,10 +102,12 @@ abbrev pub answered : History → ℕ → ℕ → Copied → Decision → Histor
 answered h target channel taken decision =
     record h { space = space_after h.space target decision; entries = h.entries ++ entry_of h.space target channel taken decision ∷ [] }
 
--- the entry follows from its own copy, the policy of its target and the namespace before it
+-- the entry is that of a channel that is there, its copy is one that a worker can take, and it follows from that copy, the policy of its target and the
+-- namespace before it
 pub record IsEntry (s : Setting) (ns : Space) (e : Entry) : Type 0 where
   pub target_there : e.target < length s.policies
   pub channel_there : e.channel < slice_index s.channels e.target
+  pub whole : is_copy e.taken ≡ true
   pub decided : e.decision ≡ decision_of (policy_at s.policies e.target) e.taken
   pub replied : e.reply ≡ reply_of ns e.target (mark_of e.taken) e.decision
 

@@ -4,7 +4,7 @@ use Rattle.std.specs.List.{filter}
 use Rattle.sb_call.specs.declared.arguments.Arg.{Arg}
 use Rattle.sb_call.specs.declared.tags.CallTag.{CallTag}
 use Rattle.sb_block.specs.Calls.{call_of}
-use Rattle.sb_block.specs.Copies.{Copied}
+use Rattle.sb_block.specs.Copies.{Copied, is_copy}
 use Rattle.sb_block.specs.declared.calls.Call.{Call}
 use Rattle.sb_rule.specs.Verdicts.{IsFirstThatHolds, policy_at}
 use Rattle.sb_rule.specs.declared.actions.Action.{Action}
@@ -51,7 +51,7 @@ pub record IsAllowed (policy : Policy) (asked : Call) (tag : CallTag) (line : �
   pub by_action : rule.action ≡ action
   pub given : Grants action asked.args args
 
--- behind each call that is performed stands a rule of the policy
+-- each call that is performed has a rule of the policy
 abbrev pub PerformedCallsAreAllowed : Type 0
 PerformedCallsAreAllowed = (policy : Policy) (copy : Copied) (tag : CallTag) (line : ℕ) (action : Action) (args : List Arg)
     → decision_of policy copy ≡ Performed tag line action args → IsAllowed policy (call_of copy) tag line action args
@@ -59,5 +59,5 @@ PerformedCallsAreAllowed = (policy : Policy) (copy : Copied) (tag : CallTag) (li
 -- an answer to a copy, decided by the policy of its target, leaves a history
 abbrev pub AnswersKeepHistories : Type 0
 AnswersKeepHistories = (h : History) (target channel : ℕ) (taken : Copied) (decision : Decision) → target < length h.setting.policies
-    → channel < slice_index h.setting.channels target → decision ≡ decision_of (policy_at h.setting.policies target) taken → IsHistory h
+    → channel < slice_index h.setting.channels target → is_copy taken ≡ true → decision ≡ decision_of (policy_at h.setting.policies target) taken → IsHistory h
     → IsHistory (answered h target channel taken decision)

@@ -1,7 +1,9 @@
 pub mod Decisions
-pub mod Histories
-pub mod Readiness
-pub mod Laws
 pub mod Headline
-pub mod Targets
+pub mod Histories
+pub mod Laws
+pub mod Readiness
+pub mod ReadyScripts
 pub mod Reports
+pub mod Stores
+pub mod Targets

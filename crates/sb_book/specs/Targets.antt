@@ -11,11 +11,11 @@ is_of_target target e = e.target == target
 abbrev pub of_target : ℕ → List Entry → List Entry
 of_target target entries = filter (is_of_target target) entries
 
--- of entries and others behind them, a target's are its entries of the first, and behind them those of the others
+-- of entries and others after them, a target's are its entries of the first, and after them those of the others
 abbrev pub TargetsAppend : Type 0
 TargetsAppend = (target : ℕ) (front rest : List Entry) → of_target target (front ++ rest) ≡ of_target target front ++ of_target target rest
 
--- an entry behind the others is the last of its own target
+-- an entry after the others is the last of its own target
 abbrev pub OwnEntryIsLast : Type 0
 OwnEntryIsLast = (target : ℕ) (entries : List Entry) (e : Entry) → e.target ≡ target
     → of_target target (entries ++ e ∷ []) ≡ of_target target entries ++ e ∷ []

@@ -1,22 +1,22 @@
 // The book: every entry of a run so far, and the namespace that they led to.
 ghost use Rattle.std.specs.Prelude.{◌≡◌, ◌≤◌, ◌<◌, ◌∷◌, [], true, length, is_ok, slice_index, OnOk, OnErr, IfOk};
-ghost use Rattle.std.specs.List.{list_all};
 ghost use Rattle.sb_block.specs.Copies.{mark_of};
-ghost use Rattle.sb_kernel.specs.Openings.{is_named, opened, opening};
+ghost use Rattle.sb_kernel.specs.Openings.{opening};
 ghost use Rattle.sb_rule.specs.Verdicts.{policy_at};
-ghost use Rattle.sb_statements.specs.Limits.{most_start_lines};
 ghost use Rattle.sb_book.specs.Decisions.{decision_of, is_fitting};
 ghost use Rattle.sb_book.specs.Histories.{History, IsHistory, new_history, setting_of, fault_words, performed_reply, reply_of, space_after, answered};
-ghost use Rattle.sb_book.specs.Readiness.{is_ready};
 
 use crate::decisions::Decision;
-use crate::entries::{Entries, Entry};
-use sb_block::{BlockFault, Taken, faultless_copies_fit};
+use crate::entries::Entries;
+use crate::ready_scripts::ReadyScript;
+use crate::slices::EntrySlice;
+use crate::stores::EntryStore;
+use sb_block::{BlockCopy, BlockFault, faultless_copies_fit};
 use sb_call::{ACCESS_DENIED, Answer, Extended, INVALID_PARAMETER, Reply, SUCCESS};
 use sb_items::NoMemory;
-use sb_kernel::{Kernel, StartRefused};
+use sb_kernel::Kernel;
 use sb_rule::Policies;
-use sb_statements::{Script, StartLine};
+use sb_statements::Script;
 use std::alloc::Global;
 use std::marker::Model;
 use std::snapshot::Snapshot;
@@ -26,7 +26,7 @@ use std::snapshot::Snapshot;
 /// setting.
 pub struct Book {
     kernel: Kernel,
-    entries: Vec<Entry>,
+    store: EntryStore,
     // The policies and the script with which the book was made, for proofs.
     policies: Snapshot<Policies>,
     script: Snapshot<Script>,
@@ -37,7 +37,7 @@ impl Drop for Book {
     fn drop(self) {
         let Book {
             kernel: _,
-            entries: _,
+            store: _,
             policies: _,
             script: _,
         } = self;
@@ -46,12 +46,14 @@ impl Drop for Book {
 
 impl Model for Book {
     ghost use Rattle.sb_book.specs.Histories.{History, IsHistory, setting_of};
+    ghost use Rattle.sb_book.specs.Stores.{IsStore, entries_of};
 
     ghost Value = { History };
 
-    ghost view = { λ b. record { setting = setting_of b.policies.value.list b.script.value; space = b.kernel; entries = b.entries.items } };
+    ghost view = { λ b. record { setting = setting_of b.policies.value.list b.script.value; space = b.kernel; entries = entries_of b.store } };
 
-    ghost invariant = { λ b. IsHistory (record { setting = setting_of b.policies.value.list b.script.value; space = b.kernel; entries = b.entries.items }) };
+    ghost invariant = { λ b. IsHistory (record { setting = setting_of b.policies.value.list b.script.value; space = b.kernel; entries = entries_of b.store })
+        × IsStore b.store };
 }
 
 // A fault's number alone.
@@ -158,37 +160,18 @@ fn carry_out(
     }
 }
 
-// The kernel at the start, where all objects can be placed.
-fn kernel_of(alloc: Global, start: &[StartLine]) -> Result<Kernel, NoMemory>
-    requires few { length start.now ≤ most_start_lines }
-    requires names { list_all is_named start.now ≡ true }
-    requires placed { is_ok (opened start.now) ≡ true }
-    ensures { IfOk result (λ kernel. kernel ≡ opening start.now) }
-{
-    match Kernel::start(alloc, start) {
-        Ok(kernel) => Ok(kernel),
-        Err(StartRefused::BadStart { .. }) => unreachable!(),
-        Err(StartRefused::NoMemory) => Err(NoMemory),
-    }
-}
-
 impl Book {
-    #[tactic(auto, using(crate::proofs::Ready::named_starts))]
-    /// The book of a script that is ready for policies: no entries, and the namespace that the script opens with.
-    ///
-    /// # Errors
-    /// `NoMemory` where there was none for the namespace.
-    pub fn new(alloc: Global, policies: &Policies, script: &Script) -> Result<Book, NoMemory>
-        requires { is_ready policies.now.list script.now ≡ true }
-        ensures { IfOk result (λ book. book ≡ new_history (setting_of policies.now.list script.now)) }
+    /// The book of a ready script: no entries, and the namespace that the script opens with. Does not allocate.
+    pub fn new(alloc: Global, ready: &ReadyScript, kernel: Kernel) -> Book
+        requires opens { kernel ≡ opening ready.now.script.start }
+        ensures { result ≡ new_history (setting_of ready.now.policies ready.now.script) }
     {
-        let kernel = kernel_of(alloc, script.start.as_slice())?;
-        Ok(Book {
+        Book {
             kernel,
-            entries: Vec::new(alloc),
-            policies: Snapshot::of(policies),
-            script: Snapshot::of(script),
-        })
+            store: EntryStore::new(alloc),
+            policies: Snapshot::of(ready.policies().policies()),
+            script: Snapshot::of(ready.script().script()),
+        }
     }
 
     #[tactic(auto, using(crate::proofs::Fitting::decided_fits, crate::proofs::Legal::answered_is_legal))]
@@ -196,12 +179,12 @@ impl Book {
     /// the channel are there, and the decision is that of the target's policy on the copy.
     ///
     /// # Errors
-    /// `NoMemory` where there was none for the entry or for what the call makes; then the book is as it was.
+    /// `NoMemory` if there was none for the entry or for what the call makes; then the book is as it was.
     pub fn answer(
         &mut self,
         target: u32,
         channel: u32,
-        taken: &Taken,
+        taken: &BlockCopy,
         decision: Decision,
     ) -> Result<Reply, NoMemory>
         requires target_there { target < length self.old.setting.policies }
@@ -212,24 +195,19 @@ impl Book {
         ensures err { OnErr result (self.new ≡ self.old) }
     {
         faultless_copies_fit();
-        self.entries.reserve(1)?;
+        let _words = taken.words();
+        self.store.reserve()?;
         let reply = carry_out(&mut self.kernel, target, taken.mark(), &decision)?;
-        let entry = Entry {
-            target,
-            channel,
-            taken: taken.copy(),
-            decision,
-            reply: reply.copy(),
-        };
-        self.entries.push(entry).unwrap();
+        self.store
+            .push_reserved(target, channel, taken, decision, &reply);
         Ok(reply)
     }
 
-    /// The entries in order.
-    pub fn entries(&self) -> &[Entry]
-        ensures { result.now ≡ self.now.entries }
+    /// The entries, in order.
+    pub fn entries(&self) -> EntrySlice<'_>
+        ensures { result ≡ self.now.entries }
     {
-        &self.entries
+        self.store.as_slice()
     }
 
     /// The namespace.
@@ -246,11 +224,11 @@ impl Book {
     {
         let Book {
             kernel,
-            entries,
+            store,
             policies: _,
             script: _,
         } = self;
-        (Entries::new(entries), kernel)
+        (Entries::of(store), kernel)
     }
 
     /// The entries are a legal history of the book's setting, and the namespace is the one that they led to. It changes
@@ -258,6 +236,6 @@ impl Book {
     pub fn is_legal(&self)
         ensures { IsHistory self.now }
     {
-        let _count = self.entries.len();
+        let _count = self.store.rows.len();
     }
 }

@@ -5,7 +5,7 @@ ghost use Rattle.sb_call.specs.Arguments.{fits};
 ghost use Rattle.sb_rule.specs.Verdicts.{policy_at};
 ghost use Rattle.sb_book.specs.Decisions.{decision_of, by_verdict, read_only_args};
 
-use sb_block::{BlockFault, BlockRefused, Call, Taken, decode};
+use sb_block::{BlockCopy, BlockFault, BlockRefused, Call, decode};
 use sb_call::{Arg, Args, CallTag};
 use sb_rule::{Action, Judge, Verdict};
 use sb_wide::NoMemory;
@@ -58,12 +58,12 @@ const READ_ONLY_BITS: u64 = 0xA012_00A9;
 /// Decides by the rules of a target's policy, on the copy alone. Nothing is performed. The judge must know the target.
 ///
 /// # Errors
-/// `NoMemory` where there was none for the call's strings. A copy with a fault has no call, and is decided without memory.
+/// `NoMemory` if there was none for the call's strings. A copy with a fault has no call, and is decided without memory.
 pub fn decide<J: Judge>(
     alloc: Global,
     judge: &J,
     target: u32,
-    taken: &Taken,
+    taken: &BlockCopy,
 ) -> Result<Decision, NoMemory>
     requires { target < length (J.policies judge.now) }
     ensures exact { IfOk result (λ d. d ≡ decision_of (policy_at (J.policies judge.now) target) taken.now) }

@@ -1,9 +1,15 @@
 // The entries of the history.
+ghost use Rattle.std.specs.Prelude.{◌≡◌, ◌<◌, ◌^◌, ◌++◌, ◌∷◌, [], length, OnOk, OnErr};
+ghost use Rattle.sb_book.specs.Stores.{HasRoom, IsStore, entries_of};
 
 use crate::decisions::Decision;
-use sb_block::Taken;
+use crate::slices::EntrySlice;
+use crate::stores::EntryStore;
+use sb_block::BlockCopy;
 use sb_call::Reply;
-use sb_items::Items;
+use sb_items::NoMemory;
+use std::alloc::Global;
+use std::marker::Model;
 
 /// One answered block: whose it was, the copy that was taken of it, the decision and the reply.
 pub struct Entry {
@@ -12,14 +18,13 @@ pub struct Entry {
     /// The number of the target's channel, from 0.
     pub channel: u32,
     /// The copy that was taken of the block.
-    pub taken: Taken,
+    pub taken: BlockCopy,
     /// What was decided on the copy.
     pub decision: Decision,
     /// What was replied.
     pub reply: Reply,
 }
 
-// By hand, so that it is proved here once and not at each place that drops one.
 impl Drop for Entry {
     fn drop(self) {
         let Entry {
@@ -32,5 +37,93 @@ impl Drop for Entry {
     }
 }
 
-/// Entries, in the order in which they were answered.
-pub type Entries = Items<Entry>;
+impl Entry {
+    // Appends the entry to a store that has room for it.
+    fn put_into(self, store: &mut EntryStore)
+        requires store { IsStore store.old }
+        requires room { HasRoom store.old }
+        ensures store { IsStore store.new }
+        ensures entries { entries_of store.new ≡ entries_of store.old ++ self ∷ [] }
+    {
+        let Entry {
+            target,
+            channel,
+            taken,
+            decision,
+            reply,
+        } = self;
+        store.push_reserved(target, channel, &taken, decision, &reply);
+    }
+}
+
+/// Entries, in the order in which they were answered. An entry needs memory for what its copy and its reply have, and not for the most
+/// that they may have. Contracts see the list of the entries.
+pub struct Entries {
+    store: EntryStore,
+}
+
+impl Drop for Entries {
+    fn drop(self) {
+        let Entries { store: _ } = self;
+    }
+}
+
+impl Model for Entries {
+    ghost use Rattle.std.specs.Prelude.{List};
+    ghost use Rattle.sb_book.specs.Stores.{IsStore, entries_of};
+    ghost use Rattle.sb_book.specs.declared.entries.Entry.{Entry};
+
+    ghost Value = { List Entry };
+
+    ghost view = { λ e. entries_of e.store };
+
+    ghost invariant = { λ e. IsStore e.store };
+}
+
+impl Entries {
+    /// No entries. Does not allocate.
+    pub fn none(alloc: Global) -> Entries
+        ensures { result ≡ [] }
+    {
+        Entries {
+            store: EntryStore::new(alloc),
+        }
+    }
+
+    /// The entries that are stored there. Does not allocate.
+    pub(crate) fn of(store: EntryStore) -> Entries
+        requires { IsStore store }
+        ensures { result ≡ entries_of store }
+    {
+        Entries { store }
+    }
+
+    /// How many entries there are, fewer than 2^63.
+    #[tactic(auto, using(crate::proofs::Storing::as_many))]
+    pub fn len(&self) -> usize
+        ensures len { result ≡ length self.now }
+        ensures most { result < 2 ^ 63 }
+    {
+        self.store.rows.as_slice().len()
+    }
+
+    /// The entries, in order.
+    pub fn as_slice(&self) -> EntrySlice<'_>
+        ensures { result ≡ self.now }
+    {
+        self.store.as_slice()
+    }
+
+    /// Appends an entry. After an error the entries are as they were.
+    ///
+    /// # Errors
+    /// `NoMemory` if there is none for the entry.
+    pub fn push(&mut self, entry: Entry) -> Result<(), NoMemory>
+        ensures ok { OnOk result (self.new ≡ self.old ++ entry ∷ []) }
+        ensures err { OnErr result (self.new ≡ self.old) }
+    {
+        self.store.reserve()?;
+        entry.put_into(&mut self.store);
+        Ok(())
+    }
+}

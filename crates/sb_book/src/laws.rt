@@ -15,7 +15,7 @@ pub fn only_performed_calls_count()
     ensures { OnlyPerformedCallsCount }
 {}
 
-/// A rule of the policy stands behind each call that is performed: the call is the copy's, the policy's rules are some rules,
+/// Each call that is performed has a rule of the policy: the call is the copy's, the policy's rules are some rules,
 /// of which none holds for the call, then this rule, which holds, and then others; line and action are the rule's own, and
 /// the arguments performed are the copy's, or under `readonly` the copy's with the access cut to the bits that only read.
 pub fn performed_calls_are_allowed()
@@ -33,7 +33,8 @@ pub fn answers_keep_histories()
 ///
 /// Refused: the copy has exactly that fault. Denied: the copy has no fault, the call is the copy's, and the verdict of its
 /// target's policy is no rule, or a rule on this line that says deny or alarm. Faked: the same with a rule that says fake.
-/// These three leave the namespace as it was. Performed: the copy has no fault, and the first of the policy's rules that
+/// These three leave the namespace as it was, and their whole reply is known: outcome and status by the decision, no handle, and the words
+/// of the fault if the block was refused, else none. Performed: the copy has no fault, and the first of the policy's rules that
 /// holds says allow and the arguments are the copy's, or it says readonly and they are the copy's with the access cut;
 /// performing exactly these arguments led from the namespace before the entry to the one after it, and the reply is the
 /// answer to that. Each reply bears the mark of its copy.
@@ -43,7 +44,7 @@ pub fn entries_say_what_was_done()
     first_rule_decides();
 }
 
-/// The entries of one target, where others are put behind: an entry put behind all is the last of its own target, and none
+/// The entries of one target, if others are put after them: an entry put after all is the last of its own target, and none
 /// of any other.
 pub fn entries_of_targets_append()
     ensures append { TargetsAppend }

@@ -7,7 +7,11 @@ mod books;
 mod decisions;
 mod entries;
 mod laws;
+mod ready_scripts;
 mod reports;
+mod slices;
+mod stores;
+mod views;
 
 pub use books::Book;
 pub use decisions::{Decision, decide};
@@ -16,4 +20,7 @@ pub use laws::{
     answers_keep_histories, entries_of_targets_append, entries_say_what_was_done, fronts_are_legal,
     only_performed_calls_count, performed_calls_are_allowed,
 };
+pub use ready_scripts::{OpenedScript, ReadyScript};
 pub use reports::{AllWords, Report, Results, TargetResults, ThreadResults, WordList};
+pub use slices::EntrySlice;
+pub use views::EntryView;

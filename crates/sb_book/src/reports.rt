@@ -33,7 +33,6 @@ pub struct Report {
     pub kernel: Kernel,
 }
 
-// By hand, so that it is proved here once and not at each place that drops one.
 impl Drop for Report {
     fn drop(self) {
         let Report {

@@ -4,7 +4,7 @@ use Rattle.std.specs.Prelude.{Result, Ok, Err, OnErr}
 use native.Mathlib.Decide.{ℕ_discrete}
 use Rattle.sb_statements.specs.Soundness.{SoundStatements}
 use Rattle.sb_statements.specs.declared.scripts.Script.{Script}
-use Rattle.sb_core.specs.Drains.{IsBeginning, drained, is_settled, one_pass, pass_below, passed}
+use Rattle.sb_core.specs.Drains.{IsBeginning, drained, is_settled, one_pass, pass_below, after_passes}
 use Rattle.sb_core.specs.Kept.{IsReached, IsRunning, IsWorld}
 use Rattle.sb_core.specs.OfScripts.{IsOfScript}
 use Rattle.sb_core.specs.Worlds.{WorldAt}
@@ -21,19 +21,24 @@ after_error (Err e) x = x
 -- whole passes over worlds that are not settled
 pub record IsPassed (w v : WorldAt) : Type 0 where
   pub passes : ℕ
-  pub unsettled : (i : ℕ) → i < passes → is_settled (passed i w) ≡ false
-  pub is : v ≡ passed passes w
+  pub unsettled : (i : ℕ) → i < passes → is_settled (after_passes i w) ≡ false
+  pub is : v ≡ after_passes passes w
 
 pub passed_self : (w : WorldAt) → IsPassed w w
 passed_self w = record { passes = 0; unsettled = λ i l. absurd (omega (arith, l)); is = refl }
 
+-- passes leave as many workers
+pub as_before : (n : ℕ) (w : WorldAt) → length (after_passes n w).workers ≡ length w.workers
+as_before zero w = refl
+as_before (suc n) w = pass_workers (length (after_passes n w).workers) (after_passes n w) ∙ as_before n w
+
 -- before the next pass the world is not settled
 module _ (w v : WorldAt) (p : IsPassed w v) (busy : is_settled v ≡ false) where
-  unsettled_to : (i : ℕ) → i < suc p.passes → is_settled (passed i w) ≡ false
+  unsettled_to : (i : ℕ) → i < suc p.passes → is_settled (after_passes i w) ≡ false
   unsettled_to i l = by_place (ℕ_discrete i p.passes)
     where
-      by_place : Dec (i ≡ p.passes) → is_settled (passed i w) ≡ false
-      by_place (yes e) = ap (λ n. is_settled (passed n w)) e ∙ (ap is_settled (sym p.is) ∙ busy)
+      by_place : Dec (i ≡ p.passes) → is_settled (after_passes i w) ≡ false
+      by_place (yes e) = ap (λ n. is_settled (after_passes n w)) e ∙ (ap is_settled (sym p.is) ∙ busy)
       by_place (no ne) = p.unsettled i (omega (arith, l, ne))
 
   pub passed_more : (u : WorldAt) → u ≡ one_pass v → IsPassed w u
@@ -47,28 +52,24 @@ module _ (w v : WorldAt) (p : IsPassed w v) (busy : is_settled v ≡ false) wher
     unsettled = λ i m. unsettled_to i (omega (arith, m));
     is = e ∙ ap (pass_below k) p.is;
   }
-    where
-      as_before : (n : ℕ) (w : WorldAt) → length (passed n w).workers ≡ length w.workers
-      as_before zero w = refl
-      as_before (suc n) w = pass_workers (length (passed n w).workers) (passed n w) ∙ as_before n w
 
 -- steps of actors that are there lead to it
-leads_passed : (script : Script) (n : ℕ) (w : WorldAt) → length w.workers ≤ length script.targets → Leads script w (passed n w) × (length (passed n w).workers ≡ length w.workers)
-leads_passed script zero w l = (leads_by script [] w refl, refl)
-leads_passed script (suc n) w l =
-    let before = leads_passed script n w l in
+leads_after_passes : (script : Script) (n : ℕ) (w : WorldAt) → length w.workers ≤ length script.targets → Leads script w (after_passes n w) × (length (after_passes n w).workers ≡ length w.workers)
+leads_after_passes script zero w l = (leads_by script [] w refl, refl)
+leads_after_passes script (suc n) w l =
+    let before = leads_after_passes script n w l in
     let same = before.1 in (
-      leads_on script w (passed n w) (passed (suc n) w) before.0 (leads_pass script (length (passed n w).workers) (passed n w) (omega (arith, same, l))),
-      pass_workers (length (passed n w).workers) (passed n w) ∙ same,
+      leads_on script w (after_passes n w) (after_passes (suc n) w) before.0 (leads_pass script (length (after_passes n w).workers) (after_passes n w) (omega (arith, same, l))),
+      pass_workers (length (after_passes n w).workers) (after_passes n w) ∙ same,
     )
 
 leads_beginning : (script : Script) (w v : WorldAt) → IsWorld w → IsRunning script w → IsBeginning w v → Leads script w v
 leads_beginning script w v kept runs b =
     let count = as_many script w kept runs in
-    let before = leads_passed script b.passes w (omega (arith, count)) in
+    let before = leads_after_passes script b.passes w (omega (arith, count)) in
     let few = b.few in
-    let rest : Leads script w (pass_below b.workers (passed b.passes w)) =
-    leads_on script w (passed b.passes w) (pass_below b.workers (passed b.passes w)) before.0 (leads_pass script b.workers (passed b.passes w) (omega (arith, few, count))) in
+    let rest : Leads script w (pass_below b.workers (after_passes b.passes w)) =
+    leads_on script w (after_passes b.passes w) (pass_below b.workers (after_passes b.passes w)) before.0 (leads_pass script b.workers (after_passes b.passes w) (omega (arith, few, count))) in
     subst (Leads script w) (sym b.is) rest
 
 -- what a world keeps that steps lead to from a world of a script

@@ -18,7 +18,7 @@ use Rattle.sb_statements.specs.declared.statements.Statement.{Statement}
 use Rattle.sb_statements.specs.declared.statements.Statement.TheVariants as statement
 use Rattle.sb_statements.specs.declared.statements.Word.{Word}
 use Rattle.sb_core.proofs.Naming.{is_same, names}
-use Rattle.sb_core.proofs.Starting.{clean_length, clean_mark}
+use Rattle.sb_core.proofs.Starting.{clean_length, clean_in_list}
 
 -- one of a list
 any_at : {X : Type 0} (p : X → Bool) (xs : List X) (i : ℕ) (x : X) → slice_get xs i ≡ Some x → p x ≡ true → list_any p xs ≡ true
@@ -47,7 +47,7 @@ module _ (script : Script) where
       by_target None f q = absurd (cc)
       by_target (Some target) f q = by_thread target f (slice_get target.threads k) refl q
 
-  -- such a word, by the clean marks of its target
+  -- such a word, by the clean channels of its target
   module _ (t c j : ℕ) (within : c < channels_of (slice_get script.targets t)) (low : j ≤ 64) where
     pub is_word_at : IsWord (clean_channels script t) (at c j)
     is_word_at = let n = clean_length script t (channels_of (slice_get script.targets t)) in omega (arith, n, within, low)
@@ -57,7 +57,7 @@ module _ (script : Script) where
         let one : c ≡ d = omega (arith, same, low, l) in
         let n = clean_length script t (channels_of (slice_get script.targets t)) in
         subst (λ z. (z < length (clean_channels script t)) × (is_marked (clean_channels script t) z ≡ false)) one
-        (omega (arith, n, within), clean_mark script t c within ∙ e)
+        (omega (arith, n, within), clean_in_list script t c within ∙ e)
 
   word_parts : (t : ℕ) (word : Word) → has_word script.targets t word ≡ true → (word.channel < channels_of (slice_get script.targets t)) × (word.at ≤ 64)
   word_parts t word h =
@@ -72,7 +72,7 @@ module _ (script : Script) where
   both : (a b : Bool) → a ≡ true → b ≡ true → (a && b) ≡ true
   both a b e f = rw (e, f) refl
 
-  -- a statement by hand is a step that may be made by hand in its target
+  -- a direct statement is a step that may be made directly in its target
   pub by_hand : (x : ThreadAt) (loads most : ℕ) (o : Option Statement) → statement_at script x.target x.thread x.place ≡ o → IfSome o (λ s. is_statement script.targets s ≡ true) → (u : ℕ)
       → names (stray_row script x loads most o).step u ≡ true
       → (d : Deed) × (StrayMay (clean_channels script u) (act_word (stray_row script x loads most o).step) d)

@@ -6,7 +6,7 @@ use Rattle.std.specs.Option.{option_to_list}
 use Rattle.std.specs.Prelude.{slice_index}
 use native.Mathlib.Decide.{ℕ_discrete}
 use Rattle.sb_actor.specs.ThreadTable.{thread_after, thread_plan}
-use Rattle.sb_actor.specs.WorkerStages.{WorkerStage, WorkerAt, Look, Count, End, Copy, Take, Mark, Give, Reply, Ack}
+use Rattle.sb_actor.specs.WorkerStages.{WorkerStage, WorkerAt, Look, Count, End, Copy, Take, Answer, Give, Reply, Ack}
 use Rattle.sb_actor.specs.WorkerTable.{worker_plan}
 use Rattle.sb_actor.specs.declared.acts.Act.{Act}
 use Rattle.sb_actor.specs.declared.acts.Act.TheVariants as act
@@ -56,7 +56,7 @@ word_else s (act.Exchange target word from to) h t i e =
     unwritten s.words target word h.listed (exchanged (words_of s.words target) word from to)
     (chosen_else s.words target word h.listed (loaded (words_of s.words target) word == from) to) t i e
 word_else s act.Take h t i e = refl
-word_else s act.Mark h t i e = refl
+word_else s act.Answer h t i e = refl
 word_else s act.Give h t i e = refl
 word_else s act.Idle h t i e = refl
 
@@ -79,7 +79,7 @@ module _ (script : Script) (w : WorldAt) (t : ℕ) (x : WorkerAt) where
   worker_words (End count) h u i e = refl
   worker_words (Copy count end words) h u i e = refl
   worker_words (Take taken) h u i e = refl
-  worker_words (Mark taken) h u i e = refl
+  worker_words (Answer taken) h u i e = refl
   worker_words (Give taken reply) h u i e = refl
   worker_words (Reply taken reply at) h u i e = word_else w.shared (worker_plan (at_this (Reply taken reply at))) h u i e
   worker_words (Ack taken reply) h u i e = word_else w.shared (worker_plan (at_this (Ack taken reply))) h u i e
@@ -91,7 +91,7 @@ module _ (script : Script) (w : WorldAt) (t : ℕ) (x : WorkerAt) where
   worker_sizes (End count) h u = refl
   worker_sizes (Copy count end words) h u = refl
   worker_sizes (Take taken) h u = refl
-  worker_sizes (Mark taken) h u = refl
+  worker_sizes (Answer taken) h u = refl
   worker_sizes (Give taken reply) h u = refl
   worker_sizes (Reply taken reply at) h u = (word_keeps w.shared (worker_plan (at_this (Reply taken reply at))) h).sizes u
   worker_sizes (Ack taken reply) h u = (word_keeps w.shared (worker_plan (at_this (Ack taken reply))) h).sizes u
@@ -102,7 +102,7 @@ module _ (script : Script) (w : WorldAt) (t : ℕ) (x : WorkerAt) where
   worker_turn (End count) e = refl
   worker_turn (Copy count end words) e = refl
   worker_turn (Take taken) e = absurd (cc)
-  worker_turn (Mark taken) e = refl
+  worker_turn (Answer taken) e = refl
   worker_turn (Give taken reply) e = absurd (cc)
   worker_turn (Reply taken reply at) e = refl
   worker_turn (Ack taken reply) e = refl
@@ -113,7 +113,7 @@ module _ (script : Script) (w : WorldAt) (t : ℕ) (x : WorkerAt) where
   worker_book (End count) e = refl
   worker_book (Copy count end words) e = refl
   worker_book (Take taken) e = refl
-  worker_book (Mark taken) e = absurd (cc)
+  worker_book (Answer taken) e = absurd (cc)
   worker_book (Give taken reply) e = refl
   worker_book (Reply taken reply at) e = refl
   worker_book (Ack taken reply) e = refl
@@ -124,13 +124,13 @@ module _ (script : Script) (w : WorldAt) (t : ℕ) (x : WorkerAt) where
   worker_book_setting (End count) = refl
   worker_book_setting (Copy count end words) = refl
   worker_book_setting (Take taken) = refl
-  worker_book_setting (Mark taken) = refl
+  worker_book_setting (Answer taken) = refl
   worker_book_setting (Give taken reply) = refl
   worker_book_setting (Reply taken reply at) = refl
   worker_book_setting (Ack taken reply) = refl
 
 -- two threads that are not the same have another target or another number
-other_run : (w : WorldAt) (t k : ℕ) (y : RunAt) (u j : ℕ) → Thread t k ≢ Thread u j
+pub other_run : (w : WorldAt) (t k : ℕ) (y : RunAt) (u j : ℕ) → Thread t k ≢ Thread u j
     → get_or (get_or (set w.threads t (set (threads_at w t) k y)) u []) j no_run ≡ run_at w u j
 other_run w t k y u j n = by_target (ℕ_discrete u t)
   where

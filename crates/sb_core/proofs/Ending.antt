@@ -44,7 +44,7 @@ drained_bare (suc n) w = by (is_settled w) refl (drained_bare n (one_pass w))
 shared_bare : (w : WorldAt) → (drained (bare w)).shared ≡ (drained w).shared
 shared_bare w = ap (λ (z : WorldAt). z.shared) (drained_bare most_passes w)
 
--- the actors of a list are there where those of its schedule are
+-- the actors of a list are there if those of its schedule are
 there_steps : (targets : List TargetScript) (actors : List Actor) → list_all (is_step_there targets) (map (λ a. (a, 1)) actors) ≡ list_all (is_there targets) actors
 there_steps targets [] = refl
 there_steps targets (a ∷ actors) = ap (λ b. is_there targets a && b) (there_steps targets actors)
@@ -76,7 +76,7 @@ sized_all (x ∷ xs) (ws ∷ words) e h =
     let rest = sized_all xs words (omega (arith, e)) (λ t l. h (suc t) (omega (arith, l))) in
     λ k. first k ∷ rest k
 
--- where each worker looks, none has the turn
+-- if each worker looks, none has the turn
 nobody : (script : Script) (w : WorldAt) → IsWorld w → length w.workers ≡ length script.targets
     → ((t : ℕ) → t < length script.targets → (worker_at w t).stage ≡ Look) → (o : Option ℕ) → w.shared.turn ≡ o → o ≡ None
 nobody script w kept many looks None e = refl
@@ -98,7 +98,6 @@ ends_can_finish targets statements whole policies script actors w ready there re
     let end = ends_are_runs policies script actors w ready there reached over free in (
       free,
       record {
-        sound = runs.sound;
         sized = sized_all script.targets w.shared.words (words ∙ many) (λ t l. (has t l).sized);
         count = many;
         idle = λ t l.

@@ -1,10 +1,10 @@
 -- The world of the parts of a run by threads keeps what every world keeps.
-use Rattle.std.proofs.Common.{◌≡◌, ◌∙◌, refl, ap, subst, sym, ℕ, zero, suc, ◌*◌, ◌<◌, ◌≤◌, List, [], ◌∷◌, length, map, get_or, Option, None, Some, slice_get, arith}
+use Rattle.std.proofs.Common.{◌≡◌, ◌∙◌, refl, ap, subst, sym, ℕ, zero, suc, ◌*◌, ◌<◌, ◌≤◌, List, [], ◌∷◌, length, map, get_or, Option, None, Some, slice_get, true, arith}
 use Rattle.std.proofs.Math.ListN.{get_or-map}
 use Rattle.sb_actor.specs.Ranges.{IsSoundStage}
 use Rattle.sb_actor.specs.WorkerStages.{WorkerAt, WorkerStage}
 use Rattle.sb_book.specs.Histories.{History}
-use Rattle.sb_statements.specs.Soundness.{SoundTargets, channels_of}
+use Rattle.sb_statements.specs.Soundness.{SoundTargets, channels_of, is_sound}
 use Rattle.sb_statements.specs.declared.results.StmtResult.{StmtResult}
 use Rattle.sb_statements.specs.declared.scripts.Script.{Script}
 use Rattle.sb_statements.specs.declared.scripts.TargetScript.{TargetScript}
@@ -25,7 +25,7 @@ wanted_at (target ∷ targets) zero = refl
 wanted_at (target ∷ targets) (suc t) = wanted_at targets t
 
 module _ (law : SoundTargets) (script : Script) (words : List (List ℕ)) (workers : List WorkerAt) (book : History) (results : List (List (List StmtResult)))
-    (can : CanFinish script words workers book results) where
+    (sound : is_sound script ≡ true) (can : CanFinish script words workers book results) where
   abbrev w : WorldAt
   w = world_of words workers book
 
@@ -33,7 +33,7 @@ module _ (law : SoundTargets) (script : Script) (words : List (List ℕ)) (worke
   worker_of t l =
       let idle = can.idle t l in
       let count = can.count in
-      let few = some_channels law script t can.sound (omega (arith, count, l)) in
+      let few = some_channels law script t sound (omega (arith, count, l)) in
       let many = few.1 in
       let channels = idle.its_channels in
       record {
@@ -49,7 +49,7 @@ module _ (law : SoundTargets) (script : Script) (words : List (List ℕ)) (worke
   pub finishing_world : IsWorld w
   finishing_world =
       let count = can.count in
-      let targets = few_targets script can.sound in
+      let targets = few_targets script sound in
       record {
         few = omega (arith, count, targets);
         policies = can.policies ∙ sym can.count;
@@ -73,6 +73,6 @@ module _ (law : SoundTargets) (script : Script) (words : List (List ℕ)) (worke
 
 -- the same of a world made of equal parts
 pub finishing_from : SoundTargets → (script : Script) (words : List (List ℕ)) (workers : List WorkerAt) (book : History) (results : List (List (List StmtResult)))
-    → CanFinish script words workers book results → (given : List (List ℕ)) (threads : List (List RunAt)) → given ≡ words → threads ≡ []
+    → is_sound script ≡ true → CanFinish script words workers book results → (given : List (List ℕ)) (threads : List (List RunAt)) → given ≡ words → threads ≡ []
     → IsWorld (record { shared = record { words = given; turn = None; book = book }; workers = workers; threads = threads })
-finishing_from law script words workers book results can given threads e f = rw (e, f) (finishing_world law script words workers book results can)
+finishing_from law script words workers book results sound can given threads e f = rw (e, f) (finishing_world law script words workers book results sound can)

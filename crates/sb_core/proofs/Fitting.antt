@@ -13,7 +13,7 @@ use Rattle.sb_actor.specs.Moves.{at, is_clean, no_call}
 use Rattle.sb_actor.specs.Places.{clean_channels, mark_at, statement_at, statements_of}
 use Rattle.sb_actor.specs.Rule.{Chan, FitsThread, Mid, acked, as_served, calls_of, filling, idle, is_of, owner, place, ready, row, sees, waiting}
 use Rattle.sb_actor.specs.Ties.{thread_place_of}
-use Rattle.sb_actor.specs.WorkerStages.{WorkerStage, WorkerAt, Look, Count, End, Copy, Take, Mark, Give, Reply, Ack}
+use Rattle.sb_actor.specs.WorkerStages.{WorkerStage, WorkerAt, Look, Count, End, Copy, Take, Answer, Give, Reply, Ack}
 use Rattle.sb_actor.specs.WorkerTable.{is_looking}
 use Rattle.sb_actor.specs.Views.{Had, Served, ThreadPlace}
 use Rattle.sb_block.specs.Copies.{mark_of}
@@ -115,7 +115,7 @@ none_in_work c Count e = absurd (cc)
 none_in_work c (End count) e = absurd (cc)
 none_in_work c (Copy count end words) e = absurd (cc)
 none_in_work c (Take taken) e = absurd (cc)
-none_in_work c (Mark taken) e = absurd (cc)
+none_in_work c (Answer taken) e = absurd (cc)
 none_in_work c (Give taken reply) e = absurd (cc)
 none_in_work c (Reply taken reply i) e = absurd (cc)
 none_in_work c (Ack taken reply) e = absurd (cc)

@@ -1,13 +1,13 @@
 -- Folds of steps, one step at a time.
-use Rattle.std.proofs.Common.{◌≡◌, ℕ, zero, suc, ◌+◌, Bool, true, false, length, ◌++◌, List, [], ◌∷◌, replicate, refl, sym, subst, ◌∙◌, ◌-◌, ◌<◌, arith, ap}
+use Rattle.std.proofs.Common.{◌≡◌, ℕ, zero, suc, ◌+◌, Bool, true, false, length, ◌++◌, List, [], ◌∷◌, replicate, refl, sym, ◌∙◌, ◌-◌, ◌<◌, arith, ap}
 use native.Mathlib.Numerals.{unary_clauses}
 use Rattle.sb_statements.specs.declared.schedules.Actor.{Actor}
 use Rattle.sb_statements.specs.declared.schedules.Actor.TheVariants.{Worker}
 use Rattle.sb_statements.specs.declared.scripts.Script.{Script}
 use Rattle.sb_core.specs.Actors.{round_actors, scheduled}
-use Rattle.sb_core.specs.Drains.{is_settled, pass_below, one_pass, drained_by, most_passes}
+use Rattle.sb_core.specs.Drains.{is_settled, pass_below, one_pass, drained_by}
 use Rattle.sb_core.specs.Kept.{IsReached}
-use Rattle.sb_core.specs.Laws.{DrainsAreSteps, OrdersAreSchedules, RoundsAreSteps, StepsAreFolds}
+use Rattle.sb_core.specs.Laws.{OrdersAreSchedules, StepsAreFolds}
 use Rattle.sb_core.specs.Worlds.{WorldAt, all_finished, round, rounds, step, steps, worker_step}
 
 pub steps_append : StepsAreFolds
@@ -74,12 +74,6 @@ drained_reached zero script w = reached_self script w
 drained_reached (suc n) script w =
     chosen script (is_settled w) w w (drained_by n (one_pass w)) (reached_self script w)
     (reached_on script w (one_pass w) (drained_by n (one_pass w)) (reached_below script (length w.workers) w) (drained_reached n script (one_pass w)))
-
-pub rounds_are_steps : RoundsAreSteps
-rounds_are_steps n script w = rounds_reached n script w
-
-pub drains_are_steps : DrainsAreSteps
-drains_are_steps script w = drained_reached most_passes script w
 
 -- what is left after one pass gives the same
 pub drained_next : (n : ℕ) (w v : WorldAt) → 0 < n → is_settled w ≡ false → v ≡ one_pass w → drained_by (n - 1) v ≡ drained_by n w

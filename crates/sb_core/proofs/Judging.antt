@@ -9,13 +9,13 @@ use Rattle.sb_actor.specs.ThreadStages.{ThreadStage, Try, Fill, Send, Wait, Fetc
 use Rattle.sb_actor.specs.WorkerStages.{WorkerStage, WorkerAt}
 use Rattle.sb_actor.specs.WorkerStages as worker
 use Rattle.sb_actor.specs.WorkerTable.{worker_after, worker_plan}
-use Rattle.sb_actor.specs.declared.acts.Seen.{Seen}
+use Rattle.sb_actor.specs.declared.acts.Observed.{Observed}
 use Rattle.sb_block.specs.Copies.{Copied}
 use Rattle.sb_book.specs.Histories.{answered}
 use Rattle.sb_statements.specs.declared.scripts.Script.{Script}
 use Rattle.sb_core.specs.Changes.{is_load}
 use Rattle.sb_core.specs.Kept.{is_holder, is_over}
-use Rattle.sb_core.specs.Laws.{CopiesAreJudged, FinishedThreadsStay, MarksAnswerCopies, TurnsAreHeld, copy_in}
+use Rattle.sb_core.specs.Laws.{CopiesAreJudged, FinishedThreadsStay, CopiesAreAnswered, TurnsAreHeld, copy_in}
 use Rattle.sb_core.specs.Shared.{SharedAt, decided, on_worker}
 use Rattle.sb_core.specs.Threads.{RunAt, ThreadStep, no_run, thread_step}
 use Rattle.sb_core.specs.Worlds.{run_at, thread_goes, threads_at, worker_at}
@@ -26,7 +26,7 @@ one_copy : (b : Bool) (x y : WorkerStage) (taken : Copied) → copy_in x ≡ Som
 one_copy true x y taken e f = e
 one_copy false x y taken e f = f
 
-judged : (t channels c : ℕ) (stage : WorkerStage) (seen : Seen) (taken : Copied) → copy_in stage ≡ Some taken
+judged : (t channels c : ℕ) (stage : WorkerStage) (seen : Observed) (taken : Copied) → copy_in stage ≡ Some taken
     → (is_load (worker_plan (record { target = t; channels = channels; channel = c; stage = stage })) ≡ false)
     × ((copy_in (worker_after (record { target = t; channels = channels; channel = c; stage = stage }) seen).stage ≡ Some taken)
     ⊎ ((worker_after (record { target = t; channels = channels; channel = c; stage = stage }) seen).stage ≡ worker.Look))
@@ -34,8 +34,8 @@ judged t channels c worker.Look seen taken e = absurd (cc)
 judged t channels c worker.Count seen taken e = absurd (cc)
 judged t channels c (worker.End count) seen taken e = absurd (cc)
 judged t channels c (worker.Copy count end words) seen taken e = absurd (cc)
-judged t channels c (worker.Take copy) seen taken e = (refl, inl (one_copy (turn_in seen) (worker.Mark copy) (worker.Take copy) taken e e))
-judged t channels c (worker.Mark copy) seen taken e = (refl, inl e)
+judged t channels c (worker.Take copy) seen taken e = (refl, inl (one_copy (turn_in seen) (worker.Answer copy) (worker.Take copy) taken e e))
+judged t channels c (worker.Answer copy) seen taken e = (refl, inl e)
 judged t channels c (worker.Give copy reply) seen taken e = (refl, inl e)
 judged t channels c (worker.Reply copy reply at) seen taken e =
     (refl, inl (one_copy (at == 11) (worker.Ack copy reply) (worker.Reply copy reply (at + 1)) taken e e))
@@ -48,19 +48,19 @@ pub turns_are_held : TurnsAreHeld
 turns_are_held w kept =
     ((λ e t l. (kept.workers t l).turn ∙ ap (λ turn. is_holder turn t) e), (λ holder t e l. (kept.workers t l).turn ∙ ap (λ turn. is_holder turn t) e))
 
-pub marks_answer_copies : MarksAnswerCopies
-marks_answer_copies script w target taken e = at_stage (worker_at w target) (worker_at w target).stage e
+pub copies_are_answered : CopiesAreAnswered
+copies_are_answered script w target taken e = at_stage (worker_at w target) (worker_at w target).stage e
   where
-    at_stage : (x : WorkerAt) (stage : WorkerStage) → stage ≡ worker.Mark taken
+    at_stage : (x : WorkerAt) (stage : WorkerStage) → stage ≡ worker.Answer taken
         → (on_worker w.shared target (record x { stage = stage }) (worker_plan (record x { stage = stage }))).shared.book
         ≡ answered w.shared.book target x.channel taken (decided w.shared.book target taken)
     at_stage x stage e =
         subst (λ z. (on_worker w.shared target (record x { stage = z }) (worker_plan (record x { stage = z }))).shared.book
         ≡ answered w.shared.book target x.channel taken (decided w.shared.book target taken)) (sym e) refl
 
--- a stage behind the last statement
+-- a stage after the last statement
 pub over_is : (stage : ThreadStage) → is_over stage ≡ true → stage ≡ Over
-over_is (Try c rounds fives) e = absurd (cc)
+over_is (Try c rounds all_abandoned) e = absurd (cc)
 over_is (Fill c i) e = absurd (cc)
 over_is (Send c) e = absurd (cc)
 over_is (Wait c loads) e = absurd (cc)
@@ -70,7 +70,7 @@ over_is (Abandon c) e = absurd (cc)
 over_is (Stray loads most) e = absurd (cc)
 over_is Over e = refl
 
--- nothing is behind the end of a list
+-- nothing is after the end of a list
 pub none_behind : {X : Type 0} (xs : List X) (i : ℕ) → nat_le (length xs) i ≡ true → is_none (slice_get xs i) ≡ true
 none_behind [] i e = refl
 none_behind (x ∷ xs) zero e = absurd (grind (arith, nat_tests))

@@ -6,10 +6,10 @@ use Rattle.std.specs.Prelude.{nat_lt, slice_index}
 use native.Mathlib.Decide.{ℕ_discrete}
 use Rattle.sb_actor.specs.Acts.{ready}
 use Rattle.sb_actor.specs.Ranges.{IsReplyTo, IsSoundStage}
-use Rattle.sb_actor.specs.WorkerStages.{WorkerStage, WorkerAt, Look, Count, End, Copy, Take, Mark, Give, Reply, Ack}
-use Rattle.sb_actor.specs.declared.acts.Seen.{Seen}
+use Rattle.sb_actor.specs.WorkerStages.{WorkerStage, WorkerAt, Look, Count, End, Copy, Take, Answer, Give, Reply, Ack}
+use Rattle.sb_actor.specs.declared.acts.Observed.{Observed}
 use Rattle.sb_actor.specs.WorkerTable.{worker_plan, worker_after, look_next, after_reply}
-use Rattle.sb_block.specs.Copies.{Copied, copied, is_end, mark_of}
+use Rattle.sb_block.specs.Copies.{Copied, copied, is_copy, is_end, mark_of}
 use Rattle.sb_block.specs.Packing.{offset_of}
 use Rattle.sb_book.specs.Histories.{reply_of}
 use Rattle.sb_book.specs.declared.decisions.Decision.{Decision}
@@ -24,7 +24,7 @@ use Rattle.sb_core.proofs.Sets.{sizes_set}
 use Rattle.sb_core.proofs.There.{words_listed}
 
 -- What a step of a target's worker leaves that the world needs: the setting and the sizes of the words as they were, the worker at one of its
--- channels with its numbers in range, and the turn with it exactly where its stage says so, and else with whom it was
+-- channels with its numbers in range, and the turn with it exactly if its stage says so, and else with whom it was
 pub record Moves (w : WorldAt) (t : ℕ) (y : WorkerAt) (s : SharedAt) : Type 0 where
   pub setting : s.book.setting ≡ w.shared.book.setting
   pub count : length s.words ≡ length w.shared.words
@@ -116,6 +116,19 @@ below_ten count e = grind (arith, nat_tests)
 end_within : (count end : ℕ) → is_end count end ≡ true → (16 + count ≤ end) × (end ≤ 64)
 end_within count end h = (grind (arith, nat_tests), grind (arith, nat_tests))
 
+-- copies that are whole, or ended before their first word
+many_copied : (count : ℕ) → nat_lt 9 count ≡ true → is_copy (copied count 0 []) ≡ true
+many_copied count e = rw e refl
+
+none_copied : (count end : ℕ) → count ≤ 9 → is_end count end ≡ false → is_copy (copied count end []) ≡ true
+none_copied count end low e = let few : nat_lt 9 count ≡ false = grind (arith, nat_tests, low) in rw (few, e) refl
+
+all_copied : (count end : ℕ) (words : List ℕ) → count ≤ 9 → 16 + count ≤ end → end ≤ 64 → (length words == end) ≡ true → is_copy (copied count end words) ≡ true
+all_copied count end words low first last e =
+    let few : nat_lt 9 count ≡ false = grind (arith, nat_tests, low) in
+    let right : is_end count end ≡ true = grind (arith, nat_tests, first, last) in
+    rw (few, right) e
+
 not_same : (x y : ℕ) → (x == y) ≡ false → x ≢ y
 not_same x y e = grind (arith, nat_tests)
 
@@ -189,7 +202,7 @@ module _ (w : WorldAt) (t channels c : ℕ) (kept : IsWorld w) (there : t < leng
 
   counted : (count : ℕ) (b : Bool) → nat_lt 9 count ≡ b → false ≡ is_holder w.shared.turn t
       → Moves w t (at_this (if b then Take (copied count 0 []) else End count)) w.shared
-  counted count true e turn = stays (Take (copied count 0 [])) tt turn
+  counted count true e turn = stays (Take (copied count 0 [])) (many_copied count e) turn
   counted count false e turn = stays (End count) (below_ten count e) turn
 
   ended : (count end : ℕ) → count ≤ 9 → (b : Bool) → is_end count end ≡ b → false ≡ is_holder w.shared.turn t
@@ -199,12 +212,12 @@ module _ (w : WorldAt) (t channels c : ℕ) (kept : IsWorld w) (there : t < leng
       let first = within.0 in
       let second = within.1 in
       stays (Copy count end []) (low, first, second, omega (arith, first)) turn
-  ended count end low false e turn = stays (Take (copied count end [])) tt turn
+  ended count end low false e turn = stays (Take (copied count end [])) (none_copied count end low e) turn
 
   copied_on : (count end : ℕ) (words : List ℕ) → IsSoundStage (Copy count end words) → (x : ℕ) → (b : Bool) → (length (words ++ x ∷ []) == end) ≡ b
       → false ≡ is_holder w.shared.turn t
       → Moves w t (at_this (if b then Take (copied count end (words ++ x ∷ [])) else Copy count end (words ++ x ∷ []))) w.shared
-  copied_on count end words s x true e turn = stays (Take (copied count end (words ++ x ∷ []))) tt turn
+  copied_on count end words s x true e turn = stays (Take (copied count end (words ++ x ∷ []))) (all_copied count end (words ++ x ∷ []) s.0 s.1 s.2 e) turn
   copied_on count end words s x false e turn =
       let longer = length-append words (x ∷ []) in
       let ne = not_same (length (words ++ x ∷ [])) end e in
@@ -220,10 +233,10 @@ module _ (w : WorldAt) (t channels c : ℕ) (kept : IsWorld w) (there : t < leng
       stays (Reply taken reply (at + 1)) (omega (arith, ne, below), s.1) turn
 
   -- by whether somebody has the turn
-  took : (taken : Copied) (turn : Option ℕ) → w.shared.turn ≡ turn → false ≡ is_holder w.shared.turn t
+  took : (taken : Copied) → is_copy taken ≡ true → (turn : Option ℕ) → w.shared.turn ≡ turn → false ≡ is_holder w.shared.turn t
       → Moves w t (worker_after (at_this (Take taken)) (on_worker w.shared t (at_this (Take taken)) (worker_plan (at_this (Take taken)))).seen)
       (on_worker w.shared t (at_this (Take taken)) (worker_plan (at_this (Take taken)))).shared
-  took taken None e turn =
+  took taken rule None e turn =
       subst (λ (z : Option ℕ). Moves w t (worker_after (at_this (Take taken)) (on_worker (record w.shared { turn = z }) t (at_this (Take taken)) (worker_plan (at_this (Take taken)))).seen)
       (on_worker (record w.shared { turn = z }) t (at_this (Take taken)) (worker_plan (at_this (Take taken)))).shared)
       (sym e) (record {
@@ -234,7 +247,7 @@ module _ (w : WorldAt) (t channels c : ℕ) (kept : IsWorld w) (there : t < leng
         its_channels = its;
         within = within;
         few = few;
-        sound = tt;
+        sound = rule;
         turn = sym (self_same t);
         others = λ u n. apart t u n ∙ ap (λ (z : Option ℕ). is_holder z u) (sym e);
         holder = λ u f. subst (λ z. z < length w.workers) (some_same t u f) there;
@@ -242,7 +255,7 @@ module _ (w : WorldAt) (t channels c : ℕ) (kept : IsWorld w) (there : t < leng
     where
       some_same : (a b : ℕ) → ◌≡◌ {A = Option ℕ} (Some a) (Some b) → a ≡ b
       some_same a b e = cc
-  took taken (Some holder) e turn =
+  took taken rule (Some holder) e turn =
       subst (λ (z : Option ℕ). Moves w t (worker_after (at_this (Take taken)) (on_worker (record w.shared { turn = z }) t (at_this (Take taken)) (worker_plan (at_this (Take taken)))).seen)
       (on_worker (record w.shared { turn = z }) t (at_this (Take taken)) (worker_plan (at_this (Take taken)))).shared)
       (sym e) (record {
@@ -253,7 +266,7 @@ module _ (w : WorldAt) (t channels c : ℕ) (kept : IsWorld w) (there : t < leng
         its_channels = its;
         within = within;
         few = few;
-        sound = tt;
+        sound = rule;
         turn = turn ∙ ap (λ (z : Option ℕ). is_holder z t) e;
         others = λ u n. ap (λ (z : Option ℕ). is_holder z u) (sym e);
         holder = λ u f. kept.holder u (e ∙ f);
@@ -286,8 +299,8 @@ module _ (w : WorldAt) (t channels c : ℕ) (kept : IsWorld w) (there : t < leng
       none_some u e = cc
 
   marks : (taken : Copied) → true ≡ is_holder w.shared.turn t
-      → Moves w t (worker_after (at_this (Mark taken)) (on_worker w.shared t (at_this (Mark taken)) (worker_plan (at_this (Mark taken)))).seen)
-      (on_worker w.shared t (at_this (Mark taken)) (worker_plan (at_this (Mark taken)))).shared
+      → Moves w t (worker_after (at_this (Answer taken)) (on_worker w.shared t (at_this (Answer taken)) (worker_plan (at_this (Answer taken)))).seen)
+      (on_worker w.shared t (at_this (Answer taken)) (worker_plan (at_this (Answer taken)))).shared
   marks taken turn = record {
     setting = refl;
     count = refl;
@@ -319,8 +332,8 @@ module _ (w : WorldAt) (t channels c : ℕ) (kept : IsWorld w) (there : t < leng
   step_moves (Copy count end copy) s turn =
       let x = loaded (words_of w.shared.words t) (record { channel = c; at = 1 + length copy }) in
       copied_on count end copy s x (length (copy ++ x ∷ []) == end) refl turn
-  step_moves (Take taken) s turn = took taken w.shared.turn refl turn
-  step_moves (Mark taken) s turn = marks taken turn
+  step_moves (Take taken) s turn = took taken s w.shared.turn refl turn
+  step_moves (Answer taken) s turn = marks taken turn
   step_moves (Give taken reply) s turn = gave taken reply s turn
   step_moves (Reply taken reply at) s turn =
       writes (at_this (after_reply taken reply at)) (stored (words_of w.shared.words t) (record { channel = c; at = 1 + (3 + at) }) (slice_index reply at))
@@ -368,7 +381,7 @@ worker_setting w t kept there =
         (sym e) (step_moves w t channels channel kept there k.its_channels k.within k.few k.sized stage k.sound k.turn).setting
 
 -- what a step of a worker left, by the worker that was found
-pub worker_left : (w : WorldAt) (t : ℕ) (x y z : WorkerAt) (seen : Seen) (s : SharedAt) → x ≡ worker_at w t → y ≡ worker_at w t
+pub worker_left : (w : WorldAt) (t : ℕ) (x y z : WorkerAt) (seen : Observed) (s : SharedAt) → x ≡ worker_at w t → y ≡ worker_at w t
     → seen ≡ (on_worker w.shared t x (worker_plan x)).seen → s ≡ (on_worker w.shared t x (worker_plan x)).shared → z ≡ worker_after y seen
     → record w { shared = s; workers = set w.workers t z } ≡ worker_step w t
 worker_left w t x y z seen s e f g h i =

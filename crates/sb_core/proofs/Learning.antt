@@ -7,7 +7,7 @@ use Rattle.sb_actor.specs.Following.{act_word}
 use Rattle.sb_actor.specs.Moves.{is_clean}
 use Rattle.sb_actor.specs.Places.{clean_channels}
 use Rattle.sb_actor.specs.Ranges.{IsSoundThreadStage}
-use Rattle.sb_actor.specs.Rule.{Agrees, Chan, FitsThread, Fives, Mid, acked, filling, idle, place, ready, row, sees, Row}
+use Rattle.sb_actor.specs.Rule.{Agrees, Chan, FitsThread, AllAbandoned, Mid, acked, filling, idle, place, ready, row, sees, Row}
 use Rattle.sb_actor.specs.ThreadFollowing.{GivesUp}
 use Rattle.sb_actor.specs.ThreadStages.{ThreadStage, ThreadAt}
 use Rattle.sb_actor.specs.ThreadStages as thread
@@ -54,20 +54,20 @@ module _ (script : Script) (t : ℕ) (words : List ℕ) (calls : List Served) (x
   clean = clean_channels script t
 
   -- what the rule says of the channel
-  module _ (v : ThreadView) (block : List ℕ) (marks : mine.clean ≡ clean) (fits : FitsThread clean h.rule.mids views.worker.served k v) where
+  module _ (v : ThreadView) (block : List ℕ) (its_clean : mine.clean ≡ clean) (fits : FitsThread clean h.rule.mids views.worker.served k v) where
     cleaned : (c : ℕ) → is_clean mine.clean c ≡ true → is_clean clean c ≡ true
-    cleaned c e = subst (λ z. is_clean z c ≡ true) marks e
+    cleaned c e = subst (λ z. is_clean z c ≡ true) its_clean e
 
     agrees_at : (c : ℕ) (p : ThreadPlace) → v.place ≡ p → place p ≡ some c → is_clean mine.clean c ≡ true → Agrees v.number p (h.rule.mids c)
     agrees_at c p e q cl = subst (λ z. place z ≡ some c → Agrees v.number z (h.rule.mids c)) e (λ z. fits.agrees c z (cleaned c cl)) q
 
-    fives_at : (c : ℕ) (fives : Bool) → v.place ≡ Try c fives → fives ≡ true → (d : ℕ) → d < c → is_clean mine.clean d ≡ false
-    fives_at c fives e f d l = subst (λ z. is_clean z d ≡ false) (sym marks) ((subst (λ z. Fives clean z) e fits.fives) f d l)
+    all_abandoned_at : (c : ℕ) (all_abandoned : Bool) → v.place ≡ Try c all_abandoned → all_abandoned ≡ true → (d : ℕ) → d < c → is_clean mine.clean d ≡ false
+    all_abandoned_at c all_abandoned e f d l = subst (λ z. is_clean z d ≡ false) (sym its_clean) ((subst (λ z. AllAbandoned clean z) e fits.all_abandoned) f d l)
 
     learns : (stage : ThreadStage) → v.place ≡ thread_place_of block stage → mine.block ≡ block → IsSoundThreadStage (length mine.clean) mine.patience block stage → GivesUp mine.clean stage
         → Waits script mine stage → Learns script mine stage (slice_index words (act_word (thread_plan script (record mine { stage = stage }))))
-    learns (thread.Try c rounds fives) e b s g w =
-        ((λ cl. state_known (h.rule.mids c) (sees c views.worker) (row words c) (h.rule.chans c (cleaned c cl))), fives_at c fives e)
+    learns (thread.Try c rounds all_abandoned) e b s g w =
+        ((λ cl. state_known (h.rule.mids c) (sees c views.worker) (row words c) (h.rule.chans c (cleaned c cl))), all_abandoned_at c all_abandoned e)
     learns (thread.Fill c i) e b s g w = tt
     learns (thread.Send c) e b s g w = λ cl.
         state_filling (h.rule.mids c) v.number block (sees c views.worker) (row words c) (agrees_at c (Fill c block) e refl cl) (h.rule.chans c (cleaned c cl))
@@ -88,4 +88,4 @@ module _ (script : Script) (t : ℕ) (words : List ℕ) (calls : List Served) (x
       let v = view.0 in
       let held = view.2.holds in
       let fits : FitsThread clean h.rule.mids views.worker.served k v = h.rule.fits k v view.1 in
-      learns v mine.block (sym held.clean ∙ fits.marks) fits mine.stage held.place refl sound gives waits
+      learns v mine.block (sym held.clean ∙ fits.its_clean) fits mine.stage held.place refl sound gives waits

@@ -2,6 +2,7 @@ pub mod Bounds
 pub mod Counting
 pub mod Folding
 pub mod Sets
+pub mod Telling
 pub mod There
 pub mod Keeping
 pub mod ThreadRows
@@ -12,6 +13,7 @@ pub mod Beginning
 pub mod Reaching
 pub mod Starting
 pub mod Judging
+pub mod Causing
 pub mod Changing
 pub mod RunLaws
 pub mod Draining
@@ -38,5 +40,6 @@ pub mod Tracing
 pub mod ThreadTallies
 pub mod WorkerTallies
 pub mod Tallying
+pub mod Passing
 pub mod PlacedUnits
 pub mod Belonging

@@ -15,7 +15,7 @@ names (act.Load t word) u = t == u
 names (act.Store t word value) u = t == u
 names (act.Exchange t word from to) u = t == u
 names act.Take u = false
-names act.Mark u = false
+names act.Answer u = false
 names act.Give u = false
 names act.Idle u = false
 
@@ -31,7 +31,7 @@ tells s (act.Load t word) u e = ap (λ z. slice_index (words_of s.words z) (plac
 tells s (act.Store t word value) u e = tt
 tells s (act.Exchange t word from to) u e = ap (λ z. slice_index (words_of s.words z) (place_of word)) (is_same t u e)
 tells s act.Take u e = absurd (cc)
-tells s act.Mark u e = absurd (cc)
+tells s act.Answer u e = absurd (cc)
 tells s act.Give u e = absurd (cc)
 tells s act.Idle u e = absurd (cc)
 
@@ -53,7 +53,7 @@ named_words s (act.Exchange t word from to) u e h =
     (get_or-set_same s.words t (exchanged (words_of s.words t) word from to) [] h.listed
     ∙ exchange_writes (words_of s.words t) (place_of word) to (loaded (words_of s.words t) word == from))
 named_words s act.Take u e h = absurd (cc)
-named_words s act.Mark u e h = absurd (cc)
+named_words s act.Answer u e h = absurd (cc)
 named_words s act.Give u e h = absurd (cc)
 named_words s act.Idle u e h = absurd (cc)
 
@@ -65,6 +65,6 @@ other_words s (act.Store t word value) u e =
 other_words s (act.Exchange t word from to) u e =
     get_or-set_other s.words t u (exchanged (words_of s.words t) word from to) [] (λ f. absurd (not_same t u e (sym f)))
 other_words s act.Take u e = refl
-other_words s act.Mark u e = refl
+other_words s act.Answer u e = refl
 other_words s act.Give u e = refl
 other_words s act.Idle u e = refl

@@ -1,4 +1,4 @@
--- The string of the call at each place is made of units where those of all statements are.
+-- The string of the call at each place is made of units if those of all statements are.
 use Rattle.std.proofs.Common.{◌≡◌, refl, ℕ, zero, suc, List, [], ◌∷◌, Bool, true, Option, None, Some, sym}
 use Rattle.std.proofs.lemmas.Bool.{and_parts}
 use Rattle.std.specs.Prelude.{slice_get}

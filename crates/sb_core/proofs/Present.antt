@@ -85,9 +85,9 @@ either_whole : (b : Bool) (m : Mid) (taken : Copied) (reply : List ℕ) (f : Row
 either_whole true m taken reply f h = copied_whole m taken f h
 either_whole false m taken reply f h = replied_whole m taken reply f h
 
--- where a thread is at a channel it is within a call
+-- if a thread is at a channel it is within a call
 calling_at : (block : List ℕ) (stage : ThreadStage) (c : ℕ) → place (thread_place_of block stage) ≡ some c → is_calling stage ≡ true
-calling_at block (Try d rounds fives) c e = refl
+calling_at block (Try d rounds all_abandoned) c e = refl
 calling_at block (Fill d i) c e = refl
 calling_at block (Send d) c e = refl
 calling_at block (Wait d loads) c e = refl
@@ -102,7 +102,7 @@ same_channel : (d c : ℕ) → ◌≡◌ {A = Option ℕ} (some d) (some c) → 
 same_channel d c e = let same : d ≡ c = cc in ap Some same
 
 channel_at : (block : List ℕ) (stage : ThreadStage) (c : ℕ) → place (thread_place_of block stage) ≡ some c → channel_in stage ≡ Some c
-channel_at block (Try d rounds fives) c e = absurd (some-ne-none c (sym e))
+channel_at block (Try d rounds all_abandoned) c e = absurd (some-ne-none c (sym e))
 channel_at block (Fill d i) c e = same_channel d c e
 channel_at block (Send d) c e = same_channel d c e
 channel_at block (Wait d loads) c e = same_channel d c e
@@ -114,7 +114,7 @@ channel_at block Over c e = absurd (some-ne-none c (sym e))
 
 -- a thread at a channel with a whole block has that block
 ready_block : (k number : ℕ) (block b : List ℕ) (stage : ThreadStage) (m : Mid) → Agrees k (thread_place_of block stage) m → (c : ℕ) → place (thread_place_of block stage) ≡ some c → m ≡ ready number b → b ≡ block
-ready_block k number block b (Try d rounds fives) m a c e f = absurd (some-ne-none c (sym e))
+ready_block k number block b (Try d rounds all_abandoned) m a c e f = absurd (some-ne-none c (sym e))
 ready_block k number block b (Fill d i) m a c e f = absurd (cc)
 ready_block k number block b (Send d) m a c e f = absurd (cc)
 ready_block k number block b (Wait d loads) m a c e f = ⊎_elim (λ h. cc) (λ h. let g = h.1 in absurd (cc)) a
@@ -126,7 +126,7 @@ ready_block k number block b Over m a c e f = absurd (some-ne-none c (sym e))
 
 -- and so has one whose call is served
 acked_block : (k number : ℕ) (block b reply : List ℕ) (stage : ThreadStage) (m : Mid) → Agrees k (thread_place_of block stage) m → (c : ℕ) → place (thread_place_of block stage) ≡ some c → m ≡ acked number b reply → b ≡ block
-acked_block k number block b reply (Try d rounds fives) m a c e f = absurd (some-ne-none c (sym e))
+acked_block k number block b reply (Try d rounds all_abandoned) m a c e f = absurd (some-ne-none c (sym e))
 acked_block k number block b reply (Fill d i) m a c e f = absurd (cc)
 acked_block k number block b reply (Send d) m a c e f = absurd (cc)
 acked_block k number block b reply (Wait d loads) m a c e f = ⊎_elim (λ h. absurd (cc)) (λ h. let g = h.1 in cc) a
@@ -184,7 +184,7 @@ module _ (script : Script) (t : ℕ) (words : List ℕ) (entries : List Entry) (
   work_by (worker.End count) e = inl refl
   work_by (worker.Copy count end ws) e = inl refl
   work_by (worker.Take taken) e = inl refl
-  work_by (worker.Mark taken) e = inl refl
+  work_by (worker.Answer taken) e = inl refl
   work_by (worker.Give taken reply) e =
       let q : Served = record { channel = x.channel; taken = taken; reply = reply } in
       engaged q
@@ -271,7 +271,7 @@ module _ (script : Script) (t : ℕ) (words : List ℕ) (entries : List Entry) (
       ∙ (ap (λ (z : List Served). map read z) (filter-append (is_of clean k) v.served (in_work x.channel x.stage))
       ∙ (map-append read (calls_of clean k v.served) work ∙ ap (λ (z : List Answered). z ++ map read work) (ap (λ (z : List Served). map read z) served ∙ told))))
 
-  -- where the worker is at the thread's block, so is the thread
+  -- if the worker is at the thread's block, so is the thread
   at_ready : (c : ℕ) (block : List ℕ) → is_clean clean c ≡ true → mids c ≡ ready k block → place (thread_place_of mine.thread.block mine.thread.stage) ≡ some c
   at_ready c block cl e =
       subst (λ p. place p ≡ some c) (h.threads k there).2.holds.place (fits.only c cl (ap (λ m. owner m) e ∙ ap (λ n. some n) (sym number_is)))

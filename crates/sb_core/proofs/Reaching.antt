@@ -4,8 +4,9 @@ use Rattle.std.proofs.Common.{◌≡◌, ◌∙◌, ◌⊎◌, inl, inr, ⊎_eli
 use Rattle.std.specs.Option.{option_to_list}
 use Rattle.std.specs.Prelude.{slice_index}
 use Rattle.sb_actor.specs.Places.{statement_at}
+use Rattle.sb_actor.specs.Ranges.{IsSoundStage}
 use Rattle.sb_actor.specs.ThreadTable.{thread_after, thread_plan}
-use Rattle.sb_actor.specs.WorkerStages.{WorkerStage, WorkerAt, Look, Count, End, Copy, Take, Mark, Give, Reply, Ack}
+use Rattle.sb_actor.specs.WorkerStages.{WorkerStage, WorkerAt, Look, Count, End, Copy, Take, Answer, Give, Reply, Ack}
 use Rattle.sb_actor.specs.WorkerTable.{worker_plan}
 use Rattle.sb_book.specs.Histories.{IsHistory, Setting}
 use Rattle.sb_book.specs.Laws.{AnswersKeepHistories}
@@ -41,7 +42,7 @@ pub record Good (script : Script) (setting : Setting) (w : WorldAt) : Type 0 whe
   pub history : IsHistory w.shared.book
   pub fits : (t k : ℕ) → k < length (threads_at w t) → RunFits script t k (run_at w t k)
 
--- an element of a list with one more behind it
+-- an element of a list with one more after it
 pub behind : {X : Type 0} (xs : List X) (o : Option X) (i : ℕ) (x : X) → slice_get (xs ++ option_to_list o) i ≡ Some x
     → (slice_get xs i ≡ Some x) ⊎ ((i ≡ length xs) × (o ≡ Some x))
 behind [] None zero x e = absurd (cc)
@@ -54,24 +55,25 @@ behind (y ∷ xs) o (suc i) x e = ⊎_elim (λ h. inl h) (λ h. inr (ap suc h.0,
 module _ (statements : SoundStatements) (answers : AnswersKeepHistories) (script : Script) (setting : Setting) where
   -- the book after a step of a worker
   pub history_after : (w : WorldAt) (t : ℕ) (x : WorkerAt) → IsHistory w.shared.book → t < length w.shared.book.setting.policies
-      → x.channel < slice_index w.shared.book.setting.channels t → (stage : WorkerStage)
+      → x.channel < slice_index w.shared.book.setting.channels t → (stage : WorkerStage) → IsSoundStage stage
       → IsHistory (on_worker w.shared t (record x { stage = stage }) (worker_plan (record x { stage = stage }))).shared.book
-  history_after w t x h p c Look = h
-  history_after w t x h p c Count = h
-  history_after w t x h p c (End count) = h
-  history_after w t x h p c (Copy count end words) = h
-  history_after w t x h p c (Take taken) = h
-  history_after w t x h p c (Mark taken) = answers w.shared.book t x.channel taken (decided w.shared.book t taken) p c refl h
-  history_after w t x h p c (Give taken reply) = h
-  history_after w t x h p c (Reply taken reply at) = h
-  history_after w t x h p c (Ack taken reply) = h
+  history_after w t x h p c Look s = h
+  history_after w t x h p c Count s = h
+  history_after w t x h p c (End count) s = h
+  history_after w t x h p c (Copy count end words) s = h
+  history_after w t x h p c (Take taken) s = h
+  history_after w t x h p c (Answer taken) s = answers w.shared.book t x.channel taken (decided w.shared.book t taken) p c s refl h
+  history_after w t x h p c (Give taken reply) s = h
+  history_after w t x h p c (Reply taken reply at) s = h
+  history_after w t x h p c (Ack taken reply) s = h
 
   good_worker : (w : WorldAt) (t : ℕ) → Good script setting w → t < length w.workers → Good script setting (worker_step w t)
   good_worker w t good there = record {
     kept = worker_keeps w t good.kept there;
     runs = worker_runs script w t good.kept good.runs there;
     setting_is = worker_setting w t good.kept there ∙ good.setting_is;
-    history = history_after w t (worker_at w t) good.history (worker_policy w t good.kept there) (worker_channel w t good.kept there) (worker_at w t).stage;
+    history = history_after w t (worker_at w t) good.history (worker_policy w t good.kept there) (worker_channel w t good.kept there) (worker_at w t).stage
+        (good.kept.workers t there).sound;
     fits = good.fits;
   }
 

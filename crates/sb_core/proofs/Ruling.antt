@@ -3,7 +3,7 @@
 use Rattle.std.proofs.Common.{◌≡◌, ◌∙◌, refl, ap, subst, sym, ℕ, ◌<◌, Bool, true, ⊎_elim, List, [], ◌++◌, length, Option, None, Some, IfSome, slice_get}
 use Rattle.std.specs.Option.{option_to_list}
 use Rattle.sb_actor.specs.Fitting.{Suits}
-use Rattle.sb_actor.specs.Places.{begun, clean_channels, mark_at, statement_at}
+use Rattle.sb_actor.specs.Places.{thread_start, clean_channels, mark_at, statement_at}
 use Rattle.sb_actor.specs.ThreadFollowing.{GivesUp}
 use Rattle.sb_actor.specs.ThreadTable.{thread_after, thread_plan}
 use Rattle.sb_book.specs.Readiness.{is_ready}
@@ -60,7 +60,7 @@ module _ (laws : RuleLaws) (targets : SoundTargets) (statements : SoundStatement
     runs = runs;
     gives = λ t k l. subst (λ (x : RunAt). GivesUp x.thread.clean x.thread.stage) (sym (start_run targets statements policies script h t k l)) (laws.gives_up.0 script t k);
     waits = λ t k l. subst (λ (x : RunAt). Waits script x.thread x.thread.stage) (sym (start_run targets statements policies script h t k l))
-        (waits_first script (begun script t k) (statement_at script t k 0) refl);
+        (waits_first script (thread_start script t k) (statement_at script t k 0) refl);
     suits = λ t k l i r e. absurd (none_of i r (ap (λ (x : RunAt). slice_get x.results i) (sym (start_run targets statements policies script h t k l)) ∙ e));
     rule = λ t l. opens t (subst (λ n. t < n) (as_many script (start_world policies script) kept runs) l);
   }

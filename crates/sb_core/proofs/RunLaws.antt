@@ -33,7 +33,7 @@ use Rattle.sb_core.proofs.Starting.{start_run, starts_running, starts_world}
 use Rattle.sb_core.proofs.There.{as_many, targets_there}
 
 -- before the first step there are no results
-none_of : (i : ℕ) (r : StmtResult) → ◌≡◌ {A = Option StmtResult} (slice_get [] i) (Some r) → ⊥
+pub none_of : (i : ℕ) (r : StmtResult) → ◌≡◌ {A = Option StmtResult} (slice_get [] i) (Some r) → ⊥
 none_of i r e = cc
 
 module _ (targets_law : SoundTargets) (statements_law : SoundStatements) (policies : List Policy) (script : Script) (prepared : is_ready policies script ≡ true) where
@@ -103,7 +103,7 @@ results_fit script threads fits t k i r e = by_test (ltb k (length (get_or threa
         let past : length (get_or threads t []) ≤ k = grind (arith, nat_tests) in
         absurd (none_of i r (ap (λ (x : RunAt). slice_get x.results i) (sym (no_run_past (get_or threads t []) k past)) ∙ found))
 
--- where no thread is unfinished each is finished
+-- if no thread is unfinished each is finished
 module _ (script : Script) where
   first_none : (a b : Option (ℕ × ℕ)) → or_else a b ≡ None → (a ≡ None) × (b ≡ None)
   first_none None b e = (refl, e)

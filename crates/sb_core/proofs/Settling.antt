@@ -10,7 +10,7 @@ use native.Mathlib.Decide.{ℕ_discrete}
 use Rattle.sb_actor.specs.Acts.{ready}
 use Rattle.sb_actor.specs.Moves.{at}
 use Rattle.sb_actor.specs.Ranges.{IsSoundStage}
-use Rattle.sb_actor.specs.WorkerStages.{WorkerStage, WorkerAt, Look, Count, End, Copy, Take, Mark, Give, Reply, Ack}
+use Rattle.sb_actor.specs.WorkerStages.{WorkerStage, WorkerAt, Look, Count, End, Copy, Take, Answer, Give, Reply, Ack}
 use Rattle.sb_actor.specs.WorkerTable.{after_copy, after_count, after_end, after_reply, is_looking, look_next, worker_after, worker_plan}
 use Rattle.sb_block.specs.Copies.{Copied, copied, is_end}
 use Rattle.sb_block.specs.Packing.{offset_of}
@@ -61,7 +61,7 @@ left k c words Count = 82 + others words k c k
 left k c words (End count) = 81 + others words k c k
 left k c words (Copy count end copy) = 16 + (end - length copy) + others words k c k
 left k c words (Take taken) = 16 + others words k c k
-left k c words (Mark taken) = 15 + others words k c k
+left k c words (Answer taken) = 15 + others words k c k
 left k c words (Give taken reply) = 14 + others words k c k
 left k c words (Reply taken reply i) = (13 - i) + others words k c k
 left k c words (Ack taken reply) = 1 + others words k c k
@@ -135,7 +135,7 @@ nearer k c j n l m = by_test (ltb (c + 1) k) refl
         ap (λ d. ahead k d j + 1) (ap (λ z. z % k) same ∙ mod_self k)
         ∙ (ap (λ z. z + 1) (first_ahead k j (nat_le 0 j) refl) ∙ first_by k c j (nat_le c j) refl n m same)
 
--- one number falls to another: it is no greater, and less where there was something
+-- one number falls to another: it is no greater, and less if there was something
 pub record Falls (after before : ℕ) : Type 0 where
   pub low : after ≤ before
   pub less : 0 < before → after < before
@@ -224,19 +224,19 @@ not_ready : (words : List ℕ) (c : ℕ) → at c 0 < length words → (b : Bool
 not_ready words c l true e = ap (λ z. z == 3) (get_or-set_same words (at c 0) 4 0 l)
 not_ready words c l false e = e
 
--- the step of a worker of a target leaves fewer, where it is not an idle look and does not find the turn held
+-- the step of a worker of a target leaves fewer, if it is not an idle look and does not find the turn held
 abbrev goes_on : Option ℕ → ℕ → WorkerStage → Bool
 goes_on turn n Look = ltb 0 n
 goes_on turn n Count = true
 goes_on turn n (End count) = true
 goes_on turn n (Copy count end copy) = true
 goes_on turn n (Take taken) = is_none turn
-goes_on turn n (Mark taken) = true
+goes_on turn n (Answer taken) = true
 goes_on turn n (Give taken reply) = true
 goes_on turn n (Reply taken reply i) = true
 goes_on turn n (Ack taken reply) = true
 
--- what a step leaves: no more, and fewer where it goes on
+-- what a step leaves: no more, and fewer if it goes on
 pub record Leaves (b : Bool) (after before : ℕ) : Type 0 where
   pub low : after ≤ before
   pub less : b ≡ true → after < before
@@ -306,11 +306,11 @@ module _ (w : WorldAt) (t k c : ℕ) (kept : IsWorld w) (there : t < length w.wo
   by_reply i new l s true e = let same : i ≡ 11 = grind (arith, nat_tests) in omega (arith, same, s)
   by_reply i new l s false e = let ne = not_same i 11 e in omega (arith, l, s, ne)
 
-  by_take : (taken : Copied) (turn : Option ℕ) → Leaves (is_none turn) (left k c words (if is_none turn then Mark taken else Take taken)) (16 + others words k c k)
+  by_take : (taken : Copied) (turn : Option ℕ) → Leaves (is_none turn) (left k c words (if is_none turn then Answer taken else Take taken)) (16 + others words k c k)
   by_take taken None = fewer true (15 + others words k c k) (16 + others words k c k) (omega arith)
   by_take taken (Some holder) = record { low = omega arith; less = λ e. absurd (cc) }
 
-  -- of the stage behind a reply word
+  -- of the stage after a reply word
   reply_left : (b : Bool) (taken : Copied) (reply : List ℕ) (i : ℕ) (new : List ℕ)
       → left k c new (if b then Ack taken reply else Reply taken reply (i + 1)) ≡ (if b then 1 + others new k c k else (13 - (i + 1)) + others new k c k)
   reply_left true taken reply i new = refl
@@ -329,7 +329,7 @@ module _ (w : WorldAt) (t k c : ℕ) (kept : IsWorld w) (there : t < length w.wo
       fewer true (left k c words (after_copy count end (copy ++ x ∷ []))) (16 + (end - length copy) + others words k c k)
       (by_copy count end x copy s.3 (length (copy ++ x ∷ []) == end) refl)
   step_leaves (Take taken) s = by_take taken w.shared.turn
-  step_leaves (Mark taken) s = fewer true (14 + others words k c k) (15 + others words k c k) (omega arith)
+  step_leaves (Answer taken) s = fewer true (14 + others words k c k) (15 + others words k c k) (omega arith)
   step_leaves (Give taken reply) s = fewer true (13 + others words k c k) (14 + others words k c k) (omega arith)
   step_leaves (Reply taken reply i) s =
       let new = stored words (record { channel = c; at = 1 + (3 + i) }) (slice_index reply i) in
@@ -412,7 +412,7 @@ other_stays w t u kept there n =
     by_stage k c (End count) = refl
     by_stage k c (Copy count end copy) = refl
     by_stage k c (Take taken) = refl
-    by_stage k c (Mark taken) = refl
+    by_stage k c (Answer taken) = refl
     by_stage k c (Give taken reply) = refl
     by_stage k c (Reply taken reply i) = get_or-set_other w.shared.words t u _ [] n
     by_stage k c (Ack taken reply) = get_or-set_other w.shared.words t u _ [] n
@@ -518,7 +518,7 @@ some_waiting words k c (suc n) e = by_test (is_ready words n) refl e (λ g. some
     by_test true f g front = let here : weigh words k c n ≡ 91 + ahead k c n = ap (λ b. weigh_by b (ahead k c n)) f in omega (arith, here)
     by_test false f g front = let before = front g in omega (arith, before)
 
--- where nobody has the turn, a worker that is not idle goes on
+-- if nobody has the turn, a worker that is not idle goes on
 busy_moves : (w : WorldAt) (t : ℕ) → IsWorld w → t < length w.workers → w.shared.turn ≡ None → is_idle w t ≡ false → moves w t ≡ true
 busy_moves w t kept there free busy =
     let x = kept.workers t there in
@@ -548,7 +548,7 @@ busy_moves w t kept there free busy =
     by_stage k c (End count) turn e s b = refl
     by_stage k c (Copy count end copy) turn e s b = refl
     by_stage k c (Take taken) turn e s b = ap (λ (o : Option ℕ). is_none o) e
-    by_stage k c (Mark taken) turn e s b = refl
+    by_stage k c (Answer taken) turn e s b = refl
     by_stage k c (Give taken reply) turn e s b = refl
     by_stage k c (Reply taken reply i) turn e s b = refl
     by_stage k c (Ack taken reply) turn e s b = refl
@@ -565,7 +565,7 @@ idle_turn w t e =
     by_stage x (End count) e = absurd (cc)
     by_stage x (Copy count end copy) e = absurd (cc)
     by_stage x (Take taken) e = absurd (cc)
-    by_stage x (Mark taken) e = absurd (cc)
+    by_stage x (Answer taken) e = absurd (cc)
     by_stage x (Give taken reply) e = absurd (cc)
     by_stage x (Reply taken reply i) e = absurd (cc)
     by_stage x (Ack taken reply) e = absurd (cc)
@@ -602,7 +602,7 @@ first_busy w (suc n) = ⊎_elim (λ all. by_test all (is_idle w n) refl) (λ f. 
         last : (n : ℕ) → n < suc n
         last n = omega arith
 
--- where all workers are idle the world is settled
+-- if all workers are idle the world is settled
 all_at : {X : Type 0} (p : X → Bool) (xs : List X) (d : X) → ((i : ℕ) → i < length xs → p (get_or xs i d) ≡ true) → list_all p xs ≡ true
 all_at p [] d each = refl
 all_at p (x ∷ xs) d each =
@@ -644,14 +644,14 @@ unsettled_falls w kept busy = by_turn w.shared.turn refl
     opposite true e f = absurd (cc)
     opposite false e f = absurd (cc)
 
-    -- a worker in Mark or Give goes on
+    -- a worker in Answer or Give goes on
     holder_moves : (turn : Option ℕ) (n : ℕ) (stage : WorkerStage) → has_turn stage ≡ true → goes_on turn n stage ≡ true
     holder_moves turn n Look e = absurd (cc)
     holder_moves turn n Count e = absurd (cc)
     holder_moves turn n (End count) e = absurd (cc)
     holder_moves turn n (Copy count end copy) e = absurd (cc)
     holder_moves turn n (Take taken) e = absurd (cc)
-    holder_moves turn n (Mark taken) e = refl
+    holder_moves turn n (Answer taken) e = refl
     holder_moves turn n (Give taken reply) e = refl
     holder_moves turn n (Reply taken reply i) e = absurd (cc)
     holder_moves turn n (Ack taken reply) e = absurd (cc)
@@ -746,7 +746,7 @@ module _ (words : List ℕ) (k c : ℕ) (within : c < k) (few : k ≤ 8) where
       by_stage (End count) s all rest = omega (arith, rest)
       by_stage (Copy count end copy) s all rest = let high = s.2 in omega (arith, rest, high)
       by_stage (Take taken) s all rest = omega (arith, rest)
-      by_stage (Mark taken) s all rest = omega (arith, rest)
+      by_stage (Answer taken) s all rest = omega (arith, rest)
       by_stage (Give taken reply) s all rest = omega (arith, rest)
       by_stage (Reply taken reply i) s all rest = omega (arith, rest)
       by_stage (Ack taken reply) s all rest = omega (arith, rest)

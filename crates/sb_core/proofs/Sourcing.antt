@@ -104,7 +104,7 @@ WritesSource script es (act.Load t word) = Unit {0}
 WritesSource script es (act.Store t word value) = (word.at < 65) × HasSource script es t word.channel word.at value
 WritesSource script es (act.Exchange t word from to) = (word.at < 65) × HasSource script es t word.channel word.at to
 WritesSource script es act.Take = Unit {0}
-WritesSource script es act.Mark = Unit {0}
+WritesSource script es act.Answer = Unit {0}
 WritesSource script es act.Give = Unit {0}
 WritesSource script es act.Idle = Unit {0}
 
@@ -152,6 +152,6 @@ sourced_words script es s (act.Exchange t word from to) all there w = by_test (l
     by_test true = stored_source script es s.words all t word to there.listed w.0 w.1
     by_test false = subst (λ (z : List (List ℕ)). AreSourcedWords script es z) (sym (set_as_was s.words t [])) all
 sourced_words script es s act.Take all there w = all
-sourced_words script es s act.Mark all there w = all
+sourced_words script es s act.Answer all there w = all
 sourced_words script es s act.Give all there w = all
 sourced_words script es s act.Idle all there w = all

@@ -7,7 +7,7 @@ use Rattle.std.proofs.lemmas.Bool.Decides.{nat_tests}
 use Rattle.std.specs.List.{list_all}
 use Rattle.std.specs.Prelude.{is_ok}
 use native.Mathlib.Decide.{ℕ_discrete}
-use Rattle.sb_actor.specs.Places.{begun, clean_channels, clean_upto, mark_at, statement_at, statements_of}
+use Rattle.sb_actor.specs.Places.{thread_start, clean_channels, clean_upto, mark_at, statement_at, statements_of}
 use Rattle.sb_book.specs.Readiness.{is_judged, is_ready}
 use Rattle.sb_kernel.specs.Openings.{opened}
 use Rattle.sb_rule.specs.Verdicts.{policy_at}
@@ -81,13 +81,13 @@ mapped_length : {X Y : Type 0} (f : X → Y) (xs : List X) → length (map f xs)
 mapped_length f [] = refl
 mapped_length f (x ∷ xs) = ap suc (mapped_length f xs)
 
--- the clean marks of a target are as many as its channels
+-- the list of a target's clean channels has one item for each channel
 pub clean_length : (script : Script) (target n : ℕ) → length (clean_upto script target n) ≡ n
 clean_length script target n = so_many (is_clean script target) (clean_upto script target) refl (λ n. refl) n
 
 -- and each is that of its channel
-pub clean_mark : (script : Script) (target c : ℕ) → c < channels_of (slice_get script.targets target) → get_or (clean_channels script target) c false ≡ is_clean script target c
-clean_mark script target c l = each_is (is_clean script target) (clean_upto script target) refl (λ n. refl) (channels_of (slice_get script.targets target)) c false l
+pub clean_in_list : (script : Script) (target c : ℕ) → c < channels_of (slice_get script.targets target) → get_or (clean_channels script target) c false ≡ is_clean script target c
+clean_in_list script target c l = each_is (is_clean script target) (clean_upto script target) refl (λ n. refl) (channels_of (slice_get script.targets target)) c false l
 
 module _ (targets_law : SoundTargets) (statements_law : SoundStatements) (policies : List Policy) (script : Script) (h : is_ready policies script ≡ true) where
   sound : is_sound script ≡ true
@@ -196,7 +196,7 @@ module _ (targets_law : SoundTargets) (statements_law : SoundStatements) (polici
           let same = lists_count in
           none_past start.threads t (omega (arith, same, high)) ∙ sym (past script.targets t high)
 
-  stands_first : (t k : ℕ) → IsAtStatement script (begun script t k)
+  stands_first : (t k : ℕ) → IsAtStatement script (thread_start script t k)
   stands_first t k = record {
     place = least (length (statements_of script t k));
     calling = first_calling (statement_at script t k 0);

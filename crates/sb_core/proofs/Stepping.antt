@@ -20,14 +20,14 @@ use Rattle.sb_core.proofs.Folding.{steps_append}
 use Rattle.sb_core.proofs.There.{as_many}
 
 -- the actors of a round are there
-all_append : (p : Actor → Bool) (xs ys : List Actor) → list_all p xs ≡ true → list_all p ys ≡ true → list_all p (xs ++ ys) ≡ true
+pub all_append : (p : Actor → Bool) (xs ys : List Actor) → list_all p xs ≡ true → list_all p ys ≡ true → list_all p (xs ++ ys) ≡ true
 all_append p [] ys h k = k
 all_append p (x ∷ xs) ys h k =
     let parts = and_parts (p x) (list_all p xs) h in
     let rest = all_append p xs ys parts.1 k in
     rw (parts.0, rest) refl
 
-single : (p : Actor → Bool) (x : Actor) → p x ≡ true → list_all p (x ∷ []) ≡ true
+pub single : (p : Actor → Bool) (x : Actor) → p x ≡ true → list_all p (x ∷ []) ≡ true
 single p x e = rw e refl
 
 threads_there : (targets : List TargetScript) (t n : ℕ) → n ≤ thread_count (slice_get targets t) → are_there targets (first_threads t n) ≡ true
@@ -64,7 +64,7 @@ replicated : (targets : List TargetScript) (actor : Actor) (n : ℕ) → is_ther
 replicated targets actor zero e = refl
 replicated targets actor (suc n) e = let rest = replicated targets actor n e in rw (e, rest) refl
 
-scheduled_there : (targets : List TargetScript) (entries : List (Actor × ℕ)) → list_all (is_step_there targets) entries ≡ true → are_there targets (scheduled entries) ≡ true
+pub scheduled_there : (targets : List TargetScript) (entries : List (Actor × ℕ)) → list_all (is_step_there targets) entries ≡ true → are_there targets (scheduled entries) ≡ true
 scheduled_there targets [] e = refl
 scheduled_there targets (entry ∷ entries) e =
     let parts = and_parts (is_step_there targets entry) (list_all (is_step_there targets) entries) e in
@@ -81,7 +81,7 @@ pub record Leads (script : Script) (w v : WorldAt) : Type 0 where
   pub there : are_there script.targets actors ≡ true
   pub reached : v ≡ steps script actors w
 
--- what each step keeps holds where they lead
+-- what each step keeps holds if they lead
 pub kept_along : (script : Script) (P : WorldAt → Type 0) → ((w : WorldAt) (actor : Actor) → P w → is_there script.targets actor ≡ true → P (step script w actor))
     → (w v : WorldAt) → Leads script w v → P w → P v
 kept_along script P each w v leads h = subst P (sym leads.reached) (along leads.actors w h leads.there)

@@ -10,7 +10,7 @@ use Rattle.sb_actor.specs.Acts.{value_in}
 use Rattle.sb_actor.specs.Moves.{at}
 use Rattle.sb_actor.specs.Places.{statement_at, statements_of}
 use Rattle.sb_actor.specs.ThreadTable.{thread_after, thread_plan}
-use Rattle.sb_actor.specs.WorkerStages.{WorkerStage, WorkerAt, Look, Count, End, Copy, Take, Mark, Give, Reply, Ack}
+use Rattle.sb_actor.specs.WorkerStages.{WorkerStage, WorkerAt, Look, Count, End, Copy, Take, Answer, Give, Reply, Ack}
 use Rattle.sb_actor.specs.WorkerTable.{worker_plan}
 use Rattle.sb_actor.specs.declared.acts.Act.{Act}
 use Rattle.sb_actor.specs.declared.acts.Act.TheVariants as act
@@ -113,7 +113,7 @@ module _ (w : WorldAt) (t u c : ℕ) (x : WorkerAt) (ne : u ≢ t) where
   other_entries (End count) = refl
   other_entries (Copy count end words) = refl
   other_entries (Take taken) = refl
-  other_entries (Mark taken) =
+  other_entries (Answer taken) =
       let e = entry_of w.shared.book.space t x.channel taken (decided w.shared.book t taken) in
       let more = entries_more u c w.shared.book.entries e in
       let none : one_if (t == u && x.channel == c) ≡ 0 = ap (λ b. one_if (b && x.channel == c)) (apart t u ne) in
@@ -147,7 +147,7 @@ tallied_worker script w t r there = record {
         subst (λ (z : ℕ × WorkerAt × List ℕ). z.0 + owed z.1 c (slice_index z.2 (at c 0)) ≤ tally_all script u c w.threads)
         (λ j. (sym (other_entries w t u c (worker_at w t) ne (worker_at w t).stage) j, sym s.worker j, sym s.words j)) before
 
--- a state becomes 3 where a step makes the channel ready
+-- a state becomes 3 if a step makes the channel ready
 same_place : (c : ℕ) (word : Word) → word.at < 65 → place_of word ≡ at c 0 → (word.channel ≡ c) × (word.at ≡ 0)
 same_place c word l e =
     let one : word.channel ≡ c = omega (arith, e, l) in
@@ -224,7 +224,7 @@ module _ (s : SharedAt) (u c : ℕ) (inside : at c 0 < length (words_of s.words 
           let as_was = ap (λ (z : List (List ℕ)). one_if (slice_index (words_of z u) (at c 0) == 3)) (set-get_or s.words t []) in
           omega (arith, as_was)
   state_rises script es act.Take there w = more (one_if (state == 3)) 0
-  state_rises script es act.Mark there w = more (one_if (state == 3)) 0
+  state_rises script es act.Answer there w = more (one_if (state == 3)) 0
   state_rises script es act.Give there w = more (one_if (state == 3)) 0
   state_rises script es act.Idle there w = more (one_if (state == 3)) 0
 
@@ -235,7 +235,7 @@ owed_rises true Count s after r l = omega arith
 owed_rises true (End count) s after r l = omega arith
 owed_rises true (Copy count end words) s after r l = omega arith
 owed_rises true (Take taken) s after r l = omega arith
-owed_rises true (Mark taken) s after r l = omega arith
+owed_rises true (Answer taken) s after r l = omega arith
 owed_rises true (Give taken reply) s after r l = omega arith
 owed_rises true (Reply taken reply i) s after r l = omega arith
 owed_rises true (Ack taken reply) s after r l = omega arith
@@ -329,7 +329,7 @@ module _ (targets : SoundTargets) (statements : SoundStatements) (script : Scrip
   pub tallied_of : (w : WorldAt) → IsOfScript script w → Tallied script w
   tallied_of w o = kept_along script (Tallied script) tallied_step (start_world o.policies script) w (leads_of script w o) (tallied_start o.policies o.ready)
 
--- where no thread is within a call the weights are the tallies of the results
+-- if no thread is within a call the weights are the tallies of the results
 pub record Outside (script : Script) (c u k : ℕ) (x : RunAt) : Type 0 where
   pub its_target : x.thread.target ≡ u
   pub its_number : x.thread.thread ≡ k

@@ -8,7 +8,7 @@ use Rattle.sb_actor.specs.Ranges.{IsSoundStage, IsSoundThreadStage}
 use Rattle.sb_actor.specs.ThreadStages.{ThreadStage, ThreadAt}
 use Rattle.sb_actor.specs.ThreadStages as thread
 use Rattle.sb_actor.specs.ThreadTable.{stray_row, thread_plan}
-use Rattle.sb_actor.specs.WorkerStages.{WorkerStage, Look, Count, End, Copy, Take, Mark, Give, Reply, Ack}
+use Rattle.sb_actor.specs.WorkerStages.{WorkerStage, Look, Count, End, Copy, Take, Answer, Give, Reply, Ack}
 use Rattle.sb_actor.specs.WorkerTable.{worker_plan}
 use Rattle.sb_statements.specs.Soundness.{SoundStatements, channels_of, is_patience, is_sound, is_statement, has_word}
 use Rattle.sb_statements.specs.declared.scripts.Script.{Script}
@@ -38,7 +38,7 @@ module _ (words : List (List ℕ)) (t channels c : ℕ) (target : t < 8) (few : 
   worker_act (End count) s = named (1 + (15 + count)) (omega (arith, s))
   worker_act (Copy count end copy) s = let high = s.2 in let below = s.3 in named (1 + length copy) (omega (arith, high, below))
   worker_act (Take taken) s = tt
-  worker_act (Mark taken) s = tt
+  worker_act (Answer taken) s = tt
   worker_act (Give taken reply) s = tt
   worker_act (Reply taken reply at) s = let below = s.0 in named (1 + (3 + at)) (omega (arith, below))
   worker_act (Ack taken reply) s = named 0 (lit≤ tt)
@@ -129,7 +129,7 @@ module _ (script : Script) (w : WorldAt) (x : ThreadAt) (has : HasAll script w) 
 
   pub thread_act : (stage : ThreadStage) → IsSoundThreadStage (length x.clean) x.patience x.block stage
       → IsActThere w.shared.words (thread_plan script (record x { stage = stage }))
-  thread_act (thread.Try c rounds fives) s = word c s.0 0 (lit≤ tt)
+  thread_act (thread.Try c rounds all_abandoned) s = word c s.0 0 (lit≤ tt)
   thread_act (thread.Fill c i) s = let below = s.1 in word c s.0 (1 + i) (omega (arith, below, short))
   thread_act (thread.Send c) s = word c s 0 (lit≤ tt)
   thread_act (thread.Wait c loads) s = word c s.0 0 (lit≤ tt)

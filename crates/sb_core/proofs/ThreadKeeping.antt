@@ -10,7 +10,7 @@ use Rattle.sb_actor.specs.ThreadStages.{ThreadStage, ThreadAt}
 use Rattle.sb_actor.specs.ThreadTable.{ThreadNext, ends, goes_on, thread_after, thread_plan}
 use Rattle.sb_actor.specs.declared.acts.Act.{Act}
 use Rattle.sb_actor.specs.declared.acts.Act.TheVariants as act
-use Rattle.sb_actor.specs.declared.acts.Seen.{Seen}
+use Rattle.sb_actor.specs.declared.acts.Observed.{Observed}
 use Rattle.sb_block.specs.Blocks.{block}
 use Rattle.sb_call.specs.Arguments.{fits}
 use Rattle.sb_statements.specs.Limits.{most_statements}
@@ -84,7 +84,7 @@ first_over (Some (statement.Wait t word value most)) = refl
 first_over None = refl
 
 -- What a step of a thread leads to: the same thread, at the same statement or at the beginning of the next, with its numbers in range, and with a
--- result of its own statement where that ended
+-- result of its own statement if that ended
 pub record Leads (script : Script) (x : ThreadAt) (n : ThreadNext) : Type 0 where
   pub its_target : n.thread.target ≡ x.target
   pub its_number : n.thread.thread ≡ x.thread
@@ -143,7 +143,7 @@ module _ (script : Script) (x : ThreadAt) (sound : is_sound script ≡ true) (la
         own = own;
       }
 
-  pub leads : (stage : ThreadStage) → stage ≡ x.stage → IsSoundThreadStage (length x.clean) x.patience x.block x.stage → (seen : Seen)
+  pub leads : (stage : ThreadStage) → stage ≡ x.stage → IsSoundThreadStage (length x.clean) x.patience x.block x.stage → (seen : Observed)
       → Leads script x (thread_after script x seen)
   leads stage e s seen =
       row_leads script x (Leads script x) waits x.stage s at.calling at.over goes_leads ends_leads
@@ -181,7 +181,7 @@ word_keeps s (act.Exchange t word from to) h =
           (chosen_size (loaded words word == from) words (stored words word to) (length-set words (place_of word) to));
     }
 word_keeps s act.Take h = same_sizes s
-word_keeps s act.Mark h = same_sizes s
+word_keeps s act.Answer h = same_sizes s
 word_keeps s act.Give h = same_sizes s
 word_keeps s act.Idle h = same_sizes s
 

@@ -8,7 +8,7 @@ use Rattle.sb_actor.specs.Places.{is_call, mark_at, statement_at}
 use Rattle.sb_actor.specs.Ranges.{IsSoundThreadStage}
 use Rattle.sb_actor.specs.ThreadStages.{ThreadStage, ThreadAt, Try, Fill, Send, Wait, Fetch, Free, Abandon, Stray, Over}
 use Rattle.sb_actor.specs.ThreadTable.{ThreadNext, after_round, after_try, ends, goes_on, has_clean, is_clean_at, reply_by, stays, stray_row, thread_row}
-use Rattle.sb_actor.specs.declared.acts.Seen.{Seen}
+use Rattle.sb_actor.specs.declared.acts.Observed.{Observed}
 use Rattle.sb_block.specs.Replies.{read_reply}
 use Rattle.sb_statements.specs.declared.results.CallResult.TheVariants as call
 use Rattle.sb_statements.specs.declared.results.CallResult.{CallResult}
@@ -55,9 +55,9 @@ module _ (script : Script) (x : ThreadAt) (P : ThreadNext → Type 0) (some_pati
     call_ends : (r : CallResult) → P (ends script x (result.Call r))
     call_ends r = over (result.Call r) (call_result (statement_at script x.target x.thread x.place) calls r)
 
-    round_row : (rounds : ℕ) (fives : Bool) → 0 < length x.clean → rounds < x.patience → 0 < length x.block → P (after_round script x rounds fives)
-    round_row rounds fives some low block =
-        pick P fives (ends script x (result.Call call.NoChannel))
+    round_row : (rounds : ℕ) (all_abandoned : Bool) → 0 < length x.clean → rounds < x.patience → 0 < length x.block → P (after_round script x rounds all_abandoned)
+    round_row rounds all_abandoned some low block =
+        pick P all_abandoned (ends script x (result.Call call.NoChannel))
         (if has_clean x.clean then goes_on x (Try 0 rounds true) else (if rounds + 1 == x.patience then ends script x (result.Call call.NoChannel) else goes_on x (Try 0 (rounds + 1) true)))
         (λ e. call_ends call.NoChannel)
         (λ e. pick P (has_clean x.clean) (goes_on x (Try 0 rounds true))
@@ -67,20 +67,20 @@ module _ (script : Script) (x : ThreadAt) (P : ThreadNext → Type 0) (some_pati
         (λ g. call_ends call.NoChannel)
         (λ g. let ne = not_same (rounds + 1) x.patience g in goes (Try 0 (rounds + 1) true) (some, omega (arith, ne, low), block) refl refl)))
 
-    try_row : (c rounds : ℕ) (fives : Bool) (found : ℕ) → c < length x.clean → rounds < x.patience → 0 < length x.block
-        → P (after_try script x c rounds fives found)
-    try_row c rounds fives found within low block =
+    try_row : (c rounds : ℕ) (all_abandoned : Bool) (found : ℕ) → c < length x.clean → rounds < x.patience → 0 < length x.block
+        → P (after_try script x c rounds all_abandoned found)
+    try_row c rounds all_abandoned found within low block =
         pick P (found == free) (goes_on x (Fill c 0))
-        (if c + 1 == length x.clean then after_round script x rounds (fives && found == abandoned) else goes_on x (Try (c + 1) rounds (fives && found == abandoned)))
+        (if c + 1 == length x.clean then after_round script x rounds (all_abandoned && found == abandoned) else goes_on x (Try (c + 1) rounds (all_abandoned && found == abandoned)))
         (λ e. goes (Fill c 0) (within, block) refl refl)
-        (λ e. pick P (c + 1 == length x.clean) (after_round script x rounds (fives && found == abandoned)) (goes_on x (Try (c + 1) rounds (fives && found == abandoned)))
-        (λ f. round_row rounds (fives && found == abandoned) (omega (arith, within)) low block)
+        (λ e. pick P (c + 1 == length x.clean) (after_round script x rounds (all_abandoned && found == abandoned)) (goes_on x (Try (c + 1) rounds (all_abandoned && found == abandoned)))
+        (λ f. round_row rounds (all_abandoned && found == abandoned) (omega (arith, within)) low block)
         (λ f. let ne = not_same (c + 1) (length x.clean) f in
-        goes (Try (c + 1) rounds (fives && found == abandoned)) (omega (arith, ne, within), low, block) refl refl))
+        goes (Try (c + 1) rounds (all_abandoned && found == abandoned)) (omega (arith, ne, within), low, block) refl refl))
 
-    call_row : (stage : ThreadStage) → IsSoundThreadStage (length x.clean) x.patience x.block stage → is_calling stage ≡ true → (seen : Seen)
+    call_row : (stage : ThreadStage) → IsSoundThreadStage (length x.clean) x.patience x.block stage → is_calling stage ≡ true → (seen : Observed)
         → P ((thread_row script x stage).next seen)
-    call_row (Try c rounds fives) s h seen = try_row c rounds fives (value_in seen) s.0 s.1 s.2
+    call_row (Try c rounds all_abandoned) s h seen = try_row c rounds all_abandoned (value_in seen) s.0 s.1 s.2
     call_row (Fill c i) s h seen =
         let low = s.1 in
         pick_stage P x (i + 1 == length x.block) (Send c) (Fill c (i + 1)) (λ e. goes (Send c) s.0 refl refl)
@@ -116,7 +116,7 @@ module _ (script : Script) (x : ThreadAt) (P : ThreadNext → Type 0) (some_pati
   module _ (goes : (loads most : ℕ) → loads < most → P (goes_on x (Stray loads most)))
       (over : (r : StmtResult) → IsOwnResult script x r → P (ends script x r)) where
     by_statement : (o : Option Statement) → statement_at script x.target x.thread x.place ≡ o → is_call o ≡ false → is_none o ≡ false
-        → (loads most : ℕ) → loads < most → (seen : Seen) → P ((stray_row script x loads most o).next seen)
+        → (loads most : ℕ) → loads < most → (seen : Observed) → P ((stray_row script x loads most o).next seen)
     by_statement (Some (statement.Call tag args)) e h n loads most low seen = absurd (cc)
     by_statement (Some (statement.Store t word value)) e h n loads most low seen = over result.Stored (statement.Store t word value, e, refl)
     by_statement (Some (statement.Exchange t word from to)) e h n loads most low seen =
@@ -136,9 +136,9 @@ pub row_leads : (script : Script) (x : ThreadAt) (P : ThreadNext → Type 0) →
     → IsSoundThreadStage (length x.clean) x.patience x.block stage
     → is_calling stage ≡ is_call (statement_at script x.target x.thread x.place) → is_over stage ≡ is_none (statement_at script x.target x.thread x.place)
     → ((s : ThreadStage) → IsSoundThreadStage (length x.clean) x.patience x.block s → is_calling s ≡ is_calling stage → is_over s ≡ is_over stage → P (goes_on x s))
-    → ((r : StmtResult) → IsOwnResult script x r → P (ends script x r)) → P (stays x) → (seen : Seen) → P ((thread_row script x stage).next seen)
-row_leads script x P some (Try c rounds fives) s calls none goes over still seen =
-    call_row script x P some (sym calls) (λ u v a b. goes u v a b) over (Try c rounds fives) s refl seen
+    → ((r : StmtResult) → IsOwnResult script x r → P (ends script x r)) → P (stays x) → (seen : Observed) → P ((thread_row script x stage).next seen)
+row_leads script x P some (Try c rounds all_abandoned) s calls none goes over still seen =
+    call_row script x P some (sym calls) (λ u v a b. goes u v a b) over (Try c rounds all_abandoned) s refl seen
 row_leads script x P some (Fill c i) s calls none goes over still seen =
     call_row script x P some (sym calls) (λ u v a b. goes u v a b) over (Fill c i) s refl seen
 row_leads script x P some (Send c) s calls none goes over still seen =

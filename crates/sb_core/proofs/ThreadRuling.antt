@@ -16,7 +16,7 @@ use Rattle.sb_actor.specs.ThreadStages as thread
 use Rattle.sb_actor.specs.ThreadTable.{ThreadNext, ends, goes_on, stray_row, thread_after, thread_plan}
 use Rattle.sb_actor.specs.Ties.{thread_deed, thread_place_of}
 use Rattle.sb_actor.specs.declared.acts.Act.{Act}
-use Rattle.sb_actor.specs.declared.acts.Seen.{Seen}
+use Rattle.sb_actor.specs.declared.acts.Observed.{Observed}
 use Rattle.sb_actor.specs.Views.{Served}
 use Rattle.sb_block.specs.Blocks.{block}
 use Rattle.sb_block.specs.Layout.{mark_in}
@@ -61,7 +61,7 @@ own_more script t k i j (q ∷ results) o e =
 
 -- a call's step is on a word of its own target
 call_names : (script : Script) (x : ThreadAt) (u : ℕ) (stage : ThreadStage) → is_calling stage ≡ true → names (thread_plan script (record x { stage = stage })) u ≡ (x.target == u)
-call_names script x u (thread.Try c rounds fives) e = refl
+call_names script x u (thread.Try c rounds all_abandoned) e = refl
 call_names script x u (thread.Fill c i) e = refl
 call_names script x u (thread.Send c) e = refl
 call_names script x u (thread.Wait c loads) e = refl
@@ -73,7 +73,7 @@ call_names script x u thread.Over e = absurd (cc)
 
 -- and is of a kind
 call_deed : (block : List ℕ) (stage : ThreadStage) → is_calling stage ≡ true → (d : Deed) × (thread_deed block stage ≡ Some d)
-call_deed block (thread.Try c rounds fives) e = (take_it, refl)
+call_deed block (thread.Try c rounds all_abandoned) e = (take_it, refl)
 call_deed block (thread.Fill c i) e = (fill (slice_index block i), refl)
 call_deed block (thread.Send c) e = (send, refl)
 call_deed block (thread.Wait c loads) e = (wait, refl)
@@ -84,9 +84,9 @@ call_deed block (thread.Stray loads most) e = absurd (cc)
 call_deed block thread.Over e = absurd (cc)
 
 -- what was learned is of the value that the step found
-learned_here : (script : Script) (x : ThreadAt) (stage : ThreadStage) (n : ℕ) (seen : Seen) → (is_calling stage ≡ true → Tells (thread_plan script (record x { stage = stage })) n seen)
+learned_here : (script : Script) (x : ThreadAt) (stage : ThreadStage) (n : ℕ) (seen : Observed) → (is_calling stage ≡ true → Tells (thread_plan script (record x { stage = stage })) n seen)
     → Learns script x stage n → Learns script x stage (value_in seen)
-learned_here script x (thread.Try c rounds fives) n seen t l = subst (λ z. Learns script x (thread.Try c rounds fives) z) (sym (t refl)) l
+learned_here script x (thread.Try c rounds all_abandoned) n seen t l = subst (λ z. Learns script x (thread.Try c rounds all_abandoned) z) (sym (t refl)) l
 learned_here script x (thread.Fill c i) n seen t l = l
 learned_here script x (thread.Send c) n seen t l = subst (λ z. Learns script x (thread.Send c) z) (sym (t refl)) l
 learned_here script x (thread.Wait c loads) n seen t l = l
@@ -114,7 +114,7 @@ pick_place false x y e f = f
 ends_place : (script : Script) (x : ThreadAt) (r : StmtResult) → thread_place_of (ends script x r).thread.block (ends script x r).thread.stage ≡ no_call
 ends_place script x r = first_place (mark_at x.thread (x.place + 1)) (statement_at script x.target x.thread (x.place + 1))
 
-stray_place : (script : Script) (x : ThreadAt) (loads most : ℕ) (o : Option Statement) (seen : Seen) → thread_place_of x.block x.stage ≡ no_call
+stray_place : (script : Script) (x : ThreadAt) (loads most : ℕ) (o : Option Statement) (seen : Observed) → thread_place_of x.block x.stage ≡ no_call
     → thread_place_of ((stray_row script x loads most o).next seen).thread.block ((stray_row script x loads most o).next seen).thread.stage ≡ no_call
 stray_place script x loads most (Some (statement.Store t word value)) seen e = ends_place script x result.Stored
 stray_place script x loads most (Some (statement.Exchange t word from to)) seen e = ends_place script x (result.Found (value_in seen))
@@ -127,7 +127,7 @@ stray_place script x loads most (Some (statement.Call tag args)) seen e = e
 stray_place script x loads most None seen e = e
 
 quiet_before : (block : List ℕ) (stage : ThreadStage) → is_calling stage ≡ false → thread_place_of block stage ≡ no_call
-quiet_before block (thread.Try c rounds fives) e = absurd (cc)
+quiet_before block (thread.Try c rounds all_abandoned) e = absurd (cc)
 quiet_before block (thread.Fill c i) e = absurd (cc)
 quiet_before block (thread.Send c) e = absurd (cc)
 quiet_before block (thread.Wait c loads) e = absurd (cc)
@@ -137,9 +137,9 @@ quiet_before block (thread.Abandon c) e = absurd (cc)
 quiet_before block (thread.Stray loads most) e = refl
 quiet_before block thread.Over e = refl
 
-quiet_after : (script : Script) (x : ThreadAt) (stage : ThreadStage) → is_calling stage ≡ false → (seen : Seen)
+quiet_after : (script : Script) (x : ThreadAt) (stage : ThreadStage) → is_calling stage ≡ false → (seen : Observed)
     → thread_place_of (thread_after script (record x { stage = stage }) seen).thread.block (thread_after script (record x { stage = stage }) seen).thread.stage ≡ no_call
-quiet_after script x (thread.Try c rounds fives) e seen = absurd (cc)
+quiet_after script x (thread.Try c rounds all_abandoned) e seen = absurd (cc)
 quiet_after script x (thread.Fill c i) e seen = absurd (cc)
 quiet_after script x (thread.Send c) e seen = absurd (cc)
 quiet_after script x (thread.Wait c loads) e seen = absurd (cc)
@@ -151,7 +151,7 @@ quiet_after script x (thread.Stray loads most) e seen =
 quiet_after script x thread.Over e seen = refl
 
 quiet_own : (x : ThreadAt) (stage : ThreadStage) → is_calling stage ≡ false → own_by x stage ≡ []
-quiet_own x (thread.Try c rounds fives) e = absurd (cc)
+quiet_own x (thread.Try c rounds all_abandoned) e = absurd (cc)
 quiet_own x (thread.Fill c i) e = absurd (cc)
 quiet_own x (thread.Send c) e = absurd (cc)
 quiet_own x (thread.Wait c loads) e = absurd (cc)
@@ -176,7 +176,7 @@ module _ (laws : RuleLaws) (law : SoundStatements) (bounds : SoundTargets) (scri
   abbrev s : SharedAt
   s = (on_word w.shared plan).shared
 
-  abbrev seen : Seen
+  abbrev seen : Observed
   seen = (on_word w.shared plan).seen
 
   abbrev n : ThreadNext
@@ -256,7 +256,7 @@ module _ (laws : RuleLaws) (law : SoundStatements) (bounds : SoundTargets) (scri
             (ap (λ (q : ℕ × ℕ). block_of (mark_at q.1 y.place) (statement_at script q.0 q.1 y.place)) (λ i. (sym its_target i, sym its_number i)) ∙ sym (runs.stands t k there).block) j,
           ))
 
-  -- its target, where it is within a call
+  -- its target, if it is within a call
   call_rule : is_calling y.stage ≡ true
       → (views : TargetViews) × AreViews script t (words_of s.words t) (calls_at t w.shared.book.entries) (worker_at w t) (set (threads_at w t) k z) views
   call_rule e =
@@ -274,7 +274,7 @@ module _ (laws : RuleLaws) (law : SoundStatements) (bounds : SoundTargets) (scri
       self_same : (t : ℕ) → (t == t) ≡ true
       self_same t = grind (arith, nat_tests)
 
-  -- a target's words, where the thread is outside a call
+  -- a target's words, if the thread is outside a call
   hand_words : is_calling y.stage ≡ false → (u : ℕ) → u < length w.workers
       → (views : TargetViews) × AreViews script u (words_of s.words u) (calls_at u w.shared.book.entries) (worker_at w u) (threads_at w u) views
   hand_words e u l = by_name (names plan u) refl
@@ -282,7 +282,7 @@ module _ (laws : RuleLaws) (law : SoundStatements) (bounds : SoundTargets) (scri
       by_stage : (stage : ThreadStage) → y.stage ≡ stage → is_calling stage ≡ false → names (thread_plan script (record y { stage = stage })) u ≡ true
           → (d : Deed) × StrayMay (clean_channels script u) (act_word (thread_plan script (record y { stage = stage }))) d
           × ((m : ℕ) → wrote d (met d m) m ≡ act_wrote (thread_plan script (record y { stage = stage })) m)
-      by_stage (thread.Try c rounds fives) q f g = absurd (cc)
+      by_stage (thread.Try c rounds all_abandoned) q f g = absurd (cc)
       by_stage (thread.Fill c i) q f g = absurd (cc)
       by_stage (thread.Send c) q f g = absurd (cc)
       by_stage (thread.Wait c loads) q f g = absurd (cc)

@@ -9,7 +9,7 @@ use Rattle.sb_actor.specs.Places.{block_of, first_stage, is_call, mark_at, state
 use Rattle.sb_actor.specs.Ranges.{IsSoundThreadStage}
 use Rattle.sb_actor.specs.ThreadStages.{ThreadStage, ThreadAt, Try, Fill, Send, Wait, Fetch, Free, Abandon, Stray, Over}
 use Rattle.sb_actor.specs.ThreadTable.{ThreadNext, after_round, ends, goes_on, has_clean, is_clean_at, stray_row, thread_plan, thread_row}
-use Rattle.sb_actor.specs.declared.acts.Seen.{Seen}
+use Rattle.sb_actor.specs.declared.acts.Observed.{Observed}
 use Rattle.sb_block.specs.Replies.{read_reply}
 use Rattle.sb_book.specs.declared.entries.Entry.{Entry}
 use Rattle.sb_statements.specs.Soundness.{channels_of, is_statement, has_word}
@@ -28,7 +28,7 @@ use Rattle.sb_core.proofs.WorkerSources.{each_more}
 
 -- what a thread has fetched has sources
 abbrev pub IsTracedThread : Script → List Entry → ℕ → ThreadStage → Type 0
-IsTracedThread script es t (Try c rounds fives) = Unit {0}
+IsTracedThread script es t (Try c rounds all_abandoned) = Unit {0}
 IsTracedThread script es t (Fill c i) = Unit {0}
 IsTracedThread script es t (Send c) = Unit {0}
 IsTracedThread script es t (Wait c loads) = Unit {0}
@@ -48,7 +48,7 @@ FindsAt script es (Some (statement.Call tag args)) n = Unit {0}
 FindsAt script es None n = Unit {0}
 
 abbrev pub Finds : Script → List Entry → ThreadAt → ThreadStage → ℕ → Type 0
-Finds script es x (Try c rounds fives) n = Unit {0}
+Finds script es x (Try c rounds all_abandoned) n = Unit {0}
 Finds script es x (Fill c i) n = Unit {0}
 Finds script es x (Send c) n = HasStateSource script x.target c n
 Finds script es x (Wait c loads) n = Unit {0}
@@ -144,9 +144,9 @@ module _ (script : Script) (es : List Entry) (x : ThreadAt) where
     ended_call : (r : CallResult) → ShowsCall script es x.target r → Traces script es x (ends script x (result.Call r))
     ended_call r s = over (result.Call r) (call_shows here refl calls r s)
 
-    on_round : (rounds : ℕ) (fives : Bool) → Traces script es x (after_round script x rounds fives)
-    on_round rounds fives =
-        pick (Traces script es x) fives (ends script x (result.Call call.NoChannel))
+    on_round : (rounds : ℕ) (all_abandoned : Bool) → Traces script es x (after_round script x rounds all_abandoned)
+    on_round rounds all_abandoned =
+        pick (Traces script es x) all_abandoned (ends script x (result.Call call.NoChannel))
         (if has_clean x.clean then goes_on x (Try 0 rounds true) else (if rounds + 1 == x.patience then ends script x (result.Call call.NoChannel) else goes_on x (Try 0 (rounds + 1) true)))
         (ended_call call.NoChannel tt)
         (pick (Traces script es x) (has_clean x.clean) (goes_on x (Try 0 rounds true))
@@ -159,14 +159,14 @@ module _ (script : Script) (es : List Entry) (x : ThreadAt) where
     reply_shown c words n h true = sourced_reply script es x.target c words n h
     reply_shown c words n h false = h 0 (omega (arith, n))
 
-    call_traces : (stage : ThreadStage) → IsSoundThreadStage (length x.clean) x.patience x.block stage → is_calling stage ≡ true → IsTracedThread script es x.target stage → (seen : Seen)
+    call_traces : (stage : ThreadStage) → IsSoundThreadStage (length x.clean) x.patience x.block stage → is_calling stage ≡ true → IsTracedThread script es x.target stage → (seen : Observed)
         → Finds script es x stage (value_in seen) → Traces script es x ((thread_row script x stage).next seen)
-    call_traces (Try c rounds fives) s h w seen l =
+    call_traces (Try c rounds all_abandoned) s h w seen l =
         let found = value_in seen in
         pick (Traces script es x) (found == free) (goes_on x (Fill c 0))
-        (if c + 1 == length x.clean then after_round script x rounds (fives && found == abandoned) else goes_on x (Try (c + 1) rounds (fives && found == abandoned))) (on (Fill c 0) tt)
-        (pick (Traces script es x) (c + 1 == length x.clean) (after_round script x rounds (fives && found == abandoned)) (goes_on x (Try (c + 1) rounds (fives && found == abandoned)))
-        (on_round rounds (fives && found == abandoned)) (on (Try (c + 1) rounds (fives && found == abandoned)) tt))
+        (if c + 1 == length x.clean then after_round script x rounds (all_abandoned && found == abandoned) else goes_on x (Try (c + 1) rounds (all_abandoned && found == abandoned))) (on (Fill c 0) tt)
+        (pick (Traces script es x) (c + 1 == length x.clean) (after_round script x rounds (all_abandoned && found == abandoned)) (goes_on x (Try (c + 1) rounds (all_abandoned && found == abandoned)))
+        (on_round rounds (all_abandoned && found == abandoned)) (on (Try (c + 1) rounds (all_abandoned && found == abandoned)) tt))
     call_traces (Fill c i) s h w seen l = pick_stage (Traces script es x) x (i + 1 == length x.block) (Send c) (Fill c (i + 1)) (on (Send c) tt) (on (Fill c (i + 1)) tt)
     call_traces (Send c) s h w seen l =
         pick (Traces script es x) (value_in seen == busy) (goes_on x (Wait c 0)) (ends script x (result.Call (call.SendLost c (value_in seen)))) (on (Wait c 0) tt)
@@ -187,7 +187,7 @@ module _ (script : Script) (es : List Entry) (x : ThreadAt) where
     call_traces (Stray loads most) s h w seen l = absurd (cc)
     call_traces Over s h w seen l = absurd (cc)
 
-  stray_traces : (loads most : ℕ) (o : Option Statement) → here ≡ o → is_call o ≡ false → is_none o ≡ false → (seen : Seen) → FindsAt script es o (value_in seen)
+  stray_traces : (loads most : ℕ) (o : Option Statement) → here ≡ o → is_call o ≡ false → is_none o ≡ false → (seen : Observed) → FindsAt script es o (value_in seen)
       → Traces script es x ((stray_row script x loads most o).next seen)
   stray_traces loads most (Some (statement.Call tag args)) e h n seen l = absurd (cc)
   stray_traces loads most (Some (statement.Store t word value)) e h n seen l = over result.Stored (statement.Store t word value, e, tt)
@@ -203,8 +203,8 @@ module _ (script : Script) (es : List Entry) (x : ThreadAt) where
 
   -- each row
   pub row_traces : (stage : ThreadStage) → x.stage ≡ stage → IsSoundThreadStage (length x.clean) x.patience x.block stage → is_calling stage ≡ is_call here → is_over stage ≡ is_none here
-      → IsTracedThread script es x.target stage → (seen : Seen) → Finds script es x stage (value_in seen) → Traces script es x ((thread_row script x stage).next seen)
-  row_traces (Try c rounds fives) at s calls none w seen l = call_traces (sym calls) (Try c rounds fives) s refl w seen l
+      → IsTracedThread script es x.target stage → (seen : Observed) → Finds script es x stage (value_in seen) → Traces script es x ((thread_row script x stage).next seen)
+  row_traces (Try c rounds all_abandoned) at s calls none w seen l = call_traces (sym calls) (Try c rounds all_abandoned) s refl w seen l
   row_traces (Fill c i) at s calls none w seen l = call_traces (sym calls) (Fill c i) s refl w seen l
   row_traces (Send c) at s calls none w seen l = call_traces (sym calls) (Send c) s refl w seen l
   row_traces (Wait c loads) at s calls none w seen l = call_traces (sym calls) (Wait c loads) s refl w seen l
@@ -248,7 +248,7 @@ module _ (script : Script) (es : List Entry) (x : ThreadAt) where
 
   pub row_writes : (stage : ThreadStage) → IsSoundThreadStage (length x.clean) x.patience x.block stage → is_calling stage ≡ is_call here → length x.block ≤ 64
       → x.block ≡ block_of (mark_at x.thread x.place) here → IfSome here (λ s. is_statement script.targets s ≡ true) → WritesSource script es (thread_plan script (record x { stage = stage }))
-  row_writes (Try c rounds fives) s calls short b good = (lit< tt, state_source script es x.target c 2 (inl (lit≤ tt, lit≤ tt)))
+  row_writes (Try c rounds all_abandoned) s calls short b good = (lit< tt, state_source script es x.target c 2 (inl (lit≤ tt, lit≤ tt)))
   row_writes (Fill c i) s calls short b good =
       let low = s.1 in
       let inside : i < length (block_of (mark_at x.thread x.place) here) = subst (λ (z : List ℕ). i < length z) b low in (

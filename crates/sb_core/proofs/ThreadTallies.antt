@@ -8,7 +8,7 @@ use Rattle.sb_actor.specs.ThreadStages.{ThreadStage, ThreadAt, Try, Fill, Send, 
 use Rattle.sb_actor.specs.ThreadTable.{ThreadNext, ends, goes_on, is_clean_at, stray_row, thread_plan, thread_row}
 use Rattle.sb_actor.specs.declared.acts.Act.{Act}
 use Rattle.sb_actor.specs.declared.acts.Act.TheVariants as act
-use Rattle.sb_actor.specs.declared.acts.Seen.{Seen}
+use Rattle.sb_actor.specs.declared.acts.Observed.{Observed}
 use Rattle.sb_block.specs.Replies.{read_reply}
 use Rattle.sb_statements.specs.declared.results.CallResult.TheVariants as call
 use Rattle.sb_statements.specs.declared.results.StmtResult.{StmtResult}
@@ -25,7 +25,7 @@ readies t c (act.Store u word value) n = is_state t c u word && value == 3
 readies t c (act.Exchange u word from to) n = is_state t c u word && (n == from && to == 3)
 readies t c (act.Load u word) n = false
 readies t c act.Take n = false
-readies t c act.Mark n = false
+readies t c act.Answer n = false
 readies t c act.Give n = false
 readies t c act.Idle n = false
 
@@ -110,10 +110,10 @@ module _ (script : Script) (t c : ℕ) (x : ThreadAt) where
   reply_ends d false words = refl
 
   -- each row of a call
-  call_counted : (stage : ThreadStage) → is_calling stage ≡ true → (seen : Seen)
+  call_counted : (stage : ThreadStage) → is_calling stage ≡ true → (seen : Observed)
       → IsCounted script t c x stage (one_if (readies t c (thread_plan script (record x { stage = stage })) (value_in seen))) ((thread_row script x stage).next seen)
-  call_counted (Try d rounds fives) h seen =
-      any (Try d rounds fives) _ ((thread_row script x (Try d rounds fives)).next seen) refl (state_none mine (d == c) (value_in seen == 1 && false) (and_none (value_in seen == 1)))
+  call_counted (Try d rounds all_abandoned) h seen =
+      any (Try d rounds all_abandoned) _ ((thread_row script x (Try d rounds all_abandoned)).next seen) refl (state_none mine (d == c) (value_in seen == 1 && false) (and_none (value_in seen == 1)))
   call_counted (Fill d i) h seen =
       any (Fill d i) _ ((thread_row script x (Fill d i)).next seen) refl (block_none mine (d == c) (1 + i == 0) _ (later_word i))
   call_counted (Send d) h seen =
@@ -146,7 +146,7 @@ module _ (script : Script) (t c : ℕ) (x : ThreadAt) where
   call_counted Over h seen = absurd (cc)
 
   -- a statement that names a word
-  stray_counted : (y : ThreadAt) (loads most : ℕ) (o : Option Statement) → here ≡ o → (seen : Seen) → has_sent c y.stage ≡ false
+  stray_counted : (y : ThreadAt) (loads most : ℕ) (o : Option Statement) → here ≡ o → (seen : Observed) → has_sent c y.stage ≡ false
       → one_if (x.target == t && has_sent c (Stray loads most)) + one_if (readies t c (stray_row script y loads most o).step (value_in seen))
       ≤ one_if (x.target == t && has_sent c ((stray_row script x loads most o).next seen).thread.stage) + tally_in t c x.target o ((stray_row script x loads most o).next seen).ended
   stray_counted y loads most (Some (statement.Call tag args)) e seen f = let zero_sent = none_sent mine in omega (arith, zero_sent)
@@ -157,9 +157,9 @@ module _ (script : Script) (t c : ℕ) (x : ThreadAt) where
   stray_counted y loads most None e seen f = let zero_sent = none_sent mine in omega (arith, zero_sent)
 
   -- each row
-  pub row_counted : (stage : ThreadStage) → (seen : Seen)
+  pub row_counted : (stage : ThreadStage) → (seen : Observed)
       → IsCounted script t c x stage (one_if (readies t c (thread_plan script (record x { stage = stage })) (value_in seen))) ((thread_row script x stage).next seen)
-  row_counted (Try d rounds fives) seen = call_counted (Try d rounds fives) refl seen
+  row_counted (Try d rounds all_abandoned) seen = call_counted (Try d rounds all_abandoned) refl seen
   row_counted (Fill d i) seen = call_counted (Fill d i) refl seen
   row_counted (Send d) seen = call_counted (Send d) refl seen
   row_counted (Wait d loads) seen = call_counted (Wait d loads) refl seen

@@ -1,4 +1,4 @@
--- What the step of a thread tells of its call: a result that suits its statement, and a Reply on a clean channel exactly where the view has one more call.
+-- What the step of a thread tells of its call: a result that suits its statement, and a Reply on a clean channel exactly if the view has one more call.
 use Rattle.std.proofs.Common.{◌≡◌, ◌≢◌, ◌∙◌, refl, ap, subst, sym, ℕ, zero, suc, ◌+◌, ◌<◌, ◌≤◌, Bool, true, false, ◌&&◌, ◌==◌, if◌then◌else◌, List, [], ◌∷◌, ◌++◌, length, map, Option, None, Some, IfSome, arith}
 use Rattle.std.proofs.lemmas.Bool.{and_parts}
 use Rattle.std.proofs.lemmas.Bool.Decides.{nat_tests}
@@ -12,7 +12,7 @@ use Rattle.sb_actor.specs.Ranges.{IsSoundThreadStage}
 use Rattle.sb_actor.specs.ThreadStages.{ThreadStage, ThreadAt, Try, Fill, Send, Wait, Fetch, Free, Abandon, Stray, Over}
 use Rattle.sb_actor.specs.ThreadTable.{ThreadNext, after_round, ends, goes_on, has_clean, is_clean_at, stray_row, thread_row}
 use Rattle.sb_actor.specs.Ties.{thread_deed, thread_place_of}
-use Rattle.sb_actor.specs.declared.acts.Seen.{Seen}
+use Rattle.sb_actor.specs.declared.acts.Observed.{Observed}
 use Rattle.sb_block.specs.Layout.{mark_in}
 use Rattle.sb_block.specs.Replies.{read_reply}
 use Rattle.sb_statements.specs.declared.results.CallResult.TheVariants as call
@@ -33,9 +33,9 @@ not_same x y e = grind (arith, nat_tests)
 is_same : (x y : ℕ) → (x == y) ≡ true → x ≡ y
 is_same x y e = grind (arith, nat_tests)
 
--- what the step of a thread knows of its statement and, where it found n, of its channel
+-- what the step of a thread knows of its statement and, if it found n, of its channel
 abbrev pub Learns : Script → ThreadAt → ThreadStage → ℕ → Type 0
-Learns script x (Try c rounds fives) n = (is_clean x.clean c ≡ true → n ≢ 5) × (fives ≡ true → (d : ℕ) → d < c → is_clean x.clean d ≡ false)
+Learns script x (Try c rounds all_abandoned) n = (is_clean x.clean c ≡ true → n ≢ 5) × (all_abandoned ≡ true → (d : ℕ) → d < c → is_clean x.clean d ≡ false)
 Learns script x (Fill c i) n = Unit {0}
 Learns script x (Send c) n = is_clean x.clean c ≡ true → n ≡ 2
 Learns script x (Wait c loads) n = Unit {0}
@@ -47,7 +47,7 @@ Learns script x Over n = Unit {0}
 
 -- a wait makes as many loads as its statement says
 abbrev pub Waits : Script → ThreadAt → ThreadStage → Type 0
-Waits script x (Try c rounds fives) = Unit {0}
+Waits script x (Try c rounds all_abandoned) = Unit {0}
 Waits script x (Fill c i) = Unit {0}
 Waits script x (Send c) = Unit {0}
 Waits script x (Wait c loads) = Unit {0}
@@ -59,7 +59,7 @@ Waits script x Over = Unit {0}
 
 -- the call that a stage ends with a reply on a clean channel
 abbrev pub own_by : ThreadAt → ThreadStage → List OwnCall
-own_by x (Try c rounds fives) = []
+own_by x (Try c rounds all_abandoned) = []
 own_by x (Fill c i) = []
 own_by x (Send c) = []
 own_by x (Wait c loads) = []
@@ -85,7 +85,7 @@ pub record Tidings (script : Script) (x : ThreadAt) (stage : ThreadStage) (n : T
 -- the view has that call too
 pub ended_own : (x : ThreadAt) (stage : ThreadStage) (d : Deed) → thread_deed x.block stage ≡ Some d
     → map as_own (ended x.clean (thread_place_of x.block stage) d) ≡ own_by x stage
-ended_own x (Try c rounds fives) d e = refl
+ended_own x (Try c rounds all_abandoned) d e = refl
 ended_own x (Fill c i) d e = refl
 ended_own x (Send c) d e = refl
 ended_own x (Wait c loads) d e = refl
@@ -109,7 +109,7 @@ unclean_at [] c l e = absurd (omega arith)
 unclean_at (b ∷ clean) zero l e = e
 unclean_at (b ∷ clean) (suc c) l e = unclean_at clean c (omega (arith, l)) e
 
--- where no channel is clean none is
+-- if no channel is clean none is
 pub none_clean : (clean : List Bool) → ((c : ℕ) → c < length clean → is_clean clean c ≡ false) → has_clean clean ≡ false
 none_clean clean each = none_at (λ mark. mark) clean false each
 
@@ -128,7 +128,7 @@ pick_stage P at true s u f g = f refl
 pick_stage P at false s u f g = g refl
 
 waits_calling : (script : Script) (x : ThreadAt) (s : ThreadStage) → is_calling s ≡ true → Waits script x s
-waits_calling script x (Try c rounds fives) e = tt
+waits_calling script x (Try c rounds all_abandoned) e = tt
 waits_calling script x (Fill c i) e = tt
 waits_calling script x (Send c) e = tt
 waits_calling script x (Wait c loads) e = tt
@@ -154,7 +154,7 @@ module _ (script : Script) (x : ThreadAt) where
   abbrev mark : ℕ
   mark = mark_at x.thread x.place
 
-  -- the statement behind it begins
+  -- the statement after it begins
   next_waits : (r : StmtResult) → Waits script (ends script x r).thread (ends script x r).thread.stage
   next_waits r = waits_first script (ends script x r).thread (statement_at script x.target x.thread (x.place + 1)) refl
 
@@ -175,10 +175,10 @@ module _ (script : Script) (x : ThreadAt) where
     on_ends : (stage : ThreadStage) (r : CallResult) → SuitsCall x.clean mark r → own_call x.clean x.block r ≡ own_by x stage → Tidings script x stage (ends script x (result.Call r))
     on_ends stage r s own = record { suits = call_suits here refl calls r s; own = own; waits = next_waits (result.Call r) }
 
-    on_round : (stage : ThreadStage) (rounds : ℕ) (fives : Bool) → own_by x stage ≡ [] → (fives ≡ true → has_clean x.clean ≡ false)
-        → Tidings script x stage (after_round script x rounds fives)
-    on_round stage rounds fives none all =
-        pick (Tidings script x stage) fives (ends script x (result.Call call.NoChannel))
+    on_round : (stage : ThreadStage) (rounds : ℕ) (all_abandoned : Bool) → own_by x stage ≡ [] → (all_abandoned ≡ true → has_clean x.clean ≡ false)
+        → Tidings script x stage (after_round script x rounds all_abandoned)
+    on_round stage rounds all_abandoned none all =
+        pick (Tidings script x stage) all_abandoned (ends script x (result.Call call.NoChannel))
         (if has_clean x.clean then goes_on x (Try 0 rounds true) else (if rounds + 1 == x.patience then ends script x (result.Call call.NoChannel) else goes_on x (Try 0 (rounds + 1) true)))
         (λ e. on_ends stage call.NoChannel (all e) (sym none))
         (λ e. pick (Tidings script x stage) (has_clean x.clean) (goes_on x (Try 0 rounds true))
@@ -189,10 +189,10 @@ module _ (script : Script) (x : ThreadAt) where
         (λ g. on_goes stage (Try 0 (rounds + 1) true) refl none)))
 
     -- all channels found 5 in this round
-    all_fives : (c n : ℕ) (fives : Bool) → c + 1 ≡ length x.clean → (is_clean x.clean c ≡ true → n ≢ 5) → (fives ≡ true → (d : ℕ) → d < c → is_clean x.clean d ≡ false)
-        → (fives && n == abandoned) ≡ true → has_clean x.clean ≡ false
-    all_fives c n fives last this below e =
-        let parts = and_parts fives (n == abandoned) e in
+    all_are_abandoned : (c n : ℕ) (all_abandoned : Bool) → c + 1 ≡ length x.clean → (is_clean x.clean c ≡ true → n ≢ 5) → (all_abandoned ≡ true → (d : ℕ) → d < c → is_clean x.clean d ≡ false)
+        → (all_abandoned && n == abandoned) ≡ true → has_clean x.clean ≡ false
+    all_are_abandoned c n all_abandoned last this below e =
+        let parts = and_parts all_abandoned (n == abandoned) e in
         let five : n ≡ 5 = is_same n 5 parts.1 in
         none_clean x.clean (λ d l. by_place d (below parts.0 d) (unless (is_clean x.clean c) (λ t. this t five)) (omega (arith, l, last)))
       where
@@ -212,16 +212,16 @@ module _ (script : Script) (x : ThreadAt) where
         on_ends (Free c words) (call.Foreign c (slice_index words 0)) (unclean_at x.clean c within unclean, ne)
         (sym (ap (λ b. own_if b (record { channel = c; block = x.block; reply = read_reply words })) unclean))
 
-    call_tells : (stage : ThreadStage) → IsSoundThreadStage (length x.clean) x.patience x.block stage → is_calling stage ≡ true → (seen : Seen)
+    call_tells : (stage : ThreadStage) → IsSoundThreadStage (length x.clean) x.patience x.block stage → is_calling stage ≡ true → (seen : Observed)
         → Learns script x stage (value_in seen) → Tidings script x stage ((thread_row script x stage).next seen)
-    call_tells (Try c rounds fives) s h seen l =
+    call_tells (Try c rounds all_abandoned) s h seen l =
         let found = value_in seen in
-        pick (Tidings script x (Try c rounds fives)) (found == free) (goes_on x (Fill c 0))
-        (if c + 1 == length x.clean then after_round script x rounds (fives && found == abandoned) else goes_on x (Try (c + 1) rounds (fives && found == abandoned)))
-        (λ e. on_goes (Try c rounds fives) (Fill c 0) refl refl)
-        (λ e. pick (Tidings script x (Try c rounds fives)) (c + 1 == length x.clean) (after_round script x rounds (fives && found == abandoned)) (goes_on x (Try (c + 1) rounds (fives && found == abandoned)))
-        (λ f. on_round (Try c rounds fives) rounds (fives && found == abandoned) refl (all_fives c found fives (is_same (c + 1) (length x.clean) f) l.0 l.1))
-        (λ f. on_goes (Try c rounds fives) (Try (c + 1) rounds (fives && found == abandoned)) refl refl))
+        pick (Tidings script x (Try c rounds all_abandoned)) (found == free) (goes_on x (Fill c 0))
+        (if c + 1 == length x.clean then after_round script x rounds (all_abandoned && found == abandoned) else goes_on x (Try (c + 1) rounds (all_abandoned && found == abandoned)))
+        (λ e. on_goes (Try c rounds all_abandoned) (Fill c 0) refl refl)
+        (λ e. pick (Tidings script x (Try c rounds all_abandoned)) (c + 1 == length x.clean) (after_round script x rounds (all_abandoned && found == abandoned)) (goes_on x (Try (c + 1) rounds (all_abandoned && found == abandoned)))
+        (λ f. on_round (Try c rounds all_abandoned) rounds (all_abandoned && found == abandoned) refl (all_are_abandoned c found all_abandoned (is_same (c + 1) (length x.clean) f) l.0 l.1))
+        (λ f. on_goes (Try c rounds all_abandoned) (Try (c + 1) rounds (all_abandoned && found == abandoned)) refl refl))
     call_tells (Fill c i) s h seen l =
         pick_stage (Tidings script x (Fill c i)) x (i + 1 == length x.block) (Send c) (Fill c (i + 1)) (λ e. on_goes (Fill c i) (Send c) refl refl)
         (λ e. on_goes (Fill c i) (Fill c (i + 1)) refl refl)
@@ -253,7 +253,7 @@ module _ (script : Script) (x : ThreadAt) where
   stray_ends loads most r s own = record { suits = s; own = own; waits = next_waits r }
 
   pub stray_tells : (loads most : ℕ) (o : Option Statement) → here ≡ o → is_call o ≡ false → is_none o ≡ false → loads < most
-      → ((t : ℕ) (w : Word) (value limit : ℕ) → here ≡ Some (statement.Wait t w value limit) → most ≡ limit) → (seen : Seen)
+      → ((t : ℕ) (w : Word) (value limit : ℕ) → here ≡ Some (statement.Wait t w value limit) → most ≡ limit) → (seen : Observed)
       → Tidings script x (Stray loads most) ((stray_row script x loads most o).next seen)
   stray_tells loads most (Some (statement.Call tag args)) e h n low l seen = absurd (cc)
   stray_tells loads most (Some (statement.Store t word value)) e h n low l seen = stray_ends loads most result.Stored (statement.Store t word value, e, tt) refl
@@ -274,8 +274,8 @@ module _ (script : Script) (x : ThreadAt) where
 pub row_tells : (script : Script) (x : ThreadAt) (stage : ThreadStage) → x.stage ≡ stage → (is_call (statement_at script x.target x.thread x.place) ≡ true → mark_in x.block ≡ mark_at x.thread x.place)
     → IsSoundThreadStage (length x.clean) x.patience x.block stage
     → is_calling stage ≡ is_call (statement_at script x.target x.thread x.place) → is_over stage ≡ is_none (statement_at script x.target x.thread x.place)
-    → (seen : Seen) → Learns script x stage (value_in seen) → Tidings script x stage ((thread_row script x stage).next seen)
-row_tells script x (Try c rounds fives) at marked s calls none seen l = call_tells script x (sym calls) (marked (sym calls)) (Try c rounds fives) s refl seen l
+    → (seen : Observed) → Learns script x stage (value_in seen) → Tidings script x stage ((thread_row script x stage).next seen)
+row_tells script x (Try c rounds all_abandoned) at marked s calls none seen l = call_tells script x (sym calls) (marked (sym calls)) (Try c rounds all_abandoned) s refl seen l
 row_tells script x (Fill c i) at marked s calls none seen l = call_tells script x (sym calls) (marked (sym calls)) (Fill c i) s refl seen l
 row_tells script x (Send c) at marked s calls none seen l = call_tells script x (sym calls) (marked (sym calls)) (Send c) s refl seen l
 row_tells script x (Wait c loads) at marked s calls none seen l = call_tells script x (sym calls) (marked (sym calls)) (Wait c loads) s refl seen l

@@ -13,7 +13,7 @@ use Rattle.sb_actor.specs.Laws.{opening_at}
 use Rattle.sb_actor.specs.ThreadStages.{ThreadStage, ThreadAt}
 use Rattle.sb_actor.specs.ThreadStages as thread
 use Rattle.sb_actor.specs.ThreadTable.{stray_row, thread_after, thread_plan}
-use Rattle.sb_actor.specs.WorkerStages.{WorkerStage, WorkerAt, Look, Count, End, Copy, Take, Mark, Give, Reply, Ack}
+use Rattle.sb_actor.specs.WorkerStages.{WorkerStage, WorkerAt, Look, Count, End, Copy, Take, Answer, Give, Reply, Ack}
 use Rattle.sb_actor.specs.WorkerTable.{worker_after, worker_plan}
 use Rattle.sb_book.specs.Histories.{entry_of}
 use Rattle.sb_book.specs.Readiness.{is_ready}
@@ -74,13 +74,13 @@ module _ (script : Script) (es : List Entry) (e : Entry) (t : ℕ) where
   more_worker c (End count) h = more_block script es e t c 2 count h
   more_worker c (Copy count end words) h = more_copy script es e t c _ h
   more_worker c (Take taken) h = more_copy script es e t c taken h
-  more_worker c (Mark taken) h = more_copy script es e t c taken h
+  more_worker c (Answer taken) h = more_copy script es e t c taken h
   more_worker c (Give taken reply) h = (h.0, h.1, in_front es e h.0 h.1 h.2, h.3, h.4, h.5)
   more_worker c (Reply taken reply i) h = (h.0, h.1, in_front es e h.0 h.1 h.2, h.3, h.4, h.5)
   more_worker c (Ack taken reply) h = tt
 
   more_thread : (stage : ThreadStage) → IsTracedThread script es t stage → IsTracedThread script (es ++ e ∷ []) t stage
-  more_thread (thread.Try c rounds fives) h = tt
+  more_thread (thread.Try c rounds all_abandoned) h = tt
   more_thread (thread.Fill c i) h = tt
   more_thread (thread.Send c) h = tt
   more_thread (thread.Wait c loads) h = tt
@@ -131,7 +131,7 @@ module _ (script : Script) (w : WorldAt) (t channels c : ℕ) where
   grown_at (End count) = inl refl
   grown_at (Copy count end words) = inl refl
   grown_at (Take taken) = inl refl
-  grown_at (Mark taken) = inr (entry_of w.shared.book.space t c taken (decided w.shared.book t taken), refl)
+  grown_at (Answer taken) = inr (entry_of w.shared.book.space t c taken (decided w.shared.book t taken), refl)
   grown_at (Give taken reply) = inl refl
   grown_at (Reply taken reply i) = inl refl
   grown_at (Ack taken reply) = inl refl
@@ -203,7 +203,7 @@ module _ (script : Script) (w : WorldAt) (all : AreSourcedWords script w.shared.
 
   finds : (stage : ThreadStage) → IsSoundThreadStage (length x.clean) x.patience x.block stage → IfSome (statement_at script x.target x.thread x.place) (λ s. is_statement script.targets s ≡ true)
       → IsActThere w.shared.words (thread_plan script (record x { stage = stage })) → Finds script es x stage (value_in (on_word w.shared (thread_plan script (record x { stage = stage }))).seen)
-  finds (thread.Try c rounds fives) s good h = tt
+  finds (thread.Try c rounds all_abandoned) s good h = tt
   finds (thread.Fill c i) s good h = tt
   finds (thread.Send c) s good h = (all x.target c 0 (lit< tt) h.inside).state refl
   finds (thread.Wait c loads) s good h = tt

@@ -1,4 +1,4 @@
--- The views of one target through a step: of its worker, of a thread within a call, by hand.
+-- The views of one target through a step: of its worker, of a thread within a call, or of a direct store.
 use Rattle.std.proofs.Common.{◌≡◌, ◌≢◌, ◌∙◌, ap, subst, sym, ℕ, ◌<◌, Bool, List, ◌++◌, length, length-set, map, set, get_or, get_or-set_same, get_or-set_other, Some}
 use Rattle.std.specs.Prelude.{slice_index}
 use Rattle.std.proofs.lemmas.List.{map-append}
@@ -15,7 +15,7 @@ use Rattle.sb_actor.specs.ThreadTable.{thread_after, thread_plan}
 use Rattle.sb_actor.specs.Ties.{thread_deed, thread_place_of, worker_deed, worker_place_of}
 use Rattle.sb_actor.specs.WorkerStages.{WorkerAt}
 use Rattle.sb_actor.specs.WorkerTable.{worker_after, worker_plan}
-use Rattle.sb_actor.specs.declared.acts.Seen.{Seen}
+use Rattle.sb_actor.specs.declared.acts.Observed.{Observed}
 use Rattle.sb_actor.specs.Views.{Had, Served, ThreadPlace, WorkerPlace, ThreadView, WorkerView}
 use Rattle.sb_statements.specs.declared.results.StmtResult.{StmtResult}
 use Rattle.sb_statements.specs.declared.scripts.Script.{Script}
@@ -86,7 +86,7 @@ module _ (script : Script) (t : ℕ) (words : List ℕ) (calls : List Served) (x
       }
 
   -- a step of the worker on a word
-  pub worker_moves : RuleLaws → (d : Deed) (seen : Seen) → x.channel < x.channels → IsSoundStage x.stage → worker_deed x.stage ≡ Some d
+  pub worker_moves : RuleLaws → (d : Deed) (seen : Observed) → x.channel < x.channels → IsSoundStage x.stage → worker_deed x.stage ≡ Some d
       → Tells (worker_plan x) (slice_index words (act_word (worker_plan x))) seen
       → ((served : List Served) → calls ≡ served ++ in_work x.channel x.stage
       → calls ≡ (served ++ served_by x.channel (worker_place_of x.stage) d) ++ in_work (worker_after x seen).channel (worker_after x seen).stage)
@@ -115,7 +115,7 @@ module _ (script : Script) (t : ℕ) (words : List ℕ) (calls : List Served) (x
       )
 
   -- a step of a thread within a call
-  pub thread_moves : RuleLaws → (k : ℕ) (d : Deed) (seen : Seen) (results : List StmtResult) → k < length runs
+  pub thread_moves : RuleLaws → (k : ℕ) (d : Deed) (seen : Observed) (results : List StmtResult) → k < length runs
       → IsSoundThreadStage (length (get_or runs k no_run).thread.clean) (get_or runs k no_run).thread.patience (get_or runs k no_run).thread.block (get_or runs k no_run).thread.stage
       → IsBlock (get_or runs k no_run).thread.thread (get_or runs k no_run).thread.block
       → GivesUp (get_or runs k no_run).thread.clean (get_or runs k no_run).thread.stage
@@ -154,7 +154,7 @@ module _ (script : Script) (t : ℕ) (words : List ℕ) (calls : List Served) (x
         },
       )
 
-  -- a step by hand
+  -- a direct step
   pub stray_moves : RuleLaws → (w : ℕ) (d : Deed) → StrayMay clean w d → AreViews script t (words_after words w d) calls x runs views
   stray_moves laws w d may =
       record { rule = laws.stray_keeps clean words views.worker views.threads w d h.rule may; worker = h.worker; many = h.many; threads = h.threads }

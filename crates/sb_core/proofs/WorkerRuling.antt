@@ -10,7 +10,7 @@ use Rattle.sb_actor.specs.Acts.{ready}
 use Rattle.sb_actor.specs.Moves.{Deed, acknowledge, answer, copy, load_count, load_end, look, served_by}
 use Rattle.sb_actor.specs.Ranges.{IsSoundStage}
 use Rattle.sb_actor.specs.Ties.{worker_deed, worker_place_of}
-use Rattle.sb_actor.specs.WorkerStages.{WorkerStage, WorkerAt, Look, Count, End, Copy, Take, Mark, Give, Reply, Ack}
+use Rattle.sb_actor.specs.WorkerStages.{WorkerStage, WorkerAt, Look, Count, End, Copy, Take, Answer, Give, Reply, Ack}
 use Rattle.sb_actor.specs.WorkerTable.{look_next, worker_after, worker_plan}
 use Rattle.sb_actor.specs.Views.{Served}
 use Rattle.sb_actor.specs.Views as place
@@ -111,7 +111,7 @@ module _ (laws : RuleLaws) (script : Script) (w : WorldAt) (t channels c : ℕ) 
   no_served true taken reply x = refl
   no_served false taken reply x = refl
 
-  takes : (b : Bool) (taken : Copied) → worker_place_of (if b then Mark taken else Take taken) ≡ place.Whole taken
+  takes : (b : Bool) (taken : Copied) → worker_place_of (if b then Answer taken else Take taken) ≡ place.Whole taken
   takes true taken = refl
   takes false taken = refl
 
@@ -136,14 +136,14 @@ module _ (laws : RuleLaws) (script : Script) (w : WorldAt) (t channels c : ℕ) 
     before.0,
     worker_stays script t (words_of w.shared.words t) (calls_at t w.shared.book.entries) (at_this (Take taken)) (threads_at w t) before.0 before.1
         (worker_after (at_this (Take taken)) (effect (Take taken)).seen) (calls_at t w.shared.book.entries) refl refl (takes (is_none w.shared.turn) taken)
-        (λ served e. e ∙ ap (λ (z : List Served). served ++ z) (sym (two_quiet (is_none w.shared.turn) (Mark taken) (Take taken) refl refl))),
+        (λ served e. e ∙ ap (λ (z : List Served). served ++ z) (sym (two_quiet (is_none w.shared.turn) (Answer taken) (Take taken) refl refl))),
   )
-  own_target (Mark taken) s before =
+  own_target (Answer taken) s before =
       let es = w.shared.book.entries in
       let e = entry_of w.shared.book.space t c taken (decided w.shared.book t taken) in (
         before.0,
-        worker_stays script t (words_of w.shared.words t) (calls_at t w.shared.book.entries) (at_this (Mark taken)) (threads_at w t) before.0 before.1
-            (worker_after (at_this (Mark taken)) (effect (Mark taken)).seen) (calls_at t (es ++ e ∷ [])) refl refl refl
+        worker_stays script t (words_of w.shared.words t) (calls_at t w.shared.book.entries) (at_this (Answer taken)) (threads_at w t) before.0 before.1
+            (worker_after (at_this (Answer taken)) (effect (Answer taken)).seen) (calls_at t (es ++ e ∷ [])) refl refl refl
             (λ served f. calls_more t es e true (self_same t) ∙ ap (λ (z : List Served). z ++ as_call e ∷ []) (f ∙ append-nil served)),
       )
   own_target (Give taken reply) s before = (
@@ -167,7 +167,7 @@ module _ (w : WorldAt) (t u : ℕ) (x : WorkerAt) (ne : u ≢ t) where
   other_calls (End count) = refl
   other_calls (Copy count end words) = refl
   other_calls (Take taken) = refl
-  other_calls (Mark taken) =
+  other_calls (Answer taken) =
       let e = entry_of w.shared.book.space t x.channel taken (decided w.shared.book t taken) in
       calls_more u w.shared.book.entries e false (apart t u ne) ∙ append-nil (calls_at u w.shared.book.entries)
   other_calls (Give taken reply) = refl

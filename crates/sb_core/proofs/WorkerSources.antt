@@ -7,7 +7,7 @@ use Rattle.std.specs.Prelude.{nat_lt, slice_index}
 use native.Mathlib.Decide.{ℕ_discrete}
 use Rattle.sb_actor.specs.Acts.{ready}
 use Rattle.sb_actor.specs.Ranges.{IsSoundStage}
-use Rattle.sb_actor.specs.WorkerStages.{WorkerStage, WorkerAt, Look, Count, End, Copy, Take, Mark, Give, Reply, Ack}
+use Rattle.sb_actor.specs.WorkerStages.{WorkerStage, WorkerAt, Look, Count, End, Copy, Take, Answer, Give, Reply, Ack}
 use Rattle.sb_actor.specs.WorkerTable.{look_next, worker_after, worker_plan}
 use Rattle.sb_block.specs.Copies.{copied, is_end}
 use Rattle.sb_block.specs.Packing.{offset_of}
@@ -34,7 +34,7 @@ IsTracedWorker script es t c Count = Unit {0}
 IsTracedWorker script es t c (End count) = HasBlockSource script es t c 2 count
 IsTracedWorker script es t c (Copy count end words) = IsSourcedCopy script es t c (copied count end words)
 IsTracedWorker script es t c (Take taken) = IsSourcedCopy script es t c taken
-IsTracedWorker script es t c (Mark taken) = IsSourcedCopy script es t c taken
+IsTracedWorker script es t c (Answer taken) = IsSourcedCopy script es t c taken
 IsTracedWorker script es t c (Give taken reply) = IsMade es t c reply
 IsTracedWorker script es t c (Reply taken reply i) = IsMade es t c reply
 IsTracedWorker script es t c (Ack taken reply) = Unit {0}
@@ -108,8 +108,8 @@ module _ (script : Script) (w : WorldAt) (t channels c : ℕ) (kept : IsWorld w)
       let high = s.2 in
       let all_of = copies_on count end x words h (found (length words) (omega (arith, low, high))) in
       two (length (words ++ x ∷ []) == end) (Take (copied count end (words ++ x ∷ []))) (Copy count end (words ++ x ∷ [])) all_of all_of
-  own_traced (Take taken) s h = two (is_none w.shared.turn) (Mark taken) (Take taken) h h
-  own_traced (Mark taken) s h =
+  own_traced (Take taken) s h = two (is_none w.shared.turn) (Answer taken) (Take taken) h h
+  own_traced (Answer taken) s h =
       let e = entry_of w.shared.book.space t c taken (decided w.shared.book t taken) in (length es, e, at_last es e, refl, refl, refl)
   own_traced (Give taken reply) s h = h
   own_traced (Reply taken reply i) s h = two (i == 11) (Ack taken reply) (Reply taken reply (i + 1)) tt h
@@ -122,7 +122,7 @@ module _ (script : Script) (w : WorldAt) (t channels c : ℕ) (kept : IsWorld w)
   own_words (End count) s h = all
   own_words (Copy count end words) s h = all
   own_words (Take taken) s h = all
-  own_words (Mark taken) s h = more_words script es (entry_of w.shared.book.space t c taken (decided w.shared.book t taken)) w.shared.words all
+  own_words (Answer taken) s h = more_words script es (entry_of w.shared.book.space t c taken (decided w.shared.book t taken)) w.shared.words all
   own_words (Give taken reply) s h = all
   own_words (Reply taken reply i) s h =
       let low = s.0 in
@@ -142,7 +142,7 @@ module _ (script : Script) (w : WorldAt) (t channels c : ℕ) (kept : IsWorld w)
   own_copies (End count) h = copies
   own_copies (Copy count end words) h = copies
   own_copies (Take taken) h = copies
-  own_copies (Mark taken) h = more_copies script es (entry_of w.shared.book.space t c taken (decided w.shared.book t taken)) copies h
+  own_copies (Answer taken) h = more_copies script es (entry_of w.shared.book.space t c taken (decided w.shared.book t taken)) copies h
   own_copies (Give taken reply) h = copies
   own_copies (Reply taken reply i) h = copies
   own_copies (Ack taken reply) h = copies

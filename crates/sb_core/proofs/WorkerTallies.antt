@@ -5,7 +5,7 @@ use Rattle.std.proofs.lemmas.List.Sums.{sum_by-append, sum_by-cons}
 use Rattle.std.specs.Prelude.{nat_lt, slice_index}
 use Rattle.sb_actor.specs.Moves.{at}
 use Rattle.sb_actor.specs.Ranges.{IsSoundStage}
-use Rattle.sb_actor.specs.WorkerStages.{WorkerStage, WorkerAt, Look, Count, End, Copy, Take, Mark, Give, Reply, Ack}
+use Rattle.sb_actor.specs.WorkerStages.{WorkerStage, WorkerAt, Look, Count, End, Copy, Take, Answer, Give, Reply, Ack}
 use Rattle.sb_actor.specs.WorkerTable.{look_next, worker_after, worker_plan}
 use Rattle.sb_block.specs.Copies.{copied, is_end}
 use Rattle.sb_block.specs.Packing.{offset_of}
@@ -25,7 +25,7 @@ owed_at Count s = 1
 owed_at (End count) s = 1
 owed_at (Copy count end words) s = 1
 owed_at (Take taken) s = 1
-owed_at (Mark taken) s = 1
+owed_at (Answer taken) s = 1
 owed_at (Give taken reply) s = 0
 owed_at (Reply taken reply i) s = 0
 owed_at (Ack taken reply) s = 0
@@ -102,7 +102,7 @@ module _ (w : WorldAt) (t channels d : ℕ) (kept : IsWorld w) (there : t < leng
   written : (new : List ℕ) → words_of (set w.shared.words t new) t ≡ new
   written new = get_or-set_same w.shared.words t new [] (words_listed w t kept there)
 
-  marks : (es : List Entry) (e : Entry) → e.target ≡ t → e.channel ≡ d → entries_on t c (es ++ e ∷ []) + owed_by (d == c) (Give (e.taken) []) state ≤ entries_on t c es + owed_by (d == c) (Mark e.taken) state
+  marks : (es : List Entry) (e : Entry) → e.target ≡ t → e.channel ≡ d → entries_on t c (es ++ e ∷ []) + owed_by (d == c) (Give (e.taken) []) state ≤ entries_on t c es + owed_by (d == c) (Answer e.taken) state
   marks es e et ec =
       let more = entries_more t c es e in
       let one : one_if (e.target == t && e.channel == c) ≡ one_if (d == c) =
@@ -110,7 +110,7 @@ module _ (w : WorldAt) (t channels d : ℕ) (kept : IsWorld w) (there : t < leng
       by_place (d == c) more one
     where
       by_place : (p : Bool) → entries_on t c (es ++ e ∷ []) ≡ entries_on t c es + one_if (e.target == t && e.channel == c) → one_if (e.target == t && e.channel == c) ≡ one_if p
-          → entries_on t c (es ++ e ∷ []) + owed_by p (Give (e.taken) []) state ≤ entries_on t c es + owed_by p (Mark e.taken) state
+          → entries_on t c (es ++ e ∷ []) + owed_by p (Give (e.taken) []) state ≤ entries_on t c es + owed_by p (Answer e.taken) state
       by_place true more one = omega (arith, more, one)
       by_place false more one = omega (arith, more, one)
 
@@ -121,7 +121,7 @@ module _ (w : WorldAt) (t channels d : ℕ) (kept : IsWorld w) (there : t < leng
       apart : at c 0 ≢ d * 65 + (1 + i)
       apart e = absurd (omega (arith, e, l))
 
-  -- behind the acknowledgement the state is not 3
+  -- after the acknowledgement the state is not 3
   acked : (b : Bool) → (get_or words (at d 0) 0 == 3) ≡ b
       → one_if (slice_index (if b then set words (at d 0) 4 else words) (at c 0) == 3) ≤ owed_by (d == c) (Ack (copied 0 0 []) []) state
   acked b e = by_place (d == c) refl b e
@@ -158,8 +158,8 @@ module _ (w : WorldAt) (t channels d : ℕ) (kept : IsWorld w) (there : t < leng
   own_owed (Copy count end copy) s =
       let x = loaded words (record { channel = d; at = 1 + length copy }) in
       plus (entries_on t c w.shared.book.entries) _ _ (two (length (copy ++ x ∷ []) == end) (Take (copied count end (copy ++ x ∷ []))) (Copy count end (copy ++ x ∷ [])) (Copy count end copy) refl refl)
-  own_owed (Take taken) s = plus (entries_on t c w.shared.book.entries) _ _ (two (is_none w.shared.turn) (Mark taken) (Take taken) (Take taken) refl refl)
-  own_owed (Mark taken) s = marks w.shared.book.entries (entry_of w.shared.book.space t d taken (decided w.shared.book t taken)) refl refl
+  own_owed (Take taken) s = plus (entries_on t c w.shared.book.entries) _ _ (two (is_none w.shared.turn) (Answer taken) (Take taken) (Take taken) refl refl)
+  own_owed (Answer taken) s = marks w.shared.book.entries (entry_of w.shared.book.space t d taken (decided w.shared.book t taken)) refl refl
   own_owed (Give taken reply) s = plus (entries_on t c w.shared.book.entries) _ _ (same_owed (d == c) (Reply taken reply 0) (Give taken reply) refl)
   own_owed (Reply taken reply i) s =
       let low = s.0 in

@@ -32,3 +32,13 @@ first_actors targets (suc n) = first_actors targets n ++ target_actors targets n
 -- who makes the steps of a round: for each target its worker, then its threads in order
 abbrev pub round_actors : List TargetScript → List Actor
 round_actors targets = first_actors targets (length targets)
+
+-- the workers of the first n targets, in order
+abbrev pub worker_actors : ℕ → List Actor
+worker_actors zero = []
+worker_actors (suc n) = worker_actors n ++ Worker n ∷ []
+
+-- these actors, n times in turn
+abbrev pub in_turn : ℕ → List Actor → List Actor
+in_turn zero actors = []
+in_turn (suc n) actors = in_turn n actors ++ actors

@@ -1,5 +1,5 @@
 -- What a step changes of words, turn, book, workers, threads and results: at most one word, the actor itself and its results by at most one, the turn at Take and
--- Give alone, and the book at Mark alone.
+-- Give alone, and the book at Answer alone.
 use Rattle.std.specs.Prelude.{◌≡◌, ◌≢◌, ℕ, Bool, true, false, ◌==◌, ◌&&◌, List, ◌++◌, length, slice_index, Option}
 use Rattle.std.specs.Option.{option_to_list}
 use Rattle.sb_actor.specs.ThreadTable.{thread_plan}
@@ -24,7 +24,7 @@ writes (act.Store target word value) t i = target == t && place_of word == i
 writes (act.Exchange target word from to) t i = target == t && place_of word == i
 writes (act.Load target word) t i = false
 writes act.Take t i = false
-writes act.Mark t i = false
+writes act.Answer t i = false
 writes act.Give t i = false
 writes act.Idle t i = false
 
@@ -34,7 +34,7 @@ is_load (act.Load target word) = true
 is_load (act.Store target word value) = false
 is_load (act.Exchange target word from to) = false
 is_load act.Take = false
-is_load act.Mark = false
+is_load act.Answer = false
 is_load act.Give = false
 is_load act.Idle = false
 
@@ -42,7 +42,7 @@ is_load act.Idle = false
 abbrev pub moves_turn : Act → Bool
 moves_turn act.Take = true
 moves_turn act.Give = true
-moves_turn act.Mark = false
+moves_turn act.Answer = false
 moves_turn act.Idle = false
 moves_turn (act.Load target word) = false
 moves_turn (act.Store target word value) = false
@@ -50,7 +50,7 @@ moves_turn (act.Exchange target word from to) = false
 
 -- the book answers
 abbrev pub is_mark : Act → Bool
-is_mark act.Mark = true
+is_mark act.Answer = true
 is_mark act.Take = false
 is_mark act.Give = false
 is_mark act.Idle = false

@@ -32,14 +32,14 @@ abbrev pub drained : WorldAt → WorldAt
 drained w = drained_by most_passes w
 
 -- n whole passes
-abbrev pub passed : ℕ → WorldAt → WorldAt
-passed zero w = w
-passed (suc n) w = one_pass (passed n w)
+abbrev pub after_passes : ℕ → WorldAt → WorldAt
+after_passes zero w = w
+after_passes (suc n) w = one_pass (after_passes n w)
 
 -- a beginning of the drain of a world: whole passes, and of one more a step of each of the first workers, where before no pass the world was settled
 pub record IsBeginning (w v : WorldAt) : Type 0 where
   pub passes : ℕ
   pub workers : ℕ
   pub few : workers < length w.workers
-  pub unsettled : (i : ℕ) → i ≤ passes → is_settled (passed i w) ≡ false
-  pub is : v ≡ pass_below workers (passed passes w)
+  pub unsettled : (i : ℕ) → i ≤ passes → is_settled (after_passes i w) ≡ false
+  pub is : v ≡ pass_below workers (after_passes passes w)

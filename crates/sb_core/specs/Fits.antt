@@ -61,7 +61,7 @@ pub record OwnReplies (script : Script) (entries : List Entry) (results : List (
   pub others : (i : ℕ) (e : Entry) → slice_get entries i ≡ Some e → is_clean (clean_channels script e.target) e.channel ≡ true
       → (k : ℕ) × (k < thread_count (slice_get script.targets e.target)) × (mark_of e.taken / 65536 ≡ k + 1)
 
--- Each result suits the statement at its place. A call ends with no channel only where its target has no clean one; its block is lost, its reply is another's, and
+-- Each result suits the statement at its place. A call ends with no channel only if its target has no clean one; its block is lost, its reply is another's, and
 -- its patience runs out only on channels that are not clean; and a reply came on a channel of the target and bears the call's own mark. A wait that met its value
 -- made from one to its most loads, and another made its most
 abbrev pub ResultsSuit : Script → List (List (List StmtResult)) → Type 0
@@ -88,7 +88,7 @@ abbrev pub RunsFit : Type 0
 RunsFit = (policies : List Policy) (script : Script) (schedule : Schedule) → CanRun policies script schedule → HasUnits script
     → (ran policies script schedule).unfinished ≡ None → Fits policies script (ran policies script schedule).report
 
--- what a thread has beside its results: nothing, or the entry of its present call, which is on the channel where the thread is, and whose
+-- what a thread has beside its results: nothing, or the entry of its present call, which is on the channel if the thread is, and whose
 -- copy is the whole block of it
 abbrev pub IsPresent : RunAt → List Answered → Type 0
 IsPresent x besides =

@@ -1,4 +1,4 @@
--- What every world keeps: its numbers are in their ranges, each result is counted, and the turn is with the worker that is in Mark or
+-- What every world keeps: its numbers are in their ranges, each result is counted, and the turn is with the worker that is in Answer or
 -- Give. And what a world keeps of its script.
 use Rattle.std.specs.Prelude.{◌≡◌, ◌<◌, ◌≤◌, ℕ, ◌*◌, ◌==◌, Bool, true, false, is_none, List, length, map, slice_get, slice_index, Option, None, Some}
 use Rattle.sb_actor.specs.Places.{statements_of, statement_at, block_of, mark_at, clean_channels, is_call}
@@ -14,14 +14,14 @@ use Rattle.sb_core.specs.Threads.{RunAt}
 use Rattle.sb_core.specs.Words.{words_of}
 use Rattle.sb_core.specs.Worlds.{WorldAt, steps, worker_at, threads_at, run_at}
 
--- the worker is in Mark or Give
+-- the worker is in Answer or Give
 abbrev pub has_turn : WorkerStage → Bool
 has_turn worker.Look = false
 has_turn worker.Count = false
 has_turn (worker.End count) = false
 has_turn (worker.Copy count end words) = false
 has_turn (worker.Take taken) = false
-has_turn (worker.Mark taken) = true
+has_turn (worker.Answer taken) = true
 has_turn (worker.Give taken reply) = true
 has_turn (worker.Reply taken reply at) = false
 has_turn (worker.Ack taken reply) = false
@@ -36,7 +36,7 @@ abbrev pub channels_at : WorldAt → ℕ → ℕ
 channels_at w t = slice_index w.shared.book.setting.channels t
 
 -- The worker of a target stands at one of its 1 to 8 channels, and the numbers of its stage are in their ranges. The target has 65 words
--- for each channel. The turn is with this worker exactly where it is in Mark or Give
+-- for each channel. The turn is with this worker exactly if it is in Answer or Give
 pub record IsWorkerOf (w : WorldAt) (t : ℕ) (x : WorkerAt) : Type 0 where
   pub its_target : x.target ≡ t
   pub its_channels : x.channels ≡ channels_at w t
@@ -74,7 +74,7 @@ IsReached script w v = (actors : List Actor) × (v ≡ steps script actors w)
 
 -- the stage is one of a call
 abbrev pub is_calling : ThreadStage → Bool
-is_calling (Try c rounds fives) = true
+is_calling (Try c rounds all_abandoned) = true
 is_calling (Fill c i) = true
 is_calling (Send c) = true
 is_calling (Wait c loads) = true
@@ -86,7 +86,7 @@ is_calling Over = false
 
 -- the channel of such a stage
 abbrev pub channel_in : ThreadStage → Option ℕ
-channel_in (Try c rounds fives) = Some c
+channel_in (Try c rounds all_abandoned) = Some c
 channel_in (Fill c i) = Some c
 channel_in (Send c) = Some c
 channel_in (Wait c loads) = Some c
@@ -98,7 +98,7 @@ channel_in Over = None
 
 -- all statements have ended
 abbrev pub is_over : ThreadStage → Bool
-is_over (Try c rounds fives) = false
+is_over (Try c rounds all_abandoned) = false
 is_over (Fill c i) = false
 is_over (Send c) = false
 is_over (Wait c loads) = false
@@ -108,8 +108,8 @@ is_over (Abandon c) = false
 is_over (Stray loads most) = false
 is_over Over = true
 
--- A thread stands at a statement of its script, in a stage of that kind of statement, with the block of it where it is a call, or
--- behind the last one. It has the script's patience and its target's clean marks
+-- A thread stands at a statement of its script, in a stage of that kind of statement, with the block of it if it is a call, or
+-- after the last one. It has the script's patience and its target's clean channels
 pub record IsAtStatement (script : Script) (x : ThreadAt) : Type 0 where
   pub place : x.place ≤ length (statements_of script x.target x.thread)
   pub calling : is_calling x.stage ≡ is_call (statement_at script x.target x.thread x.place)
@@ -119,7 +119,7 @@ pub record IsAtStatement (script : Script) (x : ThreadAt) : Type 0 where
   pub clean : x.clean ≡ clean_channels script x.target
 
 -- a world runs a sound script: it has the script's targets, each with its channels and its threads, and each thread stands at one of its
--- statements or behind the last
+-- statements or after the last
 pub record IsRunning (script : Script) (w : WorldAt) : Type 0 where
   pub sound : is_sound script ≡ true
   pub channels : w.shared.book.setting.channels ≡ map (λ target. target.channels) script.targets

@@ -1,9 +1,9 @@
 -- What holds of every world and of every run.
 use Rattle.std.specs.Prelude.{◌≡◌, ◌⊎◌, ◌<◌, ◌≤◌, ℕ, ◌*◌, ◌==◌, true, false, List, ◌++◌, length, map, slice_get, Option, None, Some}
 use Rattle.sb_actor.specs.Places.{is_finished}
-use Rattle.sb_actor.specs.WorkerStages.{WorkerStage, WorkerAt, Look, Count, End, Copy, Take, Mark, Give, Reply, Ack}
+use Rattle.sb_actor.specs.WorkerStages.{WorkerStage, WorkerAt, Look, Count, End, Copy, Take, Answer, Give, Reply, Ack}
 use Rattle.sb_actor.specs.WorkerTable.{worker_plan, worker_after}
-use Rattle.sb_actor.specs.declared.acts.Seen.{Seen}
+use Rattle.sb_actor.specs.declared.acts.Observed.{Observed}
 use Rattle.sb_block.specs.Copies.{Copied}
 use Rattle.sb_book.specs.Histories.{IsHistory, answered, setting_of}
 use Rattle.sb_book.specs.Readiness.{is_ready}
@@ -14,9 +14,9 @@ use Rattle.sb_statements.specs.declared.schedules.Schedule.{Schedule}
 use Rattle.sb_statements.specs.declared.scripts.Script.{Script}
 use Rattle.sb_statements.specs.Actors.{is_there}
 use Rattle.sb_statements.specs.Soundness.{channels_of}
-use Rattle.sb_core.specs.Actors.{are_there, scheduled}
+use Rattle.sb_core.specs.Actors.{are_there, in_turn, round_actors, scheduled, worker_actors}
 use Rattle.sb_core.specs.Changes.{Changes, plan_of, is_load}
-use Rattle.sb_core.specs.Drains.{drained, is_settled}
+use Rattle.sb_core.specs.Drains.{IsBeginning, drained, is_settled}
 use Rattle.sb_core.specs.Kept.{IsWorld, IsRunning, channels_at, has_turn}
 use Rattle.sb_core.specs.Reports.{report_of, results_of}
 use Rattle.sb_core.specs.Results.{AreAllResults, ResultsFit}
@@ -24,7 +24,7 @@ use Rattle.sb_core.specs.Threads.{first_unfinished}
 use Rattle.sb_core.specs.Runs.{CanFinish, CanRun, finished, ran, schedule_of}
 use Rattle.sb_core.specs.Shared.{IsActThere, decided}
 use Rattle.sb_core.specs.Words.{some_ready, words_of}
-use Rattle.sb_core.specs.Worlds.{WorldAt, start_world, step, steps, rounds, run_at, threads_at, worker_at}
+use Rattle.sb_core.specs.Worlds.{WorldAt, all_finished, start_world, step, steps, rounds, run_at, threads_at, worker_at}
 
 -- a target of a script in a world that runs it has a worker, and 65 words for each channel; there are at most 8 targets of at most 8 channels
 pub record HasTarget (script : Script) (w : WorldAt) (t : ℕ) : Type 0 where
@@ -40,7 +40,7 @@ abbrev pub WorldsHaveTargets : Type 0
 WorldsHaveTargets = (script : Script) (w : WorldAt) → IsWorld w → IsRunning script w
     → (length w.workers ≡ length script.targets) × ((t : ℕ) → t < length script.targets → HasTarget script w t)
 
--- where the next step of an actor that is there is on a word, that word is there
+-- if the next step of an actor that is there is on a word, that word is there
 abbrev pub PlansAreThere : Type 0
 PlansAreThere = (script : Script) (w : WorldAt) (actor : Actor) → IsWorld w → IsRunning script w → is_there script.targets actor ≡ true
     → IsActThere w.shared.words (plan_of script w actor)
@@ -60,19 +60,19 @@ abbrev pub DrainsKeep : Type 0
 DrainsKeep = (script : Script) (w : WorldAt) → IsWorld w → IsRunning script w → IsWorld (drained w) × IsRunning script (drained w)
 
 -- A step changes at most one word, which its plan names; besides, the actor that makes it, and its results by at most one; the turn at Take and
--- Give alone; and the book at Mark alone
+-- Give alone; and the book at Answer alone
 abbrev pub StepsChangeLittle : Type 0
 StepsChangeLittle = (script : Script) (w : WorldAt) (actor : Actor) → IsWorld w → IsRunning script w → is_there script.targets actor ≡ true
     → Changes actor (plan_of script w actor) w (step script w actor)
 
--- at Mark the book has one entry more, the answer to the worker's copy on its channel
-abbrev pub MarksAnswerCopies : Type 0
-MarksAnswerCopies = (script : Script) (w : WorldAt) (target : ℕ) (taken : Copied) → (worker_at w target).stage ≡ Mark taken
+-- at Answer the book has one entry more, the answer to the worker's copy on its channel
+abbrev pub CopiesAreAnswered : Type 0
+CopiesAreAnswered = (script : Script) (w : WorldAt) (target : ℕ) (taken : Copied) → (worker_at w target).stage ≡ Answer taken
     → (step script w (Worker target)).shared.book
     ≡ answered w.shared.book target (worker_at w target).channel taken (decided w.shared.book target taken)
 
--- where nobody has the turn no worker is in Mark or Give, and where one has it that worker alone is: so a worker that tries to take it finds it
--- held exactly where another worker is in Mark or Give
+-- if nobody has the turn no worker is in Answer or Give, and if one has it that worker alone is: so a worker that tries to take it finds it
+-- held exactly if another worker is in Answer or Give
 abbrev pub TurnsAreHeld : Type 0
 TurnsAreHeld = (w : WorldAt) → IsWorld w
     → (w.shared.turn ≡ None → (t : ℕ) → t < length w.workers → has_turn (worker_at w t).stage ≡ false)
@@ -85,14 +85,14 @@ copy_in Count = None
 copy_in (End count) = None
 copy_in (Copy count end words) = None
 copy_in (Take taken) = Some taken
-copy_in (Mark taken) = Some taken
+copy_in (Answer taken) = Some taken
 copy_in (Give taken reply) = Some taken
 copy_in (Reply taken reply at) = Some taken
 copy_in (Ack taken reply) = Some taken
 
--- a worker judges what it copied: from the end of the copy until the reply is acknowledged it loads nothing, and behind each step it keeps the copy or looks on
+-- a worker judges what it copied: from the end of the copy until the reply is acknowledged it loads nothing, and after each step it keeps the copy or looks on
 abbrev pub CopiesAreJudged : Type 0
-CopiesAreJudged = (w : WorkerAt) (seen : Seen) (taken : Copied) → copy_in w.stage ≡ Some taken
+CopiesAreJudged = (w : WorkerAt) (seen : Observed) (taken : Copied) → copy_in w.stage ≡ Some taken
     → (is_load (worker_plan w) ≡ false) × ((copy_in (worker_after w seen).stage ≡ Some taken) ⊎ ((worker_after w seen).stage ≡ Look))
 
 -- a step of a finished thread does nothing
@@ -104,12 +104,36 @@ FinishedThreadsStay = (script : Script) (w : WorldAt) (target thread : ℕ) → 
 abbrev pub StepsAreFolds : Type 0
 StepsAreFolds = (script : Script) (first later : List Actor) (w : WorldAt) → steps script (first ++ later) w ≡ steps script later (steps script first w)
 
--- rounds and the drain are steps too
+-- At most n rounds are whole rounds of the actors that a round names, each of which is there. Before each of these rounds a thread was unfinished; and if
+-- they are fewer than n, no thread is unfinished after them
+pub record AreRounds (n : ℕ) (script : Script) (w v : WorldAt) : Type 0 where
+  pub whole : ℕ
+  pub few : whole ≤ n
+  pub is : v ≡ steps script (in_turn whole (round_actors script.targets)) w
+  pub unfinished : (i : ℕ) → i < whole → all_finished script (steps script (in_turn i (round_actors script.targets)) w) ≡ false
+  pub ended : (whole ≡ n) ⊎ (all_finished script v ≡ true)
+
 abbrev pub RoundsAreSteps : Type 0
-RoundsAreSteps = (n : ℕ) (script : Script) (w : WorldAt) → (actors : List Actor) × (rounds n script w ≡ steps script actors w)
+RoundsAreSteps = (n : ℕ) (script : Script) (w : WorldAt) → AreRounds n script w (rounds n script w) × (are_there script.targets (round_actors script.targets) ≡ true)
+
+-- a drain is whole passes, in each of which each worker makes one step, in target order. Before each of them the world was not settled
+pub record ArePasses (script : Script) (w v : WorldAt) : Type 0 where
+  pub passes : ℕ
+  pub is : v ≡ steps script (in_turn passes (worker_actors (length w.workers))) w
+  pub unsettled : (i : ℕ) → i < passes → is_settled (steps script (in_turn i (worker_actors (length w.workers))) w) ≡ false
 
 abbrev pub DrainsAreSteps : Type 0
-DrainsAreSteps = (script : Script) (w : WorldAt) → (actors : List Actor) × (drained w ≡ steps script actors w)
+DrainsAreSteps = (script : Script) (w : WorldAt) → ArePasses script w (drained w)
+
+-- so is each beginning of a drain, where of one more pass the first workers made their step
+abbrev pub BeginningsAreSteps : Type 0
+BeginningsAreSteps = (script : Script) (w v : WorldAt) (b : IsBeginning w v)
+    → v ≡ steps script (in_turn b.passes (worker_actors (length w.workers)) ++ worker_actors b.workers) w
+
+-- and in a world that runs its script these workers are there
+abbrev pub WorkersAreThere : Type 0
+WorkersAreThere = (script : Script) (w : WorldAt) (passes workers : ℕ) → IsWorld w → IsRunning script w → workers ≤ length w.workers
+    → are_there script.targets (in_turn passes (worker_actors (length w.workers)) ++ worker_actors workers) ≡ true
 
 -- each order of actors is that of a schedule, in which each of them makes one step
 abbrev pub OrdersAreSchedules : Type 0
@@ -133,7 +157,7 @@ abbrev pub RunsHaveResults : Type 0
 RunsHaveResults = (policies : List Policy) (script : Script) (schedule : Schedule) → CanRun policies script schedule
     → ResultsFit script (ran policies script schedule).report.results
 
--- where no thread is unfinished there is exactly one result for each statement, at its place, and no state word is 3
+-- if no thread is unfinished there is exactly one result for each statement, at its place, and no state word is 3
 abbrev pub FinishedRunsAreWhole : Type 0
 FinishedRunsAreWhole = (policies : List Policy) (script : Script) (schedule : Schedule) → CanRun policies script schedule
     → (ran policies script schedule).unfinished ≡ None
@@ -144,7 +168,7 @@ abbrev pub RunsKeepWords : Type 0
 RunsKeepWords = (policies : List Policy) (script : Script) (schedule : Schedule) → CanRun policies script schedule
     → map (λ words. length words) (ran policies script schedule).report.words ≡ map (λ target. target.channels * 65) script.targets
 
--- From the start these steps lead to a world in which no thread is unfinished. Where nobody has the turn there, the script runs by the schedule of these
+-- From the start these steps lead to a world in which no thread is unfinished. If nobody has the turn there, the script runs by the schedule of these
 -- steps, and the report of that run is the one that `finish` gives for the world's words, workers, book and results, and the one of the drained world
 pub record IsEndOfRun (policies : List Policy) (script : Script) (actors : List Actor) (w : WorldAt) : Type 0 where
   pub can : CanRun policies script (schedule_of actors)
@@ -157,7 +181,7 @@ EndsAreRuns = (policies : List Policy) (script : Script) (actors : List Actor) (
     → w ≡ steps script actors (start_world policies script) → first_unfinished script w.threads ≡ None → w.shared.turn ≡ None
     → IsEndOfRun policies script actors w
 
--- where each worker looks, nobody has the turn, and `finish` can be called
+-- if each worker looks, nobody has the turn, and `finish` can be called
 abbrev pub EndsCanFinish : Type 0
 EndsCanFinish = (policies : List Policy) (script : Script) (actors : List Actor) (w : WorldAt) → is_ready policies script ≡ true → are_there script.targets actors ≡ true
     → w ≡ steps script actors (start_world policies script) → first_unfinished script w.threads ≡ None

@@ -12,6 +12,7 @@ pub mod Results
 pub mod Laws
 pub mod Views
 pub mod Rules
+pub mod Findings
 pub mod Fits
 pub mod Origins
 pub mod Tallies

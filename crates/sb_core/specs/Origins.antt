@@ -63,7 +63,7 @@ pub record HasSource (script : Script) (entries : List Entry) (t c j x : ℕ) : 
   pub state : j ≡ 0 → HasStateSource script t c x
   pub word : (i : ℕ) → j ≡ 1 + i → HasBlockSource script entries t c i x
 
--- each word of a copy has a source at its place, and so has the count that was seen; where that is at most 9, the end that was seen is the offset part of a
+-- each word of a copy has a source at its place, and so has the count that was seen; if that is at most 9, the end that was seen is the offset part of a
 -- value that has one
 pub record IsSourcedCopy (script : Script) (entries : List Entry) (t c : ℕ) (taken : Copied) : Type 0 where
   pub words : (i : ℕ) → i < length taken.words → HasBlockSource script entries t c i (slice_index taken.words i)

@@ -6,7 +6,7 @@ use Rattle.sb_book.specs.Histories.{History}
 use Rattle.sb_book.specs.Readiness.{is_ready}
 use Rattle.sb_rule.specs.declared.policies.Policy.{Policy}
 use Rattle.sb_statements.specs.Limits.{most_targets, most_threads, most_statements}
-use Rattle.sb_statements.specs.Soundness.{is_sound, channels_of}
+use Rattle.sb_statements.specs.Soundness.{channels_of}
 use Rattle.sb_statements.specs.declared.results.StmtResult.{StmtResult}
 use Rattle.sb_statements.specs.declared.schedules.Actor.{Actor}
 use Rattle.sb_statements.specs.declared.schedules.Schedule.{Schedule}
@@ -36,7 +36,6 @@ pub record IsIdle (script : Script) (t : ℕ) (x : WorkerAt) : Type 0 where
 -- The parts of a world in which every thread is finished and nobody has the turn: 65 words for each channel of each target, one looking worker
 -- for each target, one result for each statement, and a book of this script
 pub record CanFinish (script : Script) (words : List (List ℕ)) (workers : List WorkerAt) (book : History) (results : List (List (List StmtResult))) : Type 0 where
-  pub sound : is_sound script ≡ true
   pub sized : map (λ target. length target) words ≡ map (λ target. target.channels * 65) script.targets
   pub count : length workers ≡ length script.targets
   pub idle : (t : ℕ) → t < length workers → IsIdle script t (slice_index_or workers t no_worker)
@@ -48,7 +47,7 @@ pub record CanFinish (script : Script) (words : List (List ℕ)) (workers : List
 abbrev pub played : List Policy → Script → Schedule → WorldAt
 played policies script schedule = rounds schedule.rounds script (steps script (scheduled schedule.steps) (start_world policies script))
 
--- where every thread is finished the workers drain the channels, and otherwise there is no drain
+-- if every thread is finished the workers drain the channels, and otherwise there is no drain
 abbrev pub ended : WorldAt → Option (ℕ × ℕ) → Ran
 ended w None = record { report = report_of (drained w).shared (results_of w.threads); unfinished = None }
 ended w (Some thread) = record { report = report_of w.shared (results_of w.threads); unfinished = Some thread }
@@ -56,7 +55,7 @@ ended w (Some thread) = record { report = report_of w.shared (results_of w.threa
 abbrev pub ended_from : Script → WorldAt → Ran
 ended_from script w = ended w (first_unfinished script w.threads)
 
--- the steps of the schedule, then rounds while a thread is unfinished and rounds are left, then the drain where every thread is finished
+-- the steps of the schedule, then rounds while a thread is unfinished and rounds are left, then the drain if every thread is finished
 abbrev pub ran : List Policy → Script → Schedule → Ran
 ran policies script schedule = ended_from script (played policies script schedule)
 

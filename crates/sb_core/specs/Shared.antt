@@ -4,8 +4,8 @@ use Rattle.sb_actor.specs.WorkerStages.{WorkerAt}
 use Rattle.sb_actor.specs.WorkerTable.{taken_in}
 use Rattle.sb_actor.specs.declared.acts.Act.{Act}
 use Rattle.sb_actor.specs.declared.acts.Act.TheVariants as act
-use Rattle.sb_actor.specs.declared.acts.Seen.{Seen}
-use Rattle.sb_actor.specs.declared.acts.Seen.TheVariants as seen
+use Rattle.sb_actor.specs.declared.acts.Observed.{Observed}
+use Rattle.sb_actor.specs.declared.acts.Observed.TheVariants as seen
 use Rattle.sb_block.specs.Copies.{Copied, mark_of}
 use Rattle.sb_book.specs.Decisions.{decision_of}
 use Rattle.sb_book.specs.Histories.{History, answered, reply_of}
@@ -21,10 +21,10 @@ pub record SharedAt : Type 0 where
 
 -- what a step finds, and what all share after it
 pub record Effect : Type 0 where
-  pub seen : Seen
+  pub seen : Observed
   pub shared : SharedAt
 
-abbrev pub finds : Seen → SharedAt → Effect
+abbrev pub finds : Observed → SharedAt → Effect
 finds seen shared = record { seen = seen; shared = shared }
 
 -- the words of a target changed
@@ -38,7 +38,7 @@ on_word s (act.Load t word) = finds (seen.Value (loaded (words_of s.words t) wor
 on_word s (act.Store t word value) = finds seen.Done (with_words s t (stored (words_of s.words t) word value))
 on_word s (act.Exchange t word from to) = finds (seen.Value (loaded (words_of s.words t) word)) (with_words s t (exchanged (words_of s.words t) word from to))
 on_word s act.Take = finds seen.Done s
-on_word s act.Mark = finds seen.Done s
+on_word s act.Answer = finds seen.Done s
 on_word s act.Give = finds seen.Done s
 on_word s act.Idle = finds seen.Done s
 
@@ -52,17 +52,17 @@ abbrev pub decided : History → ℕ → Copied → Decision
 decided book target taken = decision_of (policy_at book.setting.policies target) taken
 
 -- the book answers the copy of a target's worker: by the decision of the target's policy, with one entry
-abbrev pub marked : SharedAt → ℕ → WorkerAt → Option Copied → Effect
-marked s target w (Some taken) =
+abbrev pub on_answer : SharedAt → ℕ → WorkerAt → Option Copied → Effect
+on_answer s target w (Some taken) =
     finds (seen.Answered (reply_of s.book.space target (mark_of taken) (decided s.book target taken)))
     (record s { book = answered s.book target w.channel taken (decided s.book target taken) })
-marked s target w None = finds seen.Done s
+on_answer s target w None = finds seen.Done s
 
 -- a step of the worker of a target: on a word, or on the turn
 abbrev pub on_worker : SharedAt → ℕ → WorkerAt → Act → Effect
 -- a step = what it finds, and what it leaves
 on_worker s target w act.Take = finds (seen.Turn (is_none s.turn)) (record s { turn = turn_taken target s.turn })
-on_worker s target w act.Mark = marked s target w (taken_in w.stage)
+on_worker s target w act.Answer = on_answer s target w (taken_in w.stage)
 on_worker s target w act.Give = finds seen.Done (record s { turn = None })
 on_worker s target w (act.Load t word) = on_word s (act.Load t word)
 on_worker s target w (act.Store t word value) = on_word s (act.Store t word value)
@@ -75,6 +75,6 @@ IsActThere words (act.Load t word) = IsWordThere words t word
 IsActThere words (act.Store t word value) = IsWordThere words t word
 IsActThere words (act.Exchange t word from to) = IsWordThere words t word
 IsActThere words act.Take = Unit {0}
-IsActThere words act.Mark = Unit {0}
+IsActThere words act.Answer = Unit {0}
 IsActThere words act.Give = Unit {0}
 IsActThere words act.Idle = Unit {0}

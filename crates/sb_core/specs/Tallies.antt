@@ -21,7 +21,7 @@ use Rattle.sb_core.specs.Runs.{CanRun, ran}
 use Rattle.sb_core.specs.Threads.{RunAt}
 use Rattle.sb_core.specs.Worlds.{WorldAt}
 
--- one where it holds
+-- one if it holds
 abbrev pub one_if : Bool → ℕ
 one_if b = if b then 1 else 0
 
@@ -86,7 +86,7 @@ EntriesAreFew = (policies : List Policy) (script : Script) (schedule : Schedule)
 
 -- the present call of a thread was handed over on this channel
 abbrev pub has_sent : ℕ → ThreadStage → Bool
-has_sent c (Try d rounds fives) = false
+has_sent c (Try d rounds all_abandoned) = false
 has_sent c (Fill d i) = false
 has_sent c (Send d) = false
 has_sent c (Wait d loads) = d == c

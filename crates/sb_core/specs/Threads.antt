@@ -23,7 +23,7 @@ pub record ThreadStep : Type 0 where
   pub shared : SharedAt
   pub run : RunAt
 
--- the thread goes on, with one result more where its statement ended
+-- the thread goes on, with one result more if its statement ended
 abbrev pub goes_on : RunAt → SharedAt → ThreadNext → ThreadStep
 goes_on x shared next = record { shared = shared; run = record { thread = next.thread; results = x.results ++ option_to_list next.ended } }
 
@@ -35,7 +35,7 @@ by_effect script x e = goes_on x e.shared (thread_after script x.thread e.seen)
 abbrev pub thread_step : Script → SharedAt → RunAt → ThreadStep
 thread_step script s x = by_effect script x (on_word s (thread_plan script x.thread))
 
--- where the step of a thread ends its statement there is room for the result
+-- if the step of a thread ends its statement there is room for the result
 abbrev pub HasRoom : Script → SharedAt → RunAt → Type 0
 HasRoom script s x = IfSome (thread_after script x.thread (on_word s (thread_plan script x.thread)).seen).ended (λ r. length x.results < most_statements)
 

@@ -4,6 +4,6 @@ use Rattle.sb_statements.specs.Units.{script_has_units}
 use Rattle.sb_statements.specs.declared.scripts.Script.{Script}
 use Rattle.sb_core.specs.Views.{HasUnits}
 
--- where the strings of all statements are made of units, those of the call at each place are
+-- if the strings of all statements are made of units, those of the call at each place are
 abbrev pub UnitsArePlaced : Type 0
 UnitsArePlaced = (script : Script) → script_has_units script ≡ true → HasUnits script

@@ -9,7 +9,7 @@ use Rattle.sb_actor.specs.Places.{block_of, clean_channels, mark_at, statement_a
 use Rattle.sb_actor.specs.Rule.{Rule}
 use Rattle.sb_actor.specs.ThreadStages.{ThreadAt}
 use Rattle.sb_actor.specs.Ties.{HoldsThread, HoldsWorker}
-use Rattle.sb_actor.specs.WorkerStages.{WorkerStage, WorkerAt, Look, Count, End, Copy, Take, Mark, Give, Reply, Ack}
+use Rattle.sb_actor.specs.WorkerStages.{WorkerStage, WorkerAt, Look, Count, End, Copy, Take, Answer, Give, Reply, Ack}
 use Rattle.sb_actor.specs.Views.{Had, Served, ThreadView, WorkerView}
 use Rattle.sb_block.specs.Blocks.{has_units}
 use Rattle.sb_block.specs.Replies.{read_reply, reply_words}
@@ -47,7 +47,7 @@ in_work c Count = []
 in_work c (End count) = []
 in_work c (Copy count end words) = []
 in_work c (Take taken) = []
-in_work c (Mark taken) = []
+in_work c (Answer taken) = []
 in_work c (Give taken reply) = record { channel = c; taken = taken; reply = reply } ∷ []
 in_work c (Reply taken reply at) = record { channel = c; taken = taken; reply = reply } ∷ []
 in_work c (Ack taken reply) = record { channel = c; taken = taken; reply = reply } ∷ []

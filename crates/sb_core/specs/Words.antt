@@ -26,7 +26,7 @@ loaded words word = slice_index words (place_of word)
 abbrev pub stored : List ℕ → Word → ℕ → List ℕ
 stored words word value = slice_set words (place_of word) value
 
--- the words with `to` stored into one of them where it held `from`; another value stays
+-- the words with `to` stored into one of them if it held `from`; another value stays
 abbrev pub exchanged : List ℕ → Word → ℕ → ℕ → List ℕ
 exchanged words word from to = if loaded words word == from then stored words word to else words
 

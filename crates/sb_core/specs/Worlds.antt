@@ -1,7 +1,7 @@
 -- The world: what all actors share, and where each worker and each thread stands, with the results so far. A step is one row of the
 -- worker's table or of the thread's, applied to the world.
 use Rattle.std.specs.Prelude.{ℕ, zero, suc, Bool, true, false, is_none, List, [], ◌∷◌, ◌++◌, length, map, slice_get, slice_index_or, slice_set, None}
-use Rattle.sb_actor.specs.Places.{begun}
+use Rattle.sb_actor.specs.Places.{thread_start}
 use Rattle.sb_actor.specs.WorkerStages.{WorkerAt, Look}
 use Rattle.sb_actor.specs.WorkerTable.{worker_plan, worker_after}
 use Rattle.sb_book.specs.Histories.{new_history, setting_of}
@@ -49,7 +49,7 @@ first_workers targets (suc n) = first_workers targets n ++ first_worker targets 
 
 -- a thread before its first step, with no results
 abbrev pub first_run : Script → ℕ → ℕ → RunAt
-first_run script target thread = record { thread = begun script target thread; results = [] }
+first_run script target thread = record { thread = thread_start script target thread; results = [] }
 
 -- the first n threads of a target
 abbrev pub first_runs : Script → ℕ → ℕ → List RunAt

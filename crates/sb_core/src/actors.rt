@@ -1,11 +1,10 @@
 // In which order the actors of a script make the steps of a round.
 ghost use Rattle.std.specs.Prelude.{◌≡◌, ◌<◌, ◌++◌, length, true, IfOk, OnOk};
-ghost use Rattle.sb_statements.specs.Soundness.{is_sound};
 ghost use Rattle.sb_core.specs.Actors.{first_threads, target_actors, round_actors};
 
 use crate::counts::{target_count, thread_count};
 use sb_items::NoMemory;
-use sb_statements::{Actor, Script};
+use sb_statements::{Actor, SoundScript};
 use std::alloc::Global;
 
 // Appends the first threads of a target, in order.
@@ -19,8 +18,7 @@ fn push_threads(actors: &mut Vec<Actor>, target: u32, threads: u32) -> Result<()
 }
 
 // Appends the worker of a target, and then its threads in order.
-fn push_target(actors: &mut Vec<Actor>, script: &Script, target: u32) -> Result<(), NoMemory>
-    requires sound { is_sound script.now ≡ true }
+fn push_target(actors: &mut Vec<Actor>, script: &SoundScript, target: u32) -> Result<(), NoMemory>
     requires there { target < length script.now.targets }
     ensures { OnOk result (actors.new.items ≡ actors.old.items ++ target_actors script.now.targets target) }
 {
@@ -32,10 +30,9 @@ fn push_target(actors: &mut Vec<Actor>, script: &Script, target: u32) -> Result<
 /// Who makes the steps of a round: for each target its worker, then its threads in order.
 ///
 /// # Errors
-/// `NoMemory` where there was none for the list.
+/// `NoMemory` if there was none for the list.
 #[tactic(auto, using(crate::proofs::Counting::actors_more))]
-pub(crate) fn round_actors(alloc: Global, script: &Script) -> Result<Vec<Actor>, NoMemory>
-    requires { is_sound script.now ≡ true }
+pub(crate) fn round_actors(alloc: Global, script: &SoundScript) -> Result<Vec<Actor>, NoMemory>
     ensures { IfOk result (λ actors. actors.items ≡ round_actors script.now.targets) }
 {
     let mut actors = Vec::new(alloc);

@@ -45,7 +45,7 @@ fn make_pass<J: Judge>(alloc: Global, judge: &J, world: &mut World) -> Result<()
 /// state word is 3. After an error the world is that of a beginning of the drain.
 ///
 /// # Errors
-/// `NoMemory` where there was none for a step.
+/// `NoMemory` if there was none for a step.
 #[tactic(auto, using(crate::proofs::Folding::drained_done, crate::proofs::Folding::drained_more, crate::proofs::Beginning::passed_self))]
 pub(crate) fn settle<J: Judge>(alloc: Global, judge: &J, world: &mut World) -> Result<(), NoMemory>
     requires judge { JudgesBy (J.policies judge.now) world.old.shared.book }

@@ -12,14 +12,14 @@ use sb_actor::WorkerState;
 use sb_book::{AllWords, Book, Report, Results};
 use sb_items::NoMemory;
 use sb_rule::Judge;
-use sb_statements::{Script, sound_parts};
+use sb_statements::{SoundScript, sound_parts};
 use std::alloc::Global;
 
 // The world of these parts, in which no thread is left and nobody has the turn.
 #[tactic(auto, using(crate::proofs::Finishing::finishing_world))]
 fn world_of(
     alloc: Global,
-    script: &Script,
+    script: &SoundScript,
     words: AllWords,
     workers: Vec<WorkerState>,
     book: Book,
@@ -29,7 +29,7 @@ fn world_of(
     ensures { IfOk result (λ w. w ≡ world_of words workers.items book) }
 {
     sound_parts();
-    let _script = script;
+    script.establish_sound();
     let _results = results;
     let shared = Shared {
         words: words_from(alloc, words)?,
@@ -53,7 +53,7 @@ fn world_of(
 pub fn finish<J: Judge>(
     alloc: Global,
     judge: &J,
-    script: &Script,
+    script: &SoundScript,
     words: AllWords,
     workers: Vec<WorkerState>,
     book: Book,

@@ -5,8 +5,8 @@
 // finds and leaves there, `specs/Drains.antt` and `specs/Runs.antt` fold steps into whole runs, and `specs/Laws.antt` says what holds
 // of every run. `specs/Views.antt` says what is known of a target's actors in a world, `specs/Rules.antt` that rule S holds of it, and
 // `specs/OfScripts.antt` that each world of a script keeps it, whatever steps led there.
-// `specs/Fits.antt` says when a report fits its script, `specs/Origins.antt` where its words come from, and `specs/Tallies.antt` how
-// many entries a channel has at most. What real threads did ends in `finish`: where their steps lead to a world of the script in which
+// `specs/Fits.antt` says when a report fits its script, `specs/Origins.antt` where its words come from, `specs/Tallies.antt` how many
+// entries a channel has at most, and `specs/Findings.antt` why each statement ended with its result. What real threads did ends in `finish`: if their steps lead to a world of the script in which
 // every thread is finished, its report is that of a run by a schedule (`ends_are_runs`), so that all of this holds of it.
 #![tactic(auto)]
 
@@ -28,9 +28,10 @@ mod worlds;
 
 pub use finishes::finish;
 pub use laws::{
-    copies_are_judged, drains_settle, ends_are_runs, finished_threads_stay, marks_answer_copies,
-    plans_are_there, runs_are_legal, runs_are_whole, steps_are_folds, steps_change_little,
-    turns_are_held, worlds_are_of_scripts, worlds_keep,
+    copies_are_answered, copies_are_judged, drains_settle, ends_are_runs, finished_threads_stay,
+    plans_are_there, reports_have_causes, runs_are_legal, runs_are_whole, steps_are_folds,
+    steps_change_little, threads_follow_their_values, turns_are_held, worlds_are_of_scripts,
+    worlds_keep,
 };
 pub use rules::{
     no_block_is_invented, replies_are_own, rule_holds, runs_fit, worlds_of_scripts_invent_nothing,

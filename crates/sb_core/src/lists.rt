@@ -11,7 +11,7 @@ use std::alloc::Global;
 /// Words taken out of lists.
 ///
 /// # Errors
-/// `NoMemory` where there was none for the outer list.
+/// `NoMemory` if there was none for the outer list.
 pub(crate) fn words_from(alloc: Global, words: AllWords) -> Result<Vec<TargetWords>, NoMemory>
     ensures { IfOk result (λ w. w.items ≡ words) }
 {
@@ -25,7 +25,7 @@ pub(crate) fn words_from(alloc: Global, words: AllWords) -> Result<Vec<TargetWor
 /// Words as lists.
 ///
 /// # Errors
-/// `NoMemory` where there was none for the outer list.
+/// `NoMemory` if there was none for the outer list.
 pub(crate) fn words_into(alloc: Global, words: Vec<TargetWords>) -> Result<AllWords, NoMemory>
     ensures { IfOk result (λ lists. lists ≡ words.items) }
 {
@@ -39,7 +39,7 @@ pub(crate) fn words_into(alloc: Global, words: Vec<TargetWords>) -> Result<AllWo
 /// The results of threads.
 ///
 /// # Errors
-/// `NoMemory` where there was none for the lists around them.
+/// `NoMemory` if there was none for the lists around them.
 pub(crate) fn results_from(alloc: Global, threads: Vec<TargetThreads>) -> Result<Results, NoMemory>
     ensures { IfOk result (λ results. results ≡ results_of threads.items) }
 {

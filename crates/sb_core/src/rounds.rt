@@ -10,14 +10,14 @@ ghost use Rattle.sb_core.specs.Worlds.{steps, rounds};
 use crate::worlds::World;
 use sb_items::NoMemory;
 use sb_rule::Judge;
-use sb_statements::{Actor, Script};
+use sb_statements::{Actor, SoundScript};
 use std::alloc::Global;
 
 // This many steps of one actor.
 fn repeat<J: Judge>(
     alloc: Global,
     judge: &J,
-    script: &Script,
+    script: &SoundScript,
     world: &mut World,
     actor: Actor,
     count: u32,
@@ -40,12 +40,12 @@ fn repeat<J: Judge>(
 /// The steps of a schedule. After an error the world is that of the steps so far.
 ///
 /// # Errors
-/// `NoMemory` where there was none for a step.
+/// `NoMemory` if there was none for a step.
 #[tactic(auto, using(crate::proofs::Folding::scheduled_more))]
 pub(crate) fn make_steps<J: Judge>(
     alloc: Global,
     judge: &J,
-    script: &Script,
+    script: &SoundScript,
     world: &mut World,
     entries: &[(Actor, u32)],
 ) -> Result<(), NoMemory>
@@ -68,7 +68,7 @@ pub(crate) fn make_steps<J: Judge>(
 fn make_round<J: Judge>(
     alloc: Global,
     judge: &J,
-    script: &Script,
+    script: &SoundScript,
     world: &mut World,
     actors: &[Actor],
 ) -> Result<(), NoMemory>
@@ -91,12 +91,12 @@ fn make_round<J: Judge>(
 /// the world is that of the steps so far.
 ///
 /// # Errors
-/// `NoMemory` where there was none for a step.
+/// `NoMemory` if there was none for a step.
 #[tactic(auto, using(crate::proofs::Folding::rounds_done, crate::proofs::Folding::rounds_more, crate::proofs::Stepping::rounds_there))]
 pub(crate) fn make_rounds<J: Judge>(
     alloc: Global,
     judge: &J,
-    script: &Script,
+    script: &SoundScript,
     world: &mut World,
     actors: &[Actor],
     count: u32,

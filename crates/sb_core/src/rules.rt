@@ -76,7 +76,7 @@ pub fn replies_are_own()
 
 /// No block is invented. In the report of every run each word of a copy has a source at its place in the channel: it is 0, of the
 /// block of a call of a thread of that target, of a statement that stores it there, or of the reply of an earlier entry on that channel. So
-/// has each value that a result shows, and each word at the end; a state is from 1 to 5, or of such a statement. And where no thread
+/// has each value that a result shows, and each word at the end; a state is from 1 to 5, or of such a statement. And if no thread
 /// is unfinished, a channel has no more entries than calls that were handed over there and statements that made it ready. Nothing is
 /// asked of the script but that the run can be made.
 pub fn no_block_is_invented()
@@ -86,7 +86,7 @@ pub fn no_block_is_invented()
     sound_parts();
 }
 
-/// Whoever holds a world of a script may rely on rule S for each of its targets, over the script's clean marks, and on each thread's own
+/// Whoever holds a world of a script may rely on rule S for each of its targets, over the script's clean channels, and on each thread's own
 /// replies, without knowing which steps led to it. The strings of the script's calls are made of units, as they are in every script
 /// in memory.
 pub fn worlds_of_scripts_keep_rule()

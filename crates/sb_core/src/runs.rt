@@ -1,20 +1,24 @@
 // A whole run of a script by a schedule.
-ghost use Rattle.std.specs.Prelude.{◌≡◌, ◌≤◌, IfOk};
+ghost use Rattle.std.specs.Prelude.{◌≡◌, ◌≤◌, true, IfOk};
+ghost use Rattle.std.specs.List.{list_all};
 ghost use Rattle.sb_book.specs.Histories.{JudgesBy, setting_of};
 ghost use Rattle.sb_book.specs.Reports.{result_count};
 ghost use Rattle.sb_core.specs.Kept.{IsRunning};
+ghost use Rattle.sb_kernel.specs.Openings.{opening};
+ghost use Rattle.sb_statements.specs.Actors.{is_step_there};
 ghost use Rattle.sb_core.specs.Reports.{report_of, results_of};
-ghost use Rattle.sb_core.specs.Runs.{CanRun, ended_from, ran, most_results};
+ghost use Rattle.sb_core.specs.Runs.{ended_from, ran, most_results};
 
 use crate::actors::round_actors;
 use crate::lists::{results_from, words_into};
 use crate::rounds::{make_rounds, make_steps};
 use crate::shared::Shared;
 use crate::worlds::World;
-use sb_book::{Report, Results};
+use sb_book::{ReadyScript, Report, Results};
 use sb_items::NoMemory;
-use sb_rule::{Judge, Policies};
-use sb_statements::{Schedule, Script, sound_parts};
+use sb_kernel::Kernel;
+use sb_rule::Judge;
+use sb_statements::{Schedule, SoundScript, sound_parts};
 use std::alloc::Global;
 
 /// What a run gives.
@@ -29,7 +33,7 @@ pub struct Ran {
 /// The report of what all share, with these results.
 ///
 /// # Errors
-/// `NoMemory` where there was none for a list of the words of targets.
+/// `NoMemory` if there was none for a list of the words of targets.
 pub(crate) fn report_of(alloc: Global, shared: Shared, results: Results) -> Result<Report, NoMemory>
     ensures { IfOk result (λ r. r ≡ report_of shared results) }
 {
@@ -57,9 +61,14 @@ fn world_report(alloc: Global, world: World) -> Result<Report, NoMemory>
     report_of(alloc, shared, results)
 }
 
-// Drains the world where every thread is finished, and reports.
+// Drains the world if every thread is finished, and reports.
 #[tactic(auto, using(crate::proofs::Draining::drained_threads, crate::proofs::Draining::few_results))]
-fn ended<J: Judge>(alloc: Global, judge: &J, script: &Script, world: World) -> Result<Ran, NoMemory>
+fn ended<J: Judge>(
+    alloc: Global,
+    judge: &J,
+    script: &SoundScript,
+    world: World,
+) -> Result<Ran, NoMemory>
     requires judge { JudgesBy (J.policies judge.now) world.shared.book }
     requires running { IsRunning script.now world }
     ensures value { IfOk result (λ r. r ≡ ended_from script.now world) }
@@ -80,25 +89,27 @@ fn ended<J: Judge>(alloc: Global, judge: &J, script: &Script, world: World) -> R
     })
 }
 
-/// Runs a script by a schedule: its steps in turn, then rounds while a thread is unfinished and rounds are left, and then the drain
-/// where every thread is finished. The script is ready for the policies, it has each actor of the schedule, and the judge judges its
-/// targets by their policies.
+/// Runs a ready script by a schedule, from the namespace that it opens with: the steps in turn, then rounds while a thread is
+/// unfinished and rounds are left, and then the drain if every thread is finished. The script has each actor of the schedule, and the
+/// judge judges its targets by their policies.
 ///
 /// # Errors
-/// `NoMemory` where there was none for the run.
+/// `NoMemory` if there was none for the run.
 pub fn run<J: Judge>(
     alloc: Global,
     judge: &J,
-    policies: &Policies,
-    script: &Script,
+    ready: &ReadyScript,
+    kernel: Kernel,
     schedule: &Schedule,
 ) -> Result<Ran, NoMemory>
-    requires runs { CanRun policies.now.list script.now schedule.now }
-    requires judge { J.policies judge.now ≡ (setting_of policies.now.list script.now).policies }
-    ensures value { IfOk result (λ r. r ≡ ran policies.now.list script.now schedule.now) }
+    requires opens { kernel ≡ opening ready.now.script.start }
+    requires there { list_all (is_step_there ready.now.script.targets) schedule.now.steps ≡ true }
+    requires judge { J.policies judge.now ≡ (setting_of ready.now.policies ready.now.script).policies }
+    ensures value { IfOk result (λ r. r ≡ ran ready.now.policies ready.now.script schedule.now) }
     ensures few { IfOk result (λ r. result_count r.report.results ≤ most_results) }
 {
-    let mut world = World::start(alloc, policies, script)?;
+    let script = ready.script();
+    let mut world = World::start(alloc, ready, kernel)?;
     let actors = round_actors(alloc, script)?;
     make_steps(alloc, judge, script, &mut world, schedule.steps.as_slice())?;
     make_rounds(alloc, judge, script, &mut world, &actors, schedule.rounds)?;

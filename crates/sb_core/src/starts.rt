@@ -1,6 +1,5 @@
 // The world before the first step.
 ghost use Rattle.std.specs.Prelude.{◌≡◌, length, true, IfOk};
-ghost use Rattle.sb_statements.specs.Soundness.{is_sound};
 ghost use Rattle.sb_core.specs.Worlds.{first_words, first_workers, start_threads};
 
 use crate::counts::{channel_count, target_count};
@@ -8,13 +7,13 @@ use crate::threads::TargetThreads;
 use crate::words::TargetWords;
 use sb_actor::WorkerState;
 use sb_items::NoMemory;
-use sb_statements::{Script, TargetScript, clean_marks};
+use sb_statements::{SoundScript, TargetScript, clean_table};
 use std::alloc::Global;
 
 /// The channel words of each target: all channels are free.
 ///
 /// # Errors
-/// `NoMemory` where there was none for the words.
+/// `NoMemory` if there was none for the words.
 pub(crate) fn first_words(
     alloc: Global,
     targets: &[TargetScript],
@@ -31,10 +30,12 @@ pub(crate) fn first_words(
 /// The worker of each target: it looks at channel 0.
 ///
 /// # Errors
-/// `NoMemory` where there was none for the workers.
+/// `NoMemory` if there was none for the workers.
 #[tactic(auto, using(crate::proofs::Counting::workers_more))]
-pub(crate) fn first_workers(alloc: Global, script: &Script) -> Result<Vec<WorkerState>, NoMemory>
-    requires { is_sound script.now ≡ true }
+pub(crate) fn first_workers(
+    alloc: Global,
+    script: &SoundScript,
+) -> Result<Vec<WorkerState>, NoMemory>
     ensures { IfOk result (λ workers. workers.items ≡ first_workers script.now.targets (length script.now.targets)) }
 {
     let mut workers = Vec::new(alloc);
@@ -47,16 +48,18 @@ pub(crate) fn first_workers(alloc: Global, script: &Script) -> Result<Vec<Worker
 /// The threads of each target at their first statements.
 ///
 /// # Errors
-/// `NoMemory` where there was none for the threads and their results.
+/// `NoMemory` if there was none for the threads and their results.
 #[tactic(auto, using(crate::proofs::Counting::threads_more))]
-pub(crate) fn first_threads(alloc: Global, script: &Script) -> Result<Vec<TargetThreads>, NoMemory>
-    requires { is_sound script.now ≡ true }
+pub(crate) fn first_threads(
+    alloc: Global,
+    script: &SoundScript,
+) -> Result<Vec<TargetThreads>, NoMemory>
     ensures { IfOk result (λ threads. threads.items ≡ start_threads script.now (length script.now.targets)) }
 {
-    let marks = clean_marks(script);
+    let table = clean_table(script);
     let mut threads = Vec::new(alloc);
     for target in 0..target_count(script) {
-        threads.push(TargetThreads::new(alloc, script, &marks, target)?)?;
+        threads.push(TargetThreads::new(alloc, script, &table, target)?)?;
     }
     Ok(threads)
 }

@@ -1,8 +1,7 @@
 // The threads of a target, each with the results of its statements that ended.
 ghost use Rattle.std.specs.Prelude.{◌≡◌, ◌<◌, length, true, map, slice_get, slice_index_or, slice_set, IfOk};
 ghost use Rattle.sb_actor.specs.ThreadTable.{thread_plan};
-ghost use Rattle.sb_statements.specs.CleanMarks.{AreCleanMarks};
-ghost use Rattle.sb_statements.specs.Soundness.{is_sound};
+ghost use Rattle.sb_statements.specs.CleanTables.{IsCleanTable};
 ghost use Rattle.sb_statements.specs.Actors.{thread_count};
 ghost use Rattle.sb_core.specs.Shared.{IsActThere};
 ghost use Rattle.sb_core.specs.Threads.{HasRoom, no_run, thread_step, unfinished_of};
@@ -13,7 +12,7 @@ use crate::shared::Shared;
 use sb_actor::ThreadState;
 use sb_book::{TargetResults, ThreadResults};
 use sb_items::NoMemory;
-use sb_statements::{CleanMarks, MOST_STATEMENTS, Script, StmtResult};
+use sb_statements::{CleanTable, MOST_STATEMENTS, SoundScript, StmtResult};
 use std::alloc::Global;
 use std::marker::Model;
 
@@ -40,29 +39,27 @@ impl ThreadRun {
     /// A thread before its first step, with room for the results of as many statements as a thread may have.
     ///
     /// # Errors
-    /// `NoMemory` where there was none for the results.
+    /// `NoMemory` if there was none for the results.
     pub(crate) fn new(
         alloc: Global,
-        script: &Script,
-        marks: &CleanMarks,
+        script: &SoundScript,
+        table: &CleanTable,
         target: u32,
         thread: u32,
     ) -> Result<ThreadRun, NoMemory>
-        requires sound { is_sound script.now ≡ true }
-        requires marks { AreCleanMarks script.now marks.now }
+        requires table { IsCleanTable script.now table.now }
         requires there { target < length script.now.targets }
         ensures { IfOk result (λ x. x ≡ first_run script.now target thread) }
     {
         Ok(ThreadRun {
-            state: ThreadState::with_marks(script, marks, target, thread),
+            state: ThreadState::with_table(script, table, target, thread),
             results: Vec::with_capacity(alloc, MOST_STATEMENTS)?,
         })
     }
 
-    /// One step. It takes no memory.
+    /// One step. Does not allocate.
     #[inline(always)]
-    pub(crate) fn step(&mut self, script: &Script, shared: &mut Shared)
-        requires sound { is_sound script.now ≡ true }
+    pub(crate) fn step(&mut self, script: &SoundScript, shared: &mut Shared)
         requires there { IsActThere shared.old.words (thread_plan script.now self.old.thread) }
         requires room { HasRoom script.now shared.old self.old }
         ensures run { self.new ≡ (thread_step script.now shared.old self.old).run }
@@ -81,7 +78,7 @@ impl ThreadRun {
         &self.state
     }
 
-    /// The results. It takes no memory.
+    /// The results. Does not allocate.
     pub(crate) fn into_results(self) -> ThreadResults
         ensures { result ≡ self.results }
     {
@@ -108,31 +105,29 @@ impl TargetThreads {
     /// The threads of a target before their first step.
     ///
     /// # Errors
-    /// `NoMemory` where there was none for the threads and their results.
+    /// `NoMemory` if there was none for the threads and their results.
     #[tactic(auto, using(crate::proofs::Counting::runs_more))]
     pub(crate) fn new(
         alloc: Global,
-        script: &Script,
-        marks: &CleanMarks,
+        script: &SoundScript,
+        table: &CleanTable,
         target: u32,
     ) -> Result<TargetThreads, NoMemory>
-        requires sound { is_sound script.now ≡ true }
-        requires marks { AreCleanMarks script.now marks.now }
+        requires table { IsCleanTable script.now table.now }
         requires there { target < length script.now.targets }
         ensures { IfOk result (λ t. t ≡ first_runs script.now target (thread_count (slice_get script.now.targets target))) }
     {
         let mut runs = Vec::new(alloc);
         for thread in 0..thread_count(script, target) {
-            runs.push(ThreadRun::new(alloc, script, marks, target, thread)?)?;
+            runs.push(ThreadRun::new(alloc, script, table, target, thread)?)?;
         }
         Ok(TargetThreads { runs })
     }
 
-    /// One step of a thread that is there. It takes no memory.
+    /// One step of a thread that is there. Does not allocate.
     #[inline(always)]
     #[tactic(auto, using(crate::proofs::Sets::at_place))]
-    pub(crate) fn step(&mut self, script: &Script, thread: u32, shared: &mut Shared)
-        requires sound { is_sound script.now ≡ true }
+    pub(crate) fn step(&mut self, script: &SoundScript, thread: u32, shared: &mut Shared)
         requires thread { thread < length self.old }
         requires there { IsActThere shared.old.words (thread_plan script.now (slice_index_or self.old thread no_run).thread) }
         requires room { HasRoom script.now shared.old (slice_index_or self.old thread no_run) }
@@ -143,7 +138,7 @@ impl TargetThreads {
     }
 
     /// The first thread with a statement that has not ended, as target and thread.
-    pub(crate) fn unfinished(&self, script: &Script) -> Option<(u32, u32)>
+    pub(crate) fn unfinished(&self, script: &SoundScript) -> Option<(u32, u32)>
         ensures { result ≡ unfinished_of script.now self.now }
     {
         let mut rest = self.runs.as_slice();
@@ -160,7 +155,7 @@ impl TargetThreads {
     /// The results of the threads.
     ///
     /// # Errors
-    /// `NoMemory` where there was none for the list.
+    /// `NoMemory` if there was none for the list.
     pub(crate) fn into_results(self, alloc: Global) -> Result<TargetResults, NoMemory>
         ensures { IfOk result (λ r. r ≡ map (λ x. x.results) self) }
     {

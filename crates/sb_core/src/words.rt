@@ -50,7 +50,7 @@ impl TargetWords {
     /// The words of this many free channels.
     ///
     /// # Errors
-    /// `NoMemory` where there was none for the words.
+    /// `NoMemory` if there was none for the words.
     #[tactic(auto, using(crate::proofs::Counting::channels_more))]
     pub(crate) fn free(alloc: Global, channels: u32) -> Result<TargetWords, NoMemory>
         ensures { IfOk result (λ t. t ≡ free_channels channels) }
@@ -63,7 +63,7 @@ impl TargetWords {
         Ok(TargetWords { words })
     }
 
-    /// The words of a list. It takes no memory.
+    /// The words of a list. Does not allocate.
     pub(crate) fn new(words: Items<u64>) -> TargetWords
         ensures { result ≡ words }
     {
@@ -72,7 +72,7 @@ impl TargetWords {
         }
     }
 
-    /// The words as a list. It takes no memory.
+    /// The words as a list. Does not allocate.
     pub(crate) fn into_list(self) -> Items<u64>
         ensures { result ≡ self }
     {

@@ -1,9 +1,9 @@
 // The world, and its steps.
 ghost use Rattle.std.specs.Prelude.{◌≡◌, ◌<◌, ◌≤◌, length, true, IfOk, OnOk, OnErr};
 ghost use Rattle.sb_actor.specs.WorkerTable.{worker_plan};
-ghost use Rattle.sb_actor.specs.declared.acts.Act.TheVariants.{Mark};
+ghost use Rattle.sb_actor.specs.declared.acts.Act.TheVariants.{Answer};
 ghost use Rattle.sb_book.specs.Histories.{JudgesBy};
-ghost use Rattle.sb_book.specs.Readiness.{is_ready};
+ghost use Rattle.sb_kernel.specs.Openings.{opening};
 ghost use Rattle.sb_statements.specs.declared.schedules.Actor.TheVariants.{Thread};
 ghost use Rattle.sb_statements.specs.Actors.{is_there};
 ghost use Rattle.sb_core.specs.Changes.{plan_of};
@@ -18,17 +18,18 @@ use crate::shared::Shared;
 use crate::starts::{first_threads, first_words, first_workers};
 use crate::threads::TargetThreads;
 use sb_actor::WorkerState;
-use sb_book::Book;
+use sb_book::{Book, ReadyScript};
 use sb_items::NoMemory;
-use sb_rule::{Judge, Policies};
-use sb_statements::{Actor, Script, sound_parts};
+use sb_kernel::Kernel;
+use sb_rule::Judge;
+use sb_statements::{Actor, SoundScript, sound_parts};
 use std::alloc::Global;
 use std::marker::Model;
 
 /// The channel words, the holder of the turn and the book, which all actors share; the worker of each target; and its threads with
 /// their results. Every number in it is in its range, each thread has one result for each statement that ended, and the turn is with a
-/// worker exactly while that is at Mark or Give. A world that was started with a script stays one of it under its steps and drains, and
-/// so keeps rule S for each target where the strings of the script's calls are made of units (`worlds_of_scripts_keep_rule`).
+/// worker exactly while that is at Answer or Give. A world that was started with a script stays one of it under its steps and drains, and
+/// so keeps rule S for each target if the strings of the script's calls are made of units (`worlds_of_scripts_keep_rule`).
 #[derive(Drop)]
 pub struct World {
     pub(crate) shared: Shared,
@@ -49,22 +50,24 @@ impl Model for World {
 
 impl World {
     /// The world before the first step: each channel is free, nobody has the turn, and the namespace is the one that the script opens
-    /// with. The script is ready for the policies.
+    /// with.
     ///
     /// # Errors
-    /// `NoMemory` where there was none for the words, the actors, the results or the book.
+    /// `NoMemory` if there was none for the words, the actors or the results.
     #[tactic(auto, using(crate::proofs::Starting::starts_world, crate::proofs::Starting::starts_running, crate::proofs::Belonging::of_start))]
-    pub fn start(alloc: Global, policies: &Policies, script: &Script) -> Result<World, NoMemory>
-        requires { is_ready policies.now.list script.now ≡ true }
-        ensures value { IfOk result (λ world. world ≡ start_world policies.now.list script.now) }
-        ensures running { IfOk result (λ world. IsRunning script.now world) }
-        ensures of_script { IfOk result (λ world. IsOfScript script.now world) }
+    pub fn start(alloc: Global, ready: &ReadyScript, kernel: Kernel) -> Result<World, NoMemory>
+        requires opens { kernel ≡ opening ready.now.script.start }
+        ensures value { IfOk result (λ world. world ≡ start_world ready.now.policies ready.now.script) }
+        ensures running { IfOk result (λ world. IsRunning ready.now.script world) }
+        ensures of_script { IfOk result (λ world. IsOfScript ready.now.script world) }
     {
         sound_parts();
+        ready.establish_ready();
+        let script = ready.script();
         let shared = Shared {
             words: first_words(alloc, script.targets.as_slice())?,
             turn: None,
-            book: Book::new(alloc, policies, script)?,
+            book: Book::new(alloc, ready, kernel),
         };
         Ok(World {
             shared,
@@ -94,7 +97,7 @@ impl World {
         requires target { target < length self.old.workers }
         ensures ok { OnOk result (self.new ≡ worker_step self.old target) }
         ensures err { OnErr result (self.new ≡ self.old) }
-        ensures cause { OnErr result (worker_plan (worker_at self.old target) ≡ Mark) }
+        ensures cause { OnErr result (worker_plan (worker_at self.old target) ≡ Answer) }
         ensures setting { self.new.shared.book.setting ≡ self.old.shared.book.setting }
         ensures workers { length self.new.workers ≡ length self.old.workers }
     {
@@ -104,10 +107,10 @@ impl World {
         Ok(())
     }
 
-    // One step of a thread of a target. It takes no memory.
+    // One step of a thread of a target. Does not allocate.
     #[inline(always)]
     #[tactic(auto, using(crate::proofs::There::thread_there, crate::proofs::ThreadKeeping::thread_keeps))]
-    fn thread_step(&mut self, script: &Script, target: u32, thread: u32)
+    fn thread_step(&mut self, script: &SoundScript, target: u32, thread: u32)
         requires running { IsRunning script.now self.old }
         requires there { is_there script.now.targets (Thread target thread) ≡ true }
         ensures value { self.new ≡ step script.now self.old (Thread target thread) }
@@ -121,14 +124,14 @@ impl World {
     /// one with which the world was started, and the judge judges its targets by their policies. After an error the world is as it was.
     ///
     /// # Errors
-    /// `NoMemory` where a worker is at Mark and there was none for the call's strings, for the entry, or for what the call makes.
+    /// `NoMemory` if a worker is at Answer and there was none for the call's strings, for the entry, or for what the call makes.
     #[inline(always)]
     #[tactic(auto, using(crate::proofs::Running::step_keeps, crate::proofs::Belonging::of_step))]
     pub fn step<J: Judge>(
         &mut self,
         alloc: Global,
         judge: &J,
-        script: &Script,
+        script: &SoundScript,
         actor: Actor,
     ) -> Result<(), NoMemory>
         requires judge { JudgesBy (J.policies judge.now) self.old.shared.book }
@@ -136,7 +139,7 @@ impl World {
         requires there { is_there script.now.targets actor ≡ true }
         ensures ok { OnOk result (self.new ≡ step script.now self.old actor) }
         ensures err { OnErr result (self.new ≡ self.old) }
-        ensures cause { OnErr result (plan_of script.now self.old actor ≡ Mark) }
+        ensures cause { OnErr result (plan_of script.now self.old actor ≡ Answer) }
         ensures running { IsRunning script.now self.new }
         ensures of_script { IsOfScript script.now self.old → IsOfScript script.now self.new }
         ensures setting { self.new.shared.book.setting ≡ self.old.shared.book.setting }
@@ -151,7 +154,7 @@ impl World {
     }
 
     /// The first thread with a statement that has not ended, as target and thread, numbered from 0.
-    pub(crate) fn unfinished(&self, script: &Script) -> Option<(u32, u32)>
+    pub(crate) fn unfinished(&self, script: &SoundScript) -> Option<(u32, u32)>
         ensures { result ≡ first_unfinished script.now self.now.threads }
     {
         let mut rest = self.threads.as_slice();
@@ -165,7 +168,7 @@ impl World {
     }
 
     /// Whether each statement of each thread has ended.
-    pub(crate) fn all_finished(&self, script: &Script) -> bool
+    pub(crate) fn all_finished(&self, script: &SoundScript) -> bool
         ensures { result ≡ all_finished script.now self.now }
     {
         self.unfinished(script).is_none()
@@ -184,12 +187,12 @@ impl World {
     /// beginning of the drain.
     ///
     /// # Errors
-    /// `NoMemory` where there was none for a step.
+    /// `NoMemory` if there was none for a step.
     pub fn drain<J: Judge>(
         &mut self,
         alloc: Global,
         judge: &J,
-        script: &Script,
+        script: &SoundScript,
     ) -> Result<(), NoMemory>
         requires judge { JudgesBy (J.policies judge.now) self.old.shared.book }
         requires running { IsRunning script.now self.old }

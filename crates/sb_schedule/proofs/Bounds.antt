@@ -25,8 +25,9 @@ use Rattle.sb_statements.specs.declared.scripts.TargetScript.{TargetScript}
 use Rattle.sb_text.specs.Lines.{NumberedLine, raw_lines, lines_of}
 use Rattle.sb_text.specs.Numbers.{number_of}
 use Rattle.sb_text.specs.Readings.{on_line, read_lines, read_below, read_by}
-use Rattle.sb_text.specs.Steps.{◌>>=◌, or_fault, Gives}
-use Rattle.sb_text.specs.declared.refusals.Refused.{Refused}
+use Rattle.sb_items.specs.Refusals.{Gives}
+use Rattle.sb_text.specs.Steps.{◌>>=◌, or_fault}
+use Rattle.sb_items.specs.declared.refusals.Refused.{Refused}
 use Rattle.sb_text.specs.Words.{words_of}
 
 on_this : {A : Type 0} (line : ℕ) (read : Result A ScheduleKind) (x : A) → on_line line read ≡ Ok x → read ≡ Ok x

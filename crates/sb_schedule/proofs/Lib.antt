@@ -6,4 +6,5 @@ pub mod Passing
 pub mod Printed
 pub mod PrintedActors
 pub mod PrintedLines
+pub mod Sizes
 pub mod Texts

@@ -93,7 +93,7 @@ step_plain law s made most = and_true _ _ (actor_plain law s.0 (both _ _ made).0
 rounds_plain : DecimalsAreRead → (n : ℕ) → n ≤ 20000000 → is_plain_line (rounds_words n) ≡ true
 rounds_plain law n most = and_true _ _ (decimal_plain law n (omega (arith, most))) refl
 
--- a line is read, and then those behind it
+-- a line is read, and then those after it
 line_read : Laws → (targets : List TargetScript) (draft more : Drafted) (n : ℕ) (words : List (List ℕ)) (lines : List (List (List ℕ))) → is_plain_line words ≡ true
     → line_of targets draft words ≡ Ok more → read_lines (add_line targets) draft (numbered n (words ∷ lines)) ≡ read_lines (add_line targets) more (numbered (n + 1) lines)
 unfolding read_lines
@@ -101,7 +101,7 @@ line_read laws targets draft more n words lines p e =
     ap (λ (words : List (List ℕ)). on_line n (line_of targets draft words) >>= λ more. read_lines (add_line targets) more (numbered (n + 1) lines)) (laws.words words p)
     ∙ ap (λ (r : Result Drafted ScheduleKind). on_line n r >>= λ more. read_lines (add_line targets) more (numbered (n + 1) lines)) e
 
--- the steps of a schedule, behind those that were read
+-- the steps of a schedule, after those that were read
 steps_read : Laws → (targets : List TargetScript) (done : List (Actor × ℕ)) (n : ℕ) (steps : List (Actor × ℕ)) (lines : List (List (List ℕ)))
     → list_all (is_step_there targets) steps ≡ true → list_all is_made steps ≡ true → step_count done + step_count steps ≤ 100000
     → read_lines (add_line targets) (drafted done) (numbered n (map step_words steps ++ lines))
@@ -162,14 +162,14 @@ each_there : (targets : List TargetScript) (actors : List Actor) → list_all (i
 each_there targets [] h = refl
 each_there targets (actor ∷ actors) h = and_true _ _ (both _ _ h).0 (each_there targets actors (both _ _ h).1)
 
-each_made : (actors : List Actor) → list_all is_actor_of_values actors ≡ true → list_all is_made (one_each actors) ≡ true
+pub each_made : (actors : List Actor) → list_all is_actor_of_values actors ≡ true → list_all is_made (one_each actors) ≡ true
 each_made [] h = refl
 each_made (actor ∷ actors) h = and_true _ _ (and_true (is_actor_of_values actor) (nat_le 1 1) (both _ _ h).0 refl) (each_made actors (both _ _ h).1)
 
 one_more_step : (n : ℕ) → 1 + n ≡ suc n
 one_more_step n = omega arith
 
-as_many : (actors : List Actor) → step_count (one_each actors) ≡ length actors
+pub as_many : (actors : List Actor) → step_count (one_each actors) ≡ length actors
 as_many [] = omega arith
 as_many (actor ∷ actors) =
     sum_by-cons (λ (s : Actor × ℕ). s.1) (actor, 1) (one_each actors) ∙ ap (λ n. 1 + n) (as_many actors) ∙ one_more_step (length actors)

@@ -74,7 +74,7 @@ ranged lo hi number = elim number [ None ↦ Err BadNumber | Some n ↦ if nat_l
 pub within_back : DecimalsAreRead → (lo hi n : ℕ) → n < 2 ^ 64 → (nat_le lo n && nat_le n hi) ≡ true → within lo hi (decimal n) ≡ Ok n
 within_back law lo hi n small h = ap (ranged lo hi) (law n small).1 ∙ ap {B = Result ℕ ScheduleKind} (λ t. cond t (Ok n) (Err BadNumber)) h
 
--- what stands before and behind a dot
+-- what stands before and after a dot
 
 one_more : (n : ℕ) → 1 + n ≡ suc n
 one_more n = omega arith

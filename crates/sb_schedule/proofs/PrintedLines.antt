@@ -8,7 +8,7 @@ use Rattle.sb_text.specs.Tokens.{Lexeme, Word}
 use Rattle.sb_schedule.specs.Printing.{line_text}
 use Rattle.sb_schedule.proofs.Conjunctions.{both, and_true}
 
--- a word of printable ASCII behind `#`
+-- a word of printable ASCII after `#`
 abbrev pub is_plain : List ℕ → Bool
 is_plain w = plain.is_plain (Word w)
 

@@ -8,7 +8,7 @@ use Rattle.sb_statements.specs.declared.schedules.Actor.{Actor}
 use Rattle.sb_statements.specs.declared.schedules.Schedule.{Schedule}
 use Rattle.sb_text.specs.declared.refusals.LineFault.{LineFault}
 
--- the steps so far, and the rounds where a line told them
+-- the steps so far, and the rounds if a line told them
 pub record Drafted : Type 0 where
   pub steps : List (Actor × ℕ)
   pub rounds : Option ℕ
@@ -25,7 +25,7 @@ nothing = record { steps = []; rounds = None }
 abbrev pub has_rounds : Drafted → Bool
 has_rounds draft = elim draft.rounds [ None ↦ false | Some n ↦ true ]
 
--- an actor makes steps, where there are not too many
+-- an actor makes steps, if there are not too many
 abbrev pub with_step : Drafted → Actor × ℕ → Result Drafted ScheduleKind
 with_step draft step =
     if nat_le (step_count draft.steps + step.1) most_steps then Ok (record draft { steps = draft.steps ++ step ∷ [] })
@@ -35,7 +35,7 @@ with_step draft step =
 abbrev pub with_rounds : Drafted → ℕ → Drafted
 with_rounds draft rounds = record draft { rounds = Some rounds }
 
--- the schedule that was read of a text of this many lines; where no line told the rounds, they are missing on the last
+-- the schedule that was read of a text of this many lines; if no line told the rounds, they are missing on the last
 abbrev pub finished : ℕ → Drafted → Result Schedule (LineFault ScheduleKind)
 finished lines draft = elim draft.rounds [
   | None ↦ Err (record { line = lines; kind = NoRounds })

@@ -40,7 +40,7 @@ FirstFaultsStay = (targets : List TargetScript) (front rest other : List ℕ) (f
     → is_some_line (lines_of (ended front)) ≡ true → fault.line ≤ length (raw_lines (ended front)) → is_known_last fault.kind ≡ false
     → reading targets (ended front ++ rest) ≡ Err fault → reading targets (ended front ++ other) ≡ Err fault
 
--- where `rounds` is not missing, a line that is skipped may be put in anywhere below the first that is not, and changes nothing but
+-- if `rounds` is not missing, a line that is skipped may be put in anywhere below the first that is not, and changes nothing but
 -- numbers of lines
 abbrev pub SkippedLinesCountAlone : Type 0
 SkippedLinesCountAlone = (targets : List TargetScript) (front line rest : List ℕ) → is_line line ≡ true → is_skipped (without_cr line) ≡ true

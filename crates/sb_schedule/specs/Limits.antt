@@ -8,3 +8,7 @@ most_steps = 100000
 -- the most rounds
 abbrev pub most_rounds : ℕ
 most_rounds = 20000000
+
+-- the most bytes of a text that is read from a file
+abbrev pub most_bytes : ℕ
+most_bytes = 4194304

@@ -20,17 +20,17 @@ abbrev pub no_more : List (List ℕ) → Result ⊤ ScheduleKind
 no_more [] = Ok tt
 no_more (word ∷ words) = Err UnknownWord
 
--- how many steps, behind the actor: one where the line does not say
+-- how many steps, after the actor: one if the line does not say
 abbrev pub count_at : List (List ℕ) → Result ℕ ScheduleKind
 count_at [] = Ok 1
 count_at (word ∷ words) = within 1 most_steps word >>= λ n. no_more words >>= λ end. Ok n
 
--- `step ACTOR` or `step ACTOR N`, behind its first word
+-- `step ACTOR` or `step ACTOR N`, after its first word
 abbrev pub step : List TargetScript → List (List ℕ) → Result (Actor × ℕ) ScheduleKind
 step targets [] = Err UnknownWord
 step targets (word ∷ words) = or_fault UnknownActor (actor_of targets word) >>= λ actor. count_at words >>= λ n. Ok (actor, n)
 
--- `rounds N`, behind its first word
+-- `rounds N`, after its first word
 abbrev pub rounds : List (List ℕ) → Result ℕ ScheduleKind
 rounds [] = Err UnknownWord
 rounds (word ∷ words) = within 0 most_rounds word >>= λ n. no_more words >>= λ end. Ok n
@@ -42,7 +42,7 @@ line_by targets draft first words =
     else (if is_word (codes "rounds") first then (rounds words >>= λ n. Ok (with_rounds draft n))
     else Err UnknownWord)
 
--- a line of words; nothing stands behind `rounds`
+-- a line of words; nothing stands after `rounds`
 abbrev pub line_with : List TargetScript → Drafted → List (List ℕ) → Result Drafted ScheduleKind
 line_with targets draft [] = Err UnknownWord
 line_with targets draft (first ∷ words) = line_by targets draft first words

@@ -3,7 +3,7 @@ use Rattle.std.specs.Prelude.{◌≡◌, ◌≤◌, ℕ, true, List, length, Ok}
 use Rattle.std.specs.List.{list_all}
 use Rattle.sb_statements.specs.Actors.{is_step_there, is_there}
 use Rattle.sb_schedule.specs.Drafts.{step_count}
-use Rattle.sb_schedule.specs.Limits.{most_steps, most_rounds}
+use Rattle.sb_schedule.specs.Limits.{most_bytes, most_rounds, most_steps}
 use Rattle.sb_schedule.specs.Printing.{written, is_actor_of_values, is_made, in_order}
 use Rattle.sb_schedule.specs.ScheduleTexts.{reading}
 use Rattle.sb_statements.specs.declared.schedules.Actor.{Actor}
@@ -32,3 +32,13 @@ ActorsMakeSteps = (targets : List TargetScript) (text : List ℕ) (schedule : Sc
 abbrev pub ReadSchedulesAreReadAgain : Type 0
 ReadSchedulesAreReadAgain = (targets : List TargetScript) (text : List ℕ) (schedule : Schedule) → reading targets text ≡ Ok schedule
     → reading targets (written schedule) ≡ Ok schedule
+
+-- the text of a schedule within the limits, each of whose entries makes at least one step, has no more: it can be read from a file
+abbrev pub WrittenSchedulesAreShort : Type 0
+WrittenSchedulesAreShort = (schedule : Schedule) → list_all is_made schedule.steps ≡ true → step_count schedule.steps ≤ most_steps → schedule.rounds ≤ most_rounds
+    → length (written schedule) ≤ most_bytes
+
+-- nor has that of any order of at most 100,000 steps
+abbrev pub OrdersAreShort : Type 0
+OrdersAreShort = (actors : List Actor) (rounds : ℕ) → list_all is_actor_of_values actors ≡ true → length actors ≤ most_steps → rounds ≤ most_rounds
+    → length (written (in_order actors rounds)) ≤ most_bytes

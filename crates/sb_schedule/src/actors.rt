@@ -13,7 +13,7 @@ fn number_32(word: &[u8]) -> Option<u32>
     u32::try_from(decimal_of(word)?).ok()
 }
 
-// How many bytes stand before the first dot, all where there is none.
+// How many bytes stand before the first dot, all if there is none.
 fn dot_at(word: &[u8]) -> usize
     ensures value { result ≡ position_or_len is_dot word.now }
     ensures within { result ≤ length word.now }
@@ -23,7 +23,7 @@ fn dot_at(word: &[u8]) -> usize
         .unwrap_or(word.len())
 }
 
-// What stands behind the first dot, nothing where there is none.
+// What stands after the first dot, nothing if there is none.
 fn after_dot(word: &[u8]) -> &[u8]
     ensures { result.now ≡ after_first is_dot word.now }
 {

@@ -2,16 +2,18 @@
 ghost use Rattle.std.specs.Prelude.{◌≡◌, ◌≤◌};
 ghost use Rattle.sb_schedule.specs.Drafts.{nothing, has_rounds, with_step, with_rounds, finished};
 ghost use Rattle.sb_schedule.specs.Limits.{most_steps};
-ghost use Rattle.sb_text.specs.Steps.{Becomes, Gives};
+ghost use Rattle.sb_items.specs.Refusals.{Gives};
+ghost use Rattle.sb_text.specs.Steps.{Becomes};
 
 use crate::faults::ScheduleKind::{NoRounds, TooMany};
 use crate::faults::{LineRefused, ScheduleRefused};
 use crate::lines::MOST_STEPS;
 use sb_statements::{Actor, Schedule, Steps};
+use sb_text::on_line;
 use std::alloc::Global;
 use std::marker::Model;
 
-/// The steps so far with their number in all, and the rounds, where a line told them.
+/// The steps so far with their number in all, and the rounds, if a line told them.
 #[derive(Drop)]
 pub(crate) struct Draft {
     steps: Steps,
@@ -50,7 +52,7 @@ impl Draft {
         self.rounds.is_some()
     }
 
-    /// An actor makes steps. After an error the draft is of no more use.
+    /// An actor makes steps. After an error the draft is unspecified.
     #[tactic(auto, using(crate::proofs::Counts::one_more))]
     pub(crate) fn add_step(&mut self, actor: Actor, count: u32) -> Result<(), LineRefused>
         requires { count ≤ most_steps }
@@ -81,7 +83,7 @@ impl Draft {
                 steps: self.steps,
                 rounds,
             }),
-            None => Err(LineRefused::Fault(NoRounds).on(lines)),
+            None => Err(on_line(LineRefused::Fault(NoRounds), lines)),
         }
     }
 }

@@ -8,7 +8,7 @@ use thiserror::Error;
 /// What is wrong with a line of a schedule text.
 #[derive(Clone, Copy, Debug, Error)]
 pub enum ScheduleKind {
-    /// The first line with words is not `sandbox-schedule 1`, a line is neither `step` nor `rounds` or stands behind `rounds`, or
+    /// The first line with words is not `sandbox-schedule 1`, a line is neither `step` nor `rounds` or stands after `rounds`, or
     /// a word is missing or one too many.
     #[error("unknown, missing or extra word")]
     UnknownWord,

@@ -20,7 +20,7 @@ pub fn first_faults_stay()
 }
 
 /// A blank or comment line may be put in anywhere below the first that is neither, and changes nothing but numbers of lines, except
-/// where `rounds` is missing.
+/// if `rounds` is missing.
 pub fn skipped_lines_count_alone()
     ensures { SkippedLinesCountAlone }
 {

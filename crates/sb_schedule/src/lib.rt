@@ -14,5 +14,5 @@ mod schedule_texts;
 pub use faults::{ScheduleFault, ScheduleKind, ScheduleRefused};
 pub use laws::{first_faults_stay, read_schedules_are_bounded, skipped_lines_count_alone};
 pub use lines::{MOST_ROUNDS, MOST_STEPS};
-pub use printing_laws::written_schedules_are_read;
+pub use printing_laws::{written_schedules_are_read, written_schedules_are_short};
 pub use schedule_texts::read_schedule;

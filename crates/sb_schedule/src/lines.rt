@@ -3,7 +3,8 @@ ghost use Rattle.std.specs.Prelude.{◌≡◌, ◌≤◌, IfOk};
 ghost use Rattle.sb_schedule.specs.Drafts.{has_rounds};
 ghost use Rattle.sb_schedule.specs.Limits.{most_steps, most_rounds};
 ghost use Rattle.sb_schedule.specs.Lines.{within, no_more, count_at, step, rounds, line_by, line_of};
-ghost use Rattle.sb_text.specs.Steps.{Gives, Becomes};
+ghost use Rattle.sb_items.specs.Refusals.{Gives};
+ghost use Rattle.sb_text.specs.Steps.{Becomes};
 
 use crate::actors::actor_of;
 use crate::drafts::Draft;
@@ -39,7 +40,7 @@ fn no_more(words: &mut Words) -> Result<(), LineRefused>
     }
 }
 
-// How many steps, behind the actor: one where the line does not say.
+// How many steps, after the actor: one if the line does not say.
 fn count_at(words: &mut Words) -> Result<u32, LineRefused>
     ensures count { Gives (count_at words.old) result }
     ensures most { IfOk result (λ n. n ≤ most_steps) }
@@ -52,7 +53,7 @@ fn count_at(words: &mut Words) -> Result<u32, LineRefused>
     Ok(count)
 }
 
-// `step ACTOR` or `step ACTOR N`, behind its first word.
+// `step ACTOR` or `step ACTOR N`, after its first word.
 fn step(script: &Script, words: &mut Words) -> Result<(Actor, u32), LineRefused>
     ensures step { Gives (step script.now.targets words.old) result }
     ensures most { IfOk result (λ s. s.1 ≤ most_steps) }
@@ -65,7 +66,7 @@ fn step(script: &Script, words: &mut Words) -> Result<(Actor, u32), LineRefused>
     Ok((actor, count))
 }
 
-// `rounds N`, behind its first word.
+// `rounds N`, after its first word.
 fn rounds(words: &mut Words) -> Result<u32, LineRefused>
     ensures { Gives (rounds words.old) result }
 {
@@ -99,7 +100,7 @@ fn line_by(
     Err(LineRefused::Fault(UnknownWord))
 }
 
-/// What a line adds to what was read so far. After an error the draft is of no more use.
+/// What a line adds to what was read so far. After an error the draft is unspecified.
 #[tactic(auto, unfolding(crate::specs::Lines::line_of))]
 pub(crate) fn line_of(script: &Script, draft: &mut Draft, words: Words) -> Result<(), LineRefused>
     ensures { Becomes (line_of script.now.targets draft.old words.entry) result draft.new }

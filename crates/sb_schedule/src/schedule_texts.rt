@@ -6,7 +6,7 @@ ghost use Rattle.sb_schedule.specs.Drafts.{nothing, step_count};
 ghost use Rattle.sb_schedule.specs.Limits.{most_steps, most_rounds};
 ghost use Rattle.sb_schedule.specs.ScheduleTexts.{is_version, grammar, reading};
 ghost use Rattle.sb_schedule.specs.declared.faults.ScheduleKind.TheVariants.{UnknownWord};
-ghost use Rattle.sb_text.specs.Steps.{Gives};
+ghost use Rattle.sb_items.specs.Refusals.{Gives};
 ghost use Rattle.sb_text.specs.Words.{words_of};
 
 use crate::drafts::Draft;
@@ -79,9 +79,9 @@ impl<'a, 'b> TextGrammar<ByteLines<'b>> for ScheduleGrammar<'a> {
 /// The grammar of schedule texts is that of this project.
 ///
 /// # Errors
-/// `Fault` exactly where the text has a fault: the first one, by lines from the top and within a line from the left, except that
-/// a line with too many steps has its other faults first. Where no line tells the rounds, `NoRounds` comes on the last line.
-/// `NoMemory` where there was none for the schedule.
+/// `Fault` exactly if the text has a fault: the first one, by lines from the top and within a line from the left, except that
+/// a line with too many steps has its other faults first. If no line tells the rounds, `NoRounds` comes on the last line.
+/// `NoMemory` if there was none for the schedule.
 pub fn read_schedule(
     alloc: Global,
     text: &[u8],

@@ -4,7 +4,7 @@ use Rattle.sb_schedule.proofs.Bounds.{holds_if_read}
 use Rattle.sb_statements.specs.Actors.{is_step_there}
 use Rattle.sb_schedule.specs.Limits.{most_rounds}
 use Rattle.sb_schedule.specs.ScheduleTexts.{reading}
-use Rattle.sb_text.specs.Steps.{Gives}
+use Rattle.sb_items.specs.Refusals.{Gives}
 use Rattle.sb_schedule.proofs.schedule_texts.read_schedule.Goals as goal
 
 pub returns-clause-there : goal.returns-clause-there

@@ -1,5 +1,6 @@
-use Rattle.std.proofs.Common.{◌≡◌, None, length, rules, subst, sym}
+use Rattle.std.proofs.Common.{◌≡◌, ◌∙◌, None, ap, length, rules, subst, sym}
 use Rattle.sb_book.specs.Histories.{new_history, setting_of}
+use Rattle.sb_statements.specs.declared.scripts.Script.{Script}
 use Rattle.sb_core.specs.Kept.{IsWorld}
 use Rattle.sb_core.specs.Worlds.{WorldAt, first_words, first_workers, start_threads, start_world}
 use Rattle.sb_core.proofs.Starting.{starts_world}
@@ -7,17 +8,17 @@ use Rattle.sb_core.proofs.worlds.World.start.Goals as goal
 
 pub invariant_of-result : goal.invariant_of-result
 invariant_of-result c =
-    let policies = c.args.policies.now.list in
-    let script = c.args.script.now in
+    let policies = c.args.ready.now.policies in
+    let script = c.args.ready.now.script in
     let words : c.in_ok-first_words.field-0.items ≡ first_words script.targets = search rules in
-    let book : c.in_ok-new.field-0 ≡ new_history (setting_of policies script) = c.in_ok-new.ensures in
-    let workers : c.in_ok-first_workers.field-0.items ≡ first_workers script.targets (length script.targets) = c.in_ok-first_workers.ensures in
-    let threads : c.in_ok-first_threads.field-0.items ≡ start_threads script (length script.targets) = c.in_ok-first_threads.ensures in
+    let book : c.new.result ≡ new_history (setting_of policies script) = c.new.ensures in
+    let workers : c.in_ok-first_workers.field-0.items ≡ first_workers script.targets (length script.targets) = c.in_ok-first_workers.ensures ∙ ap (λ (z : Script). first_workers z.targets (length z.targets)) c.script-script.ensures in
+    let threads : c.in_ok-first_threads.field-0.items ≡ start_threads script (length script.targets) = c.in_ok-first_threads.ensures ∙ ap (λ (z : Script). start_threads z (length z.targets)) c.script-script.ensures in
     let made : record {
-      shared = record { words = c.in_ok-first_words.field-0.items; turn = None; book = c.in_ok-new.field-0 };
+      shared = record { words = c.in_ok-first_words.field-0.items; turn = None; book = c.new.result };
       workers = c.in_ok-first_workers.field-0.items;
       threads = c.in_ok-first_threads.field-0.items;
     } ≡ start_world policies script =
     λ i. record { shared = record { words = words i; turn = None; book = book i }; workers = workers i; threads = threads i } in
     subst (λ (world : WorldAt). IsWorld world) (sym made)
-    (starts_world c.sound_parts.ensures.targets c.sound_parts.ensures.statements policies script c.requires)
+    (starts_world c.sound_parts.ensures.targets c.sound_parts.ensures.statements policies script c.establish_ready.ensures.ready)
