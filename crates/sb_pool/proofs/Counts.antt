@@ -108,7 +108,7 @@ module _ {H : Type 0} (f : PoolView H → List ℕ) (k : ℕ) where
       omega arith
   times_in_two (u ∷ us) (suc p) (suc q) v w n e h = let s = times_in_two us p q v w (λ t. n (ap suc t)) e h in omega arith
 
-  -- where no other seat has any, this seat has all
+  -- if no other seat has any, this seat has all
   none_in : (views : List (PoolView H)) → ((i : ℕ) (u : PoolView H) → get_elem? views i ≡ raw.some u → f u ≡ []) → times_in f k views ≡ 0
   none_in [] none = refl
   none_in (u ∷ us) none =
@@ -145,7 +145,7 @@ module _ {H : Type 0} where
   outs_at (u ∷ us) zero v e = let s = ap (λ (z : PoolView H). length z.out) (raw.some-injective u v e) in omega arith
   outs_at (u ∷ us) (suc p) v e = let s = outs_at us p v e in omega arith
 
-  -- where no other seat has anything out, this seat has all that is out
+  -- if no other seat has anything out, this seat has all that is out
   none_out : (views : List (PoolView H)) → ((i : ℕ) (u : PoolView H) → get_elem? views i ≡ raw.some u → u.out ≡ []) → outs views ≡ 0
   none_out [] f = refl
   none_out (u ∷ us) f =

@@ -56,7 +56,7 @@ module _ {W H : Type 0} (number : W → ℕ) (home : W → H) where
   some_first : (slot work : Option W) (w : W) → Some slot ≡ Some (Some w) → slot ≡ Some w
   some_first slot work w e = ap (λ o. unwrap_or o work) e
 
-  -- where the places from k on hold the works of their numbers, so does the list of them
+  -- if the places from k on hold the works of their numbers, so does the list of them
   homes_from : (k : ℕ) (slots : List (Option W)) (homes : List H) → length slots ≡ length homes
       → ((n : ℕ) → n < length homes → (work : W) × (slice_get slots n ≡ Some (Some work)) × (number work ≡ k + n) × (slice_get homes n ≡ Some (home work)))
       → map home (filled slots) ≡ homes

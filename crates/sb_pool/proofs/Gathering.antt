@@ -20,7 +20,7 @@ not_zero m = by (eqb (suc m) 0) refl
     by true e = absurd (grind (arith, nat_tests, e))
     by false e = e
 
--- what holds where there was none
+-- what holds if there was none
 pub where_none : {A : Type 0} {P : Type 0} (o : Option A) → o ≡ None → IfNone o P → P
 where_none None e p = p
 where_none (Some x) e p = absurd (false≢true (ap is_some (sym e)))
@@ -111,7 +111,7 @@ module _ {W H : Type 0} (number : W → ℕ) (home : W → H) (homes : List H) w
       let o = g.out in
       omega arith
 
-  -- where as many are out as there are works, each is
+  -- if as many are out as there are works, each is
   pub all_out : (v : PoolView H) (items : List W) → IsMoment number home v items → v.live ≡ true → IsLast v → length v.out ≡ length v.homes
       → (n : ℕ) → n < length v.homes → 0 < times n v.out
   all_out v items m live last all n below =

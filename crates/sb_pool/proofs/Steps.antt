@@ -63,7 +63,7 @@ module _ {H : Type 0} where
 
   module _ (homes : List H) (desk : ℕ) (views : List (PoolView H)) (p : ℕ) (v w : PoolView H)
       (fits : (i : ℕ) (u : PoolView H) → get_elem? views i ≡ raw.some u → FitsSeat homes desk (length views) i u) where
-    -- all seats fit where the one that changed does
+    -- all seats fit if the one that changed does
     all_fit : FitsSeat homes desk (length (set views p w)) p w → (i : ℕ) (u : PoolView H) → get_elem? (set views p w) i ≡ raw.some u
         → FitsSeat homes desk (length (set views p w)) i u
     all_fit own i u e =
@@ -87,7 +87,7 @@ module _ {H : Type 0} where
         spent = λ h. absurd (true≢false (sym live ∙ h));
       })
 
-  -- where a seat is the last one, no other has anything out
+  -- if a seat is the last one, no other has anything out
   others_out : (homes : List H) (desk : ℕ) (views : List (PoolView H)) (p : ℕ) (v : PoolView H) → get_elem? views p ≡ raw.some v → v.live ≡ true → AreKept views
       → ((i : ℕ) (u : PoolView H) → get_elem? views i ≡ raw.some u → FitsSeat homes desk (length views) i u) → IsLast v
       → (i : ℕ) (u : PoolView H) → i ≢ p → get_elem? views i ≡ raw.some u → u.out ≡ []
@@ -184,7 +184,7 @@ module _ {W H : Type 0} (number : W → ℕ) (home : W → H) where
   pub looks : (p : ℕ) (v : PoolView H) → Learns (PoolRule number home) p v (IsMoment number home v)
   looks p v items views r at_p = (views, p, r, at_p)
 
-  -- where a seat is the last one, each number is in the queue or out with it
+  -- if a seat is the last one, each number is in the queue or out with it
   pub left_all : (v : PoolView H) (items : List W) → IsMoment number home v items → v.live ≡ true → IsLast v → length items + length v.out ≡ length v.homes
   left_all v items m live last =
       let r = m.2 in
@@ -383,7 +383,7 @@ module _ {W H : Type 0} (number : W → ℕ) (home : W → H) where
         let o = r.numbers k in
         omega arith
 
-    -- the rule, where the count is kept at a place that suits both and all others
+    -- the rule, if the count is kept at a place that suits both and all others
     rule_with : (desk : ℕ) → ((c : ℕ) → both.count ≡ Some c → (p ≡ desk) × (c ≡ length views))
         → ((i : ℕ) (u : PoolView H) → i ≢ p → i ≢ q → get_elem? views i ≡ raw.some u → (c : ℕ) → u.count ≡ Some c → (i ≡ desk) × (c ≡ length views))
         → PoolRule number home items last
@@ -433,7 +433,7 @@ module _ {W H : Type 0} (number : W → ℕ) (home : W → H) where
           (at_set mid q i spent_view u e);
     }
 
-    -- the count stays where it is, or comes to the seat that takes the other in
+    -- the count stays if it is, or comes to the seat that takes the other in
     rule_after : PoolRule number home items last
     rule_after = by w.count refl v.count refl
       where

@@ -20,7 +20,7 @@ module _ {W H : Type 0} where
   abbrev pub seen : PoolSeat W H → PoolView H
   seen seat = view seat.pass
 
-  -- a seat of this pool that was not taken in, and that knows a home for each number. Where it keeps count it has the rooms for all works
+  -- a seat of this pool that was not taken in, and that knows a home for each number. If it keeps count it has the rooms for all works
   abbrev pub IsSeatOf : PoolValue → PoolSeat W H → Type 0
   IsSeatOf pool seat =
       (seat.pass.table_id ≡ pool.table) × (seat.pass.me.1 ≡ []) × ((seen seat).live ≡ true) × (length (seen seat).homes ≡ pool.size)

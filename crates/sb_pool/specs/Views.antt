@@ -14,7 +14,7 @@ removed k [] = []
 removed k (x ∷ xs) = cond (x == k) xs (x ∷ removed k xs)
 
 module _ {H : Type 0} where
-  -- a seat with these homes and no number out, and with this count where it keeps one
+  -- a seat with these homes and no number out, and with this count if it keeps one
   abbrev pub fresh_view : ℕ → List H → Option ℕ → PoolView H
   fresh_view number homes count =
       record { number = number; homes = homes; out = []; taken = []; count = count; live = true }

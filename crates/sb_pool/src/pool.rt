@@ -25,7 +25,6 @@ pub struct Pool<W: Numbered> {
     alloc: Global,
 }
 
-// By hand, so that it is proved here once and not at each place that drops one.
 impl<W: Numbered> Drop for Pool<W> {
     fn drop(self) {
         let Pool { queue: _, alloc: _ } = self;
@@ -121,7 +120,7 @@ impl<W: Numbered> Pool<W> {
     /// that takes memory. It may spin, as `draw` does.
     ///
     /// # Errors
-    /// `PoolRefused` with the works where there was no memory.
+    /// `PoolRefused` with the works if there was no memory.
     pub fn new<R: Wait>(
         rt: &R,
         alloc: Global,
@@ -151,7 +150,7 @@ impl<W: Numbered> Pool<W> {
     }
 
     /// The works in the order of their numbers, each with the home that it had at `new`. Every other seat was taken in, and
-    /// no number is out. It takes no memory. It may spin, as `draw` does.
+    /// no number is out. Does not allocate. It may spin, as `draw` does.
     pub fn close<R: Wait>(self, rt: &R, seat: PoolSeat<W>) -> Vec<W>
         requires own { IsSeatOf self seat }
         requires last { IsLast (seen seat) }

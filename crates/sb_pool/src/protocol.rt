@@ -29,7 +29,7 @@ pub struct PoolView<H> {
     pub out: LinkedList<u64>,
     /// The numbers of the seats that this one took in.
     pub taken: LinkedList<u64>,
-    /// How many seats were made, where this seat keeps count.
+    /// How many seats were made, if this seat keeps count.
     pub count: Option<u64>,
     /// Whether the seat was not yet taken in by another.
     pub live: bool,

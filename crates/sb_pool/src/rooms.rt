@@ -1,5 +1,5 @@
 // The rooms of a pool: a place for each work by its number, and room for all works in order. They are taken when the pool is
-// made, so that its close takes no memory. They are with the seat that keeps count, since what all threads share holds no work.
+// made, so that its close does not allocate. They are with the seat that keeps count, since what all threads share holds no work.
 ghost use Rattle.std.specs.Prelude.{◌≡◌, ◌<◌, ◌≤◌, [], Some, length, slice_set, vec_capacity, IfOk};
 ghost use Rattle.sb_pool.specs.Rooms.{filled};
 
@@ -39,7 +39,7 @@ impl<W: Drop> Rooms<W> {
         Ok(Rooms { slots, works })
     }
 
-    /// No places. It takes no memory.
+    /// No places. Does not allocate.
     pub(crate) fn none(alloc: Global) -> Rooms<W>
         ensures { result ≡ [] }
     {

@@ -23,7 +23,6 @@ pub struct PoolSeat<W: Numbered> {
     pub(crate) rooms: Rooms<W>,
 }
 
-// By hand, so that it is proved here once and not at each place that drops one.
 impl<W: Numbered> Drop for PoolSeat<W> {
     fn drop(self) {
         let PoolSeat { pass: _, rooms: _ } = self;
@@ -99,8 +98,8 @@ impl<W: Numbered> PoolSeat<W> {
         queue.learn_as::<Draws<W>>(&mut self.pass);
     }
 
-    /// A work from the queue with its number, which is then out with this seat, or `None` where the queue was empty at one
-    /// moment of the call. The work has the home that the work of this number had at `Pool::new`. It takes no memory. It may
+    /// A work from the queue with its number, which is then out with this seat, or `None` if the queue was empty at one
+    /// moment of the call. The work has the home that the work of this number had at `Pool::new`. Does not allocate. It may
     /// spin while another seat is within its step.
     pub fn draw<R: Wait>(&mut self, rt: &R, pool: &Pool<W>) -> Option<(u32, W)>
         requires own { IsSeatOf pool.now self.old }
@@ -114,7 +113,7 @@ impl<W: Numbered> PoolSeat<W> {
         Some((work.number(), work))
     }
 
-    /// Puts a work whose number is out with this seat back into the queue. It takes no memory, since the queue has room for
+    /// Puts a work whose number is out with this seat back into the queue. It does not allocate, since the queue has room for
     /// all works. It may spin while another seat is within its step.
     pub fn hand_back<R: Wait>(&mut self, rt: &R, pool: &Pool<W>, number: u32, work: W)
         requires own { IsSeatOf pool.now self.old }
@@ -130,7 +129,7 @@ impl<W: Numbered> PoolSeat<W> {
         let Ok(()) = pushed else { unreachable!() };
     }
 
-    /// Takes in another seat of the same pool, which has no number out, with all seats that it took in. It takes no memory and
+    /// Takes in another seat of the same pool, which has no number out, with all seats that it took in. It does not allocate and
     /// waits for nobody.
     pub fn join(&mut self, pool: &Pool<W>, other: PoolSeat<W>)
         requires own { IsSeatOf pool.now self.old }

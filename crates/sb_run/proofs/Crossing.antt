@@ -6,10 +6,14 @@ use Rattle.sb_run.specs.contracts.returns.ServerReturn as ServerReturn
 use Rattle.sb_run.specs.contracts.returns.ThreadReturn as ThreadReturn
 use Rattle.sb_shared.proofs.Crossing.{thread_send, worker_send}
 use Rattle.sb_statements.specs.contracts.scripts.Script as Script
+use Rattle.sb_statements.specs.contracts.sound_scripts.SoundScript as SoundScript
 use Rattle.sb_task.specs.contracts.works.Work as Work
 
-pub script_sync : IsSync Script.the_row
-script_sync = search (sendable, crosses) depth 200 fits 20000
+plain_sync : IsSync Script.the_row
+plain_sync = search (sendable, crosses) depth 200 fits 20000
+
+pub script_sync : IsSync SoundScript.the_row
+script_sync = search (plain_sync, sendable, crosses) depth 200 fits 20000
 
 pub work_send : IsSend Work.the_row
 work_send = search (worker_send, sendable, crosses) depth 40 fits 20000

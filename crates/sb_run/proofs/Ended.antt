@@ -4,7 +4,7 @@ use Rattle.std.proofs.lemmas.List.Elements.{All-cons, All-head, All-nil, All-tai
 use Rattle.std.specs.List.{All, AllZip}
 use Rattle.atomic_table.specs.Seated.{TableId}
 use Rattle.sb_actor.specs.Places.{is_finished}
-use Rattle.sb_actor.specs.WorkerStages.{WorkerAt, WorkerStage, Look, Count, End, Copy, Take, Mark, Give, Reply, Ack}
+use Rattle.sb_actor.specs.WorkerStages.{WorkerAt, WorkerStage, Look, Count, End, Copy, Take, Answer, Give, Reply, Ack}
 use Rattle.sb_actor.specs.WorkerTable.{is_looking}
 use Rattle.sb_book.specs.Readiness.{is_ready}
 use Rattle.sb_shared.specs.Closing.{AreFinished, AreWorkers, IsClosed, IsThreadSeat, IsWorkerSeat}
@@ -91,7 +91,7 @@ looks_at Count e = absurd (cc)
 looks_at (End count) e = absurd (cc)
 looks_at (Copy count end words) e = absurd (cc)
 looks_at (Take taken) e = absurd (cc)
-looks_at (Mark taken) e = absurd (cc)
+looks_at (Answer taken) e = absurd (cc)
 looks_at (Give taken reply) e = absurd (cc)
 looks_at (Reply taken reply at) e = absurd (cc)
 looks_at (Ack taken reply) e = absurd (cc)

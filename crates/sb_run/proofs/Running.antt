@@ -51,7 +51,7 @@ module _ (policies : List Policy) (script : Script) (judges : List Policy) (x : 
   }
 
   module _ (finished : List ThreadSeatValue) (back : List ServerAt) (keeper : KeeperValue) (all : AllZip HasEnded x.threads finished) (served : AllZip IsSameServer x.servers back)
-      (kept : IsKeeperOf (context_of script judges x) keeper) (ready : is_ready policies script ≡ true) where
+      (kept : IsKeeperOf (context_of script judges x) keeper) where
     pairs : AllZip HasEnded (map (fresh_thread x.world.table x.world.key) (thread_places x.world.key.script.value.targets)) finished
     pairs = subst (λ (ts : List ThreadSeatValue). AllZip HasEnded ts finished) is.its_threads all
 
@@ -60,7 +60,6 @@ module _ (policies : List Policy) (script : Script) (judges : List Policy) (x : 
 
     pub can_end : CanEnd (record { world = x.world; keeper = keeper; threads = finished; pool = x.pool; servers = back; last = x.last })
     can_end = record {
-      ready = subst (λ (z : List Policy × Script). is_ready z.0 z.1 ≡ true) (sym (λ k. (is.policies_are k, is.script_is k))) ready;
       its_keeper = (kept.own, kept.key, kept.none);
       its_threads = record {
         each = threads_own x.world (thread_places x.world.key.script.value.targets) finished pairs;

@@ -1,7 +1,6 @@
 // The end of a run: the pool and the shared world are closed, and the report is made.
 ghost use Rattle.std.specs.Prelude.{◌≡◌, [], map, true, IfOk};
 ghost use Rattle.std.specs.List.{All};
-ghost use Rattle.sb_book.specs.Readiness.{is_ready};
 ghost use Rattle.sb_core.specs.Runs.{IsSomeRun};
 ghost use Rattle.sb_run.specs.Endings.{CanEnd, HasClosed};
 ghost use Rattle.sb_run.specs.Openings.{worker_homes};
@@ -16,7 +15,7 @@ use sb_items::NoMemory;
 use sb_pool::Pool;
 use sb_rule::Judge;
 use sb_shared::{ClosedRun, Keeper, SharedWorld, ThreadSeat, WorkerSeat, closed_runs_are_runs};
-use sb_statements::Script;
+use sb_statements::SoundScript;
 use sb_task::{Server, Work};
 use std::alloc::Global;
 use std::sync::Wait;
@@ -41,7 +40,6 @@ fn close_run(
     threads: Vec<ThreadSeat>,
     works: Vec<Work>,
 ) -> Result<ClosedRun, NoMemory>
-    requires ready { is_ready world.key.policies.value.list world.key.script.value ≡ true }
     requires keeper { (keeper.table ≡ world.table) × (keeper.key ≡ world.key) × (keeper.parts ≡ []) }
     requires threads { AreThreads world threads.items }
     requires finished { AreFinished world.key threads.items }
@@ -49,6 +47,7 @@ fn close_run(
     ensures { IfOk result (λ run. HasClosed world.key run) }
 {
     closed_runs_are_runs();
+    world.establish_ready();
     let seats = seats_of(alloc, works)?;
     Ok(world.close(keeper, seats, threads))
 }
@@ -61,7 +60,7 @@ pub(crate) fn end_run<R: Wait, J: Judge>(
     rt: &R,
     alloc: Global,
     judge: &J,
-    script: &Script,
+    script: &SoundScript,
     world: SharedWorld,
     keeper: Keeper,
     threads: Vec<ThreadSeat>,

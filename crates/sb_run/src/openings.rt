@@ -2,16 +2,17 @@
 ghost use Rattle.std.specs.Prelude.{◌≡◌, ◌<◌, ◌≤◌, ◌++◌, ◌∷◌, [], true, length, map, IfOk};
 ghost use Rattle.std.specs.List.{All};
 ghost use Rattle.sb_actor.specs.WorkerTable.{is_looking};
-ghost use Rattle.sb_book.specs.Readiness.{is_ready};
+ghost use Rattle.sb_kernel.specs.Openings.{opening};
 ghost use Rattle.sb_pool.specs.Pools.{AreNumbered, AreSeats};
 ghost use Rattle.sb_run.specs.Openings.{IsOpened};
 ghost use Rattle.sb_task.specs.Works.{home_of, number_of};
 
+use sb_book::ReadyScript;
 use sb_items::NoMemory;
+use sb_kernel::Kernel;
 use sb_pool::Pool;
-use sb_rule::Policies;
 use sb_shared::{Keeper, SharedParts, SharedWorld, ThreadSeat, WorkerSeat};
-use sb_statements::Script;
+use sb_statements::SoundScript;
 use sb_task::{Server, Work};
 use std::alloc::Global;
 use std::marker::Model;
@@ -75,7 +76,7 @@ fn open_pool<R: Wait>(
 }
 
 // How many serve: no more than there are targets.
-fn server_count(script: &Script, workers: u32) -> u32
+fn server_count(script: &SoundScript, workers: u32) -> u32
     requires some { (1 ≤ workers) × (workers ≤ 8) }
     requires targets { 0 < length script.now.targets }
     ensures some { 0 < result }
@@ -89,23 +90,23 @@ fn server_count(script: &Script, workers: u32) -> u32
     }
 }
 
-/// A run of a script under its policies before its first step, with at most this number of those who serve: 1 to 8.
+/// A run of a ready script before its first step, from the namespace that it opens with, with at most this number of those who serve: 1 to 8.
 ///
 /// # Errors
 /// `NoMemory` if there is none for the shared world, the pool or the lists of seats.
 pub(crate) fn open_run<R: Wait>(
     rt: &R,
     alloc: Global,
-    policies: &Policies,
-    script: &Script,
+    ready: &ReadyScript,
+    kernel: Kernel,
     workers: u32,
 ) -> Result<Opened, NoMemory>
     requires workers { (1 ≤ workers) × (workers ≤ 8) }
-    requires ready { is_ready policies.now.list script.now ≡ true }
-    requires some { 0 < length script.now.targets }
-    ensures { IfOk result (λ x. IsOpened policies.now.list script.now x) }
+    requires opens { kernel ≡ opening ready.now.script.start }
+    requires some { 0 < length ready.now.script.targets }
+    ensures { IfOk result (λ x. IsOpened ready.now.policies ready.now.script x) }
 {
-    let parts = SharedWorld::open(alloc, policies, script)?;
+    let parts = SharedWorld::open(alloc, ready, kernel)?;
     let SharedParts {
         world,
         keeper,
@@ -113,7 +114,7 @@ pub(crate) fn open_run<R: Wait>(
         threads,
     } = parts;
     let works = works_of(alloc, seats)?;
-    let (pool, servers, last) = open_pool(rt, alloc, works, server_count(script, workers))?;
+    let (pool, servers, last) = open_pool(rt, alloc, works, server_count(ready.script(), workers))?;
     Ok(Opened {
         world,
         keeper,

@@ -23,7 +23,7 @@ fn take_seats(pool: &Pool<Work>, last: &mut Server, others: Vec<Server>)
     }
 }
 
-/// The works by number, once this seat, the last one, has taken in all others. Each is at home where it was. It allocates nothing.
+/// The works by number, once this seat, the last one, has taken in all others. Each is at home where it was. Does not allocate.
 pub(crate) fn close_pool<R: Wait>(
     rt: &R,
     pool: Pool<Work>,

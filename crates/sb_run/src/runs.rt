@@ -1,18 +1,19 @@
 // A run on real threads, from its start to its report.
 ghost use Rattle.std.specs.Prelude.{◌≡◌, ◌<◌, ◌≤◌, [], true, length, IfOk};
 ghost use Rattle.sb_book.specs.Histories.{setting_of};
-ghost use Rattle.sb_book.specs.Readiness.{is_ready};
+ghost use Rattle.sb_kernel.specs.Openings.{opening};
 ghost use Rattle.sb_core.specs.Runs.{IsSomeRun};
 
 use crate::crews::run_crew;
 use crate::endings::end_run;
 use crate::openings::{Opened, open_run};
-use sb_book::Report;
+use sb_book::{ReadyScript, Report};
 use sb_core::run;
 use sb_items::{Items, NoMemory};
+use sb_kernel::Kernel;
 use sb_outside::Gate;
-use sb_rule::{Judge, Policies};
-use sb_statements::{Schedule, Script};
+use sb_rule::Judge;
+use sb_statements::Schedule;
 use sb_task::RunContext;
 use std::alloc::Global;
 use std::sync::Wait;
@@ -32,16 +33,17 @@ fn no_steps(alloc: Global) -> Schedule
 fn run_no_target<J: Judge>(
     alloc: Global,
     judge: &J,
-    policies: &Policies,
-    script: &Script,
+    ready: &ReadyScript,
+    kernel: Kernel,
 ) -> Result<Report, NoMemory>
-    requires ready { is_ready policies.now.list script.now ≡ true }
-    requires none { length script.now.targets ≡ 0 }
-    requires judge { J.policies judge.now ≡ (setting_of policies.now.list script.now).policies }
-    ensures run { IfOk result (λ r. IsSomeRun policies.now.list script.now r) }
+    requires opens { kernel ≡ opening ready.now.script.start }
+    requires none { length ready.now.script.targets ≡ 0 }
+    requires judge { J.policies judge.now ≡ (setting_of ready.now.policies ready.now.script).policies }
+    ensures run { IfOk result (λ r. IsSomeRun ready.now.policies ready.now.script r) }
 {
+    ready.establish_ready();
     let schedule = no_steps(alloc);
-    let ran = run(alloc, judge, policies, script, &schedule)?;
+    let ran = run(alloc, judge, ready, kernel, &schedule)?;
     Ok(ran.report)
 }
 
@@ -50,18 +52,19 @@ fn run_targets<R: Threads + Wait + Sync, J: Judge, G: Gate>(
     rt: &R,
     alloc: Global,
     judge: &J,
-    policies: &Policies,
-    script: &Script,
+    ready: &ReadyScript,
+    kernel: Kernel,
     workers: u32,
     gate: &G,
 ) -> Result<Report, NoMemory>
     requires workers { (1 ≤ workers) × (workers ≤ 8) }
-    requires ready { is_ready policies.now.list script.now ≡ true }
-    requires some { 0 < length script.now.targets }
-    requires judge { J.policies judge.now ≡ (setting_of policies.now.list script.now).policies }
-    ensures run { IfOk result (λ r. IsSomeRun policies.now.list script.now r) }
+    requires opens { kernel ≡ opening ready.now.script.start }
+    requires some { 0 < length ready.now.script.targets }
+    requires judge { J.policies judge.now ≡ (setting_of ready.now.policies ready.now.script).policies }
+    ensures run { IfOk result (λ r. IsSomeRun ready.now.policies ready.now.script r) }
 {
-    let opened = open_run(rt, alloc, policies, script, workers)?;
+    let script = ready.script();
+    let opened = open_run(rt, alloc, ready, kernel, workers)?;
     let Opened {
         world,
         keeper,
@@ -84,7 +87,7 @@ fn run_targets<R: Threads + Wait + Sync, J: Judge, G: Gate>(
 }
 
 /// Runs a script on real threads: one for each thread of the script, and `workers` (1 to 8) that serve the targets in turn, but no more than there are
-/// targets. The script is ready for the policies, and the judge judges each target by the policy that it names. The report is that of the core for some
+/// targets. The kernel is the namespace that the script opens with, and the judge judges each target by the policy that it names. The report is that of the core for some
 /// order of steps in which no thread is left unfinished.
 ///
 /// A call that a worker judges passes the gate before the turn is tried; what is still ready once the threads of the script have ended is served
@@ -96,18 +99,18 @@ pub fn run_threads<R: Threads + Wait + Sync, J: Judge, G: Gate>(
     rt: &R,
     alloc: Global,
     judge: &J,
-    policies: &Policies,
-    script: &Script,
+    ready: &ReadyScript,
+    kernel: Kernel,
     workers: u32,
     gate: &G,
 ) -> Result<Report, NoMemory>
     requires workers { (1 ≤ workers) × (workers ≤ 8) }
-    requires ready { is_ready policies.now.list script.now ≡ true }
-    requires judge { J.policies judge.now ≡ (setting_of policies.now.list script.now).policies }
-    ensures run { IfOk result (λ r. IsSomeRun policies.now.list script.now r) }
+    requires opens { kernel ≡ opening ready.now.script.start }
+    requires judge { J.policies judge.now ≡ (setting_of ready.now.policies ready.now.script).policies }
+    ensures run { IfOk result (λ r. IsSomeRun ready.now.policies ready.now.script r) }
 {
-    if script.targets.len() == 0 {
-        return run_no_target(alloc, judge, policies, script);
+    if ready.script().targets.len() == 0 {
+        return run_no_target(alloc, judge, ready, kernel);
     }
-    run_targets(rt, alloc, judge, policies, script, workers, gate)
+    run_targets(rt, alloc, judge, ready, kernel, workers, gate)
 }

@@ -13,7 +13,7 @@ use sb_items::NoMemory;
 use sb_outside::Gate;
 use sb_rule::Judge;
 use sb_shared::{SharedWorld, ThreadSeat};
-use sb_statements::Script;
+use sb_statements::SoundScript;
 use sb_task::{RunContext, Server, attend, run_thread};
 use std::alloc::Global;
 use std::snapshot::Snapshot;
@@ -26,7 +26,7 @@ use std::thread::{Scope, Threads};
 fn run_or_return<R: Wait>(
     rt: &R,
     world: &SharedWorld,
-    script: &Script,
+    script: &SoundScript,
     refused: &AtomicBool,
     running: &AtomicU64,
     seat: ThreadSeat,

@@ -63,7 +63,7 @@ module _ (laws : Laws) (key : Origin) (words : List ℕ) (homes : List (raw.Opti
   pub changes : Changes who (plan_of script w who) w next
   changes = laws.change script w who r.world r.running mine.there
 
-  -- the book is with whom it was, but for the actor
+  -- the book is with whom it was, except for the actor
   abbrev pub HeldElse : Type 0
   HeldElse = (t : ℕ) → who ≢ Worker t → held_by next.shared.turn next.shared.book t ≡ held_by w.shared.turn w.shared.book t
 

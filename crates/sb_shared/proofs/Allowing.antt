@@ -6,7 +6,7 @@ use lib.ListN.{get_elem?}
 use Rattle.atomic_table.specs.Table.{State, keeps}
 use Rattle.sb_actor.specs.declared.acts.Act.{Act}
 use Rattle.sb_actor.specs.declared.acts.Act.TheVariants as act
-use Rattle.sb_actor.specs.declared.acts.Seen.TheVariants as seen
+use Rattle.sb_actor.specs.declared.acts.Observed.TheVariants as seen
 use Rattle.sb_statements.specs.declared.schedules.Actor.{Actor}
 use Rattle.sb_statements.specs.declared.statements.Word.{Word}
 use Rattle.sb_core.specs.Shared.{IsActThere, on_word}
@@ -101,6 +101,6 @@ module _ (laws : Laws) (key : Origin) (slots id : â„•) (v : View) (out : List (â
   may_step (act.Store t word x) e = may_store t word x e
   may_step (act.Exchange t word from to) e = may_exchange t word from to e
   may_step act.Take e = tt
-  may_step act.Mark e = tt
+  may_step act.Answer e = tt
   may_step act.Give e = tt
   may_step act.Idle e = tt

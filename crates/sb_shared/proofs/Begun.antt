@@ -72,7 +72,7 @@ module _ (targets : List TargetScript) (words : List ℕ) (few : length targets 
       first.1 (spot t c j) (omega arith) ∙ (λ i. is_first (channel_of t c j hc hj i) (channels_of (slice_get targets (target_of t c j hc hj i))) (word_of t c j hc hj i))
       ∙ free_at (channels_of (slice_get targets t)) c j hj ∙ ap (λ (l : List ℕ). get_or l (at c j) 0) (sym (words_at targets t))
 
-  -- a place behind the words of targets
+  -- a place after the words of targets
   pub behind_first : (place : ℕ) → place < word_count → place / 640 ≡ 8 → get_or words place 0 ≡ 0
   behind_first place below is =
       first.1 place below ∙ ap (λ (n : ℕ). is_first (place % 640 / 80) n (place % 80)) (ap (λ z. channels_of (slice_get targets z)) is ∙ none_past targets 8 few)

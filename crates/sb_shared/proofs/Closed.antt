@@ -59,7 +59,7 @@ all_at P [] n a all e = absurd cc
 all_at P (x ∷ l) zero a all e = subst P (some-injective x a e) (all 0 x (omega arith))
 all_at P (x ∷ l) (suc n) a all e = all_at P l n a (λ k d h. all (suc k) d (omega (arith, h))) e
 
--- where each thread is finished, none is the first that is not
+-- if each thread is finished, none is the first that is not
 abbrev AreOver : Script → List RunAt → Type 0
 AreOver script runs = (n : ℕ) (x : RunAt) → get_elem? runs n ≡ raw.some x → is_finished script x.thread ≡ true
 

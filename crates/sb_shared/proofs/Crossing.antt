@@ -9,6 +9,7 @@ use Rattle.sb_actor.specs.contracts.threads.ThreadState as ThreadState
 use Rattle.sb_actor.specs.contracts.workers.WorkerState as WorkerState
 use Rattle.sb_book.specs.contracts.books.Book as Book
 use Rattle.sb_book.specs.contracts.decisions.Decision as Decision
+use Rattle.sb_kernel.specs.contracts.kernels.Kernel as Kernel
 use Rattle.sb_statements.specs.contracts.results.StmtResult as StmtResult
 use Rattle.sb_shared.specs.contracts.books.BoxedBook as BoxedBook
 use Rattle.sb_shared.specs.contracts.keepers.Keeper as Keeper
@@ -19,8 +20,11 @@ use Rattle.sb_shared.specs.contracts.workers.WorkerBody as WorkerBody
 use Rattle.sb_shared.specs.contracts.workers.WorkerSeat as WorkerSeat
 use Rattle.sb_shared.specs.contracts.worlds.SharedWorld as SharedWorld
 
+kernel_send : IsSend Kernel.the_row
+kernel_send = search (BTreeMap-send, sendable, crosses) depth 40 fits 20000
+
 book_send : IsSend Book.the_row
-book_send = search (BTreeMap-send, sendable, crosses) depth 40 fits 20000
+book_send = search (kernel_send, sendable, crosses) depth 120 fits 100000
 
 boxed_send : IsSend BoxedBook.the_row
 boxed_send = search (book_send, sendable, crosses) depth 40 fits 20000

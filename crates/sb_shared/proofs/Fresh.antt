@@ -1,14 +1,15 @@
 -- Where actors stand before the first step, and the seats that know it.
-use Rattle.std.proofs.Common.{◌≡◌, ◌∙◌, refl, ap, subst, sym, ℕ, ◌<◌, true, [], ◌∷◌, length, slice_get, None, arith}
+use Rattle.std.proofs.Common.{◌≡◌, ◌∙◌, refl, ap, subst, sym, ℕ, ◌<◌, true, List, [], ◌∷◌, length, slice_get, None, arith}
 use Rattle.std.proofs.lemmas.Bool.Decides.{nat_tests}
 use Rattle.sb_actor.specs.Places.{statements_of}
 use Rattle.sb_actor.specs.WorkerStages.{WorkerAt}
-use Rattle.sb_book.specs.Readiness.{is_ready}
+use Rattle.sb_rule.specs.declared.policies.Policy.{Policy}
 use Rattle.sb_statements.specs.Actors.{is_there, thread_count}
 use Rattle.sb_statements.specs.Soundness.{SoundStatements, SoundTargets}
 use Rattle.sb_statements.specs.declared.schedules.Actor.{Actor}
 use Rattle.sb_statements.specs.declared.schedules.Actor.TheVariants.{Worker, Thread}
 use Rattle.sb_statements.specs.declared.scripts.Script.{Script}
+use Rattle.sb_book.specs.Readiness.{is_ready}
 use Rattle.sb_core.specs.Kept.{IsRunning, IsWorld}
 use Rattle.sb_core.specs.Laws.{StartsKeep}
 use Rattle.sb_core.specs.Worlds.{first_run, first_worker, first_workers, no_worker, run_at, threads_at, worker_at}
@@ -33,9 +34,23 @@ seat_of key actor = (record { key = key; parts = part_of (start_of key) actor �
 abbrev pub seat_with : KeeperValue → View
 seat_with s = record { key = s.key; parts = front s.parts; steps = 0; found = 0; stop = 0; seen = 0 }
 
-module _ (starts : StartsKeep) (key : Origin) (script : Script) (opened : IsOpenedWith key script) where
+-- a run that is opened with a ready script
+pub opened_with : SoundTargets → SoundStatements → StartsKeep → (key : Origin) (policies : List Policy) (script : Script) → key.policies.value.list ≡ policies
+    → key.script.value ≡ script → is_ready policies script ≡ true → IsOpenedWith key script
+opened_with targets statements starts key policies script e f ready =
+    let back : (policies, script) ≡ (key.policies.value.list, key.script.value) = λ i. (sym e i, sym f i) in
+    let its : is_ready key.policies.value.list key.script.value ≡ true = subst (λ (z : List Policy × Script). is_ready z.0 z.1 ≡ true) back ready in
+    let kept = starts key.policies.value.list key.script.value its in
+    record {
+      script_is = f;
+      world = kept.0;
+      running = subst (λ (z : Script). IsRunning z (start_of key)) f kept.1;
+      first = λ t k l. start_run targets statements key.policies.value.list key.script.value its t k l ∙ ap (λ z. first_run z t k) f;
+    }
+
+module _ (key : Origin) (script : Script) (opened : IsOpenedWith key script) where
   kept : IsWorld (start_of key) × IsRunning key.script.value (start_of key)
-  kept = starts key.policies.value.list key.script.value (subst (λ z. is_ready key.policies.value.list z ≡ true) (sym opened.script_is) opened.ready)
+  kept = (opened.world, subst (λ (z : Script). IsRunning z (start_of key)) (sym opened.script_is) opened.running)
 
   actor_stands : (a : Actor) → is_there script.targets a ≡ true → AllStand key (part_of (start_of key) a ∷ [])
   actor_stands a there = all_stand key (start_of key) kept.0 kept.1 refl key (part_of (start_of key) a ∷ []) a refl refl
@@ -60,15 +75,14 @@ module _ (starts : StartsKeep) (key : Origin) (script : Script) (opened : IsOpen
       })
 
   -- the seat of a thread
-  pub fresh_seat : SoundTargets → SoundStatements → (t k : ℕ) → k < thread_count (slice_get script.targets t) → (me : Placed) → me ≡ seat_of key (Thread t k)
+  pub fresh_seat : (t k : ℕ) → k < thread_count (slice_get script.targets t) → (me : Placed) → me ≡ seat_of key (Thread t k)
       → IsThread me.0 × (me.1 ≡ []) × ((thread_in me.0.parts).run ≡ first_run script t k)
       × (statements_of me.0.key.script.value (thread_in me.0.parts).target (thread_in me.0.parts).thread ≡ statements_of script t k)
-  fresh_seat targets statements t k l me is =
+  fresh_seat t k l me is =
       let count : length (threads_at (start_of key) t) ≡ thread_count (slice_get script.targets t) =
       kept.1.threads t ∙ ap (λ (z : Script). thread_count (slice_get z.targets t)) opened.script_is in
-      let ready = subst (λ z. is_ready key.policies.value.list z ≡ true) (sym opened.script_is) opened.ready in
       let run : run_at (start_of key) t k ≡ first_run script t k =
-      start_run targets statements key.policies.value.list key.script.value ready t k (omega (arith, l, count)) ∙ ap (λ z. first_run z t k) opened.script_is in
+      opened.first t k (omega (arith, l, count)) in
       subst (λ (z : Placed). IsThread z.0 × (z.1 ≡ []) × ((thread_in z.0.parts).run ≡ first_run script t k)
       × (statements_of z.0.key.script.value (thread_in z.0.parts).target (thread_in z.0.parts).thread ≡ statements_of script t k)) (sym is) (
         record { one = refl; stands = actor_stands (Thread t k) (grind (arith, nat_tests, l)) },

@@ -7,7 +7,7 @@ use mathlib.Core.Option.{some-injective, some-ne-none}
 use lib.ListN.{get_elem?}
 use Rattle.sb_shared.specs.Rooms.{grouped}
 
--- lists one behind another
+-- lists one after another
 abbrev pub joined : {A : Type 0} → List (List A) → List A
 joined xss = flat_map (λ xs. xs) xss
 

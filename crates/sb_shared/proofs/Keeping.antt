@@ -1,11 +1,11 @@
 -- What the memory of a worker's seat holds after each step.
 use Rattle.std.proofs.Common.{◌≡◌, ◌≢◌, ◌∙◌, refl, ap, subst, sym, ℕ, Bool, true, false, eqb, eq-eqb, ne_eqb, List, [], ◌∷◌, map, Option, None, Some, is_some}
 use Rattle.atomic_table.specs.Table.{Step, rest}
-use Rattle.sb_actor.specs.WorkerStages.{WorkerAt, WorkerStage, Look, Count, End, Copy, Take, Mark, Give, Reply, Ack}
+use Rattle.sb_actor.specs.WorkerStages.{WorkerAt, WorkerStage, Look, Count, End, Copy, Take, Answer, Give, Reply, Ack}
 use Rattle.sb_actor.specs.WorkerTable.{after_take, worker_plan, worker_row, worker_after, taken_in}
 use Rattle.sb_actor.specs.declared.acts.Act.{Act}
 use Rattle.sb_actor.specs.declared.acts.Act.TheVariants as act
-use Rattle.sb_actor.specs.declared.acts.Seen.TheVariants as seen
+use Rattle.sb_actor.specs.declared.acts.Observed.TheVariants as seen
 use Rattle.sb_block.specs.Copies.{Copied}
 use Rattle.sb_book.specs.Histories.{History}
 use Rattle.sb_book.specs.declared.decisions.Decision.{Decision}
@@ -26,7 +26,7 @@ use Rattle.sb_shared.proofs.Lying.{tried_got, tried_missed}
 -- what the plan of a worker says of its stage
 abbrev Facts : Act → WorkerStage → Type 0
 Facts act.Take stage = (taken : Copied) × (stage ≡ Take taken)
-Facts act.Mark stage = (taken : Copied) × (stage ≡ Mark taken)
+Facts act.Answer stage = (taken : Copied) × (stage ≡ Answer taken)
 Facts act.Give stage = has_turn stage ≡ true
 Facts (act.Load t word) stage = Unit {0}
 Facts (act.Store t word value) stage = Unit {0}
@@ -39,7 +39,7 @@ facts_at x Count = tt
 facts_at x (End count) = tt
 facts_at x (Copy count end words) = tt
 facts_at x (Take taken) = (taken, refl)
-facts_at x (Mark taken) = (taken, refl)
+facts_at x (Answer taken) = (taken, refl)
 facts_at x (Give taken reply) = refl
 facts_at x (Reply taken reply at) = tt
 facts_at x (Ack taken reply) = tt
@@ -111,9 +111,9 @@ module _ (me : Placed) (state : WorkerAt) (book : Option History) (d : Option De
   pub nothing_out : worker_plan state ≡ act.Take → me.1 ≡ []
   nothing_out plan = subst (λ z. Lies z me.1) (no_book plan) body.lies
 
-  -- at Mark it has the turn
-  pub book_at_mark : worker_plan state ≡ act.Mark → (b : History) × (x.book ≡ Some b)
-  book_at_mark plan = has_some x.book (sym here.turn ∙ ap has_turn (facts x.state act.Mark (same_plan ∙ plan)).1)
+  -- at Answer it has the turn
+  pub book_at_mark : worker_plan state ≡ act.Answer → (b : History) × (x.book ≡ Some b)
+  book_at_mark plan = has_some x.book (sym here.turn ∙ ap has_turn (facts x.state act.Answer (same_plan ∙ plan)).1)
 
   -- and at Give
   pub book_at_give : worker_plan state ≡ act.Give → (b : History) × (x.book ≡ Some b)

@@ -35,7 +35,7 @@ module _ (laws : Laws) (key : Origin) (slots id : ℕ) (me : Placed) (is : IsWor
   holding : (book : History) → here.book ≡ Some book → me.0.parts ≡ part.Worker here.target here.state (Some book) ∷ []
   holding book e = one ∙ ap (λ (b : Option History). part.Worker here.target here.state b ∷ []) e
 
-  pub mark_allowed_at : (book : History) → worker_plan here.state ≡ act.Mark → here.book ≡ Some book
+  pub mark_allowed_at : (book : History) → worker_plan here.state ≡ act.Answer → here.book ≡ Some book
       → Allows (Holds key) slots id me turn_word (λ n. n) (Marked (step slots turn_word 0 0 raw.none) me)
   mark_allowed_at book plan has = mark_allowed laws key slots id me.0 me.1 here.target here.state book (holding book has) plan
 

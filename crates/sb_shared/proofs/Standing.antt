@@ -7,7 +7,7 @@ use Rattle.sb_actor.specs.WorkerStages.{WorkerAt}
 use Rattle.sb_actor.specs.WorkerTable.{worker_plan, worker_after}
 use Rattle.sb_actor.specs.declared.acts.Act.{Act}
 use Rattle.sb_actor.specs.declared.acts.Act.TheVariants as act
-use Rattle.sb_actor.specs.declared.acts.Seen.{Seen}
+use Rattle.sb_actor.specs.declared.acts.Observed.{Observed}
 use Rattle.sb_statements.specs.Actors.{is_there}
 use Rattle.sb_statements.specs.declared.schedules.Actor.{Actor}
 use Rattle.sb_statements.specs.declared.schedules.Actor.TheVariants.{Worker, Thread}
@@ -61,7 +61,7 @@ on_worker_word s t x (act.Load u word) on = refl
 on_worker_word s t x (act.Store u word v) on = refl
 on_worker_word s t x (act.Exchange u word from to) on = refl
 on_worker_word s t x act.Take on = absurd cc
-on_worker_word s t x act.Mark on = absurd cc
+on_worker_word s t x act.Answer on = absurd cc
 on_worker_word s t x act.Give on = absurd cc
 on_worker_word s t x act.Idle on = absurd cc
 
@@ -70,7 +70,7 @@ word_turn s (act.Load u word) = refl
 word_turn s (act.Store u word v) = refl
 word_turn s (act.Exchange u word from to) = refl
 word_turn s act.Take = refl
-word_turn s act.Mark = refl
+word_turn s act.Answer = refl
 word_turn s act.Give = refl
 word_turn s act.Idle = refl
 
@@ -79,7 +79,7 @@ word_book s (act.Load u word) = refl
 word_book s (act.Store u word v) = refl
 word_book s (act.Exchange u word from to) = refl
 word_book s act.Take = refl
-word_book s act.Mark = refl
+word_book s act.Answer = refl
 word_book s act.Give = refl
 word_book s act.Idle = refl
 
@@ -125,7 +125,7 @@ module _ (script : Script) (w : WorldAt) (kept : IsWorld w) (runs : IsRunning sc
   part_moved (Thread t k) n there on seen =
       let x = run_at w t k in
       let run = thread_moved t k there in
-      let after = λ (s : Seen). thread_after script x.thread s in
+      let after = λ (s : Observed). thread_after script x.thread s in
       (λ i. part.Thread t k (run i).thread (run i).results)
       ∙ (λ i. part.Thread t k (after (seen i)).thread (x.results ++ option_to_list (after (seen i)).ended))
 

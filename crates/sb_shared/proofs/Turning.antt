@@ -12,12 +12,12 @@ use Rattle.sb_actor.specs.WorkerStages.{WorkerAt}
 use Rattle.sb_actor.specs.WorkerTable.{worker_plan, worker_after, taken_in}
 use Rattle.sb_actor.specs.declared.acts.Act.{Act}
 use Rattle.sb_actor.specs.declared.acts.Act.TheVariants as act
-use Rattle.sb_actor.specs.declared.acts.Seen.TheVariants as seen
+use Rattle.sb_actor.specs.declared.acts.Observed.TheVariants as seen
 use Rattle.sb_block.specs.Copies.{Copied, mark_of}
 use Rattle.sb_book.specs.Histories.{History, answered, reply_of}
 use Rattle.sb_statements.specs.declared.schedules.Actor.{Actor}
 use Rattle.sb_statements.specs.declared.schedules.Actor.TheVariants.{Worker}
-use Rattle.sb_core.specs.Shared.{SharedAt, Effect, finds, on_worker, turn_taken, marked, decided}
+use Rattle.sb_core.specs.Shared.{SharedAt, Effect, finds, on_worker, turn_taken, on_answer, decided}
 use Rattle.sb_core.specs.Worlds.{WorldAt, worker_at, step}
 use Rattle.sb_shared.specs.Laws.{Laws}
 use Rattle.sb_shared.specs.Parts.{answer_to, given_view, held_by, marked_part, marked_view, missed_view, moved_view, part_of, shown_part, taken_view}
@@ -84,19 +84,19 @@ stop_kept : (words : List ℕ) (n : ℕ) → get_or (set words turn_word n) stop
 stop_kept words n = get_or-set_other words turn_word stop_word n 0 (λ e. absurd (omega (arith, e)))
 
 -- what the book answers depends on the book alone
-answer_seen : (s u : SharedAt) (t : ℕ) (x : WorkerAt) (c : Option Copied) → s.book ≡ u.book → (marked s t x c).seen ≡ (marked u t x c).seen
+answer_seen : (s u : SharedAt) (t : ℕ) (x : WorkerAt) (c : Option Copied) → s.book ≡ u.book → (on_answer s t x c).seen ≡ (on_answer u t x c).seen
 answer_seen s u t x None e = refl
 answer_seen s u t x (Some taken) e = ap (λ (b : History). seen.Answered (reply_of b.space t (mark_of taken) (decided b t taken))) e
 
-answer_book : (s u : SharedAt) (t : ℕ) (x : WorkerAt) (c : Option Copied) → s.book ≡ u.book → (marked s t x c).shared.book ≡ (marked u t x c).shared.book
+answer_book : (s u : SharedAt) (t : ℕ) (x : WorkerAt) (c : Option Copied) → s.book ≡ u.book → (on_answer s t x c).shared.book ≡ (on_answer u t x c).shared.book
 answer_book s u t x None e = e
 answer_book s u t x (Some taken) e = ap (λ (b : History). answered b t x.channel taken (decided b t taken)) e
 
-answer_turn : (s : SharedAt) (t : ℕ) (x : WorkerAt) (c : Option Copied) → (marked s t x c).shared.turn ≡ s.turn
+answer_turn : (s : SharedAt) (t : ℕ) (x : WorkerAt) (c : Option Copied) → (on_answer s t x c).shared.turn ≡ s.turn
 answer_turn s t x None = refl
 answer_turn s t x (Some taken) = refl
 
-answer_words : (s : SharedAt) (t : ℕ) (x : WorkerAt) (c : Option Copied) → (marked s t x c).shared.words ≡ s.words
+answer_words : (s : SharedAt) (t : ℕ) (x : WorkerAt) (c : Option Copied) → (on_answer s t x c).shared.words ≡ s.words
 answer_words s t x None = refl
 answer_words s t x (Some taken) = refl
 
@@ -184,21 +184,21 @@ module _ (laws : Laws) (key : Origin) (slots id : ℕ) (v : View) (out : List (�
 
 -- the book answers the worker that has it
 module _ (laws : Laws) (key : Origin) (slots id : ℕ) (v : View) (out : List (ℕ × Slot)) (t : ℕ) (x : WorkerAt) (book : History) (one : v.parts ≡ part.Worker t x (Some book) ∷ []) where
-  pub mark_allowed : worker_plan x ≡ act.Mark → Allows (Holds key) slots id (v, out) turn_word (λ n. n) (Marked (made slots turn_word 0 0 raw.none) (v, out))
+  pub mark_allowed : worker_plan x ≡ act.Answer → Allows (Holds key) slots id (v, out) turn_word (λ n. n) (Marked (made slots turn_word 0 0 raw.none) (v, out))
   mark_allowed plan s h homes at_id small =
       let w = h.1 in
       let r = h.3 in
       let n : ℕ = get_or s.words turn_word 0 in
       let holder = holder_is w.shared.turn book w.shared.book t (book_is laws key slots id v out t x (Some book) one s h.0 w h.2 r at_id) in
       let c = taken_in x.stage in
-      let e : Effect = marked w.shared t x c in
+      let e : Effect = on_answer w.shared t x c in
       let dummy : SharedAt = record { words = []; turn = None; book = book } in
       let after : History = (answer_to book t x).shared.book in
       let turn : e.shared.turn ≡ Some t = answer_turn w.shared t x c ∙ holder.0 in
       let said : e.seen ≡ (answer_to book t x).seen = answer_seen w.shared dummy t x c (sym holder.1) in
       let wrote : e.shared.book ≡ after = answer_book w.shared dummy t x c (sym holder.1) in
       let turned =
-      turns laws key slots id v out t x (Some book) one s h.0 w h.2 r at_id act.Mark plan e refl marked_part (Some after) n
+      turns laws key slots id v out t x (Some book) one s h.0 w h.2 r at_id act.Answer plan e refl marked_part (Some after) n
       (λ i. part.Worker t (worker_after x (sym said i)) (Some after))
       ((λ i. held_by (turn i) (wrote i) t) ∙ has_it t after)
       (λ u ne. (λ i. held_by (turn i) e.shared.book u) ∙ has_not t u e.shared.book ne ∙ sym ((λ i. held_by (holder.0 i) w.shared.book u) ∙ has_not t u w.shared.book ne))

@@ -5,14 +5,14 @@ use Rattle.sb_actor.specs.ThreadTable.{thread_plan, thread_after}
 use Rattle.sb_actor.specs.WorkerTable.{worker_plan, worker_after, taken_in}
 use Rattle.sb_actor.specs.declared.acts.Act.{Act}
 use Rattle.sb_actor.specs.declared.acts.Act.TheVariants as act
-use Rattle.sb_actor.specs.declared.acts.Seen.{Seen}
-use Rattle.sb_actor.specs.declared.acts.Seen.TheVariants as seen
+use Rattle.sb_actor.specs.declared.acts.Observed.{Observed}
+use Rattle.sb_actor.specs.declared.acts.Observed.TheVariants as seen
 use Rattle.sb_actor.specs.WorkerStages.{WorkerAt}
 use Rattle.sb_book.specs.Histories.{History}
 use Rattle.sb_statements.specs.declared.schedules.Actor.{Actor}
 use Rattle.sb_statements.specs.declared.schedules.Actor.TheVariants.{Worker, Thread}
 use Rattle.sb_statements.specs.declared.scripts.Script.{Script}
-use Rattle.sb_core.specs.Shared.{Effect, marked}
+use Rattle.sb_core.specs.Shared.{Effect, on_answer}
 use Rattle.sb_core.specs.Worlds.{WorldAt, worker_at, run_at}
 use Rattle.sb_shared.specs.declared.views.Part.{Part}
 use Rattle.sb_shared.specs.declared.views.Part.TheVariants as part
@@ -39,12 +39,12 @@ plan_in script (part.Worker target state book) = worker_plan state
 plan_in script (part.Thread target thread state results) = thread_plan script state
 
 -- what the actor sees of a step that found n in its word
-abbrev pub seen_of : Act → ℕ → Seen
+abbrev pub seen_of : Act → ℕ → Observed
 seen_of (act.Load t word) n = seen.Value n
 seen_of (act.Store t word value) n = seen.Done
 seen_of (act.Exchange t word from to) n = seen.Value n
 seen_of act.Take n = seen.Done
-seen_of act.Mark n = seen.Done
+seen_of act.Answer n = seen.Done
 seen_of act.Give n = seen.Done
 seen_of act.Idle n = seen.Done
 
@@ -64,13 +64,13 @@ abbrev pub word_view : View → ℕ → View
 word_view v n = moved_view v (map (λ p. part_after v.key.script.value p n) v.parts) n
 
 -- the part of a worker after a step that showed it this, with the book that it has then
-abbrev pub shown_part : Seen → Option History → Part → Part
+abbrev pub shown_part : Observed → Option History → Part → Part
 shown_part seen book (part.Worker target state held) = part.Worker target (worker_after state seen) book
 shown_part seen book (part.Thread target thread state results) = part.Thread target thread state results
 
 -- what the book answers a worker
 abbrev pub answer_to : History → ℕ → WorkerAt → Effect
-answer_to book target state = marked (record { words = []; turn = None; book = book }) target state (taken_in state.stage)
+answer_to book target state = on_answer (record { words = []; turn = None; book = book }) target state (taken_in state.stage)
 
 -- the part of a worker after the book that it has answered it
 abbrev pub marked_part : Part → Part
@@ -105,7 +105,7 @@ is_on_word (act.Load t word) = true
 is_on_word (act.Store t word value) = true
 is_on_word (act.Exchange t word from to) = true
 is_on_word act.Take = false
-is_on_word act.Mark = false
+is_on_word act.Answer = false
 is_on_word act.Give = false
 is_on_word act.Idle = false
 

@@ -5,7 +5,7 @@ use Rattle.std.specs.Option.{option_to_list}
 use Rattle.sb_actor.specs.ThreadTable.{thread_plan, thread_after}
 use Rattle.sb_actor.specs.WorkerTable.{worker_plan, worker_after}
 use Rattle.sb_actor.specs.WorkerStages.{WorkerAt}
-use Rattle.sb_actor.specs.declared.acts.Seen.{Seen}
+use Rattle.sb_actor.specs.declared.acts.Observed.{Observed}
 use Rattle.sb_book.specs.Histories.{History}
 use Rattle.sb_core.specs.Threads.{RunAt, no_run}
 use Rattle.sb_core.specs.Worlds.{no_worker, run_at, worker_at}
@@ -135,7 +135,7 @@ abbrev pub worker_stepped : WorkerSeatValue → ℕ → WorkerSeatValue
 worker_stepped s n = record s { state = worker_after s.state (seen_of (worker_plan s.state) n); steps = s.steps + 1; found = n }
 
 -- a worker goes on by a step that showed it this, with the book that it has then
-abbrev pub worker_shown : WorkerSeatValue → Seen → Option History → ℕ → WorkerSeatValue
+abbrev pub worker_shown : WorkerSeatValue → Observed → Option History → ℕ → WorkerSeatValue
 worker_shown s seen book n = record s { state = worker_after s.state seen; book = book; steps = s.steps + 1; found = n }
 
 -- a worker goes on by what the book that it has answers

@@ -18,7 +18,7 @@ pub record IsWorkerHere (key : Origin) (t : ℕ) (x : WorkerAt) (book : Option H
   pub turn : has_turn x.stage ≡ is_some book
   pub setting : IfSome book (λ b. b.setting ≡ setting_in key)
 
--- Thread k of target t stands at one of its statements, or behind the last, and has one result for each statement that ended
+-- Thread k of target t stands at one of its statements, or after the last, and has one result for each statement that ended
 pub record IsThreadHere (key : Origin) (t k : ℕ) (x : RunAt) : Type 0 where
   pub sound : is_sound key.script.value ≡ true
   pub its_target : x.thread.target ≡ t

@@ -5,7 +5,7 @@ ghost use Rattle.sb_book.specs.Decisions.{decision_of};
 ghost use Rattle.sb_book.specs.Histories.{answered, reply_of};
 ghost use Rattle.sb_rule.specs.Verdicts.{policy_at};
 
-use sb_block::Taken;
+use sb_block::BlockCopy;
 use sb_book::{Book, Decision};
 use sb_call::Reply;
 use sb_items::NoMemory;
@@ -52,7 +52,7 @@ impl BoxedBook {
         &mut self,
         target: u32,
         channel: u32,
-        taken: &Taken,
+        taken: &BlockCopy,
         decision: Decision,
     ) -> Result<Reply, NoMemory>
         requires target_there { target < length self.old.setting.policies }

@@ -136,7 +136,7 @@ fn group(results: Vec<ThreadResults>, rooms: Vec<ResultRoom>, room: Vec<TargetRe
 }
 
 impl SharedWorld {
-    /// What the run leaves, once the seats of all actors came back and no worker has the turn. It allocates nothing.
+    /// What the run leaves, once the seats of all actors came back and no worker has the turn. Does not allocate.
     pub fn close(
         self,
         keeper: Keeper,

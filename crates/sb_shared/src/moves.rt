@@ -12,7 +12,7 @@ use crate::protocol::{Ends, Fails, Looks, Slot, Steps, World};
 use crate::stops::Stop;
 use crate::views::{Origin, View};
 use atomic_table::{Seat, Shared};
-use sb_actor::{Act, Seen};
+use sb_actor::{Act, Observed};
 use sb_statements::Word;
 
 // The turn word: 0, or one more than the target of the worker that has the turn.
@@ -48,7 +48,7 @@ fn index_of(target: u32, word: Word) -> usize
 
 // One step by an actor's plan, and what it sees. A plan that is not on a word makes none.
 #[inline(always)]
-pub(crate) fn perform(words: &Words, seat: &mut Seat<Slot, View>, act: Act) -> Option<Seen>
+pub(crate) fn perform(words: &Words, seat: &mut Seat<Slot, View>, act: Act) -> Option<Observed>
     requires own { seat.old.table_id ≡ words.now.table_id }
     requires count { words.now.table_id.words ≡ word_count }
     requires may { MayStep words.now.key words.now.table_id.slots seat.old.id seat.old.me act }
@@ -58,7 +58,7 @@ pub(crate) fn perform(words: &Words, seat: &mut Seat<Slot, View>, act: Act) -> O
     match act {
         Act::Load { target, word } => {
             let found = words.load::<Steps>(seat, index_of(target, word));
-            Some(Seen::Value(found))
+            Some(Observed::Value(found))
         }
         Act::Store {
             target,
@@ -66,7 +66,7 @@ pub(crate) fn perform(words: &Words, seat: &mut Seat<Slot, View>, act: Act) -> O
             value,
         } => {
             words.store::<Steps>(seat, index_of(target, word), value);
-            Some(Seen::Done)
+            Some(Observed::Done)
         }
         Act::Exchange {
             target,
@@ -75,9 +75,9 @@ pub(crate) fn perform(words: &Words, seat: &mut Seat<Slot, View>, act: Act) -> O
             to,
         } => {
             let found = words.compare_exchange::<Steps>(seat, index_of(target, word), from, to);
-            Some(Seen::Value(found))
+            Some(Observed::Value(found))
         }
-        Act::Take | Act::Mark | Act::Give | Act::Idle => None,
+        Act::Take | Act::Answer | Act::Give | Act::Idle => None,
     }
 }
 

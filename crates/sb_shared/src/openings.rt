@@ -1,7 +1,7 @@
 // A shared world is opened.
 ghost use Rattle.std.specs.Prelude.{◌≡◌, ◌<◌, ◌∷◌, List, length, map, slice_get, true, IfOk, OnOk};
 ghost use Rattle.sb_actor.specs.Places.{statements_of};
-ghost use Rattle.sb_book.specs.Readiness.{is_ready};
+ghost use Rattle.sb_kernel.specs.Openings.{opening};
 ghost use Rattle.sb_statements.specs.Actors.{thread_count};
 ghost use Rattle.sb_statements.specs.declared.schedules.Actor.{Actor};
 ghost use Rattle.sb_statements.specs.declared.schedules.Actor.TheVariants.{Worker, Thread};
@@ -22,16 +22,16 @@ use crate::workers::{WorkerBody, WorkerSeat};
 use crate::worlds::SharedWorld;
 use atomic_table::{Refused, Table};
 use sb_actor::{ThreadState, WorkerState};
-use sb_book::Book;
+use sb_book::{Book, ReadyScript};
 use sb_core::worlds_keep;
 use sb_items::NoMemory;
-use sb_rule::Policies;
-use sb_statements::{Script, sound_parts};
+use sb_kernel::Kernel;
+use sb_statements::{SoundScript, sound_parts};
 use std::alloc::Global;
 use std::snapshot::Snapshot;
 
 // The word at a place of the table: each state is free, and all else is 0.
-fn first_word(script: &Script, place: usize) -> u64
+fn first_word(script: &SoundScript, place: usize) -> u64
     ensures { result ≡ first_word script.now.targets place }
 {
     match script.targets.as_slice().get(place / 640) {
@@ -47,7 +47,7 @@ fn first_word(script: &Script, place: usize) -> u64
 }
 
 // The words of a table whose channels nobody has used.
-fn first_words(alloc: Global, script: &Script) -> Result<Vec<u64>, NoMemory>
+fn first_words(alloc: Global, script: &SoundScript) -> Result<Vec<u64>, NoMemory>
     ensures { IfOk result (λ words. AreFirst script.now.targets word_count words.items) }
 {
     let mut words = Vec::new(alloc);
@@ -60,25 +60,28 @@ fn first_words(alloc: Global, script: &Script) -> Result<Vec<u64>, NoMemory>
 // A table, and the seat from which all others are made.
 fn begin(
     alloc: Global,
-    policies: &Policies,
-    script: &Script,
+    ready: &ReadyScript,
+    kernel: Kernel,
     threads: usize,
 ) -> Result<(SharedWorld, Keeper), NoMemory>
-    requires ready { is_ready policies.now.list script.now ≡ true }
-    requires threads { threads ≡ length (thread_places script.now.targets) }
-    ensures policies { IfOk result (λ made. made.0.key.policies.value ≡ policies.now) }
-    ensures script { IfOk result (λ made. made.0.key.script.value ≡ script.now) }
-    ensures keeper { IfOk result (λ made. made.1 ≡ keeper_of made.0.table made.0.key (all_actors script.now.targets)) }
+    requires opens { kernel ≡ opening ready.now.script.start }
+    requires threads { threads ≡ length (thread_places ready.now.script.targets) }
+    ensures policies { IfOk result (λ made. made.0.key.policies.value.list ≡ ready.now.policies) }
+    ensures script { IfOk result (λ made. made.0.key.script.value ≡ ready.now.script) }
+    ensures keeper { IfOk result (λ made. made.1 ≡ keeper_of made.0.table made.0.key (all_actors ready.now.script.targets)) }
 {
     worlds_keep();
     sound_parts();
+    ready.establish_ready();
+    let policies = ready.policies();
+    let script = ready.script();
     let key = Origin {
-        policies: Snapshot::of(policies),
-        script: Snapshot::of(script),
+        policies: Snapshot::of(policies.policies()),
+        script: Snapshot::of(script.script()),
     };
     let words = first_words(alloc, script)?;
     let rooms = make_rooms(alloc, script, threads)?;
-    let book = BoxedBook::new(alloc, Book::new(alloc, policies, script)?)?;
+    let book = BoxedBook::new(alloc, Book::new(alloc, ready, kernel))?;
     let mut slots = Vec::with_capacity(alloc, 1)?;
     slots.push_reserved(Some(book));
     match Table::new(alloc, words.as_slice(), slots, &key) {
@@ -92,7 +95,7 @@ fn worker_seat(
     alloc: Global,
     words: &Words,
     keeper: &mut Keeper,
-    script: &Script,
+    script: &SoundScript,
     target: u32,
 ) -> Result<WorkerSeat, NoMemory>
     requires words { words.now.table_id.words ≡ word_count }
@@ -102,7 +105,6 @@ fn worker_seat(
     ensures keeper { keeper.new ≡ record keeper.old { parts = behind keeper.old.parts } }
     ensures seat { IfOk result (λ s. s ≡ fresh_worker words.now.table_id words.now.key target) }
 {
-    worlds_keep();
     let seat = keeper.split(words);
     let body = WorkerBody {
         seat,
@@ -120,7 +122,7 @@ fn worker_seats(
     alloc: Global,
     words: &Words,
     keeper: &mut Keeper,
-    script: &Script,
+    script: &SoundScript,
 ) -> Result<Vec<WorkerSeat>, NoMemory>
     requires words { words.now.table_id.words ≡ word_count }
     requires opened { IsOpenedWith words.now.key script.now }
@@ -136,7 +138,7 @@ fn worker_seats(
 }
 
 // How many statements a thread has.
-fn statement_count(script: &Script, target: u32, thread: u32) -> usize
+fn statement_count(script: &SoundScript, target: u32, thread: u32) -> usize
     ensures { result ≡ length (statements_of script.now target thread) }
 {
     match script.targets.as_slice().get(target as usize) {
@@ -153,7 +155,7 @@ fn thread_seat(
     alloc: Global,
     words: &Words,
     keeper: &mut Keeper,
-    script: &Script,
+    script: &SoundScript,
     target: u32,
     thread: u32,
 ) -> Result<ThreadSeat, NoMemory>
@@ -164,8 +166,6 @@ fn thread_seat(
     ensures keeper { OnOk result (keeper.new ≡ record keeper.old { parts = behind keeper.old.parts }) }
     ensures seat { IfOk result (λ s. s ≡ fresh_thread words.now.table_id words.now.key (target, thread)) }
 {
-    worlds_keep();
-    sound_parts();
     let results = Vec::with_capacity(alloc, statement_count(script, target, thread))?;
     let seat = keeper.split(words);
     Ok(ThreadSeat {
@@ -181,7 +181,7 @@ fn thread_seats(
     alloc: Global,
     words: &Words,
     keeper: &mut Keeper,
-    script: &Script,
+    script: &SoundScript,
     places: &[(u32, u32)],
 ) -> Result<Vec<ThreadSeat>, NoMemory>
     requires words { words.now.table_id.words ≡ word_count }
@@ -213,25 +213,25 @@ pub struct SharedParts {
 }
 
 impl SharedWorld {
-    /// The shared world of a script before its first step, with one seat for each actor, and one that takes them in again. Besides the
+    /// The shared world of a ready script before its first step, with one seat for each actor, and one that takes them in again. Besides the
     /// book's answers and decisions this is the only call that allocates.
     ///
     /// # Errors
     /// `NoMemory` if there is not enough.
-    pub fn open(
-        alloc: Global,
-        policies: &Policies,
-        script: &Script,
-    ) -> Result<SharedParts, NoMemory>
-        requires { is_ready policies.now.list script.now ≡ true }
-        ensures policies { IfOk result (λ made. made.world.key.policies.value ≡ policies.now) }
-        ensures script { IfOk result (λ made. made.world.key.script.value ≡ script.now) }
+    pub fn open(alloc: Global, ready: &ReadyScript, kernel: Kernel) -> Result<SharedParts, NoMemory>
+        requires opens { kernel ≡ opening ready.now.script.start }
+        ensures policies { IfOk result (λ made. made.world.key.policies.value.list ≡ ready.now.policies) }
+        ensures script { IfOk result (λ made. made.world.key.script.value ≡ ready.now.script) }
         ensures keeper { IfOk result (λ made. made.keeper ≡ fresh_keeper made.world.table made.world.key) }
-        ensures workers { IfOk result (λ made. made.workers.items ≡ map (fresh_worker made.world.table made.world.key) (target_places script.now.targets)) }
-        ensures threads { IfOk result (λ made. made.threads.items ≡ map (fresh_thread made.world.table made.world.key) (thread_places script.now.targets)) }
+        ensures workers { IfOk result (λ made. made.workers.items ≡ map (fresh_worker made.world.table made.world.key) (target_places ready.now.script.targets)) }
+        ensures threads { IfOk result (λ made. made.threads.items ≡ map (fresh_thread made.world.table made.world.key) (thread_places ready.now.script.targets)) }
     {
+        worlds_keep();
+        sound_parts();
+        ready.establish_ready();
+        let script = ready.script();
         let places = thread_places(alloc, script)?;
-        let (world, mut keeper) = begin(alloc, policies, script, places.len())?;
+        let (world, mut keeper) = begin(alloc, ready, kernel, places.len())?;
         let words = &world.table.shared;
         let workers = worker_seats(alloc, words, &mut keeper, script)?;
         let threads = thread_seats(alloc, words, &mut keeper, script, places.as_slice())?;

@@ -2,7 +2,6 @@
 ghost use Rattle.std.specs.Prelude.{◌≡◌, ◌<◌, ◌≤◌, length, take, drop, true, IfOk};
 ghost use Rattle.core.specs.Mem.Slots.{IsFull, slots_items, slots_len};
 ghost use Rattle.std.specs.Vec.Iter.{into_iter_items, into_iter_len};
-ghost use Rattle.sb_statements.specs.Soundness.{is_sound};
 ghost use Rattle.sb_shared.specs.Opening.{thread_places};
 ghost use Rattle.sb_shared.specs.Rooms.{AreRooms, channel_counts, thread_counts, words_from};
 ghost use Rattle.sb_shared.specs.Rule.{word_count};
@@ -13,7 +12,7 @@ use atomic_table::Closed;
 use sb_actor::WorkerState;
 use sb_book::{TargetResults, ThreadResults, WordList};
 use sb_items::NoMemory;
-use sb_statements::Script;
+use sb_statements::SoundScript;
 use std::alloc::Global;
 use std::marker::Model;
 use std::vec::IntoIter;
@@ -146,8 +145,7 @@ pub(crate) struct Rooms {
 }
 
 // For the words of each target.
-fn word_rooms(alloc: Global, script: &Script) -> Result<Vec<WordRoom>, NoMemory>
-    requires sound { is_sound script.now ≡ true }
+fn word_rooms(alloc: Global, script: &SoundScript) -> Result<Vec<WordRoom>, NoMemory>
     ensures { IfOk result (λ rooms. rooms.items ≡ channel_counts script.now.targets) }
 {
     let mut rooms = Vec::new(alloc);
@@ -158,8 +156,7 @@ fn word_rooms(alloc: Global, script: &Script) -> Result<Vec<WordRoom>, NoMemory>
 }
 
 // For the results of each target.
-fn result_rooms(alloc: Global, script: &Script) -> Result<Vec<ResultRoom>, NoMemory>
-    requires sound { is_sound script.now ≡ true }
+fn result_rooms(alloc: Global, script: &SoundScript) -> Result<Vec<ResultRoom>, NoMemory>
     ensures { IfOk result (λ rooms. rooms.items ≡ thread_counts script.now.targets) }
 {
     let mut rooms = Vec::new(alloc);
@@ -173,8 +170,11 @@ fn result_rooms(alloc: Global, script: &Script) -> Result<Vec<ResultRoom>, NoMem
 ///
 /// # Errors
 /// `NoMemory` if there is not enough.
-pub(crate) fn make_rooms(alloc: Global, script: &Script, threads: usize) -> Result<Rooms, NoMemory>
-    requires sound { is_sound script.now ≡ true }
+pub(crate) fn make_rooms(
+    alloc: Global,
+    script: &SoundScript,
+    threads: usize,
+) -> Result<Rooms, NoMemory>
     requires threads { threads ≡ length (thread_places script.now.targets) }
     ensures { IfOk result (λ rooms. AreRooms script.now.targets rooms) }
 {

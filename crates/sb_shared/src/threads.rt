@@ -12,7 +12,7 @@ use crate::views::View;
 use crate::worlds::SharedWorld;
 use atomic_table::Seat;
 use sb_actor::{Act, ThreadState};
-use sb_statements::{Script, StmtResult, Word};
+use sb_statements::{SoundScript, StmtResult, Word};
 use std::marker::Model;
 
 /// The seat of a thread: the thread makes its steps with it, and keeps its results there. Contracts see where the thread stands in the
@@ -55,14 +55,14 @@ fn repeats(last: Word, next: Act) -> bool {
     match next {
         Act::Load { word, .. } => word.channel == last.channel && word.at == last.at,
         Act::Exchange { word, .. } => word.channel <= last.channel && word.at == last.at,
-        Act::Store { .. } | Act::Take | Act::Mark | Act::Give | Act::Idle => false,
+        Act::Store { .. } | Act::Take | Act::Answer | Act::Give | Act::Idle => false,
     }
 }
 
 impl ThreadSeat {
     /// Makes the thread's next step, as one atomic step on a word. The thread then stands where that step of the world leaves it. The
     /// step of a finished thread does nothing. It waits for nobody and allocates nothing.
-    pub fn step(&mut self, world: &SharedWorld, script: &Script)
+    pub fn step(&mut self, world: &SharedWorld, script: &SoundScript)
         requires own { self.old.table ≡ world.now.table }
         requires script { self.old.key.script.value ≡ script.now }
         ensures step { is_finished script.now self.old.run.thread ≡ false → self.new ≡ thread_stepped self.old self.new.found }
@@ -83,14 +83,14 @@ impl ThreadSeat {
     }
 
     // Notes whether a step that ended no statement found nothing to go on with.
-    fn note_wait(&mut self, script: &Script, act: Act)
+    fn note_wait(&mut self, script: &SoundScript, act: Act)
         ensures { self.new ≡ self.old }
     {
         self.waiting = match act {
             Act::Load { word, .. } | Act::Exchange { word, .. } => {
                 repeats(word, self.state.plan(script))
             }
-            Act::Store { .. } | Act::Take | Act::Mark | Act::Give | Act::Idle => false,
+            Act::Store { .. } | Act::Take | Act::Answer | Act::Give | Act::Idle => false,
         };
     }
 
@@ -100,7 +100,7 @@ impl ThreadSeat {
     }
 
     /// Whether each statement of the thread has ended.
-    pub fn is_finished(&self, script: &Script) -> bool
+    pub fn is_finished(&self, script: &SoundScript) -> bool
         ensures { result ≡ is_finished script.now self.now.run.thread }
     {
         self.state.finished(script)

@@ -1,8 +1,8 @@
 // The seat of a worker.
 ghost use Rattle.std.specs.Prelude.{◌≡◌, ◌≢◌, ◌<◌, ◌∷◌, [], true, false, length, slice_index, is_some, IfOk, IfSome, OnOk, OnErr, Some, None};
 ghost use Rattle.sb_actor.specs.WorkerTable.{is_looking, taken_in, worker_plan};
-ghost use Rattle.sb_actor.specs.declared.acts.Act.TheVariants.{Take, Mark, Give};
-ghost use Rattle.sb_actor.specs.declared.acts.Seen.TheVariants.{Answered, Turn, Done};
+ghost use Rattle.sb_actor.specs.declared.acts.Act.TheVariants.{Take, Answer, Give};
+ghost use Rattle.sb_actor.specs.declared.acts.Observed.TheVariants.{Answered, Turn, Done};
 ghost use Rattle.sb_block.specs.Copies.{mark_of};
 ghost use Rattle.sb_book.specs.Histories.{History};
 ghost use Rattle.sb_core.specs.Kept.{has_turn};
@@ -21,7 +21,7 @@ use crate::stops::Stop;
 use crate::views::View;
 use crate::worlds::SharedWorld;
 use atomic_table::Seat;
-use sb_actor::{Act, Seen, WorkerState};
+use sb_actor::{Act, Observed, WorkerState};
 use sb_book::{Decision, decide};
 use sb_call::Reply;
 use sb_items::NoMemory;
@@ -225,7 +225,7 @@ impl WorkerSeat {
         let body = &mut *self.body;
         let name = u64::from(body.state.target()) + 1;
         let found = words.compare_exchange::<Tries>(&mut body.seat, TURN, 0, name);
-        body.state.after(Seen::Turn(found == 0));
+        body.state.after(Observed::Turn(found == 0));
         if found != 0 {
             return false;
         }
@@ -244,7 +244,7 @@ impl WorkerSeat {
         judge: &J,
     ) -> Result<(), NoMemory>
         requires own { self.old.table ≡ world.now.table }
-        requires plan { worker_plan self.old.state ≡ Mark }
+        requires plan { worker_plan self.old.state ≡ Answer }
         requires judge { J.policies judge.now ≡ (setting_in self.old.key).policies }
         ensures marked { OnOk result ((book : History) × (self.old.book ≡ Some book) × (self.new ≡ worker_marked self.old book self.new.found)) }
         ensures err { OnErr result (self.new ≡ self.old) }
@@ -257,7 +257,7 @@ impl WorkerSeat {
         };
         let reply = answer_copy(book, &body.state, body.decision.take())?;
         world.table.shared.load::<Marks>(&mut body.seat, TURN);
-        body.state.after(Seen::Answered(reply));
+        body.state.after(Observed::Answered(reply));
         Ok(())
     }
 
@@ -273,7 +273,7 @@ impl WorkerSeat {
         body.decision = None;
         words.exchange(&mut body.seat, 0, body.book.take());
         words.store::<Gives>(&mut body.seat, TURN, 0);
-        body.state.after(Seen::Done);
+        body.state.after(Observed::Done);
     }
 
     /// Looks at the stop word: the stop that was set, if one was.

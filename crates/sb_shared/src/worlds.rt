@@ -1,5 +1,6 @@
 // The world that all actors of a run share.
-ghost use Rattle.std.specs.Prelude.{◌≡◌};
+ghost use Rattle.std.specs.Prelude.{◌≡◌, true};
+ghost use Rattle.sb_book.specs.Readiness.{is_ready};
 ghost use Rattle.sb_shared.specs.Rooms.{AreRooms};
 ghost use Rattle.sb_shared.specs.Rule.{word_count};
 
@@ -13,7 +14,8 @@ use std::marker::Model;
 use std::sync::Wait;
 use std::time::Duration;
 
-/// What all actors of a run share: the words of all channels, the turn word, the stop word, and the place of the book.
+/// What all actors of a run share: the words of all channels, the turn word, the stop word, and the place of the book. The script of the
+/// run is ready for its policies.
 pub struct SharedWorld {
     pub(crate) table: Table<Slot, View, Origin, World, Global>,
     // What `close` fills.
@@ -27,7 +29,8 @@ impl Drop for SharedWorld {
 }
 
 impl Model for SharedWorld {
-    ghost use Rattle.std.specs.Prelude.{◌≡◌};
+    ghost use Rattle.std.specs.Prelude.{◌≡◌, true};
+    ghost use Rattle.sb_book.specs.Readiness.{is_ready};
     ghost use Rattle.sb_shared.specs.Rooms.{AreRooms};
     ghost use Rattle.sb_shared.specs.Rule.{word_count};
     ghost use Rattle.sb_shared.specs.Seats.{SharedValue};
@@ -36,10 +39,18 @@ impl Model for SharedWorld {
 
     ghost view = { λ s. record { table = s.table.shared.table_id; key = s.table.shared.key } };
 
-    ghost invariant = { λ s. (s.table.shared.table_id.words ≡ word_count) × (s.table.shared.table_id.slots ≡ 1) × AreRooms s.table.shared.key.script.value.targets s.rooms };
+    ghost invariant = { λ s. (s.table.shared.table_id.words ≡ word_count) × (s.table.shared.table_id.slots ≡ 1) × (is_ready s.table.shared.key.policies.value.list s.table.shared.key.script.value ≡ true)
+        × AreRooms s.table.shared.key.script.value.targets s.rooms };
 }
 
 impl SharedWorld {
+    /// The script of the run is ready for its policies. It does nothing.
+    pub fn establish_ready(&self)
+        ensures { is_ready self.now.key.policies.value.list self.now.key.script.value ≡ true }
+    {
+        let _words = &self.rooms.words;
+    }
+
     // The table, and what `close` fills.
     pub(crate) fn into_parts(self) -> (Table<Slot, View, Origin, World, Global>, Rooms)
         ensures table { result.0.shared.table_id ≡ self.table }

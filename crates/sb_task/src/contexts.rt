@@ -6,7 +6,7 @@ use sb_outside::Gate;
 use sb_pool::Pool;
 use sb_rule::Judge;
 use sb_shared::SharedWorld;
-use sb_statements::Script;
+use sb_statements::SoundScript;
 use std::marker::Model;
 
 /// The judge, the gate, the script, the shared world, and the pool that deals the seats of the workers. The world was opened with this script,
@@ -15,7 +15,7 @@ use std::marker::Model;
 pub struct RunContext<'a, J: Judge, G: Gate> {
     pub judge: &'a J,
     pub gate: &'a G,
-    pub script: &'a Script,
+    pub script: &'a SoundScript,
     pub world: &'a SharedWorld,
     pub pool: &'a Pool<Work>,
 }

@@ -5,10 +5,9 @@ ghost use Rattle.sb_task.specs.Servers.{IsSameServer, IsServer};
 ghost use Rattle.sb_task.specs.Works.{home_of};
 
 use crate::contexts::RunContext;
-use crate::pauses::rest;
+use crate::pauses::IdleWait;
 use crate::visits::visit;
 use crate::works::Work;
-use crossbeam_utils::Backoff;
 use sb_items::NoMemory;
 use sb_outside::Gate;
 use sb_pool::PoolSeat;
@@ -86,11 +85,11 @@ pub fn attend<J: Judge, G: Gate, R: Wait>(
     ensures server { OnOk result (IsServer context.now server.new) }
     ensures same { OnOk result (IsSameServer server.old server.new) }
 {
-    let backoff = Backoff::new();
+    let mut wait = IdleWait::new();
     for _ in rt.forever() {
         match attend_once(rt, alloc, context, server)? {
-            Attendance::Served => backoff.reset(),
-            Attendance::Idle => rest(rt, context.world, &backoff),
+            Attendance::Served => wait.reset(),
+            Attendance::Idle => wait.pass(rt, context.world),
             Attendance::Stopped => break,
         }
     }

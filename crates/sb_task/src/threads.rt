@@ -7,7 +7,7 @@ use crate::pauses::pause;
 use crossbeam_utils::Backoff;
 use sb_items::NoMemory;
 use sb_shared::{SharedWorld, ThreadSeat};
-use sb_statements::Script;
+use sb_statements::SoundScript;
 use std::sync::Wait;
 
 /// Makes the steps of a thread until each of its statements has ended. After a step that found nothing to go on with, it looks at the stop word and waits a
@@ -18,7 +18,7 @@ use std::sync::Wait;
 pub fn run_thread<R: Wait>(
     rt: &R,
     world: &SharedWorld,
-    script: &Script,
+    script: &SoundScript,
     seat: ThreadSeat,
 ) -> Result<ThreadSeat, NoMemory>
     requires own { IsThreadSeat world.now seat }

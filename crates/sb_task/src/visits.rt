@@ -61,7 +61,7 @@ fn advance<J: Judge, G: Gate, R: Wait>(
     context.establish_kept();
     match seat.plan() {
         Act::Take => try_turn(rt, alloc, context, seat, backoff)?,
-        Act::Mark => seat.answer(alloc, context.world, context.judge)?,
+        Act::Answer => seat.answer(alloc, context.world, context.judge)?,
         Act::Give => seat.give_back(context.world),
         Act::Load { .. } | Act::Store { .. } | Act::Exchange { .. } | Act::Idle => {
             seat.step(context.world)

@@ -12,4 +12,4 @@ close-requires-clause-workers c =
 pub returns : goal.returns
 returns c =
     has_closed c.closed_runs_are_runs.ensures c.args.world.key c.args.threads.items c.in_ok-seats.seats.items c.close.result
-    c.requires.ready c.close.ensures.closed c.close.ensures.workers c.requires.finished c.in_ok-seats.ensures.kept
+    c.establish_ready.ensures c.close.ensures.closed c.close.ensures.workers c.requires.finished c.in_ok-seats.ensures.kept

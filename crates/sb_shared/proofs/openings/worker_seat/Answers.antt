@@ -25,4 +25,4 @@ invariant_of-result c =
     let is : me ≡ seat_of key (Worker t) = c.split-seat.ensures.seat.1 ∙ ap (λ (s : KeeperValue). (seat_with s, [])) c.requires.first.1 in
     let state : c.new.result ≡ first_worker script.targets t = c.new.ensures ∙ ap (λ n. record { target = t; channels = n; channel = 0; stage = Look }) c.channel_count.ensures.count in
     subst (λ (b : WorkerBody). IsBody b.seat.me b.state b.book b.decision) (sym c.in_ok-new.ensures.ok)
-    (fresh_body c.worlds_keep.ensures.start key script c.requires.opened t c.requires.there me c.new.result is state)
+    (fresh_body key script c.requires.opened t c.requires.there me c.new.result is state)

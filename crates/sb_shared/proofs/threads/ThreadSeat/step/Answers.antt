@@ -4,7 +4,7 @@ use Rattle.sb_actor.specs.ThreadTable.{thread_plan}
 use Rattle.sb_shared.specs.Parts.{is_on_word}
 use Rattle.sb_shared.specs.Seats.{thread_in, thread_part}
 use Rattle.sb_shared.proofs.Allowing.{may_step}
-use Rattle.sb_shared.proofs.Finishing.{finished_idle, thread_here}
+use Rattle.sb_shared.proofs.Finishing.{finished_idle, thread_here, unfinished_on_word}
 use Rattle.sb_shared.proofs.threads.ThreadSeat.step.Goals as goal
 
 pub perform-requires-clause-may : goal.perform-requires-clause-may
@@ -26,4 +26,16 @@ returns-in-None-clause-finished c h =
     let plan : thread_plan seat.me.0.key.script.value x.run.thread ≡ c.plan-act.result = (λ i. thread_plan (same i) (sym c.self.invariant.2 i)) ∙ sym c.plan-act.ensures.plan in
     let on : is_on_word c.plan-act.result ≡ true = c.in-Some.ensures.moved.0 in
     let off : is_on_word c.plan-act.result ≡ false = ap is_on_word (sym plan ∙ idle) in
+    absurd cc
+
+pub returns-in_default-clause-step : goal.returns-in_default-clause-step
+returns-in_default-clause-step c h =
+    let seat = c.self.inside.seat in
+    let x = thread_in seat.me.0.parts in
+    let same : seat.me.0.key.script.value ≡ c.args.script.now = ap (λ z. z.key.script.value) c.self.view_is ∙ c.requires.script in
+    let unfinished : is_finished seat.me.0.key.script.value x.run.thread ≡ false = (λ i. is_finished (same i) ((ap (λ z. z.run.thread) c.self.view_is) i)) ∙ h in
+    let moves = unfinished_on_word seat.me.0.key.script.value x.run.thread (thread_here seat.me.0 c.self.invariant.0).stands unfinished in
+    let plan : thread_plan seat.me.0.key.script.value x.run.thread ≡ c.plan-act.result = (λ i. thread_plan (same i) (sym c.self.invariant.2 i)) ∙ sym c.plan-act.ensures.plan in
+    let on : is_on_word c.plan-act.result ≡ true = ap is_on_word (sym plan) ∙ moves in
+    let off : is_on_word c.plan-act.result ≡ false = c.in_default.ensures.moved.0 in
     absurd cc

@@ -1,6 +1,6 @@
 use Rattle.std.proofs.Common.{◌≡◌, sym, ap, subst, ◌∙◌, arith}
 use Rattle.sb_actor.specs.WorkerTable.{worker_plan}
-use Rattle.sb_actor.specs.declared.acts.Act.TheVariants.{Mark}
+use Rattle.sb_actor.specs.declared.acts.Act.TheVariants.{Answer}
 use Rattle.sb_shared.specs.Keeping.{IsBody}
 use Rattle.sb_shared.specs.Seats.{worker_in}
 use Rattle.sb_shared.proofs.Keeping.{book_at_mark, same_plan}
@@ -17,7 +17,7 @@ load-requires g c =
     let kept : IsBody me body.state body.book body.decision = subst (λ z. IsBody z.seat.me z.state z.book z.decision) (sym now) c.self.invariant in
     let count = c.world.invariant.0 in
     let own : body.seat.table_id ≡ shared.table_id = ap (λ z. z.seat.table_id) now ∙ ap (λ z. z.table) c.self.view_is ∙ c.requires.own ∙ ap (λ z. z.table) (sym c.world.view_is) in
-    let plan : worker_plan x.state ≡ Mark = ap (λ z. worker_plan (worker_in z.seat.me.0.parts).state) now ∙ ap (λ z. worker_plan z.state) c.self.view_is ∙ c.requires.plan in
+    let plan : worker_plan x.state ≡ Answer = ap (λ z. worker_plan (worker_in z.seat.me.0.parts).state) now ∙ ap (λ z. worker_plan z.state) c.self.view_is ∙ c.requires.plan in
     let has = book_at_mark me body.state body.book body.decision kept (sym (same_plan me body.state body.book body.decision kept) ∙ plan) in (
       own,
       omega (arith, count),
