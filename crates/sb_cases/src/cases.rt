@@ -3,9 +3,8 @@
 use crate::faults::RowFault;
 use crate::gates::MeetingGate;
 use crate::pages::{Ends, Page};
-use crate::shows::{Shown, put_outcome, put_passed};
+use crate::shows::{Shown, put_gate_counts, put_outcome};
 use crate::texts::put_row;
-use sb_items::Copies;
 use sb_outside::{Bytes, FileList, MemFiles, MemSink, Numbers, StoredFile, Text};
 use sb_top::broker_top;
 use std::alloc::Global;
@@ -13,7 +12,7 @@ use std::mem;
 use std::sync::Wait;
 use std::thread::Threads;
 
-// The output takes this many bytes where no row says otherwise.
+// The output takes this many bytes if no row says otherwise.
 const ROOM: u64 = 2_000_000;
 
 /// What the rows of a case refer to.
@@ -134,7 +133,7 @@ impl Case {
             if file.name.as_str() == name {
                 self.files.push(StoredFile {
                     name: Text::new(String::from_str(alloc, name)?),
-                    content: file.content.copy(alloc)?,
+                    content: file.content.clone()?,
                 })?;
                 return Ok(());
             }
@@ -198,7 +197,7 @@ impl Case {
         put_outcome(alloc, &outcome, files.calls, self.shown, page)?;
         match self.meeting {
             0 => Ok(()),
-            _ => put_passed(alloc, gate.passed(), page),
+            _ => put_gate_counts(alloc, gate.counts(), page),
         }
     }
 

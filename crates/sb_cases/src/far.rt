@@ -2,7 +2,7 @@
 
 use crate::faults::RowFault;
 use crate::pages::Page;
-use sb_ruletext::{TextFault, TextKind};
+use sb_ruletext::{PolicyFault, PolicyFaultKind};
 use sb_schedule::{ScheduleFault, ScheduleKind};
 use sb_script::{ScriptFault, ScriptKind};
 use sb_top::{Complaint, Status, exit_code};
@@ -12,9 +12,9 @@ use std::alloc::Global;
 /// that did not end, or out of memory.
 pub fn put_far(alloc: Global, row: &str, page: &mut Page) -> Result<(), RowFault> {
     let status = match row {
-        "far policy" => Status::PolicyRefused(TextFault {
+        "far policy" => Status::PolicyRefused(PolicyFault {
             line: u32::MAX,
-            kind: TextKind::TooMany,
+            kind: PolicyFaultKind::TooMany,
         }),
         "far script" => Status::ScriptRefused(ScriptFault {
             line: u32::MAX,

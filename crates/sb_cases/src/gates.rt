@@ -23,7 +23,7 @@ pub struct MeetingGate {
 
 /// What came to a gate.
 #[derive(Clone, Copy)]
-pub struct Passed {
+pub struct GateCounts {
     /// How many calls.
     pub calls: u64,
     /// How many of them were held until the limit.
@@ -45,12 +45,12 @@ impl MeetingGate {
     }
 
     /// What has come so far.
-    pub fn passed(&self) -> Passed {
+    pub fn counts(&self) -> GateCounts {
         let mut calls = 0_u64;
         for passes in self.passes.as_slice() {
             calls = calls.saturating_add(passes.load(Ordering::SeqCst));
         }
-        Passed {
+        GateCounts {
             calls,
             late: self.late.load(Ordering::SeqCst),
         }

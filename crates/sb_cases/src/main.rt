@@ -12,7 +12,7 @@
 //     % TEXT                       bytes without a line feed: `\n` is one, `\\` a backslash, `\xHH` the byte of this number
 //     * N | TEXT                   a row of one of both forms, N times
 //     same policy                  the file of this name of the case before
-//     fails-read N, fails-put N    this read or put fails, from 1; `room N`: the output takes N bytes
+//     fails-read N, fails-put N    this read or put fails, from 1, where the finish counts as a put; `room N`: the output takes N bytes
 //     try | TEXT                   the case is run once for each such row, with its bytes where the row `$` stands
 //     gate N                       the first call of each of the targets 0 to N - 1 is held until those of all have come
 //     ends M N                     only the first M and the last N of the lines that were written are printed
@@ -23,7 +23,7 @@
 // A row `far KIND` between cases prints the exit code of a status that no case leads to, and what is said of it.
 //
 // It prints the name of the case and, once for each row that is tried: the exit code, the count of reads and what a report
-// counts; what is said on standard error, where the command is not done; what passed a gate at which calls are held; and the lines that were written, each behind a bar.
+// counts; what is said on standard error, if the command is not done; what passed a gate at which calls are held; and the lines that were written, each after a bar.
 #![tactic(auto)]
 
 mod cases;
@@ -72,7 +72,7 @@ fn run_text<R: Threads + Wait + Sync>(
     Ok(rows.count())
 }
 
-// Puts a fault of the text as a line of its own, so that it is seen where the page is compared.
+// Puts a fault of the text as a line of its own, so that it is seen when the page is compared.
 fn put_fault(
     alloc: Global,
     taken: Result<(), RowFault>,

@@ -36,7 +36,7 @@ impl<'a> Rows<'a> {
         }
     }
 
-    /// The line of the fault, from 1, where the last call was refused.
+    /// The line of the fault, from 1, if the last call was refused.
     pub fn line(&self) -> usize {
         self.line
     }
@@ -82,7 +82,7 @@ impl<'a> Rows<'a> {
     /// Ends the text.
     ///
     /// # Errors
-    /// `NoEnd`, with the line of its name, where a case has no end. That case is not run.
+    /// `NoEnd`, with the line of its name, if a case has no end. That case is not run.
     pub fn end_text(&mut self, alloc: Global) -> Result<(), RowFault> {
         if self.rows.is_empty() {
             return Ok(());

@@ -1,7 +1,7 @@
 // What is printed of how a case ended.
 
 use crate::faults::RowFault;
-use crate::gates::Passed;
+use crate::gates::GateCounts;
 use crate::pages::{Ends, Page};
 use sb_book::Report;
 use sb_top::{Complaint, Outcome, Status, exit_code};
@@ -24,7 +24,7 @@ impl Shown {
     };
 }
 
-/// Puts how a case ended: the exit code, the count of reads and the counts of the report, where there is one, and then the line
+/// Puts how a case ended: the exit code, the count of reads and the counts of the report, if there is one, and then the line
 /// that the program would put on standard error.
 pub fn put_outcome(
     alloc: Global,
@@ -48,8 +48,8 @@ pub fn put_outcome(
 }
 
 /// Puts how many calls came to a gate, and how many of them were held until its limit.
-pub fn put_passed(alloc: Global, passed: Passed, page: &mut Page) -> Result<(), RowFault> {
-    let Passed { calls, late } = passed;
+pub fn put_gate_counts(alloc: Global, passed: GateCounts, page: &mut Page) -> Result<(), RowFault> {
+    let GateCounts { calls, late } = passed;
     Ok(page.put_line(format!(in alloc; "gate passes {calls} late {late}")?.as_str())?)
 }
 
@@ -59,7 +59,7 @@ fn counts(alloc: Global, report: &Option<Report>) -> Result<String, RowFault> {
         return Ok(String::new(alloc));
     };
     let targets = report.results.as_slice().len();
-    let entries = report.entries.as_slice().len();
+    let entries = report.entries.len();
     let results = result_count(report);
     Ok(format!(in alloc; " targets {targets} entries {entries} results {results}")?)
 }

@@ -1,4 +1,4 @@
--- Words that are a command, as the library reads them.
+-- Arguments that are a command, as the library reads them.
 use Rattle.std.proofs.Common.{◌≡◌, refl, codes, true, false, ℕ, Bool, List, [], ◌∷◌, ◌++◌, ◌==◌, nat_eq, Option, Some, None, if◌then◌else◌}
 use Rattle.std.specs.Cmp.Lexicographic.{pointwise}
 use Rattle.clap.specs.Words.{Row, Text, first_of, is_simple, matches_of, takes}
@@ -31,7 +31,7 @@ of_run f values = f (values (codes "policy")) (values (codes "script")) (values 
 abbrev of_make : Use → Values → Option Command
 of_make f values = f (values (codes "seed")) (values (codes "targets")) (values (codes "calls"))
 
--- ---- a word that does not begin with `-` goes to the next file, or is the value of the option before it
+-- ---- an argument that does not begin with `-` goes to the next file, or is the value of the option before it
 
 module _ (name : Text) (b : ℕ) (bs : List ℕ) (first : (b == 45) ≡ false) where
   pub check_is_taken : takes (line_of check_arguments) (name ∷ (b ∷ bs) ∷ []) ≡ true

@@ -1,4 +1,4 @@
--- The library takes words that are a command, and finds that command.
+-- The library takes arguments that are a command, and finds that command.
 use Rattle.std.proofs.Common.{◌≡◌, ◌∙◌, refl, sym, ap, subst, codes, true, false, ℕ, Bool, List, [], ◌∷◌, ◌++◌, Option, Some, None, IsSome, not, ◌&&◌, true≢false, nat_eq, drop, take, if◌then◌else◌, arith}
 use Rattle.std.specs.Prelude.{nat_le, length, option_and_then, option_map}
 use Rattle.std.specs.List.{list_all}
@@ -15,9 +15,9 @@ use Rattle.sb_commands.specs.CommandLine.{Values, arguments_of, check_arguments,
 use Rattle.sb_commands.specs.NumberWords.{calls_of, default_workers, number_within, seed_of, targets_of, within, workers_apart, workers_joined, workers_of}
 use Rattle.sb_commands.proofs.ReadWords.{values_in, lines_are_simple, check_is_taken, check_is_read, replay_is_taken, replay_is_read, run_is_taken, run_is_read, scheduled_is_taken, scheduled_is_read, run_joined_first_is_taken, run_joined_last_is_taken, run_apart_first_is_taken, run_apart_last_is_taken, make_is_taken, run_joined_first_is_read, run_joined_last_is_read, run_apart_first_is_read, run_apart_last_is_read, make_is_read}
 
--- ---- words that are a command
+-- ---- arguments that are a command
 
--- by a command line with these arguments the library takes the words, and what it finds in them is the command
+-- by a command line of these parameters the library takes the arguments, and what it finds in them is the command
 abbrev IsFound : List Text → (Values → Option Command) → List Text → Option Command → Type 0
 IsFound names found words command = (takes (line_of names) words ≡ true) × (found (values_in (matches_of (line_of names) words)) ≡ command)
 
@@ -33,7 +33,7 @@ chosen : {A : Type 0} (test : Bool) (x : A) → IsSome (if test then Some x else
 chosen true x h = refl
 chosen false x h = absurd (true≢false (sym h))
 
--- words of digits do not begin with `-`
+-- arguments of digits do not begin with `-`
 digits_name_files : (word : Text) → IsSome (decimal_of word) → is_file_word word ≡ true
 digits_name_files [] some = absurd (true≢false (sym some))
 digits_name_files (b ∷ bs) some = by (are_digits is_decimal_digit 20 (b ∷ bs)) refl some
@@ -198,11 +198,11 @@ apart_last name (b ∷ bs) (d ∷ ds) (e ∷ es) file other last = (
   run_apart_last_is_read name b bs (not_true _ file) d ds (not_true _ other) e es (not_true _ last) run_found,
 )
 
--- behind the command's name
+-- after the command's name
 abbrev IsRun : Text → List Text → Option Command → Type 0
 IsRun name words command = IsFound run_arguments found_run (name ∷ words) command
 
--- the first of two, where it is there, and otherwise the second
+-- the first of two, if it is there, and otherwise the second
 either : (name : Text) (words : List Text) (a b : Option Command) → (IsSome a → IsRun name words a) → (IsSome b → IsRun name words b) → IsSome (option_or a b)
     → IsRun name words (option_or a b)
 either name words None b f g h = g h
@@ -282,7 +282,7 @@ make_literal name (b ∷ bs) (d ∷ ds) (e ∷ es) file other last = (
   make_is_read name b bs (not_true _ file) d ds (not_true _ other) e es (not_true _ last) make_found,
 )
 
--- where all three are there, each is
+-- if all three are there, each is
 three_parts : (a b c : Option ℕ) → IsSome (option_and_then (λ seed. option_and_then (λ targets. option_map (Make seed targets) c) b) a) → IsSome a × IsSome b × IsSome c
 three_parts None b c h = absurd (true≢false (sym h))
 three_parts (Some x) None c h = absurd (true≢false (sym h))

@@ -1,4 +1,4 @@
--- Whether words are a command, and whether it runs on threads.
+-- Whether arguments are a command, and whether it runs on threads.
 use Rattle.std.proofs.Common.{◌≡◌, refl, ℕ, ◌<◌, ◌≤◌, arith, length, Bool, true, false, ◌&&◌, ◌||◌, List, [], ◌∷◌, Option, None, Some, if◌then◌else◌}
 use Rattle.std.specs.Prelude.{is_some, option_and_then, option_map, String}
 use Rattle.std.specs.declared.alloc.Global.{Global}
@@ -22,12 +22,12 @@ pub either_some : (a b : Option Command) → is_some (option_or a b) ≡ (is_som
 either_some None b = refl
 either_some (Some x) b = refl
 
--- a value where a command is meant
+-- a value if a command is meant
 pub some_meant : (command : Option CommandWords) → is_some (option_map meant command) ≡ is_some command
 some_meant None = refl
 some_meant (Some x) = refl
 
--- fewer than two words, and more than four, are no run
+-- fewer than two arguments, and more than four, are no run
 pub too_few : (words : List (String Global)) → length words < 2 → is_some (run_of (texts words)) ≡ false
 too_few [] few = refl
 too_few (first ∷ []) few = refl

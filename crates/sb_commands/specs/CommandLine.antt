@@ -6,13 +6,13 @@ use Rattle.clap.specs.declared.builder.ArgAction.TheVariants.{Set}
 use Rattle.sb_commands.specs.Commands.{Command, Check, Replay, Run, make_of}
 use Rattle.sb_commands.specs.NumberWords.{default_workers, workers_of}
 
--- what the library is told of an argument of this name: `--workers N`, a schedule, which a command may have, or a word that it has to have
+-- what the library is told of an argument of this name: `--workers N`, a schedule, which a command may have, or an argument that it has to have
 abbrev pub rule_by : Text → Rule
 rule_by name =
     if pointwise nat_eq name (codes "workers") then record (new_rule name) { long = Some name; action = Some Set }
     else record (new_rule name) { required = not (pointwise nat_eq name (codes "schedule")); action = Some Set }
 
--- the name of a command, if the words are one
+-- the name of a command, if the arguments are one
 abbrev pub name_of : List Text → Text
 name_of [] = []
 name_of (name ∷ words) = name
@@ -62,7 +62,7 @@ abbrev pub found_replay : Values → Option Command
 found_replay values =
     option_and_then (λ policy. option_map (λ script. Replay policy script (values (codes "schedule"))) (values (codes "script"))) (values (codes "policy"))
 
--- the number of workers, where one is given
+-- the number of workers, if one is given
 abbrev pub workers_by : Option Text → Option ℕ
 workers_by None = Some default_workers
 workers_by (Some word) = workers_of word
@@ -75,7 +75,7 @@ run_found policy script workers =
 abbrev pub found_run : Values → Option Command
 found_run values = run_found (values (codes "policy")) (values (codes "script")) (values (codes "workers"))
 
--- `make`, by the words of its numbers
+-- `make`, by the arguments of its numbers
 abbrev pub make_by : Text → Text → Text → Option Command
 make_by seed targets calls = make_of (seed ∷ targets ∷ calls ∷ [])
 
@@ -93,6 +93,6 @@ named_command name values =
     else (if pointwise nat_eq name (codes "replay") then found_replay values
     else (if pointwise nat_eq name (codes "run") then found_run values else found_make values))
 
--- the command that was found in these words
+-- the command that was found in these arguments
 abbrev pub found_command : List Text → Values → Option Command
 found_command words values = named_command (name_of words) values

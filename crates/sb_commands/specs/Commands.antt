@@ -1,4 +1,4 @@
--- Which command the words are.
+-- Which command the arguments are.
 use Rattle.std.specs.Prelude.{ℕ, ◌≤◌, ⊤, Bool, true, false, not, ◌&&◌, ◌==◌, nat_eq, List, [], ◌∷◌, Option, None, Some, if◌then◌else◌, codes, map, option_and_then, option_map, string_bytes, String}
 use Rattle.std.specs.Borrow.{Bor}
 use Rattle.std.specs.Cmp.Lexicographic.{pointwise}
@@ -8,7 +8,7 @@ use Rattle.sb_commands.specs.NumberWords.{calls_of, default_workers, seed_of, ta
 use Rattle.sb_commands.specs.declared.commands.CommandWords.{CommandWords}
 use Rattle.sb_commands.specs.declared.commands.CommandWords.TheVariants as words
 
--- a command with the names of its files, or with its numbers: policies are checked; a script is replayed under policies, by a schedule where one is
+-- a command with the names of its files, or with its numbers: policies are checked; a script is replayed under policies, by a schedule if one is
 -- named; a script is run under policies on threads, by this number of workers; or a script of this seed, with these numbers of targets and of calls a
 -- thread, is made and run on threads
 pub data Command : Type 0 where
@@ -17,12 +17,12 @@ pub data Command : Type 0 where
   Run : List ℕ → List ℕ → ℕ → Command
   Make : ℕ → ℕ → ℕ → Command
 
--- a word names a file where it is not empty and does not begin with `-`
+-- an argument names a file if it is not empty and does not begin with `-`
 abbrev pub is_file_word : List ℕ → Bool
 is_file_word [] = false
 is_file_word (b ∷ bs) = not (b == 45)
 
--- `check POLICY`, by the words behind the command's name
+-- `check POLICY`, by the arguments after the command's name
 abbrev pub check_of : List (List ℕ) → Option Command
 check_of (policy ∷ []) = if is_file_word policy then Some (Check policy) else None
 check_of _ = None
@@ -38,11 +38,11 @@ replay_of _ = None
 abbrev pub run_by : List ℕ → List ℕ → Option ℕ → Option Command
 run_by policy script workers = if is_file_word policy && is_file_word script then option_map (Run policy script) workers else None
 
--- two files and `--workers=N`, which stands before them or behind them
+-- two files and `--workers=N`, which stands before them or after them
 abbrev pub run_joined : List ℕ → List ℕ → List ℕ → Option Command
 run_joined first second third = option_or (run_by second third (workers_joined first)) (run_by first second (workers_joined third))
 
--- two files and `--workers N`, which stand before them or behind them
+-- two files and `--workers N`, which stand before them or after them
 abbrev pub run_apart : List ℕ → List ℕ → List ℕ → List ℕ → Option Command
 run_apart first second third fourth = option_or (run_by third fourth (workers_apart first second)) (run_by first second (workers_apart third fourth))
 
@@ -59,7 +59,7 @@ make_of (seed ∷ targets ∷ calls ∷ []) =
     option_and_then (λ seed. option_and_then (λ targets. option_map (Make seed targets) (calls_of calls)) (targets_of targets)) (seed_of seed)
 make_of _ = None
 
--- the command of a name, with the words behind it
+-- the command of a name, with the arguments after it
 abbrev pub command_by : List ℕ → List (List ℕ) → Option Command
 command_by name words =
     if pointwise nat_eq name (codes "check") then check_of words
@@ -67,12 +67,12 @@ command_by name words =
     else (if pointwise nat_eq name (codes "run") then run_of words
     else (if pointwise nat_eq name (codes "make") then make_of words else None)))
 
--- one of these; no other words are a command
+-- one of these; no other arguments are a command
 abbrev pub command_of : List (List ℕ) → Option Command
 command_of [] = None
 command_of (name ∷ words) = command_by name words
 
--- the name of a file, where one is given
+-- the name of a file, if one is given
 abbrev pub named : Option (Bor (List ℕ)) → Option (List ℕ)
 named file = option_map (λ name. name.now) file
 
@@ -94,7 +94,7 @@ HasNumbers (words.Replay policy script schedule) = ⊤
 HasNumbers (words.Run policy script workers) = (1 ≤ workers) × (workers ≤ 8)
 HasNumbers (words.Make seed targets calls) = ((1 ≤ targets) × (targets ≤ 8)) × ((1 ≤ calls) × (calls ≤ 4096))
 
--- how many files a replay has, with the schedule's where one is named
+-- how many files a replay has, with the schedule's if one is named
 abbrev pub replay_files : Option (List ℕ) → ℕ
 replay_files None = 2
 replay_files (Some schedule) = 3
@@ -118,6 +118,6 @@ abbrev pub needs_threads : Option Command → Bool
 needs_threads None = false
 needs_threads (Some command) = is_threaded command
 
--- the words as lists of bytes
+-- the arguments as lists of bytes
 abbrev pub texts : List (String Global) → List (List ℕ)
 texts words = map string_bytes words

@@ -7,7 +7,7 @@ use Rattle.sb_text.specs.Numbers.{decimal_of}
 abbrev pub within : ℕ → ℕ → ℕ → Option ℕ
 within low high n = if nat_le low n && nat_le n high then Some n else None
 
--- such a number as a word
+-- such a number as an argument
 abbrev pub number_within : ℕ → ℕ → List ℕ → Option ℕ
 number_within low high word = option_and_then (within low high) (decimal_of word)
 
@@ -15,7 +15,7 @@ number_within low high word = option_and_then (within low high) (decimal_of word
 abbrev pub workers_of : List ℕ → Option ℕ
 workers_of word = number_within 1 8 word
 
--- `--workers N`, in two words
+-- `--workers N`, in two arguments
 abbrev pub workers_apart : List ℕ → List ℕ → Option ℕ
 workers_apart option word = if pointwise nat_eq option (codes "--workers") then workers_of word else None
 
@@ -23,7 +23,7 @@ workers_apart option word = if pointwise nat_eq option (codes "--workers") then 
 abbrev pub workers_joined : List ℕ → Option ℕ
 workers_joined word = if pointwise nat_eq (take 10 word) (codes "--workers=") then workers_of (drop 10 word) else None
 
--- where no number is given
+-- if no number is given
 abbrev pub default_workers : ℕ
 default_workers = 2
 

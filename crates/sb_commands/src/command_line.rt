@@ -1,4 +1,4 @@
-// The command lines as the library that reads them sees them: each for the words of one command, whose name stands where a program's would.
+// The command lines as the library that reads them sees them: each for the arguments of one command, whose name stands where a program's would.
 ghost use Rattle.std.specs.Prelude.{◌≡◌, ◌≤◌, IfOk, IfSome, false, map, option_map};
 ghost use Rattle.clap.specs.Words.{app_of, first_value, found_of, rule_of};
 ghost use Rattle.sb_commands.specs.Commands.{HasNumbers, meant, texts};
@@ -9,7 +9,7 @@ use crate::number_words::{calls_of, seed_of, targets_of, workers_of};
 use clap::{Arg, ArgAction, ArgMatches, Command};
 use std::alloc::{AllocError, Global};
 
-// An argument by its name: `--workers N`, a schedule, which a command may have, or a word that it has to have.
+// An argument by its name: `--workers N`, a schedule, which a command may have, or an argument that it has to have.
 fn argument<'a>(alloc: Global, name: &'a str) -> Arg<'a>
     ensures rule { rule_of result ≡ rule_by name.entry.now }
     ensures local { result.global ≡ false }
@@ -23,7 +23,7 @@ fn argument<'a>(alloc: Global, name: &'a str) -> Arg<'a>
     }
 }
 
-// The name of the command, if the words are one.
+// The name of the command, if the arguments are one.
 fn name_of(words: &[String]) -> &str
     ensures { result.now ≡ name_of (texts words.now) }
 {
@@ -45,7 +45,7 @@ fn arguments_of<'a>(name: &str) -> &'a [&'a str]
     }
 }
 
-/// The command line of the command that the words name.
+/// The command line of the command that the arguments name.
 pub(crate) fn command_line<'a>(alloc: Global, words: &[String]) -> Result<Command<'a>, AllocError>
     ensures { IfOk result (λ c. app_of c ≡ command_line (texts words.now)) }
 {
@@ -81,7 +81,7 @@ fn found_replay<'a>(values: &ArgMatches<'a>) -> Option<CommandWords<'a>>
     })
 }
 
-// The number of workers, where one is given.
+// The number of workers, if one is given.
 fn workers_by(word: Option<&str>) -> Option<u32>
     ensures value { result ≡ workers_by (option_map (λ w. w.now) word.entry) }
     ensures within { IfSome result (λ n. (1 ≤ n) × (n ≤ 8)) }
@@ -107,7 +107,7 @@ fn found_run<'a>(values: &ArgMatches<'a>) -> Option<CommandWords<'a>>
     })
 }
 
-/// `make` by the words of its numbers.
+/// `make` by the arguments of its numbers.
 pub(crate) fn make_by<'a>(seed: &str, targets: &str, calls: &str) -> Option<CommandWords<'a>>
     ensures meant { option_map meant result ≡ make_by seed.now targets.now calls.now }
     ensures numbers { IfSome result HasNumbers }
@@ -133,7 +133,7 @@ fn found_make<'a>(values: &ArgMatches<'a>) -> Option<CommandWords<'a>>
     make_by(seed, targets, calls)
 }
 
-/// The command that the words name, with its values.
+/// The command that the arguments name, with its values.
 pub(crate) fn found_command<'a>(
     words: &[String],
     values: &ArgMatches<'a>,

@@ -1,4 +1,4 @@
-// Which command the words are.
+// Which command the arguments are.
 ghost use Rattle.std.specs.Prelude.{◌≡◌, ◌≢◌, IfOk, IfSome, IsErr, None, is_some, option_map};
 ghost use Rattle.sb_commands.specs.Commands.{HasNumbers, command_by, command_of, check_of, replay_of, run_apart, run_by, run_joined, run_of, make_of, is_file_word, meant, needs_threads, texts};
 
@@ -15,7 +15,7 @@ pub enum CommandWords<'a> {
     Check {
         policy: &'a str,
     },
-    /// A script is run under policies, by a schedule where one is named, and its transcript is printed.
+    /// A script is run under policies, by a schedule if one is named, and its transcript is printed.
     Replay {
         policy: &'a str,
         script: &'a str,
@@ -35,7 +35,7 @@ pub enum CommandWords<'a> {
     },
 }
 
-// Whether a word names a file: it is not empty and does not begin with `-`.
+// Whether an argument names a file: it is not empty and does not begin with `-`.
 fn is_file_word(word: &str) -> bool
     ensures { result ≡ is_file_word word.now }
 {
@@ -45,7 +45,7 @@ fn is_file_word(word: &str) -> bool
     }
 }
 
-// Whether the words behind `check` are `POLICY`.
+// Whether the arguments after `check` are `POLICY`.
 fn is_check(words: &[String]) -> bool
     ensures { result ≡ is_some (check_of (texts words.now)) }
 {
@@ -55,7 +55,7 @@ fn is_check(words: &[String]) -> bool
     }
 }
 
-// Whether the words behind `replay` are `POLICY SCRIPT [SCHEDULE]`.
+// Whether the arguments after `replay` are `POLICY SCRIPT [SCHEDULE]`.
 fn is_replay(words: &[String]) -> bool
     ensures { result ≡ is_some (replay_of (texts words.now)) }
 {
@@ -70,7 +70,7 @@ fn is_replay(words: &[String]) -> bool
     }
 }
 
-// Whether two words name the files of a run, for this number of workers, if that is one.
+// Whether two arguments name the files of a run, for this number of workers, if that is one.
 #[tactic(auto, using(crate::proofs::WordTests::run_by_some))]
 fn is_run_by(policy: &str, script: &str, workers: Option<u32>) -> bool
     ensures { result ≡ is_some (run_by policy.now script.now workers) }
@@ -78,7 +78,7 @@ fn is_run_by(policy: &str, script: &str, workers: Option<u32>) -> bool
     is_file_word(policy) && is_file_word(script) && workers.is_some()
 }
 
-// Whether three words behind `run` are two files and `--workers=N`, which stands before them or behind them.
+// Whether three arguments after `run` are two files and `--workers=N`, which stands before them or after them.
 #[tactic(auto, using(crate::proofs::WordTests::either_some))]
 fn is_run_joined(first: &str, second: &str, third: &str) -> bool
     ensures { result ≡ is_some (run_joined first.now second.now third.now) }
@@ -87,7 +87,7 @@ fn is_run_joined(first: &str, second: &str, third: &str) -> bool
         || is_run_by(first, second, workers_joined(third))
 }
 
-// Whether four words behind `run` are two files and `--workers N`, which stand before them or behind them.
+// Whether four arguments after `run` are two files and `--workers N`, which stand before them or after them.
 #[tactic(auto, using(crate::proofs::WordTests::either_some))]
 fn is_run_apart(first: &str, second: &str, third: &str, fourth: &str) -> bool
     ensures { result ≡ is_some (run_apart first.now second.now third.now fourth.now) }
@@ -96,7 +96,7 @@ fn is_run_apart(first: &str, second: &str, third: &str, fourth: &str) -> bool
         || is_run_by(first, second, workers_apart(third, fourth))
 }
 
-// Whether the words behind `run` are `POLICY SCRIPT [--workers N]`, the option before the files or behind them.
+// Whether the arguments after `run` are `POLICY SCRIPT [--workers N]`, the option before the files or after them.
 fn is_run(words: &[String]) -> bool
     ensures { result ≡ is_some (run_of (texts words.now)) }
 {
@@ -115,7 +115,7 @@ fn is_run(words: &[String]) -> bool
     }
 }
 
-// Whether the words behind `make` are `SEED TARGETS CALLS`.
+// Whether the arguments after `make` are `SEED TARGETS CALLS`.
 #[tactic(auto, using(crate::proofs::WordTests::some_meant))]
 fn is_make(words: &[String]) -> bool
     ensures { result ≡ is_some (make_of (texts words.now)) }
@@ -130,7 +130,7 @@ fn is_make(words: &[String]) -> bool
     }
 }
 
-// Whether a name and the words behind it are a command.
+// Whether a name and the arguments after it are a command.
 fn is_command_by(name: &str, words: &[String]) -> bool
     ensures { result ≡ is_some (command_by name.now (texts words.now)) }
 {
@@ -143,7 +143,7 @@ fn is_command_by(name: &str, words: &[String]) -> bool
     }
 }
 
-// Whether the words are a command.
+// Whether the arguments are a command.
 fn is_command(words: &[String]) -> bool
     ensures { result ≡ is_some (command_of (texts words.now)) }
 {
@@ -153,7 +153,7 @@ fn is_command(words: &[String]) -> bool
     }
 }
 
-// Whether a name and the words behind it are a command that runs on threads.
+// Whether a name and the arguments after it are a command that runs on threads.
 fn is_threaded_by(name: &str, words: &[String]) -> bool
     ensures { result ≡ needs_threads (command_by name.now (texts words.now)) }
 {
@@ -166,7 +166,7 @@ fn is_threaded_by(name: &str, words: &[String]) -> bool
     }
 }
 
-/// Whether the words are a command that runs on threads: `run` or `make`. It takes no memory.
+/// Whether the arguments are a command that runs on threads: `run` or `make`. Does not allocate.
 pub fn needs_threads(words: &[String]) -> bool
     ensures { result ≡ needs_threads (command_of (texts words.now)) }
 {
@@ -176,14 +176,14 @@ pub fn needs_threads(words: &[String]) -> bool
     }
 }
 
-/// The command that the words are: `check POLICY`, `replay POLICY SCRIPT [SCHEDULE]`, `run POLICY SCRIPT [--workers N]` or `make SEED
-/// TARGETS CALLS`. Any other words are no command.
+/// The command that the arguments are: `check POLICY`, `replay POLICY SCRIPT [SCHEDULE]`, `run POLICY SCRIPT [--workers N]` or `make SEED
+/// TARGETS CALLS`. Any other arguments are no command.
 ///
-/// Which words are a command is tested here. Only words that are go to the library for command lines, which gives the
+/// Which arguments are a command is tested here. Only arguments that are go to the library for command lines, which gives the
 /// values.
 ///
 /// # Errors
-/// `NoMemory` where there was none to read words that are a command, and never over other words.
+/// `NoMemory` if there was none to read arguments that are a command, and never over other arguments.
 pub fn command_of(alloc: Global, words: &[String]) -> Result<Option<CommandWords<'_>>, NoMemory>
     ensures exact { IfOk result (λ command. option_map meant command ≡ command_of (texts words.now)) }
     ensures numbers { IfOk result (λ command. IfSome command HasNumbers) }
@@ -196,7 +196,7 @@ pub fn command_of(alloc: Global, words: &[String]) -> Result<Option<CommandWords
         Ok(values) => Ok(found_command(words, &values)),
         Err(error) => match error.kind() {
             ErrorKind::OutOfMemory => Err(NoMemory),
-            // The library takes all words that are a command.
+            // The library takes all arguments that are a command.
             _ => unreachable!(),
         },
     }

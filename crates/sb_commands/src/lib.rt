@@ -1,4 +1,4 @@
-// The words of the command line: which command they are, and its values. A library for command lines reads them, once they are known to be a command.
+// The arguments of the command line: which command they are, and its values. A library for command lines reads them, once they are known to be a command.
 #![tactic(auto)]
 
 mod command_line;

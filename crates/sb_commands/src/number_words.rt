@@ -24,7 +24,7 @@ pub(crate) fn workers_of(word: &[u8]) -> Option<u32>
     number_within(1, 8, word)
 }
 
-/// The number of workers that the two words `--workers N` give.
+/// The number of workers that the two arguments `--workers N` give.
 pub(crate) fn workers_apart(option: &str, word: &str) -> Option<u32>
     ensures { result ≡ workers_apart option.now word.now }
 {
@@ -34,7 +34,7 @@ pub(crate) fn workers_apart(option: &str, word: &str) -> Option<u32>
     None
 }
 
-/// The number of workers that the one word `--workers=N` gives.
+/// The number of workers that the one argument `--workers=N` gives.
 pub(crate) fn workers_joined(word: &str) -> Option<u32>
     ensures { result ≡ workers_joined word.now }
 {

@@ -64,7 +64,7 @@ call_of target kind k =
 abbrev pub statement_of : ℕ → ℕ → Statement
 statement_of target x = call_of target (kind_of x) (number_of x)
 
--- the next n statements of a thread, where the generator is at x before the first
+-- the next n statements of a thread, if the generator is at x before the first
 abbrev pub statements_of : ℕ → ℕ → ℕ → List Statement
 statements_of target zero x = []
 statements_of target (suc n) x = statement_of target (next x) ∷ statements_of target n (next x)

@@ -1,10 +1,9 @@
 // The policy of generated scripts.
-ghost use Rattle.std.specs.Prelude.{◌≡◌, true, length, IfOk};
-ghost use Rattle.sb_rule.specs.WellMade.{are_well_made};
+ghost use Rattle.std.specs.Prelude.{◌≡◌, length, IfOk};
 ghost use Rattle.sb_gen.specs.Policies.{policy_text, AreMade};
 
 use sb_items::NoMemory;
-use sb_rule::Policies;
+use sb_rule::WellMadePolicies;
 use sb_ruletext::{TextRefused, read_policies};
 use std::alloc::Global;
 
@@ -17,10 +16,9 @@ pub fn policy_text() -> &'static [u8]
 
 // The policies of that text. It has no fault.
 #[tactic(auto, using(crate::proofs::PolicyText::one_is_made, crate::proofs::PolicyText::text_has_no_fault))]
-pub(crate) fn policies(alloc: Global) -> Result<Policies, NoMemory>
+pub(crate) fn policies(alloc: Global) -> Result<WellMadePolicies, NoMemory>
     ensures made { IfOk result (λ policies. AreMade policies.list) }
     ensures one { IfOk result (λ policies. length policies.list ≡ 1) }
-    ensures well_made { IfOk result (λ policies. are_well_made policies.list ≡ true) }
 {
     match read_policies(alloc, policy_text()) {
         Ok(policies) => Ok(policies),

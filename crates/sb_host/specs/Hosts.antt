@@ -1,5 +1,6 @@
--- Why a real file was not read, and which faults are counted.
-use Rattle.std.specs.Prelude.{ℕ}
+-- Why a real file was not read, which faults are counted, and what a writer is given of the bytes that are due.
+use Rattle.std.specs.Prelude.{◌≡◌, ℕ, List, ◌++◌, Option}
+use Rattle.std.specs.Io.KnownBytes.{Appends}
 use Rattle.std.specs.declared.io.ErrorKind.{ErrorKind}
 use Rattle.std.specs.declared.io.ErrorKind.TheVariants as kind
 use Rattle.sb_outside.specs.Outside.{next_count}
@@ -23,3 +24,7 @@ count_after Missing count = next_count count
 count_after TooLong count = next_count count
 count_after Failed count = next_count count
 count_after NoMemory count = count
+
+-- of the bytes that were due the writer was given the first, where it tells what it has, and the others are left
+abbrev pub Gives : Option (List ℕ) → List ℕ → Option (List ℕ) → List ℕ → Type 0
+Gives old due new left = (part : List ℕ) × (due ≡ part ++ left) × Appends old new part

@@ -1,9 +1,11 @@
-// Real files and standard output. They tell no content.
-ghost use Rattle.std.specs.Prelude.{◌≡◌, ◌<◌, ◌≤◌, None, length, vec_len, IfOk, IfSome, IsErrOf, OnOk, OnErr};
+// Real files and standard output. They tell no content. What is held back of an output is kept here and not by std's `BufWriter`, which does
+// not tell it.
+ghost use Rattle.std.specs.Prelude.{◌≡◌, ◌<◌, ◌≤◌, ◌+◌, ◌-◌, ◌++◌, [], None, length, vec_len, IfOk, IfSome, IsErrOf, OnOk, OnErr};
 ghost use Rattle.std.specs.Io.KnownBytes.{Appends};
 ghost use Rattle.sb_outside.specs.Outside.{next_count};
-ghost use Rattle.sb_host.specs.Hosts.{open_fault, read_fault, count_after};
+ghost use Rattle.sb_host.specs.Hosts.{Gives, open_fault, read_fault, count_after};
 
+use sb_items::NoMemory;
 use sb_outside::{FileFault, Files, Sink, SinkFault};
 use std::alloc::Global;
 use std::io::{ErrorKind, Read, Write};
@@ -53,7 +55,7 @@ impl<R: rt::Files + Drop> Files for HostFiles<R> {
     }
 }
 
-// The content of the file of this name, where it has at most `most` bytes.
+// The content of the file of this name, if it has at most `most` bytes.
 fn content_under<R: rt::Files>(
     rt: &R,
     alloc: Global,
@@ -68,7 +70,7 @@ fn content_under<R: rt::Files>(
     }
 }
 
-// All that a reader has, where that is at most `most` bytes. One byte more is read to find more.
+// All that a reader has, if that is at most `most` bytes. One byte more is read to find more.
 fn content<F: Read + Drop>(alloc: Global, file: F, most: u64) -> Result<Vec<u8>, FileFault>
     ensures short { IfOk result (λ bytes. vec_len bytes ≤ most) }
     ensures whole { IfOk result (λ bytes. IfSome (F.remaining file) (λ all. bytes.items ≡ all)) }
@@ -105,43 +107,193 @@ fn read_fault(kind: ErrorKind) -> FileFault
     }
 }
 
-/// A writer as an output.
+/// How many bytes a piece has in which a file or a pipe is written.
+pub const PIECE: usize = 65_536;
+
+/// A writer as an output, which holds back less than a piece.
 #[derive(Drop)]
 pub struct HostSink<W: Write + Drop> {
     /// What writes.
     pub writer: W,
+    /// The bytes that are held back.
+    pub pending: Vec<u8>,
+    /// How many bytes a piece has. If it is 0, each put is written at once.
+    pub piece: usize,
     /// The count of faults, which stays at its last value.
     pub faults: u64,
 }
 
 impl<W: Write + Drop> HostSink<W> {
-    /// The output that `writer` writes, without a fault so far.
-    pub fn new(writer: W) -> HostSink<W>
-        ensures writer { result.writer ≡ writer }
-        ensures faults { result.faults ≡ 0 }
+    /// The output that `writer` writes in pieces of this many bytes, and each put at once if there are none. It has no fault so far.
+    ///
+    /// # Errors
+    /// `NoMemory` if memory for a piece runs out.
+    pub fn new(alloc: Global, writer: W, piece: usize) -> Result<HostSink<W>, NoMemory>
+        ensures writer { IfOk result (λ s. s.writer ≡ writer) }
+        ensures empty { IfOk result (λ s. s.pending.items ≡ []) }
+        ensures piece { IfOk result (λ s. s.piece ≡ piece) }
+        ensures faults { IfOk result (λ s. s.faults ≡ 0) }
     {
-        HostSink { writer, faults: 0 }
+        let pending = Vec::with_capacity(alloc, piece)?;
+        Ok(HostSink {
+            writer,
+            pending,
+            piece,
+            faults: 0,
+        })
+    }
+
+    // Writes all that is pending. After a fault nothing is pending either, since it is not known how much of it was written.
+    fn write_pending(&mut self) -> Result<(), SinkFault>
+        ensures appended { OnOk result (Appends (W.contents self.old.writer) (W.contents self.new.writer) self.old.pending.items) }
+        ensures emptied { self.new.pending.items ≡ [] }
+        ensures piece { self.new.piece ≡ self.old.piece }
+        ensures ok_count { OnOk result (self.new.faults ≡ self.old.faults) }
+        ensures failed { OnErr result (self.new.faults ≡ next_count self.old.faults) }
+        ensures counted { self.old.faults ≤ self.new.faults }
+    {
+        let result = write_to(&mut self.writer, &mut self.faults, &self.pending);
+        self.pending.clear();
+        result
+    }
+
+    // Writes what is pending and then these bytes.
+    #[tactic(auto, using(crate::proofs::Passing::gives_all))]
+    fn write_behind(&mut self, bytes: &[u8]) -> Result<(), SinkFault>
+        ensures gives { OnOk result (Gives (W.contents self.old.writer) (self.old.pending.items ++ bytes.now)
+            (W.contents self.new.writer) self.new.pending.items) }
+        ensures emptied { self.new.pending.items ≡ [] }
+        ensures piece { self.new.piece ≡ self.old.piece }
+        ensures ok_count { OnOk result (self.new.faults ≡ self.old.faults) }
+        ensures failed { OnErr result (self.new.faults ≡ next_count self.old.faults) }
+        ensures counted { self.old.faults ≤ self.new.faults }
+    {
+        match self.write_pending() {
+            Ok(()) => write_to(&mut self.writer, &mut self.faults, bytes),
+            Err(fault) => Err(fault),
+        }
+    }
+
+    // Holds back bytes that are fewer than a piece lacks. The room for a piece was reserved; without it all is written.
+    #[tactic(auto, using(crate::proofs::Passing::gives_none))]
+    fn hold(&mut self, bytes: &[u8]) -> Result<(), SinkFault>
+        ensures gives { OnOk result (Gives (W.contents self.old.writer) (self.old.pending.items ++ bytes.now)
+            (W.contents self.new.writer) self.new.pending.items) }
+        ensures short { OnOk result (length self.new.pending.items ≤ length self.old.pending.items + length bytes.now) }
+        ensures piece { self.new.piece ≡ self.old.piece }
+        ensures ok_count { OnOk result (self.new.faults ≡ self.old.faults) }
+        ensures failed { OnErr result (self.new.faults ≡ next_count self.old.faults) }
+        ensures counted { self.old.faults ≤ self.new.faults }
+    {
+        match self.pending.extend_from_slice(bytes) {
+            Ok(()) => Ok(()),
+            Err(_) => self.write_behind(bytes),
+        }
+    }
+
+    // Fills a piece with these bytes, and writes it.
+    #[tactic(auto, using(crate::proofs::Passing::gives_left))]
+    fn fill_piece(&mut self, bytes: &[u8]) -> Result<(), SinkFault>
+        ensures gives { OnOk result (Gives (W.contents self.old.writer) (self.old.pending.items ++ bytes.now)
+            (W.contents self.new.writer) self.new.pending.items) }
+        ensures emptied { OnOk result (self.new.pending.items ≡ []) }
+        ensures piece { self.new.piece ≡ self.old.piece }
+        ensures ok_count { OnOk result (self.new.faults ≡ self.old.faults) }
+        ensures failed { OnErr result (self.new.faults ≡ next_count self.old.faults) }
+        ensures counted { self.old.faults ≤ self.new.faults }
+    {
+        match self.hold(bytes) {
+            Ok(()) => self.write_pending(),
+            Err(fault) => Err(fault),
+        }
+    }
+
+    // Holds bytes back if they are fewer than a piece, where nothing is pending, and else writes them.
+    fn begin_piece(&mut self, bytes: &[u8]) -> Result<(), SinkFault>
+        requires { self.old.pending.items ≡ [] }
+        ensures gives { OnOk result (Gives (W.contents self.old.writer) (self.old.pending.items ++ bytes.now)
+            (W.contents self.new.writer) self.new.pending.items) }
+        ensures short { OnOk result (length self.new.pending.items ≤ self.old.piece - 1) }
+        ensures piece { self.new.piece ≡ self.old.piece }
+        ensures ok_count { OnOk result (self.new.faults ≡ self.old.faults) }
+        ensures failed { OnErr result (self.new.faults ≡ next_count self.old.faults) }
+        ensures counted { self.old.faults ≤ self.new.faults }
+    {
+        if bytes.len() < self.piece {
+            return self.hold(bytes);
+        }
+        self.write_behind(bytes)
+    }
+
+    // Fills a piece with the first bytes and writes it, and begins the next with the others.
+    #[tactic(auto, using(crate::proofs::Passing::gives_more))]
+    fn put_across(&mut self, front: &[u8], rest: &[u8]) -> Result<(), SinkFault>
+        ensures gives { OnOk result (Gives (W.contents self.old.writer) (self.old.pending.items ++ (front.now ++ rest.now))
+            (W.contents self.new.writer) self.new.pending.items) }
+        ensures short { OnOk result (length self.new.pending.items ≤ self.old.piece - 1) }
+        ensures piece { self.new.piece ≡ self.old.piece }
+        ensures ok_count { OnOk result (self.new.faults ≡ self.old.faults) }
+        ensures failed { OnErr result (self.new.faults ≡ next_count self.old.faults) }
+        ensures counted { self.old.faults ≤ self.new.faults }
+    {
+        match self.fill_piece(front) {
+            Ok(()) => self.begin_piece(rest),
+            Err(fault) => Err(fault),
+        }
+    }
+}
+
+// Writes bytes, and counts the fault if they are not all written.
+fn write_to<W: Write>(writer: &mut W, faults: &mut u64, bytes: &[u8]) -> Result<(), SinkFault>
+    ensures appended { OnOk result (Appends (W.contents writer.old) (W.contents writer.new) bytes.now) }
+    ensures ok_count { OnOk result (faults.new ≡ faults.old) }
+    ensures failed { OnErr result (faults.new ≡ next_count faults.old) }
+    ensures counted { faults.old ≤ faults.new }
+{
+    match writer.write_all(bytes) {
+        Ok(()) => Ok(()),
+        Err(_) => {
+            *faults = faults.saturating_add(1);
+            Err(SinkFault::Failed)
+        }
     }
 }
 
 impl<W: Write + Drop> Sink for HostSink<W> {
     ghost written = { λ _. None };
 
+    ghost pending = { λ h. h.pending.items };
+
     ghost faults = { λ h. h.faults };
 
+    #[tactic(auto, using(crate::proofs::Passing::grows_unknown))]
     fn put(&mut self, bytes: &[u8]) -> Result<(), SinkFault>
-        // A writer that tells its bytes has them all.
-        ensures appended { OnOk result (Appends (W.contents self.old.writer) (W.contents self.new.writer) bytes.now) }
+        // A writer that tells its bytes has the first that were due, and the others are pending: fewer than a piece.
+        ensures gives { OnOk result (Gives (W.contents self.old.writer) (self.old.pending.items ++ bytes.now)
+            (W.contents self.new.writer) self.new.pending.items) }
+        ensures short { OnOk result (length self.new.pending.items ≤ self.old.piece - 1) }
+        ensures piece { self.new.piece ≡ self.old.piece }
         ensures ok_count { OnOk result (self.new.faults ≡ self.old.faults) }
         ensures failed { OnErr result (self.new.faults ≡ next_count self.old.faults) }
         ensures counted { self.old.faults ≤ self.new.faults }
     {
-        match self.writer.write_all(bytes) {
-            Ok(()) => Ok(()),
-            Err(_) => {
-                self.faults = self.faults.saturating_add(1);
-                Err(SinkFault::Failed)
-            }
+        let room = self.piece.saturating_sub(self.pending.len());
+        if bytes.len() < room {
+            return self.hold(bytes);
         }
+        let (front, rest) = bytes.split_at(room);
+        self.put_across(front, rest)
+    }
+
+    fn finish(&mut self) -> Result<(), SinkFault>
+        // A writer that tells its bytes has all that were pending.
+        ensures appended { OnOk result (Appends (W.contents self.old.writer) (W.contents self.new.writer) self.old.pending.items) }
+        ensures emptied { self.new.pending.items ≡ [] }
+        ensures piece { self.new.piece ≡ self.old.piece }
+        ensures ok_count { OnOk result (self.new.faults ≡ self.old.faults) }
+        ensures failed { OnErr result (self.new.faults ≡ next_count self.old.faults) }
+        ensures counted { self.old.faults ≤ self.new.faults }
+    {
+        self.write_pending()
     }
 }

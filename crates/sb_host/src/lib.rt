@@ -4,5 +4,5 @@
 mod hosts;
 mod own_words;
 
-pub use hosts::{HostFiles, HostSink};
+pub use hosts::{HostFiles, HostSink, PIECE};
 pub use own_words::{OwnWord, own_text, own_word};

@@ -1,4 +1,4 @@
-// The words that the program answers itself.
+// The arguments that the program answers itself.
 ghost use Rattle.std.specs.Prelude.{◌≡◌, ◌<◌, length, map, string_bytes};
 ghost use Rattle.sb_host.specs.OwnWords.{own_word_by, own_word_of};
 
@@ -11,7 +11,7 @@ pub enum OwnWord {
     Version,
 }
 
-/// `--help` or `--version`, where it is the one and only word.
+/// `--help` or `--version`, if it is the one and only argument.
 pub fn own_word(words: &[String]) -> Option<OwnWord>
     ensures { result ≡ own_word_of (map string_bytes words.now) }
 {
@@ -33,7 +33,7 @@ fn own_word_by(word: &[u8]) -> Option<OwnWord>
     None
 }
 
-/// What is answered to such a word: some text.
+/// What is answered to such an argument: some text.
 pub fn own_text(word: OwnWord) -> &'static str
     ensures { 0 < length result.now }
 {

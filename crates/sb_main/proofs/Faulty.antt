@@ -1,4 +1,4 @@
--- Words that the top call takes for no command.
+-- Arguments that the top call takes for no command.
 use Rattle.std.proofs.Common.{◌≡◌, Option, None, Some, refl}
 use Rattle.sb_outside.specs.Outside.{Held}
 use Rattle.sb_commands.specs.Commands.{Command}

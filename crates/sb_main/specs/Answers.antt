@@ -1,7 +1,7 @@
--- What the program does for its words, over any files and any output.
-use Rattle.std.specs.Prelude.{◌≡◌, ◌⊎◌, ◌<◌, ◌++◌, ℕ, List, Option, length, option_map}
+-- What the program does for its arguments, over any files and any output.
+use Rattle.std.specs.Prelude.{◌≡◌, ◌⊎◌, ◌<◌, ◌++◌, ℕ, List, [], Option, length}
 use Rattle.sb_commands.specs.Commands.{Command}
-use Rattle.sb_outside.specs.Outside.{Rose}
+use Rattle.sb_outside.specs.Outside.{GrowsBy, Rose}
 use Rattle.sb_top.specs.Effects.{Effect, IsOrderly}
 use Rattle.sb_top.specs.Top.{IsEndOf, IsReportFor, IsToldFor, IsUnreadBy, IsWrittenFor}
 use Rattle.sb_top.specs.declared.outcomes.Outcome.{Outcome}
@@ -19,11 +19,12 @@ pub record IsAnswer {G S : Type 0} (command : Option Command) (e : Effect G S) (
   pub written : IsWrittenFor command e outcome
   pub told : IsToldFor command e outcome
 
--- the output grew by a text
+-- the output grew by what was pending and then a text, and nothing is pending
 pub record IsPut {G S : Type 0} (e : Effect G S) : Type 0 where
   pub text : List ℕ
   pub some : 0 < length text
-  pub grown : e.written' ≡ option_map (λ w. w ++ text) e.written
+  pub grown : GrowsBy e.written (e.pending ++ text) e.written'
+  pub finished : e.pending' ≡ []
 
 -- no file was touched, and a text was put, or the output failed
 pub record IsTold {G S : Type 0} (e : Effect G S) (s : Status) : Type 0 where

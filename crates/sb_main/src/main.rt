@@ -1,8 +1,8 @@
-// The program: the words of its command line, real files and standard output, and how it ends.
+// The program: the arguments of its command line, real files and standard output, and how it ends.
 #![tactic(auto)]
 
-ghost use Rattle.std.specs.Prelude.{◌≡◌, ◌⊎◌, ◌<◌, ◌++◌, IsSome, None, length, option_map};
-ghost use Rattle.sb_outside.specs.Outside.{Rose};
+ghost use Rattle.std.specs.Prelude.{◌≡◌, ◌⊎◌, ◌<◌, ◌++◌, [], IsSome, None, length};
+ghost use Rattle.sb_outside.specs.Outside.{GrowsBy, Rose};
 ghost use Rattle.sb_commands.specs.Commands.{command_of, texts};
 ghost use Rattle.sb_top.specs.Effects.{effect};
 ghost use Rattle.std.specs.Process.{exit_status};
@@ -12,10 +12,11 @@ ghost use Rattle.sb_host.specs.OwnWords.{own_word_of};
 ghost use Rattle.sb_main.specs.Answers.{IsAnswer, IsTold};
 ghost use Rattle.sb_main.specs.Faulty.{IsFaulty};
 
-use sb_host::{HostFiles, HostSink, own_text, own_word};
-use sb_outside::{Files, OpenGate, Sink};
+use sb_host::{HostFiles, HostSink, PIECE, own_text, own_word};
+use sb_items::NoMemory;
+use sb_outside::{Files, OpenGate, Sink, put_text};
 use sb_top::{Complaint, Status, broker_top, exit_code};
-use std::io::ErrorKind;
+use std::io::{ErrorKind, IsTerminal};
 use std::process::ExitCode;
 use std::rt::Env;
 use std::sync::Wait;
@@ -23,7 +24,7 @@ use std::thread::Threads;
 use std::{env, io, rt};
 
 fn main(rt: HostRuntime) -> ExitCode {
-    end(&rt, run(&rt))
+    end(&rt, run(&rt, rt.stdout().is_terminal()))
 }
 
 // Says on standard error what went wrong, and gives the exit code of the status. A line that is not written changes nothing.
@@ -36,8 +37,11 @@ fn end<R: Eprint>(rt: &R, status: Status) -> ExitCode
     ExitCode::from(exit_code(status))
 }
 
-// Gathers the words after the program's name and does what they ask.
-fn run<R: Env + rt::Files + Print + AllocGlobal + Threads + Wait + Sync>(rt: &R) -> Status {
+// Gathers the arguments after the program's name and does what they ask. What is put to a terminal is written at once.
+fn run<R: Env + rt::Files + Print + AllocGlobal + Threads + Wait + Sync>(
+    rt: &R,
+    is_terminal: bool,
+) -> Status {
     let arguments = match env::args(rt) {
         Ok(arguments) => arguments,
         Err(error) => return no_words(error.kind()),
@@ -49,8 +53,11 @@ fn run<R: Env + rt::Files + Print + AllocGlobal + Threads + Wait + Sync>(rt: &R)
     match all.as_slice() {
         [_, words @ ..] => {
             let mut files = HostFiles::new(rt);
-            let mut out = HostSink::new(io::writer(rt));
-            answer(rt, words, &mut files, &mut out)
+            let piece = if is_terminal { 0 } else { PIECE };
+            match HostSink::new(rt.alloc(), io::writer(rt), piece) {
+                Ok(mut out) => answer(rt, words, &mut files, &mut out),
+                Err(NoMemory) => Status::NoMemory,
+            }
         }
         [] => Status::Usage,
     }
@@ -66,7 +73,7 @@ fn no_words(kind: ErrorKind) -> Status
     }
 }
 
-// Answers the program's own words, and leaves all other words to the top call, over any files and any output.
+// Answers the program's own arguments, and leaves all other arguments to the top call, over any files and any output.
 #[tactic(auto, using(crate::proofs::Faulty::usage_is_faulty, crate::proofs::Faulty::faulty_is_usage))]
 fn answer<R: AllocGlobal + Threads + Wait + Sync, F: Files, K: Sink>(
     rt: &R,
@@ -77,9 +84,9 @@ fn answer<R: AllocGlobal + Threads + Wait + Sync, F: Files, K: Sink>(
     ensures usage { result ≡ Status.Usage → IsFaulty (texts words.now) }
     ensures faulty { IsFaulty (texts words.now) → result ≡ Status.Usage }
     ensures command { own_word_of (texts words.now) ≡ None → IsAnswer (command_of (texts words.now))
-        (effect F.held F.faults K.written K.faults files.old files.new out.old out.new) result }
+        (effect F.held F.faults K.written K.pending K.faults files.old files.new out.old out.new) result }
     ensures own { IsSome (own_word_of (texts words.now)) →
-        IsTold (effect F.held F.faults K.written K.faults files.old files.new out.old out.new) result }
+        IsTold (effect F.held F.faults K.written K.pending K.faults files.old files.new out.old out.new) result }
 {
     match own_word(words) {
         Some(word) => tell(own_text(word).as_bytes(), out),
@@ -87,14 +94,15 @@ fn answer<R: AllocGlobal + Threads + Wait + Sync, F: Files, K: Sink>(
     }
 }
 
-// Puts a text, which one of the program's own words asks for.
+// Puts a text, which one of the program's own arguments asks for, and finishes.
 fn tell<S: Sink>(text: &[u8], sink: &mut S) -> Status
-    ensures done { result ≡ Status.Done → S.written sink.new ≡ option_map (λ w. w ++ text.now) (S.written sink.old) }
+    ensures done { result ≡ Status.Done → GrowsBy (S.written sink.old) (S.pending sink.old ++ text.now) (S.written sink.new) }
+    ensures finished { result ≡ Status.Done → S.pending sink.new ≡ [] }
     ensures quiet { result ≡ Status.Done → S.faults sink.new ≡ S.faults sink.old }
     ensures fault { result ≡ Status.WriteFault → Rose (S.faults sink.old) (S.faults sink.new) }
     ensures either { (result ≡ Status.Done) ⊎ (result ≡ Status.WriteFault) }
 {
-    match sink.put(text) {
+    match put_text(sink, text) {
         Ok(()) => Status::Done,
         Err(_) => Status::WriteFault,
     }

@@ -18,7 +18,7 @@ content_of (f ∷ fs) name = if pointwise nat_eq f.name name then Some f.content
 abbrev pub is_failing : MemFiles → Bool
 is_failing m = list_any (λ n. n == next_count m.calls) m.fails
 
--- what was found, where it has no more than `most` bytes
+-- what was found, if it has no more than `most` bytes
 abbrev pub found : Option (List ℕ) → ℕ → Result (List ℕ) FileFault
 found None most = Err Missing
 found (Some bytes) most = if nat_le (length bytes) most then Ok bytes else Err TooLong

@@ -31,12 +31,12 @@ pub trait Files {
 
     ghost faults: { Self → ℕ };
 
-    /// The whole content under `name`, where it has at most `most` bytes. What the files hold stays.
+    /// The whole content under `name`, if it has at most `most` bytes. What the files hold stays.
     ///
     /// # Errors
-    /// `Failed` only where the count of faults rose in this call. `Missing` where there is no such file, and `TooLong`
-    /// where its content has more than `most` bytes: where what the files hold is told these come only by what is told,
-    /// and otherwise only where the count rose. `NoMemory` where there was none for the content.
+    /// `Failed` only if the count of faults rose in this call. `Missing` if there is no such file, and `TooLong`
+    /// if its content has more than `most` bytes: if what the files hold is told these come only by what is told,
+    /// and otherwise only if the count rose. `NoMemory` if there was none for the content.
     fn read(&mut self, alloc: Global, name: &str, most: u64) -> Result<Vec<u8>, FileFault>
         ensures kept { held self.new ≡ held self.old }
         ensures counted { faults self.old ≤ faults self.new }

@@ -14,4 +14,4 @@ pub use gate::{Gate, OpenGate};
 pub use lists::{Bytes, Numbers, Text};
 pub use mem_files::{FileList, MemFiles, StoredFile};
 pub use mem_sink::MemSink;
-pub use sink::{Sink, SinkFault, put_lines};
+pub use sink::{Sink, SinkFault, put_lines, put_text};

@@ -12,7 +12,6 @@ pub struct Text {
     text: String,
 }
 
-// By hand, so that it is proved here once and not at each place that drops one.
 impl Drop for Text {
     fn drop(self) {
         let Text { text: _ } = self;
@@ -45,14 +44,14 @@ impl PartialEq for Text {
 impl Text {
     ghost use Rattle.std.specs.Prelude.{string_bytes};
 
-    /// This text. It takes no memory.
+    /// This text. Does not allocate.
     pub fn new(text: String) -> Text
         ensures { result ≡ string_bytes text }
     {
         Text { text }
     }
 
-    /// The text, given back. It takes no memory.
+    /// The text, given back. Does not allocate.
     pub fn into_string(self) -> String
         ensures { string_bytes result ≡ self }
     {

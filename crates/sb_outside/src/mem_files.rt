@@ -16,7 +16,6 @@ pub struct StoredFile {
     pub content: Bytes,
 }
 
-// By hand, so that it is proved here once and not at each place that drops one.
 impl Drop for StoredFile {
     fn drop(self) {
         let StoredFile {
@@ -29,7 +28,7 @@ impl Drop for StoredFile {
 /// A list of files in memory.
 pub type FileList = Items<StoredFile>;
 
-// The content of the first file of this name, and `None` where there is none.
+// The content of the first file of this name, and `None` if there is none.
 fn content_of<'a>(files: &'a [StoredFile], name: &str) -> Option<&'a Bytes>
     ensures { option_copied result ≡ content_of files.now name.now }
 {

@@ -1,6 +1,6 @@
 // An output in memory.
-ghost use Rattle.std.specs.Prelude.{◌≡◌, ◌≤◌, Some, length, OnErr, IfOk, is_ok};
-ghost use Rattle.sb_outside.specs.Outside.{GrowsByPrefix};
+ghost use Rattle.std.specs.Prelude.{◌≡◌, ◌≤◌, [], Some, length, not, OnOk, OnErr, IfOk, is_ok};
+ghost use Rattle.sb_outside.specs.Outside.{GrowsByPrefix, GrowsUpTo};
 
 use crate::lists::Numbers;
 use crate::sink::{Sink, SinkFault};
@@ -8,10 +8,10 @@ use sb_wide::NoMemory;
 use std::alloc::Global;
 use std::marker::Model;
 
-/// An output in memory, of a room that is reserved once. It tells what was written.
+/// An output in memory, of a room that is reserved once. It tells what was written, and nothing is ever pending.
 ///
-/// The calls of `put` whose number, from 1, stands in `fails` write nothing and answer `Failed`. A put that does not fit
-/// writes what fits and answers `Failed`. The numbers of calls and of faults stay at their last values.
+/// The calls of `put` and `finish` are numbered together, from 1. Those whose number is in `fails` write nothing and return `Failed`. A
+/// put that does not fit writes what fits and returns `Failed`. The numbers of calls and of faults stay at their last values.
 pub struct MemSink {
     bytes: Vec<u8>,
     room: u64,
@@ -20,7 +20,6 @@ pub struct MemSink {
     faults: u64,
 }
 
-// By hand, so that it is proved here once and not at each place that drops one.
 impl Drop for MemSink {
     fn drop(self) {
         let MemSink {
@@ -45,12 +44,12 @@ impl Model for MemSink {
 }
 
 impl MemSink {
-    ghost use Rattle.sb_outside.specs.MemSink.{new_sink};
+    ghost use Rattle.sb_outside.specs.MemSink.{after_finish, is_failing, new_sink};
 
     /// An empty output of `room` bytes, whose calls of the numbers in `fails` fail.
     ///
     /// # Errors
-    /// `NoMemory` where there was none for the room.
+    /// `NoMemory` if there was none for the room.
     pub fn with_room(alloc: Global, room: u64, fails: Vec<u64>) -> Result<MemSink, NoMemory>
         ensures { IfOk result (λ s. s ≡ new_sink room fails.items) }
     {
@@ -64,6 +63,21 @@ impl MemSink {
         })
     }
 
+    // Counts the next call, and the fault if it is one of those that fail.
+    fn fails_next(&mut self) -> bool
+        ensures after { self.new ≡ after_finish self.old }
+        ensures answer { result ≡ is_failing self.old }
+        ensures counted { self.old.faults ≤ self.new.faults }
+        ensures room_kept { length self.new.bytes ≤ self.new.room }
+    {
+        self.calls = self.calls.saturating_add(1);
+        if self.fails.as_slice().contains(&self.calls) {
+            self.faults = self.faults.saturating_add(1);
+            return true;
+        }
+        false
+    }
+
     /// The bytes written so far.
     pub fn written(&self) -> &[u8]
         ensures { result.now ≡ self.now.bytes }
@@ -73,9 +87,11 @@ impl MemSink {
 }
 
 impl Sink for MemSink {
-    ghost use Rattle.sb_outside.specs.MemSink.{after_put, takes_all};
+    ghost use Rattle.sb_outside.specs.MemSink.{after_finish, after_put, is_failing, takes_all};
 
     ghost written = { λ s. Some s.bytes };
+
+    ghost pending = { λ _. [] };
 
     ghost faults = { λ s. s.faults };
 
@@ -85,12 +101,11 @@ impl Sink for MemSink {
         ensures after { self.new ≡ after_put self.old bytes.now }
         ensures answer { is_ok result ≡ takes_all self.old bytes.now }
         ensures counted { self.old.faults ≤ self.new.faults }
+        ensures ok { OnOk result (GrowsUpTo (Some self.old.bytes) bytes.now (Some self.new.bytes) []) }
         ensures prefix { OnErr result (GrowsByPrefix (Some self.old.bytes) bytes.now (Some self.new.bytes)) }
         ensures room_kept { length self.new.bytes ≤ self.new.room }
     {
-        self.calls = self.calls.saturating_add(1);
-        if self.fails.as_slice().contains(&self.calls) {
-            self.faults = self.faults.saturating_add(1);
+        if self.fails_next() {
             return Err(SinkFault::Failed);
         }
         let left = self.room as usize - self.bytes.len();
@@ -101,5 +116,18 @@ impl Sink for MemSink {
             return Err(SinkFault::Failed);
         }
         Ok(())
+    }
+
+    fn finish(&mut self) -> Result<(), SinkFault>
+        // What this one is afterwards, and whether it failed.
+        ensures after { self.new ≡ after_finish self.old }
+        ensures answer { is_ok result ≡ not (is_failing self.old) }
+        ensures counted { self.old.faults ≤ self.new.faults }
+        ensures prefix { OnErr result (GrowsByPrefix (Some self.old.bytes) [] (Some self.new.bytes)) }
+    {
+        match self.fails_next() {
+            true => Err(SinkFault::Failed),
+            false => Ok(()),
+        }
     }
 }

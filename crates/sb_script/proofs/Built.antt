@@ -8,7 +8,7 @@ use Rattle.std.specs.Option.{is_none}
 use Rattle.sb_statements.specs.declared.scripts.TargetScript.{TargetScript}
 use Rattle.sb_statements.specs.declared.statements.Statement.{Statement}
 use Rattle.sb_script.proofs.LastChanged.{changed_behind, last_behind, some_behind}
-use Rattle.sb_script.specs.Building.{headed, told, built, IsBuilt}
+use Rattle.sb_script.specs.Building.{target_script, all_threads, built, IsBuilt}
 use Rattle.sb_script.specs.Lines.{is_target_named}
 use Rattle.sb_script.specs.SoFar.{is_empty, change_last, last_threads, one_thread_more, one_statement_more, in_last_thread}
 use Rattle.sb_script.specs.declared.drafts.Heading.{Heading}
@@ -20,15 +20,15 @@ use Rattle.sb_text.specs.Steps.{◌>>=◌}
 pub opening_built : (before : List TargetScript) (last : Option Heading) (threads : List (List Statement)) (in_thread : Bool) (statements : List Statement)
     → is_empty (built before last threads in_thread statements) ≡ is_none last
 opening_built before None threads in_thread statements = refl
-opening_built before (Some heading) threads in_thread statements = some_behind before (headed heading (told threads in_thread statements))
+opening_built before (Some heading) threads in_thread statements = some_behind before (target_script heading (all_threads threads in_thread statements))
 
 pub thread_built : (before : List TargetScript) (last : Option Heading) (threads : List (List Statement)) (in_thread : Bool) (statements : List Statement)
     → IsBuilt before last threads in_thread statements → not (is_empty (last_threads (built before last threads in_thread statements))) ≡ in_thread
 thread_built before None threads in_thread statements b = sym b.1
 thread_built before (Some heading) threads true statements b =
-    ap (λ ts. not (is_empty ts)) (last_behind before (headed heading (threads ++ statements ∷ []))) ∙ ap not (some_behind threads statements)
+    ap (λ ts. not (is_empty ts)) (last_behind before (target_script heading (threads ++ statements ∷ []))) ∙ ap not (some_behind threads statements)
 thread_built before (Some heading) threads false statements b =
-    ap (λ ts. not (is_empty ts)) (last_behind before (headed heading threads)) ∙ ap (λ ts. not (is_empty ts)) b.0
+    ap (λ ts. not (is_empty ts)) (last_behind before (target_script heading threads)) ∙ ap (λ ts. not (is_empty ts)) b.0
 
 or_false : (b : Bool) → (b || false) ≡ b
 or_false true = refl
@@ -40,7 +40,7 @@ pub any_named : (name : List ℕ) (before : List TargetScript) (last : TargetScr
 any_named name before last =
     list_any-append (is_target_named name) before (last ∷ []) ∙ ap (λ b. list_any (is_target_named name) before || b) (or_false (is_target_named name last))
 
--- there is room for one more behind the last
+-- there is room for one more after the last
 pub room_more : (before : List TargetScript) (last : TargetScript) → nat_lt (length before) 7 ≡ nat_lt (length (before ++ last ∷ [])) 8
 room_more before last =
     let shifted : nat_lt (length before) 7 ≡ nat_lt (length before + 1) 8 = grind (arith, nat_tests) in
@@ -51,7 +51,7 @@ abbrev with_last : List TargetScript → Result TargetScript ScriptKind → Resu
 with_last before target = target >>= λ target. Ok (before ++ target ∷ [])
 
 abbrev with_threads : Heading → Result (List (List Statement)) ScriptKind → Result TargetScript ScriptKind
-with_threads heading threads = threads >>= λ threads. Ok (headed heading threads)
+with_threads heading threads = threads >>= λ threads. Ok (target_script heading threads)
 
 abbrev with_last_thread : List (List Statement) → Result (List Statement) ScriptKind → Result (List (List Statement)) ScriptKind
 with_last_thread threads statements = statements >>= λ statements. Ok (threads ++ statements ∷ [])
@@ -59,13 +59,13 @@ with_last_thread threads statements = statements >>= λ statements. Ok (threads 
 -- one more thread of the last target
 
 thread_behind : (before : List TargetScript) (heading : Heading) (threads : List (List Statement))
-    → change_last one_thread_more (before ++ headed heading threads ∷ [])
-    ≡ with_last before (cond (nat_lt (length threads) 4) (Ok (headed heading (threads ++ [] ∷ []))) (Err TooMany))
-thread_behind before heading threads = changed_behind one_thread_more before (headed heading threads)
+    → change_last one_thread_more (before ++ target_script heading threads ∷ [])
+    ≡ with_last before (cond (nat_lt (length threads) 4) (Ok (target_script heading (threads ++ [] ∷ []))) (Err TooMany))
+thread_behind before heading threads = changed_behind one_thread_more before (target_script heading threads)
 
 -- whether there is room for one more
 abbrev behind_threads : List TargetScript → Heading → List (List Statement) → Bool → Result (List TargetScript) ScriptKind
-behind_threads before heading threads room = with_last before (cond room (Ok (headed heading (threads ++ [] ∷ []))) (Err TooMany))
+behind_threads before heading threads room = with_last before (cond room (Ok (target_script heading (threads ++ [] ∷ []))) (Err TooMany))
 
 -- there is no target
 pub thread_nowhere : (before : List TargetScript) (last : Option Heading) (threads : List (List Statement)) (in_thread : Bool) (statements : List Statement)
@@ -82,7 +82,7 @@ thread_first before (Some heading) threads true statements b h f = absurd cc
 thread_first before (Some heading) threads false statements b h f =
     thread_behind before heading threads
     ∙ ap (λ ts. behind_threads before heading ts (nat_lt (length ts) 4)) b.0
-    ∙ (λ i. Ok (before ++ headed heading (sym b.0 i ++ sym b.1 i ∷ []) ∷ []))
+    ∙ (λ i. Ok (before ++ target_script heading (sym b.0 i ++ sym b.1 i ∷ []) ∷ []))
 
 few_behind : (threads : List (List Statement)) (statements : List Statement) (room : Bool) → nat_lt (length threads) 3 ≡ room
     → nat_lt (length (threads ++ statements ∷ [])) 4 ≡ room
@@ -90,7 +90,7 @@ few_behind threads statements room h =
     let shifted : nat_lt (length threads + 1) 4 ≡ nat_lt (length threads) 3 = grind (arith, nat_tests) in
     ap (λ n. nat_lt n 4) (length-append threads (statements ∷ [])) ∙ shifted ∙ h
 
--- one more thread behind the last
+-- one more thread after the last
 pub thread_more : (before : List TargetScript) (last : Option Heading) (threads : List (List Statement)) (in_thread : Bool) (statements : List Statement)
     → is_none last ≡ false → in_thread ≡ true → length threads < 3
     → change_last one_thread_more (built before last threads in_thread statements) ≡ Ok (built before last (threads ++ statements ∷ []) true [])
@@ -118,10 +118,10 @@ behind_statements before heading threads statements statement room =
     with_last before (with_threads heading (with_last_thread threads (cond room (Ok (statements ++ statement ∷ [])) (Err TooMany))))
 
 statement_behind : (before : List TargetScript) (heading : Heading) (threads : List (List Statement)) (statements : List Statement) (statement : Statement)
-    → change_last (in_last_thread statement) (before ++ headed heading (threads ++ statements ∷ []) ∷ [])
+    → change_last (in_last_thread statement) (before ++ target_script heading (threads ++ statements ∷ []) ∷ [])
     ≡ behind_statements before heading threads statements statement (nat_lt (length statements) 4096)
 statement_behind before heading threads statements statement =
-    changed_behind (in_last_thread statement) before (headed heading (threads ++ statements ∷ []))
+    changed_behind (in_last_thread statement) before (target_script heading (threads ++ statements ∷ []))
     ∙ ap (λ r. with_last before (with_threads heading r)) (changed_behind (one_statement_more statement) threads statements)
 
 -- there is no thread
@@ -131,7 +131,7 @@ pub statement_nowhere : (before : List TargetScript) (last : Option Heading) (th
 statement_nowhere before None threads in_thread statements statement b f = refl
 statement_nowhere before (Some heading) threads true statements statement b f = absurd cc
 statement_nowhere before (Some heading) threads false statements statement b f =
-    changed_behind (in_last_thread statement) before (headed heading threads)
+    changed_behind (in_last_thread statement) before (target_script heading threads)
     ∙ ap (λ ts. with_last before (with_threads heading (change_last (one_statement_more statement) ts))) b.0
 
 pub statement_more : (before : List TargetScript) (last : Option Heading) (threads : List (List Statement)) (in_thread : Bool) (statements : List Statement)

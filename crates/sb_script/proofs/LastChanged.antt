@@ -10,7 +10,7 @@ use Rattle.sb_script.specs.SoFar.{is_empty, change_last, last_threads}
 use Rattle.sb_script.specs.declared.faults.ScriptKind.{ScriptKind}
 use Rattle.sb_text.specs.Steps.{◌>>=◌}
 
--- behind others the last one is the one that changes
+-- after others the last one is the one that changes
 pub changed_behind : {A : Type 0} (step : A → Result A ScriptKind) (before : List A) (last : A)
     → change_last step (before ++ last ∷ []) ≡ (step last >>= λ changed. Ok (before ++ changed ∷ []))
 changed_behind step [] last = refl
@@ -26,7 +26,7 @@ changed_behind {A} step (x ∷ y ∷ before) last = ap (λ r. r >>= λ more. Ok 
     more (Ok changed) = refl
     more (Err kind) = refl
 
--- what holds of all holds of them with the last one changed, where the step keeps it
+-- what holds of all holds of them with the last one changed, if the step keeps it
 pub changed_all : {A : Type 0} (p : A → Bool) (step : A → Result A ScriptKind) (xs ys : List A) → ((x y : A) → p x ≡ true → step x ≡ Ok y → p y ≡ true)
     → list_all p xs ≡ true → change_last step xs ≡ Ok ys → list_all p ys ≡ true
 changed_all p step [] ys f h e = absurd cc

@@ -14,3 +14,4 @@ pub mod WrittenStatements
 pub mod WrittenOpenings
 pub mod WrittenTokens
 pub mod WrittenScripts
+pub mod Keeping

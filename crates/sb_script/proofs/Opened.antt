@@ -11,7 +11,7 @@ use Rattle.sb_script.specs.Openings.{can_place}
 pub opening_is : (lines : List StartLine) (ns : Space) → opened lines ≡ Ok ns → opening lines ≡ ns
 opening_is lines ns e = ap space_or_empty e
 
--- there is room for one object more where the lines are fewer than 4,096
+-- there is room for one object more if the lines are fewer than 4,096
 pub room_made : OpeningsMakeFew → (lines : List StartLine) (ns : Space) → opened lines ≡ Ok ns → length lines < 4096 → MadeAtMost 4095 ns
 room_made law lines ns e l =
     let made = law lines ns e in
@@ -29,7 +29,7 @@ went at o follow = elim o [ None ↦ Err at | Some next ↦ follow next ]
 same : (a b : Space) → ◌≡◌ {A = Result Space ℕ} (Ok a) (Ok b) → a ≡ b
 same a b e = cc
 
--- behind lines that lead to a namespace one more leads to that with the line placed
+-- after lines that lead to a namespace one more leads to that with the line placed
 behind : (lines : List StartLine) (line : StartLine) (at : ℕ) (ns mid : Space) → opened_from at ns lines ≡ Ok mid → is_some (placed mid line) ≡ true
     → opened_from at ns (lines ++ line ∷ []) ≡ Ok (unwrap_or (placed mid line) mid)
 behind [] line at ns mid e h = subst (λ ns. opened_from at ns (line ∷ []) ≡ Ok (unwrap_or (placed mid line) mid)) (sym (same ns mid e)) (by (placed mid line) h)
@@ -66,7 +66,7 @@ opens_with lines line h k = by (opened lines) refl h
     by (Ok ns) e h = ap is_ok (opened_with lines line ns (unwrap_or (placed ns line) ns) e k refl)
     by (Err at) e h = absurd cc
 
--- each of the lines that lead to a namespace can be placed behind those before it
+-- each of the lines that lead to a namespace can be placed after those before it
 places : (before : List StartLine) (line : StartLine) (more : List StartLine) (at : ℕ) (ns : Space)
     → is_ok (opened_from at ns (before ++ line ∷ more)) ≡ true → is_some (placed (space_or_empty (opened_from at ns before)) line) ≡ true
 places [] line more at ns h = by (placed ns line) h

@@ -13,7 +13,7 @@ use Rattle.sb_call.specs.declared.arguments.Arg.TheVariants as arg
 use Rattle.sb_call.specs.declared.tags.CallTag.{CallTag}
 use Rattle.sb_call.specs.declared.tags.ParamKind.{ParamKind}
 use Rattle.sb_call.specs.declared.tags.ParamKind.TheVariants.{Text, Name, Num, Handle}
-use Rattle.sb_rule.specs.WellMade.{is_text_unit, is_paired}
+use Rattle.sb_wide.specs.Surrogates.{is_paired}
 use Rattle.sb_rule.specs.declared.policies.Policy.{Policy}
 use Rattle.sb_statements.specs.Units.{statement_has_units, thread_has_units, target_has_units}
 use Rattle.sb_statements.specs.declared.scripts.Script.{Script}
@@ -22,7 +22,7 @@ use Rattle.sb_statements.specs.declared.scripts.StartLine.TheVariants.{Dir, File
 use Rattle.sb_statements.specs.declared.scripts.TargetScript.{TargetScript}
 use Rattle.sb_statements.specs.declared.statements.Statement.{Statement}
 use Rattle.sb_statements.specs.declared.statements.Statement.TheVariants.{Call, Store, Exchange, Load, Wait}
-use Rattle.sb_ruleprint.specs.Strings.{QuotedStringsAreText}
+use Rattle.sb_text.specs.Strings.{QuotedStringsAreText}
 use Rattle.sb_script.proofs.LastChanged.{changed_all}
 use Rattle.sb_script.proofs.Ready.{all_more, on_this}
 use Rattle.sb_script.proofs.Sound.{both, made, ok_same, passed, branches}
@@ -46,7 +46,7 @@ use Rattle.sb_text.specs.TokenLaws.{is_quoted_byte, is_quoted_text, has_quoted_t
 use Rattle.sb_text.specs.Tokens.{Lexeme, Word, Quoted, Bad, string_of, tokens_of}
 use Rattle.sb_text.specs.Utf8.{not_utf8_line}
 use Rattle.sb_wide.specs.Names.{is_name_of}
-use Rattle.sb_wide.specs.Wide.{is_unit}
+use Rattle.sb_wide.specs.Wide.{is_unit, is_text_unit}
 
 -- what quoted tokens hold is text
 abbrev AreText : List Lexeme → Type 0

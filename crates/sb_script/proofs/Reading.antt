@@ -4,9 +4,10 @@ use Rattle.sb_call.specs.declared.arguments.Arg.{Arg}
 use Rattle.sb_call.specs.declared.tags.ParamKind.{ParamKind}
 use Rattle.sb_script.specs.Arguments.{arg_at, args_at}
 use Rattle.sb_script.specs.ScriptTexts.{ScriptFault}
-use Rattle.sb_text.specs.Steps.{◌>>=◌, Read, Reads, Gives}
-use Rattle.sb_text.specs.declared.refusals.Refused.{Refused}
-use Rattle.sb_text.specs.declared.refusals.Refused.TheVariants as refused
+use Rattle.sb_items.specs.Refusals.{Gives}
+use Rattle.sb_text.specs.Steps.{◌>>=◌, Read, Reads}
+use Rattle.sb_items.specs.declared.refusals.Refused.{Refused}
+use Rattle.sb_items.specs.declared.refusals.Refused.TheVariants as refused
 use Rattle.sb_script.specs.declared.faults.ScriptKind.{ScriptKind}
 use Rattle.sb_text.specs.Tokens.{Lexeme}
 

@@ -139,7 +139,7 @@ named_start (Event name kind initial) h = (and_parts (is_name_of name) (nat_le k
 pub start_named : (w : List ℕ) (tokens : List Lexeme) (line : StartLine) → start_line w tokens ≡ Ok line → is_named line ≡ true
 start_named w tokens line h = named_start line (start_sound w tokens line h)
 
--- a statement is sound where what it names is there
+-- a statement is sound if what it names is there
 abbrev pub IsSoundOnce : Statement → Type 0
 IsSoundOnce statement = (targets : List TargetScript) (line : ℕ) → first_absence targets (named_by line statement) ≡ None → is_statement targets statement ≡ true
 

@@ -7,9 +7,10 @@ use Rattle.sb_script.specs.Openings.{can_place, with_line}
 use Rattle.sb_script.specs.SoFar.{SoFar, with_start}
 use Rattle.sb_script.specs.declared.faults.ScriptKind.{ScriptKind}
 use Rattle.sb_script.specs.declared.faults.ScriptKind.TheVariants.{TooMany, BadStart}
-use Rattle.sb_text.specs.Steps.{Gives, Becomes}
-use Rattle.sb_text.specs.declared.refusals.Refused.{Refused}
-use Rattle.sb_text.specs.declared.refusals.Refused.TheVariants as refused
+use Rattle.sb_items.specs.Refusals.{Gives}
+use Rattle.sb_text.specs.Steps.{Becomes}
+use Rattle.sb_items.specs.declared.refusals.Refused.{Refused}
+use Rattle.sb_items.specs.declared.refusals.Refused.TheVariants as refused
 
 same_lines : (a b : List StartLine) → ◌≡◌ {A = Result (List StartLine) ScriptKind} (Ok a) (Ok b) → a ≡ b
 same_lines a b e = cc
@@ -20,7 +21,7 @@ same_kind a b e = cc
 abbrev with_lines : SoFar → List StartLine → Result SoFar ScriptKind
 with_lines sofar lines = Ok (record sofar { start = lines })
 
--- what is so far there with a line that was placed behind the others
+-- what is so far there with a line that was placed after the others
 pub start_more : (sofar : SoFar) (line : StartLine) (before lines : List StartLine) → before ≡ sofar.start → with_line before line ≡ Ok lines
     → length sofar.start < 4096 → with_start sofar line ≡ Ok (record sofar { start = lines })
 start_more sofar line before lines s e l =
@@ -33,7 +34,7 @@ start_more sofar line before lines s e l =
     by true more false e l = absurd cc
     by false more few e l = absurd cc
 
--- why a line was not placed behind the others is why there is nothing with it
+-- why a line was not placed after the others is why there is nothing with it
 pub start_refused : (sofar new : SoFar) (line : StartLine) (before : List StartLine) (why : Refused ScriptKind) → before ≡ sofar.start
     → Gives {A = List StartLine} (with_line before line) (Err why) → Becomes {A = ⊤} (with_start sofar line) (Err why) new
 start_refused sofar new line before (refused.Fault kind) s h =

@@ -67,7 +67,7 @@ abbrev Continues : List Policy → SoFar → ℕ → List (List Lexeme) → SoFa
 Continues policies old n lines new m = (rest : List (List Lexeme))
     → read_lines (add_line policies) old (numbered n (lines ++ rest)) ≡ read_lines (add_line policies) new (numbered m rest)
 
--- lines behind others
+-- lines after others
 joined : (policies : List Policy) (old middle new : SoFar) (n m k : ℕ) (front lines : List (List Lexeme))
     → Continues policies old n front middle m → Continues policies middle m lines new k → Continues policies old n (front ++ lines) new k
 joined policies old middle new n m k front lines f g rest =
@@ -126,7 +126,7 @@ start_by policies n line before (File name attributes) = refl
 start_by policies n line before (Key name) = refl
 start_by policies n line before (Event name kind initial) = refl
 
--- an opening line that can be placed, where there is room for one more
+-- an opening line that can be placed, if there is room for one more
 abbrev placed : ℕ → List StartLine → StartLine → Bool → Bool → Result SoFar ScriptKind
 placed n before start place room = cond place (cond room (Ok (opening n (before ++ start ∷ []))) (Err TooMany)) (Err BadStart)
 
@@ -239,7 +239,7 @@ statement_line_read law policies all sofar target threads before named line stat
     ∙ ap (λ (r : Result Statement ScriptKind). r >>= with_statement here line) (statement_read law all statement s h w)
     ∙ statement_told sofar target threads before named line statement l
 
--- where lines lead: all that is named is there
+-- if lines lead: all that is named is there
 record Leads (policies : List Policy) (all : List TargetScript) (old : SoFar) (line : ℕ) (lines : List (List Lexeme)) (new : List Named → SoFar) : Type 0 where
   names : List Named
   next : ℕ

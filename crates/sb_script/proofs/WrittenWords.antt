@@ -11,7 +11,7 @@ use Rattle.sb_call.specs.declared.tags.CallTag.{CallTag}
 use Rattle.sb_call.specs.declared.tags.CallTag.TheVariants.{Ping, FileCreate, FileOpen, FileQuery, FileRename, PipeCreate, KeyCreate, KeyOpen, EventCreate, EventOpen, HandleClose}
 use Rattle.sb_rule.specs.WellMade.{is_named, are_named_apart}
 use Rattle.sb_rule.specs.declared.policies.Policy.{Policy}
-use Rattle.sb_ruleprint.specs.Strings.{ComesBack, StringsComeBack}
+use Rattle.sb_text.specs.Strings.{ComesBack, StringsComeBack}
 use Rattle.sb_script.specs.Arguments.{most_32, tag_at}
 use Rattle.sb_script.specs.Lines.{policy_number, policy_at}
 use Rattle.sb_script.specs.Statements.{short, short_at, block_place, place_of, place_at}

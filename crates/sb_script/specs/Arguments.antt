@@ -27,7 +27,7 @@ tag_at tokens = do
   tag ← or_fault UnknownCall (tag_of_word word.0)
   Ok (tag, word.1)
 
--- ARG: a string between quotes, where a name is due one that is a name, or a number without quotes, which has 32 bits but for a handle
+-- ARG: a string between quotes, if a name is due one that is a name, or a number without quotes, which has 32 bits except for a handle
 unfoldable pub arg_at : ParamKind → List Lexeme → Read Arg ScriptKind
 arg_at Text tokens = string_at WrongArgs tokens >>= λ text. Ok (arg.Str text.0, text.1)
 arg_at Name tokens = name_at WrongArgs tokens >>= λ name. Ok (arg.Str name.0, name.1)
@@ -46,7 +46,7 @@ args_at (kind ∷ kinds) tokens = do
 abbrev pub fitting : CallTag → List Arg → Result Statement ScriptKind
 fitting tag args = if encodes tag args then Ok (Call tag args) else Err TooBig
 
--- `call CALL ARG ..`, behind its first word
+-- `call CALL ARG ..`, after its first word
 unfoldable pub call : List Lexeme → Result Statement ScriptKind
 call tokens = do
   tag ← tag_at tokens

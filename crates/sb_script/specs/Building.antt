@@ -6,18 +6,18 @@ use Rattle.sb_statements.specs.declared.statements.Statement.{Statement}
 use Rattle.sb_script.specs.declared.drafts.Heading.{Heading}
 
 -- a target of this heading with these threads
-abbrev pub headed : Heading → List (List Statement) → TargetScript
-headed heading threads = record { name = heading.name; policy = heading.policy; channels = heading.channels; threads = threads }
+abbrev pub target_script : Heading → List (List Statement) → TargetScript
+target_script heading threads = record { name = heading.name; policy = heading.policy; channels = heading.channels; threads = threads }
 
 -- the threads of the last target
-abbrev pub told : List (List Statement) → Bool → List Statement → List (List Statement)
-told threads true statements = threads ++ statements ∷ []
-told threads false statements = threads
+abbrev pub all_threads : List (List Statement) → Bool → List Statement → List (List Statement)
+all_threads threads true statements = threads ++ statements ∷ []
+all_threads threads false statements = threads
 
--- the targets; none where there is no last one
+-- the targets; none if there is no last one
 abbrev pub built : List TargetScript → Option Heading → List (List Statement) → Bool → List Statement → List TargetScript
 built before None threads in_thread statements = []
-built before (Some heading) threads in_thread statements = before ++ headed heading (told threads in_thread statements) ∷ []
+built before (Some heading) threads in_thread statements = before ++ target_script heading (all_threads threads in_thread statements) ∷ []
 
 -- without a last target there is no target and no thread; without a last thread the last target has no thread, and no statement is kept
 abbrev pub IsBuilt : List TargetScript → Option Heading → List (List Statement) → Bool → List Statement → Type 0

@@ -21,15 +21,15 @@ is_looked_for_last NoSuchTarget = true
 is_looked_for_last NoSuchChannel = true
 is_looked_for_last other = false
 
--- a fault on one of the first lines of a text, some of which say something, is that of each text that begins with these
--- lines, but for those that are looked for last
+-- a fault on one of the first lines of a text, not all of which are blank or comments, is that of each text that begins with these
+-- lines, except those that are looked for last
 abbrev pub FirstFaultsStay : Type 0
 FirstFaultsStay = (policies : List Policy) (front rest other : List ℕ) (fault : ScriptFault)
     → not_utf8_line (ended front ++ rest) ≡ None → not_utf8_line (ended front ++ other) ≡ None
     → is_some_line (lines_of (ended front)) ≡ true → fault.line ≤ length (raw_lines (ended front)) → is_looked_for_last fault.kind ≡ false
     → reading policies (ended front ++ rest) ≡ Err fault → reading policies (ended front ++ other) ≡ Err fault
 
--- a line that says nothing may be put in anywhere below the first that says something, and changes nothing but numbers of lines
+-- a blank or comment line may be put in anywhere below the first that is neither blank nor a comment, and changes nothing but numbers of lines
 abbrev pub SkippedLinesCountAlone : Type 0
 SkippedLinesCountAlone = (policies : List Policy) (front line rest : List ℕ) → is_line line ≡ true → is_skipped (without_cr line) ≡ true
     → is_some_line (lines_of (ended front)) ≡ true

@@ -20,7 +20,7 @@ use Rattle.sb_script.specs.declared.faults.ScriptKind.{ScriptKind}
 use Rattle.sb_script.specs.declared.faults.ScriptKind.TheVariants.{UnknownWord, BadNumber, NoSuchPolicy, SameName}
 use Rattle.sb_text.specs.Tokens.{Lexeme}
 
--- `patience N`, behind its first word
+-- `patience N`, after its first word
 unfoldable pub patience : List Lexeme → Result ℕ ScriptKind
 patience tokens = do
   number ← number_within 1 most_patience BadNumber UnknownWord tokens
@@ -57,7 +57,7 @@ policy_at policies tokens = do
   policy ← policy_number place
   Ok (policy, word.1)
 
--- `target NAME POLICY CHANNELS`, behind its first word: a target that has no thread so far
+-- `target NAME POLICY CHANNELS`, after its first word: a target that has no thread so far
 unfoldable pub heading : List Policy → List TargetScript → List Lexeme → Result TargetScript ScriptKind
 heading policies targets tokens = do
   name ← new_name_at targets tokens

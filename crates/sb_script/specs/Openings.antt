@@ -10,14 +10,14 @@ use Rattle.sb_script.specs.declared.faults.ScriptKind.{ScriptKind}
 use Rattle.sb_script.specs.declared.faults.ScriptKind.TheVariants.{UnknownWord, BadNumber, BadStart}
 use Rattle.sb_text.specs.Tokens.{Lexeme}
 
--- `dir "NAME"`, behind its first word
+-- `dir "NAME"`, after its first word
 unfoldable pub dir : List Lexeme → Result StartLine ScriptKind
 dir tokens = do
   name ← name_at UnknownWord tokens
   end ← end_at UnknownWord UnknownWord name.1
   Ok (Dir name.0)
 
--- `file "NAME" ATTR`, behind its first word
+-- `file "NAME" ATTR`, after its first word
 unfoldable pub file : List Lexeme → Result StartLine ScriptKind
 file tokens = do
   name ← name_at UnknownWord tokens
@@ -25,14 +25,14 @@ file tokens = do
   end ← end_at UnknownWord UnknownWord attributes.1
   Ok (File name.0 attributes.0)
 
--- `key "NAME"`, behind its first word
+-- `key "NAME"`, after its first word
 unfoldable pub key : List Lexeme → Result StartLine ScriptKind
 key tokens = do
   name ← name_at UnknownWord tokens
   end ← end_at UnknownWord UnknownWord name.1
   Ok (Key name.0)
 
--- `event "NAME" KIND INITIAL`, behind its first word
+-- `event "NAME" KIND INITIAL`, after its first word
 unfoldable pub event : List Lexeme → Result StartLine ScriptKind
 event tokens = do
   name ← name_at UnknownWord tokens
@@ -41,10 +41,10 @@ event tokens = do
   end ← end_at UnknownWord UnknownWord initial.1
   Ok (Event name.0 kind.0 initial.0)
 
--- behind these lines a further one can be placed: in the namespace that they lead to
+-- after these lines one more can be placed: in the namespace that they lead to
 abbrev pub can_place : List StartLine → StartLine → Bool
 can_place lines line = is_some (placed (opening lines) line)
 
--- these lines with a further one, which can be placed behind them
+-- these lines with one more, which can be placed after them
 abbrev pub with_line : List StartLine → StartLine → Result (List StartLine) ScriptKind
 with_line lines line = if can_place lines line then Ok (lines ++ line ∷ []) else Err BadStart

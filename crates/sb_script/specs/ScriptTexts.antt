@@ -57,7 +57,7 @@ patience_of None = usual_patience
 abbrev pub script_of : SoFar → Script
 script_of sofar = record { patience = patience_of sofar.patience; start = sofar.start; targets = sofar.targets }
 
--- the script that was read, where all is there that its statements name
+-- the script that was read, if all is there that its statements name
 abbrev pub finished : SoFar → Result Script ScriptFault
 finished sofar = elim (first_absence sofar.targets sofar.named) [ None ↦ Ok (script_of sofar) | Some fault ↦ Err fault ]
 

@@ -11,7 +11,7 @@ use Rattle.sb_script.specs.declared.drafts.Named.{Named}
 use Rattle.sb_script.specs.declared.faults.ScriptKind.{ScriptKind}
 use Rattle.sb_script.specs.declared.faults.ScriptKind.TheVariants.{UnknownWord, TooMany, BadStart}
 
--- what is so far there: the patience, where a line told it, the opening lines, the targets, and what statements name. The last target is
+-- what is so far there: the patience, if a line told it, the opening lines, the targets, and what statements name. The last target is
 -- open for threads, and its last thread for statements
 pub record SoFar : Type 0 where
   pub patience : Option ℕ
@@ -28,13 +28,13 @@ abbrev pub is_empty : {A : Type 0} → List A → Bool
 is_empty [] = true
 is_empty (x ∷ xs) = false
 
--- a list whose last value a step changes, or the fault of that step; where there is no value, no line may change it
+-- a list whose last value a step changes, or the fault of that step; if there is no value, no line may change it
 abbrev pub change_last : {A : Type 0} → (A → Result A ScriptKind) → List A → Result (List A) ScriptKind
 change_last step [] = Err UnknownWord
 change_last step (x ∷ []) = step x >>= λ changed. Ok (changed ∷ [])
 change_last step (x ∷ y ∷ xs) = change_last step (y ∷ xs) >>= λ more. Ok (x ∷ more)
 
--- the threads of the last target, and none where there is no target
+-- the threads of the last target, and none if there is no target
 abbrev pub last_threads : List TargetScript → List (List Statement)
 last_threads [] = []
 last_threads (target ∷ []) = target.threads
@@ -52,7 +52,7 @@ is_in_thread sofar = not (is_empty (last_threads sofar.targets))
 abbrev pub with_patience : SoFar → ℕ → SoFar
 with_patience sofar patience = record sofar { patience = Some patience }
 
--- one more opening line, where it can be placed
+-- one more opening line, if it can be placed
 abbrev pub with_start : SoFar → StartLine → Result SoFar ScriptKind
 with_start sofar line =
     if can_place sofar.start line

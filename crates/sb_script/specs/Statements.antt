@@ -1,4 +1,4 @@
--- `store`, `exchange`, `load` and `wait`: words of channels that are stored and loaded by hand.
+-- `store`, `exchange`, `load` and `wait`: words of channels that are stored and loaded directly.
 use Rattle.std.specs.Prelude.{ℕ, ◌+◌, nat_le, List, Result, Ok, Err, if◌then◌else◌, codes}
 use Rattle.sb_call.specs.CallWords.{is_word}
 use Rattle.sb_statements.specs.declared.statements.Statement.{Statement}
@@ -52,7 +52,7 @@ target_word_at tokens = do
   place ← place_at channel.1
   Ok ((target.0, record { channel = channel.0; at = place.0 }), place.1)
 
--- `store T C W V`, behind its first word
+-- `store T C W V`, after its first word
 unfoldable pub store : List Lexeme → Result Statement ScriptKind
 store tokens = do
   word ← target_word_at tokens
@@ -60,7 +60,7 @@ store tokens = do
   end ← end_at WrongArgs UnknownWord value.1
   Ok (Store word.0.0 word.0.1 value.0)
 
--- `exchange T C W FROM TO`, behind its first word
+-- `exchange T C W FROM TO`, after its first word
 unfoldable pub exchange : List Lexeme → Result Statement ScriptKind
 exchange tokens = do
   word ← target_word_at tokens
@@ -69,14 +69,14 @@ exchange tokens = do
   end ← end_at WrongArgs UnknownWord to.1
   Ok (Exchange word.0.0 word.0.1 from.0 to.0)
 
--- `load T C W`, behind its first word
+-- `load T C W`, after its first word
 unfoldable pub load : List Lexeme → Result Statement ScriptKind
 load tokens = do
   word ← target_word_at tokens
   end ← end_at WrongArgs UnknownWord word.1
   Ok (Load word.0.0 word.0.1)
 
--- `wait T C W V N`, behind its first word; whether N is too small or too large is looked at last
+-- `wait T C W V N`, after its first word; whether N is too small or too large is looked at last
 unfoldable pub wait : List Lexeme → Result Statement ScriptKind
 wait tokens = do
   word ← target_word_at tokens

@@ -40,7 +40,7 @@ abbrev pub arg_token : Arg → Lexeme
 arg_token (Str text) = string_token text
 arg_token (Num number) = number_token number
 
--- a target, and a word of one of its channels: `T C W`, before further tokens
+-- a target, and a word of one of its channels: `T C W`, before extra tokens
 abbrev pub word_tokens : ℕ → ℕ → ℕ → List Lexeme → List Lexeme
 word_tokens target channel at tokens = number_token target ∷ number_token channel ∷ Word (place_word at) ∷ tokens
 

@@ -12,6 +12,6 @@ abbrev pub WrittenScriptsAreRead : Type 0
 WrittenScriptsAreRead = (policies : List Policy) (script : Script) → are_short_named policies ≡ true → is_ready policies script ≡ true
     → is_writable script ≡ true → reading policies (written policies script) ≡ Ok script
 
--- and each script that is read can be written; where the policies are well made it is ready for them too (`ReadScriptsAreReady`)
+-- and each script that is read can be written; if the policies are well made it is ready for them too (`ReadScriptsAreReady`)
 abbrev pub ReadScriptsCanBeWritten : Type 0
 ReadScriptsCanBeWritten = (policies : List Policy) (text : List ℕ) (script : Script) → reading policies text ≡ Ok script → is_writable script ≡ true

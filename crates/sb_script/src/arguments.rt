@@ -1,7 +1,8 @@
 // `call CALL ARG ..`: a call with its arguments.
 ghost use Rattle.std.specs.Prelude.{◌≡◌};
 ghost use Rattle.sb_script.specs.Arguments.{tag_at, arg_at, args_at, fitting, call};
-ghost use Rattle.sb_text.specs.Steps.{Gives, Reads};
+ghost use Rattle.sb_items.specs.Refusals.{Gives};
+ghost use Rattle.sb_text.specs.Steps.{Reads};
 
 use crate::faults::LineRefused;
 use crate::faults::ScriptKind::{TooBig, UnknownCall, UnknownWord, WrongArgs};
@@ -42,7 +43,10 @@ fn arg_at(alloc: Global, kind: ParamKind, tokens: &mut Tokens) -> Result<Arg, Li
 fn args_at(alloc: Global, kinds: &[ParamKind], tokens: &mut Tokens) -> Result<Args, LineRefused>
     ensures { Reads (args_at kinds.now tokens.old) result tokens.new }
 {
-    let mut args = Args::new(Vec::new(alloc));
+    let Ok(room) = Vec::with_capacity(alloc, kinds.len()) else {
+        return Err(LineRefused::NoMemory);
+    };
+    let mut args = Args::new(room);
     let mut left = kinds;
     while let Some((kind, more)) = left.split_first() {
         args.push(arg_at(alloc, *kind, tokens)?)?;
@@ -51,7 +55,7 @@ fn args_at(alloc: Global, kinds: &[ParamKind], tokens: &mut Tokens) -> Result<Ar
     Ok(args)
 }
 
-// The statement of a call, where its block has at most 64 words.
+// The statement of a call, if its block has at most 64 words.
 fn fitting(tag: CallTag, args: Args) -> Result<Statement, LineRefused>
     ensures { Gives (fitting tag args) result }
 {
@@ -62,7 +66,7 @@ fn fitting(tag: CallTag, args: Args) -> Result<Statement, LineRefused>
     }
 }
 
-/// `call CALL ARG ..`, behind its first word.
+/// `call CALL ARG ..`, after its first word.
 #[tactic(auto, unfolding(crate::specs::Arguments::call))]
 pub(crate) fn call(alloc: Global, tokens: &mut Tokens) -> Result<Statement, LineRefused>
     ensures { Gives (call tokens.old) result }

@@ -2,8 +2,8 @@
 ghost use Rattle.std.specs.Prelude.{◌≡◌, ◌++◌, ◌∷◌, [], true, nat_lt, length, is_some, IfOk, OnOk};
 ghost use Rattle.std.specs.List.{list_any};
 ghost use Rattle.sb_statements.specs.Limits.{most_targets};
-ghost use Rattle.sb_kernel.specs.Openings.{is_named};
-ghost use Rattle.sb_script.specs.Building.{headed, told};
+ghost use Rattle.sb_kernel.specs.Openings.{is_named, opening};
+ghost use Rattle.sb_script.specs.Building.{target_script, all_threads};
 ghost use Rattle.sb_script.specs.Lines.{is_target_named};
 ghost use Rattle.sb_script.specs.ScriptTexts.{script_of};
 ghost use Rattle.sb_script.specs.SoFar.{nothing, is_opening, is_in_thread, with_patience, with_start, with_target, with_thread, named_by, with_statement};
@@ -13,6 +13,7 @@ use crate::faults::{LineRefused, ScriptKind};
 use crate::placing::Placed;
 use sb_call::ShortName;
 use sb_items::{Items, NoMemory};
+use sb_kernel::Kernel;
 use sb_statements::{
     MOST_START_LINES, MOST_STATEMENTS, MOST_TARGETS, MOST_THREADS, Script, StartLine, Statement,
     Statements, TargetScript, Targets, Threads, Word,
@@ -72,8 +73,12 @@ fn add_named(named: &mut NamedWords, line: u32, statement: &Statement) -> Result
 }
 
 // The threads of a target, with the last one.
-fn told(threads: Threads, in_thread: bool, statements: Statements) -> Result<Threads, NoMemory>
-    ensures { IfOk result (λ all. all ≡ told threads in_thread statements) }
+fn all_threads(
+    threads: Threads,
+    in_thread: bool,
+    statements: Statements,
+) -> Result<Threads, NoMemory>
+    ensures { IfOk result (λ all. all ≡ all_threads threads in_thread statements) }
 {
     let mut all = threads;
     if in_thread {
@@ -83,8 +88,8 @@ fn told(threads: Threads, in_thread: bool, statements: Statements) -> Result<Thr
 }
 
 // A target of this heading.
-fn headed(heading: Heading, threads: Threads) -> TargetScript
-    ensures { result ≡ headed heading threads }
+fn target_script(heading: Heading, threads: Threads) -> TargetScript
+    ensures { result ≡ target_script heading threads }
 {
     TargetScript {
         name: heading.name,
@@ -198,7 +203,7 @@ impl Draft {
         self.patience = Some(patience);
     }
 
-    /// One more opening line. After an error the draft is of no more use.
+    /// One more opening line. After an error the draft is unspecified.
     pub(crate) fn add_start(&mut self, alloc: Global, line: StartLine) -> Result<(), LineRefused>
         requires name { is_named line ≡ true }
         ensures { Becomes (with_start self.old line) result self.new }
@@ -214,9 +219,9 @@ impl Draft {
         Ok(())
     }
 
-    /// One more target. After an error the draft is of no more use.
+    /// One more target. After an error the draft is unspecified.
     pub(crate) fn add_target(&mut self, alloc: Global, heading: Heading) -> Result<(), LineRefused>
-        ensures { Becomes (with_target self.old (headed heading [])) result self.new }
+        ensures { Becomes (with_target self.old (target_script heading [])) result self.new }
     {
         if !self.has_room() {
             return Err(LineRefused::Fault(ScriptKind::TooMany));
@@ -225,13 +230,13 @@ impl Draft {
         let in_thread = mem::replace(&mut self.in_thread, false);
         let statements = mem::replace(&mut self.statements, Statements::new(Vec::new(alloc)));
         if let Some(last) = mem::replace(&mut self.last, Some(heading)) {
-            let threads = told(threads, in_thread, statements)?;
-            self.before.push(headed(last, threads))?;
+            let threads = all_threads(threads, in_thread, statements)?;
+            self.before.push(target_script(last, threads))?;
         }
         Ok(())
     }
 
-    /// One more thread of the last target. After an error the draft is of no more use.
+    /// One more thread of the last target. After an error the draft is unspecified.
     #[tactic(auto, using(crate::proofs::Built::thread_nowhere, crate::proofs::Built::thread_too_many, crate::proofs::Built::thread_first, crate::proofs::Built::thread_more))]
     pub(crate) fn add_thread(&mut self, alloc: Global) -> Result<(), LineRefused>
         ensures { Becomes (with_thread self.old) result self.new }
@@ -250,7 +255,7 @@ impl Draft {
         Ok(())
     }
 
-    /// One more statement of the last thread, on this line. After an error the draft is of no more use.
+    /// One more statement of the last thread, on this line. After an error the draft is unspecified.
     #[tactic(auto, using(crate::proofs::Built::statement_nowhere, crate::proofs::Built::statement_too_many, crate::proofs::Built::statement_more))]
     pub(crate) fn add_statement(
         &mut self,
@@ -270,9 +275,9 @@ impl Draft {
         Ok(())
     }
 
-    /// The script, and what its statements name.
-    pub(crate) fn into_script(self) -> Result<(Script, NamedWords), NoMemory>
-        ensures { IfOk result (λ read. (read.0 ≡ script_of self) × (read.1 ≡ self.named)) }
+    /// The script, the kernel in which its opening lines are placed, and what its statements name.
+    pub(crate) fn into_script(self) -> Result<(Script, Kernel, NamedWords), NoMemory>
+        ensures { IfOk result (λ read. (read.0 ≡ script_of self) × (read.1 ≡ opening self.start) × (read.2 ≡ self.named)) }
     {
         let Draft {
             patience,
@@ -286,14 +291,15 @@ impl Draft {
         } = self;
         let mut targets = before;
         if let Some(last) = last {
-            let threads = told(threads, in_thread, statements)?;
-            targets.push(headed(last, threads))?;
+            let threads = all_threads(threads, in_thread, statements)?;
+            targets.push(target_script(last, threads))?;
         }
+        let (start, kernel) = start.into_parts();
         let script = Script {
             patience: patience.unwrap_or(USUAL_PATIENCE),
-            start: start.into_lines(),
+            start,
             targets,
         };
-        Ok((script, named))
+        Ok((script, kernel, named))
     }
 }

@@ -11,7 +11,7 @@ pub enum ScriptKind {
     /// The text is not UTF-8.
     #[error("the text is not UTF-8")]
     NotUtf8,
-    /// The first line that says something is not `sandbox-script 1`, a line may not stand here, or a word is not known here,
+    /// The first line that is neither blank nor a comment is not `sandbox-script 1`, a line may not stand here, or a word is not known here,
     /// missing, broken or one too many.
     #[error("unknown, missing or further word")]
     UnknownWord,

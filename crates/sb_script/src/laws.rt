@@ -5,9 +5,9 @@ ghost use Rattle.sb_script.specs.WritingLaws.{WrittenScriptsAreRead, ReadScripts
 
 use crate::drafts::Draft;
 use crate::faults::ScriptKind;
-use sb_ruleprint::quoted_strings_are_read;
 use sb_text::{
-    decimals_are_read, not_utf8_line_tells, plain_lines_are_read, quoted_tokens_are_text,
+    decimals_are_read, not_utf8_line_tells, plain_lines_are_read, quoted_strings_are_read,
+    quoted_tokens_are_text,
 };
 
 /// Each script that is read for well-made policies is ready for them.
@@ -29,7 +29,7 @@ pub fn read_arguments_fit()
     ensures { ReadArgumentsFit }
 {}
 
-/// A fault on one of the first lines of a text, some of which say something, is that of each text that begins with these
+/// A fault on one of the first lines of a text, not all of which are blank or comments, is that of each text that begins with these
 /// lines, but that a target or a channel that is not there is looked for last.
 pub fn first_faults_stay()
     ensures { FirstFaultsStay }
@@ -37,7 +37,7 @@ pub fn first_faults_stay()
     sb_text::first_faults_stay::<Draft, ScriptKind>();
 }
 
-/// A line that says nothing may be put in anywhere below the first that says something, and changes nothing but numbers of
+/// A blank or comment line may be put in anywhere below the first that is neither blank nor a comment, and changes nothing but numbers of
 /// lines.
 pub fn skipped_lines_count_alone()
     ensures { SkippedLinesCountAlone }
@@ -56,7 +56,7 @@ pub fn written_scripts_are_read()
     decimals_are_read();
 }
 
-/// The strings, numbers and names of each script that is read can be written. Where the policies are well made it is ready for them
+/// The strings, numbers and names of each script that is read can be written. If the policies are well made it is ready for them
 /// too, by `read_scripts_are_ready`.
 pub fn read_scripts_can_be_written()
     ensures { ReadScriptsCanBeWritten }

@@ -3,11 +3,13 @@ ghost use Rattle.std.specs.Prelude.{◌≡◌, []};
 ghost use Rattle.std.specs.List.{list_any, position};
 ghost use Rattle.sb_rule.specs.WellMade.{is_named};
 ghost use Rattle.sb_script.specs.Arguments.{call};
-ghost use Rattle.sb_script.specs.Building.{headed};
+ghost use Rattle.sb_script.specs.Building.{target_script};
 ghost use Rattle.sb_script.specs.Lines.{patience, new_name, new_name_at, policy_number, policy_at, heading, set_patience, add_target, add_thread, start_line, statement_line, plain_line, line_of};
 ghost use Rattle.sb_script.specs.Openings.{dir, file, key, event};
 ghost use Rattle.sb_script.specs.Statements.{store, exchange, load, wait};
-ghost use Rattle.sb_text.specs.Steps.{Gives, GivesAs, Reads, Becomes};
+ghost use Rattle.sb_items.specs.Refusals.{Gives};
+ghost use Rattle.sb_items.specs.Refusals.{GivesAs};
+ghost use Rattle.sb_text.specs.Steps.{Reads, Becomes};
 ghost use Rattle.sb_text.specs.Tokens.{tokens_of};
 
 use crate::arguments::{MOST_32, call};
@@ -23,7 +25,7 @@ use sb_statements::{MOST_CHANNELS, MOST_PATIENCE, StartLine, Statement};
 use sb_text::{Line, Tokens, end_at, or_fault, word_at};
 use std::alloc::Global;
 
-// `patience N`, behind its first word.
+// `patience N`, after its first word.
 #[tactic(auto, unfolding(crate::specs::Lines::patience))]
 fn patience(tokens: &mut Tokens) -> Result<u32, LineRefused>
     ensures { Gives (patience tokens.old) result }
@@ -89,10 +91,10 @@ fn policy_at(policies: &[Policy], tokens: &mut Tokens) -> Result<u32, LineRefuse
     policy_number(place)
 }
 
-// `target NAME POLICY CHANNELS`, behind its first word.
+// `target NAME POLICY CHANNELS`, after its first word.
 #[tactic(auto, unfolding(crate::specs::Lines::heading))]
 fn heading(policies: &[Policy], draft: &Draft, tokens: &mut Tokens) -> Result<Heading, LineRefused>
-    ensures { GivesAs (λ heading. headed heading []) (heading policies.now draft.now.targets tokens.old) result }
+    ensures { GivesAs (λ heading. target_script heading []) (heading policies.now draft.now.targets tokens.old) result }
 {
     let name = new_name_at(draft, tokens)?;
     let policy = policy_at(policies, tokens)?;
@@ -207,7 +209,7 @@ fn plain_line(
     draft.add_start(alloc, start)
 }
 
-/// What a line adds to what was read so far. After an error the draft is of no more use.
+/// What a line adds to what was read so far. After an error the draft is unspecified.
 #[tactic(auto, unfolding(crate::specs::Lines::line_of))]
 pub(crate) fn line_of(
     alloc: Global,

@@ -1,7 +1,7 @@
 // Opening lines: what is there at the start.
 ghost use Rattle.std.specs.Prelude.{◌≡◌};
 ghost use Rattle.sb_script.specs.Openings.{dir, file, key, event};
-ghost use Rattle.sb_text.specs.Steps.{Gives};
+ghost use Rattle.sb_items.specs.Refusals.{Gives};
 
 use crate::arguments::MOST_32;
 use crate::faults::LineRefused;
@@ -11,7 +11,7 @@ use sb_statements::StartLine;
 use sb_text::{Tokens, end_at};
 use std::alloc::Global;
 
-/// `dir "NAME"`, behind its first word.
+/// `dir "NAME"`, after its first word.
 #[tactic(auto, unfolding(crate::specs::Openings::dir))]
 pub(crate) fn dir(alloc: Global, tokens: &mut Tokens) -> Result<StartLine, LineRefused>
     ensures { Gives (dir tokens.old) result }
@@ -21,7 +21,7 @@ pub(crate) fn dir(alloc: Global, tokens: &mut Tokens) -> Result<StartLine, LineR
     Ok(StartLine::Dir { name })
 }
 
-/// `file "NAME" ATTR`, behind its first word.
+/// `file "NAME" ATTR`, after its first word.
 #[tactic(auto, unfolding(crate::specs::Openings::file))]
 pub(crate) fn file(alloc: Global, tokens: &mut Tokens) -> Result<StartLine, LineRefused>
     ensures { Gives (file tokens.old) result }
@@ -32,7 +32,7 @@ pub(crate) fn file(alloc: Global, tokens: &mut Tokens) -> Result<StartLine, Line
     Ok(StartLine::File { name, attributes })
 }
 
-/// `key "NAME"`, behind its first word.
+/// `key "NAME"`, after its first word.
 #[tactic(auto, unfolding(crate::specs::Openings::key))]
 pub(crate) fn key(alloc: Global, tokens: &mut Tokens) -> Result<StartLine, LineRefused>
     ensures { Gives (key tokens.old) result }
@@ -42,7 +42,7 @@ pub(crate) fn key(alloc: Global, tokens: &mut Tokens) -> Result<StartLine, LineR
     Ok(StartLine::Key { name })
 }
 
-/// `event "NAME" KIND INITIAL`, behind its first word.
+/// `event "NAME" KIND INITIAL`, after its first word.
 #[tactic(auto, unfolding(crate::specs::Openings::event))]
 pub(crate) fn event(alloc: Global, tokens: &mut Tokens) -> Result<StartLine, LineRefused>
     ensures { Gives (event tokens.old) result }

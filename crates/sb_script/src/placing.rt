@@ -1,9 +1,9 @@
-// The opening lines so far, and whether a further one can be placed behind them.
+// The opening lines so far, and whether one more can be placed after them.
 ghost use Rattle.std.specs.Prelude.{◌≡◌, ◌<◌, [], true, length};
-ghost use Rattle.sb_kernel.specs.Openings.{is_named};
+ghost use Rattle.sb_kernel.specs.Openings.{is_named, opening};
 ghost use Rattle.sb_script.specs.Openings.{can_place, with_line};
 ghost use Rattle.sb_statements.specs.Limits.{most_start_lines};
-ghost use Rattle.sb_text.specs.Steps.{Gives};
+ghost use Rattle.sb_items.specs.Refusals.{Gives};
 
 use crate::faults::{LineRefused, ScriptKind};
 use sb_kernel::{Kernel, openings_make_few};
@@ -48,14 +48,16 @@ impl Placed {
         self.lines.len()
     }
 
-    /// The opening lines.
-    pub(crate) fn into_lines(self) -> StartLines
-        ensures { result ≡ self }
+    /// The opening lines, and the kernel in which they are placed.
+    pub(crate) fn into_parts(self) -> (StartLines, Kernel)
+        ensures lines { result.0 ≡ self }
+        ensures kernel { result.1 ≡ opening self }
     {
-        self.lines
+        let Placed { lines, kernel } = self;
+        (lines, kernel)
     }
 
-    /// Whether a further line can be placed.
+    /// Whether another line can be placed.
     pub(crate) fn can_place(&self, line: &StartLine) -> bool
         requires name { is_named line.now ≡ true }
         ensures { result ≡ can_place self.now line.now }

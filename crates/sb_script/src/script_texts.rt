@@ -1,19 +1,19 @@
 // Reading script texts.
-ghost use Rattle.std.specs.Prelude.{◌≡◌, ◌<◌, ◌^◌, length, true, IfOk};
-ghost use Rattle.sb_book.specs.Readiness.{is_ready};
-ghost use Rattle.sb_rule.specs.WellMade.{are_well_made};
-ghost use Rattle.sb_statements.specs.Units.{script_has_units};
+ghost use Rattle.std.specs.Prelude.{◌≡◌, ◌<◌, ◌^◌, length, IfOk};
+ghost use Rattle.sb_kernel.specs.Openings.{opening};
 ghost use Rattle.sb_script.specs.SoFar.{nothing};
 ghost use Rattle.sb_script.specs.ScriptTexts.{grammar, absence, first_absence, finished, reading};
 ghost use Rattle.sb_script.specs.declared.faults.ScriptKind.TheVariants.{UnknownWord};
-ghost use Rattle.sb_text.specs.Steps.{Gives};
+ghost use Rattle.sb_items.specs.Refusals.{GivesAs};
 
 use crate::drafts::{Draft, Named};
 use crate::faults::{LineRefused, ScriptFault, ScriptKind, ScriptRefused};
-use crate::laws::{read_scripts_are_ready, read_scripts_have_units};
+use crate::laws::{read_scripts_are_ready, read_scripts_can_be_written, read_scripts_have_units};
 use crate::lines::line_of;
-use sb_rule::{Policies, Policy};
-use sb_statements::{Script, TargetScript};
+use sb_book::{OpenedScript, ReadyScript};
+use sb_kernel::Kernel;
+use sb_rule::{Policy, WellMadePolicies};
+use sb_statements::{Script, SoundScript, TargetScript};
 use sb_text::{Line, Lines, TextGrammar, read_text};
 use std::alloc::Global;
 
@@ -78,40 +78,58 @@ fn first_absence(targets: &[TargetScript], named: &[Named]) -> Option<ScriptFaul
     None
 }
 
-// The script that was read, where all is there that its statements name.
-fn finished(draft: Draft) -> Result<Script, ScriptRefused>
-    ensures { Gives (finished draft) result }
+// The script that was read, with the kernel in which its opening lines are placed, if all is there that its statements name.
+fn finished(draft: Draft) -> Result<(Script, Kernel), ScriptRefused>
+    ensures exactly { GivesAs (λ read. read.0) (finished draft) result }
+    ensures kernel { IfOk result (λ read. read.1 ≡ opening read.0.start) }
 {
-    let (script, named) = draft.into_script()?;
+    let (script, kernel, named) = draft.into_script()?;
     match first_absence(script.targets.as_slice(), named.as_slice()) {
         Some(fault) => Err(ScriptRefused::Fault(fault)),
-        None => Ok(script),
+        None => Ok((script, kernel)),
     }
 }
 
-/// The script of a text, for targets of these policies, or its first fault. The text has fewer than 2^32 bytes. Where the
-/// policies are well made, the script is ready for them. The strings of its calls are made of units.
+// What was read of a text. Its strings, numbers and names are those of a script that is ready.
+fn read_parts(
+    alloc: Global,
+    text: &[u8],
+    policies: &[Policy],
+) -> Result<(Script, Kernel), ScriptRefused>
+    requires short { length text.now < 2 ^ 32 }
+    ensures exactly { GivesAs (λ read. read.0) (reading policies.now text.now) result }
+    ensures kernel { IfOk result (λ read. read.1 ≡ opening read.0.start) }
+{
+    let grammar = ScriptGrammar { alloc, policies };
+    let draft = read_text(&grammar, ScriptKind::NotUtf8, text)?;
+    finished(draft)
+}
+
+/// The script of a text, for targets of these policies, or its first fault. The text has fewer than 2^32 bytes. The script
+/// is ready for the policies, and comes with the namespace in which its opening lines were placed.
 ///
 /// The grammar of script texts is that of this project.
 ///
 /// # Errors
-/// `Fault` exactly where the text has a fault: the first one, by lines from the top and within a line from the left, but
+/// `Fault` exactly if the text has a fault: the first one, by lines from the top and within a line from the left, but
 /// for these. A text that is not UTF-8 has this fault before all others. Within a line it comes after the line's other
 /// faults that an opening line cannot be placed, that a call does not fit a block or that the loads of a `wait` are out of
 /// their range, and after these that a limit is passed. A target or channel which a statement names and which is not there
-/// comes after all other faults of the text. `NoMemory` where there was none for the script.
-pub fn read_script(alloc: Global, text: &[u8], policies: &Policies) -> Result<Script, ScriptRefused>
+/// comes after all other faults of the text. `NoMemory` if there was none for the script.
+#[tactic(auto, using(crate::proofs::Keeping::read_is_ready, crate::proofs::Keeping::read_is_sound))]
+pub fn read_script(
+    alloc: Global,
+    text: &[u8],
+    policies: WellMadePolicies,
+) -> Result<OpenedScript, ScriptRefused>
     requires short { length text.now < 2 ^ 32 }
-    ensures exactly { Gives (reading policies.now.list text.now) result }
-    ensures ready { are_well_made policies.now.list ≡ true → IfOk result (λ script. is_ready policies.now.list script ≡ true) }
-    ensures units { IfOk result (λ script. script_has_units script ≡ true) }
+    ensures exactly { GivesAs (λ opened. opened.script) (reading policies.list text.now) result }
+    ensures policies { IfOk result (λ opened. opened.policies ≡ policies.list) }
 {
     read_scripts_are_ready();
     read_scripts_have_units();
-    let grammar = ScriptGrammar {
-        alloc,
-        policies: policies.list.as_slice(),
-    };
-    let draft = read_text(&grammar, ScriptKind::NotUtf8, text)?;
-    finished(draft)
+    read_scripts_can_be_written();
+    let (script, kernel) = read_parts(alloc, text, policies.policies().list.as_slice())?;
+    let ready = ReadyScript::of(policies, SoundScript::of(script));
+    Ok(OpenedScript::of(ready, kernel))
 }

@@ -1,7 +1,8 @@
-// `store`, `exchange`, `load` and `wait`: words of channels that are stored and loaded by hand.
+// `store`, `exchange`, `load` and `wait`: words of channels that are stored and loaded directly.
 ghost use Rattle.std.specs.Prelude.{◌≡◌};
 ghost use Rattle.sb_script.specs.Statements.{short, value_at, short_at, block_place, place_of, place_at, target_word_at, store, exchange, load, wait};
-ghost use Rattle.sb_text.specs.Steps.{Gives, Reads};
+ghost use Rattle.sb_items.specs.Refusals.{Gives};
+ghost use Rattle.sb_text.specs.Steps.{Reads};
 
 use crate::arguments::MOST_32;
 use crate::faults::LineRefused;
@@ -81,7 +82,7 @@ fn target_word_at(tokens: &mut Tokens) -> Result<(u32, Word), LineRefused>
     Ok((target, Word { channel, at }))
 }
 
-/// `store T C W V`, behind its first word.
+/// `store T C W V`, after its first word.
 #[tactic(auto, unfolding(crate::specs::Statements::store))]
 pub(crate) fn store(tokens: &mut Tokens) -> Result<Statement, LineRefused>
     ensures { Gives (store tokens.old) result }
@@ -96,7 +97,7 @@ pub(crate) fn store(tokens: &mut Tokens) -> Result<Statement, LineRefused>
     })
 }
 
-/// `exchange T C W FROM TO`, behind its first word.
+/// `exchange T C W FROM TO`, after its first word.
 #[tactic(auto, unfolding(crate::specs::Statements::exchange))]
 pub(crate) fn exchange(tokens: &mut Tokens) -> Result<Statement, LineRefused>
     ensures { Gives (exchange tokens.old) result }
@@ -113,7 +114,7 @@ pub(crate) fn exchange(tokens: &mut Tokens) -> Result<Statement, LineRefused>
     })
 }
 
-/// `load T C W`, behind its first word.
+/// `load T C W`, after its first word.
 #[tactic(auto, unfolding(crate::specs::Statements::load))]
 pub(crate) fn load(tokens: &mut Tokens) -> Result<Statement, LineRefused>
     ensures { Gives (load tokens.old) result }
@@ -123,7 +124,7 @@ pub(crate) fn load(tokens: &mut Tokens) -> Result<Statement, LineRefused>
     Ok(Statement::Load { target, word })
 }
 
-/// `wait T C W V N`, behind its first word.
+/// `wait T C W V N`, after its first word.
 #[tactic(auto, unfolding(crate::specs::Statements::wait))]
 pub(crate) fn wait(tokens: &mut Tokens) -> Result<Statement, LineRefused>
     ensures { Gives (wait tokens.old) result }

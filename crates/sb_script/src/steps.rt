@@ -1,7 +1,8 @@
 // Reading a line from left to right: numbers, strings and names.
 ghost use Rattle.std.specs.Prelude.{◌≡◌, ◌≤◌, IfOk};
 ghost use Rattle.sb_script.specs.Steps.{number_at, within, number_within, string_at, name, name_at};
-ghost use Rattle.sb_text.specs.Steps.{Gives, Reads};
+ghost use Rattle.sb_items.specs.Refusals.{Gives};
+ghost use Rattle.sb_text.specs.Steps.{Reads};
 
 use crate::faults::{LineRefused, ScriptKind};
 use sb_text::{Tokens, number_of, or_fault, quoted_at, string_of, word_at};

@@ -1,6 +1,6 @@
 -- How a command ends, by how its parts end.
 use Rattle.std.proofs.Common.{◌≡◌, ◌≢◌, ◌∙◌, ℕ, ◌≤◌, ◌⊎◌, Option, None, Some, refl, sym, ap, subst, inl, inr, arith, true≢false, false}
-use Rattle.std.specs.Prelude.{List, option_map, IfSome, IsSome, Ok}
+use Rattle.std.specs.Prelude.{List, [], option_map, IfSome, IsSome, Ok}
 use Rattle.sb_outside.specs.Outside.{Held}
 use Rattle.sb_commands.specs.Commands.{Command, Check, Make, Replay, Run, needs_threads}
 use Rattle.sb_top.specs.Effects.{IsOrderly}
@@ -99,27 +99,28 @@ quiet_end files wanted rose sink s h = (h.0, by h.1)
 
 -- ---- what is common to all commands
 
--- where all was read
-pub shown_orderly : {G S : Type 0} (held held' : Option Held) (reads reads' : ℕ) (written written' : Option (List ℕ)) (puts puts' : ℕ) (files files' : G) (out out' : S)
+-- if all was read
+pub shown_orderly : {G S : Type 0} (held held' : Option Held) (reads reads' : ℕ) (written written' : Option (List ℕ)) (pending pending' : List ℕ) (puts puts' : ℕ) (files files' : G) (out out' : S)
     (work : Work) (rose : Type 0) (o : Outcome) → held' ≡ held → reads ≤ reads' → reads' ≡ reads → puts ≤ puts' → (o.status ≡ Done → puts' ≡ puts)
-    → IsWorkEnd work rose o.status → (IsSilent o.status → out' ≡ out)
-    → IsOrderly (record { files = files; files' = files'; out = out; out' = out'; held = held; held' = held'; reads = reads; reads' = reads'; written = written; written' = written'; puts = puts; puts' = puts' }) o
-shown_orderly held held' reads reads' written written' puts puts' files files' out out' work rose o kept counted_files same counted_sink done_sink end silent = record {
+    → (o.status ≡ Done → pending' ≡ []) → IsWorkEnd work rose o.status → (IsSilent o.status → out' ≡ out)
+    → IsOrderly (record { files = files; files' = files'; out = out; out' = out'; held = held; held' = held'; reads = reads; reads' = reads'; written = written; written' = written'; pending = pending; pending' = pending'; puts = puts; puts' = puts' }) o
+shown_orderly held held' reads reads' written written' pending pending' puts puts' files files' out out' work rose o kept counted_files same counted_sink done_sink finished end silent = record {
   kept = kept;
   counted_files = counted_files;
   counted_sink = counted_sink;
   done_files = λ e. same;
   done_sink = done_sink;
+  finished = finished;
   run_files = λ h. same;
   unread = λ e. absurd (shown_known work rose o.status end e);
   silent = silent;
 }
 
--- where a file was not read, or refused
-pub refused_orderly : {G S : Type 0} (held held' : Option Held) (reads reads' : ℕ) (written : Option (List ℕ)) (puts : ℕ) (files files' : G) (out : S) (s : Status)
+-- if a file was not read, or refused
+pub refused_orderly : {G S : Type 0} (held held' : Option Held) (reads reads' : ℕ) (written : Option (List ℕ)) (pending : List ℕ) (puts : ℕ) (files files' : G) (out : S) (s : Status)
     → held' ≡ held → reads ≤ reads' → IsRefusal s
-    → IsOrderly (record { files = files; files' = files'; out = out; out' = out; held = held; held' = held'; reads = reads; reads' = reads'; written = written; written' = written; puts = puts; puts' = puts }) (record { status = s; report = None })
-refused_orderly held held' reads reads' written puts files files' out s kept counted_files refusal =
+    → IsOrderly (record { files = files; files' = files'; out = out; out' = out; held = held; held' = held'; reads = reads; reads' = reads'; written = written; written' = written; pending = pending; pending' = pending; puts = puts; puts' = puts }) (record { status = s; report = None })
+refused_orderly held held' reads reads' written pending puts files files' out s kept counted_files refusal =
     let same_puts : puts ≤ puts = omega arith in
     record {
       kept = kept;
@@ -127,23 +128,24 @@ refused_orderly held held' reads reads' written puts files files' out s kept cou
       counted_sink = same_puts;
       done_files = λ e. absurd (subst IsRefusal e refusal);
       done_sink = λ e. refl;
+      finished = λ e. absurd (subst IsRefusal e refusal);
       run_files = λ h. absurd (true≢false (sym h));
       unread = λ e. absurd (subst IsRefusal e refusal);
       silent = λ h. refl;
     }
 
--- where there is no file to read
-pub made_orderly : {G S : Type 0} (held : Option Held) (reads : ℕ) (written written' : Option (List ℕ)) (puts puts' : ℕ) (files : G) (out out' : S)
-    (work : Work) (rose : Type 0) (o : Outcome) → puts ≤ puts' → (o.status ≡ Done → puts' ≡ puts) → IsWorkEnd work rose o.status → (IsSilent o.status → out' ≡ out)
-    → IsOrderly (record { files = files; files' = files; out = out; out' = out'; held = held; held' = held; reads = reads; reads' = reads; written = written; written' = written'; puts = puts; puts' = puts' }) o
-made_orderly held reads written written' puts puts' files out out' work rose o counted_sink done_sink end silent =
+-- if there is no file to read
+pub made_orderly : {G S : Type 0} (held : Option Held) (reads : ℕ) (written written' : Option (List ℕ)) (pending pending' : List ℕ) (puts puts' : ℕ) (files : G) (out out' : S)
+    (work : Work) (rose : Type 0) (o : Outcome) → puts ≤ puts' → (o.status ≡ Done → puts' ≡ puts) → (o.status ≡ Done → pending' ≡ []) → IsWorkEnd work rose o.status → (IsSilent o.status → out' ≡ out)
+    → IsOrderly (record { files = files; files' = files; out = out; out' = out'; held = held; held' = held; reads = reads; reads' = reads; written = written; written' = written'; pending = pending; pending' = pending'; puts = puts; puts' = puts' }) o
+made_orderly held reads written written' pending pending' puts puts' files out out' work rose o counted_sink done_sink finished end silent =
     let same : reads ≤ reads = omega arith in
-    shown_orderly held held reads reads written written' puts puts' files files out out' work rose o refl same refl counted_sink done_sink end silent
+    shown_orderly held held reads reads written written' pending pending' puts puts' files files out out' work rose o refl same refl counted_sink done_sink finished end silent
 
--- where nothing was done
-pub unchanged : {G S : Type 0} (held : Option Held) (reads : ℕ) (written : Option (List ℕ)) (puts : ℕ) (files : G) (out : S) (o : Outcome)
-    → IsOrderly (record { files = files; files' = files; out = out; out' = out; held = held; held' = held; reads = reads; reads' = reads; written = written; written' = written; puts = puts; puts' = puts }) o
-unchanged held reads written puts files out o =
+-- if nothing was done, and the status is not Done
+pub unchanged : {G S : Type 0} (held : Option Held) (reads : ℕ) (written : Option (List ℕ)) (pending : List ℕ) (puts : ℕ) (files : G) (out : S) (o : Outcome)
+    → IsSilent o.status → IsOrderly (record { files = files; files' = files; out = out; out' = out; held = held; held' = held; reads = reads; reads' = reads; written = written; written' = written; pending = pending; pending' = pending; puts = puts; puts' = puts }) o
+unchanged held reads written pending puts files out o silent =
     let same_reads : reads ≤ reads = omega arith in
     let same_puts : puts ≤ puts = omega arith in
     record {
@@ -152,6 +154,7 @@ unchanged held reads written puts files out o =
       counted_sink = same_puts;
       done_files = λ e. refl;
       done_sink = λ e. refl;
+      finished = λ e. absurd (subst IsSilent e silent);
       run_files = λ h. refl;
       unread = λ e. refl;
       silent = λ h. refl;

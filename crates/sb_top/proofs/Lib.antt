@@ -2,6 +2,7 @@ pub mod CheckEnds
 pub mod EndLaws
 pub mod Ending
 pub mod Made
+pub mod Ordering
 pub mod Ready
 pub mod ReplayEnds
 pub mod RunEnds

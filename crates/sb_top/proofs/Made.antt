@@ -1,6 +1,7 @@
 -- The reports of generated scripts, and their totals.
 use Rattle.std.proofs.Common.{◌≡◌, ◌∙◌, ℕ, zero, suc, ◌+◌, ◌==◌, Bool, true, false, if◌then◌else◌, ◌++◌, ap, sym, refl, subst, List}
 use Rattle.std.specs.List.{list_all}
+use Rattle.std.specs.Prelude.{IfOk, Result, Ok, Err}
 use Rattle.sb_book.specs.Readiness.{is_ready}
 use Rattle.sb_book.specs.declared.reports.Report.{Report}
 use Rattle.sb_core.specs.Runs.{IsSomeRun}
@@ -75,3 +76,18 @@ made_totals law sound seed targets calls policies script report made same ready 
     let totals = law policies script report ready units all clean (some_run_fits sound policies script report units some) in
     ap (λ line. made_line targets calls ++ line)
     (totals ∙ (ap (λ p. totals_by p script) (are_made policies made) ∙ ap (λ s. totals_by made_policies s) same))
+
+-- ---- the same of what a run gives that may run out of memory
+
+pub made_reports : {E : Type 0} (seed targets calls : ℕ) (policies : List Policy) (script : Script) (result : Result Report E) → AreMade policies
+    → script ≡ script_of seed targets calls → script_has_units script ≡ true → IfOk result (λ r. IsSomeRun policies script r)
+    → IfOk result (λ r. IsMadeReport seed targets calls r)
+made_reports seed targets calls policies script (Ok report) made same units some = made_report seed targets calls policies script report made same units some
+made_reports seed targets calls policies script (Err error) made same units some = some
+
+pub made_lines : {E : Type 0} → TotalsAreOfVerdicts → RunsAreSound → (seed targets calls : ℕ) (policies : List Policy) (script : Script) (result : Result Report E)
+    → AreMade policies → script ≡ script_of seed targets calls → is_ready policies script ≡ true → script_has_units script ≡ true → AllClean script
+    → IfOk result (λ r. IsSomeRun policies script r) → IfOk result (λ r. made_line targets calls ++ totals_line r ≡ made_text seed targets calls)
+made_lines law sound seed targets calls policies script (Ok report) made same ready units clean some =
+    made_totals law sound seed targets calls policies script report made same ready units clean some
+made_lines law sound seed targets calls policies script (Err error) made same ready units clean some = some

@@ -80,7 +80,7 @@ named_refused policy script name policies read held rose s e d h =
     (refused_end 3 3 (schedule_in read name) (λ h schedule. Ok (Runs policies read schedule)) held rose ⊥ s (lit≤ tt, lit≤ tt)
     (λ h. reached_run 3 policies (Some name) read h (lit≤ tt)) h)
 
--- the same where a schedule may not be named
+-- the same if a schedule may not be named
 pub schedule_refused : (policy script : List ℕ) (schedule : Option (List ℕ)) (policies : List Policy) (read : Script) (held : Option Held) (rose : Type 0) (s : Status)
     → IfSome held (λ h. policies_in policy h ≡ Ok policies) → IfSome held (λ h. script_in policies script h ≡ Ok read)
     → IsNotScheduled read schedule held rose s

@@ -1,4 +1,4 @@
--- How a command ends that had no memory for its words.
+-- How a command ends that had no memory for its arguments.
 use Rattle.std.proofs.Common.{◌≡◌, ◌≢◌, List, ℕ, Option, None, Some, refl, inr}
 use Rattle.sb_outside.specs.Outside.{Held}
 use Rattle.sb_commands.specs.Commands.{Command, Check, Make, Replay, Run}

@@ -2,6 +2,7 @@
 use Rattle.std.proofs.Common.{◌≡◌, ◌∙◌, ℕ, ◌≤◌, ◌<◌, Bool, true, false, if◌then◌else◌, List, length, Option, None, Some, refl, sym, ap, subst, lit≤, arith, inl, inr}
 use Rattle.std.specs.Prelude.{nat_le, option_map, IfSome, IfOk, IfErr, IsErrOf, IsSomeAnd, MatchOption, Result, Ok, Err, ⊤}
 use Rattle.std.proofs.lemmas.Bool.Decides.{nat_tests}
+use Rattle.sb_book.specs.ReadyScripts.{Ready}
 use Rattle.sb_statements.specs.declared.schedules.Schedule.{Schedule}
 use Rattle.sb_statements.specs.declared.scripts.Script.{Script}
 use Rattle.sb_outside.specs.Outside.{Held, IsMissing, IsTooLong}
@@ -9,7 +10,7 @@ use Rattle.sb_outside.specs.declared.files.FileFault.{FileFault}
 use Rattle.sb_outside.specs.declared.files.FileFault.TheVariants as file
 use Rattle.sb_rule.specs.declared.policies.Policies.{Policies}
 use Rattle.sb_rule.specs.declared.policies.Policy.{Policy}
-use Rattle.sb_ruletext.specs.PolicyTexts.{TextFault, reading}
+use Rattle.sb_ruletext.specs.PolicyTexts.{PolicyFault, reading}
 use Rattle.sb_schedule.specs.ScheduleTexts as schedules
 use Rattle.sb_schedule.specs.ScheduleTexts.{ScheduleFault}
 use Rattle.sb_script.specs.ScriptTexts as scripts
@@ -76,7 +77,7 @@ abbrev IsOfText : {A : Type 0} → ℕ → Type 0 → Result A Status → Type 0
 IsOfText n rose (Ok x) = ⊤
 IsOfText n rose (Err s) = (file_of s ≡ Some n) × MayCome rose s
 
-of_policies : (rose : Type 0) (r : Result (List Policy) TextFault) → IsOfText 1 rose (policies_by r)
+of_policies : (rose : Type 0) (r : Result (List Policy) PolicyFault) → IsOfText 1 rose (policies_by r)
 of_policies rose (Ok policies) = tt
 of_policies rose (Err fault) = (refl, tt)
 
@@ -88,7 +89,7 @@ of_schedule : (rose : Type 0) (r : Result Schedule ScheduleFault) → IsOfText 3
 of_schedule rose (Ok schedule) = tt
 of_schedule rose (Err fault) = (refl, tt)
 
--- what is found, where it is told
+-- what is found, if it is told
 found_as : {A : Type 0} (f : Held → Result A Status) (held : Option Held) (untold : Type 0) (s : Status) → untold → IfSome held (λ h. f h ≡ Err s)
     → MatchOption (option_map f held) untold (λ r. r ≡ Err s)
 found_as f None untold s u h = u
@@ -120,13 +121,13 @@ policies_not_found name text held rose (Ok p) e h = tt
 policies_not_found name text held rose (Err s) e h = text_not_read 1 name (λ text. policies_by (reading text)) text held rose s e (of_policies rose (reading text)) h
 
 -- what was found of the script's text
-pub script_found : (policies : List Policy) (name text : List ℕ) (held : Option Held) (r : Result Script Status) → IfSome held (λ h. text_in 2 (h name) ≡ Ok text)
-    → IfOk r (λ s. script_by (scripts.reading policies text) ≡ Ok s) → IfOk r (λ s. IfSome held (λ h. script_in policies name h ≡ Ok s))
+pub script_found : (policies : List Policy) (name text : List ℕ) (held : Option Held) (r : Result Ready Status) → IfSome held (λ h. text_in 2 (h name) ≡ Ok text)
+    → IfOk r (λ s. script_by (scripts.reading policies text) ≡ Ok s.script) → IfOk r (λ s. IfSome held (λ h. script_in policies name h ≡ Ok s.script))
 script_found policies name text held (Ok s) e d =
-    both_taken (λ (h : Held). text_in 2 (h name)) (λ h text. script_by (scripts.reading policies text)) text (Ok s) held e (each _ held (λ h. d))
+    both_taken (λ (h : Held). text_in 2 (h name)) (λ h text. script_by (scripts.reading policies text)) text (Ok s.script) held e (each _ held (λ h. d))
 script_found policies name text held (Err s) e d = tt
 
-pub script_not_found : (policies : List Policy) (name text : List ℕ) (held : Option Held) (rose : Type 0) (r : Result Script Status)
+pub script_not_found : (policies : List Policy) (name text : List ℕ) (held : Option Held) (rose : Type 0) (r : Result Ready Status)
     → IfSome held (λ h. text_in 2 (h name) ≡ Ok text) → IfErr r (λ s. IsTextRefused (script_by (scripts.reading policies text)) s)
     → IfErr r (λ s. IsNotRead 2 (option_map (script_in policies name) held) rose s)
 script_not_found policies name text held rose (Ok s) e h = tt
@@ -147,7 +148,7 @@ schedule_not_found script name text held rose (Ok s) e h = tt
 schedule_not_found script name text held rose (Err s) e h =
     text_not_read 3 name (λ text. schedule_by (schedules.reading script.targets text)) text held rose s e (of_schedule rose (schedules.reading script.targets text)) h
 
--- where no file is named, whatever the files hold
+-- if no file is named, whatever the files hold
 pub schedule_unnamed : (script : Script) (held : Option Held) → IfSome held (λ h. schedule_of script None h ≡ Ok no_schedule)
 schedule_unnamed script held = each _ held (λ h. refl)
 
@@ -165,7 +166,7 @@ pub reached_next : {A B : Type 0} (n : ℕ) (r : Result A Status) (f : A → Res
 reached_next n (Ok x) f h k = k x
 reached_next n (Err s) f h k = h
 
-reached_policies_by : (r : Result (List Policy) TextFault) → IsReached 1 (policies_by r)
+reached_policies_by : (r : Result (List Policy) PolicyFault) → IsReached 1 (policies_by r)
 reached_policies_by (Ok policies) = tt
 reached_policies_by (Err fault) = lit≤ tt
 
@@ -199,7 +200,7 @@ expected_of_step : {A : Type 0} (first : Held → Result A Status) (next : Held 
 expected_of_step first next None rose s h = h
 expected_of_step first next (Some held) rose s h = sym (ap (λ r. expected (r >>= next held)) h)
 
--- a command of which file n was not read, where it was reached
+-- a command of which file n was not read, if it was reached
 pub refused_end : {A : Type 0} (n files : ℕ) (first : Held → Result A Status) (next : Held → A → Wanted) (held : Option Held) (rose sink : Type 0) (s : Status)
     → IsFile files n → ((h : Held) → IsReached n (first h >>= next h)) → IsNotRead n (option_map first held) rose s
     → IsEnd files (option_map (λ (h : Held). first h >>= next h) held) rose sink s

@@ -31,7 +31,7 @@ none_upto (suc n) f h =
     let rest = none_upto n (λ i. f (suc i)) (λ i l. h (suc i) (omega (arith, l))) in
     (λ i. first i + rest i)
 
--- where all others are 0, the sum is the one
+-- if all others are 0, the sum is the one
 pub one_upto : (n m : ℕ) (f : ℕ → ℕ) → m < n → ((i : ℕ) → i < n → (i ≡ m → ⊥) → f i ≡ 0) → upto n f ≡ f m
 one_upto zero m f l h = absurd (omega (arith, l))
 one_upto (suc n) zero f l h =
@@ -58,7 +58,7 @@ same_both n m a b f g e bounds h =
 
 -- ---- lists
 
--- 1 where a test holds, and 0 where it does not
+-- 1 if a test holds, and 0 if it does not
 abbrev pub tally : Bool → ℕ
 tally b = cond b 1 0
 
@@ -105,7 +105,7 @@ module _ {X : Type 0} (such : X → Bool) (p : ℕ → ℕ → X → Bool) (most
   abbrev more_of : List X → ℕ → ℕ → ℕ
   more_of xs t k = count_by such (filter (p t k) xs)
 
-  -- where each element is in exactly one, all are counted by counting each
+  -- if each element is in exactly one, all are counted by counting each
   pub counted_once : (xs : List X) → ((i : ℕ) (x : X) → slice_get xs i ≡ Some x → Placed p most mosts x)
       → count_by such xs ≡ upto most (λ t. upto (mosts t) (more_of xs t))
   counted_once [] h = sym (none_upto most (λ t. upto (mosts t) (λ k. 0)) (λ t l. none_upto (mosts t) (λ k. 0) (λ k m. refl)))

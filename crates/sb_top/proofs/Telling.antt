@@ -1,6 +1,7 @@
 -- Transcripts tell entries line by line.
-use Rattle.std.proofs.Common.{◌≡◌, List, ℕ, Option, Some, sym, subst}
+use Rattle.std.proofs.Common.{◌≡◌, List, ℕ, ◌++◌, Option, Some, sym, subst}
 use Rattle.std.specs.Prelude.{slice_get}
+use Rattle.sb_outside.specs.Outside.{GrowsBy}
 use Rattle.sb_book.specs.declared.reports.Report.{Report}
 use Rattle.sb_rule.specs.declared.policies.Policy.{Policy}
 use Rattle.sb_statements.specs.declared.schedules.Schedule.{Schedule}
@@ -10,7 +11,7 @@ use Rattle.sb_transcript.specs.Laws.{EntriesComeFirst, HasShortNames, Transcript
 use Rattle.sb_transcript.specs.Transcripts.{transcript}
 use Rattle.sb_top.specs.Ends.{TellsReport}
 use Rattle.sb_top.specs.Works.{Runs, Threads}
-use Rattle.sb_top.specs.Writing.{GrowsBy, TellsEntries}
+use Rattle.sb_top.specs.Writing.{TellsEntries}
 
 -- the transcript of each report of a script with short names does
 pub tells_entries : EntriesComeFirst → TranscriptsTellTheirLines → (script : Script) (report : Report) → HasShortNames script
@@ -21,12 +22,12 @@ tells_entries first tell script report short = record {
 }
 
 -- an output that grew by such a transcript
-pub told : (policies : List Policy) (script : Script) (schedule : Schedule) (report : Report) (before after : Option (List ℕ))
-    → TellsEntries script report (transcript script report) → GrowsBy before (transcript script report) after
-    → TellsReport before after report (Runs policies script schedule)
-told policies script schedule report before after tells grows = (transcript script report, grows, tells)
+pub told : (policies : List Policy) (script : Script) (schedule : Schedule) (report : Report) (before : Option (List ℕ)) (pending : List ℕ) (after : Option (List ℕ))
+    → TellsEntries script report (transcript script report) → GrowsBy before (pending ++ transcript script report) after
+    → TellsReport before pending after report (Runs policies script schedule)
+told policies script schedule report before pending after tells grows = (transcript script report, grows, tells)
 
-pub threads_told : (policies : List Policy) (script : Script) (report : Report) (before after : Option (List ℕ))
-    → TellsEntries script report (transcript script report) → GrowsBy before (transcript script report) after
-    → TellsReport before after report (Threads policies script)
-threads_told policies script report before after tells grows = (transcript script report, grows, tells)
+pub threads_told : (policies : List Policy) (script : Script) (report : Report) (before : Option (List ℕ)) (pending : List ℕ) (after : Option (List ℕ))
+    → TellsEntries script report (transcript script report) → GrowsBy before (pending ++ transcript script report) after
+    → TellsReport before pending after report (Threads policies script)
+threads_told policies script report before pending after tells grows = (transcript script report, grows, tells)

@@ -1,8 +1,8 @@
 -- How work ends: with which status and which report, and what was written.
-use Rattle.std.specs.Prelude.{◌≡◌, ◌⊎◌, ℕ, ◌≤◌, Option, None, Some, IfSome, IsSomeAnd, IsOkAnd, MatchOption, Result, Ok, Err, List, [], ⊤}
+use Rattle.std.specs.Prelude.{◌≡◌, ◌⊎◌, ℕ, ◌≤◌, Option, None, Some, IfSome, IsSomeAnd, IsOkAnd, MatchOption, Result, Ok, Err, List, [], ◌++◌, ⊤}
 use Rattle.sb_book.specs.declared.reports.Report.{Report}
 use Rattle.sb_core.specs.Runs.{CanRun, IsSomeRun}
-use Rattle.sb_outside.specs.Outside.{GrowsByPrefix}
+use Rattle.sb_outside.specs.Outside.{GrowsBy, GrowsByPrefix}
 use Rattle.sb_statements.specs.declared.scripts.Script.{Script}
 use Rattle.sb_transcript.specs.Transcripts.{transcript}
 use Rattle.sb_top.specs.Check.{checked}
@@ -10,7 +10,7 @@ use Rattle.sb_top.specs.Make.{IsMadeReport, made_text}
 use Rattle.sb_top.specs.Outcomes.{MayCome, file_of}
 use Rattle.sb_top.specs.Replay.{run_end, whole_run}
 use Rattle.sb_top.specs.Works.{Work, Makes, Prints, Reporting, Runs, Scheduled, Threaded, Threads, Unreported, Wanted}
-use Rattle.sb_top.specs.Writing.{GrowsBy, TellsEntries}
+use Rattle.sb_top.specs.Writing.{TellsEntries}
 use Rattle.sb_top.specs.declared.outcomes.Status.{Status}
 use Rattle.sb_top.specs.declared.outcomes.Status.TheVariants.{Done, Unfinished, ReadFault, WriteFault, NoMemory}
 
@@ -26,7 +26,7 @@ abbrev pub expected : Wanted → Status
 expected (Ok work) = end_of work
 expected (Err status) = status
 
--- the transcript of a report; where there is none, nothing
+-- the transcript of a report; if there is none, nothing
 abbrev pub transcript_of : Script → Option Report → List ℕ
 transcript_of script None = []
 transcript_of script (Some report) = transcript script report
@@ -48,7 +48,7 @@ abbrev pub IsReached : {A : Type 0} → ℕ → Result A Status → Type 0
 IsReached n (Ok x) = ⊤
 IsReached n (Err status) = IsSomeAnd (file_of status) (λ m. n ≤ m)
 
--- the status is the expected one, or where the contents of the files are not known, one that can come of them
+-- the status is the expected one, or if the contents of the files are not known, one that can come of them
 abbrev pub IsExpected : Option Wanted → Type 0 → Status → Type 0
 IsExpected wanted files_rose status = MatchOption wanted (MayCome files_rose status) (λ w. status ≡ expected w)
 
@@ -117,25 +117,25 @@ IsReported reporting wanted report WriteFault = HasReportOfRun reporting wanted 
 IsReported reporting wanted report (Unfinished target thread) = MayLeave reporting × HasReport wanted report
 IsReported reporting wanted report status = report ≡ None
 
--- with Done all was written, with WriteFault a prefix, and with any other status nothing
-abbrev pub IsWritten : Option Wanted → Option (List ℕ) → Option (List ℕ) → Option Report → Status → Type 0
-IsWritten wanted before after report Done = IfSome wanted (λ w. IsOkAnd w (λ work. GrowsBy before (text_of work report) after))
-IsWritten wanted before after report WriteFault = IfSome wanted (λ w. IsOkAnd w (λ work. GrowsByPrefix before (text_of work report) after))
-IsWritten wanted before after report status = after ≡ before
+-- with Done what was pending and then all of the text was written, with WriteFault a prefix of that, and with any other status nothing
+abbrev pub IsWritten : Option Wanted → Option (List ℕ) → List ℕ → Option (List ℕ) → Option Report → Status → Type 0
+IsWritten wanted before pending after report Done = IfSome wanted (λ w. IsOkAnd w (λ work. GrowsBy before (pending ++ text_of work report) after))
+IsWritten wanted before pending after report WriteFault = IfSome wanted (λ w. IsOkAnd w (λ work. GrowsByPrefix before (pending ++ text_of work report) after))
+IsWritten wanted before pending after report status = after ≡ before
 
--- the output grew by a text that tells the entries of this report line by line
-abbrev pub TellsReport : Option (List ℕ) → Option (List ℕ) → Report → Work → Type 0
-TellsReport before after report (Prints policies) = ⊥
-TellsReport before after report (Runs policies script schedule) = (text : List ℕ) × GrowsBy before text after × TellsEntries script report text
-TellsReport before after report (Threads policies script) = (text : List ℕ) × GrowsBy before text after × TellsEntries script report text
-TellsReport before after report (Makes seed targets calls) = ⊥
+-- the output grew by what was pending, and by a text that tells the entries of this report line by line
+abbrev pub TellsReport : Option (List ℕ) → List ℕ → Option (List ℕ) → Report → Work → Type 0
+TellsReport before pending after report (Prints policies) = ⊥
+TellsReport before pending after report (Runs policies script schedule) = (text : List ℕ) × GrowsBy before (pending ++ text) after × TellsEntries script report text
+TellsReport before pending after report (Threads policies script) = (text : List ℕ) × GrowsBy before (pending ++ text) after × TellsEntries script report text
+TellsReport before pending after report (Makes seed targets calls) = ⊥
 
--- the same where there is a report
-abbrev pub HasToldReport : Option Wanted → Option (List ℕ) → Option (List ℕ) → Option Report → Type 0
-HasToldReport wanted before after None = ⊥
-HasToldReport wanted before after (Some report) = IfSome wanted (λ w. IsOkAnd w (TellsReport before after report))
+-- the same if there is a report
+abbrev pub HasToldReport : Option Wanted → Option (List ℕ) → List ℕ → Option (List ℕ) → Option Report → Type 0
+HasToldReport wanted before pending after None = ⊥
+HasToldReport wanted before pending after (Some report) = IfSome wanted (λ w. IsOkAnd w (TellsReport before pending after report))
 
 -- with Done of a command that writes a transcript, the text that was written tells the entries of its report line by line
-abbrev pub IsTold : Option Wanted → Option (List ℕ) → Option (List ℕ) → Option Report → Status → Type 0
-IsTold wanted before after report Done = HasToldReport wanted before after report
-IsTold wanted before after report status = ⊤
+abbrev pub IsTold : Option Wanted → Option (List ℕ) → List ℕ → Option (List ℕ) → Option Report → Status → Type 0
+IsTold wanted before pending after report Done = HasToldReport wanted before pending after report
+IsTold wanted before pending after report status = ⊤

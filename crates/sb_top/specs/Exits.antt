@@ -34,6 +34,6 @@ text_of WriteFault = codes "write fault"
 text_of (Unfinished target thread) = codes "unfinished: target " ++ (decimal target ++ (codes " thread " ++ decimal thread))
 text_of NoMemory = codes "no memory"
 
--- the line of a status on standard error, but for its end
+-- the line of a status on standard error, except for its end
 abbrev pub line_of : Status → List ℕ
 line_of status = codes "sandbox: " ++ text_of status

@@ -12,4 +12,5 @@ pub mod Effects
 pub mod Ends
 pub mod Top
 pub mod Laws
+pub mod Orders
 pub mod Sound

@@ -6,12 +6,12 @@ use Rattle.sb_core.specs.Runs.{IsSomeRun}
 use Rattle.sb_gen.specs.Policies.{AreMade, policy_text}
 use Rattle.sb_gen.specs.Scripts.{script_of}
 use Rattle.sb_rule.specs.declared.policies.Policy.{Policy}
-use Rattle.sb_ruletext.specs.PolicyTexts.{TextFault, reading}
+use Rattle.sb_ruletext.specs.PolicyTexts.{PolicyFault, reading}
 use Rattle.sb_statements.specs.Units.{script_has_units}
 use Rattle.sb_top.specs.Totals.{totals_by}
 
 -- the policies of a text without a fault
-abbrev pub policies_or_none : Result (List Policy) TextFault → List Policy
+abbrev pub policies_or_none : Result (List Policy) PolicyFault → List Policy
 policies_or_none (Ok policies) = policies
 policies_or_none (Err fault) = []
 

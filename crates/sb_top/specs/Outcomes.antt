@@ -1,4 +1,4 @@
--- What a status tells. A status that is added has one line in `file_of` where it names a file, and one in `MayCome` where texts and runs alone
+-- What a status tells. A status that is added has one line in `file_of` if it names a file, and one in `MayCome` if texts and runs alone
 -- cannot lead to it.
 use Rattle.std.specs.Prelude.{ℕ, Option, None, Some, ⊤}
 use Rattle.sb_top.specs.declared.outcomes.Status.{Status}
@@ -20,7 +20,7 @@ IsSilent Done = ⊥
 IsSilent WriteFault = ⊥
 IsSilent s = ⊤
 
--- a status that comes after the words were read and before the work begins
+-- a status that comes after the arguments were read and before the work begins
 abbrev pub IsRefusal : Status → Type 0
 IsRefusal Done = ⊥
 IsRefusal (Unfinished target thread) = ⊥
@@ -28,8 +28,8 @@ IsRefusal WriteFault = ⊥
 IsRefusal Usage = ⊥
 IsRefusal s = ⊤
 
--- Whether files whose contents are not known can lead to a status. That a file is missing or too long comes only where their count of faults
--- rose. Faulty words, a failed read, a failed write and a lack of memory are no matter of contents
+-- Whether files whose contents are not known can lead to a status. That a file is missing or too long comes only if their count of faults
+-- rose. Faulty arguments, a failed read, a failed write and a lack of memory are no matter of contents
 abbrev pub MayCome : Type 0 → Status → Type 0
 MayCome rose (Missing n) = rose
 MayCome rose (TooLong n) = rose

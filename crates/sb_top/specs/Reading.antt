@@ -1,12 +1,13 @@
 -- What each file of a command comes to, and why there is nothing of it.
 use Rattle.std.specs.Prelude.{◌≡◌, ◌⊎◌, ℕ, nat_le, List, [], length, Option, None, Some, MatchOption, Result, Ok, Err, option_map, if◌then◌else◌}
+use Rattle.sb_schedule.specs.Limits as limits
 use Rattle.sb_schedule.specs.Limits.{most_rounds}
 use Rattle.sb_schedule.specs.ScheduleTexts as schedules
 use Rattle.sb_schedule.specs.ScheduleTexts.{ScheduleFault}
 use Rattle.sb_statements.specs.declared.schedules.Schedule.{Schedule}
 use Rattle.sb_statements.specs.declared.scripts.Script.{Script}
 use Rattle.sb_rule.specs.declared.policies.Policy.{Policy}
-use Rattle.sb_ruletext.specs.PolicyTexts.{TextFault, reading}
+use Rattle.sb_ruletext.specs.PolicyTexts.{PolicyFault, reading}
 use Rattle.sb_outside.specs.Outside.{Held}
 use Rattle.sb_outside.specs.declared.files.FileFault.{FileFault}
 use Rattle.sb_outside.specs.declared.files.FileFault.TheVariants as file
@@ -19,7 +20,7 @@ use Rattle.sb_top.specs.declared.outcomes.Status.TheVariants.{PolicyRefused, Scr
 
 -- the most bytes that a file may have
 abbrev pub most_bytes : ℕ
-most_bytes = 4194304
+most_bytes = limits.most_bytes
 
 -- the text of file n, by what is under its name
 abbrev pub text_in : ℕ → Option (List ℕ) → Result (List ℕ) Status
@@ -27,7 +28,7 @@ text_in n None = Err (Missing n)
 text_in n (Some text) = if nat_le (length text) most_bytes then Ok text else Err (TooLong n)
 
 -- the policies of a text, or its fault
-abbrev pub policies_by : Result (List Policy) TextFault → Result (List Policy) Status
+abbrev pub policies_by : Result (List Policy) PolicyFault → Result (List Policy) Status
 policies_by (Ok policies) = Ok policies
 policies_by (Err fault) = Err (PolicyRefused fault)
 
@@ -44,7 +45,7 @@ script_by (Err fault) = Err (ScriptRefused fault)
 abbrev pub script_in : List Policy → List ℕ → Held → Result Script Status
 script_in policies name held = text_in 2 (held name) >>= λ text. script_by (scripts.reading policies text)
 
--- the schedule where no file is named: no steps, and as many rounds as a schedule may have
+-- the schedule if no file is named: no steps, and as many rounds as a schedule may have
 abbrev pub no_schedule : Schedule
 no_schedule = record { steps = []; rounds = most_rounds }
 
@@ -57,7 +58,7 @@ schedule_by (Err fault) = Err (ScheduleRefused fault)
 abbrev pub schedule_in : Script → List ℕ → Held → Result Schedule Status
 schedule_in script name held = text_in 3 (held name) >>= λ text. schedule_by (schedules.reading script.targets text)
 
--- the schedule of the third file, where one is named
+-- the schedule of the third file, if one is named
 abbrev pub schedule_of : Script → Option (List ℕ) → Held → Result Schedule Status
 schedule_of script None held = Ok no_schedule
 schedule_of script (Some name) held = schedule_in script name held
@@ -69,7 +70,7 @@ status_of file.TooLong n = TooLong n
 status_of file.Failed n = ReadFault n
 status_of file.NoMemory n = NoMemory
 
--- the status names file n, and is what this file comes to, or can come of it where the contents of files are not known
+-- the status names file n, and is what this file comes to, or can come of it if the contents of files are not known
 abbrev pub IsRefusedAt : {A : Type 0} → ℕ → Option (Result A Status) → Type 0 → Status → Type 0
 IsRefusedAt n found rose s = (file_of s ≡ Some n) × MatchOption found (MayCome rose s) (λ r. r ≡ Err s)
 

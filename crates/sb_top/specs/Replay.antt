@@ -1,5 +1,6 @@
 -- What `replay POLICY SCRIPT [SCHEDULE]` comes to, and how its run ends.
 use Rattle.std.specs.Prelude.{ℕ, List, Option, None, Some, Ok}
+use Rattle.sb_book.specs.ReadyScripts.{Ready}
 use Rattle.sb_core.specs.Runs.{ran}
 use Rattle.sb_core.specs.declared.runs.Ran.{Ran}
 use Rattle.sb_outside.specs.Outside.{Held}
@@ -21,13 +22,17 @@ wanted_schedule policies schedule script held = schedule_of script schedule held
 abbrev pub wanted_script : List ℕ → Option (List ℕ) → List Policy → Held → Wanted
 wanted_script script schedule policies held = script_in policies script held >>= λ script. wanted_schedule policies schedule script held
 
--- a replay reads policies, then a script, then the schedule where one is named, and runs the script by it
+-- a replay reads policies, then a script, then the schedule if one is named, and runs the script by it
 abbrev pub wanted_replay : List ℕ → List ℕ → Option (List ℕ) → Held → Wanted
 wanted_replay policy script schedule held = policies_in policy held >>= λ policies. wanted_script script schedule policies held
 
+-- the run of a script by a schedule
+abbrev pub work_by : Ready → Schedule → Work
+work_by ready schedule = Runs ready.policies ready.script schedule
+
 -- the run for which all was read
 abbrev pub work_of : Prepared → Work
-work_of prepared = Runs prepared.policies.list prepared.script prepared.schedule
+work_of prepared = work_by prepared.opened prepared.schedule
 
 -- the run of a script under policies by a schedule
 unfoldable pub whole_run : List Policy → Script → Schedule → Ran

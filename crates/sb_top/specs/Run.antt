@@ -1,11 +1,11 @@
 -- What `run POLICY SCRIPT [--workers N]` comes to. How many workers there are is no part of it.
 use Rattle.std.specs.Prelude.{ℕ, List, Ok}
+use Rattle.sb_book.specs.ReadyScripts.{Ready}
 use Rattle.sb_outside.specs.Outside.{Held}
 use Rattle.sb_rule.specs.declared.policies.Policy.{Policy}
 use Rattle.sb_text.specs.Steps.{◌>>=◌}
 use Rattle.sb_top.specs.Reading.{policies_in, script_in}
 use Rattle.sb_top.specs.Works.{Wanted, Work, Threads}
-use Rattle.sb_top.specs.declared.prepared.Readied.{Readied}
 
 -- a run under policies that were read: it reads a script
 abbrev pub wanted_threads : List ℕ → List Policy → Held → Wanted
@@ -16,5 +16,5 @@ abbrev pub wanted_run : List ℕ → List ℕ → Held → Wanted
 wanted_run policy script held = policies_in policy held >>= λ policies. wanted_threads script policies held
 
 -- the run for which all was read
-abbrev pub threads_of : Readied → Work
-threads_of readied = Threads readied.policies.list readied.script
+abbrev pub threads_of : Ready → Work
+threads_of ready = Threads ready.policies ready.script

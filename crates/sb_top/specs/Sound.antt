@@ -22,7 +22,7 @@ use Rattle.sb_top.specs.Top.{wanted_over}
 use Rattle.sb_top.specs.Works.{Work, Makes, Prints, Runs, Threads}
 
 -- What a run reports: its entries are a legal history, which led to its namespace; each result is that of the statement at its place; each
--- target has 65 words for each channel; and no word of it is invented. Where no thread is unfinished the report fits the script: there is one
+-- target has 65 words for each channel; and no word of it is invented. If no thread is unfinished the report fits the script: there is one
 -- result for each statement, each thread has its own replies, each once, each result suits its statement, and so do the words; and a channel has
 -- no more entries than calls that were handed over there and statements that made it ready
 pub record IsSoundRun (policies : List Policy) (script : Script) (r : Ran) : Type 0 where

@@ -24,7 +24,7 @@ abbrev pub by_command : Option Command → Held → Wanted
 by_command None held = Err Usage
 by_command (Some command) held = wanted_by command held
 
--- what words come to over files that hold this
+-- what arguments come to over files that hold this
 abbrev pub wanted_of : List (List ℕ) → Held → Wanted
 wanted_of words held = by_command (command_of words) held
 
@@ -62,7 +62,7 @@ IsUnreadBy (Some command) same = file_count command ≡ 0 → same
 abbrev pub IsUnprepared : Command → Option Held → Type 0 → Status → Type 0
 IsUnprepared command held files_rose status = EndsWith (Some command) held files_rose ⊥ status
 
--- the report is that of the run that the command comes to; a check, and words that are no command, have none
+-- the report is that of the run that the command comes to; a check, and arguments that are no command, have none
 abbrev pub IsReportFor : Option Command → Option Held → Outcome → Type 0
 IsReportFor None held o = o.report ≡ None
 IsReportFor (Some command) held o = IsReported (reporting_of command) (wanted_over command held) o.report o.status
@@ -70,12 +70,12 @@ IsReportFor (Some command) held o = IsReported (reporting_of command) (wanted_ov
 -- what was written is the text of the work that the command comes to, or a prefix of it, or nothing
 abbrev pub IsWrittenFor : {G S : Type 0} → Option Command → Effect G S → Outcome → Type 0
 IsWrittenFor None e o = e.written' ≡ e.written
-IsWrittenFor (Some command) e o = IsWritten (wanted_over command e.held) e.written e.written' o.report o.status
+IsWrittenFor (Some command) e o = IsWritten (wanted_over command e.held) e.written e.pending e.written' o.report o.status
 
 -- what a run wrote tells the entries of its report line by line
 abbrev pub IsToldFor : {G S : Type 0} → Option Command → Effect G S → Outcome → Type 0
 IsToldFor None e o = ⊤
 IsToldFor (Some (Check policy)) e o = ⊤
-IsToldFor (Some (Replay policy script schedule)) e o = IsTold (option_map (wanted_replay policy script schedule) e.held) e.written e.written' o.report o.status
-IsToldFor (Some (Run policy script workers)) e o = IsTold (option_map (wanted_run policy script) e.held) e.written e.written' o.report o.status
+IsToldFor (Some (Replay policy script schedule)) e o = IsTold (option_map (wanted_replay policy script schedule) e.held) e.written e.pending e.written' o.report o.status
+IsToldFor (Some (Run policy script workers)) e o = IsTold (option_map (wanted_run policy script) e.held) e.written e.pending e.written' o.report o.status
 IsToldFor (Some (Make seed targets calls)) e o = ⊤

@@ -1,4 +1,4 @@
--- The totals that verdicts over all statements give, where each statement is a call and every channel is clean.
+-- The totals that verdicts over all statements give, if each statement is a call and every channel is clean.
 use Rattle.std.specs.Prelude.{◌≡◌, ℕ, Bool, true, false, List, ◌++◌, length, count_by, sum_by, codes}
 use Rattle.std.specs.List.{list_all}
 use Rattle.sb_book.specs.Decisions.{by_verdict}

@@ -1,8 +1,8 @@
 // The command `check`: policies are read, and printed with the listings of their programs.
-ghost use Rattle.std.specs.Prelude.{◌≡◌, ◌≤◌, Some, true, IfOk, Ok};
+ghost use Rattle.std.specs.Prelude.{◌≡◌, ◌≤◌, [], Some, true, IfOk, Ok};
 ghost use Rattle.std.specs.List.{list_all};
 ghost use Rattle.sb_outside.specs.Outside.{Rose, joined};
-ghost use Rattle.sb_rule.specs.WellMade.{is_well_made, are_well_made};
+ghost use Rattle.sb_rule.specs.WellMade.{is_well_made};
 ghost use Rattle.sb_top.specs.Check.{checked, listings};
 ghost use Rattle.sb_commands.specs.Commands.{Check};
 ghost use Rattle.sb_top.specs.Effects.{IsOrderly, effect};
@@ -15,7 +15,7 @@ use crate::outcomes::{Outcome, Status};
 use crate::reading::policies_in;
 use sb_compile::compile;
 use sb_outside::{Bytes, Files, Sink, put_lines};
-use sb_rule::{Policies, Policy};
+use sb_rule::{Policy, WellMadePolicies};
 use sb_ruletext::print_policies;
 use sb_wide::NoMemory;
 use std::alloc::Global;
@@ -37,27 +37,27 @@ fn listings(alloc: Global, policies: &[Policy]) -> Result<Vec<u8>, NoMemory>
 
 // The two texts of a check: the policies, and the listings of their programs.
 #[tactic(auto, using(crate::proofs::Ready::each_made))]
-fn check_texts(alloc: Global, policies: &Policies) -> Result<Vec<Bytes>, NoMemory>
-    requires { are_well_made policies.now.list ≡ true }
+fn check_texts(alloc: Global, policies: &WellMadePolicies) -> Result<Vec<Bytes>, NoMemory>
     ensures { IfOk result (λ texts. joined texts.items ≡ checked policies.now.list) }
 {
     let printed = print_policies(alloc, policies)?;
-    let listed = listings(alloc, policies.list.as_slice())?;
+    let listed = listings(alloc, policies.policies().list.as_slice())?;
     let mut texts = Vec::new(alloc);
     texts.push(Bytes::new(printed))?;
     texts.push(Bytes::new(listed))?;
     Ok(texts)
 }
 
-// Prints policies: they as a text in one put, and the listings of their programs in a second. Both are made before the first put.
-fn print<K: Sink>(alloc: Global, policies: &Policies, out: &mut K) -> Outcome
-    requires { are_well_made policies.now.list ≡ true }
+// Prints policies: they as a text in one put, and the listings of their programs in a second, and finishes. Both are made before the first
+// put.
+fn print<K: Sink>(alloc: Global, policies: &WellMadePolicies, out: &mut K) -> Outcome
     ensures counted { K.faults out.old ≤ K.faults out.new }
     ensures silent { IsSilent result.status → out.new ≡ out.old }
     ensures ends { IsWorkEnd (Prints policies.now.list) (Rose (K.faults out.old) (K.faults out.new)) result.status }
     ensures report { IsReported Unreported (Some (Ok (Prints policies.now.list))) result.report result.status }
-    ensures written { IsWritten (Some (Ok (Prints policies.now.list))) (K.written out.old) (K.written out.new) result.report result.status }
+    ensures written { IsWritten (Some (Ok (Prints policies.now.list))) (K.written out.old) (K.pending out.old) (K.written out.new) result.report result.status }
     ensures done_count { result.status ≡ Status.Done → K.faults out.new ≡ K.faults out.old }
+    ensures finished { result.status ≡ Status.Done → K.pending out.new ≡ [] }
 {
     let Ok(texts) = check_texts(alloc, policies) else {
         return Outcome {
@@ -85,12 +85,12 @@ pub fn check_policy<F: Files, K: Sink>(
     files: &mut F,
     out: &mut K,
 ) -> Outcome
-    ensures orderly { IsOrderly (effect F.held F.faults K.written K.faults files.old files.new out.old out.new) result }
+    ensures orderly { IsOrderly (effect F.held F.faults K.written K.pending K.faults files.old files.new out.old out.new) result }
     ensures ends { IsEndOf (Some (Check policy.now))
-        (effect F.held F.faults K.written K.faults files.old files.new out.old out.new) result.status }
+        (effect F.held F.faults K.written K.pending K.faults files.old files.new out.old out.new) result.status }
     ensures report { IsReportFor (Some (Check policy.now)) (F.held files.old) result }
     ensures written { IsWrittenFor (Some (Check policy.now))
-        (effect F.held F.faults K.written K.faults files.old files.new out.old out.new) result }
+        (effect F.held F.faults K.written K.pending K.faults files.old files.new out.old out.new) result }
 {
     match policies_in(alloc, files, policy) {
         Ok(policies) => print(alloc, &policies, out),

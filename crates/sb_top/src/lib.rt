@@ -16,8 +16,8 @@ mod writing;
 
 pub use exits::{Complaint, exit_code};
 pub use laws::{
-    refusals_are_told, reports_are_sound, runs_are_sound, totals_are_of_verdicts,
-    work_comes_to_its_end,
+    orders_are_replayed, refusals_are_told, reports_are_sound, runs_are_sound,
+    totals_are_of_verdicts, work_comes_to_its_end,
 };
 pub use outcomes::{Outcome, Status};
 pub use top::{broker_top, plain_top};

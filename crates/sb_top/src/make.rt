@@ -1,5 +1,5 @@
 // The command `make`: a script is made from a seed and run on threads under a fixed policy, and what was made and its totals are put.
-ghost use Rattle.std.specs.Prelude.{◌≡◌, ◌≤◌, ◌<◌, ◌^◌, ◌++◌, Ok, Some, IfOk};
+ghost use Rattle.std.specs.Prelude.{◌≡◌, ◌≤◌, ◌<◌, ◌^◌, ◌++◌, [], Ok, Some, IfOk};
 ghost use Rattle.sb_book.specs.Reports.{result_count};
 ghost use Rattle.sb_outside.specs.Outside.{Rose, joined};
 ghost use Rattle.sb_transcript.specs.Totals.{totals_line};
@@ -55,7 +55,6 @@ fn made_texts(
 }
 
 // The report of a run of the script that is made from a seed.
-#[tactic(auto, using(crate::proofs::Made::made_report, crate::proofs::Made::made_totals))]
 fn run_made<R: Threads + Wait + Sync, G: Gate>(
     rt: &R,
     alloc: Global,
@@ -72,12 +71,13 @@ fn run_made<R: Threads + Wait + Sync, G: Gate>(
 {
     runs_are_sound();
     totals_are_of_verdicts();
-    let (policies, script) = make(alloc, seed, targets, calls)?;
-    run_judged(rt, alloc, &policies, &script, WORKERS, gate)
+    let (ready, kernel) = make(alloc, seed, targets, calls)?.into_parts();
+    ready.establish_ready();
+    run_judged(rt, alloc, &ready, kernel, WORKERS, gate)
 }
 
 /// Makes a script from a seed, with 1 to 8 targets and 1 to 4,096 calls a thread, runs it on threads with two workers under a fixed policy,
-/// and puts two lines: what was made, and the totals of the run. They are the same at each run of the same three numbers. Both are made
+/// and puts two lines, what was made and the totals of the run, and finishes. They are the same at each run of the same three numbers. Both are made
 /// before the first put. It reads no file. It waits for the threads of the run, and for the gate.
 pub fn make_script<R: Threads + Wait + Sync, K: Sink, G: Gate>(
     rt: &R,
@@ -94,8 +94,9 @@ pub fn make_script<R: Threads + Wait + Sync, K: Sink, G: Gate>(
     ensures silent { IsSilent result.status → out.new ≡ out.old }
     ensures ends { IsWorkEnd (Makes seed targets calls) (Rose (K.faults out.old) (K.faults out.new)) result.status }
     ensures report { IsReported Threaded (Some (Ok (Makes seed targets calls))) result.report result.status }
-    ensures written { IsWritten (Some (Ok (Makes seed targets calls))) (K.written out.old) (K.written out.new) result.report result.status }
+    ensures written { IsWritten (Some (Ok (Makes seed targets calls))) (K.written out.old) (K.pending out.old) (K.written out.new) result.report result.status }
     ensures done_count { result.status ≡ Status.Done → K.faults out.new ≡ K.faults out.old }
+    ensures finished { result.status ≡ Status.Done → K.pending out.new ≡ [] }
 {
     let Ok(report) = run_made(rt, alloc, seed, targets, calls, gate) else {
         return Outcome {

@@ -1,7 +1,7 @@
 // What the top call answers.
 
 use sb_book::Report;
-use sb_ruletext::TextFault;
+use sb_ruletext::PolicyFault;
 use sb_schedule::ScheduleFault;
 use sb_script::ScriptFault;
 
@@ -12,10 +12,10 @@ pub enum Status {
     Done,
     /// The run leaves a thread unfinished: the first such one is this thread of this target, both numbered from 0.
     Unfinished { target: u32, thread: u32 },
-    /// The words are no command.
+    /// The arguments are no command.
     Usage,
     /// The text of the policies has this fault, and none before it.
-    PolicyRefused(TextFault),
+    PolicyRefused(PolicyFault),
     /// The first fault of the text of the script.
     ScriptRefused(ScriptFault),
     /// The first fault of the text of the schedule.
@@ -40,7 +40,6 @@ pub struct Outcome {
     pub report: Option<Report>,
 }
 
-// By hand, so that it is proved here once and not at each place that drops one.
 impl Drop for Outcome {
     fn drop(self) {
         let Outcome {

@@ -1,25 +1,22 @@
 // The files of commands, read and found to be policies, a script for targets of these, and a schedule of its actors.
 ghost use Rattle.std.specs.Prelude.{◌≡◌, ◌≤◌, ◌<◌, ◌^◌, length, true, option_map, IfOk, IfErr, IfSome, OnOk, Ok};
 ghost use Rattle.std.specs.List.{list_all};
-ghost use Rattle.sb_book.specs.Readiness.{is_ready};
 ghost use Rattle.sb_outside.specs.Outside.{Rose};
-ghost use Rattle.sb_rule.specs.WellMade.{are_well_made};
 ghost use Rattle.sb_ruletext.specs.PolicyTexts.{reading};
 ghost use Rattle.sb_schedule.specs.ScheduleTexts as schedules;
 ghost use Rattle.sb_script.specs.ScriptTexts as scripts;
 ghost use Rattle.sb_statements.specs.Actors.{is_step_there};
-ghost use Rattle.sb_statements.specs.Units.{script_has_units};
 ghost use Rattle.sb_commands.specs.Commands.{named};
 ghost use Rattle.sb_top.specs.Outcomes.{IsRefusal};
-ghost use Rattle.sb_transcript.specs.Laws.{HasShortNames};
 ghost use Rattle.sb_top.specs.Reading.{IsNotRead, IsNotScheduled, IsTextRefused, text_in, policies_by, policies_in, script_by, script_in, no_schedule, schedule_by, schedule_in, schedule_of, status_of, most_bytes};
 
 use crate::outcomes::Status;
+use sb_book::OpenedScript;
 use sb_outside::{FileFault, Files};
-use sb_rule::Policies;
+use sb_rule::WellMadePolicies;
 use sb_ruletext::{TextRefused, read_policies};
 use sb_schedule::{MOST_ROUNDS, ScheduleRefused, read_schedule};
-use sb_script::{ScriptRefused, read_script, read_scripts_can_be_written};
+use sb_script::{ScriptRefused, read_script};
 use sb_statements::{Schedule, Script, Steps};
 use std::alloc::Global;
 
@@ -58,10 +55,9 @@ fn text_in<F: Files>(alloc: Global, files: &mut F, name: &str, which: u8) -> Res
 }
 
 // The policies of a text.
-fn policies_by(alloc: Global, text: &[u8]) -> Result<Policies, Status>
+fn policies_by(alloc: Global, text: &[u8]) -> Result<WellMadePolicies, Status>
     requires { length text.now < 2 ^ 32 }
     ensures ok { IfOk result (λ p. policies_by (reading text.now) ≡ Ok p.list) }
-    ensures well_made { IfOk result (λ p. are_well_made p.list ≡ true) }
     ensures err { IfErr result (λ s. IsTextRefused (policies_by (reading text.now)) s) }
     ensures refusal { IfErr result (λ s. IsRefusal s) }
 {
@@ -73,11 +69,14 @@ fn policies_by(alloc: Global, text: &[u8]) -> Result<Policies, Status>
 }
 
 /// The policies of the first file.
-pub fn policies_in<F: Files>(alloc: Global, files: &mut F, name: &str) -> Result<Policies, Status>
+pub fn policies_in<F: Files>(
+    alloc: Global,
+    files: &mut F,
+    name: &str,
+) -> Result<WellMadePolicies, Status>
     ensures kept { F.held files.new ≡ F.held files.old }
     ensures counted { F.faults files.old ≤ F.faults files.new }
     ensures ok { IfOk result (λ p. IfSome (F.held files.old) (λ held. policies_in name.now held ≡ Ok p.list)) }
-    ensures well_made { IfOk result (λ p. are_well_made p.list ≡ true) }
     ensures ok_count { OnOk result (F.faults files.new ≡ F.faults files.old) }
     ensures err { IfErr result (λ s. IsNotRead 1 (option_map (policies_in name.now) (F.held files.old))
         (Rose (F.faults files.old) (F.faults files.new)) s) }
@@ -90,18 +89,13 @@ pub fn policies_in<F: Files>(alloc: Global, files: &mut F, name: &str) -> Result
 }
 
 // The script of a text, for targets of these policies.
-#[tactic(auto, using(crate::proofs::Ready::short_of))]
-fn script_by(alloc: Global, policies: &Policies, text: &[u8]) -> Result<Script, Status>
+fn script_by(alloc: Global, policies: WellMadePolicies, text: &[u8]) -> Result<OpenedScript, Status>
     requires short { length text.now < 2 ^ 32 }
-    requires well_made { are_well_made policies.now.list ≡ true }
-    ensures ok { IfOk result (λ s. script_by (scripts.reading policies.now.list text.now) ≡ Ok s) }
-    ensures ready { IfOk result (λ s. is_ready policies.now.list s ≡ true) }
-    ensures units { IfOk result (λ s. script_has_units s ≡ true) }
-    ensures short { IfOk result (λ s. HasShortNames s) }
-    ensures err { IfErr result (λ s. IsTextRefused (script_by (scripts.reading policies.now.list text.now)) s) }
+    ensures ok { IfOk result (λ s. script_by (scripts.reading policies.list text.now) ≡ Ok s.script) }
+    ensures policies { IfOk result (λ s. s.policies ≡ policies.list) }
+    ensures err { IfErr result (λ s. IsTextRefused (script_by (scripts.reading policies.list text.now)) s) }
     ensures refusal { IfErr result (λ s. IsRefusal s) }
 {
-    read_scripts_can_be_written();
     match read_script(alloc, text, policies) {
         Ok(script) => Ok(script),
         Err(ScriptRefused::Fault(fault)) => Err(Status::ScriptRefused(fault)),
@@ -109,22 +103,19 @@ fn script_by(alloc: Global, policies: &Policies, text: &[u8]) -> Result<Script, 
     }
 }
 
-/// The script of the second file, for targets of these policies.
+/// The script of the second file, for targets of these policies, with the namespace that it opens with.
 pub fn script_in<F: Files>(
     alloc: Global,
     files: &mut F,
-    policies: &Policies,
+    policies: WellMadePolicies,
     name: &str,
-) -> Result<Script, Status>
-    requires well_made { are_well_made policies.now.list ≡ true }
+) -> Result<OpenedScript, Status>
     ensures kept { F.held files.new ≡ F.held files.old }
     ensures counted { F.faults files.old ≤ F.faults files.new }
-    ensures ok { IfOk result (λ s. IfSome (F.held files.old) (λ held. script_in policies.now.list name.now held ≡ Ok s)) }
-    ensures ready { IfOk result (λ s. is_ready policies.now.list s ≡ true) }
-    ensures units { IfOk result (λ s. script_has_units s ≡ true) }
-    ensures short { IfOk result (λ s. HasShortNames s) }
+    ensures ok { IfOk result (λ s. IfSome (F.held files.old) (λ held. script_in policies.list name.now held ≡ Ok s.script)) }
+    ensures policies { IfOk result (λ s. s.policies ≡ policies.list) }
     ensures ok_count { OnOk result (F.faults files.new ≡ F.faults files.old) }
-    ensures err { IfErr result (λ s. IsNotRead 2 (option_map (script_in policies.now.list name.now) (F.held files.old))
+    ensures err { IfErr result (λ s. IsNotRead 2 (option_map (script_in policies.list name.now) (F.held files.old))
         (Rose (F.faults files.old) (F.faults files.new)) s) }
     ensures refusal { IfErr result (λ s. IsRefusal s) }
 {
@@ -134,7 +125,7 @@ pub fn script_in<F: Files>(
     }
 }
 
-// The schedule where no file names one.
+// The schedule if no file names one.
 fn no_schedule(alloc: Global) -> Schedule
     ensures value { result ≡ no_schedule }
 {
@@ -181,7 +172,7 @@ fn schedule_in<F: Files>(
     }
 }
 
-/// The schedule of the third file, where one is named. Where none is named no file is read.
+/// The schedule of the third file, if one is named. If none is named no file is read.
 #[tactic(auto, using(crate::proofs::Steps::schedule_unnamed))]
 pub fn schedule_of<F: Files>(
     alloc: Global,

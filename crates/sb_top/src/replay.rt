@@ -1,13 +1,15 @@
 // The command `replay`: policies, a script and its schedule are read, the script is run, and its transcript is put line by line.
-ghost use Rattle.std.specs.Prelude.{◌≡◌, ◌≤◌, ◌<◌, ◌^◌, Ok, Some, IfOk, IfErr, IfSome, OnOk};
+ghost use Rattle.std.specs.Prelude.{◌≡◌, ◌≤◌, ◌<◌, ◌^◌, [], true, Ok, Some, IfOk, IfErr, IfSome, OnOk};
+ghost use Rattle.std.specs.List.{list_all};
 ghost use Rattle.sb_book.specs.Reports.{result_count};
-ghost use Rattle.sb_core.specs.Runs.{CanRun};
+ghost use Rattle.sb_kernel.specs.Openings.{opening};
 ghost use Rattle.sb_outside.specs.Outside.{Rose};
 ghost use Rattle.sb_commands.specs.Commands.{Replay, as_replay, named};
+ghost use Rattle.sb_statements.specs.Actors.{is_step_there};
 ghost use Rattle.sb_top.specs.Effects.{IsOrderly, effect};
 ghost use Rattle.sb_top.specs.Ends.{IsReported, IsTold, IsWorkEnd, IsWritten};
 ghost use Rattle.sb_top.specs.Outcomes.{IsRefusal, IsSilent};
-ghost use Rattle.sb_top.specs.Replay.{wanted_replay, whole_run, work_of};
+ghost use Rattle.sb_top.specs.Replay.{wanted_replay, whole_run, work_by, work_of};
 ghost use Rattle.sb_top.specs.Works.{Scheduled};
 ghost use Rattle.sb_top.specs.Top.{IsEndOf, IsReportFor, IsToldFor, IsUnprepared, IsWrittenFor};
 
@@ -15,15 +17,16 @@ use crate::outcomes::{Outcome, Status};
 use crate::prepared::Prepared;
 use crate::reading::{policies_in, schedule_of, script_in};
 use crate::writing::put_transcript;
+use sb_book::ReadyScript;
 use sb_compile::Programs;
 use sb_core::{Ran, run};
+use sb_kernel::Kernel;
 use sb_outside::{Files, Sink};
-use sb_rule::Policies;
-use sb_statements::{Schedule, Script};
+use sb_statements::Schedule;
 use sb_wide::NoMemory;
 use std::alloc::Global;
 
-// Reads the files of a replay: the policies, then the script, and then the schedule where one is named.
+// Reads the files of a replay: the policies, then the script, and then the schedule if one is named.
 fn prepare<F: Files>(
     alloc: Global,
     files: &mut F,
@@ -44,49 +47,55 @@ fn prepare<F: Files>(
         Ok(policies) => policies,
         Err(status) => return Err(status),
     };
-    let script = match script_in(alloc, files, &policies, script) {
-        Ok(script) => script,
+    let opened = match script_in(alloc, files, policies, script) {
+        Ok(opened) => opened,
         Err(status) => return Err(status),
     };
-    match schedule_of(alloc, files, &script, schedule) {
-        Ok(schedule) => Ok(Prepared {
-            policies,
-            script,
-            schedule,
-        }),
+    match schedule_of(alloc, files, opened.script(), schedule) {
+        Ok(schedule) => Ok(Prepared { opened, schedule }),
         Err(status) => Err(status),
     }
 }
 
 // The run of a script by a schedule, in which calls are judged by the programs of the policies.
-#[tactic(auto, unfolding(crate::specs::Replay::whole_run), using(crate::proofs::Ready::ready_made))]
+#[tactic(auto, unfolding(crate::specs::Replay::whole_run))]
 fn run_whole(
     alloc: Global,
-    policies: &Policies,
-    script: &Script,
+    ready: &ReadyScript,
+    kernel: Kernel,
     schedule: &Schedule,
 ) -> Result<Ran, NoMemory>
-    requires runs { CanRun policies.now.list script.now schedule.now }
-    ensures value { IfOk result (λ r. r ≡ whole_run policies.now.list script.now schedule.now) }
+    requires opens { kernel ≡ opening ready.now.script.start }
+    requires there { list_all (is_step_there ready.now.script.targets) schedule.now.steps ≡ true }
+    ensures value { IfOk result (λ r. r ≡ whole_run ready.now.policies ready.now.script schedule.now) }
     ensures few { IfOk result (λ r. result_count r.report.results < 2 ^ 62) }
 {
-    let judge = Programs::new(alloc, policies, script)?;
-    run(alloc, &judge, policies, script, schedule)
+    let judge = Programs::new(alloc, ready.policies(), ready.script())?;
+    run(alloc, &judge, ready, kernel, schedule)
 }
 
 // Runs a script under policies by its schedule, and puts the transcript.
 #[tactic(auto, using(crate::proofs::Runs::run_ends, crate::proofs::Runs::run_leaves, crate::proofs::Runs::run_unwritten, crate::proofs::Telling::told))]
-fn show<K: Sink>(alloc: Global, prepared: &Prepared, out: &mut K) -> Outcome
+fn show<K: Sink>(
+    alloc: Global,
+    ready: &ReadyScript,
+    kernel: Kernel,
+    schedule: &Schedule,
+    out: &mut K,
+) -> Outcome
+    requires opens { kernel ≡ opening ready.now.script.start }
+    requires there { list_all (is_step_there ready.now.script.targets) schedule.now.steps ≡ true }
     ensures counted { K.faults out.old ≤ K.faults out.new }
     ensures silent { IsSilent result.status → out.new ≡ out.old }
-    ensures ends { IsWorkEnd (work_of prepared.now) (Rose (K.faults out.old) (K.faults out.new)) result.status }
-    ensures report { IsReported Scheduled (Some (Ok (work_of prepared.now))) result.report result.status }
-    ensures written { IsWritten (Some (Ok (work_of prepared.now))) (K.written out.old) (K.written out.new) result.report result.status }
-    ensures told { IsTold (Some (Ok (work_of prepared.now))) (K.written out.old) (K.written out.new) result.report result.status }
+    ensures ends { IsWorkEnd (work_by ready.now schedule.now) (Rose (K.faults out.old) (K.faults out.new)) result.status }
+    ensures report { IsReported Scheduled (Some (Ok (work_by ready.now schedule.now))) result.report result.status }
+    ensures written { IsWritten (Some (Ok (work_by ready.now schedule.now))) (K.written out.old) (K.pending out.old) (K.written out.new) result.report result.status }
+    ensures told { IsTold (Some (Ok (work_by ready.now schedule.now))) (K.written out.old) (K.pending out.old) (K.written out.new) result.report result.status }
     ensures done_count { result.status ≡ Status.Done → K.faults out.new ≡ K.faults out.old }
+    ensures finished { result.status ≡ Status.Done → K.pending out.new ≡ [] }
 {
-    let script = &prepared.script;
-    let Ok(ran) = run_whole(alloc, &prepared.policies, script, &prepared.schedule) else {
+    ready.establish_ready();
+    let Ok(ran) = run_whole(alloc, ready, kernel, schedule) else {
         return Outcome {
             status: Status::NoMemory,
             report: None,
@@ -99,7 +108,7 @@ fn show<K: Sink>(alloc: Global, prepared: &Prepared, out: &mut K) -> Outcome
             report: Some(report),
         };
     }
-    match put_transcript(alloc, script, &report, out) {
+    match put_transcript(alloc, ready.script(), &report, out) {
         Status::Done => Outcome {
             status: Status::Done,
             report: Some(report),
@@ -115,8 +124,24 @@ fn show<K: Sink>(alloc: Global, prepared: &Prepared, out: &mut K) -> Outcome
     }
 }
 
-/// Reads policies, a script and the schedule where one is named, runs the script, and puts the transcript, one put a line. All
-/// lines are made before the first put, and no put follows one that failed.
+// The same of what was read.
+fn show_prepared<K: Sink>(alloc: Global, prepared: Prepared, out: &mut K) -> Outcome
+    ensures counted { K.faults out.old ≤ K.faults out.new }
+    ensures silent { IsSilent result.status → out.new ≡ out.old }
+    ensures ends { IsWorkEnd (work_of prepared) (Rose (K.faults out.old) (K.faults out.new)) result.status }
+    ensures report { IsReported Scheduled (Some (Ok (work_of prepared))) result.report result.status }
+    ensures written { IsWritten (Some (Ok (work_of prepared))) (K.written out.old) (K.pending out.old) (K.written out.new) result.report result.status }
+    ensures told { IsTold (Some (Ok (work_of prepared))) (K.written out.old) (K.pending out.old) (K.written out.new) result.report result.status }
+    ensures done_count { result.status ≡ Status.Done → K.faults out.new ≡ K.faults out.old }
+    ensures finished { result.status ≡ Status.Done → K.pending out.new ≡ [] }
+{
+    let Prepared { opened, schedule } = prepared;
+    let (ready, kernel) = opened.into_parts();
+    show(alloc, &ready, kernel, &schedule, out)
+}
+
+/// Reads policies, a script and the schedule if one is named, runs the script, and puts the transcript, one put a line, and finishes. All
+/// lines are made before the first put, and neither a put nor the finish follows a put that failed.
 #[tactic(auto, using(crate::proofs::Ending::shown_orderly, crate::proofs::Ending::refused_orderly))]
 pub fn replay_script<F: Files, K: Sink>(
     alloc: Global,
@@ -126,17 +151,17 @@ pub fn replay_script<F: Files, K: Sink>(
     files: &mut F,
     out: &mut K,
 ) -> Outcome
-    ensures orderly { IsOrderly (effect F.held F.faults K.written K.faults files.old files.new out.old out.new) result }
+    ensures orderly { IsOrderly (effect F.held F.faults K.written K.pending K.faults files.old files.new out.old out.new) result }
     ensures ends { IsEndOf (as_replay policy.now script.now schedule.entry)
-        (effect F.held F.faults K.written K.faults files.old files.new out.old out.new) result.status }
+        (effect F.held F.faults K.written K.pending K.faults files.old files.new out.old out.new) result.status }
     ensures report { IsReportFor (as_replay policy.now script.now schedule.entry) (F.held files.old) result }
     ensures written { IsWrittenFor (as_replay policy.now script.now schedule.entry)
-        (effect F.held F.faults K.written K.faults files.old files.new out.old out.new) result }
+        (effect F.held F.faults K.written K.pending K.faults files.old files.new out.old out.new) result }
     ensures told { IsToldFor (as_replay policy.now script.now schedule.entry)
-        (effect F.held F.faults K.written K.faults files.old files.new out.old out.new) result }
+        (effect F.held F.faults K.written K.pending K.faults files.old files.new out.old out.new) result }
 {
     match prepare(alloc, files, policy, script, schedule) {
-        Ok(prepared) => show(alloc, &prepared, out),
+        Ok(prepared) => show_prepared(alloc, prepared, out),
         Err(status) => Outcome {
             status,
             report: None,

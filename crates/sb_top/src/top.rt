@@ -16,8 +16,8 @@ use std::alloc::Global;
 use std::sync::Wait;
 use std::thread::Threads;
 
-/// All that the program does without threads, over any files and any output: reads the words, and carries out the command that they are.
-/// There is no outcome exactly where they are the words of `run` or `make`; then nothing is read, and nothing is put. It waits for nobody.
+/// All that the program does without threads, over any files and any output: reads the arguments, and carries out the command that they are.
+/// There is no outcome exactly if they are the arguments of `run` or `make`; then nothing is read, and nothing is put. It waits for nobody.
 #[tactic(auto, using(crate::proofs::Ending::unchanged))]
 pub fn plain_top<F: Files, K: Sink>(
     alloc: Global,
@@ -29,29 +29,29 @@ pub fn plain_top<F: Files, K: Sink>(
     ensures unread { IsNone result → files.new ≡ files.old }
     ensures unwritten { IsNone result → out.new ≡ out.old }
 
-    // What the files hold stays, no count of faults falls, without a command nothing is read, and nothing is put except with Done
-    // and WriteFault.
+    // What the files hold stays, no count of faults falls, without a command nothing is read, nothing is put except with Done and
+    // WriteFault, and with Done nothing is pending.
     ensures orderly { IfSome result (λ o. IsOrderly
-        (effect F.held F.faults K.written K.faults files.old files.new out.old out.new) o) }
+        (effect F.held F.faults K.written K.pending K.faults files.old files.new out.old out.new) o) }
 
-    // Words that are no command end with Usage, and no others do. A command ends as is expected of what the files hold; or a file of it
+    // Arguments that are no command end with Usage, and no others do. A command ends as is expected of what the files hold; or a file of it
     // that was reached was not read, and the files' count rose; or the output failed where the work would have been done, and its
     // count rose; or there was no memory.
     ensures ends { IfSome result (λ o. IsEndOf (command_of (texts words.now))
-        (effect F.held F.faults K.written K.faults files.old files.new out.old out.new) o.status) }
+        (effect F.held F.faults K.written K.pending K.faults files.old files.new out.old out.new) o.status) }
 
     // The report is that of the run of the script by the schedule under the policies that the texts mean, and with Done and WriteFault no
     // thread is unfinished. A check has none. What such a report says of its script is the law `reports_are_sound`.
     ensures report { IfSome result (λ o. IsReportFor (command_of (texts words.now)) (F.held files.old) o) }
 
-    // With Done the output grew by exactly the transcript of script and report, or of a check by the policies as a text and the listings
-    // of their programs; with WriteFault by a prefix of it, and else by nothing.
+    // With Done the output grew by what was pending and then by exactly the transcript of script and report, or of a check by the policies
+    // as a text and the listings of their programs; with WriteFault by a prefix of that, and else by nothing.
     ensures written { IfSome result (λ o. IsWrittenFor (command_of (texts words.now))
-        (effect F.held F.faults K.written K.faults files.old files.new out.old out.new) o) }
+        (effect F.held F.faults K.written K.pending K.faults files.old files.new out.old out.new) o) }
 
     // With Done of a replay, the text that was written falls into its lines, and line n of it is the line of entry n of the report.
     ensures told { IfSome result (λ o. IsToldFor (command_of (texts words.now))
-        (effect F.held F.faults K.written K.faults files.old files.new out.old out.new) o) }
+        (effect F.held F.faults K.written K.pending K.faults files.old files.new out.old out.new) o) }
 {
     if needs_threads(words) {
         return None;
@@ -91,14 +91,14 @@ fn threads_top<R: Threads + Wait + Sync, F: Files, K: Sink, G: Gate>(
 ) -> Outcome
     requires { needs_threads (command_of (texts words.now)) ≡ true }
     ensures unread { IsUnreadBy (command_of (texts words.now)) (files.new ≡ files.old) }
-    ensures orderly { IsOrderly (effect F.held F.faults K.written K.faults files.old files.new out.old out.new) result }
+    ensures orderly { IsOrderly (effect F.held F.faults K.written K.pending K.faults files.old files.new out.old out.new) result }
     ensures ends { IsEndOf (command_of (texts words.now))
-        (effect F.held F.faults K.written K.faults files.old files.new out.old out.new) result.status }
+        (effect F.held F.faults K.written K.pending K.faults files.old files.new out.old out.new) result.status }
     ensures report { IsReportFor (command_of (texts words.now)) (F.held files.old) result }
     ensures written { IsWrittenFor (command_of (texts words.now))
-        (effect F.held F.faults K.written K.faults files.old files.new out.old out.new) result }
+        (effect F.held F.faults K.written K.pending K.faults files.old files.new out.old out.new) result }
     ensures told { IsToldFor (command_of (texts words.now))
-        (effect F.held F.faults K.written K.faults files.old files.new out.old out.new) result }
+        (effect F.held F.faults K.written K.pending K.faults files.old files.new out.old out.new) result }
 {
     match command_of(alloc, words) {
         Ok(
@@ -128,7 +128,7 @@ fn threads_top<R: Threads + Wait + Sync, F: Files, K: Sink, G: Gate>(
     }
 }
 
-/// All that the program does, over any files and any output: reads the words, and carries out the command that they are. A command that
+/// All that the program does, over any files and any output: reads the arguments, and carries out the command that they are. A command that
 /// runs on threads waits for them; its report is what the core gives for some order of steps. A call that a worker judges passes the gate, which
 /// no clause says.
 #[tactic(auto, using(crate::proofs::Ending::plain_reads))]
@@ -140,15 +140,15 @@ pub fn broker_top<R: Threads + Wait + Sync, F: Files, K: Sink, G: Gate>(
     out: &mut K,
     gate: &G,
 ) -> Outcome
-    // What the files hold stays, no count of faults falls, without a command nothing is read, and nothing is put except with Done
-    // and WriteFault.
-    ensures orderly { IsOrderly (effect F.held F.faults K.written K.faults files.old files.new out.old out.new) result }
+    // What the files hold stays, no count of faults falls, without a command nothing is read, nothing is put except with Done and
+    // WriteFault, and with Done nothing is pending.
+    ensures orderly { IsOrderly (effect F.held F.faults K.written K.pending K.faults files.old files.new out.old out.new) result }
 
-    // Words that are no command end with Usage, and no others do. A command ends as is expected of what the files hold; or a file of it
+    // Arguments that are no command end with Usage, and no others do. A command ends as is expected of what the files hold; or a file of it
     // that was reached was not read, and the files' count rose; or the output failed where the work would have been done, and its
     // count rose; or there was no memory. A run on threads is expected to be done.
     ensures ends { IsEndOf (command_of (texts words.now))
-        (effect F.held F.faults K.written K.faults files.old files.new out.old out.new) result.status }
+        (effect F.held F.faults K.written K.pending K.faults files.old files.new out.old out.new) result.status }
 
     // A command without files reads none.
     ensures unread { IsUnreadBy (command_of (texts words.now)) (files.new ≡ files.old) }
@@ -158,15 +158,15 @@ pub fn broker_top<R: Threads + Wait + Sync, F: Files, K: Sink, G: Gate>(
     // of a script that was made. A check has none. What each says of its script is the law `reports_are_sound`.
     ensures report { IsReportFor (command_of (texts words.now)) (F.held files.old) result }
 
-    // With Done the output grew by exactly the transcript of script and report; or of a check by the policies as a text and the listings of
-    // their programs; or by what was made, and the totals that the verdicts on all its calls give. With WriteFault it grew by a prefix of
-    // it, and else by nothing.
+    // With Done the output grew by what was pending and then by exactly the transcript of script and report; or of a check by the policies as
+    // a text and the listings of their programs; or by what was made, and the totals that the verdicts on all its calls give. With WriteFault
+    // it grew by a prefix of that, and else by nothing.
     ensures written { IsWrittenFor (command_of (texts words.now))
-        (effect F.held F.faults K.written K.faults files.old files.new out.old out.new) result }
+        (effect F.held F.faults K.written K.pending K.faults files.old files.new out.old out.new) result }
 
     // With Done of a replay or a run, the text that was written falls into its lines, and line n of it is the line of entry n of the report.
     ensures told { IsToldFor (command_of (texts words.now))
-        (effect F.held F.faults K.written K.faults files.old files.new out.old out.new) result }
+        (effect F.held F.faults K.written K.pending K.faults files.old files.new out.old out.new) result }
 {
     if needs_threads(words) {
         return threads_top(rt, alloc, words, files, out, gate);

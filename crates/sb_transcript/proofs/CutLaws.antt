@@ -1,11 +1,11 @@
 -- Bytes that are cut into lines, and how an output grows by one line after another.
 use Rattle.std.proofs.Common.{◌≡◌, ◌∙◌, ℕ, ◌+◌, ◌-◌, ◌≤◌, List, [], ◌∷◌, ◌++◌, length, take, drop, Option, None, Some, refl, ap, sym, subst, arith, append_assoc}
 use Rattle.std.proofs.lemmas.List.{append-nil, length-append, length-drop, take-append-drop, take-append-le, drop-append-le, take_all, nil_from_length}
-use Rattle.std.specs.Prelude.{option_map}
-use Rattle.sb_outside.specs.Outside.{GrowsByPrefix, joined}
+use Rattle.std.specs.Prelude.{option_map, Result, Ok, Err, OnErr}
+use Rattle.sb_outside.specs.Outside.{GrowsBy, GrowsByPrefix, GrowsUpTo, joined}
 use Rattle.sb_transcript.specs.LineBuffers.{cut_by, total}
 
--- what is left behind the first line is as long as the others
+-- what is left after the first line is as long as the others
 pub total_behind : (n : ℕ) (ns bs : List ℕ) → total (n ∷ ns) ≡ length bs → total ns ≡ length (drop n bs)
 total_behind n ns bs e = omega (arith, length-drop n bs, e)
 
@@ -20,7 +20,7 @@ first_within ls ns bs n e h = piece_within n ns bs (ap total (sym e) ∙ h)
 pub total_left : (ls ns bs behind : List ℕ) (n : ℕ) → ls ≡ n ∷ ns → total ls ≡ length bs → length behind + n ≡ length bs → total ns ≡ length behind
 total_left ls ns bs behind n e h k = let whole : total (n ∷ ns) ≡ length bs = ap total (sym e) ∙ h in omega (arith, whole, k)
 
--- bytes that are cut are their lines, one behind the other
+-- bytes that are cut are their lines, one after the other
 pub joined_cut : (ns bs : List ℕ) → total ns ≡ length bs → bs ≡ joined (cut_by ns bs)
 joined_cut [] bs e = nil_from_length bs (sym e)
 joined_cut (n ∷ ns) bs e =
@@ -31,7 +31,7 @@ total_push : (ns : List ℕ) (m : ℕ) → total (ns ++ m ∷ []) ≡ total ns +
 total_push [] m = omega arith
 total_push (n ∷ ns) m = omega (arith, total_push ns m)
 
--- a line behind all others
+-- a line after all others
 cut_push : (ns bs line : List ℕ) (m : ℕ) → total ns ≡ length bs → m ≡ length line → cut_by (ns ++ m ∷ []) (bs ++ line) ≡ cut_by ns bs ++ line ∷ []
 cut_push [] bs line m e k =
     let none : bs ≡ [] = nil_from_length bs (sym e) in
@@ -48,7 +48,7 @@ appended bs line more m e k =
     let long : length more ≡ length bs + length line = ap length e ∙ length-append bs line in
     omega (arith, long, k)
 
--- where a line was appended, and its length noted
+-- if a line was appended, and its length noted
 pub cut_more : (ns more_ns bs more line : List ℕ) (m : ℕ) → more ≡ bs ++ line → more_ns ≡ ns ++ m ∷ [] → m ≡ length more - length bs → total ns ≡ length bs
     → cut_by more_ns more ≡ cut_by ns bs ++ line ∷ []
 cut_more ns more_ns bs more line m e d k h =
@@ -68,34 +68,57 @@ two_parts n bs line behind e d = rw (e, d) (sym (take-append-drop n bs))
 
 -- ---- an output that grows by one piece after another
 
--- of these bytes all but the rest is written
-abbrev pub IsGrown : Option (List ℕ) → List ℕ → List ℕ → Option (List ℕ) → Type 0
-IsGrown old bytes rest new = (done : List ℕ) × (bytes ≡ done ++ rest) × (new ≡ option_map (λ w. w ++ done) old)
+-- at the start all is left
+pub grown_start : (old : Option (List ℕ)) (due : List ℕ) → GrowsUpTo old due old due
+grown_start None due = ([], refl, refl)
+grown_start (Some w) due = ([], refl, ap Some (sym (append-nil w)))
 
--- at the start
-pub grown_start : (old : Option (List ℕ)) (bytes : List ℕ) → IsGrown old bytes bytes old
-grown_start None bytes = ([], refl, refl)
-grown_start (Some w) bytes = ([], refl, ap Some (sym (append-nil w)))
+-- what is left, after more of it was written
+cut_on : (done pending rest line behind part left : List ℕ) → rest ≡ line ++ behind → pending ++ line ≡ part ++ left
+    → done ++ (pending ++ rest) ≡ (done ++ part) ++ (left ++ behind)
+cut_on done pending rest line behind part left d cut =
+    let first : done ++ (pending ++ (line ++ behind)) ≡ done ++ ((pending ++ line) ++ behind) = simp append_assoc in
+    let last : done ++ ((part ++ left) ++ behind) ≡ (done ++ part) ++ (left ++ behind) = simp append_assoc in
+    ap (λ r. done ++ (pending ++ r)) d ∙ first ∙ ap (λ r. done ++ (r ++ behind)) cut ∙ last
 
 -- one piece more
-pub grown_on : (old : Option (List ℕ)) (bytes rest line behind : List ℕ) (mid new : Option (List ℕ)) → IsGrown old bytes rest mid → rest ≡ line ++ behind
-    → new ≡ option_map (λ w. w ++ line) mid → IsGrown old bytes behind new
-grown_on None bytes rest line behind mid new (done, e, g) d h = (done ++ line, e ∙ ap (λ z. done ++ z) d ∙ sym (append_assoc done line behind), h ∙ rw g refl)
-grown_on (Some w) bytes rest line behind mid new (done, e, g) d h =
-    (done ++ line, e ∙ ap (λ z. done ++ z) d ∙ sym (append_assoc done line behind), h ∙ rw g (ap Some (append_assoc w done line)))
+pub grown_on : (old : Option (List ℕ)) (due pending rest line behind left : List ℕ) (mid new : Option (List ℕ)) → GrowsUpTo old due mid (pending ++ rest)
+    → rest ≡ line ++ behind → GrowsUpTo mid (pending ++ line) new left → GrowsUpTo old due new (left ++ behind)
+grown_on None due pending rest line behind left mid new (done, e, g) d (part, cut, h) =
+    (done ++ part, e ∙ cut_on done pending rest line behind part left d cut, h ∙ rw g refl)
+grown_on (Some w) due pending rest line behind left mid new (done, e, g) d (part, cut, h) =
+    (done ++ part, e ∙ cut_on done pending rest line behind part left d cut, h ∙ rw g (ap Some (append_assoc w done part)))
 
 -- a prefix of the next piece
-pub grown_partly : (old : Option (List ℕ)) (bytes rest line behind : List ℕ) (mid new : Option (List ℕ)) → IsGrown old bytes rest mid → rest ≡ line ++ behind
-    → GrowsByPrefix mid line new → GrowsByPrefix old bytes new
-grown_partly None bytes rest line behind mid new (done, e, g) d (part, left, cut, h) =
-    (done ++ part, left ++ behind, rw (e, d, cut) (simp append_assoc), h ∙ rw g refl)
-grown_partly (Some w) bytes rest line behind mid new (done, e, g) d (part, left, cut, h) =
-    (done ++ part, left ++ behind, rw (e, d, cut) (simp append_assoc), h ∙ rw g (ap Some (append_assoc w done part)))
+pub grown_partly : (old : Option (List ℕ)) (due pending rest line behind : List ℕ) (mid new : Option (List ℕ)) → GrowsUpTo old due mid (pending ++ rest)
+    → rest ≡ line ++ behind → GrowsByPrefix mid (pending ++ line) new → GrowsByPrefix old due new
+grown_partly None due pending rest line behind mid new (done, e, g) d (part, left, cut, h) =
+    (done ++ part, left ++ behind, e ∙ cut_on done pending rest line behind part left d cut, h ∙ rw g refl)
+grown_partly (Some w) due pending rest line behind mid new (done, e, g) d (part, left, cut, h) =
+    (done ++ part, left ++ behind, e ∙ cut_on done pending rest line behind part left d cut, h ∙ rw g (ap Some (append_assoc w done part)))
 
--- no length is left, and so nothing of the bytes
-pub grown_to_end : (old : Option (List ℕ)) (bytes rest ns : List ℕ) (new : Option (List ℕ)) → IsGrown old bytes rest new → length ns ≡ 0 → total ns ≡ length rest
-    → new ≡ option_map (λ w. w ++ bytes) old
-grown_to_end old bytes rest ns new (done, e, g) none all =
+-- no length is left, and so nothing but what is pending
+all_put : (old : Option (List ℕ)) (due pending rest ns : List ℕ) (mid : Option (List ℕ)) → GrowsUpTo old due mid (pending ++ rest) → length ns ≡ 0 → total ns ≡ length rest
+    → GrowsUpTo old due mid pending
+all_put old due pending rest ns mid grown none all =
     let left : length rest ≡ 0 = sym all ∙ ap total (nil_from_length ns none) in
-    let whole : bytes ≡ done = e ∙ ap (λ z. done ++ z) (nil_from_length rest left) ∙ append-nil done in
-    g ∙ ap (λ z. option_map (λ w. w ++ z) old) (sym whole)
+    let same : pending ++ rest ≡ pending = ap (λ z. pending ++ z) (nil_from_length rest left) ∙ append-nil pending in
+    subst (λ z. GrowsUpTo old due mid z) same grown
+
+-- and then all is written, once what is pending is
+pub grown_to_end : (old : Option (List ℕ)) (due pending rest ns : List ℕ) (mid new : Option (List ℕ)) → GrowsUpTo old due mid (pending ++ rest) → length ns ≡ 0
+    → total ns ≡ length rest → GrowsBy mid pending new → GrowsBy old due new
+grown_to_end old due pending rest ns mid new grown none all written = by old (all_put old due pending rest ns mid grown none all)
+  where
+    by : (old : Option (List ℕ)) → GrowsUpTo old due mid pending → GrowsBy old due new
+    by None (done, e, g) = written ∙ rw g refl
+    by (Some w) (done, e, g) = written ∙ rw (g, e) (ap Some (append_assoc w done pending))
+
+-- or a prefix of it, if there was a fault
+pub fault_at_end : {T E : Type 0} (r : Result T E) (old : Option (List ℕ)) (due pending rest ns : List ℕ) (mid new : Option (List ℕ))
+    → GrowsUpTo old due mid (pending ++ rest) → length ns ≡ 0 → total ns ≡ length rest → OnErr r (GrowsByPrefix mid pending new) → OnErr r (GrowsByPrefix old due new)
+fault_at_end (Ok x) old due pending rest ns mid new grown none all written = tt
+fault_at_end (Err e) old due pending rest ns mid new grown none all written =
+    let same : pending ++ [] ≡ pending = append-nil pending in
+    grown_partly old due pending [] [] [] mid new (subst (λ z. GrowsUpTo old due mid z) (sym same) (all_put old due pending rest ns mid grown none all)) refl
+    (subst (λ z. GrowsByPrefix mid z new) (sym same) written)

@@ -2,3 +2,4 @@ pub mod PlaceLaws
 pub mod LineLaws
 pub mod EndLaws
 pub mod CutLaws
+pub mod CountLaws

@@ -37,13 +37,13 @@ pub lines_are_counted : LinesAreCounted
 lines_are_counted script report =
     rw (length-append, length-append, length-entry_lines script 0 report.entries, length-result_lines script 0 report.results) refl
 
--- what a list has at a place stays there when others are put behind
+-- what a list has at a place stays there when others are appended
 get-front : {A : Type 0} (xs ys : List A) (n : ℕ) (x : A) → slice_get xs n ≡ Some x → slice_get (xs ++ ys) n ≡ Some x
 get-front [] ys n x h = absurd (none-some x h)
 get-front (y ∷ xs) ys zero x h = h
 get-front (y ∷ xs) ys (suc n) x h = get-front xs ys n x h
 
--- and is found behind those that are put before
+-- and is found after those that are put before
 get-behind : {A : Type 0} (xs ys : List A) (n : ℕ) → slice_get (xs ++ ys) (length xs + n) ≡ slice_get ys n
 get-behind [] ys n = ap (slice_get ys) (zero-add n)
 get-behind (x ∷ xs) ys n =
@@ -113,7 +113,7 @@ entries_come_first script report n entry h =
     get-front (entry_lines script 0 report.entries ++ result_lines script 0 report.results) (totals_line report ∷ []) n _
     (get-front (entry_lines script 0 report.entries) (result_lines script 0 report.results) n _ line)
 
--- what stands behind the lines of entries
+-- what stands after the lines of entries
 behind_entries : (script : Script) (report : Report) (n : ℕ) → slice_get (transcript_lines script report) (length report.entries + n) ≡ slice_get (result_lines script 0 report.results ++ totals_line report ∷ []) n
 behind_entries script report n =
     get-after (entry_lines script 0 report.entries) (result_lines script 0 report.results) (totals_line report ∷ []) (length report.entries) n (length-entry_lines script 0 report.entries)

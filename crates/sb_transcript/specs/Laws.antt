@@ -71,12 +71,12 @@ HasShortNames script = list_all has_short_name script.targets ≡ true
 abbrev pub LinesEndOnce : Type 0
 LinesEndOnce = (script : Script) (report : Report) → HasShortNames script → list_all is_one_line (transcript_lines script report) ≡ true
 
--- bytes, cut behind each LF
+-- bytes, cut after each LF
 abbrev pub cut_behind_lf : List ℕ → List (List ℕ)
 cut_behind_lf [] = []
 cut_behind_lf (b ∷ bs) = if b == 10 then (b ∷ []) ∷ cut_behind_lf bs else onto_first b (cut_behind_lf bs)
 
--- a transcript that is cut behind each LF falls into its lines
+-- a transcript that is cut after each LF falls into its lines
 abbrev pub TranscriptsTellTheirLines : Type 0
 TranscriptsTellTheirLines = (script : Script) (report : Report) → HasShortNames script
     → cut_behind_lf (transcript script report) ≡ transcript_lines script report

@@ -6,3 +6,4 @@ pub mod Transcripts
 pub mod Places
 pub mod Laws
 pub mod LineBuffers
+pub mod Counts

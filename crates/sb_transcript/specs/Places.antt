@@ -3,11 +3,11 @@ use Rattle.std.specs.Prelude.{ℕ, ◌+◌, List, [], take, Option, slice_get, s
 use Rattle.sb_statements.specs.declared.results.StmtResult.{StmtResult}
 use Rattle.sb_book.specs.Reports.{result_count, thread_count}
 
--- the results of a target by thread, none where there is no such target
+-- the results of a target by thread, none if there is no such target
 abbrev pub threads_of : List (List (List StmtResult)) → ℕ → List (List StmtResult)
 threads_of results target = slice_index_or results target []
 
--- the result at a place of a thread of a target, where there is one
+-- the result at a place of a thread of a target, if there is one
 abbrev pub result_at : List (List (List StmtResult)) → ℕ → ℕ → ℕ → Option StmtResult
 result_at results target thread place = slice_get (slice_index_or (threads_of results target) thread []) place
 

@@ -1,47 +1,75 @@
 // The counts of a report, and the last line of the transcript, which tells them.
-ghost use Rattle.std.specs.Prelude.{◌≡◌, ◌<◌, ◌++◌, ◌^◌, IfOk, OnOk};
+ghost use Rattle.std.specs.Prelude.{◌≡◌, ◌<◌, ◌+◌, ◌++◌, ◌^◌, IfOk, OnOk};
 ghost use Rattle.sb_book.specs.Reports.{result_count, thread_count};
 ghost use Rattle.sb_transcript.specs.Totals.{is_performed, is_faked, is_denied, is_refused, count_of, counted, decisions_text, totals_line};
+ghost use Rattle.sb_transcript.specs.Counts.{sum_of, with_decision};
 
 use crate::entries::put_named;
-use sb_book::{Decision, Entry, Report, TargetResults, ThreadResults};
+use sb_book::{Decision, Entries, Report, TargetResults, ThreadResults};
 use sb_wide::NoMemory;
 use std::alloc::Global;
 
-fn performed_count(entries: &[Entry]) -> usize
-    ensures { result ≡ count_of is_performed entries.now }
-{
-    entries
-        .iter()
-        .filter(|entry| matches!(entry.decision, Decision::Performed { .. }))
-        .count()
+// How many entries have each decision.
+#[derive(Clone, Copy)]
+struct DecisionCounts {
+    performed: usize,
+    faked: usize,
+    denied: usize,
+    refused: usize,
 }
 
-fn faked_count(entries: &[Entry]) -> usize
-    ensures { result ≡ count_of is_faked entries.now }
+// The counts with one decision more.
+fn with_decision(counts: DecisionCounts, decision: &Decision) -> DecisionCounts
+    requires { sum_of counts + 1 < 2 ^ 64 }
+    ensures value { result ≡ with_decision counts decision.now }
+    ensures sum { sum_of result ≡ sum_of counts + 1 }
 {
-    entries
-        .iter()
-        .filter(|entry| matches!(entry.decision, Decision::Faked { .. }))
-        .count()
+    let DecisionCounts {
+        performed,
+        faked,
+        denied,
+        refused,
+    } = counts;
+    match decision {
+        Decision::Performed { .. } => DecisionCounts {
+            performed: performed + 1,
+            ..counts
+        },
+        Decision::Faked { .. } => DecisionCounts {
+            faked: faked + 1,
+            ..counts
+        },
+        Decision::Denied { .. } => DecisionCounts {
+            denied: denied + 1,
+            ..counts
+        },
+        Decision::Refused(_) => DecisionCounts {
+            refused: refused + 1,
+            ..counts
+        },
+    }
 }
 
-fn denied_count(entries: &[Entry]) -> usize
-    ensures { result ≡ count_of is_denied entries.now }
+#[tactic(auto, using(crate::proofs::CountLaws::performed_counts, crate::proofs::CountLaws::faked_counts, crate::proofs::CountLaws::denied_counts, crate::proofs::CountLaws::refused_counts))]
+fn decision_counts(entries: &Entries) -> DecisionCounts
+    ensures performed { result.performed ≡ count_of is_performed entries.now }
+    ensures faked { result.faked ≡ count_of is_faked entries.now }
+    ensures denied { result.denied ≡ count_of is_denied entries.now }
+    ensures refused { result.refused ≡ count_of is_refused entries.now }
 {
-    entries
-        .iter()
-        .filter(|entry| matches!(entry.decision, Decision::Denied { .. }))
-        .count()
-}
-
-fn refused_count(entries: &[Entry]) -> usize
-    ensures { result ≡ count_of is_refused entries.now }
-{
-    entries
-        .iter()
-        .filter(|entry| matches!(entry.decision, Decision::Refused(_)))
-        .count()
+    let count = entries.len();
+    let mut counts = DecisionCounts {
+        performed: 0,
+        faked: 0,
+        denied: 0,
+        refused: 0,
+    };
+    let mut rest = entries.as_slice();
+    while let Some((entry, later)) = rest.split_first() {
+        counts = with_decision(counts, entry.decision());
+        rest = later;
+    }
+    counts
 }
 
 /// How many results the threads of a target have.
@@ -76,28 +104,28 @@ fn put_counted(line: &mut Vec<u8>, name: &[u8], count: usize) -> Result<(), NoMe
     put_named(line, name, count as u64)
 }
 
-fn put_decisions(line: &mut Vec<u8>, entries: &[Entry]) -> Result<(), NoMemory>
+fn put_decisions(line: &mut Vec<u8>, entries: &Entries) -> Result<(), NoMemory>
     ensures { OnOk result (line.new.items ≡ line.old.items ++ decisions_text entries.now) }
 {
-    put_counted(line, b" performed ", performed_count(entries))?;
-    put_counted(line, b" faked ", faked_count(entries))?;
-    put_counted(line, b" denied ", denied_count(entries))?;
-    put_counted(line, b" refused ", refused_count(entries))?;
+    let counts = decision_counts(entries);
+    put_counted(line, b" performed ", counts.performed)?;
+    put_counted(line, b" faked ", counts.faked)?;
+    put_counted(line, b" denied ", counts.denied)?;
+    put_counted(line, b" refused ", counts.refused)?;
     Ok(())
 }
 
 /// The last line: how many entries there are, how many of each decision, and how many results, with its LF.
 ///
 /// # Errors
-/// `NoMemory` where there was none for the line.
+/// `NoMemory` if there was none for the line.
 pub fn totals(alloc: Global, report: &Report) -> Result<Vec<u8>, NoMemory>
     requires { result_count report.now.results < 2 ^ 62 }
     ensures { IfOk result (λ line. line.items ≡ totals_line report.now) }
 {
     let mut line = Vec::new(alloc);
-    let entries = report.entries.as_slice();
-    put_counted(&mut line, b"total entries ", entries.len())?;
-    put_decisions(&mut line, entries)?;
+    put_counted(&mut line, b"total entries ", report.entries.len())?;
+    put_decisions(&mut line, &report.entries)?;
     let results = result_count(report.results.as_slice());
     put_counted(&mut line, b" results ", results)?;
     line.push(b'\n')?;

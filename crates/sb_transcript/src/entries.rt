@@ -6,7 +6,7 @@ ghost use Rattle.sb_transcript.specs.EntryLines.{fault_text, argument_text, deni
 
 use crate::comma_words::put_comma_words;
 use sb_block::BlockFault;
-use sb_book::{Decision, Entry};
+use sb_book::{Decision, EntryView};
 use sb_call::{Arg, Reply, call_word};
 use sb_rule::{Action, Verdict};
 use sb_statements::Script;
@@ -148,7 +148,7 @@ pub fn put_reply(line: &mut Vec<u8>, reply: &Reply) -> Result<(), NoMemory>
     Ok(())
 }
 
-/// Appends the name of a target, and nothing where there is no such target.
+/// Appends the name of a target, and nothing if there is no such target.
 pub fn put_target(line: &mut Vec<u8>, script: &Script, target: usize) -> Result<(), NoMemory>
     ensures { OnOk result (line.new.items ≡ line.old.items ++ target_name script.now target) }
 {
@@ -158,37 +158,64 @@ pub fn put_target(line: &mut Vec<u8>, script: &Script, target: usize) -> Result<
     Ok(())
 }
 
+// Appends the line of entry `n` with these parts.
+fn put_parts(
+    line: &mut Vec<u8>,
+    script: &Script,
+    n: u64,
+    place: (u32, u32),
+    mark: u64,
+    decision: &Decision,
+    reply: &Reply,
+) -> Result<(), NoMemory>
+    ensures { OnOk result (line.new.items ≡ line.old.items ++ (codes "entry " ++ decimal n ++ codes " " ++ target_name script.now place.0
+        ++ codes " " ++ decimal place.1 ++ codes " mark " ++ decimal mark ++ codes " " ++ decision_text decision.now
+        ++ codes " reply " ++ reply_text reply.now ++ codes "\n")) }
+{
+    put_named(line, b"entry ", n)?;
+    line.push(b' ')?;
+    put_target(line, script, place.0 as usize)?;
+    put_named(line, b" ", u64::from(place.1))?;
+    put_named(line, b" mark ", mark)?;
+    line.push(b' ')?;
+    put_decision(line, decision)?;
+    line.extend_from_slice(b" reply ")?;
+    put_reply(line, reply)?;
+    line.push(b'\n')?;
+    Ok(())
+}
+
 /// Appends the line of entry `n` of a history, counted from 0, with its LF.
 pub fn put_entry_line(
     line: &mut Vec<u8>,
     script: &Script,
     n: u64,
-    entry: &Entry,
+    entry: &EntryView<'_>,
 ) -> Result<(), NoMemory>
     ensures { OnOk result (line.new.items ≡ line.old.items ++ entry_line script.now n entry.now) }
 {
-    put_named(line, b"entry ", n)?;
-    line.push(b' ')?;
-    put_target(line, script, entry.target as usize)?;
-    put_named(line, b" ", u64::from(entry.channel))?;
-    put_named(line, b" mark ", entry.taken.mark())?;
-    line.push(b' ')?;
-    put_decision(line, &entry.decision)?;
-    line.extend_from_slice(b" reply ")?;
-    put_reply(line, &entry.reply)?;
-    line.push(b'\n')?;
-    Ok(())
+    let place = (entry.target(), entry.channel());
+    let reply = entry.reply();
+    put_parts(
+        line,
+        script,
+        n,
+        place,
+        entry.mark(),
+        entry.decision(),
+        &reply,
+    )
 }
 
 /// The line of entry `n` of a history, counted from 0, with its LF.
 ///
 /// # Errors
-/// `NoMemory` where there was none for the line.
+/// `NoMemory` if there was none for the line.
 pub fn entry_line(
     alloc: Global,
     script: &Script,
     n: u64,
-    entry: &Entry,
+    entry: &EntryView<'_>,
 ) -> Result<Vec<u8>, NoMemory>
     ensures { IfOk result (λ line. line.items ≡ entry_line script.now n entry.now) }
 {

@@ -6,7 +6,7 @@ pub fn lines_are_counted()
     ensures { LinesAreCounted }
 {}
 
-/// Line `n` is that of entry `n`, where there is such an entry.
+/// Line `n` is that of entry `n`, if there is such an entry.
 pub fn entries_come_first()
     ensures { EntriesComeFirst }
 {}
@@ -33,12 +33,12 @@ pub fn results_are_in_order()
     ensures { ResultsAreInOrder }
 {}
 
-/// Where the names of a script's targets are short names, each line ends with LF and holds no other.
+/// If the names of a script's targets are short names, each line ends with LF and holds no other.
 pub fn lines_end_once()
     ensures { LinesEndOnce }
 {}
 
-/// So the text of its transcript, cut behind each LF, falls into its lines.
+/// So the text of its transcript, cut after each LF, falls into its lines.
 pub fn transcripts_tell_their_lines()
     ensures { TranscriptsTellTheirLines }
 {}

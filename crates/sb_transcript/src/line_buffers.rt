@@ -1,18 +1,17 @@
-// Lines in one buffer, and how they are put one by one.
-ghost use Rattle.std.specs.Prelude.{◌≡◌, ◌≤◌, ◌++◌, length, option_map, OnOk, OnErr};
-ghost use Rattle.sb_outside.specs.Outside.{GrowsByPrefix, Rose, joined};
+// Lines in one buffer, and how they are put one by one and finished.
+ghost use Rattle.std.specs.Prelude.{◌≡◌, ◌≤◌, ◌++◌, [], length, OnOk, OnErr};
+ghost use Rattle.sb_outside.specs.Outside.{GrowsBy, GrowsByPrefix, Rose, joined};
 ghost use Rattle.sb_transcript.specs.LineBuffers.{total};
 
 use sb_outside::{Sink, SinkFault};
 use std::marker::Model;
 
-/// Lines one behind the other in one buffer, with the length of each. Contracts see the list of the lines.
+/// Lines one after the other in one buffer, with the length of each. Contracts see the list of the lines.
 pub struct LineBuffer {
     pub(crate) bytes: Vec<u8>,
     pub(crate) lengths: Vec<usize>,
 }
 
-// By hand, so that it is proved here once and not at each place that drops one.
 impl Drop for LineBuffer {
     fn drop(self) {
         let LineBuffer {
@@ -33,15 +32,16 @@ impl Model for LineBuffer {
     ghost invariant = { λ l. total l.lengths.items ≡ length l.bytes.items };
 }
 
-// Puts bytes in pieces of these lengths, one put each. After a put that failed no further one follows.
-#[tactic(auto, using(crate::proofs::CutLaws::grown_start, crate::proofs::CutLaws::grown_to_end, crate::proofs::CutLaws::first_within))]
+// Puts bytes in pieces of these lengths, one put each, and finishes. After a put that failed neither a put nor the finish follows.
+#[tactic(auto, using(crate::proofs::CutLaws::grown_start, crate::proofs::CutLaws::grown_to_end, crate::proofs::CutLaws::fault_at_end, crate::proofs::CutLaws::first_within))]
 fn put_pieces<S: Sink>(bytes: &[u8], lengths: &[usize], sink: &mut S) -> Result<(), SinkFault>
     requires { total lengths.now ≡ length bytes.now }
     ensures counted { S.faults sink.old ≤ S.faults sink.new }
-    ensures ok { OnOk result (S.written sink.new ≡ option_map (λ w. w ++ bytes.now) (S.written sink.old)) }
+    ensures ok { OnOk result (GrowsBy (S.written sink.old) (S.pending sink.old ++ bytes.now) (S.written sink.new)) }
+    ensures emptied { OnOk result (S.pending sink.new ≡ []) }
     ensures ok_count { OnOk result (S.faults sink.new ≡ S.faults sink.old) }
     ensures failed { OnErr result (Rose (S.faults sink.old) (S.faults sink.new)) }
-    ensures prefix { OnErr result (GrowsByPrefix (S.written sink.old) bytes.now (S.written sink.new)) }
+    ensures prefix { OnErr result (GrowsByPrefix (S.written sink.old) (S.pending sink.old ++ bytes.now) (S.written sink.new)) }
 {
     let mut rest = bytes;
     let mut lengths = lengths;
@@ -54,11 +54,11 @@ fn put_pieces<S: Sink>(bytes: &[u8], lengths: &[usize], sink: &mut S) -> Result<
         rest = behind;
         lengths = later;
     }
-    Ok(())
+    sink.finish()
 }
 
 impl LineBuffer {
-    /// All lines, one behind the other.
+    /// All lines, one after the other.
     #[tactic(auto, using(crate::proofs::CutLaws::joined_cut))]
     pub fn bytes(&self) -> &[u8]
         ensures { result.now ≡ joined self.now }
@@ -66,17 +66,20 @@ impl LineBuffer {
         &self.bytes
     }
 
-    /// Puts each line in turn, one put each. After a put that failed no further one follows. It takes no memory.
+    /// Puts each line in turn, one put each, and finishes. After a put that failed neither a put nor the finish follows. It allocates no
+    /// memory.
     ///
     /// # Errors
-    /// `Failed` only where the count of faults rose in this call. Then a prefix of the lines, one after another, was appended.
+    /// `Failed` only if the count of faults rose in this call. Then a prefix of what was due was written: of what was pending, and then the
+    /// lines, one after another.
     #[tactic(auto, using(crate::proofs::CutLaws::joined_cut))]
     pub fn put_each<S: Sink>(&self, sink: &mut S) -> Result<(), SinkFault>
         ensures counted { S.faults sink.old ≤ S.faults sink.new }
-        ensures ok { OnOk result (S.written sink.new ≡ option_map (λ w. w ++ joined self.now) (S.written sink.old)) }
+        ensures ok { OnOk result (GrowsBy (S.written sink.old) (S.pending sink.old ++ joined self.now) (S.written sink.new)) }
+        ensures emptied { OnOk result (S.pending sink.new ≡ []) }
         ensures ok_count { OnOk result (S.faults sink.new ≡ S.faults sink.old) }
         ensures failed { OnErr result (Rose (S.faults sink.old) (S.faults sink.new)) }
-        ensures prefix { OnErr result (GrowsByPrefix (S.written sink.old) (joined self.now) (S.written sink.new)) }
+        ensures prefix { OnErr result (GrowsByPrefix (S.written sink.old) (S.pending sink.old ++ joined self.now) (S.written sink.new)) }
     {
         put_pieces(&self.bytes, &self.lengths, sink)
     }

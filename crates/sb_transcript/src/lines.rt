@@ -18,7 +18,7 @@ pub fn line_count(report: &Report) -> u64
     requires { result_count report.now.results < 2 ^ 62 }
     ensures { result ≡ line_count report.now }
 {
-    let entries = report.entries.as_slice().len() as u64;
+    let entries = report.entries.len() as u64;
     let results = result_count(report.results.as_slice()) as u64;
     entries + results + 1
 }
@@ -27,7 +27,7 @@ pub fn line_count(report: &Report) -> u64
 /// alone; to a result it goes past whole targets and threads.
 ///
 /// # Errors
-/// `NoMemory` where there was none for the line.
+/// `NoMemory` if there was none for the line.
 #[tactic(auto, using(crate::proofs::LineLaws::result_line_at))]
 pub fn line(alloc: Global, script: &Script, report: &Report, n: u64) -> Result<Vec<u8>, NoMemory>
     requires few { result_count report.now.results < 2 ^ 62 }
@@ -41,7 +41,7 @@ pub fn line(alloc: Global, script: &Script, report: &Report, n: u64) -> Result<V
     let entries = report.entries.as_slice();
     let at = n as usize;
     if let Some(entry) = entries.get(at) {
-        return entry_line(alloc, script, n, entry);
+        return entry_line(alloc, script, n, &entry);
     }
     let Some(place) = place_of(&report.results, at - entries.len()) else {
         return totals(alloc, report);

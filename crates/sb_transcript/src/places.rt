@@ -20,7 +20,7 @@ pub struct Place<'a> {
     pub result_: &'a StmtResult,
 }
 
-// Result `n` of a target's threads, counted from 0. It goes past whole threads. None where they have no more than `n`.
+// Result `n` of a target's threads, counted from 0. It goes past whole threads. None if they have no more than `n`.
 fn place_in(target: usize, threads: &[ThreadResults], n: usize) -> Option<Place<'_>>
     ensures none { IfNone result (thread_count threads.now ≤ n) }
     ensures target { IfSome result (λ p. p.target ≡ target) }
@@ -42,7 +42,7 @@ fn place_in(target: usize, threads: &[ThreadResults], n: usize) -> Option<Place<
     None
 }
 
-/// Result `n`, counted from 0 over all targets and threads in order. It goes past whole targets and threads. None where there
+/// Result `n`, counted from 0 over all targets and threads in order. It goes past whole targets and threads. None if there
 /// are no more than `n` results.
 pub fn place_of(results: &Results, n: usize) -> Option<Place<'_>>
     requires { result_count results.now < 2 ^ 62 }

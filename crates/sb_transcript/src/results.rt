@@ -57,7 +57,7 @@ fn put_result(line: &mut Vec<u8>, result_: &StmtResult) -> Result<(), NoMemory>
 /// The line of the result of the statement at a place of a thread of a target, with its LF. All three are numbered from 0.
 ///
 /// # Errors
-/// `NoMemory` where there was none for the line.
+/// `NoMemory` if there was none for the line.
 pub fn result_line(
     alloc: Global,
     script: &Script,

@@ -10,7 +10,7 @@ use crate::counts::totals;
 use crate::entries::put_entry_line;
 use crate::line_buffers::LineBuffer;
 use crate::results::put_result_line;
-use sb_book::{Entry, Report, TargetResults, ThreadResults};
+use sb_book::{Entries, EntryView, Report, TargetResults, ThreadResults};
 use sb_statements::{Script, StmtResult};
 use sb_wide::NoMemory;
 use std::alloc::Global;
@@ -22,7 +22,7 @@ fn put_entry(
     lengths: &mut Vec<usize>,
     script: &Script,
     n: u64,
-    entry: &Entry,
+    entry: &EntryView<'_>,
 ) -> Result<(), NoMemory>
     requires { total lengths.old.items ≡ length bytes.old.items }
     ensures whole { OnOk result (total lengths.new.items ≡ length bytes.new.items) }
@@ -40,15 +40,20 @@ fn put_entry_lines(
     bytes: &mut Vec<u8>,
     lengths: &mut Vec<usize>,
     script: &Script,
-    entries: &[Entry],
+    entries: &Entries,
 ) -> Result<(), NoMemory>
     requires { total lengths.old.items ≡ length bytes.old.items }
     ensures whole { OnOk result (total lengths.new.items ≡ length bytes.new.items) }
     ensures lines { OnOk result (cut_by lengths.new.items bytes.new.items ≡ cut_by lengths.old.items bytes.old.items
         ++ entry_lines script.now 0 entries.now) }
 {
-    for (n, entry) in entries.iter().enumerate() {
-        put_entry(bytes, lengths, script, n as u64, entry)?;
+    let count = entries.len() as u64;
+    let mut n = 0;
+    let mut rest = entries.as_slice();
+    while let Some((entry, later)) = rest.split_first() {
+        put_entry(bytes, lengths, script, n, &entry)?;
+        n += 1;
+        rest = later;
     }
     Ok(())
 }
@@ -149,7 +154,7 @@ fn put_totals(bytes: &mut Vec<u8>, lengths: &mut Vec<usize>, last: &[u8]) -> Res
 /// target, thread and place, and the totals.
 ///
 /// # Errors
-/// `NoMemory` where there was none for the lines.
+/// `NoMemory` if there was none for the lines.
 pub fn transcript_lines(
     alloc: Global,
     script: &Script,
@@ -160,7 +165,7 @@ pub fn transcript_lines(
 {
     let mut bytes = Vec::new(alloc);
     let mut lengths = Vec::new(alloc);
-    put_entry_lines(&mut bytes, &mut lengths, script, report.entries.as_slice())?;
+    put_entry_lines(&mut bytes, &mut lengths, script, &report.entries)?;
     put_result_lines(&mut bytes, &mut lengths, script, report.results.as_slice())?;
     let last = totals(alloc, report)?;
     put_totals(&mut bytes, &mut lengths, &last)?;

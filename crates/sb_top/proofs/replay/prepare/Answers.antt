@@ -1,4 +1,4 @@
-use Rattle.std.proofs.Common.{◌≡◌, ◌∙◌}
+use Rattle.std.proofs.Common.{rules, ◌≡◌, ◌∙◌}
 use Rattle.sb_outside.specs.Outside.{Rose}
 use Rattle.std.specs.Prelude.{option_map, IfSome, Ok}
 use Rattle.sb_commands.specs.Commands.{named}
@@ -28,11 +28,13 @@ returns-in-Err-schedule_of-clause-ends g c =
     let held = g.F.Files.held c.args.files.now in
     let kept : g.F.Files.held c.script_in.new.files ≡ held = c.in-Ok-script_in.ensures.kept ∙ c.in-Ok.ensures.kept in
     let count : g.F.Files.faults c.script_in.new.files ≡ g.F.Files.faults c.args.files.now = c.in-Ok-script_in.ensures.ok_count ∙ c.in-Ok.ensures.ok_count in
-    let found : IsNotScheduled c.in-Ok-script_in.script (named c.args.schedule) (g.F.Files.held c.script_in.new.files)
-    (Rose (g.F.Files.faults c.script_in.new.files) (g.F.Files.faults c.schedule_of.new.files)) c.in-Err-schedule_of.status = c.in-Err-schedule_of.ensures.err in
-    let refused : IsNotScheduled c.in-Ok-script_in.script (named c.args.schedule) held
+    let same : c.deref.result.now ≡ c.in-Ok-script_in.opened.script = search rules in
+    let found : IsNotScheduled c.in-Ok-script_in.opened.script (named c.args.schedule) (g.F.Files.held c.script_in.new.files)
+    (Rose (g.F.Files.faults c.script_in.new.files) (g.F.Files.faults c.schedule_of.new.files)) c.in-Err-schedule_of.status =
+    rw (← same) c.in-Err-schedule_of.ensures.err in
+    let refused : IsNotScheduled c.in-Ok-script_in.opened.script (named c.args.schedule) held
     (Rose (g.F.Files.faults c.args.files.now) (g.F.Files.faults c.schedule_of.new.files)) c.in-Err-schedule_of.status = rw count at (rw kept at found) in
-    let read : IfSome (g.F.Files.held c.policies_in.new.files) (λ h. script_in c.in-Ok.policies.list c.args.script.now h ≡ Ok c.in-Ok-script_in.script) = c.in-Ok-script_in.ensures.ok in
+    let read : IfSome (g.F.Files.held c.policies_in.new.files) (λ h. script_in c.in-Ok.policies.list c.args.script.now h ≡ Ok c.in-Ok-script_in.opened.script) = c.in-Ok-script_in.ensures.ok in
     unprepared c.args.policy.now c.args.script.now (named c.args.schedule) held _ c.in-Err-schedule_of.status c.in-Err-schedule_of.ensures.refusal
-    (schedule_refused c.args.policy.now c.args.script.now (named c.args.schedule) c.in-Ok.policies.list c.in-Ok-script_in.script held _
+    (schedule_refused c.args.policy.now c.args.script.now (named c.args.schedule) c.in-Ok.policies.list c.in-Ok-script_in.opened.script held _
     c.in-Err-schedule_of.status c.in-Ok.ensures.ok (rw c.in-Ok.ensures.kept at read) refused)

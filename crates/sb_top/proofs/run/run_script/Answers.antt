@@ -4,9 +4,9 @@ use Rattle.sb_top.proofs.run.run_script.Goals as goal
 
 pub returns-in-Ok-clause-ends : goal.returns-in-Ok-clause-ends
 returns-in-Ok-clause-ends g c =
-    let work = threads_of c.in-Ok.readied in (
-      shown_known work _ c.show.result.status c.show.ensures.ends,
-      shown_end 2 (wanted_run c.args.policy.now c.args.script.now) work (g.F.Files.held c.args.files.now) _ _ c.show.result.status c.in-Ok.ensures.ok c.show.ensures.ends,
+    let work = threads_of c.in-Ok.opened in (
+      shown_known work _ c.show_opened.result.status c.show_opened.ensures.ends,
+      shown_end 2 (wanted_run c.args.policy.now c.args.script.now) work (g.F.Files.held c.args.files.now) _ _ c.show_opened.result.status c.in-Ok.ensures.ok c.show_opened.ensures.ends,
     )
 
 pub returns-in-Err-clause-ends : goal.returns-in-Err-clause-ends

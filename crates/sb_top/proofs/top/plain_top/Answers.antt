@@ -10,14 +10,14 @@ returns-in-Ok-Some-Replay-clause-ends g c =
     let replay = Replay c.in-Ok-Some-Replay.policy.now c.in-Ok-Some-Replay.script.now (named c.in-Ok-Some-Replay.schedule) in
     let found : Some replay ≡ command_of (texts c.args.words.now) = search rules in
     let P : Option Command → Type 0 =
-    λ command. IsEndOf command (effect g.F.Files.held g.F.Files.faults g.K.Sink.written g.K.Sink.faults c.args.files.now c.replay_script.new.files c.args.out.now c.replay_script.new.out) c.replay_script.result.status
+    λ command. IsEndOf command (effect g.F.Files.held g.F.Files.faults g.K.Sink.written g.K.Sink.pending g.K.Sink.faults c.args.files.now c.replay_script.new.files c.args.out.now c.replay_script.new.out) c.replay_script.result.status
     in subst P found c.replay_script.ensures.ends
 
--- there was no memory to read the words
+-- there was no memory to read the arguments
 pub returns-in-Err-clause-ends : goal.returns-in-Err-clause-ends
 returns-in-Err-clause-ends g c =
     starved_end (command_of (texts c.args.words.now))
-    (effect g.F.Files.held g.F.Files.faults g.K.Sink.written g.K.Sink.faults c.args.files.now c.args.files.now c.args.out.now c.args.out.now) (c.in-Err.ensures.memory refl)
+    (effect g.F.Files.held g.F.Files.faults g.K.Sink.written g.K.Sink.pending g.K.Sink.faults c.args.files.now c.args.files.now c.args.out.now c.args.out.now) (c.in-Err.ensures.memory refl)
 
 pub returns-in-Err-clause-report : goal.returns-in-Err-clause-report
 returns-in-Err-clause-report g c = starved_report (command_of (texts c.args.words.now)) (g.F.Files.held c.args.files.now)
@@ -25,9 +25,9 @@ returns-in-Err-clause-report g c = starved_report (command_of (texts c.args.word
 pub returns-in-Err-clause-written : goal.returns-in-Err-clause-written
 returns-in-Err-clause-written g c =
     starved_written (command_of (texts c.args.words.now))
-    (effect g.F.Files.held g.F.Files.faults g.K.Sink.written g.K.Sink.faults c.args.files.now c.args.files.now c.args.out.now c.args.out.now) refl
+    (effect g.F.Files.held g.F.Files.faults g.K.Sink.written g.K.Sink.pending g.K.Sink.faults c.args.files.now c.args.files.now c.args.out.now c.args.out.now) refl
 
 pub returns-in-Err-clause-told : goal.returns-in-Err-clause-told
 returns-in-Err-clause-told g c =
     starved_told (command_of (texts c.args.words.now))
-    (effect g.F.Files.held g.F.Files.faults g.K.Sink.written g.K.Sink.faults c.args.files.now c.args.files.now c.args.out.now c.args.out.now)
+    (effect g.F.Files.held g.F.Files.faults g.K.Sink.written g.K.Sink.pending g.K.Sink.faults c.args.files.now c.args.files.now c.args.out.now c.args.out.now)

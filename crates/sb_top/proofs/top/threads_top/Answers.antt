@@ -12,7 +12,7 @@ returns-in-Ok-Some-Run-clause-ends g c =
     let run = Run c.in-Ok-Some-Run.policy.now c.in-Ok-Some-Run.script.now c.in-Ok-Some-Run.workers in
     let found : Some run ≡ command_of (texts c.args.words.now) = search rules in
     let P : Option Command → Type 0 =
-    λ command. IsEndOf command (effect g.F.Files.held g.F.Files.faults g.K.Sink.written g.K.Sink.faults c.args.files.now c.run_script.new.files c.args.out.now c.run_script.new.out) c.run_script.result.status
+    λ command. IsEndOf command (effect g.F.Files.held g.F.Files.faults g.K.Sink.written g.K.Sink.pending g.K.Sink.faults c.args.files.now c.run_script.new.files c.args.out.now c.run_script.new.out) c.run_script.result.status
     in subst P found c.run_script.ensures.ends
 
 pub returns-in-Ok-Some-Make-clause-ends : goal.returns-in-Ok-Some-Make-clause-ends
@@ -20,7 +20,7 @@ returns-in-Ok-Some-Make-clause-ends g c =
     let make = Make c.in-Ok-Some-Make.seed c.in-Ok-Some-Make.targets c.in-Ok-Some-Make.calls in
     let found : Some make ≡ command_of (texts c.args.words.now) = search rules in
     let P : Option Command → Type 0 =
-    λ command. IsEndOf command (effect g.F.Files.held g.F.Files.faults g.K.Sink.written g.K.Sink.faults c.args.files.now c.args.files.now c.args.out.now c.make_script.new.out) c.make_script.result.status
+    λ command. IsEndOf command (effect g.F.Files.held g.F.Files.faults g.K.Sink.written g.K.Sink.pending g.K.Sink.faults c.args.files.now c.args.files.now c.args.out.now c.make_script.new.out) c.make_script.result.status
     in subst P found (make_end c.in-Ok-Some-Make.seed c.in-Ok-Some-Make.targets c.in-Ok-Some-Make.calls _ _ c.make_script.result.status c.make_script.ensures.ends)
 
 -- a run has two files
@@ -35,14 +35,14 @@ returns-in-Ok-Some-Run-clause-unread g c =
 pub returns-in-Ok-Some-Make-clause-unread : goal.returns-in-Ok-Some-Make-clause-unread
 returns-in-Ok-Some-Make-clause-unread g c = left_alone (command_of (texts c.args.words.now)) (c.args.files.now ≡ c.args.files.now) refl
 
--- there was no memory to read the words
+-- there was no memory to read the arguments
 pub returns-in-Err-clause-unread : goal.returns-in-Err-clause-unread
 returns-in-Err-clause-unread g c = left_alone (command_of (texts c.args.words.now)) (c.args.files.now ≡ c.args.files.now) refl
 
 pub returns-in-Err-clause-ends : goal.returns-in-Err-clause-ends
 returns-in-Err-clause-ends g c =
     starved_end (command_of (texts c.args.words.now))
-    (effect g.F.Files.held g.F.Files.faults g.K.Sink.written g.K.Sink.faults c.args.files.now c.args.files.now c.args.out.now c.args.out.now) (c.in-Err.ensures.memory refl)
+    (effect g.F.Files.held g.F.Files.faults g.K.Sink.written g.K.Sink.pending g.K.Sink.faults c.args.files.now c.args.files.now c.args.out.now c.args.out.now) (c.in-Err.ensures.memory refl)
 
 pub returns-in-Err-clause-report : goal.returns-in-Err-clause-report
 returns-in-Err-clause-report g c = starved_report (command_of (texts c.args.words.now)) (g.F.Files.held c.args.files.now)
@@ -50,9 +50,9 @@ returns-in-Err-clause-report g c = starved_report (command_of (texts c.args.word
 pub returns-in-Err-clause-written : goal.returns-in-Err-clause-written
 returns-in-Err-clause-written g c =
     starved_written (command_of (texts c.args.words.now))
-    (effect g.F.Files.held g.F.Files.faults g.K.Sink.written g.K.Sink.faults c.args.files.now c.args.files.now c.args.out.now c.args.out.now) refl
+    (effect g.F.Files.held g.F.Files.faults g.K.Sink.written g.K.Sink.pending g.K.Sink.faults c.args.files.now c.args.files.now c.args.out.now c.args.out.now) refl
 
 pub returns-in-Err-clause-told : goal.returns-in-Err-clause-told
 returns-in-Err-clause-told g c =
     starved_told (command_of (texts c.args.words.now))
-    (effect g.F.Files.held g.F.Files.faults g.K.Sink.written g.K.Sink.faults c.args.files.now c.args.files.now c.args.out.now c.args.out.now)
+    (effect g.F.Files.held g.F.Files.faults g.K.Sink.written g.K.Sink.pending g.K.Sink.faults c.args.files.now c.args.files.now c.args.out.now c.args.out.now)

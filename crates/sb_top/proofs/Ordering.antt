@@ -1,0 +1,152 @@
+-- Each order of steps that is short enough is a replay.
+use Rattle.std.proofs.Common.{◌≡◌, ◌∙◌, refl, sym, ap, ℕ, zero, suc, ◌<◌, ◌≤◌, Bool, true, ◌&&◌, List, [], ◌∷◌, ◌++◌, length, map, replicate, Option, None, Some, arith, nat_lt, nat_le, slice_get}
+use Rattle.std.specs.List.{list_all}
+use Rattle.std.specs.Prelude.{Result, Ok, is_ok}
+use Rattle.std.proofs.lemmas.Bool.{and_parts, and_from}
+use Rattle.std.proofs.lemmas.Bool.Decides.{nat_tests}
+use Rattle.sb_book.specs.Readiness.{is_judged, is_ready}
+use Rattle.sb_core.specs.Actors.{are_there, scheduled}
+use Rattle.sb_core.specs.Laws.{OrdersAreSchedules}
+use Rattle.sb_core.specs.Runs.{ended_from, ran}
+use Rattle.sb_core.specs.Worlds.{rounds, start_world, steps}
+use Rattle.sb_core.specs.declared.runs.Ran.{Ran}
+use Rattle.sb_kernel.specs.Openings.{opened}
+use Rattle.sb_rule.specs.WellMade.{are_well_made}
+use Rattle.sb_rule.specs.declared.policies.Policy.{Policy}
+use Rattle.sb_schedule.specs.Printing.{in_order, is_actor_of_values, is_number_32}
+use Rattle.sb_schedule.specs.PrintingLaws.{OrdersAreRead, OrdersAreShort}
+use Rattle.sb_schedule.specs.ScheduleTexts as schedules
+use Rattle.sb_statements.specs.Actors.{is_step_there, is_there, thread_count}
+use Rattle.sb_statements.specs.Limits.{most_start_lines, most_targets, most_threads, most_channels}
+use Rattle.sb_statements.specs.Soundness.{SoundTargets, are_targets, is_patience, is_sound, is_start, is_target, is_thread, names_differ}
+use Rattle.sb_statements.specs.declared.schedules.Actor.{Actor}
+use Rattle.sb_statements.specs.declared.schedules.Actor.TheVariants.{Thread, Worker}
+use Rattle.sb_statements.specs.declared.schedules.Schedule.{Schedule}
+use Rattle.sb_statements.specs.declared.scripts.Script.{Script}
+use Rattle.sb_statements.specs.declared.scripts.TargetScript.{TargetScript}
+use Rattle.sb_text.specs.Steps.{◌>>=◌}
+use Rattle.sb_top.specs.Orders.{OrdersAreReplayed, ThreadedRunsAreReplayed, order_text}
+use Rattle.sb_top.specs.Reading.{most_bytes, schedule_by, text_in}
+use Rattle.sb_top.specs.Replay.{wanted_schedule, wanted_script, whole_run}
+use Rattle.sb_top.specs.Works.{Runs}
+use Rattle.sb_top.specs.declared.outcomes.Status.{Status}
+
+-- a script that is ready is sound
+ready_sound : (policies : List Policy) (script : Script) → is_ready policies script ≡ true → is_sound script ≡ true
+ready_sound policies script h =
+    (and_parts (is_sound script) (are_well_made policies)
+    (and_parts (is_sound script && are_well_made policies) (list_all (is_judged (length policies)) script.targets)
+    (and_parts (is_sound script && are_well_made policies && list_all (is_judged (length policies)) script.targets) (is_ok (opened script.start)) h).0).0).0
+
+few_targets : (script : Script) → is_sound script ≡ true → length script.targets ≤ 8
+few_targets script h =
+    let targets = (and_parts (is_patience script.patience && nat_le (length script.start) most_start_lines && list_all is_start script.start) (are_targets script.targets) h).1 in
+    let first = (and_parts (nat_le (length script.targets) most_targets && names_differ script.targets) (list_all (is_target script.targets) script.targets) targets).0 in
+    let few = (and_parts (nat_le (length script.targets) most_targets) (names_differ script.targets) first).0 in
+    grind (arith, nat_tests, few)
+
+few_threads : (targets : List TargetScript) (target : TargetScript) → is_target targets target ≡ true → length target.threads ≤ 4
+few_threads targets target h =
+    let first = (and_parts (nat_le 1 target.channels && nat_le target.channels most_channels && nat_le (length target.threads) most_threads) (list_all (is_thread targets) target.threads) h).0 in
+    let few = (and_parts (nat_le 1 target.channels && nat_le target.channels most_channels) (nat_le (length target.threads) most_threads) first).1 in
+    grind (arith, nat_tests, few)
+
+-- the numbers of an actor that is there have 32 bits
+below : (a b : ℕ) → nat_lt a b ≡ true → a < b
+below a b e = grind (arith, nat_tests)
+
+small : (n : ℕ) → n < 16 → is_number_32 n ≡ true
+small n l = grind (arith, nat_tests, l)
+
+within : {X : Type 0} (xs : List X) (i : ℕ) (x : X) → slice_get xs i ≡ Some x → i < length xs
+within [] i x e = absurd (cc)
+within (y ∷ ys) zero x e = omega arith
+within (y ∷ ys) (suc i) x e = let l = within ys i x e in omega (arith, l)
+
+actor_small : SoundTargets → (script : Script) → is_sound script ≡ true → (actor : Actor) → is_there script.targets actor ≡ true → is_actor_of_values actor ≡ true
+actor_small law script sound (Worker t) h =
+    let low = below t (length script.targets) h in
+    let few = few_targets script sound in
+    small t (omega (arith, low, few))
+actor_small law script sound (Thread t k) h = by_target (slice_get script.targets t) refl h
+  where
+    by_target : (o : Option TargetScript) → slice_get script.targets t ≡ o → nat_lt k (thread_count o) ≡ true → (is_number_32 t && is_number_32 k) ≡ true
+    by_target None e f = let low = below k 0 f in absurd (omega (arith, low))
+    by_target (Some target) e f =
+        let low = below k (length target.threads) f in
+        let few = few_threads script.targets target (law script t target sound e) in
+        let there = within script.targets t target e in
+        let count = few_targets script sound in
+        and_from (is_number_32 t) (is_number_32 k) (small t (omega (arith, there, count))) (small k (omega (arith, low, few)))
+
+actors_small : SoundTargets → (script : Script) → is_sound script ≡ true → (actors : List Actor) → are_there script.targets actors ≡ true → list_all is_actor_of_values actors ≡ true
+actors_small law script sound [] h = refl
+actors_small law script sound (actor ∷ actors) h =
+    let parts = and_parts (is_there script.targets actor) (are_there script.targets actors) h in
+    and_from (is_actor_of_values actor) (list_all is_actor_of_values actors) (actor_small law script sound actor parts.0) (actors_small law script sound actors parts.1)
+
+-- the actors of an order are those of its schedule
+entries_there : (targets : List TargetScript) (actors : List Actor) → are_there targets actors ≡ true → list_all (is_step_there targets) (map (λ actor. (actor, 1)) actors) ≡ true
+entries_there targets [] h = refl
+entries_there targets (actor ∷ actors) h =
+    let parts = and_parts (is_there targets actor) (are_there targets actors) h in
+    and_from (is_there targets actor) (list_all (is_step_there targets) (map (λ (a : Actor). (a, 1)) actors)) parts.0 (entries_there targets actors parts.1)
+
+-- and those of a schedule are there
+replicated : (targets : List TargetScript) (actor : Actor) (n : ℕ) → is_there targets actor ≡ true → are_there targets (replicate n actor) ≡ true
+replicated targets actor zero e = refl
+replicated targets actor (suc n) e = and_from (is_there targets actor) (are_there targets (replicate n actor)) e (replicated targets actor n e)
+
+all_append : (p : Actor → Bool) (xs ys : List Actor) → list_all p xs ≡ true → list_all p ys ≡ true → list_all p (xs ++ ys) ≡ true
+all_append p [] ys h k = k
+all_append p (x ∷ xs) ys h k =
+    let parts = and_parts (p x) (list_all p xs) h in
+    and_from (p x) (list_all p (xs ++ ys)) parts.0 (all_append p xs ys parts.1 k)
+
+scheduled_there : (targets : List TargetScript) (entries : List (Actor × ℕ)) → list_all (is_step_there targets) entries ≡ true → are_there targets (scheduled entries) ≡ true
+scheduled_there targets [] e = refl
+scheduled_there targets (entry ∷ entries) e =
+    let parts = and_parts (is_step_there targets entry) (list_all (is_step_there targets) entries) e in
+    all_append (is_there targets) (replicate entry.1 entry.0) (scheduled entries) (replicated targets entry.0 entry.1 parts.0) (scheduled_there targets entries parts.1)
+
+-- a short text is read
+short_text : (text : List ℕ) → length text ≤ most_bytes → text_in 3 (Some text) ≡ Ok text
+short_text text l = let e : nat_le (length text) most_bytes ≡ true = grind (arith, nat_tests, l) in rw e refl
+
+module _ (read : OrdersAreRead) (short : OrdersAreShort) (orders : OrdersAreSchedules) (targets : SoundTargets) where
+  -- the run by an order
+  order_run : (policies : List Policy) (script : Script) (actors : List Actor)
+      → whole_run policies script (in_order actors 0) ≡ ended_from script (steps script actors (start_world policies script))
+  unfolding whole_run
+  order_run policies script actors = ap (λ (l : List Actor). ended_from script (steps script l (start_world policies script))) (orders actors)
+
+  pub orders_are_replayed : OrdersAreReplayed
+  orders_are_replayed policy name order held policies script actors hp hs ho ready there few =
+      let values = actors_small targets script (ready_sound policies script ready) actors there in
+      let size : length (order_text actors) ≤ most_bytes = short actors 0 values few (omega arith) in
+      let is = read script.targets actors 0 there values few (omega arith) in
+      record {
+        short = size;
+        wanted = ap (λ (r : Result (List Policy) Status). r >>= λ (policies : List Policy). wanted_script name (Some order) policies held) hp
+            ∙ (ap (λ (r : Result Script Status). r >>= λ (script : Script). wanted_schedule policies (Some order) script held) hs
+            ∙ (ap (λ (o : Option (List ℕ)). (text_in 3 o >>= λ (text : List ℕ). schedule_by (schedules.reading script.targets text)) >>= λ (schedule : Schedule). Ok (Runs policies script schedule)) ho
+            ∙ (ap (λ (r : Result (List ℕ) Status). (r >>= λ (text : List ℕ). schedule_by (schedules.reading script.targets text)) >>= λ (schedule : Schedule). Ok (Runs policies script schedule)) (short_text (order_text actors) size)
+            ∙ ap (λ r. schedule_by r >>= λ (schedule : Schedule). Ok (Runs policies script schedule)) is)));
+        can = record { ready = ready; there = entries_there script.targets actors there };
+        is = order_run policies script actors;
+      }
+
+  -- the run by a schedule without rounds is that by its order
+  same_run : (policies : List Policy) (script : Script) (schedule : Schedule) → schedule.rounds ≡ 0
+      → ran policies script schedule ≡ whole_run policies script (in_order (scheduled schedule.steps) 0)
+  same_run policies script schedule e =
+      ap (λ (n : ℕ). ended_from script (rounds n script (steps script (scheduled schedule.steps) (start_world policies script)))) e
+      ∙ sym (order_run policies script (scheduled schedule.steps))
+
+  pub threaded_runs_are_replayed : ThreadedRunsAreReplayed
+  threaded_runs_are_replayed policy name order held policies script report some hp hs ho few =
+      let same = same_run policies script some.schedule some.no_rounds in (
+        orders_are_replayed policy name order held policies script (scheduled some.schedule.steps) hp hs ho some.can.ready (scheduled_there script.targets some.schedule.steps some.can.there) few,
+        some.is ∙ ap (λ (r : Ran). r.report) same,
+        sym (ap (λ (r : Ran). r.unfinished) same) ∙ some.finished,
+      )
