@@ -56,7 +56,7 @@ def replay(folder, schedule=()):
     return seconds, usage.ru_maxrss * 1024
 
 
-def told_by_sandbox(folder, words):
+def outcome_of_sandbox(folder, words):
     """Runs `sandbox` in a folder: the seconds that it took, its exit status, and what it wrote to both outputs."""
     start = processor_seconds()
     ended = subprocess.run([SANDBOX] + words, cwd=folder, capture_output=True, text=True)
@@ -69,7 +69,7 @@ def bench_words(work, rounds, folder):
     return [os.path.join(BENCH, "out", "sb_bench"), work, str(rounds)] + files
 
 
-def check_told(work, rounds, line, told):
+def check_line(work, rounds, line, told):
     if line != "%s: %s\n" % (work, told):
         fail("%s in %d rounds put %r, not %r" % (work, rounds, line, told))
 
@@ -81,7 +81,7 @@ def seconds_of(runs, work, rounds, told, folder):
         start = processor_seconds()
         line = subprocess.run(bench_words(work, rounds, folder), check=True, stdout=subprocess.PIPE, text=True).stdout
         seconds.append(processor_seconds() - start)
-        check_told(work, rounds, line, told)
+        check_line(work, rounds, line, told)
     return min(seconds)
 
 
@@ -111,5 +111,5 @@ def peak(work, rounds, told, folder):
     with open(out, "rb") as file:
         line = file.read()[filled:].decode()
     child.wait()
-    check_told(work, rounds, line, told)
+    check_line(work, rounds, line, told)
     return int(status["VmHWM"].split()[0]) * 1024

@@ -46,7 +46,7 @@ def best_of(runs, folder, words, wanted):
     """The seconds of the best run of `sandbox` with these words, which ends with this status and writes these outputs."""
     seconds = []
     for _ in range(runs):
-        spent, told = programs.told_by_sandbox(folder, words)
+        spent, told = programs.outcome_of_sandbox(folder, words)
         seconds.append(spent)
         if told != wanted:
             programs.fail("`sandbox %s` ended with status %d and %r, not as it ought to" % (" ".join(words), told[0], told[2]))

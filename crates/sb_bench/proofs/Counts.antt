@@ -1,4 +1,4 @@
--- How many results there are where one thread has all of them.
+-- How many results there are if one thread has all of them.
 use Rattle.std.proofs.Common.{◌≡◌, ◌<◌, ◌^◌, List, [], ◌∷◌, length, arith}
 use Rattle.sb_book.specs.Reports.{result_count}
 use Rattle.sb_statements.specs.declared.results.StmtResult.{StmtResult}

@@ -6,7 +6,7 @@ use crate::failures::Failure;
 use crate::inputs::{Inputs, statements_of};
 use crate::outcomes::told_outcomes;
 use crate::steps::{Step, copy_of_call, steps};
-use sb_block::Taken;
+use sb_block::BlockCopy;
 use sb_book::{Book, decide};
 use sb_call::{Arg, CallTag};
 use sb_compile::Programs;
@@ -18,27 +18,26 @@ use std::alloc::Global;
 /// faults, in turn and again from the first. A close of handle 0, which is never granted, stands for one of the handle that
 /// was granted last.
 pub fn answers(alloc: Global, inputs: &Inputs, count: u64) -> Result<String, Failure> {
-    let steps = steps(alloc, statements_of(&inputs.script, 0))?;
+    let steps = steps(alloc, statements_of(inputs.ready.script(), 0))?;
     let book = answered(alloc, inputs, &steps, count)?;
     told_outcomes(alloc, book.entries())
 }
 
 /// A new book after this many copies were answered.
-#[tactic(auto, using(crate::proofs::Ready::ready_made))]
 pub fn answered(
     alloc: Global,
     inputs: &Inputs,
     steps: &[Step],
     count: u64,
 ) -> Result<Book, Failure> {
-    let [target, ..] = inputs.script.targets.as_slice() else {
+    let [target, ..] = inputs.ready.script().targets.as_slice() else {
         return Err(Failure::BadInput);
     };
     if target.channels == 0 {
         return Err(Failure::BadInput);
     }
-    let judge = Programs::new(alloc, &inputs.policies, &inputs.script)?;
-    let mut book = Book::new(alloc, &inputs.policies, &inputs.script)?;
+    let judge = Programs::new(alloc, inputs.ready.policies(), inputs.ready.script())?;
+    let mut book = Book::new(alloc, &inputs.ready, inputs.ready.open(alloc)?);
     answer_steps(alloc, &judge, &mut book, steps, count)?;
     Ok(book)
 }
@@ -68,7 +67,7 @@ fn answer_steps<J: Judge>(
     Ok(())
 }
 
-// Answers the copy of a step, where the handle was granted last, and gives the handle that is now granted last.
+// Answers the copy of a step, if the handle was granted last, and gives the handle that is now granted last.
 fn answer_step<J: Judge>(
     alloc: Global,
     judge: &J,
@@ -99,7 +98,7 @@ fn answer<J: Judge>(
     alloc: Global,
     judge: &J,
     book: &mut Book,
-    taken: &Taken,
+    taken: &BlockCopy,
 ) -> Result<u64, NoMemory>
     requires { CanAnswer (J.policies judge.now) book.old }
     ensures { OnOk result (CanAnswer (J.policies judge.now) book.new) }

@@ -3,7 +3,7 @@ ghost use Rattle.std.specs.Prelude.{◌≤◌, length};
 
 use crate::failures::Failure;
 use crate::inputs::{Inputs, statements_of};
-use sb_block::{BlockRefused, Taken, Words, decode, encode, fault_of};
+use sb_block::{BlockCopy, BlockRefused, Words, decode, encode, fault_of};
 use sb_call::{Arg, CallTag, fits};
 use sb_statements::Statement;
 use sb_wide::NoMemory;
@@ -15,7 +15,7 @@ const FIRST_MARK: u64 = 65536;
 /// Looks for the fault of each copy and decodes it, in these rounds. The copies are those of the blocks of the first
 /// thread's calls, of which every second one has one word changed, which makes it faulty.
 pub fn decodings(alloc: Global, inputs: &Inputs, rounds: u64) -> Result<String, Failure> {
-    let copies = copies_of(alloc, statements_of(&inputs.script, 0))?;
+    let copies = copies_of(alloc, statements_of(inputs.ready.script(), 0))?;
     let mut faultless: u64 = 0;
     let mut calls: u64 = 0;
     for _round in 0..rounds {
@@ -30,7 +30,7 @@ pub fn decodings(alloc: Global, inputs: &Inputs, rounds: u64) -> Result<String, 
     Ok(format!(in alloc; "copies {many} faultless {faultless} calls {calls}")?)
 }
 
-fn copies_of(alloc: Global, statements: &[Statement]) -> Result<Vec<Taken>, Failure> {
+fn copies_of(alloc: Global, statements: &[Statement]) -> Result<Vec<BlockCopy>, Failure> {
     let mut copies = Vec::new(alloc);
     for (statement, number) in statements.iter().zip(0..u64::MAX) {
         copies.push(copy_numbered(statement, number)?)?;
@@ -38,7 +38,7 @@ fn copies_of(alloc: Global, statements: &[Statement]) -> Result<Vec<Taken>, Fail
     Ok(copies)
 }
 
-fn copy_numbered(statement: &Statement, number: u64) -> Result<Taken, Failure> {
+fn copy_numbered(statement: &Statement, number: u64) -> Result<BlockCopy, Failure> {
     let Statement::Call { tag, args } = statement else {
         return Err(Failure::BadInput);
     };
@@ -50,7 +50,7 @@ fn copy_numbered(statement: &Statement, number: u64) -> Result<Taken, Failure> {
 }
 
 // The copy of a block with one word changed: in turn the tag, the count and the first parameter.
-fn spoiled(block: &[u64], number: u64) -> Result<Taken, Failure>
+fn spoiled(block: &[u64], number: u64) -> Result<BlockCopy, Failure>
     requires { length block.now ≤ 64 }
 {
     match number % 3 {
@@ -69,7 +69,7 @@ pub fn block_of(tag: CallTag, args: &[Arg], mark: u64) -> Result<Words, Failure>
 }
 
 /// The copy of a block with another word at a place.
-pub fn changed_copy(block: &[u64], place: usize, word: u64) -> Result<Taken, Failure>
+pub fn changed_copy(block: &[u64], place: usize, word: u64) -> Result<BlockCopy, Failure>
     requires { length block.now ≤ 64 }
 {
     match changed(block, place, word) {
@@ -78,7 +78,7 @@ pub fn changed_copy(block: &[u64], place: usize, word: u64) -> Result<Taken, Fai
     }
 }
 
-// The words with another one at a place, where there is that place.
+// The words with another one at a place, if there is that place.
 fn changed(block: &[u64], place: usize, word: u64) -> Option<Words>
     requires { length block.now ≤ 64 }
 {
@@ -94,17 +94,17 @@ fn changed(block: &[u64], place: usize, word: u64) -> Option<Words>
     Some(words)
 }
 
-/// The copy of these words, where the count of the block was seen before.
-pub fn copy_of(block: &[u64], words: Words) -> Result<Taken, Failure> {
+/// The copy of these words, if the count of the block was seen before.
+pub fn copy_of(block: &[u64], words: Words) -> Result<BlockCopy, Failure> {
     let Some(count) = block.get(2) else {
         return Err(Failure::BadInput);
     };
     let end = words.len() as u64;
-    Taken::of(*count, end, words).ok_or(Failure::BadInput)
+    BlockCopy::of(*count, end, words).ok_or(Failure::BadInput)
 }
 
 // How many copies give a call.
-fn decoded_copies(alloc: Global, copies: &[Taken]) -> Result<u64, NoMemory> {
+fn decoded_copies(alloc: Global, copies: &[BlockCopy]) -> Result<u64, NoMemory> {
     let mut calls: u64 = 0;
     for copy in copies {
         match decode(alloc, copy) {

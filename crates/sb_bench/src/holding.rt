@@ -2,7 +2,8 @@
 ghost use Rattle.std.specs.Prelude.{◌≤◌};
 
 use crate::failures::Failure;
-use sb_handles::{HandleTable, Held, Object, Service};
+use bitflags::Flags;
+use sb_handles::{Access, HandleTable, Held, Object, Service, Sharing};
 use sb_wide::NoMemory;
 use std::alloc::Global;
 
@@ -62,8 +63,8 @@ fn held_at(number: u64) -> Held {
             service: Service::Event,
             number,
         },
-        access: 0x10_0000,
-        sharing: 7,
+        access: Access::from_bits_retain(0x10_0000),
+        sharing: Sharing::ALL,
     }
 }
 

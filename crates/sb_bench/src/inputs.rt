@@ -1,10 +1,8 @@
 // The policies and the script that a work is done on.
-ghost use Rattle.std.specs.Prelude.{◌≡◌, true};
-ghost use Rattle.sb_book.specs.Readiness.{is_ready};
 
 use crate::failures::Failure;
+use sb_book::ReadyScript;
 use sb_call::Arg;
-use sb_rule::Policies;
 use sb_ruletext::read_policies;
 use sb_script::read_script;
 use sb_statements::{Script, Statement};
@@ -19,11 +17,8 @@ const MOST_BYTES: usize = 4_194_304;
 /// Policies and a script that is ready for them.
 #[derive(Drop)]
 pub struct Inputs {
-    /// The policies.
-    pub policies: Policies,
-    /// The script.
-    pub script: Script,
-    ghost ready: { is_ready policies.list script ≡ true },
+    /// Both of them.
+    pub ready: ReadyScript,
 }
 
 /// The policies and the script in the files of these names.
@@ -47,11 +42,13 @@ fn inputs_by(alloc: Global, policy: &[u8], script: &[u8]) -> Result<Inputs, Fail
         return Err(Failure::BadInput);
     }
     let policies = read_policies(alloc, policy)?;
-    let script = read_script(alloc, script, &policies)?;
-    Ok(Inputs { policies, script })
+    let opened = read_script(alloc, script, policies)?;
+    Ok(Inputs {
+        ready: opened.into_parts().0,
+    })
 }
 
-/// The statements of a thread of the first target, or none where it has no such thread.
+/// The statements of a thread of the first target, or none if it has no such thread.
 pub fn statements_of(script: &Script, thread: usize) -> &[Statement] {
     let [target, ..] = script.targets.as_slice() else {
         return &[];

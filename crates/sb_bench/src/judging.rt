@@ -6,7 +6,6 @@ use crate::failures::Failure;
 use crate::inputs::{Inputs, statements_of};
 use sb_call::{Args, CallTag, fits};
 use sb_compile::{Program, compile};
-use sb_items::Copies;
 use sb_rule::{Action, Policy, Verdict, verdict_plain, well_made};
 use sb_statements::Statement;
 use std::alloc::Global;
@@ -21,8 +20,8 @@ struct FitCall {
 
 /// Judges the calls of the first thread by the program of the first policy, in these rounds.
 pub fn verdicts_by_code(alloc: Global, inputs: &Inputs, rounds: u64) -> Result<String, Failure> {
-    let calls = calls_of(alloc, statements_of(&inputs.script, 0))?;
-    let [policy, ..] = inputs.policies.list.as_slice() else {
+    let calls = calls_of(alloc, statements_of(inputs.ready.script(), 0))?;
+    let [policy, ..] = inputs.ready.policies().policies().list.as_slice() else {
         return Err(Failure::BadInput);
     };
     if !well_made(policy) {
@@ -33,23 +32,23 @@ pub fn verdicts_by_code(alloc: Global, inputs: &Inputs, rounds: u64) -> Result<S
     for _round in 0..rounds {
         allowed = allowed.saturating_add(allowed_by_code(&program, &calls));
     }
-    told(alloc, &calls, allowed)
+    allowed_line(alloc, &calls, allowed)
 }
 
 /// Judges the calls of the first thread by the rules of the first policy, in these rounds.
 pub fn verdicts_by_rules(alloc: Global, inputs: &Inputs, rounds: u64) -> Result<String, Failure> {
-    let calls = calls_of(alloc, statements_of(&inputs.script, 0))?;
-    let [policy, ..] = inputs.policies.list.as_slice() else {
+    let calls = calls_of(alloc, statements_of(inputs.ready.script(), 0))?;
+    let [policy, ..] = inputs.ready.policies().policies().list.as_slice() else {
         return Err(Failure::BadInput);
     };
     let mut allowed: u64 = 0;
     for _round in 0..rounds {
         allowed = allowed.saturating_add(allowed_by_rules(policy, &calls));
     }
-    told(alloc, &calls, allowed)
+    allowed_line(alloc, &calls, allowed)
 }
 
-fn told(alloc: Global, calls: &[FitCall], allowed: u64) -> Result<String, Failure> {
+fn allowed_line(alloc: Global, calls: &[FitCall], allowed: u64) -> Result<String, Failure> {
     let many = calls.len();
     Ok(format!(in alloc; "calls {many} allowed {allowed}")?)
 }
@@ -67,7 +66,7 @@ fn fit_call(alloc: Global, statement: &Statement) -> Result<FitCall, Failure> {
         return Err(Failure::BadInput);
     };
     let tag = *tag;
-    let args = args.copy(alloc)?;
+    let args = args.clone()?;
     if !fits(tag, args.as_slice()) {
         return Err(Failure::BadInput);
     }

@@ -9,8 +9,8 @@ use std::alloc::Global;
 
 /// Matches each pattern of the policies with the name of each call of the first thread, in these rounds.
 pub fn matches(alloc: Global, inputs: &Inputs, rounds: u64) -> Result<String, Failure> {
-    let patterns = patterns_of(alloc, inputs.policies.list.as_slice())?;
-    let names = names_of(alloc, statements_of(&inputs.script, 0))?;
+    let patterns = patterns_of(alloc, inputs.ready.policies().policies().list.as_slice())?;
+    let names = names_of(alloc, statements_of(inputs.ready.script(), 0))?;
     let mut matched: u64 = 0;
     for _round in 0..rounds {
         matched = matched.saturating_add(matched_pairs(&patterns, &names));

@@ -10,7 +10,7 @@ use std::alloc::Global;
 
 /// Makes a tree of the names of the first thread's calls, in their order, in these rounds.
 pub fn adds(alloc: Global, inputs: &Inputs, rounds: u64) -> Result<String, Failure> {
-    let names = names_of(alloc, statements_of(&inputs.script, 0))?;
+    let names = names_of(alloc, statements_of(inputs.ready.script(), 0))?;
     let mut added: u64 = 0;
     for _round in 0..rounds {
         let mut tree = NameTree::new(alloc);
@@ -23,7 +23,7 @@ pub fn adds(alloc: Global, inputs: &Inputs, rounds: u64) -> Result<String, Failu
 /// Looks for the names of the second thread's calls in the tree of those of the first thread's, in these rounds.
 pub fn finds(alloc: Global, inputs: &Inputs, rounds: u64) -> Result<String, Failure> {
     let tree = tree_of(alloc, inputs)?;
-    let names = names_of(alloc, statements_of(&inputs.script, 1))?;
+    let names = names_of(alloc, statements_of(inputs.ready.script(), 1))?;
     let mut found: u64 = 0;
     for _round in 0..rounds {
         found = found.saturating_add(found_names(&tree, &names));
@@ -35,7 +35,7 @@ pub fn finds(alloc: Global, inputs: &Inputs, rounds: u64) -> Result<String, Fail
 /// Makes the renames of the third thread's calls in the tree of the names of the first thread's, in these rounds.
 pub fn renames(alloc: Global, inputs: &Inputs, rounds: u64) -> Result<String, Failure> {
     let mut tree = tree_of(alloc, inputs)?;
-    let moves = moves_of(alloc, statements_of(&inputs.script, 2))?;
+    let moves = moves_of(alloc, statements_of(inputs.ready.script(), 2))?;
     let mut renamed: u64 = 0;
     for _round in 0..rounds {
         renamed = renamed.saturating_add(rename_all(&mut tree, &moves)?);
@@ -46,7 +46,7 @@ pub fn renames(alloc: Global, inputs: &Inputs, rounds: u64) -> Result<String, Fa
 
 // The tree of the names of the first thread's calls.
 fn tree_of(alloc: Global, inputs: &Inputs) -> Result<NameTree, Failure> {
-    let names = names_of(alloc, statements_of(&inputs.script, 0))?;
+    let names = names_of(alloc, statements_of(inputs.ready.script(), 0))?;
     let mut tree = NameTree::new(alloc);
     add_all(&mut tree, &names)?;
     Ok(tree)

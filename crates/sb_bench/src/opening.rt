@@ -1,7 +1,8 @@
 // One object that is opened many times: by handles held at once, and by handles each closed again.
 
 use crate::failures::Failure;
-use sb_handles::{ShareRefused, ShareTable};
+use bitflags::Flags;
+use sb_handles::{Access, ShareRefused, ShareTable, Sharing};
 use sb_wide::NoMemory;
 use std::alloc::Global;
 
@@ -9,10 +10,7 @@ use std::alloc::Global;
 const MANY: u64 = 65_536;
 
 // Reading, by a generic right.
-const READ: u64 = 0x8000_0000;
-
-// Reading, writing and deleting are shared.
-const ALL: u64 = 7;
+const READ: u32 = 0x8000_0000;
 
 /// Opens one object with handles that are all held, in these rounds.
 pub fn held(alloc: Global, rounds: u64) -> Result<String, Failure> {
@@ -39,9 +37,9 @@ pub fn closed(alloc: Global, rounds: u64) -> Result<String, Failure> {
     Ok(format!(in alloc; "opened {opened}")?)
 }
 
-// Opens the object under a handle, and gives 1 if no other conflicts.
+// Opens the object under a handle, shared for all that others may do, and gives 1 if no other conflicts.
 fn open(shares: &mut ShareTable, handle: u64) -> Result<u64, NoMemory> {
-    match shares.try_open(1, handle, READ, ALL) {
+    match shares.try_open(1, handle, Access::from_bits_retain(READ), Sharing::ALL) {
         Ok(()) => Ok(1),
         Err(ShareRefused::Conflict { .. }) => Ok(0),
         Err(ShareRefused::NoMemory) => Err(NoMemory),

@@ -2,7 +2,7 @@
 
 use crate::decoding::{block_of, changed_copy, copy_of};
 use crate::failures::Failure;
-use sb_block::Taken;
+use sb_block::BlockCopy;
 use sb_call::{Arg, CallTag};
 use sb_statements::Statement;
 use std::alloc::Global;
@@ -18,7 +18,7 @@ const FAULTS: [(usize, u64); 4] = [(0, 99), (2, 9), (15, u64::MAX), (17, 0)];
 #[derive(Drop)]
 pub enum Step {
     /// This copy.
-    Copy(Taken),
+    Copy(BlockCopy),
     /// A close of the handle that was granted last.
     CloseLast,
 }
@@ -51,7 +51,7 @@ fn step_of(statement: &Statement, mark: u64) -> Result<Step, Failure> {
 }
 
 /// The copy of a call's whole block.
-pub fn copy_of_call(tag: CallTag, args: &[Arg], mark: u64) -> Result<Taken, Failure> {
+pub fn copy_of_call(tag: CallTag, args: &[Arg], mark: u64) -> Result<BlockCopy, Failure> {
     let block = block_of(tag, args, mark)?;
     copy_of(block.as_slice(), block.copy())
 }

@@ -6,7 +6,7 @@ use crate::answering::answered;
 use crate::failures::Failure;
 use crate::inputs::{Inputs, statements_of};
 use crate::steps::steps;
-use sb_book::{AllWords, Entry, Report, Results, TargetResults, ThreadResults};
+use sb_book::{AllWords, EntrySlice, Report, Results, TargetResults, ThreadResults};
 use sb_outside::{Bytes, MemSink, put_lines};
 use sb_statements::{CallResult, Script, StmtResult};
 use sb_transcript::{entry_line, result_line, totals, transcript_lines};
@@ -22,7 +22,7 @@ pub fn transcripts(alloc: Global, inputs: &Inputs, rounds: u64) -> Result<String
     let report = report_of_calls(alloc, inputs)?;
     let mut lines = 0;
     for _round in 0..rounds {
-        lines = put_once(alloc, &inputs.script, &report)?;
+        lines = put_once(alloc, inputs.ready.script(), &report)?;
     }
     Ok(format!(in alloc; "lines {lines}")?)
 }
@@ -32,7 +32,7 @@ pub fn transcripts_apart(alloc: Global, inputs: &Inputs, rounds: u64) -> Result<
     let report = report_of_calls(alloc, inputs)?;
     let mut lines = 0;
     for _round in 0..rounds {
-        lines = put_apart(alloc, &inputs.script, &report)?;
+        lines = put_apart(alloc, inputs.ready.script(), &report)?;
     }
     Ok(format!(in alloc; "lines {lines}")?)
 }
@@ -41,7 +41,7 @@ pub fn transcripts_apart(alloc: Global, inputs: &Inputs, rounds: u64) -> Result<
 fn report_of_calls(alloc: Global, inputs: &Inputs) -> Result<Report, Failure>
     ensures { IfOk result (λ report. result_count report.results < 2 ^ 62) }
 {
-    let steps = steps(alloc, statements_of(&inputs.script, 0))?;
+    let steps = steps(alloc, statements_of(inputs.ready.script(), 0))?;
     let book = answered(alloc, inputs, &steps, CALLS)?;
     let (entries, kernel) = book.into_parts();
     let results = results_of(alloc, entries.as_slice())?;
@@ -54,15 +54,17 @@ fn report_of_calls(alloc: Global, inputs: &Inputs) -> Result<Report, Failure>
 }
 
 // The results of one thread whose calls these entries answered.
-fn results_of(alloc: Global, entries: &[Entry]) -> Result<Results, Failure>
+fn results_of(alloc: Global, entries: EntrySlice<'_>) -> Result<Results, Failure>
     ensures { IfOk result (λ results. result_count results < 2 ^ 62) }
 {
     let mut replies = Vec::new(alloc);
-    for entry in entries {
-        replies.push(StmtResult::Call(CallResult::Reply {
-            channel: entry.channel,
-            reply: entry.reply.copy(),
-        }))?;
+    for place in 0..entries.len() {
+        if let Some(entry) = entries.get(place) {
+            replies.push(StmtResult::Call(CallResult::Reply {
+                channel: entry.channel(),
+                reply: entry.reply(),
+            }))?;
+        }
     }
     if replies.len() as u64 > CALLS {
         return Err(Failure::BadInput);
@@ -118,12 +120,14 @@ fn put_apart(alloc: Global, script: &Script, report: &Report) -> Result<usize, F
 fn push_entries(
     alloc: Global,
     script: &Script,
-    entries: &[Entry],
+    entries: EntrySlice<'_>,
     lines: &mut Vec<Bytes>,
 ) -> Result<(), NoMemory> {
-    for (n, entry) in entries.iter().enumerate() {
-        let line = entry_line(alloc, script, n as u64, entry)?;
-        lines.push(Bytes::new(line))?;
+    for place in 0..entries.len() {
+        if let Some(entry) = entries.get(place) {
+            let line = entry_line(alloc, script, place as u64, &entry)?;
+            lines.push(Bytes::new(line))?;
+        }
     }
     Ok(())
 }

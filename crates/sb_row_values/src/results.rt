@@ -11,108 +11,45 @@ pub fn statement_result(alloc: Global, text: &str) -> Result<StmtResult, RowFaul
 }
 
 fn result_of(words: &[&str]) -> Result<StmtResult, RowFault> {
-    let [name, rest @ ..] = words else {
-        return Err(RowFault::BadWords);
-    };
-    match *name {
-        "stored" | "Stored" => stored(rest),
-        "found" | "Found" => found(rest),
-        "met" | "Met" => met(rest),
-        "unmet" | "Unmet" => unmet(rest),
-        _ => called(words),
-    }
-}
-
-fn stored(words: &[&str]) -> Result<StmtResult, RowFault> {
     match words {
-        [] => Ok(StmtResult::Stored),
+        ["stored" | "Stored"] => Ok(StmtResult::Stored),
+        ["found" | "Found", value] => Ok(StmtResult::Found(number(value)?)),
+        ["met" | "Met", loads] => Ok(StmtResult::Met {
+            loads: small(loads)?,
+        }),
+        ["unmet" | "Unmet", loads] => Ok(StmtResult::Unmet {
+            loads: small(loads)?,
+        }),
+        ["no-channel" | "NoChannel"] => Ok(StmtResult::Call(CallResult::NoChannel)),
+        [name, channel, rest @ ..] => Ok(StmtResult::Call(on_channel(
+            name,
+            small(channel)?,
+            rest,
+        )?)),
         _ => Err(RowFault::BadWords),
     }
 }
 
-fn found(words: &[&str]) -> Result<StmtResult, RowFault> {
-    match words {
-        [value] => Ok(StmtResult::Found(number(value)?)),
-        _ => Err(RowFault::BadWords),
-    }
-}
-
-fn called(words: &[&str]) -> Result<StmtResult, RowFault> {
-    Ok(StmtResult::Call(call_result(words)?))
-}
-
-fn met(words: &[&str]) -> Result<StmtResult, RowFault> {
-    let [loads] = words else {
-        return Err(RowFault::BadWords);
-    };
-    let loads = small(loads)?;
-    Ok(StmtResult::Met { loads })
-}
-
-fn unmet(words: &[&str]) -> Result<StmtResult, RowFault> {
-    let [loads] = words else {
-        return Err(RowFault::BadWords);
-    };
-    let loads = small(loads)?;
-    Ok(StmtResult::Unmet { loads })
-}
-
-fn call_result(words: &[&str]) -> Result<CallResult, RowFault> {
-    match words {
-        [name] => without_channel(name),
-        [name, channel, rest @ ..] => on_channel(name, small(channel)?, rest),
-        _ => Err(RowFault::BadWords),
-    }
-}
-
-fn without_channel(name: &str) -> Result<CallResult, RowFault> {
-    match name {
-        "no-channel" | "NoChannel" => Ok(CallResult::NoChannel),
-        _ => Err(RowFault::BadWords),
-    }
-}
-
+// What became of a call on a channel.
 fn on_channel(name: &str, channel: u32, words: &[&str]) -> Result<CallResult, RowFault> {
-    match name {
-        "reply" => replied_on(channel, words),
-        "Reply" => bare_reply_on(channel, words),
-        "send-lost" | "SendLost" => send_lost(channel, words),
-        "foreign" | "Foreign" => foreign(channel, words),
-        "timed-out" | "TimedOut" => timed_out(channel, words),
-        _ => Err(RowFault::BadWords),
-    }
-}
-
-fn replied_on(channel: u32, words: &[&str]) -> Result<CallResult, RowFault> {
-    let reply = reply_of(words)?;
-    Ok(CallResult::Reply { channel, reply })
-}
-
-// A reply with the mark 0.
-fn bare_reply_on(channel: u32, words: &[&str]) -> Result<CallResult, RowFault> {
-    let reply = bare_reply(0, words)?;
-    Ok(CallResult::Reply { channel, reply })
-}
-
-fn send_lost(channel: u32, words: &[&str]) -> Result<CallResult, RowFault> {
-    let [found] = words else {
-        return Err(RowFault::BadWords);
-    };
-    let found = number(found)?;
-    Ok(CallResult::SendLost { channel, found })
-}
-
-fn foreign(channel: u32, words: &[&str]) -> Result<CallResult, RowFault> {
-    let [mark] = words else {
-        return Err(RowFault::BadWords);
-    };
-    let mark = number(mark)?;
-    Ok(CallResult::Foreign { channel, mark })
-}
-
-fn timed_out(channel: u32, words: &[&str]) -> Result<CallResult, RowFault> {
-    match words {
-        [] => Ok(CallResult::TimedOut { channel }),
+    match (name, words) {
+        ("reply", words) => Ok(CallResult::Reply {
+            channel,
+            reply: reply_of(words)?,
+        }),
+        ("Reply", words) => Ok(CallResult::Reply {
+            channel,
+            reply: bare_reply(0, words)?,
+        }),
+        ("send-lost" | "SendLost", [found]) => Ok(CallResult::SendLost {
+            channel,
+            found: number(found)?,
+        }),
+        ("foreign" | "Foreign", [mark]) => Ok(CallResult::Foreign {
+            channel,
+            mark: number(mark)?,
+        }),
+        ("timed-out" | "TimedOut", []) => Ok(CallResult::TimedOut { channel }),
         _ => Err(RowFault::BadWords),
     }
 }

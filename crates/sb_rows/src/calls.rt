@@ -22,7 +22,7 @@ pub fn arg(alloc: Global, word: &str) -> Result<Arg, RowFault> {
 
 /// Arguments, a word each.
 pub fn args(alloc: Global, words: &[&str]) -> Result<Args, RowFault> {
-    let mut found = Args::new(Vec::new(alloc));
+    let mut found = Args::empty(alloc);
     for word in words {
         found.push(arg(alloc, word)?)?;
     }

@@ -1,7 +1,7 @@
 // What is wrong with a row.
 
+use sb_items::NoMemory;
 use sb_pattern::PatternRefused;
-use sb_wide::NoMemory;
 use std::alloc::{AllocError, AllocFailed};
 use thiserror::Error;
 
@@ -11,7 +11,7 @@ pub enum RowFault {
     /// No function has this name and this number of arguments.
     #[error("no function of this name takes that many arguments")]
     Unknown,
-    /// A number is neither decimal nor hexadecimal behind `0x`, or too large.
+    /// A number is neither decimal nor hexadecimal after `0x`, or too large.
     #[error("bad number")]
     BadNumber,
     /// Braces hold no unit.

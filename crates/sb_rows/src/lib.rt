@@ -13,8 +13,8 @@ pub use calls::{arg, args, args_in, call, param, put_word, short_name, tag};
 pub use escapes::{bytes, put_escaped};
 pub use faults::RowFault;
 pub use lines::{is_row, told_row};
-pub use readers::{arguments, number, told, wide};
+pub use readers::{arguments, debug_text, number, wide};
 pub use units::{
-    displayed, numbers, put_between, put_number, put_quoted, put_units, quoted, small, unit,
+    display_text, numbers, put_between, put_number, put_quoted, put_units, quoted, small, unit,
     unquoted, word_units, words_in,
 };

@@ -8,7 +8,7 @@ pub fn is_row(line: &str) -> bool {
     !line.is_empty() && !line.starts_with('#')
 }
 
-/// What is printed of a row: the row, and behind it its value, or its fault.
+/// What is printed of a row: the row, and after it its value, or its fault.
 pub fn told_row(
     alloc: Global,
     row: &str,

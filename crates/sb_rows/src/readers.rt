@@ -1,7 +1,7 @@
 // A reader for each type of an argument.
 
 use crate::faults::RowFault;
-use sb_wide::{Wide, units, wide_of};
+use sb_wide::Wide;
 use std::alloc::Global;
 use std::fmt::Debug;
 
@@ -14,7 +14,7 @@ pub fn arguments<'a>(alloc: Global, rest: &'a str) -> Result<Vec<&'a str>, RowFa
     Ok(parts)
 }
 
-/// A number, in decimal digits, or in hexadecimal ones behind `0x`.
+/// A number, in decimal digits, or in hexadecimal ones after `0x`.
 pub fn number(text: &str) -> Result<u64, RowFault> {
     let read = match text.strip_prefix("0x") {
         Some(digits) => u64::from_str_radix(digits, 16),
@@ -37,11 +37,11 @@ pub fn wide(alloc: Global, text: &str) -> Result<Wide, RowFault> {
         put_units(unit, &mut found)?;
         put_text(alloc, after, &mut found)?;
     }
-    Ok(wide_of(alloc, &found)?)
+    Ok(Wide::from_units(alloc, &found)?)
 }
 
 fn put_text(alloc: Global, text: &str, found: &mut Vec<u16>) -> Result<(), RowFault> {
-    found.extend_from_slice(units(alloc, text)?.as_units())?;
+    found.extend_from_slice(Wide::from_str(alloc, text)?.as_units())?;
     Ok(())
 }
 
@@ -55,6 +55,6 @@ fn put_units(text: &str, found: &mut Vec<u16>) -> Result<(), RowFault> {
 }
 
 /// A value as its `Debug` writes it.
-pub fn told<T: Debug>(alloc: Global, value: &T) -> Result<String, RowFault> {
+pub fn debug_text<T: Debug>(alloc: Global, value: &T) -> Result<String, RowFault> {
     Ok(format!(in alloc; "{value:?}")?)
 }

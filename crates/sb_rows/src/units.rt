@@ -52,7 +52,7 @@ pub fn word_units(alloc: Global, word: &str) -> Result<Wide, RowFault> {
     wide(alloc, unquoted(word).unwrap_or(word))
 }
 
-// The letter that a unit is written as, or none where it is written by its number.
+// The letter that a unit is written as, or none if it is written by its number.
 fn letter(unit: u16) -> Option<char> {
     let byte = u8::try_from(unit).ok()?;
     match byte {
@@ -108,6 +108,6 @@ pub fn put_between(out: &mut String, separator: &str) -> Result<(), RowFault> {
 }
 
 /// A value as its `Display` writes it.
-pub fn displayed<T: Display>(alloc: Global, value: &T) -> Result<String, RowFault> {
+pub fn display_text<T: Display>(alloc: Global, value: &T) -> Result<String, RowFault> {
     Ok(format!(in alloc; "{value}")?)
 }

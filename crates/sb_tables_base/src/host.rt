@@ -1,10 +1,10 @@
-// Rows of files and outputs of the system, and of what the program tells of itself.
+// Table tests of files and outputs of the system, and of what the program tells of itself.
 
 use crate::bytes::put_shown;
 use crate::outside::{put_content, put_outcome};
 use sb_host::{HostFiles, HostSink, OwnWord, own_text, own_word};
 use sb_outside::{Files, Sink};
-use sb_rows::{RowFault, bytes, number, put_between, told};
+use sb_rows::{RowFault, bytes, debug_text, number, put_between};
 use std::alloc::Global;
 use std::io::Cursor;
 use std::rt;
@@ -25,7 +25,7 @@ pub fn value_of<R: rt::Files>(
     }
 }
 
-// What the reads of `MOST | NAME | ..` return, each with the count of faults behind it.
+// What the reads of `MOST | NAME | ..` return, each with the count of faults after it.
 fn reads_of<R: rt::Files>(rt: &R, alloc: Global, parts: &[&str]) -> Result<String, RowFault> {
     let [most, names @ ..] = parts else {
         return Err(RowFault::BadWords);
@@ -41,26 +41,34 @@ fn reads_of<R: rt::Files>(rt: &R, alloc: Global, parts: &[&str]) -> Result<Strin
     Ok(out)
 }
 
-// The outcome of each put into an output of three bytes, the count of faults, and what the output then holds.
-fn puts_of(alloc: Global, texts: &[&str]) -> Result<String, RowFault> {
-    let mut room = [0u8; 3];
+// The outcome of each put of `PIECE | TEXT | ..` into a writer of eight bytes, with the bytes that are then pending; the outcome of the
+// finish, the count of faults, and what the writer then holds.
+fn puts_of(alloc: Global, parts: &[&str]) -> Result<String, RowFault> {
+    let [piece, texts @ ..] = parts else {
+        return Err(RowFault::BadWords);
+    };
+    let mut room = [0u8; 8];
     let mut out = String::new(alloc);
-    put_all(alloc, texts, &mut room, &mut out)?;
+    put_all(alloc, number(piece)? as usize, texts, &mut room, &mut out)?;
     put_shown(&mut out, &room)?;
     Ok(out)
 }
 
 fn put_all(
     alloc: Global,
+    piece: usize,
     texts: &[&str],
     room: &mut [u8],
     out: &mut String,
 ) -> Result<(), RowFault> {
-    let mut sink = HostSink::new(Cursor::new(room));
+    let mut sink = HostSink::new(alloc, Cursor::new(room), piece)?;
     for text in texts {
         let put = bytes(alloc, text)?;
         put_outcome(out, sink.put(&put))?;
+        put_shown(out, &sink.pending)?;
+        out.push_str("; ")?;
     }
+    put_outcome(out, sink.finish())?;
     Ok(write!(out, "faults {} ", sink.faults)?)
 }
 
@@ -72,7 +80,7 @@ fn word_of(alloc: Global, parts: &[&str]) -> Result<String, RowFault> {
             words.push(String::from_str(alloc, part)?)?;
         }
     }
-    told(alloc, &own_word(&words))
+    debug_text(alloc, &own_word(&words))
 }
 
 fn named(word: &str) -> Result<OwnWord, RowFault> {
@@ -88,5 +96,5 @@ fn is_within(alloc: Global, parts: &[&str]) -> Result<String, RowFault> {
     let [word, part] = parts else {
         return Err(RowFault::BadWords);
     };
-    told(alloc, &own_text(named(word)?).contains(*part))
+    debug_text(alloc, &own_text(named(word)?).contains(*part))
 }

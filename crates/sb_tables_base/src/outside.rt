@@ -1,12 +1,11 @@
-// Rows of files and outputs in memory.
+// Table tests of files and outputs in memory.
 
 use crate::bytes::{put_shown, shown};
-use sb_items::Copies;
 use sb_outside::{
     Bytes, FileFault, FileList, Files, MemFiles, MemSink, Numbers, Sink, SinkFault, StoredFile,
-    Text, put_lines,
+    Text, put_lines, put_text,
 };
-use sb_rows::{RowFault, bytes, displayed, number, numbers, put_between, told};
+use sb_rows::{RowFault, bytes, debug_text, display_text, number, numbers, put_between};
 use std::alloc::Global;
 
 /// What a function of files and outputs gives.
@@ -22,11 +21,13 @@ pub fn value_of(alloc: Global, name: &str, parts: &[&str]) -> Result<String, Row
 fn value_of_one(alloc: Global, name: &str, list: &str) -> Result<String, RowFault> {
     match name {
         "FileList::into_items" => listed(alloc, list),
-        "Bytes::copy" => shown(alloc, byte_list(alloc, list)?.copy(alloc)?.as_slice()),
-        "Bytes::len" => told(alloc, &byte_list(alloc, list)?.len()),
+        "Bytes::len" => debug_text(alloc, &byte_list(alloc, list)?.len()),
         "Bytes::into_items" => shown(alloc, &byte_list(alloc, list)?.into_items()),
         "Text::into_string" => Ok(owned(alloc, list)?.into_string()),
-        "Numbers::into_items" => told(alloc, &Numbers::new(numbers(alloc, list)?).into_items()),
+        "Numbers::into_items" => debug_text(
+            alloc,
+            &Numbers::new(numbers(alloc, list)?).into_items(),
+        ),
         _ => Err(RowFault::Unknown),
     }
 }
@@ -34,16 +35,10 @@ fn value_of_one(alloc: Global, name: &str, list: &str) -> Result<String, RowFaul
 fn value_of_two(alloc: Global, name: &str, first: &str, second: &str) -> Result<String, RowFault> {
     match name {
         "FileList::find" => found(alloc, first, second),
-        "StoredFile::eq" => files_equal(alloc, first, second),
-        "Bytes::eq" => told(
-            alloc,
-            &(byte_list(alloc, first)? == byte_list(alloc, second)?),
-        ),
-        "Text::eq" => told(alloc, &(owned(alloc, first)? == owned(alloc, second)?)),
         "Numbers::contains" => {
             let item = number(second)?;
             let list = Numbers::new(numbers(alloc, first)?);
-            told(alloc, &list.as_slice().contains(&item))
+            debug_text(alloc, &list.contains(&item))
         }
         "message" => message(alloc, first, second),
         _ => Err(RowFault::Unknown),
@@ -59,14 +54,9 @@ fn value_of_three(
         "MemFiles::read" => reads_of(alloc, parts.0, parts.1, parts.2),
         "MemSink::put" => puts_of(alloc, parts.0, parts.1, parts.2),
         "put_lines" => lines_put(alloc, parts.0, parts.1, parts.2),
+        "put_text" => text_put(alloc, parts.0, parts.1, parts.2),
         _ => Err(RowFault::Unknown),
     }
-}
-
-fn files_equal(alloc: Global, a: &str, b: &str) -> Result<String, RowFault> {
-    let a = stored_file(alloc, a)?;
-    let b = stored_file(alloc, b)?;
-    told(alloc, &(a == b))
 }
 
 fn byte_list(alloc: Global, text: &str) -> Result<Bytes, RowFault> {
@@ -153,7 +143,7 @@ fn found(alloc: Global, files: &str, name: &str) -> Result<String, RowFault> {
         .iter()
         .find(|file| file.name.as_str() == name)
     {
-        Some(file) => shown(alloc, file.content.as_slice()),
+        Some(file) => shown(alloc, &file.content),
         None => Ok(String::from_str(alloc, "None")?),
     }
 }
@@ -171,24 +161,42 @@ fn put_file(out: &mut String, file: &StoredFile) -> Result<(), RowFault> {
     put_between(out, "; ")?;
     out.push_str(file.name.as_str())?;
     out.push(' ')?;
-    put_shown(out, file.content.as_slice())
+    put_shown(out, &file.content)
 }
 
-// The outcome of each put, and all that was written so far.
+// The outcome of each put, or of a finish if its text is `finish`, and all that was written so far.
 fn puts_of(alloc: Global, room: &str, fails: &str, puts: &str) -> Result<String, RowFault> {
     let mut sink = mem_sink(alloc, room, fails)?;
     let mut out = String::new(alloc);
     for text in puts.split(';') {
-        let put = bytes(alloc, text.trim_ascii())?;
         put_between(&mut out, "; ")?;
-        put_text(&mut sink, &put, &mut out)?;
+        call_sink(alloc, &mut sink, text.trim_ascii(), &mut out)?;
     }
     Ok(out)
 }
 
-fn put_text(sink: &mut MemSink, text: &[u8], out: &mut String) -> Result<(), RowFault> {
-    put_outcome(out, sink.put(text))?;
+fn call_sink(
+    alloc: Global,
+    sink: &mut MemSink,
+    text: &str,
+    out: &mut String,
+) -> Result<(), RowFault> {
+    let outcome = match text {
+        "finish" => sink.finish(),
+        _ => sink.put(&bytes(alloc, text)?),
+    };
+    put_outcome(out, outcome)?;
     put_shown(out, sink.written())
+}
+
+// The outcome of a text that is put and finished, and all that was written.
+fn text_put(alloc: Global, room: &str, fails: &str, text: &str) -> Result<String, RowFault> {
+    let text = bytes(alloc, text)?;
+    let mut sink = mem_sink(alloc, room, fails)?;
+    let mut out = String::new(alloc);
+    put_outcome(&mut out, put_text(&mut sink, &text))?;
+    put_shown(&mut out, sink.written())?;
+    Ok(out)
 }
 
 fn lines_put(alloc: Global, room: &str, fails: &str, lines: &str) -> Result<String, RowFault> {
@@ -212,7 +220,7 @@ fn lines_of(alloc: Global, texts: &str) -> Result<Vec<Bytes>, RowFault> {
     Ok(lines)
 }
 
-/// Appends what a put returns.
+/// Appends what a put or a finish returns.
 pub fn put_outcome(out: &mut String, outcome: Result<(), SinkFault>) -> Result<(), RowFault> {
     match outcome {
         Ok(()) => Ok(out.push_str("ok ")?),
@@ -223,13 +231,13 @@ pub fn put_outcome(out: &mut String, outcome: Result<(), SinkFault>) -> Result<(
 fn message(alloc: Global, kind: &str, fault: &str) -> Result<String, RowFault> {
     match kind {
         "FileFault" => match fault {
-            "Missing" => displayed(alloc, &FileFault::Missing),
-            "TooLong" => displayed(alloc, &FileFault::TooLong),
-            "Failed" => displayed(alloc, &FileFault::Failed),
-            "NoMemory" => displayed(alloc, &FileFault::NoMemory),
+            "Missing" => display_text(alloc, &FileFault::Missing),
+            "TooLong" => display_text(alloc, &FileFault::TooLong),
+            "Failed" => display_text(alloc, &FileFault::Failed),
+            "NoMemory" => display_text(alloc, &FileFault::NoMemory),
             _ => Err(RowFault::Unknown),
         },
-        "SinkFault" if fault == "Failed" => displayed(alloc, &SinkFault::Failed),
+        "SinkFault" if fault == "Failed" => display_text(alloc, &SinkFault::Failed),
         _ => Err(RowFault::Unknown),
     }
 }

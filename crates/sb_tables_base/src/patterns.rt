@@ -1,14 +1,12 @@
-// Rows of patterns.
+// Table tests of patterns.
 
-use sb_items::Copies;
 use sb_pattern::{Pattern, PatternFault, PatternRefused};
-use sb_rows::{RowFault, displayed, put_quoted, small, told, wide};
+use sb_rows::{RowFault, debug_text, display_text, put_quoted, small, wide};
 use std::alloc::Global;
 
 /// What a function of patterns gives.
 pub fn value_of(alloc: Global, name: &str, parts: &[&str]) -> Result<String, RowFault> {
     match name {
-        "PatternFault::number" => told(alloc, &fault(parts)?.number()),
         "message" => message(alloc, parts),
         _ => match parts {
             [text] => value_of_one(alloc, name, text),
@@ -22,26 +20,16 @@ fn value_of_one(alloc: Global, name: &str, text: &str) -> Result<String, RowFaul
     match name {
         "Pattern::read" => cells(alloc, text),
         "Pattern::text" => text_of(alloc, &pattern(alloc, text)?),
-        "Pattern::copy" => text_of(alloc, &pattern(alloc, text)?.copy(alloc)?),
-        "Pattern::chunks" => {
-            let chunks = pattern(alloc, text)?.chunks(alloc)?;
-            told(alloc, &chunks.as_slice())
-        }
-        "Chunks::into_items" => {
-            let chunks = pattern(alloc, text)?.chunks(alloc)?;
-            told(alloc, &chunks.into_items())
-        }
         _ => Err(RowFault::Unknown),
     }
 }
 
 fn value_of_two(alloc: Global, name: &str, first: &str, second: &str) -> Result<String, RowFault> {
     match name {
-        "Pattern::eq" => told(alloc, &(pattern(alloc, first)? == pattern(alloc, second)?)),
         "Pattern::matches_plain" => {
             let pattern = pattern(alloc, first)?;
             let units = wide(alloc, second)?;
-            told(alloc, &pattern.matches_plain(units.as_units()))
+            debug_text(alloc, &pattern.matches_plain(units.as_units()))
         }
         _ => Err(RowFault::Unknown),
     }
@@ -55,8 +43,8 @@ pub fn pattern(alloc: Global, text: &str) -> Result<Pattern, RowFault> {
 // The cells of a text, or its fault.
 fn cells(alloc: Global, text: &str) -> Result<String, RowFault> {
     match Pattern::read(alloc, wide(alloc, text)?.as_units()) {
-        Ok(pattern) => told(alloc, &pattern.cells()),
-        Err(PatternRefused::Fault(fault)) => told(alloc, &fault),
+        Ok(pattern) => debug_text(alloc, &pattern.cells()),
+        Err(PatternRefused::Fault(fault)) => debug_text(alloc, &fault),
         Err(PatternRefused::NoMemory) => Err(RowFault::NoMemory),
     }
 }
@@ -72,10 +60,10 @@ fn message(alloc: Global, parts: &[&str]) -> Result<String, RowFault> {
         return Err(RowFault::Unknown);
     };
     match *kind {
-        "PatternFault" => displayed(alloc, &fault(words)?),
+        "PatternFault" => display_text(alloc, &fault(words)?),
         "PatternRefused" => match words {
-            ["NoMemory"] => displayed(alloc, &PatternRefused::NoMemory),
-            _ => displayed(alloc, &PatternRefused::Fault(fault(words)?)),
+            ["NoMemory"] => display_text(alloc, &PatternRefused::NoMemory),
+            _ => display_text(alloc, &PatternRefused::Fault(fault(words)?)),
         },
         _ => Err(RowFault::Unknown),
     }

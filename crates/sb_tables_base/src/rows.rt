@@ -5,7 +5,7 @@ use sb_rows::{RowFault, arguments};
 use std::alloc::Global;
 use std::rt::Files;
 
-/// What the function of a row gives for its arguments. The function is the first word, and the arguments stand behind it,
+/// What the function of a row gives for its arguments. The function is the first word, and the arguments follow it,
 /// divided by bars.
 pub fn value_of<R: Files>(rt: &R, alloc: Global, row: &str) -> Result<String, RowFault> {
     let (name, rest) = row.split_once(' ').unwrap_or((row, ""));

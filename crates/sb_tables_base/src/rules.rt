@@ -1,22 +1,19 @@
-// Rows of policies, and of what they say of calls.
+// Table tests of policies, and of what they say of calls.
 
 use crate::readers_rules::{policies, policy};
-use crate::written_rules::put_policy;
 use sb_call::{Arg, CallTag, fits};
-use sb_items::Copies;
 use sb_row_values::action;
-use sb_rows::{RowFault, call, put_word, small, told};
-use sb_rule::{Judge, PlainJudge, Policies, all_well_made, verdict_plain, well_made};
+use sb_rows::{RowFault, call, debug_text, put_word, small};
+use sb_rule::{Judge, PlainJudge, all_well_made, verdict_plain, well_made};
 use std::alloc::Global;
 
 /// What a function of policies gives.
 pub fn value_of(alloc: Global, name: &str, parts: &[&str]) -> Result<String, RowFault> {
     match name {
-        "all_well_made" => told(alloc, &all_well_made(&policies(alloc, parts)?)),
-        "Policies::copy" => listed(alloc, &policies(alloc, parts)?.copy(alloc)?),
+        "all_well_made" => debug_text(alloc, &all_well_made(&policies(alloc, parts)?)),
         "PlainJudge::new" => {
-            let judge = PlainJudge::new(policies(alloc, parts)?.list.copy(alloc)?);
-            told(alloc, &judge.is_some())
+            let judge = PlainJudge::new(policies(alloc, parts)?.list.clone()?);
+            debug_text(alloc, &judge.is_some())
         }
         "PlainJudge::judge" => judged(alloc, parts),
         _ => match parts {
@@ -29,9 +26,8 @@ pub fn value_of(alloc: Global, name: &str, parts: &[&str]) -> Result<String, Row
 
 fn value_of_one(alloc: Global, name: &str, text: &str) -> Result<String, RowFault> {
     match name {
-        "Action::number" => told(alloc, &action(text)?.number()),
         "Action::word" => action_word(alloc, text),
-        "well_made" => told(alloc, &well_made(&policy(alloc, text)?)),
+        "well_made" => debug_text(alloc, &well_made(&policy(alloc, text)?)),
         _ => Err(RowFault::Unknown),
     }
 }
@@ -41,9 +37,8 @@ fn value_of_two(alloc: Global, name: &str, first: &str, second: &str) -> Result<
         "verdict_plain" => {
             let policy = policy(alloc, first)?;
             let (tag, args) = call(alloc, second)?;
-            told(alloc, &verdict_plain(&policy, tag, args.as_slice()))
+            debug_text(alloc, &verdict_plain(&policy, tag, &args))
         }
-        "Policy::eq" => told(alloc, &(policy(alloc, first)? == policy(alloc, second)?)),
         _ => Err(RowFault::Unknown),
     }
 }
@@ -60,8 +55,8 @@ fn judged(alloc: Global, parts: &[&str]) -> Result<String, RowFault> {
     };
     let target = small(target)?;
     let (tag, args) = call(alloc, forwarded)?;
-    match PlainJudge::new(policies(alloc, texts)?.list.copy(alloc)?) {
-        Some(judge) => judged_by(alloc, &judge, target, tag, args.as_slice()),
+    match PlainJudge::new(policies(alloc, texts)?.list.clone()?) {
+        Some(judge) => judged_by(alloc, &judge, target, tag, &args),
         None => Ok(String::from_str(alloc, "not well made")?),
     }
 }
@@ -76,16 +71,5 @@ fn judged_by(
     if target as usize >= judge.targets.len() || !fits(tag, args) {
         return Err(RowFault::NotInRange);
     }
-    told(alloc, &judge.judge(target, tag, args))
-}
-
-fn listed(alloc: Global, policies: &Policies) -> Result<String, RowFault> {
-    let mut out = String::new(alloc);
-    for (at, policy) in policies.list.as_slice().iter().enumerate() {
-        if at > 0 {
-            out.push_str(" | ")?;
-        }
-        put_policy(alloc, &mut out, policy)?;
-    }
-    Ok(out)
+    debug_text(alloc, &judge.judge(target, tag, args))
 }

@@ -1,10 +1,8 @@
-// Rows of strings of units.
+// Table tests of strings of units.
 
-use sb_items::Copies;
-use sb_rows::{RowFault, displayed, put_units, told, unit, wide};
-use sb_wide::{
-    NoMemory, Wide, fold, is_component, is_name, quote_into, quoted_len, same, units, wide_of,
-};
+use sb_items::NoMemory;
+use sb_rows::{RowFault, debug_text, display_text, put_units, unit, wide};
+use sb_wide::{Wide, eq_ignore_ascii_case, is_component, is_name, quote_into, to_ascii_uppercase};
 use std::alloc::Global;
 
 /// What a function of strings gives.
@@ -18,35 +16,25 @@ pub fn value_of(alloc: Global, name: &str, parts: &[&str]) -> Result<String, Row
 
 fn value_of_one(alloc: Global, name: &str, text: &str) -> Result<String, RowFault> {
     match name {
-        "fold" => told(alloc, &fold(unit(text)?)),
-        "is_component" => told(alloc, &is_component(wide(alloc, text)?.as_units())),
-        "is_name" => told(alloc, &is_name(wide(alloc, text)?.as_units())),
-        "quoted_len" => quoted_length(alloc, text),
-        "Wide::len" => told(alloc, &wide(alloc, text)?.len()),
-        "message" if text == "NoMemory" => displayed(alloc, &NoMemory),
+        "to_ascii_uppercase" => debug_text(alloc, &to_ascii_uppercase(unit(text)?)),
+        "is_component" => debug_text(alloc, &is_component(wide(alloc, text)?.as_units())),
+        "is_name" => debug_text(alloc, &is_name(wide(alloc, text)?.as_units())),
+        "Wide::len" => debug_text(alloc, &wide(alloc, text)?.len()),
+        "message" if text == "NoMemory" => display_text(alloc, &NoMemory),
         _ => listed(alloc, name, text),
     }
 }
 
 fn value_of_two(alloc: Global, name: &str, first: &str, second: &str) -> Result<String, RowFault> {
     match name {
-        "same" => {
+        "eq_ignore_ascii_case" => {
             let a = wide(alloc, first)?;
             let b = wide(alloc, second)?;
-            told(alloc, &same(a.as_units(), b.as_units()))
+            debug_text(alloc, &eq_ignore_ascii_case(a.as_units(), b.as_units()))
         }
         "quote_into" => quoted(alloc, first, second),
-        "Wide::eq" => told(alloc, &(wide(alloc, first)? == wide(alloc, second)?)),
         _ => Err(RowFault::Unknown),
     }
-}
-
-fn quoted_length(alloc: Global, text: &str) -> Result<String, RowFault> {
-    let units = wide(alloc, text)?;
-    if units.len() as u64 >= 1 << 60 {
-        return Err(RowFault::NotInRange);
-    }
-    told(alloc, &quoted_len(units.as_units()))
 }
 
 // A text with the quoted units appended.
@@ -67,10 +55,9 @@ fn listed(alloc: Global, name: &str, text: &str) -> Result<String, RowFault> {
 
 fn made(alloc: Global, name: &str, text: &str) -> Result<Wide, RowFault> {
     match name {
-        "units" => Ok(units(alloc, text)?),
-        "wide_of" => Ok(wide_of(alloc, wide(alloc, text)?.as_units())?),
+        "Wide::from_str" => Ok(Wide::from_str(alloc, text)?),
+        "Wide::from_units" => Ok(Wide::from_units(alloc, wide(alloc, text)?.as_units())?),
         "Wide::new" => Ok(Wide::new(wide(alloc, text)?.into_units())),
-        "Wide::copy" => Ok(wide(alloc, text)?.copy(alloc)?),
         _ => Err(RowFault::Unknown),
     }
 }

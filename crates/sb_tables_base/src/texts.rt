@@ -1,7 +1,7 @@
-// Rows of texts: lines, tokens, words and numbers.
+// Table tests of texts: lines, tokens, words and numbers.
 
 use crate::bytes::{put_shown, shown, text};
-use sb_rows::{RowFault, bytes, displayed, put_between, put_units, small, told};
+use sb_rows::{RowFault, bytes, debug_text, display_text, put_between, put_units, small};
 use sb_text::{
     ByteLines, Lines, NotUtf8, RawLines, Token, Tokens, Words, decimal_of, line_count, number_of,
     string_of, text_of,
@@ -28,7 +28,7 @@ fn message(alloc: Global, name: &str, line: &str) -> Result<String, RowFault> {
     match name {
         "message" => {
             let line = small(line)?;
-            displayed(alloc, &NotUtf8 { line })
+            display_text(alloc, &NotUtf8 { line })
         }
         _ => Err(RowFault::Unknown),
     }
@@ -68,8 +68,8 @@ fn of_bytes(alloc: Global, name: &str, whole: &str) -> Result<String, RowFault> 
         "Words" => words(alloc, Words::new(&whole)),
         "ByteLine::words" => first_words(alloc, &whole),
         "text_of" => text_or_line(alloc, &whole),
-        "sb_text::number_of" => told(alloc, &number_of(&whole)),
-        _ => told(alloc, &decimal_of(&whole)),
+        "sb_text::number_of" => debug_text(alloc, &number_of(&whole)),
+        _ => debug_text(alloc, &decimal_of(&whole)),
     }
 }
 
@@ -143,7 +143,7 @@ fn count(alloc: Global, whole: &[u8]) -> Result<String, RowFault> {
     if whole.len() as u64 >= 1 << 32 {
         return Err(RowFault::NotInRange);
     }
-    told(alloc, &line_count(whole))
+    debug_text(alloc, &line_count(whole))
 }
 
 fn tokens(alloc: Global, mut tokens: Tokens) -> Result<String, RowFault> {
@@ -215,7 +215,7 @@ fn text_or_line(alloc: Global, whole: &[u8]) -> Result<String, RowFault> {
     }
     match text_of(whole) {
         Ok(text) => shown(alloc, text.as_bytes()),
-        Err(fault) => told(alloc, &fault),
+        Err(fault) => debug_text(alloc, &fault),
     }
 }
 

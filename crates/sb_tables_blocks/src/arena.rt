@@ -1,9 +1,9 @@
-// Rows of the arena of nodes.
+// Table tests of the arena of nodes.
 ghost use Rattle.std.specs.Prelude.{◌≡◌, IfOk, OnOk};
 ghost use Rattle.sb_arena.specs.Forests.{node_number, with_node};
 
 use sb_arena::{Arena, NodeId};
-use sb_rows::{RowFault, number, told};
+use sb_rows::{RowFault, debug_text, number};
 use std::alloc::Global;
 
 /// What a function of the arena gives.
@@ -24,7 +24,7 @@ fn linked(alloc: Global, first: u64, second: u64) -> Result<String, RowFault> {
     let parent = added(&mut arena, first)?;
     let child = added(&mut arena, second)?;
     arena.link(child, parent);
-    told(alloc, &arena.first_child(parent))
+    debug_text(alloc, &arena.first_child(parent))
 }
 
 // Adds a node with this value.

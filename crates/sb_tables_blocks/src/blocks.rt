@@ -1,15 +1,15 @@
-// Rows of blocks: calls and replies as words, copies with their faults, and sound scripts.
+// Table tests of blocks: calls and replies as words, copies with their faults, and sound scripts.
 
-use crate::readers_blocks::{block_words, put_words, reply_block, taken, taken_with};
+use crate::readers_blocks::{put_words, reply_block, taken, taken_with};
 use crate::readers_scripts::script;
 use crate::written_calls::put_call;
 use sb_block::{
-    BlockFault, BlockRefused, Call, Taken, TooBig, decode, encode, encodes, fault_of, read_reply,
-    reply_words,
+    BlockCopy, BlockFault, BlockRefused, Call, TooBig, decode, encode, encodes, fault_of,
+    read_reply, reply_words,
 };
 use sb_call::fits;
 use sb_row_values::{block_fault, put_reply, reply};
-use sb_rows::{RowFault, call, displayed, number, told};
+use sb_rows::{RowFault, call, debug_text, display_text, number};
 use sb_statements::sound;
 use std::alloc::Global;
 
@@ -30,12 +30,11 @@ fn value_of_one(alloc: Global, name: &str, text: &str) -> Result<String, RowFaul
     match name {
         "encodes" => {
             let (tag, args) = call(alloc, text)?;
-            told(alloc, &encodes(tag, args.as_slice()))
+            debug_text(alloc, &encodes(tag, &args))
         }
-        "Words::copy" => listed(alloc, block_words(text)?.copy().as_slice()),
         "reply_words" => listed(alloc, &reply_words(&reply(alloc, text)?)),
         "read_reply" => read(alloc, text),
-        "sound" => told(alloc, &sound(&script(alloc, text)?)),
+        "sound" => debug_text(alloc, &sound(&script(alloc, text)?)),
         _ => Err(RowFault::Unknown),
     }
 }
@@ -45,7 +44,6 @@ fn value_of_two(alloc: Global, name: &str, text: &str, more: &str) -> Result<Str
         "encode" => encoded(alloc, text, more),
         "fault_of" => fault(alloc, &taken_with(alloc, text, more)?),
         "decode" => decoded(alloc, &taken_with(alloc, text, more)?),
-        "Words::eq" => told(alloc, &(block_words(text)? == block_words(more)?)),
         _ => Err(RowFault::Unknown),
     }
 }
@@ -54,7 +52,7 @@ fn value_of_two(alloc: Global, name: &str, text: &str, more: &str) -> Result<Str
 fn value_of_copy(alloc: Global, name: &str, parts: (&str, &str, &str)) -> Result<String, RowFault> {
     let (count, end, words) = parts;
     match name {
-        "Taken::of" => copy(alloc, count, end, words),
+        "BlockCopy::of" => copy(alloc, count, end, words),
         "fault_of" => match taken(count, end, words)? {
             Some(taken) => fault(alloc, &taken),
             None => Ok(String::from_str(alloc, "no copy")?),
@@ -76,12 +74,12 @@ fn listed(alloc: Global, words: &[u64]) -> Result<String, RowFault> {
 fn encoded(alloc: Global, text: &str, mark: &str) -> Result<String, RowFault> {
     let mark = number(mark)?;
     let (tag, args) = call(alloc, text)?;
-    if !fits(tag, args.as_slice()) {
+    if !fits(tag, &args) {
         return Err(RowFault::NotInRange);
     }
-    match encode(tag, args.as_slice(), mark) {
+    match encode(tag, &args, mark) {
         Ok(words) => counted(alloc, words.as_slice()),
-        Err(refused) => told(alloc, &refused),
+        Err(refused) => debug_text(alloc, &refused),
     }
 }
 
@@ -103,7 +101,7 @@ fn copy(alloc: Global, count: &str, end: &str, words: &str) -> Result<String, Ro
     told_copy(alloc, &copy)
 }
 
-fn told_copy(alloc: Global, copy: &Taken) -> Result<String, RowFault> {
+fn told_copy(alloc: Global, copy: &BlockCopy) -> Result<String, RowFault> {
     let mut out = format!(in alloc;
         "count {} end {} mark {} words ",
         copy.count_seen(),
@@ -115,7 +113,7 @@ fn told_copy(alloc: Global, copy: &Taken) -> Result<String, RowFault> {
 }
 
 // The fault with which `decode` refuses a copy.
-fn refusal(alloc: Global, taken: &Taken) -> Result<Option<BlockFault>, RowFault> {
+fn refusal(alloc: Global, taken: &BlockCopy) -> Result<Option<BlockFault>, RowFault> {
     match decode(alloc, taken) {
         Ok(_) => Ok(None),
         Err(BlockRefused::Fault(fault)) => Ok(Some(fault)),
@@ -124,27 +122,27 @@ fn refusal(alloc: Global, taken: &Taken) -> Result<Option<BlockFault>, RowFault>
 }
 
 // The fault of a copy, with which `decode` refuses it.
-fn fault(alloc: Global, taken: &Taken) -> Result<String, RowFault> {
+fn fault(alloc: Global, taken: &BlockCopy) -> Result<String, RowFault> {
     let fault = fault_of(taken);
     let refused = refusal(alloc, taken)?;
     if refused != fault {
         return Ok(format!(in alloc; "{fault:?}, but decode refuses with {refused:?}")?);
     }
-    told(alloc, &fault)
+    debug_text(alloc, &fault)
 }
 
 // The call of a copy with its mark, or its fault.
-fn decoded(alloc: Global, taken: &Taken) -> Result<String, RowFault> {
+fn decoded(alloc: Global, taken: &BlockCopy) -> Result<String, RowFault> {
     match decode(alloc, taken) {
         Ok(call) => told_call(alloc, &call),
-        Err(BlockRefused::Fault(fault)) => told(alloc, &fault),
+        Err(BlockRefused::Fault(fault)) => debug_text(alloc, &fault),
         Err(BlockRefused::NoMemory) => Err(RowFault::NoMemory),
     }
 }
 
 fn told_call(alloc: Global, call: &Call) -> Result<String, RowFault> {
     let mut out = String::new(alloc);
-    put_call(&mut out, call.tag, call.args.as_slice())?;
+    put_call(&mut out, call.tag, &call.args)?;
     write!(out, " mark {}", call.mark)?;
     Ok(out)
 }
@@ -161,11 +159,11 @@ fn message(alloc: Global, parts: &[&str]) -> Result<String, RowFault> {
         return Err(RowFault::Unknown);
     };
     match *kind {
-        "TooBig" if words.is_empty() => displayed(alloc, &TooBig),
-        "BlockFault" => displayed(alloc, &block_fault(words)?),
+        "TooBig" if words.is_empty() => display_text(alloc, &TooBig),
+        "BlockFault" => display_text(alloc, &block_fault(words)?),
         "BlockRefused" => match words {
-            ["NoMemory"] => displayed(alloc, &BlockRefused::NoMemory),
-            _ => displayed(alloc, &BlockRefused::Fault(block_fault(words)?)),
+            ["NoMemory"] => display_text(alloc, &BlockRefused::NoMemory),
+            _ => display_text(alloc, &BlockRefused::Fault(block_fault(words)?)),
         },
         _ => Err(RowFault::Unknown),
     }

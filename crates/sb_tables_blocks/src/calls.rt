@@ -1,16 +1,11 @@
-// Rows of calls, their arguments, answers, scripts and schedules.
+// Table tests of calls, their arguments, answers, scripts and schedules.
 
-use crate::readers_scripts::{schedule, script, statement_in};
-use crate::written_calls::{put_arg, put_args, put_script, put_statement};
+use crate::readers_scripts::script;
 use sb_call::{
     Answer, CallTag, ShortName, call_word, every_tag, fits, number_of, shape, tag_of, tag_of_word,
 };
-use sb_items::Copies;
-use sb_row_values::{
-    answer, extended, put_answer, put_extended, put_reply, reply, small_status, statement_result,
-    told_answer,
-};
-use sb_rows::{RowFault, arg, args_in, call, number, put_word, short_name, small, tag, told};
+use sb_row_values::{small_status, told_answer};
+use sb_rows::{RowFault, call, debug_text, number, put_word, small, tag};
 use sb_statements::clean;
 use std::alloc::Global;
 
@@ -18,124 +13,42 @@ use std::alloc::Global;
 pub fn value_of(alloc: Global, name: &str, parts: &[&str]) -> Result<String, RowFault> {
     match parts {
         [text] => told_one(alloc, name, text),
-        [a, b] => told(alloc, &are_equal(alloc, name, a, b)?),
         [a, b, c] => told_three(alloc, name, (a, b, c)),
         [status, handle, first, second] => answered(alloc, name, (status, handle), (first, second)),
         _ => Err(RowFault::Unknown),
     }
 }
 
-// Rows of one argument.
+// Table tests of one argument.
 fn told_one(alloc: Global, name: &str, text: &str) -> Result<String, RowFault> {
     match name {
-        "sb_call::number_of" => told(alloc, &number_of(tag(text)?)),
-        "tag_of" => told(alloc, &tag_of(number(text)?)),
-        "shape" => told(alloc, &shape(tag(text)?)),
+        "sb_call::number_of" => debug_text(alloc, &number_of(tag(text)?)),
+        "tag_of" => debug_text(alloc, &tag_of(number(text)?)),
+        "shape" => debug_text(alloc, &shape(tag(text)?)),
         "call_word" => told_word(alloc, tag_of(number(text)?).ok_or(RowFault::BadNumber)?),
-        "tag_of_word" => told(alloc, &tag_of_word(text.as_bytes())),
+        "tag_of_word" => debug_text(alloc, &tag_of_word(text.as_bytes())),
         "fits" => {
             let (tag, args) = call(alloc, text)?;
-            told(alloc, &fits(tag, args.as_slice()))
+            debug_text(alloc, &fits(tag, &args))
         }
         "ShortName::new" => named(alloc, ShortName::new(text.as_bytes())),
-        "ShortName::copy" => named(alloc, Some(short_name(text)?.copy())),
-        "StartLines::len" => told(alloc, &script(alloc, text)?.start.len()),
+        "StartLines::len" => debug_text(alloc, &script(alloc, text)?.start.len()),
         "status" => {
             let status = status_of(text)?;
             Ok(format!(in alloc; "{status:08x}")?)
         }
-        "every_tag" if text.is_empty() => told(alloc, &every_tag()),
-        _ => copied(alloc, name, text),
+        "every_tag" if text.is_empty() => debug_text(alloc, &every_tag()),
+        "Answer::refusal" => told_answer(alloc, &Answer::refusal(small_status(text)?)),
+        _ => Err(RowFault::Unknown),
     }
 }
 
 fn is_clean(alloc: Global, text: &str, target: &str, channel: &str) -> Result<String, RowFault> {
     let (target, channel) = (small(target)?, small(channel)?);
-    told(alloc, &clean(&script(alloc, text)?, target, channel))
+    debug_text(alloc, &clean(&script(alloc, text)?, target, channel))
 }
 
-// Rows of copies.
-fn copied(alloc: Global, name: &str, text: &str) -> Result<String, RowFault> {
-    let mut out = String::new(alloc);
-    put_copy(alloc, name, text, &mut out)?;
-    Ok(out)
-}
-
-fn put_copy(alloc: Global, name: &str, text: &str, out: &mut String) -> Result<(), RowFault> {
-    match name {
-        "Arg::copy" => put_arg_copy(alloc, out, text),
-        "Args::copy" => put_args_copy(alloc, out, text),
-        "Statement::copy" => put_statement_copy(alloc, out, text),
-        "Script::copy" => put_script_copy(alloc, out, text),
-        "Extended::copy" => put_extended(out, extended(text)?.copy().as_slice()),
-        "Answer::copy" => put_answer(out, &answer(alloc, text)?.copy()),
-        "Reply::copy" => put_reply(out, &reply(alloc, text)?.copy()),
-        "Answer::refusal" => put_answer(out, &Answer::refusal(small_status(text)?)),
-        _ => Err(RowFault::Unknown),
-    }
-}
-
-fn put_arg_copy(alloc: Global, out: &mut String, text: &str) -> Result<(), RowFault> {
-    let arg = arg(alloc, text)?;
-    put_arg(out, &arg.copy(alloc)?)
-}
-
-fn put_args_copy(alloc: Global, out: &mut String, text: &str) -> Result<(), RowFault> {
-    let args = args_in(alloc, text)?;
-    put_args(out, args.copy(alloc)?.as_slice())
-}
-
-fn put_statement_copy(alloc: Global, out: &mut String, text: &str) -> Result<(), RowFault> {
-    let statement = statement_in(alloc, text)?;
-    put_statement(out, &statement.copy(alloc)?)
-}
-
-fn put_script_copy(alloc: Global, out: &mut String, text: &str) -> Result<(), RowFault> {
-    let script = script(alloc, text)?;
-    put_script(out, &script.copy(alloc)?)
-}
-
-// Rows of comparisons.
-fn are_equal(alloc: Global, name: &str, a: &str, b: &str) -> Result<bool, RowFault> {
-    match name {
-        "Arg::eq" => args_equal(alloc, a, b),
-        "Args::eq" => lists_equal(alloc, a, b),
-        "ShortName::eq" => Ok(short_name(a)? == short_name(b)?),
-        "Statement::eq" => statements_equal(alloc, a, b),
-        "Script::eq" => scripts_equal(alloc, a, b),
-        "Schedule::eq" => schedules_equal(alloc, a, b),
-        "Extended::eq" => Ok(extended(a)? == extended(b)?),
-        "Answer::eq" => Ok(answer(alloc, a)? == answer(alloc, b)?),
-        "StmtResult::eq" => results_equal(alloc, a, b),
-        _ => Err(RowFault::Unknown),
-    }
-}
-
-fn results_equal(alloc: Global, a: &str, b: &str) -> Result<bool, RowFault> {
-    Ok(statement_result(alloc, a)? == statement_result(alloc, b)?)
-}
-
-fn args_equal(alloc: Global, a: &str, b: &str) -> Result<bool, RowFault> {
-    Ok(arg(alloc, a)? == arg(alloc, b)?)
-}
-
-fn lists_equal(alloc: Global, a: &str, b: &str) -> Result<bool, RowFault> {
-    Ok(args_in(alloc, a)? == args_in(alloc, b)?)
-}
-
-fn statements_equal(alloc: Global, a: &str, b: &str) -> Result<bool, RowFault> {
-    Ok(statement_in(alloc, a)? == statement_in(alloc, b)?)
-}
-
-fn scripts_equal(alloc: Global, a: &str, b: &str) -> Result<bool, RowFault> {
-    Ok(script(alloc, a)? == script(alloc, b)?)
-}
-
-fn schedules_equal(alloc: Global, a: &str, b: &str) -> Result<bool, RowFault> {
-    Ok(schedule(alloc, a)? == schedule(alloc, b)?)
-}
-
-// Rows of three arguments.
+// Table tests of three arguments.
 fn told_three(alloc: Global, name: &str, parts: (&str, &str, &str)) -> Result<String, RowFault> {
     let (first, second, third) = parts;
     match name {
@@ -145,7 +58,7 @@ fn told_three(alloc: Global, name: &str, parts: (&str, &str, &str)) -> Result<St
     }
 }
 
-// Rows of answers with two words.
+// Table tests of answers with two words.
 fn answered(
     alloc: Global,
     name: &str,

@@ -1,12 +1,12 @@
 // Readers of copies of blocks, and how words are written.
 
-use sb_block::{Taken, Words, encode};
+use sb_block::{BlockCopy, Words, encode};
 use sb_call::{Arg, CallTag, fits};
 use sb_rows::{RowFault, call, number};
 use std::alloc::Global;
 
 /// At most 64 words of a block, separated by blanks, where `0*12` is the word 0 twelve times.
-pub fn block_words(text: &str) -> Result<Words, RowFault> {
+fn block_words(text: &str) -> Result<Words, RowFault> {
     let mut found = Words::empty();
     for item in text.split_whitespace() {
         let (word, times) = item.split_once('*').unwrap_or((item, "1"));
@@ -22,9 +22,9 @@ pub fn block_words(text: &str) -> Result<Words, RowFault> {
 }
 
 /// The copy with this count, end and words, if there is one.
-pub fn taken(count: &str, end: &str, words: &str) -> Result<Option<Taken>, RowFault> {
+pub fn taken(count: &str, end: &str, words: &str) -> Result<Option<BlockCopy>, RowFault> {
     let (count, end) = (number(count)?, number(end)?);
-    Ok(Taken::of(count, end, block_words(words)?))
+    Ok(BlockCopy::of(count, end, block_words(words)?))
 }
 
 // The words with some of them changed. A change is `PLACE=VALUE`.
@@ -43,12 +43,12 @@ fn changed(words: Words, changes: &str) -> Result<Words, RowFault> {
 }
 
 /// The copy of a call's block with mark 65536, in which words are changed after count and end were seen.
-pub fn taken_with(alloc: Global, text: &str, changes: &str) -> Result<Taken, RowFault> {
+pub fn taken_with(alloc: Global, text: &str, changes: &str) -> Result<BlockCopy, RowFault> {
     let (tag, args) = call(alloc, text)?;
-    taken_of(tag, args.as_slice(), changes)
+    taken_of(tag, &args, changes)
 }
 
-fn taken_of(tag: CallTag, args: &[Arg], changes: &str) -> Result<Taken, RowFault> {
+fn taken_of(tag: CallTag, args: &[Arg], changes: &str) -> Result<BlockCopy, RowFault> {
     if !fits(tag, args) {
         return Err(RowFault::NotInRange);
     }
@@ -57,7 +57,7 @@ fn taken_of(tag: CallTag, args: &[Arg], changes: &str) -> Result<Taken, RowFault
     };
     let end = words.len() as u64;
     let words = changed(words, changes)?;
-    Taken::of(args.len() as u64, end, words).ok_or(RowFault::NotInRange)
+    BlockCopy::of(args.len() as u64, end, words).ok_or(RowFault::NotInRange)
 }
 
 /// Twelve words of a reply.

@@ -1,14 +1,14 @@
-// Readers of scripts and schedules. Their lines are separated by semicolons. `N *` before a line repeats it N times.
+// Readers of scripts. Their lines are separated by semicolons. `N *` before a line repeats it N times.
 
 use sb_call::ShortName;
 use sb_row_values::start_line;
 use sb_rows::{RowFault, args, number, short_name, small, tag, words_in};
 use sb_statements::{
-    Actor, Schedule, Script, StartLines, Statement, Statements, Steps, TargetScript, Targets,
-    Threads, Word,
+    Script, StartLines, Statement, Statements, TargetScript, Targets, Threads, Word,
 };
 use std::alloc::Global;
 
+// What a thread does. A word is given by target, channel and place.
 fn statement(alloc: Global, words: &[&str]) -> Result<Statement, RowFault> {
     let [name, rest @ ..] = words else {
         return Err(RowFault::BadWords);
@@ -85,11 +85,6 @@ fn wait(target: u32, word: Word, values: &[&str]) -> Result<Statement, RowFault>
     })
 }
 
-/// What a thread does. A word is given by target, channel and place.
-pub fn statement_in(alloc: Global, text: &str) -> Result<Statement, RowFault> {
-    statement(alloc, words_in(alloc, text)?.as_slice())
-}
-
 // A target, as far as it was read.
 #[derive(Drop)]
 struct Draft {
@@ -126,7 +121,7 @@ pub fn script(alloc: Global, text: &str) -> Result<Script, RowFault> {
 fn drafted(alloc: Global, text: &str) -> Result<Drafts, RowFault> {
     let mut drafts = Drafts {
         patience: 10_000,
-        start: StartLines::none(alloc),
+        start: StartLines::empty(alloc),
         targets: Vec::new(alloc),
     };
     for line in text.split(';') {
@@ -208,7 +203,7 @@ fn put_thread(alloc: Global, words: &[&str], drafts: &mut Drafts) -> Result<(), 
         return Err(RowFault::BadWords);
     }
     let draft = drafts.targets.last_mut().ok_or(RowFault::BadWords)?;
-    Ok(draft.threads.push(Statements::none(alloc))?)
+    Ok(draft.threads.push(Statements::empty(alloc))?)
 }
 
 fn put_statement(alloc: Global, words: &[&str], drafts: &mut Drafts) -> Result<(), RowFault> {
@@ -224,45 +219,4 @@ fn push_statement(statement: Statement, draft: &mut Draft) -> Result<(), RowFaul
         Some(thread) => Ok(thread.push(statement)?),
         None => Err(RowFault::BadWords),
     }
-}
-
-/// A schedule: `step ACTOR COUNT` and `rounds COUNT`, where `b0` is the worker of target 0 and `t0.1` its thread 1.
-pub fn schedule(alloc: Global, text: &str) -> Result<Schedule, RowFault> {
-    let mut schedule = Schedule {
-        steps: Steps::none(alloc),
-        rounds: 0,
-    };
-    for line in text.split(';') {
-        put_steps(words_in(alloc, line)?.as_slice(), &mut schedule)?;
-    }
-    Ok(schedule)
-}
-
-fn put_steps(words: &[&str], schedule: &mut Schedule) -> Result<(), RowFault> {
-    match words {
-        ["rounds", count] => {
-            schedule.rounds = small(count)?;
-            Ok(())
-        }
-        ["step", name, count] => {
-            let (actor, count) = (actor(name)?, small(count)?);
-            Ok(schedule.steps.push((actor, count))?)
-        }
-        _ => Err(RowFault::BadWords),
-    }
-}
-
-fn actor(name: &str) -> Result<Actor, RowFault> {
-    if let Some(target) = name.strip_prefix('b') {
-        return Ok(Actor::Worker {
-            target: small(target)?,
-        });
-    }
-    let Some((target, thread)) = name.strip_prefix('t').and_then(|rest| rest.split_once('.')) else {
-        return Err(RowFault::BadWords);
-    };
-    Ok(Actor::Thread {
-        target: small(target)?,
-        thread: small(thread)?,
-    })
 }

@@ -4,7 +4,7 @@ use crate::{arena, blocks, calls};
 use sb_rows::{RowFault, arguments};
 use std::alloc::Global;
 
-/// What the function of a row gives for its arguments. The function is the first word, and the arguments stand behind it,
+/// What the function of a row gives for its arguments. The function is the first word, and the arguments follow it,
 /// divided by bars.
 pub fn value_of(alloc: Global, row: &str) -> Result<String, RowFault> {
     let (name, rest) = row.split_once(' ').unwrap_or((row, ""));

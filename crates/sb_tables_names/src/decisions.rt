@@ -1,23 +1,18 @@
-// Rows of decisions: a row `book` begins a book, and each copy is answered after those of the rows before.
-ghost use Rattle.std.specs.Prelude.{◌≡◌, ◌<◌, ◌≤◌, true, length, slice_index, is_ok, IfOk, IsTrue};
-ghost use Rattle.std.specs.List.{list_all};
+// Table tests of decisions: a row `book` begins a book, and each copy is answered after those of the rows before.
+ghost use Rattle.std.specs.Prelude.{◌≡◌, ◌<◌, length, slice_index, IsTrue};
 ghost use Rattle.sb_book.specs.Histories.{setting_of};
-ghost use Rattle.sb_book.specs.Readiness.{is_judged, is_ready};
-ghost use Rattle.sb_kernel.specs.Openings.{is_named, opened};
 
-use crate::namespace::{are_named, put_line};
+use crate::namespace::put_line;
 use crate::readers_namespace::{Called, call, plain, told_line};
-use sb_block::{Taken, Words, encode};
-use sb_book::{Book, decide};
+use sb_block::{BlockCopy, Words, encode};
+use sb_book::{Book, OpenedScript, ReadyScript, decide};
 use sb_call::{ShortName, fits};
-use sb_items::Copies;
-use sb_kernel::{Kernel, StartRefused};
 use sb_row_values::{action, bare_target};
 use sb_rows::{RowFault, number, small, tag, words_in};
 use sb_rule::{
-    Action, Conds, PlainJudge, Policies, Policy, PolicyList, Rule, Rules, all_well_made,
+    Action, Conds, PlainJudge, Policies, Policy, PolicyList, Rule, Rules, WellMadePolicies,
 };
-use sb_statements::{Script, StartLine, StartLines, TargetScript, Targets, sound};
+use sb_statements::{Script, SoundScript, StartLine, StartLines, Targets};
 use sb_transcript::entry_line;
 use sb_wide::NoMemory;
 use std::alloc::Global;
@@ -32,7 +27,7 @@ pub struct Decisions {
 #[derive(Drop)]
 struct Answering {
     judge: PlainJudge,
-    script: Script,
+    ready: ReadyScript,
     book: Book,
     ghost judged: { book.setting.policies ≡ judge.targets },
     ghost target: { 0 < length judge.targets },
@@ -66,7 +61,7 @@ pub fn value_of(
 // Begins a book, and tells whether there is one now.
 fn begin(alloc: Global, decisions: &mut Decisions, parts: &[&str]) -> Result<String, RowFault> {
     decisions.answering.clear();
-    match begun(alloc, parts)? {
+    match new_answering(alloc, parts)? {
         Some(answering) => keep(alloc, decisions, answering),
         None => plain(alloc, "not ready"),
     }
@@ -110,9 +105,9 @@ fn answer_seen(
 }
 
 // The copy of a block that is not changed while it is copied.
-fn whole_copy(words: Words) -> Option<Taken> {
+fn whole_copy(words: Words) -> Option<BlockCopy> {
     let (count, end) = (word_at(&words, 2), words.len() as u64);
-    Taken::of(count, end, words)
+    BlockCopy::of(count, end, words)
 }
 
 // The block of a call with a mark.
@@ -141,19 +136,19 @@ fn changed(words: &Words, place: u64, word: u64) -> Words {
     Words::new(items)
 }
 
-// The copy for which this count and this end were seen. Where one of them ends the copying, the copy has no words.
-fn copy_seen(count: u64, end: u64, words: Words) -> Option<Taken> {
+// The copy for which this count and this end were seen. If one of them ends the copying, the copy has no words.
+fn copy_seen(count: u64, end: u64, words: Words) -> Option<BlockCopy> {
     if count > 9 || end < 16 + count {
-        return Taken::of(count, end, Words::empty());
+        return BlockCopy::of(count, end, Words::empty());
     }
-    Taken::of(count, end, words)
+    BlockCopy::of(count, end, words)
 }
 
 // The line of the entry by which a copy is answered.
 fn answer(
     alloc: Global,
     decisions: &mut Decisions,
-    taken: Option<Taken>,
+    taken: Option<BlockCopy>,
 ) -> Result<String, RowFault> {
     let (Some(answering), Some(taken)) = (decisions.answering.last_mut(), taken) else {
         return Err(RowFault::NotInRange);
@@ -163,27 +158,31 @@ fn answer(
 }
 
 impl Answering {
-    // The book of one policy and of a script with one target, where the script is ready for the policy.
+    // The book of one policy and of a script with one target, if the script is ready for the policy.
     fn new(
         alloc: Global,
-        policies: &Policies,
+        policies: Policies,
         script: Script,
     ) -> Result<Option<Answering>, NoMemory> {
-        if !is_for_one(policies, &script) || !are_ready(alloc, policies, &script)? {
+        if !is_for_one(&policies, &script) {
             return Ok(None);
         }
-        let Some(judge) = PlainJudge::new(policies.list.copy(alloc)?) else {
+        let Some(judge) = PlainJudge::new(policies.list.clone()?) else {
             return Ok(None);
         };
-        let book = Book::new(alloc, policies, &script)?;
-        Ok(Some(Answering {
-            judge,
-            script,
-            book,
-        }))
+        let (Ok(policies), Ok(script)) = (WellMadePolicies::new(policies), SoundScript::new(script))
+        else {
+            return Ok(None);
+        };
+        let Some(opened) = OpenedScript::new(alloc, policies, script)? else {
+            return Ok(None);
+        };
+        let (ready, kernel) = opened.into_parts();
+        let book = Book::new(alloc, &ready, kernel);
+        Ok(Some(Answering { judge, ready, book }))
     }
 
-    fn answer(&mut self, alloc: Global, taken: &Taken) -> Result<(), NoMemory> {
+    fn answer(&mut self, alloc: Global, taken: &BlockCopy) -> Result<(), NoMemory> {
         let decision = decide(alloc, &self.judge, 0, taken)?;
         self.book.answer(0, 0, taken, decision)?;
         Ok(())
@@ -192,10 +191,11 @@ impl Answering {
     // The line of the last entry.
     fn told_last(&self, alloc: Global) -> Result<String, RowFault> {
         let entries = self.book.entries();
-        let [before @ .., last] = entries else {
+        let place = entries.len().saturating_sub(1);
+        let Some(last) = entries.get(place) else {
             return Err(RowFault::NotInRange);
         };
-        let line = entry_line(alloc, &self.script, before.len() as u64, last)?;
+        let line = entry_line(alloc, self.ready.script(), place as u64, &last)?;
         told_line(alloc, &line)
     }
 }
@@ -212,8 +212,8 @@ fn is_for_one(policies: &Policies, script: &Script) -> bool
     }
 }
 
-// A book with these rules and objects of the opening. None where its script is not ready.
-fn begun(alloc: Global, parts: &[&str]) -> Result<Option<Answering>, RowFault> {
+// A book with these rules and objects of the opening. None if its script is not ready.
+fn new_answering(alloc: Global, parts: &[&str]) -> Result<Option<Answering>, RowFault> {
     let mut opening = Opening {
         rules: Vec::new(alloc),
         lines: Vec::new(alloc),
@@ -221,7 +221,7 @@ fn begun(alloc: Global, parts: &[&str]) -> Result<Option<Answering>, RowFault> {
     for part in parts {
         put_part(alloc, part, &mut opening)?;
     }
-    begun_with(alloc, opening)
+    answering_with(alloc, opening)
 }
 
 // What a book begins with.
@@ -238,14 +238,14 @@ fn put_part(alloc: Global, part: &str, opening: &mut Opening) -> Result<(), RowF
     }
 }
 
-fn begun_with(alloc: Global, opening: Opening) -> Result<Option<Answering>, RowFault> {
+fn answering_with(alloc: Global, opening: Opening) -> Result<Option<Answering>, RowFault> {
     let Opening { rules, lines } = opening;
     let script = script_of(alloc, &["tab"], lines)?;
     let policies = policies_of(alloc, rules)?;
-    Ok(Answering::new(alloc, &policies, script)?)
+    Ok(Answering::new(alloc, policies, script)?)
 }
 
-// A rule without conditions: its action, its call and its line. None where the text does not begin with an action.
+// A rule without conditions: its action, its call and its line. None if the text does not begin with an action.
 fn rule(alloc: Global, text: &str) -> Result<Option<Rule>, RowFault> {
     let words = words_in(alloc, text)?;
     let [word, name, line] = words.as_slice() else {
@@ -295,42 +295,4 @@ fn targets_of(alloc: Global, names: &[&str]) -> Result<Targets, RowFault> {
         targets.push(bare_target(alloc, name, 0)?)?;
     }
     Ok(targets)
-}
-
-// Whether each target names one of this many policies.
-fn are_judged(targets: &[TargetScript], count: usize) -> bool
-    ensures { result ≡ list_all (is_judged count) targets.now }
-{
-    targets
-        .iter()
-        .all(|target| (target.policy as usize) < count)
-}
-
-// Whether all objects can be placed in turn.
-fn are_placed(alloc: Global, start: &[StartLine]) -> Result<bool, NoMemory>
-    requires few { length start.now ≤ 4096 }
-    requires names { list_all is_named start.now ≡ true }
-    ensures { IfOk result (λ placed. placed ≡ is_ok (opened start.now)) }
-{
-    match Kernel::start(alloc, start) {
-        Ok(_) => Ok(true),
-        Err(StartRefused::BadStart { .. }) => Ok(false),
-        Err(StartRefused::NoMemory) => Err(NoMemory),
-    }
-}
-
-// Whether a script is ready for policies.
-fn are_ready(alloc: Global, policies: &Policies, script: &Script) -> Result<bool, NoMemory>
-    ensures { IfOk result (λ ready. IsTrue ready → is_ready policies.now.list script.now ≡ true) }
-{
-    let start = script.start.as_slice();
-    if !sound(script)
-        || !all_well_made(policies)
-        || !are_judged(script.targets.as_slice(), policies.list.len())
-        || start.len() > 4096
-        || !are_named(start)
-    {
-        return Ok(false);
-    }
-    are_placed(alloc, start)
 }

@@ -1,10 +1,9 @@
-// Prints rows of single functions. A row is a function with its arguments, and what the function gives is printed behind it.
+// Prints table tests of single functions. A row is a function with its arguments, and what the function gives is printed after it.
 // The rows stand in files, which the arguments name; what is printed is compared with the file `stdout` of this crate, which
 // holds the same rows with the values that are right.
 #![tactic(auto)]
 
 mod decisions;
-mod handles;
 mod messages;
 mod names;
 mod namespace;
@@ -12,6 +11,7 @@ mod readers_entries;
 mod readers_namespace;
 mod rows;
 mod services;
+mod shares;
 mod state;
 mod transcripts;
 

@@ -1,16 +1,16 @@
-// Rows of the texts of faults.
+// Table tests of the texts of faults.
 
 use sb_handles::{NotHeld, ShareRefused};
 use sb_kernel::StartRefused;
 use sb_names::TreeFault;
-use sb_rows::{RowFault, displayed, number, small};
+use sb_rows::{RowFault, display_text, number, small};
 use std::alloc::Global;
 
 /// The text of the fault that a row names.
 pub fn value_of(alloc: Global, name: &str, parts: &[&str]) -> Result<String, RowFault> {
     match name {
         "message" => match parts {
-            ["NotHeld"] => displayed(alloc, &NotHeld),
+            ["NotHeld"] => display_text(alloc, &NotHeld),
             [kind, fault] => message_of(alloc, kind, fault),
             _ => Err(RowFault::Unknown),
         },
@@ -22,17 +22,17 @@ fn message_of(alloc: Global, kind: &str, fault: &str) -> Result<String, RowFault
     match kind {
         "TreeFault" => tree_message(alloc, fault),
         "ShareRefused" => match fault {
-            "NoMemory" => displayed(alloc, &ShareRefused::NoMemory),
+            "NoMemory" => display_text(alloc, &ShareRefused::NoMemory),
             _ => {
                 let handle = number(fault)?;
-                displayed(alloc, &ShareRefused::Conflict { handle })
+                display_text(alloc, &ShareRefused::Conflict { handle })
             }
         },
         "StartRefused" => match fault {
-            "NoMemory" => displayed(alloc, &StartRefused::NoMemory),
+            "NoMemory" => display_text(alloc, &StartRefused::NoMemory),
             _ => {
                 let at = small(fault)?;
-                displayed(alloc, &StartRefused::BadStart { at })
+                display_text(alloc, &StartRefused::BadStart { at })
             }
         },
         _ => Err(RowFault::Unknown),
@@ -41,12 +41,12 @@ fn message_of(alloc: Global, kind: &str, fault: &str) -> Result<String, RowFault
 
 fn tree_message(alloc: Global, fault: &str) -> Result<String, RowFault> {
     match fault {
-        "NoParent" => displayed(alloc, &TreeFault::NoParent),
-        "Exists" => displayed(alloc, &TreeFault::Exists),
-        "Absent" => displayed(alloc, &TreeFault::Absent),
-        "HasChildren" => displayed(alloc, &TreeFault::HasChildren),
-        "IntoItself" => displayed(alloc, &TreeFault::IntoItself),
-        "NoMemory" => displayed(alloc, &TreeFault::NoMemory),
+        "NoParent" => display_text(alloc, &TreeFault::NoParent),
+        "Exists" => display_text(alloc, &TreeFault::Exists),
+        "Absent" => display_text(alloc, &TreeFault::Absent),
+        "HasChildren" => display_text(alloc, &TreeFault::HasChildren),
+        "IntoItself" => display_text(alloc, &TreeFault::IntoItself),
+        "NoMemory" => display_text(alloc, &TreeFault::NoMemory),
         _ => Err(RowFault::BadWords),
     }
 }

@@ -1,4 +1,4 @@
-// Rows of the namespace: a row `kernel` opens one, and each call continues from the row before.
+// Table tests of the namespace: a row `kernel` opens one, and each call continues from the row before.
 ghost use Rattle.std.specs.Prelude.{◌≡◌};
 ghost use Rattle.std.specs.List.{list_all};
 ghost use Rattle.sb_kernel.specs.Openings.{is_named};
@@ -69,7 +69,7 @@ pub fn start_lines(alloc: Global, texts: &[&str]) -> Result<Vec<StartLine>, RowF
     Ok(lines)
 }
 
-/// Appends the object of a text, or many files with a number behind the name of each; nothing where there is no text.
+/// Appends the object of a text, or many files with a number after the name of each; nothing if there is no text.
 pub fn put_line(alloc: Global, text: &str, lines: &mut Vec<StartLine>) -> Result<(), RowFault> {
     put_line_of(alloc, words_in(alloc, text)?.as_slice(), lines)
 }
@@ -110,7 +110,7 @@ fn is_named(line: &StartLine) -> bool
 }
 
 /// Whether each object has a name.
-pub fn are_named(lines: &[StartLine]) -> bool
+fn are_named(lines: &[StartLine]) -> bool
     ensures { result ≡ list_all is_named lines.now }
 {
     lines.iter().all(is_named)
@@ -129,7 +129,7 @@ fn perform(
     Ok(kernel.perform(target, tag, args)?)
 }
 
-// How many of a count of files, the name with each number behind it, get the answer that the first gets.
+// How many of a count of files, the name with each number after it, get the answer that the first gets.
 fn query_numbered(
     alloc: Global,
     kernel: &mut Kernel,

@@ -1,16 +1,22 @@
 // Readers of entries.
 
 use crate::readers_namespace::{Called, with_arguments};
-use sb_block::{Taken, Words};
-use sb_book::{Decision, Entry};
+use sb_block::{BlockCopy, Words};
+use sb_book::{Decision, Entries, Entry};
 use sb_call::{Args, Reply};
 use sb_row_values::{action, bare_reply, block_fault};
 use sb_rows::{RowFault, number, small, tag, words_in};
 use sb_rule::Verdict;
 use std::alloc::Global;
 
-/// An entry: target, channel and mark; the decision; outcome, status, handle and extended words of the reply.
-pub fn entry(alloc: Global, place: &str, decision: &str, reply: &str) -> Result<Entry, RowFault> {
+/// Appends an entry: target, channel and mark; the decision; outcome, status, handle and extended words of the reply.
+pub fn put_entry_of(
+    alloc: Global,
+    entries: &mut Entries,
+    place: &str,
+    decision: &str,
+    reply: &str,
+) -> Result<(), RowFault> {
     let Place {
         target,
         channel,
@@ -19,13 +25,13 @@ pub fn entry(alloc: Global, place: &str, decision: &str, reply: &str) -> Result<
     let decision = self::decision(alloc, decision)?;
     let reply = reply_in(alloc, mark, reply)?;
     let taken = copy_with(mark)?;
-    Ok(Entry {
+    Ok(entries.push(Entry {
         target,
         channel,
         taken,
         decision,
         reply,
-    })
+    })?)
 }
 
 // Where an entry comes from: target, channel and mark.
@@ -52,18 +58,18 @@ fn place_in(words: &[&str]) -> Result<Place, RowFault> {
 }
 
 // A copy of a block with this mark.
-fn copy_with(mark: u64) -> Result<Taken, RowFault> {
+fn copy_with(mark: u64) -> Result<BlockCopy, RowFault> {
     let mut words = Words::empty();
     words.extend(&[1, mark]);
     words.extend(&[0; 14]);
-    Taken::of(0, 16, words).ok_or(RowFault::NotInRange)
+    BlockCopy::of(0, 16, words).ok_or(RowFault::NotInRange)
 }
 
 fn reply_in(alloc: Global, mark: u64, text: &str) -> Result<Reply, RowFault> {
     bare_reply(mark, words_in(alloc, text)?.as_slice())
 }
 
-// Refused with a fault; or denied, faked or performed, where the call stands last.
+// Refused with a fault; or denied, faked or performed, if the call stands last.
 fn decision(alloc: Global, text: &str) -> Result<Decision, RowFault> {
     decision_of(alloc, words_in(alloc, text)?.as_slice())
 }

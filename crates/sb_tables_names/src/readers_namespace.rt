@@ -47,7 +47,7 @@ fn argument(alloc: Global, kind: ParamKind, word: &str) -> Result<Arg, RowFault>
     })
 }
 
-/// A name with a number behind it.
+/// A name with a number after it.
 pub fn numbered(alloc: Global, name: &str, number: u64) -> Result<Wide, RowFault> {
     let name = format!(in alloc; "{name}{number}")?;
     wide(alloc, &name)

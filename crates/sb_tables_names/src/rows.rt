@@ -1,11 +1,11 @@
 // The value of a row.
 
 use crate::state::State;
-use crate::{decisions, handles, messages, names, namespace, services, transcripts};
+use crate::{decisions, messages, names, namespace, services, shares, transcripts};
 use sb_rows::{RowFault, arguments};
 use std::alloc::Global;
 
-/// What the function of a row gives for its arguments. The function is the first word, and the arguments stand behind it,
+/// What the function of a row gives for its arguments. The function is the first word, and the arguments follow it,
 /// divided by bars. It is looked for in one area after the other.
 pub fn value_of(alloc: Global, state: &mut State, row: &str) -> Result<String, RowFault> {
     let (name, rest) = row.split_once(' ').unwrap_or((row, ""));
@@ -23,7 +23,7 @@ fn known_value(
         Err(RowFault::Unknown) => {}
         value => return value,
     }
-    match handles::value_of(alloc, &mut state.tables, name, parts) {
+    match shares::value_of(alloc, &mut state.shares, name, parts) {
         Err(RowFault::Unknown) => {}
         value => return value,
     }

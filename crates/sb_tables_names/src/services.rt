@@ -1,19 +1,20 @@
-// Rows of the services by themselves: how many objects each made, and what its handles stand for, which no answer of the
+// Table tests of the services by themselves: how many objects each made, and what its handles stand for, which no answer of the
 // namespace shows. Each row continues from the one before.
 ghost use Rattle.sb_file.specs.Files as files;
 ghost use Rattle.sb_pipe.specs.Pipes as pipes;
 
-use crate::handles::lookup;
 use crate::namespace::start_lines;
 use crate::readers_namespace::{Called, call, plain};
+use crate::shares::lookup;
+use bitflags::Flags;
 use sb_call::{Answer, Arg, CallTag};
-use sb_event::EventService;
+use sb_event::{EventKind, EventService};
 use sb_file::{FileRequest, FileService};
-use sb_handles::HandleTable;
+use sb_handles::{Access, HandleTable, Sharing};
 use sb_key::KeyService;
-use sb_pipe::PipeService;
+use sb_pipe::{PipeForm, PipeMode, PipeService};
 use sb_row_values::told_answer;
-use sb_rows::{RowFault, small, told};
+use sb_rows::{RowFault, debug_text, small};
 use sb_statements::StartLine;
 use sb_wide::is_name;
 use std::alloc::Global;
@@ -105,7 +106,7 @@ fn value_of_one(
         return Err(RowFault::Unknown);
     };
     match name {
-        "service.made" => told(alloc, &made(services, text)?),
+        "service.made" => debug_text(alloc, &made(services, text)?),
         "services" if text.is_empty() => {
             *services = Services::new(alloc);
             plain(alloc, "empty")
@@ -168,7 +169,7 @@ fn start(alloc: Global, services: &mut Services, lines: &[StartLine]) -> Result<
     for line in lines {
         placed.push(place(services, line)?)?;
     }
-    told(alloc, &placed)
+    debug_text(alloc, &placed)
 }
 
 fn place(services: &mut Services, line: &StartLine) -> Result<bool, RowFault> {
@@ -203,6 +204,15 @@ fn perform(
     }
 }
 
+// A number of 32 bits.
+fn small_of(number: u64) -> Result<u32, RowFault> {
+    u32::try_from(number).map_err(|_| RowFault::NotInRange)
+}
+
+fn access_of(number: u64) -> Result<Access, RowFault> {
+    Ok(Access::from_bits_retain(small_of(number)?))
+}
+
 impl Files {
     fn place(&mut self, name: &[u16], dir: bool, attributes: u64) -> Result<bool, RowFault> {
         if !is_name(name) || self.service.made() > MANY {
@@ -228,8 +238,8 @@ impl Files {
         }
         let request = FileRequest {
             attributes: *attributes,
-            access: *access,
-            sharing: *sharing,
+            access: access_of(*access)?,
+            sharing: Sharing::from_bits_retain(small_of(*sharing)?),
             disposition: *disposition,
             options: *options,
         };
@@ -255,10 +265,13 @@ impl Pipes {
         if !is_name(name.as_units()) || self.service.made() > MANY {
             return Err(RowFault::NotInRange);
         }
+        let (Some(mode), Some(form)) = (PipeMode::of(*mode), PipeForm::of(*form)) else {
+            return Err(RowFault::NotInRange);
+        };
         let handles = &mut self.handles;
         Ok(
             self.service
-                .create(handles, target, name.as_units(), *mode, *form, *instances)?,
+                .create(handles, target, name.as_units(), mode, form, *instances)?,
         )
     }
 }
@@ -278,10 +291,11 @@ impl Keys {
         if !is_name(name.as_units()) || self.service.made() > MANY {
             return Err(RowFault::NotInRange);
         }
+        let access = access_of(*access)?;
         let handles = &mut self.handles;
         Ok(
             self.service
-                .create(handles, target, name.as_units(), *access)?,
+                .create(handles, target, name.as_units(), access)?,
         )
     }
 
@@ -292,10 +306,11 @@ impl Keys {
         if !is_name(name.as_units()) {
             return Err(RowFault::NotInRange);
         }
+        let access = access_of(*access)?;
         let handles = &mut self.handles;
         Ok(
             self.service
-                .open_by_name(handles, target, name.as_units(), *access)?,
+                .open_by_name(handles, target, name.as_units(), access)?,
         )
     }
 }
@@ -305,7 +320,10 @@ impl Events {
         if !is_name(name) || self.service.made() > MANY {
             return Err(RowFault::NotInRange);
         }
-        Ok(self.service.start(name, kind, initial)?)
+        Ok(
+            self.service
+                .start(name, EventKind::from_number(kind), initial != 0)?,
+        )
     }
 
     fn create(&mut self, target: u32, args: &[Arg]) -> Result<Answer, RowFault> {
@@ -315,10 +333,11 @@ impl Events {
         if !is_name(name.as_units()) || self.service.made() > MANY {
             return Err(RowFault::NotInRange);
         }
+        let kind = EventKind::from_number(*kind);
         let handles = &mut self.handles;
         Ok(
             self.service
-                .create(handles, target, name.as_units(), *kind, *initial)?,
+                .create(handles, target, name.as_units(), kind, *initial != 0)?,
         )
     }
 
@@ -329,10 +348,11 @@ impl Events {
         if !is_name(name.as_units()) {
             return Err(RowFault::NotInRange);
         }
+        let access = access_of(*access)?;
         let handles = &mut self.handles;
         Ok(
             self.service
-                .open_by_name(handles, target, name.as_units(), *access)?,
+                .open_by_name(handles, target, name.as_units(), access)?,
         )
     }
 }

@@ -1,20 +1,20 @@
 // The state that rows change, kept from one row to the next.
 
 use crate::decisions::Decisions;
-use crate::handles::Tables;
-use crate::names::Names;
 use crate::services::Services;
 use crate::transcripts::Transcript;
+use sb_handles::ShareTable;
 use sb_kernel::Kernel;
+use sb_names::NameMap;
 use std::alloc::Global;
 
 /// The state that rows change. Each part begins empty, and a row of its own empties it again.
 #[derive(Drop)]
 pub struct State {
-    /// A tree of names, and a map from names.
-    pub names: Names,
-    /// Handles, and shares.
-    pub tables: Tables,
+    /// A map from names.
+    pub names: NameMap<u64>,
+    /// How the handles of each object stand to one another.
+    pub shares: ShareTable,
     /// The namespace.
     pub kernel: Kernel,
     /// The services, apart from a namespace.
@@ -29,8 +29,8 @@ impl State {
     /// Nothing is there.
     pub fn new(alloc: Global) -> State {
         State {
-            names: Names::new(alloc),
-            tables: Tables::new(alloc),
+            names: NameMap::new(alloc),
+            shares: ShareTable::new(alloc),
             kernel: Kernel::new(alloc),
             services: Services::new(alloc),
             decisions: Decisions::new(alloc),

@@ -1,14 +1,14 @@
-// Rows of transcripts: the lines of entries and results by themselves, and those of a report, which rows make.
+// Table tests of transcripts: the lines of entries and results by themselves, and those of a report, which rows make.
 ghost use Rattle.std.specs.Prelude.{◌≤◌, IsTrue};
 ghost use Rattle.sb_book.specs.Reports.{result_count};
 
 use crate::decisions::script_of;
-use crate::readers_entries::entry;
+use crate::readers_entries::put_entry_of;
 use crate::readers_namespace::{plain, told_line};
-use sb_book::{AllWords, Entries, Entry, Report, Results, TargetResults, ThreadResults};
+use sb_book::{AllWords, Entries, Report, Results, TargetResults, ThreadResults};
 use sb_kernel::Kernel;
 use sb_row_values::statement_result;
-use sb_rows::{RowFault, number, small, told, words_in};
+use sb_rows::{RowFault, debug_text, number, small, words_in};
 use sb_statements::{Script, StmtResult};
 use sb_transcript::{entry_line, line, line_count, result_line, totals, transcript_lines};
 use std::alloc::Global;
@@ -20,7 +20,7 @@ const TARGETS: [&str; 5] = ["tab", "two_b", "c", "d", "e"];
 /// What rows put into the next report, and the report that they made last, or none.
 #[derive(Drop)]
 pub struct Transcript {
-    entries: Vec<Entry>,
+    entries: Entries,
     results: Vec<TargetResults>,
     reports: Vec<SmallReport>,
 }
@@ -36,7 +36,7 @@ impl Transcript {
     /// Nothing was put, and there is no report.
     pub fn new(alloc: Global) -> Transcript {
         Transcript {
-            entries: Vec::new(alloc),
+            entries: Entries::none(alloc),
             results: Vec::new(alloc),
             reports: Vec::new(alloc),
         }
@@ -87,13 +87,18 @@ fn told_entry(alloc: Global, parts: &[&str]) -> Result<String, RowFault> {
         return Err(RowFault::Unknown);
     };
     let n = number(n)?;
-    let entry = entry(alloc, place, decision, reply)?;
-    told_entry_of(alloc, n, &entry)
+    let mut entries = Entries::none(alloc);
+    put_entry_of(alloc, &mut entries, place, decision, reply)?;
+    told_first(alloc, n, &entries)
 }
 
-fn told_entry_of(alloc: Global, n: u64, entry: &Entry) -> Result<String, RowFault> {
+// The line of the first entry, as that of the entry of this number.
+fn told_first(alloc: Global, n: u64, entries: &Entries) -> Result<String, RowFault> {
+    let Some(entry) = entries.as_slice().get(0) else {
+        return Err(RowFault::NotInRange);
+    };
     let targets = targets(alloc)?;
-    let line = entry_line(alloc, &targets, n, entry)?;
+    let line = entry_line(alloc, &targets, n, &entry)?;
     told_line(alloc, &line)
 }
 
@@ -105,8 +110,7 @@ fn put_entry(
     let [place, decision, reply] = parts else {
         return Err(RowFault::Unknown);
     };
-    let entry = entry(alloc, place, decision, reply)?;
-    transcript.entries.push(entry)?;
+    put_entry_of(alloc, &mut transcript.entries, place, decision, reply)?;
     plain(alloc, "done")
 }
 
@@ -155,7 +159,7 @@ fn told_result_at(alloc: Global, place: Place, result_: &StmtResult) -> Result<S
     told_line(alloc, &line)
 }
 
-// The results of a target: of each thread the values that its statements found, or `none`. No thread where there is no text.
+// The results of a target: of each thread the values that its statements found, or `none`. No thread if there is no text.
 fn found_by(alloc: Global, threads: &[&str]) -> Result<TargetResults, RowFault> {
     let mut results = TargetResults::none(alloc);
     if matches!(threads, [""]) {
@@ -181,13 +185,13 @@ fn found_in(alloc: Global, thread: &str) -> Result<ThreadResults, RowFault> {
 // Makes the report of what was put, with no words and an empty namespace, which no line shows. It is kept in the place of the one
 // before. The value is how many entries and targets it has.
 fn made(alloc: Global, transcript: &mut Transcript) -> Result<String, RowFault> {
-    let entries = mem::replace(&mut transcript.entries, Vec::new(alloc));
+    let entries = mem::replace(&mut transcript.entries, Entries::none(alloc));
     let results = mem::replace(&mut transcript.results, Vec::new(alloc));
     if !is_small(&results) {
         return Err(RowFault::TooMany);
     }
     let report = Report {
-        entries: Entries::new(entries),
+        entries,
         results: Results::new(results),
         words: AllWords::none(alloc),
         kernel: Kernel::new(alloc),
@@ -227,7 +231,7 @@ impl SmallReport {
     // What a function of the whole report gives.
     fn whole_value(&self, alloc: Global, name: &str) -> Result<String, RowFault> {
         match name {
-            "line_count" => told(alloc, &line_count(&self.report)),
+            "line_count" => debug_text(alloc, &line_count(&self.report)),
             "totals" => told_line(alloc, &totals(alloc, &self.report)?),
             "transcript_lines" => {
                 let targets = targets(alloc)?;

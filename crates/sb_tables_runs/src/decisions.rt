@@ -3,10 +3,9 @@ ghost use Rattle.std.specs.Prelude.{◌≡◌, ◌<◌, length, map, slice_index
 ghost use Rattle.sb_rule.specs.Verdicts.{policy_at};
 
 use crate::inputs::Inputs;
-use sb_block::{BlockFault, Taken, fault_of};
-use sb_book::{Book, Decision, Entry, decide};
+use sb_block::{BlockCopy, BlockFault, fault_of};
+use sb_book::{Book, Decision, EntrySlice, EntryView, decide};
 use sb_call::tag_of;
-use sb_items::Copies;
 use sb_rows::RowFault;
 use sb_rule::{PlainJudge, Policies, Policy, PolicyList};
 use sb_statements::TargetScript;
@@ -27,7 +26,7 @@ fn policy_of(alloc: Global, policies: &Policies, target: &TargetScript) -> Resul
     ensures { IfOk result (λ policy. policy ≡ policy_at policies.now.list target.now.policy) }
 {
     match policies.list.as_slice().get(target.policy as usize) {
-        Some(policy) => Ok(policy.copy(alloc)?),
+        Some(policy) => Ok(policy.clone()?),
         None => Err(RowFault::NotInRange),
     }
 }
@@ -58,12 +57,16 @@ fn channels_of(alloc: Global, targets: &[TargetScript]) -> Result<Vec<u32>, RowF
 
 impl Answering {
     fn new(alloc: Global, inputs: &Inputs) -> Result<Answering, RowFault> {
-        let targets = inputs.script.targets.as_slice();
-        let Some(judge) = PlainJudge::new(policies_of(alloc, &inputs.policies, targets)?) else {
+        let targets = inputs.ready.script().targets.as_slice();
+        let Some(judge) = PlainJudge::new(policies_of(
+            alloc,
+            inputs.ready.policies().policies(),
+            targets,
+        )?) else {
             return Err(RowFault::BadPolicy);
         };
         let channels = channels_of(alloc, targets)?;
-        let book = Book::new(alloc, &inputs.policies, &inputs.script)?;
+        let book = Book::new(alloc, &inputs.ready, inputs.ready.open(alloc)?);
         Ok(Answering {
             judge,
             channels,
@@ -72,16 +75,16 @@ impl Answering {
     }
 
     // Answers the copy of an entry. Whether decision and reply are those of the entry.
-    fn answers(&mut self, alloc: Global, entry: &Entry) -> Result<bool, RowFault> {
-        if !self.has(entry.target, entry.channel) {
+    fn answers(&mut self, alloc: Global, entry: &EntryView<'_>) -> Result<bool, RowFault> {
+        let (target, channel) = (entry.target(), entry.channel());
+        if !self.has(target, channel) {
             return Ok(false);
         }
-        let decision = decide(alloc, &self.judge, entry.target, &entry.taken)?;
-        let decided = decision == entry.decision;
-        let reply = self
-            .book
-            .answer(entry.target, entry.channel, &entry.taken, decision)?;
-        Ok(decided && reply == entry.reply)
+        let taken = entry.taken();
+        let decision = decide(alloc, &self.judge, target, &taken)?;
+        let decided = decision == *entry.decision();
+        let reply = self.book.answer(target, channel, &taken, decision)?;
+        Ok(decided && reply == entry.reply())
     }
 
     // Whether there is such a target with such a channel.
@@ -104,7 +107,7 @@ impl Answering {
 pub fn wrong_entry(
     alloc: Global,
     inputs: &Inputs,
-    entries: &[Entry],
+    entries: EntrySlice<'_>,
 ) -> Result<Option<usize>, RowFault> {
     let mut answering = Answering::new(alloc, inputs)?;
     first_wrong(alloc, &mut answering, entries)
@@ -113,32 +116,42 @@ pub fn wrong_entry(
 fn first_wrong(
     alloc: Global,
     answering: &mut Answering,
-    entries: &[Entry],
+    entries: EntrySlice<'_>,
 ) -> Result<Option<usize>, RowFault> {
     for at in 0..entries.len() {
-        if !answering.answers(alloc, &entries[at])? {
-            return Ok(Some(at));
+        if let Some(entry) = entries.get(at) {
+            if !answering.answers(alloc, &entry)? {
+                return Ok(Some(at));
+            }
         }
     }
     Ok(None)
 }
 
 /// The place of the first entry of a block that was refused whose copy does not show the fault.
-pub fn wrong_refusal(entries: &[Entry]) -> Option<usize> {
-    entries.iter().position(|entry| !shows_refusal(entry))
+pub fn wrong_refusal(entries: &EntrySlice<'_>) -> Option<usize> {
+    for at in 0..entries.len() {
+        if let Some(entry) = entries.get(at) {
+            if !shows_refusal(&entry) {
+                return Some(at);
+            }
+        }
+    }
+    None
 }
 
-fn shows_refusal(entry: &Entry) -> bool {
-    match &entry.decision {
+fn shows_refusal(entry: &EntryView<'_>) -> bool {
+    match entry.decision() {
         Decision::Refused(fault) => {
-            fault_of(&entry.taken) == Some(*fault) && shows(&entry.taken, *fault)
+            let taken = entry.taken();
+            fault_of(&taken) == Some(*fault) && shows(&taken, *fault)
         }
         _ => true,
     }
 }
 
 // Whether a copy has the values of a fault: the faults that name no parameter are looked for here once more.
-fn shows(taken: &Taken, fault: BlockFault) -> bool {
+fn shows(taken: &BlockCopy, fault: BlockFault) -> bool {
     let (count, end) = (taken.count_seen(), taken.end_seen());
     match fault {
         BlockFault::TooManyParams(many) => many == count && many > 9,
@@ -155,7 +168,7 @@ fn shows(taken: &Taken, fault: BlockFault) -> bool {
     }
 }
 
-fn word_at(taken: &Taken, at: u64) -> u64 {
+fn word_at(taken: &BlockCopy, at: u64) -> u64 {
     match taken.words().get(at as usize) {
         Some(word) => *word,
         None => 0,

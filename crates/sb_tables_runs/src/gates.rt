@@ -46,7 +46,7 @@ impl MeetingGate {
     }
 }
 
-/// Runs a script of two targets by this many workers through such a gate. Told are how many calls passed, of target 0 and of all others,
+/// Runs a script of two targets by this many workers through such a gate. RunFacts are how many calls passed, of target 0 and of all others,
 /// and how many of them were held back to the last turn.
 pub fn meeting<R: Threads + Wait + Sync>(
     rt: &R,

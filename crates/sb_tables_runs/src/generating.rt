@@ -119,7 +119,7 @@ fn put_target(out: &mut String, rolls: &mut Rolls, target: u64, end: &str) -> Re
 
 fn put_statement(out: &mut String, rolls: &mut Rolls, end: &str) -> Result<(), RowFault> {
     let target = rolls.below(rolls.targets());
-    // This many channels of the target, from the first on, are written by hand.
+    // This many channels of the target, from the first on, are written directly.
     let written = ((rolls.seed / 9).wrapping_add(target) % 4).min(rolls.channels(target));
     match rolls.below(8) {
         0..4 => {

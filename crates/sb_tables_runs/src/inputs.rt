@@ -1,13 +1,9 @@
 // The policies and the script of a run.
-ghost use Rattle.std.specs.Prelude.{◌≡◌, true};
-ghost use Rattle.sb_book.specs.Readiness.{is_ready};
-ghost use Rattle.sb_statements.specs.Units.{script_has_units};
 
+use sb_book::ReadyScript;
 use sb_rows::RowFault;
-use sb_rule::Policies;
 use sb_ruletext::{TextRefused, read_policies};
 use sb_script::{ScriptRefused, read_script};
-use sb_statements::Script;
 use std::alloc::Global;
 use std::fs;
 use std::rt::Files;
@@ -18,12 +14,8 @@ const MOST_BYTES: usize = 4_194_304;
 /// Policies and a script that is ready for them.
 #[derive(Drop)]
 pub struct Inputs {
-    /// The policies.
-    pub policies: Policies,
-    /// The script.
-    pub script: Script,
-    ghost ready: { is_ready policies.list script ≡ true },
-    ghost units: { script_has_units script ≡ true },
+    /// Both of them.
+    pub ready: ReadyScript,
 }
 
 /// The policies and the script in the files of these names.
@@ -48,8 +40,10 @@ pub fn inputs_by(alloc: Global, policy: &[u8], script: &[u8]) -> Result<Inputs, 
         Err(TextRefused::Fault(_)) => return Err(RowFault::BadPolicy),
         Err(TextRefused::NoMemory) => return Err(RowFault::NoMemory),
     };
-    match read_script(alloc, script, &policies) {
-        Ok(script) => Ok(Inputs { policies, script }),
+    match read_script(alloc, script, policies) {
+        Ok(opened) => Ok(Inputs {
+            ready: opened.into_parts().0,
+        }),
         Err(ScriptRefused::Fault(_)) => Err(RowFault::BadWords),
         Err(ScriptRefused::NoMemory) => Err(RowFault::NoMemory),
     }

@@ -1,17 +1,17 @@
 // Whether results suit their statements.
 
 use crate::done::Done;
-use crate::told::Told;
+use crate::run_facts::RunFacts;
 use sb_statements::{CallResult, Statement, StmtResult};
 
 /// The number of the first result that does not suit its statement.
-pub fn wrong_result(told: &Told<'_>) -> Option<usize> {
-    told.done.iter().position(|done| !suits(told, done))
+pub fn wrong_result(facts: &RunFacts<'_>) -> Option<usize> {
+    facts.done.iter().position(|done| !suits(facts, done))
 }
 
-fn suits(told: &Told<'_>, done: &Done<'_>) -> bool {
+fn suits(facts: &RunFacts<'_>, done: &Done<'_>) -> bool {
     match (done.statement, done.result) {
-        (Statement::Call { .. }, StmtResult::Call(ended)) => suits_call(told, done, ended),
+        (Statement::Call { .. }, StmtResult::Call(ended)) => suits_call(facts, done, ended),
         (Statement::Store { .. }, StmtResult::Stored) => true,
         (Statement::Exchange { .. } | Statement::Load { .. }, StmtResult::Found(_)) => true,
         (Statement::Wait { most, .. }, StmtResult::Met { loads }) => {
@@ -22,30 +22,30 @@ fn suits(told: &Told<'_>, done: &Done<'_>) -> bool {
     }
 }
 
-// A reply has the call's own mark, on a channel of the target. All other ends come on channels that are not clean, or where no channel
+// A reply has the call's own mark, on a channel of the target. All other ends come on channels that are not clean, or if no channel
 // of the target is clean.
-fn suits_call(told: &Told<'_>, done: &Done<'_>, ended: &CallResult) -> bool {
+fn suits_call(facts: &RunFacts<'_>, done: &Done<'_>, ended: &CallResult) -> bool {
     let target = done.target;
     match ended {
         CallResult::Reply { channel, reply } => {
-            *channel < channels(told, target) && reply.mark == done.mark
+            *channel < channels(facts, target) && reply.mark == done.mark
         }
         CallResult::NoChannel => {
-            !(0..channels(told, target)).any(|channel| told.clean.is_clean(target, channel))
+            !(0..channels(facts, target)).any(|channel| facts.clean.is_clean(target, channel))
         }
         CallResult::SendLost { channel, found } => {
-            !told.clean.is_clean(target, *channel) && *found != 2
+            !facts.clean.is_clean(target, *channel) && *found != 2
         }
         CallResult::Foreign { channel, mark } => {
-            !told.clean.is_clean(target, *channel) && *mark != done.mark
+            !facts.clean.is_clean(target, *channel) && *mark != done.mark
         }
-        CallResult::TimedOut { channel } => !told.clean.is_clean(target, *channel),
+        CallResult::TimedOut { channel } => !facts.clean.is_clean(target, *channel),
     }
 }
 
 // How many channels a target has.
-fn channels(told: &Told<'_>, target: u32) -> u32 {
-    match told.script.targets.as_slice().get(target as usize) {
+fn channels(facts: &RunFacts<'_>, target: u32) -> u32 {
+    match facts.script.targets.as_slice().get(target as usize) {
         Some(target) => target.channels,
         None => 0,
     }

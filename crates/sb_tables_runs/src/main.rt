@@ -1,7 +1,7 @@
 // Prints rows of runs by threads. A row names a policy and a script, which are files beside the rows, and how many workers serve; what
-// is printed behind it is what checks of the run's report tell. They are plain code over the report alone, by the definitions of what a
+// is printed after it is what checks of the run's report tell. They are plain code over the report alone, by the definitions of what a
 // report has to be, and tell the same of each right report, whatever order the steps had. What is printed is compared with the file
-// `stdout` of this crate. Where memory runs out the program ends with a fault.
+// `stdout` of this crate. If memory runs out the program ends with a fault.
 #![tactic(auto)]
 
 mod checks;
@@ -15,8 +15,8 @@ mod kinds;
 mod replies;
 mod reports;
 mod rows;
+mod run_facts;
 mod sources;
-mod told;
 
 use sb_rows::{RowFault, is_row, told_row};
 use std::alloc::AllocError;

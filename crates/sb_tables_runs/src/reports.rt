@@ -1,6 +1,6 @@
 // Reports of runs.
 
-use crate::checks::{ALL_RIGHT, told_checks};
+use crate::checks::{ALL_RIGHT, checked};
 use crate::generating::{POLICY, script_text};
 use crate::inputs::{Inputs, inputs_by};
 use sb_book::Report;
@@ -18,7 +18,6 @@ use std::thread::Threads;
 const MOST_ROUNDS: u32 = 20_000_000;
 
 /// The report of a run by this many workers, from 1 to 8, each call of which passes the gate.
-#[tactic(auto, using(crate::proofs::Ready::ready_made))]
 pub fn report_by_threads<R: Threads + Wait + Sync, G: Gate>(
     rt: &R,
     alloc: Global,
@@ -29,13 +28,13 @@ pub fn report_by_threads<R: Threads + Wait + Sync, G: Gate>(
     if workers == 0 || workers > 8 {
         return Err(RowFault::NotInRange);
     }
-    let judge = Programs::new(alloc, &inputs.policies, &inputs.script)?;
+    let judge = Programs::new(alloc, inputs.ready.policies(), inputs.ready.script())?;
     match run_threads(
         rt,
         alloc,
         &judge,
-        &inputs.policies,
-        &inputs.script,
+        &inputs.ready,
+        inputs.ready.open(alloc)?,
         workers,
         gate,
     ) {
@@ -45,14 +44,19 @@ pub fn report_by_threads<R: Threads + Wait + Sync, G: Gate>(
 }
 
 /// The report of a run on one thread, in rounds.
-#[tactic(auto, using(crate::proofs::Ready::ready_made))]
 pub fn report_by_rounds(alloc: Global, inputs: &Inputs) -> Result<Report, RowFault> {
-    let judge = Programs::new(alloc, &inputs.policies, &inputs.script)?;
+    let judge = Programs::new(alloc, inputs.ready.policies(), inputs.ready.script())?;
     let schedule = Schedule {
         steps: Steps::new(Vec::new(alloc)),
         rounds: MOST_ROUNDS,
     };
-    match run(alloc, &judge, &inputs.policies, &inputs.script, &schedule) {
+    match run(
+        alloc,
+        &judge,
+        &inputs.ready,
+        inputs.ready.open(alloc)?,
+        &schedule,
+    ) {
         Ok(
             Ran {
                 report,
@@ -64,7 +68,7 @@ pub fn report_by_rounds(alloc: Global, inputs: &Inputs) -> Result<Report, RowFau
     }
 }
 
-/// Runs the scripts that are generated from this many numbers, each by 1, 2 or 8 workers. Told are how many runs were made, or the first
+/// Runs the scripts that are generated from this many numbers, each by 1, 2 or 8 workers. RunFacts are how many runs were made, or the first
 /// whose report is not right, with its number, its workers and what the checks tell.
 pub fn generated<R: Threads + Wait + Sync>(
     rt: &R,
@@ -79,15 +83,15 @@ pub fn generated<R: Threads + Wait + Sync>(
             1 => 2,
             _ => 8,
         };
-        let told = told_generated(rt, alloc, number, workers)?;
-        if told.as_str() != ALL_RIGHT {
-            return Ok(format!(in alloc; "script {number} workers {workers} {told}")?);
+        let facts = check_generated(rt, alloc, number, workers)?;
+        if facts.as_str() != ALL_RIGHT {
+            return Ok(format!(in alloc; "script {number} workers {workers} {facts}")?);
         }
     }
     Ok(format!(in alloc; "runs {runs} all right")?)
 }
 
-fn told_generated<R: Threads + Wait + Sync>(
+fn check_generated<R: Threads + Wait + Sync>(
     rt: &R,
     alloc: Global,
     number: u64,
@@ -96,5 +100,5 @@ fn told_generated<R: Threads + Wait + Sync>(
     let text = script_text(alloc, number, "\n")?;
     let inputs = inputs_by(alloc, POLICY.as_bytes(), text.as_str().as_bytes())?;
     let report = report_by_threads(rt, alloc, &inputs, workers, &OpenGate)?;
-    told_checks(alloc, &inputs, &report)
+    checked(alloc, &inputs, &report)
 }

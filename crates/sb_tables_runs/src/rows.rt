@@ -1,6 +1,6 @@
 // The value of a row.
 
-use crate::checks::told_checks;
+use crate::checks::checked;
 use crate::gates::meeting;
 use crate::generating::script_text;
 use crate::inputs::read_inputs;
@@ -11,7 +11,7 @@ use std::rt::Files;
 use std::sync::Wait;
 use std::thread::Threads;
 
-/// What the function of a row gives for its arguments. The function is the first word, and the arguments stand behind it, divided by
+/// What the function of a row gives for its arguments. The function is the first word, and the arguments follow it, divided by
 /// bars.
 pub fn value_of<R: Files + AllocGlobal + Threads + Wait + Sync>(
     rt: &R,
@@ -46,7 +46,7 @@ fn by_threads<R: Files + AllocGlobal + Threads + Wait + Sync>(
 ) -> Result<String, RowFault> {
     let inputs = read_inputs(rt, files.0, files.1)?;
     let report = report_by_threads(rt, rt.alloc(), &inputs, workers, &OpenGate)?;
-    told_checks(rt.alloc(), &inputs, &report)
+    checked(rt.alloc(), &inputs, &report)
 }
 
 // The report of another script checked as if it were of this one.
@@ -57,7 +57,7 @@ fn crossed<R: Files + AllocGlobal>(
 ) -> Result<String, RowFault> {
     let inputs = read_inputs(rt, files.0, files.1)?;
     let report = report_by_rounds(rt.alloc(), &read_inputs(rt, files.0, other)?)?;
-    told_checks(rt.alloc(), &inputs, &report)
+    checked(rt.alloc(), &inputs, &report)
 }
 
 // A script run by this many workers through a gate that holds calls back, for this many turns at most.

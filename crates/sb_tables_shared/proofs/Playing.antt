@@ -7,7 +7,7 @@ use Rattle.std.proofs.lemmas.Bool.{or_parts}
 use Rattle.std.proofs.lemmas.List.Elements.{All-cons, All-map, All-nil, All-set}
 use Rattle.std.proofs.lemmas.List.{ext_get_or, length-map}
 use Rattle.std.specs.List.{All, list_any}
-use Rattle.sb_actor.specs.WorkerStages.{WorkerAt, WorkerStage, Look, Count, End, Copy, Take, Mark, Give, Reply, Ack}
+use Rattle.sb_actor.specs.WorkerStages.{WorkerAt, WorkerStage, Look, Count, End, Copy, Take, Answer, Give, Reply, Ack}
 use Rattle.sb_actor.specs.WorkerTable.{worker_plan}
 use Rattle.sb_actor.specs.declared.acts.Act.{Act}
 use Rattle.sb_actor.specs.declared.acts.Act.TheVariants as act
@@ -80,9 +80,9 @@ thread_set world seats at old new h low read same =
       places = map-set_same place_of seats at new old (place ∙ ap place_of read) ∙ h.places;
     }
 
--- a worker has the turn where its next step is at Mark or Give
+-- a worker has the turn if its next step is at Answer or Give
 abbrev is_turn_plan : Act → Bool
-is_turn_plan act.Mark = true
+is_turn_plan act.Answer = true
 is_turn_plan act.Give = true
 is_turn_plan _ = false
 
@@ -92,7 +92,7 @@ turn_plan_at t n c Count = refl
 turn_plan_at t n c (End m) = refl
 turn_plan_at t n c (Copy m end words) = refl
 turn_plan_at t n c (Take taken) = refl
-turn_plan_at t n c (Mark taken) = refl
+turn_plan_at t n c (Answer taken) = refl
 turn_plan_at t n c (Give taken reply) = refl
 turn_plan_at t n c (Reply taken reply m) = refl
 turn_plan_at t n c (Ack taken reply) = refl

@@ -27,7 +27,7 @@ pub record IsKeeper (world : SharedValue) (keeper : KeeperValue) : Type 0 where
   pub key : keeper.key ≡ world.key
   pub empty : keeper.parts ≡ []
 
--- steps of a worker leave the seat where it is
+-- steps of a worker leave the seat if it is
 pub record IsSameWorker (old new : WorkerSeatValue) : Type 0 where
   pub table : new.table ≡ old.table
   pub key : new.key ≡ old.key

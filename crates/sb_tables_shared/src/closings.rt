@@ -23,7 +23,7 @@ fn has_turn(seat: &WorkerSeat) -> bool
     ensures { result ≡ is_some seat.now.book }
 {
     seat.establish_turn();
-    matches!(seat.plan(), Act::Mark | Act::Give)
+    matches!(seat.plan(), Act::Answer | Act::Give)
 }
 
 // Whether some worker has the turn.

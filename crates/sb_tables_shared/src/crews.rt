@@ -14,7 +14,7 @@ use sb_core::run;
 use sb_rows::RowFault;
 use sb_rule::Judge;
 use sb_shared::{Keeper, SharedWorld, Stop, ThreadSeat, WorkerSeat};
-use sb_statements::{Schedule, Script, Steps};
+use sb_statements::{Schedule, SoundScript, Steps};
 use std::alloc::Global;
 use std::sync::atomic::{AtomicU64, Ordering};
 use std::thread;
@@ -28,7 +28,7 @@ const TURN: u64 = 1024;
 const MOST_ROUNDS: u32 = 20_000_000;
 
 // The steps of a thread to its end, or until memory ran out. Adds their number to `steps`.
-fn finish(world: &SharedWorld, script: &Script, seat: &mut ThreadSeat, steps: &AtomicU64)
+fn finish(world: &SharedWorld, script: &SoundScript, seat: &mut ThreadSeat, steps: &AtomicU64)
     requires seat { IsThreadSeat world.now seat.old }
     requires script { world.now.key.script.value ≡ script.now }
     ensures { IsSameThread seat.old seat.new }
@@ -75,7 +75,7 @@ fn attend<J: Judge>(alloc: Global, world: &SharedWorld, judge: &J, seat: &mut Wo
 fn finish_all<R: Threads + Sync>(
     rt: &R,
     world: &SharedWorld,
-    script: &Script,
+    script: &SoundScript,
     keeper: Keeper,
     seats: Vec<ThreadSeat>,
     steps: &AtomicU64,
@@ -104,7 +104,7 @@ fn finish_all<R: Threads + Sync>(
 fn finish_players<R: Threads + Sync>(
     rt: &R,
     world: &SharedWorld,
-    script: &Script,
+    script: &SoundScript,
     keeper: Keeper,
     players: Players,
     steps: &AtomicU64,
@@ -151,7 +151,7 @@ fn together<R: Threads + Sync, J: Judge>(
     alloc: Global,
     world: &SharedWorld,
     judge: &J,
-    script: &Script,
+    script: &SoundScript,
     keeper: Keeper,
     players: Players,
     steps: &AtomicU64,
@@ -179,7 +179,6 @@ fn together<R: Threads + Sync, J: Judge>(
 }
 
 // What the actors leave, each of which makes its steps by a thread of its own, the workers only if they serve.
-#[tactic(auto, using(crate::proofs::Ready::ready_made))]
 fn left_together<R: Threads + Sync>(
     rt: &R,
     alloc: Global,
@@ -187,7 +186,7 @@ fn left_together<R: Threads + Sync>(
     serving: bool,
     steps: &AtomicU64,
 ) -> Result<Left, RowFault> {
-    let judge = Programs::new(alloc, &inputs.policies, &inputs.script)?;
+    let judge = Programs::new(alloc, inputs.ready.policies(), inputs.ready.script())?;
     let (world, keeper, players) = open(alloc, inputs)?;
     let (keeper, players) = if serving {
         together(
@@ -195,26 +194,31 @@ fn left_together<R: Threads + Sync>(
             alloc,
             &world,
             &judge,
-            &inputs.script,
+            inputs.ready.script(),
             keeper,
             players,
             steps,
         )
     } else {
-        finish_players(rt, &world, &inputs.script, keeper, players, steps)
+        finish_players(rt, &world, inputs.ready.script(), keeper, players, steps)
     };
     left_by(world, keeper, players).ok_or(RowFault::NoMemory)
 }
 
 // What the core reports of the script by rounds.
-#[tactic(auto, using(crate::proofs::Ready::ready_made))]
 fn by_rounds(alloc: Global, inputs: &Inputs) -> Result<Report, RowFault> {
-    let judge = Programs::new(alloc, &inputs.policies, &inputs.script)?;
+    let judge = Programs::new(alloc, inputs.ready.policies(), inputs.ready.script())?;
     let schedule = Schedule {
         steps: Steps::none(alloc),
         rounds: MOST_ROUNDS,
     };
-    let ran = run(alloc, &judge, &inputs.policies, &inputs.script, &schedule)?;
+    let ran = run(
+        alloc,
+        &judge,
+        &inputs.ready,
+        inputs.ready.open(alloc)?,
+        &schedule,
+    )?;
     Ok(ran.report)
 }
 

@@ -1,11 +1,10 @@
 // The script of a row, with the policies for which it is ready, and the schedule of a row.
 ghost use Rattle.std.specs.Prelude.{◌≡◌, true, IfOk};
 ghost use Rattle.std.specs.List.{list_all};
-ghost use Rattle.sb_book.specs.Readiness.{is_ready};
 ghost use Rattle.sb_statements.specs.Actors.{is_step_there};
 
+use sb_book::ReadyScript;
 use sb_rows::RowFault;
-use sb_rule::Policies;
 use sb_ruletext::{TextRefused, read_policies};
 use sb_schedule::{ScheduleRefused, read_schedule};
 use sb_script::{ScriptRefused, read_script};
@@ -27,11 +26,8 @@ const MOST_BYTES: usize = 4_194_304;
 /// A script, and the policies for which it is ready.
 #[derive(Drop)]
 pub struct Inputs {
-    /// The policies.
-    pub policies: Policies,
-    /// The script.
-    pub script: Script,
-    ghost ready: { is_ready policies.list script ≡ true },
+    /// Both of them.
+    pub ready: ReadyScript,
 }
 
 // Lines that rows separate by semicolons, after a first line, each with this word before it.
@@ -59,8 +55,10 @@ pub fn inputs_of(alloc: Global, text: &str) -> Result<Inputs, RowFault> {
         Err(TextRefused::Fault(_)) => return Err(RowFault::BadPolicy),
         Err(TextRefused::NoMemory) => return Err(RowFault::NoMemory),
     };
-    match read_script(alloc, text.as_str().as_bytes(), &policies) {
-        Ok(script) => Ok(Inputs { policies, script }),
+    match read_script(alloc, text.as_str().as_bytes(), policies) {
+        Ok(opened) => Ok(Inputs {
+            ready: opened.into_parts().0,
+        }),
         Err(ScriptRefused::Fault(_)) => Err(RowFault::BadWords),
         Err(ScriptRefused::NoMemory) => Err(RowFault::NoMemory),
     }

@@ -10,8 +10,8 @@ use std::alloc::Global;
 
 /// The shared world of a script, with the seats of all actors before their first steps.
 pub fn open(alloc: Global, inputs: &Inputs) -> Result<(SharedWorld, Keeper, Players), RowFault>
-    ensures policies { IfOk result (λ r. r.0.key.policies.value ≡ inputs.now.policies) }
-    ensures script { IfOk result (λ r. r.0.key.script.value ≡ inputs.now.script) }
+    ensures policies { IfOk result (λ r. r.0.key.policies.value.list ≡ inputs.now.ready.policies) }
+    ensures script { IfOk result (λ r. r.0.key.script.value ≡ inputs.now.ready.script) }
     ensures keeper { IfOk result (λ r. IsKeeper r.0 r.1) }
     ensures players { IfOk result (λ r. ArePlayers r.0 r.2) }
 {
@@ -20,7 +20,7 @@ pub fn open(alloc: Global, inputs: &Inputs) -> Result<(SharedWorld, Keeper, Play
         keeper,
         workers,
         threads,
-    } = SharedWorld::open(alloc, &inputs.policies, &inputs.script)?;
+    } = SharedWorld::open(alloc, &inputs.ready, inputs.ready.open(alloc)?)?;
     Ok((world, keeper, Players { workers, threads }))
 }
 

@@ -9,7 +9,7 @@ use sb_items::NoMemory;
 use sb_rows::RowFault;
 use sb_rule::Judge;
 use sb_shared::{SharedWorld, ThreadSeat, WorkerSeat};
-use sb_statements::{Actor, Script};
+use sb_statements::{Actor, SoundScript};
 use std::alloc::Global;
 
 /// The seats of all actors.
@@ -36,7 +36,7 @@ pub fn serve<J: Judge>(
         Act::Take => {
             seat.try_take(world);
         }
-        Act::Mark => seat.answer(alloc, world, judge)?,
+        Act::Answer => seat.answer(alloc, world, judge)?,
         Act::Give => seat.give_back(world),
         Act::Load { .. } | Act::Store { .. } | Act::Exchange { .. } | Act::Idle => seat.step(world),
     }
@@ -44,7 +44,7 @@ pub fn serve<J: Judge>(
 }
 
 /// One step of a thread.
-pub fn walk(world: &SharedWorld, script: &Script, seat: &mut ThreadSeat)
+pub fn walk(world: &SharedWorld, script: &SoundScript, seat: &mut ThreadSeat)
     requires here { IsThreadSeat world.now seat.old }
     requires script { world.now.key.script.value ≡ script.now }
     ensures { IsSameThread seat.old seat.new }
@@ -57,7 +57,7 @@ pub fn play<J: Judge>(
     alloc: Global,
     world: &SharedWorld,
     judge: &J,
-    script: &Script,
+    script: &SoundScript,
     players: &mut Players,
     actor: Actor,
 ) -> Result<(), RowFault>

@@ -13,7 +13,7 @@ use sb_core::run;
 use sb_rows::RowFault;
 use sb_rule::Judge;
 use sb_shared::SharedWorld;
-use sb_statements::{Actor, Script};
+use sb_statements::{Actor, SoundScript};
 use std::alloc::Global;
 
 // The steps of a schedule.
@@ -21,7 +21,7 @@ fn play_all<J: Judge>(
     alloc: Global,
     world: &SharedWorld,
     judge: &J,
-    script: &Script,
+    script: &SoundScript,
     players: &mut Players,
     steps: &[(Actor, u32)],
 ) -> Result<(), RowFault>
@@ -39,30 +39,41 @@ fn play_all<J: Judge>(
 }
 
 // What the steps of the seats leave. None if a worker has the turn.
-#[tactic(auto, using(crate::proofs::Ready::ready_made))]
 fn played(
     alloc: Global,
     inputs: &Inputs,
     steps: &[(Actor, u32)],
 ) -> Result<Option<Left>, RowFault> {
-    let judge = Programs::new(alloc, &inputs.policies, &inputs.script)?;
+    let judge = Programs::new(alloc, inputs.ready.policies(), inputs.ready.script())?;
     let (world, keeper, mut players) = open(alloc, inputs)?;
-    play_all(alloc, &world, &judge, &inputs.script, &mut players, steps)?;
+    play_all(
+        alloc,
+        &world,
+        &judge,
+        inputs.ready.script(),
+        &mut players,
+        steps,
+    )?;
     Ok(left_by(world, keeper, players))
 }
 
 /// The given steps of the seats of one shared world, and what the core says of them. Shown are the words that changed, the entries and the results so far,
 /// where the workers stand, and whether words, entries and results are those of the core.
-#[tactic(auto, using(crate::proofs::Ready::ready_made))]
 pub fn told_steps(alloc: Global, inputs: &Inputs, steps: &str) -> Result<String, RowFault> {
-    let schedule = schedule_of(alloc, steps, &inputs.script)?;
-    let judge = Programs::new(alloc, &inputs.policies, &inputs.script)?;
-    let core = run(alloc, &judge, &inputs.policies, &inputs.script, &schedule)?;
-    let core = shown(alloc, &inputs.script, &core.report)?;
+    let schedule = schedule_of(alloc, steps, inputs.ready.script())?;
+    let judge = Programs::new(alloc, inputs.ready.policies(), inputs.ready.script())?;
+    let core = run(
+        alloc,
+        &judge,
+        &inputs.ready,
+        inputs.ready.open(alloc)?,
+        &schedule,
+    )?;
+    let core = shown(alloc, inputs.ready.script(), &core.report)?;
     let Some(left) = played(alloc, inputs, schedule.steps.as_slice())? else {
         return Ok(String::from_str(alloc, "a worker has the turn")?);
     };
-    let mut out = shown(alloc, &inputs.script, &left.report)?;
+    let mut out = shown(alloc, inputs.ready.script(), &left.report)?;
     let same = out.as_str() == core.as_str();
     put_workers(&mut out, left.workers.as_slice())?;
     write!(out, "  as in the core {same}")?;

@@ -1,7 +1,7 @@
 // How words, entries, results and workers are shown.
 
 use sb_actor::WorkerState;
-use sb_book::{Entry, Report, TargetResults, ThreadResults, WordList};
+use sb_book::{EntrySlice, Report, TargetResults, ThreadResults, WordList};
 use sb_rows::{RowFault, put_word};
 use sb_statements::Script;
 use sb_transcript::{entry_line, result_line};
@@ -27,11 +27,13 @@ pub fn put_entries(
     alloc: Global,
     out: &mut String,
     script: &Script,
-    entries: &[Entry],
+    entries: EntrySlice<'_>,
 ) -> Result<(), RowFault> {
-    for (n, entry) in entries.iter().enumerate() {
-        out.push_str("  ")?;
-        put_word(out, &entry_line(alloc, script, n as u64, entry)?)?;
+    for place in 0..entries.len() {
+        if let Some(entry) = entries.get(place) {
+            out.push_str("  ")?;
+            put_word(out, &entry_line(alloc, script, place as u64, &entry)?)?;
+        }
     }
     Ok(())
 }

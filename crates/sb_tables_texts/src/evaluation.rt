@@ -1,9 +1,9 @@
-// Rows of what a code says of a call.
+// Table tests of what a code says of a call.
 
 use crate::opcode_readers::code_of;
 use sb_call::{Arg, CallTag, fits};
 use sb_opcode::{Verified, eval, verify};
-use sb_rows::{RowFault, args_in, tag, told};
+use sb_rows::{RowFault, args_in, debug_text, tag};
 use sb_rule::Verdict;
 use std::alloc::Global;
 
@@ -16,7 +16,7 @@ pub fn value_of(alloc: Global, name: &str, parts: &[&str]) -> Result<String, Row
         "eval" => {
             let tag = tag(call)?;
             let args = args_in(alloc, args)?;
-            evaluated(alloc, tag, code, args.as_slice())
+            evaluated(alloc, tag, code, &args)
         }
         _ => Err(RowFault::Unknown),
     }
@@ -25,7 +25,7 @@ pub fn value_of(alloc: Global, name: &str, parts: &[&str]) -> Result<String, Row
 fn evaluated(alloc: Global, tag: CallTag, code: &str, args: &[Arg]) -> Result<String, RowFault> {
     match verify(tag, code_of(alloc, code)?) {
         Ok(verified) => evaluated_by(alloc, &verified, args),
-        Err(refused) => told(alloc, &refused.fault),
+        Err(refused) => debug_text(alloc, &refused.fault),
     }
 }
 

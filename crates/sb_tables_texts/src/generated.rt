@@ -1,10 +1,10 @@
-// Rows of generated input.
+// Table tests of generated input.
 ghost use Rattle.std.specs.Prelude.{◌≤◌, IfOk};
 
 use crate::script_values::told_script;
+use sb_book::OpenedScript;
 use sb_gen::{Generator, make};
-use sb_rows::{RowFault, number, told};
-use sb_statements::Script;
+use sb_rows::{RowFault, debug_text, number};
 use std::alloc::Global;
 
 /// What a function of generated input gives. The arguments are the seed, and the counts of targets and of statements a thread.
@@ -27,7 +27,7 @@ fn pairs(alloc: Global, parts: &[&str]) -> Result<String, RowFault> {
         generator.advance();
         pairs.push((generator.kind(), generator.named_number()))?;
     }
-    told(alloc, &pairs)
+    debug_text(alloc, &pairs)
 }
 
 // A count from 1 to this limit.
@@ -40,12 +40,11 @@ fn count(number: u64, most: u32) -> Result<u32, RowFault>
     }
 }
 
-fn made_script(alloc: Global, seed: u64, targets: u32, calls: u32) -> Result<Script, RowFault>
+fn made_script(alloc: Global, seed: u64, targets: u32, calls: u32) -> Result<OpenedScript, RowFault>
     requires targets { (1 ≤ targets) × (targets ≤ 8) }
     requires calls { (1 ≤ calls) × (calls ≤ 4096) }
 {
-    let (_policies, script) = make(alloc, seed, targets, calls)?;
-    Ok(script)
+    Ok(make(alloc, seed, targets, calls)?)
 }
 
 fn made(alloc: Global, parts: &[&str]) -> Result<String, RowFault> {
@@ -55,6 +54,6 @@ fn made(alloc: Global, parts: &[&str]) -> Result<String, RowFault> {
     let seed = number(seed)?;
     let targets = count(number(targets)?, 8)?;
     let calls = count(number(calls)?, 4096)?;
-    let script = made_script(alloc, seed, targets, calls)?;
-    told_script(alloc, &script)
+    let opened = made_script(alloc, seed, targets, calls)?;
+    told_script(alloc, opened.script())
 }

@@ -1,14 +1,13 @@
-// Rows of compiled policies: their listings, and what they say of calls.
+// Table tests of compiled policies: their listings, and what they say of calls.
 
 use crate::opcode_readers::told_words;
 use crate::policies::faultless_policies;
 use crate::row_texts::{text_of, told_lines};
 use sb_call::{Arg, CallTag, fits};
 use sb_compile::{Program, Programs, compile};
-use sb_items::Copies;
 use sb_row_values::bare_target;
 use sb_rows::{RowFault, call, small, tag};
-use sb_rule::{Judge, Policies, Policy, Verdict, all_well_made, verdict_plain, well_made};
+use sb_rule::{Judge, Policy, Verdict, WellMadePolicies, verdict_plain, well_made};
 use sb_statements::{Script, StartLines, Targets};
 use std::alloc::Global;
 
@@ -45,8 +44,10 @@ fn web_text(alloc: Global, lines: &[u8]) -> Result<Vec<u8>, RowFault> {
 }
 
 fn first_policy(alloc: Global, text: &[u8]) -> Result<Policy, RowFault> {
-    match faultless_policies(alloc, text)?.list.as_slice() {
-        [policy] => Ok(policy.copy(alloc)?),
+    let policies = faultless_policies(alloc, text)?;
+    let list: &[Policy] = &policies.policies().list;
+    match list {
+        [policy] => Ok(policy.clone()?),
         _ => Err(RowFault::BadPolicy),
     }
 }
@@ -85,7 +86,7 @@ fn told_verdict(alloc: Global, verdict: Verdict) -> Result<String, RowFault> {
 // The verdict of the program of a policy. That of the policy's own rules is to be the same.
 fn judged(alloc: Global, text: &str, policy: &Policy) -> Result<String, RowFault> {
     let (tag, args) = call(alloc, text)?;
-    told_verdict(alloc, verdict_of(alloc, policy, tag, args.as_slice())?)
+    told_verdict(alloc, verdict_of(alloc, policy, tag, &args)?)
 }
 
 fn verdict_of(
@@ -109,18 +110,18 @@ fn verdict_of(
 
 // A script whose targets have these numbers of policies.
 fn script_of(alloc: Global, numbers: &str) -> Result<Script, RowFault> {
-    let mut targets = Targets::none(alloc);
+    let mut targets = Targets::empty(alloc);
     for policy in numbers.split_whitespace() {
         targets.push(bare_target(alloc, "tab", small(policy)?)?)?;
     }
     Ok(Script {
         patience: 1,
-        start: StartLines::none(alloc),
+        start: StartLines::empty(alloc),
         targets,
     })
 }
 
-// What the programs of the policies of a text say of a call of a target, where the targets have policies of these numbers.
+// What the programs of the policies of a text say of a call of a target, if the targets have policies of these numbers.
 fn target_judged(alloc: Global, parts: &[&str]) -> Result<String, RowFault> {
     let [target, numbers, call, lines @ ..] = parts else {
         return Err(RowFault::Unknown);
@@ -133,18 +134,15 @@ fn target_judged(alloc: Global, parts: &[&str]) -> Result<String, RowFault> {
 
 fn judged_by(
     alloc: Global,
-    policies: &Policies,
+    policies: &WellMadePolicies,
     script: &Script,
     target: u32,
     text: &str,
 ) -> Result<String, RowFault> {
     let (tag, args) = call(alloc, text)?;
-    if !all_well_made(policies) {
-        return Err(RowFault::BadPolicy);
-    }
-    if target as usize >= script.targets.len() || !fits(tag, args.as_slice()) {
+    if target as usize >= script.targets.len() || !fits(tag, &args) {
         return Err(RowFault::Misfit);
     }
     let programs = Programs::new(alloc, policies, script)?;
-    told_verdict(alloc, programs.judge(target, tag, args.as_slice()))
+    told_verdict(alloc, programs.judge(target, tag, &args))
 }

@@ -1,11 +1,11 @@
-// Rows of codes: how they are packed, and which are refused.
+// Table tests of codes: how they are packed, and which are refused.
 
 ghost use Rattle.std.specs.Prelude.{◌≤◌, length, IfOk};
 
 use crate::opcode_readers::{code_of, packed_words, told_words};
 use sb_call::CallTag;
 use sb_opcode::{Code, Verified, verify, verify_words};
-use sb_rows::{RowFault, displayed, tag};
+use sb_rows::{RowFault, display_text, tag};
 use std::alloc::Global;
 use std::fmt::Debug;
 
@@ -40,14 +40,14 @@ fn value_for_call(alloc: Global, name: &str, call: &str, code: &str) -> Result<S
             let tag = tag(call)?;
             match verify(tag, code_of(alloc, code)?) {
                 Ok(_) => Err(RowFault::NoFault),
-                Err(error) => displayed(alloc, &error.fault),
+                Err(error) => display_text(alloc, &error.fault),
             }
         }
         "verify_words_message" => {
             let tag = tag(call)?;
             match verify_words(tag, few_words(alloc, code)?) {
                 Ok(_) => Err(RowFault::NoFault),
-                Err(error) => displayed(alloc, &error.fault),
+                Err(error) => display_text(alloc, &error.fault),
             }
         }
         _ => Err(RowFault::Unknown),

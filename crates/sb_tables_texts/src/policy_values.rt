@@ -9,7 +9,7 @@ use std::alloc::Global;
 /// Policies and their rules, divided by `;`. A rule is its line, its action, its call and its conditions.
 pub fn told_policies(alloc: Global, policies: &Policies) -> Result<String, RowFault> {
     let mut out = String::new(alloc);
-    for policy in policies.list.as_slice() {
+    for policy in &policies.list {
         put_policy(alloc, &mut out, policy)?;
     }
     if out.is_empty() {
@@ -22,7 +22,7 @@ fn put_policy(alloc: Global, out: &mut String, policy: &Policy) -> Result<(), Ro
     put_between(out, "; ")?;
     out.push_str("policy ")?;
     put_word(out, policy.name.bytes())?;
-    for rule in policy.rules.as_slice() {
+    for rule in &policy.rules {
         put_rule(alloc, out, rule)?;
     }
     Ok(())
@@ -33,7 +33,7 @@ fn put_rule(alloc: Global, out: &mut String, rule: &Rule) -> Result<(), RowFault
     put_word(out, rule.action.word())?;
     out.push_str(" ")?;
     put_word(out, call_word(rule.tag))?;
-    for (at, cond) in rule.conds.as_slice().iter().enumerate() {
+    for (at, cond) in rule.conds.iter().enumerate() {
         out.push_str(if at == 0 { " when" } else { " and" })?;
         put_cond(alloc, out, cond)?;
     }
@@ -48,7 +48,7 @@ fn put_cond(alloc: Global, out: &mut String, cond: &Cond) -> Result<(), RowFault
 
 fn put_test(alloc: Global, out: &mut String, test: &Test) -> Result<(), RowFault> {
     match test {
-        Test::OneOf(numbers) => put_numbers(out, numbers.as_slice()),
+        Test::OneOf(numbers) => put_numbers(out, numbers),
         Test::Range { lo, hi } => Ok(write!(out, " in 0x{lo:x}..0x{hi:x}")?),
         Test::Mask(mask) => Ok(write!(out, " has 0x{mask:x}")?),
         Test::Equal(text) => put_text(alloc, out, " is ", text.as_units()),

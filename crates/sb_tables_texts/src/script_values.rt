@@ -11,10 +11,10 @@ use std::alloc::Global;
 pub fn told_script(alloc: Global, script: &Script) -> Result<String, RowFault> {
     let patience = script.patience;
     let mut out = format!(in alloc; "patience {patience}")?;
-    for line in script.start.as_slice() {
+    for line in &script.start {
         put_opening(alloc, &mut out, line)?;
     }
-    for target in script.targets.as_slice() {
+    for target in &script.targets {
         put_target(alloc, &mut out, target)?;
     }
     Ok(out)
@@ -52,8 +52,8 @@ fn put_target(alloc: Global, out: &mut String, target: &TargetScript) -> Result<
         " policy {} channels {}",
         target.policy, target.channels
     )?;
-    for thread in target.threads.as_slice() {
-        put_thread(alloc, out, thread.as_slice())?;
+    for thread in &target.threads {
+        put_thread(alloc, out, thread)?;
     }
     Ok(())
 }
@@ -68,7 +68,7 @@ fn put_thread(alloc: Global, out: &mut String, thread: &[Statement]) -> Result<(
 
 fn put_statement(alloc: Global, out: &mut String, statement: &Statement) -> Result<(), RowFault> {
     match statement {
-        Statement::Call { tag, args } => put_call(alloc, out, *tag, args.as_slice()),
+        Statement::Call { tag, args } => put_call(alloc, out, *tag, args),
         Statement::Store {
             target,
             word,
@@ -121,9 +121,9 @@ fn put_call(alloc: Global, out: &mut String, tag: CallTag, args: &[Arg]) -> Resu
 pub fn told_counts(alloc: Global, script: &Script) -> Result<String, RowFault> {
     let mut threads = 0_usize;
     let mut statements = 0_usize;
-    for target in script.targets.as_slice() {
+    for target in &script.targets {
         threads = threads.saturating_add(target.threads.len());
-        for thread in target.threads.as_slice() {
+        for thread in &target.threads {
             statements = statements.saturating_add(thread.len());
         }
     }

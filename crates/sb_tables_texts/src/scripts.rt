@@ -1,12 +1,12 @@
-// Rows of texts of scripts.
+// Table tests of texts of scripts.
 
 use crate::policies::faultless_policies;
 use crate::row_texts::text_of;
 use crate::script_values::{told_counts, told_script};
-use sb_rows::{RowFault, displayed};
-use sb_rule::Policies;
+use sb_book::OpenedScript;
+use sb_rows::{RowFault, display_text};
+use sb_rule::WellMadePolicies;
 use sb_script::{ScriptFault, ScriptRefused, read_script};
-use sb_statements::Script;
 use std::alloc::Global;
 
 /// What a function of script texts gives. The arguments are the lines of a text, whose targets may have the policies
@@ -14,11 +14,11 @@ use std::alloc::Global;
 pub fn value_of(alloc: Global, name: &str, parts: &[&str]) -> Result<String, RowFault> {
     match name {
         "read_script" => match script_of(alloc, parts)? {
-            Ok(script) => told_script(alloc, &script),
+            Ok(opened) => told_script(alloc, opened.script()),
             Err(fault) => told_fault(alloc, fault),
         },
         "count_script" => match script_of(alloc, parts)? {
-            Ok(script) => told_counts(alloc, &script),
+            Ok(opened) => told_counts(alloc, opened.script()),
             Err(fault) => told_fault(alloc, fault),
         },
         "script_message" => message(alloc, parts),
@@ -28,7 +28,7 @@ pub fn value_of(alloc: Global, name: &str, parts: &[&str]) -> Result<String, Row
 
 fn message(alloc: Global, lines: &[&str]) -> Result<String, RowFault> {
     match lines {
-        ["out of memory"] => displayed(alloc, &ScriptRefused::NoMemory),
+        ["out of memory"] => display_text(alloc, &ScriptRefused::NoMemory),
         lines => match script_of(alloc, lines)? {
             Ok(_) => Err(RowFault::NoFault),
             Err(fault) => numbered_message(alloc, fault),
@@ -36,22 +36,22 @@ fn message(alloc: Global, lines: &[&str]) -> Result<String, RowFault> {
     }
 }
 
-fn script_of(alloc: Global, lines: &[&str]) -> Result<Result<Script, ScriptFault>, RowFault> {
+fn script_of(alloc: Global, lines: &[&str]) -> Result<Result<OpenedScript, ScriptFault>, RowFault> {
     let policies = faultless_policies(alloc, b"sandbox-policy 1\npolicy low\npolicy web\n")?;
     let text = text_of(alloc, lines)?;
-    script_read(alloc, &text, &policies)
+    script_read(alloc, &text, policies)
 }
 
 fn script_read(
     alloc: Global,
     text: &[u8],
-    policies: &Policies,
-) -> Result<Result<Script, ScriptFault>, RowFault> {
-    if text.len() > 1_000_000 || policies.list.len() > 8 {
+    policies: WellMadePolicies,
+) -> Result<Result<OpenedScript, ScriptFault>, RowFault> {
+    if text.len() > 1_000_000 {
         return Err(RowFault::TooMany);
     }
     match read_script(alloc, text, policies) {
-        Ok(script) => Ok(Ok(script)),
+        Ok(opened) => Ok(Ok(opened)),
         Err(ScriptRefused::Fault(fault)) => Ok(Err(fault)),
         Err(ScriptRefused::NoMemory) => Err(RowFault::NoMemory),
     }

@@ -1,4 +1,4 @@
-// Rows of the pool.
+// Table tests of the pool.
 ghost use Rattle.std.specs.Prelude.{◌≡◌, ◌<◌, ℕ, [], length, IfOk, IfSome};
 ghost use Rattle.sb_pool.specs.Pools.{seen, IsSeatOf, AreNumbered};
 ghost use Rattle.sb_pool.specs.Views.{times, IsLast};

@@ -6,7 +6,7 @@ use std::alloc::Global;
 use std::sync::Wait;
 use std::thread::Threads;
 
-/// What the function of a row gives for its arguments. The function is the first word, and the arguments stand behind it, divided by
+/// What the function of a row gives for its arguments. The function is the first word, and the arguments follow it, divided by
 /// bars.
 pub fn value_of<R: Threads + Wait + Sync>(
     rt: &R,
