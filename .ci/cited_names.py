@@ -1,23 +1,35 @@
 #!/usr/bin/env python3
-"""Looks for each name that README.md and docs/ cite in the tree, and compares `--help` with docs/FORMATS.md.
+"""Looks for each name that the documents cite in the tree, and compares `--help` with docs/FORMATS.md.
 
-A cited name is a span between backticks that is one word: a file or a folder, or a function, a law, a definition, a crate or a word
-of the texts, with `::` or `.` between its parts. A file has to be there, by its whole path or by the end of it, and each part of any
-other name has to be a word of some source. Blocks of code, spans of several words, what `rt` makes, files of Chromium and names in
-capitals, which stand for what a reader fills in, are passed over.
+A cited name is a span between backticks that is one word: a file or a folder, a contract, or a function, a law, a definition, a crate or
+a word of the files that users write, with `::` or `.` between its parts. A file has to be there, by its whole path or by the end of it. A
+contract is `CRATE::ITEM`, or `CRATE::ITEM.CLAUSE`: the crate has to declare the item, and the item has to have a clause of that name. Each
+part of any other name has to be a word of some source; names that follow the name of a crate, as in sb_core `World`, `run`, have to be words
+or files of that crate. Blocks of code, spans of several words, what `rt` makes, files of Chromium, libraries of the kit and names in capitals,
+which a reader fills in, are passed over.
+
+An item is a function, a method after its type or trait and `::`, a type or a trait of src/, or a definition of specs/. The clauses of a
+function are those of its `ensures`, those of a trait also its ghost members, and those of a definition the fields of its record. A type
+that contracts see through a `Model` has the clause `invariant`.
 """
+import functools
 import glob
 import os
 import re
 import sys
 
 TOP = os.path.dirname(os.path.dirname(os.path.realpath(__file__)))
-DOCUMENTS = ["README.md"] + sorted(glob.glob("docs/*.md", root_dir=TOP))
+DOCUMENTS = sorted(glob.glob("*.md", root_dir=TOP) + glob.glob("docs/*.md", root_dir=TOP))
 SOURCES = [".rt", ".antt", ".py", ".txt", ".policy", ".script", ".schedule", ".rows", ".edit", ""]
 # what a reader fills in, a name that begins with `-`, any name, and files of Chromium
 OTHERS = re.compile(r"\b[A-Z]{2,}\b|/-|\*|\.(?:cc|h)$|^sandbox/win")
 MADE = ("/", "out/")
+# libraries of the kit that no crate of ours names, but a library that we name does
+LIBRARIES = {"atomic_blocks", "strsim"}
+CONTRACT = re.compile(r"(sb_\w+)::([A-Za-z_]\w*(?:::\w+)?)(?:\.(\w+))?")
 NAME = re.compile(r"[A-Za-z_]\w*(?:(?:::|\.)[A-Za-z_]\w*)*(?:\(\))?")
+# the names that follow the name of a crate
+OF_CRATE = re.compile(r"\b(sb_\w+)((?:\s+`[^`]+`(?:,| and)?)+)")
 FILE = re.compile(r"[\w.*-]*/[\w./*-]*|[\w-]+\.(?:rt|antt|md|py|txt|rows|policy|script|schedule|edit)")
 
 
@@ -26,6 +38,7 @@ def text_of(path):
         return file.read()
 
 
+@functools.cache
 def tree():
     """The paths of all files and folders, from the top, except what `rt`, `git` and Python make."""
     paths = set()
@@ -45,16 +58,116 @@ def words_of(paths):
     return words
 
 
-def cited(document):
-    """The spans between backticks, each with the number of its line. Blocks of code are indented by four blanks."""
+def lines_of(document):
+    """The lines of a document with their numbers, except blocks of code, which are indented by four blanks after a blank line."""
+    was_blank, is_code = True, False
     for number, line in enumerate(text_of(document).splitlines(), 1):
-        if not line.startswith("    "):
-            for span in re.findall(r"`([^`]+)`", line):
-                yield number, span
+        is_code = line.startswith("    ") and (is_code or was_blank)
+        was_blank = not line.strip()
+        if not is_code:
+            yield number, line
+
+
+def cited(document):
+    """The spans between backticks, each with the number of its line."""
+    for number, line in lines_of(document):
+        for span in re.findall(r"`([^`]+)`", line):
+            yield number, span
+
+
+def cited_of_crates(document):
+    """The spans that follow the name of a crate, each with the number of its line and the crate."""
+    for number, line in lines_of(document):
+        for crate, spans in OF_CRATE.findall(line):
+            for span in re.findall(r"`([^`]+)`", spans):
+                yield number, crate, span
+
+
+def header(lines, start, indent):
+    """The text of a function from its name to its body."""
+    taken = [lines[start]]
+    for line in lines[start + 1 :]:
+        if line.strip() and len(line) - len(line.lstrip()) <= indent and not line.lstrip().startswith((")", "where")):
+            break
+        taken.append(line)
+    return "\n".join(taken)
+
+
+def items_of_code(text):
+    """The items that a file of src/ declares, each with the names of its clauses."""
+    lines = re.sub(r"//.*", "", text).splitlines()
+    owner, is_trait, items = None, False, {}
+    for at, line in enumerate(lines):
+        block = re.match(r"(?:pub(?:\([a-z]+\))? )?(impl|trait)\b(?:<.*?>(?= [A-Z]))?(?: .* for)? (\w+)", line)
+        declared = re.match(r"(?:pub(?:\([a-z]+\))? )?(?:struct|enum|trait|type|const|static) (\w+)", line)
+        function = re.match(r"( *)(?:pub(?:\([a-z]+\))? )?(?:unsafe |const )*fn (\w+)", line)
+        member = re.match(r" +ghost (\w+)(?::| =)", line)
+        if declared:
+            items.setdefault(declared[1], set())
+        if block:
+            owner, is_trait = block[2], block[1] == "trait"
+        elif line.startswith("}"):
+            owner = None
+        elif function:
+            name = f"{owner}::{function[2]}" if owner else function[2]
+            clauses = re.findall(r"(?m)^ *ensures (\w+) \{", header(lines, at, len(function[1])))
+            items.setdefault(name, set()).update(clauses)
+        elif member and owner and (is_trait or member[1] == "invariant"):
+            items.setdefault(owner, set()).add(member[1])
+    return items
+
+
+def items_of_specs(text):
+    """The definitions that a file of specs/ has, each with the fields of its record."""
+    items, name = {}, None
+    for line in text.splitlines():
+        declared = re.match(r"(?:(?:abbrev|unfoldable|pub|record|data) )*([A-Za-z_][\w'-]*) *[:({]", line)
+        field = re.match(r" +(?:pub )?([\w'-]+) :", line)
+        if declared:
+            name = declared[1]
+            items.setdefault(name, set())
+        elif field and name:
+            items[name].add(field[1])
+    return items
+
+
+@functools.cache
+def items_of(crate):
+    """All that a crate declares in src/ and specs/, each with the names of its clauses. None without such a crate."""
+    if not os.path.isdir(os.path.join(TOP, "crates", crate)):
+        return None
+    items = {}
+    for path in glob.glob(f"crates/{crate}/src/**/*.rt", root_dir=TOP, recursive=True):
+        for name, clauses in items_of_code(text_of(path)).items():
+            items.setdefault(name, set()).update(clauses)
+    for path in glob.glob(f"crates/{crate}/specs/**/*.antt", root_dir=TOP, recursive=True):
+        for name, clauses in items_of_specs(text_of(path)).items():
+            items.setdefault(name, set()).update(clauses)
+    return items
+
+
+def has_contract(crate, item, clause):
+    items = items_of(crate)
+    return items is not None and item in items and (clause is None or clause in items[item])
+
+
+@functools.cache
+def tree_of(crate):
+    """The ends of the paths of a crate's files, and the words of its sources."""
+    paths = {path for path in tree() if path.startswith(f"crates/{crate}/")}
+    modules = {os.path.splitext(os.path.basename(path))[0] for path in paths}
+    return ends_of(paths), words_of(paths) | modules
+
+
+def ends_of(paths):
+    return {"/".join(path.split("/")[start:]) for path in paths for start in range(path.count("/") + 1)}
 
 
 def is_there(span, ends, words):
-    if OTHERS.search(span) or span.startswith(MADE):
+    contract = CONTRACT.fullmatch(span.removesuffix("()"))
+    if contract:
+        return has_contract(*contract.groups())
+    if OTHERS.search(span) or span.startswith(MADE) or span in LIBRARIES:
         return True
     if FILE.fullmatch(span):
         return os.path.normpath(span) in ends
@@ -66,12 +179,14 @@ def is_there(span, ends, words):
 
 def missing_names():
     paths = tree()
-    ends = {"/".join(path.split("/")[start:]) for path in paths for start in range(path.count("/") + 1)}
-    words = words_of(paths)
+    ends, words = ends_of(paths), words_of(paths)
     for document in DOCUMENTS:
         for number, span in cited(document):
             if not is_there(span, ends, words):
                 yield "%s:%d: `%s` is not there" % (document, number, span)
+        for number, crate, span in cited_of_crates(document):
+            if not is_there(span, *tree_of(crate)):
+                yield "%s:%d: `%s` is not in %s" % (document, number, span, crate)
 
 
 def rows_below(text, heading):
