@@ -95,7 +95,7 @@ impl Observed {
                 outcome: 0,
                 status: 0,
                 handle: 0,
-                ext: Extended::none(),
+                ext: Extended::empty(),
             },
         }
     }

@@ -10,8 +10,8 @@ use sb_block::BlockCopy;
 use sb_book::{Book, decide};
 use sb_call::{Arg, CallTag};
 use sb_compile::Programs;
+use sb_items::NoMemory;
 use sb_rule::Judge;
-use sb_wide::NoMemory;
 use std::alloc::Global;
 
 /// Answers this many copies by a new book: those of the first thread's calls, and of the first of them with one of four

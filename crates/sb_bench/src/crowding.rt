@@ -2,8 +2,9 @@
 
 use crate::failures::Failure;
 use crate::naming::is_made;
+use sb_items::NoMemory;
 use sb_names::NameTree;
-use sb_wide::{NoMemory, Wide, is_name};
+use sb_wide::{Wide, is_name};
 use std::alloc::Global;
 
 // How many names there are.

@@ -5,8 +5,8 @@ use crate::failures::Failure;
 use crate::inputs::{Inputs, statements_of};
 use sb_block::{BlockCopy, BlockRefused, Words, decode, encode, fault_of};
 use sb_call::{Arg, CallTag, fits};
+use sb_items::NoMemory;
 use sb_statements::Statement;
-use sb_wide::NoMemory;
 use std::alloc::Global;
 
 // The mark of the first call of a thread.

@@ -1,8 +1,8 @@
 // Why the program did not do its work.
 
+use sb_items::NoMemory;
 use sb_ruletext::TextRefused;
-use sb_script::ScriptRefused;
-use sb_wide::NoMemory;
+use sb_scripttext::ScriptRefused;
 use std::alloc::{AllocError, AllocFailed};
 use thiserror::Error;
 

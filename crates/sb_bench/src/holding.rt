@@ -4,7 +4,7 @@ ghost use Rattle.std.specs.Prelude.{◌≤◌};
 use crate::failures::Failure;
 use bitflags::Flags;
 use sb_handles::{Access, HandleTable, Held, Object, Service, Sharing};
-use sb_wide::NoMemory;
+use sb_items::NoMemory;
 use std::alloc::Global;
 
 // How many handles there are.

@@ -3,10 +3,10 @@
 use crate::failures::Failure;
 use sb_book::ReadyScript;
 use sb_call::Arg;
+use sb_items::NoMemory;
 use sb_ruletext::read_policies;
-use sb_script::read_script;
+use sb_scripttext::read_script;
 use sb_statements::{Script, Statement};
-use sb_wide::NoMemory;
 use std::alloc::Global;
 use std::fs;
 use std::rt::Files;

@@ -2,9 +2,9 @@
 
 use crate::failures::Failure;
 use crate::inputs::{Inputs, names_of, statements_of};
+use sb_items::NoMemory;
 use sb_pattern::Pattern;
 use sb_rule::{Policy, Rule, Test};
-use sb_wide::NoMemory;
 use std::alloc::Global;
 
 /// Matches each pattern of the policies with the name of each call of the first thread, in these rounds.

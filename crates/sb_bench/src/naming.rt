@@ -3,9 +3,10 @@
 use crate::failures::Failure;
 use crate::inputs::{Inputs, names_of, statements_of};
 use sb_call::Arg;
+use sb_items::NoMemory;
 use sb_names::{NameTree, TreeFault};
 use sb_statements::Statement;
-use sb_wide::{NoMemory, is_name};
+use sb_wide::is_name;
 use std::alloc::Global;
 
 /// Makes a tree of the names of the first thread's calls, in their order, in these rounds.

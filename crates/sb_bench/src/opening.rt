@@ -3,7 +3,7 @@
 use crate::failures::Failure;
 use bitflags::Flags;
 use sb_handles::{Access, ShareRefused, ShareTable, Sharing};
-use sb_wide::NoMemory;
+use sb_items::NoMemory;
 use std::alloc::Global;
 
 // How many opens there are.

@@ -7,10 +7,10 @@ use crate::failures::Failure;
 use crate::inputs::{Inputs, statements_of};
 use crate::steps::steps;
 use sb_book::{AllWords, EntrySlice, Report, Results, TargetResults, ThreadResults};
+use sb_items::NoMemory;
 use sb_outside::{Bytes, MemSink, put_lines};
 use sb_statements::{CallResult, Script, StmtResult};
 use sb_transcript::{entry_line, result_line, totals, transcript_lines};
-use sb_wide::NoMemory;
 use std::alloc::Global;
 
 // How many calls the report has.

@@ -60,7 +60,7 @@ impl Model for Book {
 fn one_word(number: u64) -> Extended
     ensures { result ≡ number ∷ [] }
 {
-    let mut words = Extended::none();
+    let mut words = Extended::empty();
     words.push(number);
     words
 }
@@ -144,14 +144,14 @@ fn carry_out(
             outcome: 2,
             status: u64::from(ACCESS_DENIED),
             handle: 0,
-            ext: Extended::none(),
+            ext: Extended::empty(),
         }),
         Decision::Faked { .. } => Ok(Reply {
             mark,
             outcome: 3,
             status: u64::from(SUCCESS),
             handle: 0,
-            ext: Extended::none(),
+            ext: Extended::empty(),
         }),
         Decision::Performed { tag, args, .. } => {
             let answer = kernel.perform(target, *tag, args.as_slice())?;

@@ -7,8 +7,8 @@ ghost use Rattle.sb_book.specs.Decisions.{decision_of, by_verdict, read_only_arg
 
 use sb_block::{BlockCopy, BlockFault, BlockRefused, Call, decode};
 use sb_call::{Arg, Args, CallTag};
+use sb_items::NoMemory;
 use sb_rule::{Action, Judge, Verdict};
-use sb_wide::NoMemory;
 use std::alloc::Global;
 
 /// What the broker decides of the copy of a parameter block.

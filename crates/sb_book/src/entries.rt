@@ -82,7 +82,7 @@ impl Model for Entries {
 
 impl Entries {
     /// No entries. Does not allocate.
-    pub fn none(alloc: Global) -> Entries
+    pub fn empty(alloc: Global) -> Entries
         ensures { result ≡ [] }
     {
         Entries {

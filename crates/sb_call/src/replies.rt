@@ -29,7 +29,7 @@ impl Extended {
     }
 
     /// No words.
-    pub fn none() -> Extended
+    pub fn empty() -> Extended
         ensures { result ≡ [] }
     {
         Extended {

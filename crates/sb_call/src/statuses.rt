@@ -51,7 +51,7 @@ impl Answer {
         Answer {
             status,
             handle: 0,
-            ext: Extended::none(),
+            ext: Extended::empty(),
         }
     }
 
@@ -59,7 +59,7 @@ impl Answer {
     pub fn with_word(status: u32, handle: u64, word: u64) -> Answer
         ensures { result ≡ granting status handle (word ∷ []) }
     {
-        let mut ext = Extended::none();
+        let mut ext = Extended::empty();
         ext.push(word);
         Answer {
             status,
@@ -72,7 +72,7 @@ impl Answer {
     pub fn with_words(status: u32, handle: u64, first: u64, second: u64) -> Answer
         ensures { result ≡ granting status handle (first ∷ second ∷ []) }
     {
-        let mut ext = Extended::none();
+        let mut ext = Extended::empty();
         ext.push(first);
         ext.push(second);
         Answer {

@@ -3,8 +3,8 @@
 use crate::faults::RowFault;
 use crate::pages::Page;
 use sb_ruletext::{PolicyFault, PolicyFaultKind};
-use sb_schedule::{ScheduleFault, ScheduleKind};
-use sb_script::{ScriptFault, ScriptKind};
+use sb_scheduletext::{ScheduleFault, ScheduleKind};
+use sb_scripttext::{ScriptFault, ScriptKind};
 use sb_top::{Complaint, Status, exit_code};
 use std::alloc::Global;
 

@@ -1,6 +1,6 @@
 // What is wrong with rows.
 
-use sb_wide::NoMemory;
+use sb_items::NoMemory;
 use std::alloc::{AllocError, AllocFailed};
 use thiserror::Error;
 

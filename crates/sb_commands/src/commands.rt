@@ -5,7 +5,7 @@ ghost use Rattle.sb_commands.specs.Commands.{HasNumbers, command_by, command_of,
 use crate::command_line::{command_line, found_command, make_by};
 use crate::number_words::{workers_apart, workers_joined};
 use clap::error::ErrorKind;
-use sb_wide::NoMemory;
+use sb_items::NoMemory;
 use std::alloc::Global;
 
 /// A command with the names of its files, or with its numbers.

@@ -13,9 +13,9 @@ ghost use Rattle.sb_compile.specs.Indexed.{HasEachThatHolds, IsIndexed};
 use crate::laws::{candidates_have_each_that_holds, compiled_rules_are_few};
 use sb_call::{Arg, CallTag};
 use sb_index::{Index, RuleSet};
+use sb_items::NoMemory;
 use sb_opcode::{Code, RuleCodes, Verified, eval};
 use sb_rule::{Rule, Verdict};
-use sb_wide::NoMemory;
 use std::alloc::Global;
 use std::marker::Model;
 

@@ -9,9 +9,9 @@ ghost use Rattle.sb_compile.specs.Compiling.{opcode, closed, end_bits, with_opti
 ghost use Rattle.sb_compile.specs.Steps.{last_if};
 
 use bitflags::Flags;
+use sb_items::NoMemory;
 use sb_opcode::{Code, Look, OpKind, Opcode, Options, Seek};
 use sb_pattern::Cell;
-use sb_wide::NoMemory;
 
 // What the opcodes of one condition have in common: the parameter at which they look, and whether what they say is
 // negated.

@@ -11,9 +11,10 @@ ghost use Rattle.sb_compile.specs.Listing.{seek_text, number_text, kind_text, wo
 
 use bitflags::Flags;
 use sb_call::{CallTag, call_word};
+use sb_items::NoMemory;
 use sb_opcode::{Code, OpKind, Opcode, Options, Records, Seek};
 use sb_rule::Action;
-use sb_wide::{NoMemory, put_decimal, put_hexadecimal, quote_into};
+use sb_wide::{put_decimal, put_hexadecimal, quote_into};
 
 // A blank, and a number in hexadecimal.
 fn put_number(out: &mut Vec<u8>, number: u64) -> Result<(), NoMemory>

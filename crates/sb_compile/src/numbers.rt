@@ -7,8 +7,8 @@ ghost use Rattle.sb_compile.specs.Steps.{is_none};
 
 use crate::groups::Group;
 use bitflags::Flags;
+use sb_items::NoMemory;
 use sb_opcode::{Code, OpKind, Options};
-use sb_wide::NoMemory;
 
 fn is_none(numbers: &[u64]) -> bool
     ensures { result ≡ is_none numbers.now }

@@ -10,9 +10,9 @@ ghost use Rattle.sb_compile.specs.Steps.{last_if, is_none};
 
 use crate::groups::{Group, whole_string};
 use bitflags::Flags;
+use sb_items::NoMemory;
 use sb_opcode::{Code, OpKind, Options, Seek};
 use sb_pattern::Cell;
-use sb_wide::NoMemory;
 
 fn is_star(cell: &Cell) -> bool
     ensures { result ≡ is_any cell.now }

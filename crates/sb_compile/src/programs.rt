@@ -13,9 +13,9 @@ use crate::laws::{compiled_code_is_faultless, compiling_keeps_verdicts};
 use crate::listing::put_code;
 use crate::rules::code_of;
 use sb_call::{Arg, CallTag, ShortName, every_tag, number_of, tags_and_numbers};
+use sb_items::NoMemory;
 use sb_opcode::Verified;
 use sb_rule::{Policy, Verdict};
-use sb_wide::NoMemory;
 use std::alloc::Global;
 use std::marker::Model;
 

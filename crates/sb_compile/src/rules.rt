@@ -14,9 +14,9 @@ use crate::numbers::push_numbers;
 use crate::patterns::push_pattern;
 use bitflags::Flags;
 use sb_call::{CallTag, number_of};
+use sb_items::NoMemory;
 use sb_opcode::{Code, OpKind, Options};
 use sb_rule::{Cond, Rule, Test};
-use sb_wide::NoMemory;
 use std::alloc::Global;
 
 // Appends the opcodes of a test.

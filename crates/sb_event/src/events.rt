@@ -12,8 +12,8 @@ use crate::rows::EventRow;
 use bitflags::Flags;
 use sb_call::{Answer, NAME_EXISTS, NAME_NOT_FOUND, SUCCESS, TYPE_MISMATCH};
 use sb_handles::{Access, HandleTable, Held, Object, Service, Sharing};
+use sb_items::NoMemory;
 use sb_names::{NameMap, names_fold, numbers_are_kept};
-use sb_wide::NoMemory;
 use std::alloc::Global;
 use std::marker::Model;
 

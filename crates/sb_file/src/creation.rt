@@ -23,8 +23,8 @@ use sb_call::{
     NOT_A_DIRECTORY, PATH_NOT_FOUND, SHARING_VIOLATION, SUCCESS,
 };
 use sb_handles::{Access, HandleTable, Held, ShareRefused, ShareTable, Sharing, agreement_is_kept};
+use sb_items::NoMemory;
 use sb_names::{NameTree, NodeId, Seek, numbers_are_kept, parents_are_kept};
-use sb_wide::NoMemory;
 
 // What was done, as the extended word.
 const WAS_SUPERSEDED: u64 = 0;

@@ -14,10 +14,10 @@ use sb_call::{
     SUCCESS,
 };
 use sb_handles::{Access, ShareTable, Sharing, handles_are_on_one_object};
+use sb_items::NoMemory;
 use sb_names::{
     NameTree, NodeId, Seek, is_below, numbers_are_kept, parents_are_kept, renames_keep_numbers,
 };
-use sb_wide::NoMemory;
 use std::alloc::Global;
 use std::marker::Model;
 

@@ -8,7 +8,7 @@ ghost use Rattle.sb_handles.specs.declared.objects.Share.{Share};
 use crate::masks::{Access, Sharing};
 use crate::objects::Share;
 use bitflags::Flags;
-use sb_wide::NoMemory;
+use sb_items::NoMemory;
 use std::alloc::Global;
 use std::collections::BTreeMap;
 

@@ -2,7 +2,7 @@
 ghost use Rattle.std.specs.Prelude.{◌≡◌, ◌≤◌, length};
 ghost use Rattle.sb_index.specs.Bounds.{IsRising, first_of, last_of};
 
-use sb_wide::NoMemory;
+use sb_items::NoMemory;
 use std::alloc::Global;
 use std::marker::Model;
 

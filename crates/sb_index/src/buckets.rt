@@ -17,8 +17,8 @@ use crate::needs::{rule_bits, units_bits};
 use crate::sets::RuleSet;
 use crate::tables::units_in;
 use sb_call::{Arg, CallTag, number_of};
+use sb_items::NoMemory;
 use sb_rule::Rule;
-use sb_wide::NoMemory;
 use std::alloc::Global;
 
 /// For each bucket of units the rules that may hold of a string without a unit in it.

@@ -6,8 +6,8 @@ use crate::bounds::{Bounds, MOST_BOUNDS};
 use crate::questions::Feature;
 use crate::values::{Values, values_of};
 use sb_call::{CallTag, ParamKind, number_of, shape};
+use sb_items::NoMemory;
 use sb_rule::{MOST_RULES, Rule};
-use sb_wide::NoMemory;
 use std::alloc::Global;
 
 // The most units that are skipped before a front.

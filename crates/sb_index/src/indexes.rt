@@ -10,8 +10,8 @@ use crate::features::{bounds_of, feature_of};
 use crate::sets::RuleSet;
 use crate::tables::Table;
 use sb_call::{Arg, CallTag, ParamKind, shape};
+use sb_items::NoMemory;
 use sb_rule::Rule;
-use sb_wide::NoMemory;
 use std::alloc::Global;
 
 // The most tables of an index.

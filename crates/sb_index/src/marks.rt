@@ -4,7 +4,7 @@ ghost use Rattle.sb_index.specs.Marks.{AreKept, AreSized, HasUpTo, IsMarked};
 ghost use Rattle.sb_index.specs.Sets.{Has};
 
 use crate::sets::RuleSet;
-use sb_wide::NoMemory;
+use sb_items::NoMemory;
 use std::alloc::Global;
 
 /// In which slots rules may hold: some in single slots, the others from the slot in which they begin to that in which they end. So a rule
@@ -25,7 +25,7 @@ pub fn empty_sets(alloc: Global, count: usize) -> Result<Vec<RuleSet>, NoMemory>
 {
     let mut sets = Vec::with_capacity(alloc, count)?;
     for _ in 0..count {
-        sets.push(RuleSet::none())?;
+        sets.push(RuleSet::empty())?;
     }
     Ok(sets)
 }
@@ -47,7 +47,7 @@ fn unions(alloc: Global, sets: &[RuleSet]) -> Result<Vec<RuleSet>, NoMemory>
     ensures up { IfOk result (λ all. (slot : ℕ) (k : ℕ) → slot < length sets.now → HasUpTo sets.now slot k → Has (slice_index_or all.items slot []) k) }
 {
     let mut all = Vec::with_capacity(alloc, sets.len())?;
-    let mut set = RuleSet::none();
+    let mut set = RuleSet::empty();
     for one in sets {
         set.unite(one);
         all.push(set.copy())?;

@@ -20,7 +20,7 @@ impl Model for RuleSet {
 
 impl RuleSet {
     /// The set without a number.
-    pub fn none() -> RuleSet {
+    pub fn empty() -> RuleSet {
         RuleSet { words: [0; 4] }
     }
 

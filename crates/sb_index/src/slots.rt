@@ -14,8 +14,8 @@ use crate::marks::Marks;
 use crate::questions::Feature;
 use crate::values::{Values, values_at, values_of};
 use sb_call::{CallTag, number_of};
+use sb_items::NoMemory;
 use sb_rule::{Cond, Rule};
-use sb_wide::NoMemory;
 use std::alloc::Global;
 
 // In how many slots values lie. It decides the speed alone.

@@ -14,8 +14,8 @@ use crate::questions::Feature;
 use crate::sets::RuleSet;
 use crate::slots::marks_of;
 use sb_call::{Arg, CallTag};
+use sb_items::NoMemory;
 use sb_rule::Rule;
-use sb_wide::NoMemory;
 use std::alloc::Global;
 
 /// The values of a feature, divided by bounds, and for each part the rules that may hold of it.

@@ -71,15 +71,6 @@ impl<T: Drop> Items<T> {
         }
     }
 
-    /// The list of no items. Does not allocate.
-    pub fn none(alloc: Global) -> Items<T>
-        ensures { result ≡ [] }
-    {
-        Items {
-            items: Vec::new(alloc),
-        }
-    }
-
     /// Appends an item. After an error the list is as it was.
     ///
     /// # Errors

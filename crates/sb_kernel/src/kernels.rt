@@ -22,10 +22,10 @@ use sb_call::{Answer, Arg, CallTag, INVALID_HANDLE, INVALID_PARAMETER, SUCCESS};
 use sb_event::{EventKind, EventService};
 use sb_file::{FileRequest, FileService, agreement_is_kept as files_stay_agreed};
 use sb_handles::{Access, HandleTable, Object, Service, handles_are_on_one_object};
+use sb_items::NoMemory;
 use sb_key::KeyService;
 use sb_pipe::{PipeForm, PipeMode, PipeService, agreement_is_kept as pipes_stay_agreed};
 use sb_statements::StartLine;
-use sb_wide::NoMemory;
 use std::alloc::Global;
 use std::marker::Model;
 

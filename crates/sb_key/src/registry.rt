@@ -7,8 +7,8 @@ ghost use Rattle.sb_key.specs.Registry.{AreKeys, no_keys, on_key, create, open_b
 use bitflags::Flags;
 use sb_call::{Answer, Extended, NAME_NOT_FOUND, PATH_NOT_FOUND, SUCCESS};
 use sb_handles::{Access, HandleTable, Held, Object, Service, Sharing};
+use sb_items::NoMemory;
 use sb_names::{NameTree, Seek, numbers_are_kept};
-use sb_wide::NoMemory;
 use std::alloc::Global;
 use std::marker::Model;
 
@@ -148,7 +148,7 @@ impl KeyService {
                 Ok(Answer {
                     status: SUCCESS,
                     handle,
-                    ext: Extended::none(),
+                    ext: Extended::empty(),
                 })
             }
         }

@@ -15,7 +15,8 @@ use crate::linked::NameTree;
 use crate::nodes::NameNode;
 use crate::seeking::Seek;
 use sb_arena::{Arena, NodeId, calls_change_one_value, links_change_one_parent};
-use sb_wide::{NoMemory, Wide};
+use sb_items::NoMemory;
+use sb_wide::Wide;
 
 // Hangs a node without parent in a directory.
 pub(crate) fn hang(nodes: &mut Arena<NameNode>, node: NodeId, directory: Option<NodeId>)

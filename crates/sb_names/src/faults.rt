@@ -1,6 +1,6 @@
 // Why a tree of names stays as it is.
 
-use sb_wide::NoMemory;
+use sb_items::NoMemory;
 use std::alloc::{AllocError, AllocFailed};
 use thiserror::Error;
 

@@ -17,7 +17,8 @@ use crate::keys::is_below;
 use crate::linked::{NameTree, last_component};
 use crate::nodes::NameNode;
 use sb_arena::{Arena, NodeId, calls_change_one_value, links_change_one_parent};
-use sb_wide::{NoMemory, Wide};
+use sb_items::NoMemory;
+use sb_wide::Wide;
 use std::collections::BTreeMap;
 
 // Gives a node another value and another directory.

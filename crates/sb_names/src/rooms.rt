@@ -16,7 +16,8 @@ use crate::nodes::NameNode;
 use sb_arena::{
     Arena, NodeId, calls_change_one_value, links_change_one_parent, vacancies_change_nothing,
 };
-use sb_wide::{NoMemory, Wide};
+use sb_items::NoMemory;
+use sb_wide::Wide;
 
 /// A name that is to be added to a tree, with memory of its own.
 #[derive(Drop)]

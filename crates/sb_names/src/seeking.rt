@@ -9,7 +9,7 @@ ghost use Rattle.sb_names.specs.Trees.{has_parent};
 
 use crate::linked::{NameTree, last_component};
 use sb_arena::NodeId;
-use sb_wide::NoMemory;
+use sb_items::NoMemory;
 
 /// Where the path of a name leads.
 #[derive(Clone, Copy)]

@@ -11,8 +11,8 @@ use crate::opcodes::{Look, OpKind, Opcode, Seek};
 use crate::options::Options;
 use crate::records::{Records, after_record};
 use bitflags::Flags;
+use sb_items::NoMemory;
 use sb_pattern::Cell;
-use sb_wide::NoMemory;
 use std::alloc::Global;
 use std::marker::Model;
 

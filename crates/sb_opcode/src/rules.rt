@@ -11,8 +11,8 @@ use crate::records::{Records, passed_known};
 use crate::verified::Verified;
 use crate::walks::walk_rule;
 use sb_call::Arg;
+use sb_items::NoMemory;
 use sb_rule::Verdict;
-use sb_wide::NoMemory;
 use std::alloc::Global;
 use std::marker::Model;
 

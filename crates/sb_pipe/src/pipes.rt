@@ -12,8 +12,9 @@ use crate::rows::PipeRow;
 use bitflags::Flags;
 use sb_call::{ACCESS_DENIED, Answer, INSTANCE_NOT_AVAILABLE, INVALID_PARAMETER, SUCCESS};
 use sb_handles::{Access, HandleTable, Held, Object, Service, Sharing, pipe_handles_are_counted};
+use sb_items::NoMemory;
 use sb_names::{NameMap, names_fold};
-use sb_wide::{NoMemory, Wide};
+use sb_wide::Wide;
 use std::alloc::Global;
 use std::marker::Model;
 

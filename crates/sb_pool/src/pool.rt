@@ -160,7 +160,7 @@ impl<W: Numbered> Pool<W> {
     {
         let Pool { queue, alloc } = self;
         let mut seat = seat;
-        let rooms = mem::replace(&mut seat.rooms, Rooms::none(alloc));
+        let rooms = mem::replace(&mut seat.rooms, Rooms::empty(alloc));
         gather(rt, &queue, seat, rooms).into_works()
     }
 }

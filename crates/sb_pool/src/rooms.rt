@@ -40,7 +40,7 @@ impl<W: Drop> Rooms<W> {
     }
 
     /// No places. Does not allocate.
-    pub(crate) fn none(alloc: Global) -> Rooms<W>
+    pub(crate) fn empty(alloc: Global) -> Rooms<W>
         ensures { result ≡ [] }
     {
         Rooms {

@@ -72,7 +72,7 @@ impl<W: Numbered> PoolSeat<W> {
     {
         PoolSeat {
             pass: queue.another::<Seats>(&mut self.pass),
-            rooms: Rooms::none(alloc),
+            rooms: Rooms::empty(alloc),
         }
     }
 

@@ -16,7 +16,7 @@ pub fn small_status(text: &str) -> Result<u32, RowFault> {
 
 /// Extended words, as `[3,2,5]`, at most seven.
 pub fn extended(text: &str) -> Result<Extended, RowFault> {
-    let mut found = Extended::none();
+    let mut found = Extended::empty();
     let Some(list) = text
         .strip_prefix('[')
         .and_then(|rest| rest.strip_suffix(']'))
@@ -36,7 +36,7 @@ pub fn extended(text: &str) -> Result<Extended, RowFault> {
 
 // Extended words, each by itself, at most seven.
 fn extended_in(words: &[&str]) -> Result<Extended, RowFault> {
-    let mut found = Extended::none();
+    let mut found = Extended::empty();
     for word in words {
         if found.len() >= 7 {
             return Err(RowFault::TooMany);

@@ -24,7 +24,7 @@ fn no_steps(alloc: Global) -> Schedule
     ensures { result ≡ record { steps = []; rounds = 0 } }
 {
     Schedule {
-        steps: Items::none(alloc),
+        steps: Items::empty(alloc),
         rounds: 0,
     }
 }

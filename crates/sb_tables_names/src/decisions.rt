@@ -7,6 +7,7 @@ use crate::readers_namespace::{Called, call, plain, told_line};
 use sb_block::{BlockCopy, Words, encode};
 use sb_book::{Book, OpenedScript, ReadyScript, decide};
 use sb_call::{ShortName, fits};
+use sb_items::NoMemory;
 use sb_row_values::{action, bare_target};
 use sb_rows::{RowFault, number, small, tag, words_in};
 use sb_rule::{
@@ -14,7 +15,6 @@ use sb_rule::{
 };
 use sb_statements::{Script, SoundScript, StartLine, StartLines, Targets};
 use sb_transcript::entry_line;
-use sb_wide::NoMemory;
 use std::alloc::Global;
 
 /// The book that answers copies: one, or none.
@@ -261,7 +261,7 @@ fn plain_rule(alloc: Global, action: Action, name: &str, line: &str) -> Result<R
     let (tag, line) = (tag(name)?, small(line)?);
     Ok(Rule {
         tag,
-        conds: Conds::none(alloc),
+        conds: Conds::empty(alloc),
         action,
         line,
     })
@@ -290,7 +290,7 @@ pub fn script_of(alloc: Global, names: &[&str], lines: Vec<StartLine>) -> Result
 }
 
 fn targets_of(alloc: Global, names: &[&str]) -> Result<Targets, RowFault> {
-    let mut targets = Targets::none(alloc);
+    let mut targets = Targets::empty(alloc);
     for name in names {
         targets.push(bare_target(alloc, name, 0)?)?;
     }

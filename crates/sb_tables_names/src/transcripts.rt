@@ -36,7 +36,7 @@ impl Transcript {
     /// Nothing was put, and there is no report.
     pub fn new(alloc: Global) -> Transcript {
         Transcript {
-            entries: Entries::none(alloc),
+            entries: Entries::empty(alloc),
             results: Vec::new(alloc),
             reports: Vec::new(alloc),
         }
@@ -87,7 +87,7 @@ fn told_entry(alloc: Global, parts: &[&str]) -> Result<String, RowFault> {
         return Err(RowFault::Unknown);
     };
     let n = number(n)?;
-    let mut entries = Entries::none(alloc);
+    let mut entries = Entries::empty(alloc);
     put_entry_of(alloc, &mut entries, place, decision, reply)?;
     told_first(alloc, n, &entries)
 }
@@ -161,7 +161,7 @@ fn told_result_at(alloc: Global, place: Place, result_: &StmtResult) -> Result<S
 
 // The results of a target: of each thread the values that its statements found, or `none`. No thread if there is no text.
 fn found_by(alloc: Global, threads: &[&str]) -> Result<TargetResults, RowFault> {
-    let mut results = TargetResults::none(alloc);
+    let mut results = TargetResults::empty(alloc);
     if matches!(threads, [""]) {
         return Ok(results);
     }
@@ -185,7 +185,7 @@ fn found_in(alloc: Global, thread: &str) -> Result<ThreadResults, RowFault> {
 // Makes the report of what was put, with no words and an empty namespace, which no line shows. It is kept in the place of the one
 // before. The value is how many entries and targets it has.
 fn made(alloc: Global, transcript: &mut Transcript) -> Result<String, RowFault> {
-    let entries = mem::replace(&mut transcript.entries, Entries::none(alloc));
+    let entries = mem::replace(&mut transcript.entries, Entries::empty(alloc));
     let results = mem::replace(&mut transcript.results, Vec::new(alloc));
     if !is_small(&results) {
         return Err(RowFault::TooMany);
@@ -193,7 +193,7 @@ fn made(alloc: Global, transcript: &mut Transcript) -> Result<String, RowFault> 
     let report = Report {
         entries,
         results: Results::new(results),
-        words: AllWords::none(alloc),
+        words: AllWords::empty(alloc),
         kernel: Kernel::new(alloc),
     };
     let (entries, targets) = (report.entries.len(), report.results.len());

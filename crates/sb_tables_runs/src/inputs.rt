@@ -3,7 +3,7 @@
 use sb_book::ReadyScript;
 use sb_rows::RowFault;
 use sb_ruletext::{TextRefused, read_policies};
-use sb_script::{ScriptRefused, read_script};
+use sb_scripttext::{ScriptRefused, read_script};
 use std::alloc::Global;
 use std::fs;
 use std::rt::Files;

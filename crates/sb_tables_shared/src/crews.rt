@@ -209,7 +209,7 @@ fn left_together<R: Threads + Sync>(
 fn by_rounds(alloc: Global, inputs: &Inputs) -> Result<Report, RowFault> {
     let judge = Programs::new(alloc, inputs.ready.policies(), inputs.ready.script())?;
     let schedule = Schedule {
-        steps: Steps::none(alloc),
+        steps: Steps::empty(alloc),
         rounds: MOST_ROUNDS,
     };
     let ran = run(

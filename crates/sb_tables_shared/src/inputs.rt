@@ -6,8 +6,8 @@ ghost use Rattle.sb_statements.specs.Actors.{is_step_there};
 use sb_book::ReadyScript;
 use sb_rows::RowFault;
 use sb_ruletext::{TextRefused, read_policies};
-use sb_schedule::{ScheduleRefused, read_schedule};
-use sb_script::{ScriptRefused, read_script};
+use sb_scheduletext::{ScheduleRefused, read_schedule};
+use sb_scripttext::{ScriptRefused, read_script};
 use sb_statements::{Schedule, Script};
 use std::alloc::Global;
 

@@ -6,7 +6,7 @@ use crate::script_values::{told_counts, told_script};
 use sb_book::OpenedScript;
 use sb_rows::{RowFault, display_text};
 use sb_rule::WellMadePolicies;
-use sb_script::{ScriptFault, ScriptRefused, read_script};
+use sb_scripttext::{ScriptFault, ScriptRefused, read_script};
 use std::alloc::Global;
 
 /// What a function of script texts gives. The arguments are the lines of a text, whose targets may have the policies

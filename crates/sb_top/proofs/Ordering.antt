@@ -13,9 +13,9 @@ use Rattle.sb_core.specs.declared.runs.Ran.{Ran}
 use Rattle.sb_kernel.specs.Openings.{opened}
 use Rattle.sb_rule.specs.WellMade.{are_well_made}
 use Rattle.sb_rule.specs.declared.policies.Policy.{Policy}
-use Rattle.sb_schedule.specs.Printing.{in_order, is_actor_of_values, is_number_32}
-use Rattle.sb_schedule.specs.PrintingLaws.{OrdersAreRead, OrdersAreShort}
-use Rattle.sb_schedule.specs.ScheduleTexts as schedules
+use Rattle.sb_scheduletext.specs.Printing.{in_order, is_actor_of_values, is_number_32}
+use Rattle.sb_scheduletext.specs.PrintingLaws.{OrdersAreRead, OrdersAreShort}
+use Rattle.sb_scheduletext.specs.ScheduleTexts as schedules
 use Rattle.sb_statements.specs.Actors.{is_step_there, is_there, thread_count}
 use Rattle.sb_statements.specs.Limits.{most_start_lines, most_targets, most_threads, most_channels}
 use Rattle.sb_statements.specs.Soundness.{SoundTargets, are_targets, is_patience, is_sound, is_start, is_target, is_thread, names_differ}

@@ -13,8 +13,8 @@ use Rattle.sb_core.specs.Units.{UnitsArePlaced}
 use Rattle.sb_core.specs.declared.runs.Ran.{Ran}
 use Rattle.sb_outside.specs.Outside.{Held}
 use Rattle.sb_rule.specs.declared.policies.Policy.{Policy}
-use Rattle.sb_script.specs.Readiness.{ReadScriptsHaveUnits}
-use Rattle.sb_script.specs.ScriptTexts.{ScriptFault, reading}
+use Rattle.sb_scripttext.specs.Readiness.{ReadScriptsHaveUnits}
+use Rattle.sb_scripttext.specs.ScriptTexts.{ScriptFault, reading}
 use Rattle.sb_statements.specs.Units.{script_has_units}
 use Rattle.sb_statements.specs.declared.scripts.Script.{Script}
 use Rattle.sb_text.specs.Steps.{◌>>=◌}

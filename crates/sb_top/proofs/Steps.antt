@@ -11,10 +11,10 @@ use Rattle.sb_outside.specs.declared.files.FileFault.TheVariants as file
 use Rattle.sb_rule.specs.declared.policies.Policies.{Policies}
 use Rattle.sb_rule.specs.declared.policies.Policy.{Policy}
 use Rattle.sb_ruletext.specs.PolicyTexts.{PolicyFault, reading}
-use Rattle.sb_schedule.specs.ScheduleTexts as schedules
-use Rattle.sb_schedule.specs.ScheduleTexts.{ScheduleFault}
-use Rattle.sb_script.specs.ScriptTexts as scripts
-use Rattle.sb_script.specs.ScriptTexts.{ScriptFault}
+use Rattle.sb_scheduletext.specs.ScheduleTexts as schedules
+use Rattle.sb_scheduletext.specs.ScheduleTexts.{ScheduleFault}
+use Rattle.sb_scripttext.specs.ScriptTexts as scripts
+use Rattle.sb_scripttext.specs.ScriptTexts.{ScriptFault}
 use Rattle.sb_text.specs.Steps.{◌>>=◌}
 use Rattle.sb_top.specs.Ends.{IsEnd, IsExpected, IsFile, IsReached, expected}
 use Rattle.sb_top.specs.Outcomes.{MayCome, file_of}

@@ -1,8 +1,8 @@
 -- How the program ends.
 use Rattle.std.specs.Prelude.{ℕ, List, ◌++◌, codes, decimal}
 use Rattle.sb_ruletext.specs.Kinds.{kind_number}
-use Rattle.sb_script.specs.Kinds as script
-use Rattle.sb_schedule.specs.Kinds as schedule
+use Rattle.sb_scripttext.specs.Kinds as script
+use Rattle.sb_scheduletext.specs.Kinds as schedule
 use Rattle.sb_top.specs.declared.outcomes.Status.{Status}
 use Rattle.sb_top.specs.declared.outcomes.Status.TheVariants.{Done, Unfinished, Usage, PolicyRefused, ScriptRefused, ScheduleRefused, Missing, TooLong, ReadFault, WriteFault, NoMemory}
 

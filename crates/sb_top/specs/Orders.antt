@@ -7,8 +7,8 @@ use Rattle.sb_core.specs.Runs.{CanRun, IsSomeRun, ended_from}
 use Rattle.sb_core.specs.Worlds.{start_world, steps}
 use Rattle.sb_outside.specs.Outside.{Held}
 use Rattle.sb_rule.specs.declared.policies.Policy.{Policy}
-use Rattle.sb_schedule.specs.Limits.{most_steps}
-use Rattle.sb_schedule.specs.Printing.{in_order, written}
+use Rattle.sb_scheduletext.specs.Limits.{most_steps}
+use Rattle.sb_scheduletext.specs.Printing.{in_order, written}
 use Rattle.sb_statements.specs.declared.schedules.Actor.{Actor}
 use Rattle.sb_statements.specs.declared.scripts.Script.{Script}
 use Rattle.sb_top.specs.Reading.{most_bytes, policies_in, script_in}

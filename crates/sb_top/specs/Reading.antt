@@ -1,9 +1,9 @@
 -- What each file of a command comes to, and why there is nothing of it.
 use Rattle.std.specs.Prelude.{◌≡◌, ◌⊎◌, ℕ, nat_le, List, [], length, Option, None, Some, MatchOption, Result, Ok, Err, option_map, if◌then◌else◌}
-use Rattle.sb_schedule.specs.Limits as limits
-use Rattle.sb_schedule.specs.Limits.{most_rounds}
-use Rattle.sb_schedule.specs.ScheduleTexts as schedules
-use Rattle.sb_schedule.specs.ScheduleTexts.{ScheduleFault}
+use Rattle.sb_scheduletext.specs.Limits as limits
+use Rattle.sb_scheduletext.specs.Limits.{most_rounds}
+use Rattle.sb_scheduletext.specs.ScheduleTexts as schedules
+use Rattle.sb_scheduletext.specs.ScheduleTexts.{ScheduleFault}
 use Rattle.sb_statements.specs.declared.schedules.Schedule.{Schedule}
 use Rattle.sb_statements.specs.declared.scripts.Script.{Script}
 use Rattle.sb_rule.specs.declared.policies.Policy.{Policy}
@@ -11,8 +11,8 @@ use Rattle.sb_ruletext.specs.PolicyTexts.{PolicyFault, reading}
 use Rattle.sb_outside.specs.Outside.{Held}
 use Rattle.sb_outside.specs.declared.files.FileFault.{FileFault}
 use Rattle.sb_outside.specs.declared.files.FileFault.TheVariants as file
-use Rattle.sb_script.specs.ScriptTexts as scripts
-use Rattle.sb_script.specs.ScriptTexts.{ScriptFault}
+use Rattle.sb_scripttext.specs.ScriptTexts as scripts
+use Rattle.sb_scripttext.specs.ScriptTexts.{ScriptFault}
 use Rattle.sb_text.specs.Steps.{◌>>=◌}
 use Rattle.sb_top.specs.Outcomes.{MayCome, file_of}
 use Rattle.sb_top.specs.declared.outcomes.Status.{Status}

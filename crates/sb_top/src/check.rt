@@ -14,10 +14,10 @@ ghost use Rattle.sb_top.specs.Works.{Prints, Unreported};
 use crate::outcomes::{Outcome, Status};
 use crate::reading::policies_in;
 use sb_compile::compile;
+use sb_items::NoMemory;
 use sb_outside::{Bytes, Files, Sink, put_lines};
 use sb_rule::{Policy, WellMadePolicies};
 use sb_ruletext::print_policies;
-use sb_wide::NoMemory;
 use std::alloc::Global;
 
 // The listings of the programs of policies, one after another.

@@ -9,8 +9,8 @@ use sb_core::{
     no_block_is_invented, runs_are_legal, runs_are_whole, runs_fit, steps_are_folds,
     units_are_placed,
 };
-use sb_schedule::{written_schedules_are_read, written_schedules_are_short};
-use sb_script::read_scripts_have_units;
+use sb_scheduletext::{written_schedules_are_read, written_schedules_are_short};
+use sb_scripttext::read_scripts_have_units;
 use sb_statements::sound_parts;
 
 /// If arguments and files come to work, and neither count of faults rose, the work comes to its end, if there was memory.

@@ -2,8 +2,8 @@
 
 use sb_book::Report;
 use sb_ruletext::PolicyFault;
-use sb_schedule::ScheduleFault;
-use sb_script::ScriptFault;
+use sb_scheduletext::ScheduleFault;
+use sb_scripttext::ScriptFault;
 
 /// How a command ended. Files are numbered by their place in the command, from 1.
 #[derive(Clone, Copy, Debug)]

@@ -3,8 +3,8 @@ ghost use Rattle.std.specs.Prelude.{◌≡◌, ◌≤◌, ◌<◌, ◌^◌, leng
 ghost use Rattle.std.specs.List.{list_all};
 ghost use Rattle.sb_outside.specs.Outside.{Rose};
 ghost use Rattle.sb_ruletext.specs.PolicyTexts.{reading};
-ghost use Rattle.sb_schedule.specs.ScheduleTexts as schedules;
-ghost use Rattle.sb_script.specs.ScriptTexts as scripts;
+ghost use Rattle.sb_scheduletext.specs.ScheduleTexts as schedules;
+ghost use Rattle.sb_scripttext.specs.ScriptTexts as scripts;
 ghost use Rattle.sb_statements.specs.Actors.{is_step_there};
 ghost use Rattle.sb_commands.specs.Commands.{named};
 ghost use Rattle.sb_top.specs.Outcomes.{IsRefusal};
@@ -15,8 +15,8 @@ use sb_book::OpenedScript;
 use sb_outside::{FileFault, Files};
 use sb_rule::WellMadePolicies;
 use sb_ruletext::{TextRefused, read_policies};
-use sb_schedule::{MOST_ROUNDS, ScheduleRefused, read_schedule};
-use sb_script::{ScriptRefused, read_script};
+use sb_scheduletext::{MOST_ROUNDS, ScheduleRefused, read_schedule};
+use sb_scripttext::{ScriptRefused, read_script};
 use sb_statements::{Schedule, Script, Steps};
 use std::alloc::Global;
 

@@ -20,10 +20,10 @@ use crate::writing::put_transcript;
 use sb_book::ReadyScript;
 use sb_compile::Programs;
 use sb_core::{Ran, run};
+use sb_items::NoMemory;
 use sb_kernel::Kernel;
 use sb_outside::{Files, Sink};
 use sb_statements::Schedule;
-use sb_wide::NoMemory;
 use std::alloc::Global;
 
 // Reads the files of a replay: the policies, then the script, and then the schedule if one is named.

@@ -6,7 +6,7 @@ ghost use Rattle.sb_transcript.specs.Counts.{sum_of, with_decision};
 
 use crate::entries::put_named;
 use sb_book::{Decision, Entries, Report, TargetResults, ThreadResults};
-use sb_wide::NoMemory;
+use sb_items::NoMemory;
 use std::alloc::Global;
 
 // How many entries have each decision.

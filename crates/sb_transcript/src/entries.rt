@@ -8,9 +8,10 @@ use crate::comma_words::put_comma_words;
 use sb_block::BlockFault;
 use sb_book::{Decision, EntryView};
 use sb_call::{Arg, Reply, call_word};
+use sb_items::NoMemory;
 use sb_rule::{Action, Verdict};
 use sb_statements::Script;
-use sb_wide::{NoMemory, put_decimal, put_eight_digits, put_hexadecimal, quote_into};
+use sb_wide::{put_decimal, put_eight_digits, put_hexadecimal, quote_into};
 use std::alloc::Global;
 
 /// Appends a name and a number in decimal.

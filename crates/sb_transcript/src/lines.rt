@@ -9,8 +9,8 @@ use crate::laws::{entries_come_first, results_follow, totals_end};
 use crate::places::place_of;
 use crate::results::line_at;
 use sb_book::Report;
+use sb_items::NoMemory;
 use sb_statements::Script;
-use sb_wide::NoMemory;
 use std::alloc::Global;
 
 /// How many lines the transcript has: one for each entry, one for each result, and the totals.

@@ -4,8 +4,9 @@ ghost use Rattle.std.specs.Fmt.{decimal};
 ghost use Rattle.sb_transcript.specs.ResultLines.{call_result_text, result_text, result_line};
 
 use crate::entries::{put_named, put_reply, put_target};
+use sb_items::NoMemory;
 use sb_statements::{CallResult, Script, StmtResult};
-use sb_wide::{NoMemory, put_decimal};
+use sb_wide::put_decimal;
 use std::alloc::Global;
 
 // A channel and a value after it.

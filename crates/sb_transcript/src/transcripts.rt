@@ -11,8 +11,8 @@ use crate::entries::put_entry_line;
 use crate::line_buffers::LineBuffer;
 use crate::results::put_result_line;
 use sb_book::{Entries, EntryView, Report, TargetResults, ThreadResults};
+use sb_items::NoMemory;
 use sb_statements::{Script, StmtResult};
-use sb_wide::NoMemory;
 use std::alloc::Global;
 
 // Appends the line of an entry, and notes its length.

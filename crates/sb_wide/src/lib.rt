@@ -17,6 +17,5 @@ pub use laws::{
 pub use names::{eq_ignore_ascii_case, is_component, is_name, to_ascii_uppercase};
 pub use numbers::{put_decimal, put_eight_digits, put_hexadecimal};
 pub use quoting::quote_into;
-pub use sb_items::NoMemory;
 pub use strings::Wide;
 pub use surrogates::{is_high_surrogate, is_low_surrogate, is_well_formed_utf16};

@@ -1,0 +1,38 @@
+-- What a schedule text means: a schedule, or the first fault.
+use Rattle.std.specs.Prelude.{ℕ, Bool, false, ◌&&◌, List, [], ◌∷◌, length, Option, None, Some, Result, if◌then◌else◌, codes}
+use Rattle.sb_call.specs.CallWords.{is_word}
+use Rattle.sb_scheduletext.specs.Drafts.{Drafted, nothing, finished}
+use Rattle.sb_scheduletext.specs.Lines.{line_of}
+use Rattle.sb_scheduletext.specs.declared.faults.ScheduleKind.{ScheduleKind}
+use Rattle.sb_scheduletext.specs.declared.faults.ScheduleKind.TheVariants.{UnknownWord}
+use Rattle.sb_statements.specs.declared.schedules.Schedule.{Schedule}
+use Rattle.sb_statements.specs.declared.scripts.TargetScript.{TargetScript}
+use Rattle.sb_text.specs.Lines.{NumberedLine, raw_lines, lines_of}
+use Rattle.sb_text.specs.Readings.{Grammar, read_by}
+use Rattle.sb_text.specs.Steps.{◌>>=◌}
+use Rattle.sb_text.specs.Words.{words_of}
+use Rattle.sb_text.specs.declared.refusals.LineFault.{LineFault}
+
+-- the first fault of a schedule text
+abbrev pub ScheduleFault : Type 0
+ScheduleFault = LineFault ScheduleKind
+
+-- the version line is `sandbox-schedule 1`
+abbrev pub is_version : List (List ℕ) → Bool
+is_version (name ∷ version ∷ []) = is_word (codes "sandbox-schedule") name && is_word (codes "1") version
+is_version words = false
+
+abbrev pub schedule_version : List ℕ → Option ℕ
+schedule_version line = if is_version (words_of line) then Some 1 else None
+
+-- what was read so far, and what a line adds to it
+abbrev pub add_line : List TargetScript → Drafted → NumberedLine → Result Drafted ScheduleKind
+add_line targets draft line = line_of targets draft (words_of line.text)
+
+-- schedule texts, for the actors of these targets
+abbrev pub grammar : List TargetScript → Grammar Drafted ScheduleKind
+grammar targets = record { version = schedule_version; no_version = UnknownWord; start = nothing; add = λ version. add_line targets }
+
+-- what a text means: the schedule of its lines, in which the rounds are told
+abbrev pub reading : List TargetScript → List ℕ → Result Schedule ScheduleFault
+reading targets text = read_by (grammar targets) (lines_of text) >>= λ draft. finished (length (raw_lines text)) draft

@@ -1,5 +1,0 @@
-use Rattle.sb_script.proofs.Ready.{read_scripts_are_ready}
-use Rattle.sb_script.proofs.laws.read_scripts_are_ready.Goals as goal
-
-pub returns : goal.returns
-returns c = read_scripts_are_ready

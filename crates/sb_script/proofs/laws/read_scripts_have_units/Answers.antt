@@ -1,5 +1,0 @@
-use Rattle.sb_script.proofs.ReadWritable.{read_scripts_have_units}
-use Rattle.sb_script.proofs.laws.read_scripts_have_units.Goals as goal
-
-pub returns : goal.returns
-returns c = read_scripts_have_units c.quoted_strings_are_read.ensures.read c.quoted_tokens_are_text.ensures

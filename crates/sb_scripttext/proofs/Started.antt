@@ -1,0 +1,48 @@
+-- What one more opening line makes of what is so far there.
+use Rattle.std.proofs.Common.{◌≡◌, ◌∙◌, sym, ap, arith, ◌<◌, nat_lt, Bool, true, false, cond, List, [], ◌∷◌, ◌++◌, length, Result, Ok, Err}
+use Rattle.std.proofs.lemmas.Bool.Decides.{nat_tests}
+use Rattle.std.specs.Bool.{⊤}
+use Rattle.sb_statements.specs.declared.scripts.StartLine.{StartLine}
+use Rattle.sb_scripttext.specs.Openings.{can_place, with_line}
+use Rattle.sb_scripttext.specs.SoFar.{SoFar, with_start}
+use Rattle.sb_scripttext.specs.declared.faults.ScriptKind.{ScriptKind}
+use Rattle.sb_scripttext.specs.declared.faults.ScriptKind.TheVariants.{TooMany, BadStart}
+use Rattle.sb_items.specs.Refusals.{Gives}
+use Rattle.sb_text.specs.Steps.{Becomes}
+use Rattle.sb_items.specs.declared.refusals.Refused.{Refused}
+use Rattle.sb_items.specs.declared.refusals.Refused.TheVariants as refused
+
+same_lines : (a b : List StartLine) → ◌≡◌ {A = Result (List StartLine) ScriptKind} (Ok a) (Ok b) → a ≡ b
+same_lines a b e = cc
+
+same_kind : (a b : ScriptKind) → ◌≡◌ {A = Result (List StartLine) ScriptKind} (Err a) (Err b) → a ≡ b
+same_kind a b e = cc
+
+abbrev with_lines : SoFar → List StartLine → Result SoFar ScriptKind
+with_lines sofar lines = Ok (record sofar { start = lines })
+
+-- what is so far there with a line that was placed after the others
+pub start_more : (sofar : SoFar) (line : StartLine) (before lines : List StartLine) → before ≡ sofar.start → with_line before line ≡ Ok lines
+    → length sofar.start < 4096 → with_start sofar line ≡ Ok (record sofar { start = lines })
+start_more sofar line before lines s e l =
+    by (can_place sofar.start line) (sofar.start ++ line ∷ []) (nat_lt (length sofar.start) 4096) (ap (λ lines. with_line lines line) (sym s) ∙ e)
+    (grind (arith, nat_tests, l))
+  where
+    by : (b : Bool) (more : List StartLine) (few : Bool) → ◌≡◌ {A = Result (List StartLine) ScriptKind} (cond b (Ok more) (Err BadStart)) (Ok lines) → few ≡ true
+        → ◌≡◌ {A = Result SoFar ScriptKind} (cond b (cond few (with_lines sofar more) (Err TooMany)) (Err BadStart)) (with_lines sofar lines)
+    by true more true e l = ap (with_lines sofar) (same_lines more lines e)
+    by true more false e l = absurd cc
+    by false more few e l = absurd cc
+
+-- why a line was not placed after the others is why there is nothing with it
+pub start_refused : (sofar new : SoFar) (line : StartLine) (before : List StartLine) (why : Refused ScriptKind) → before ≡ sofar.start
+    → Gives {A = List StartLine} (with_line before line) (Err why) → Becomes {A = ⊤} (with_start sofar line) (Err why) new
+start_refused sofar new line before (refused.Fault kind) s h =
+    by (can_place sofar.start line) (sofar.start ++ line ∷ [])
+    (cond (nat_lt (length sofar.start) 4096) (with_lines sofar (sofar.start ++ line ∷ [])) (Err TooMany)) (ap (λ lines. with_line lines line) (sym s) ∙ h)
+  where
+    by : (b : Bool) (more : List StartLine) (next : Result SoFar ScriptKind) → ◌≡◌ {A = Result (List StartLine) ScriptKind} (cond b (Ok more) (Err BadStart)) (Err kind)
+        → ◌≡◌ {A = Result SoFar ScriptKind} (cond b next (Err BadStart)) (Err kind)
+    by true more next h = absurd cc
+    by false more next h = ap Err (same_kind BadStart kind h)
+start_refused sofar new line before refused.NoMemory s h = tt

@@ -1,0 +1,269 @@
+-- The statements that are written are read as they were.
+use Rattle.std.proofs.Common.{◌≡◌, ◌∙◌, ℕ, zero, suc, ◌^◌, ◌<◌, nat_le, nat_lt, Bool, true, false, cond, List, [], ◌∷◌, length, map, None, Some, Option, Ok, Err, Result, slice_get, ap, refl, arith}
+use Rattle.std.specs.List.{list_all}
+use Rattle.std.proofs.lemmas.Bool.{and_parts, false≢true}
+use Rattle.std.proofs.lemmas.Bool.Decides.{nat_tests}
+use Rattle.sb_block.specs.Blocks.{encodes}
+use Rattle.sb_call.specs.Arguments.{fits_kind, fit}
+use Rattle.sb_call.specs.CallWords.{call_word}
+use Rattle.sb_call.specs.Tags.{shape_of}
+use Rattle.sb_call.specs.declared.arguments.Arg.{Arg}
+use Rattle.sb_call.specs.declared.arguments.Arg.TheVariants as arg
+use Rattle.sb_call.specs.declared.tags.CallTag.{CallTag}
+use Rattle.sb_call.specs.declared.tags.ParamKind.{ParamKind}
+use Rattle.sb_call.specs.declared.tags.ParamKind.TheVariants.{Text, Name, Num, Handle}
+use Rattle.sb_statements.specs.Soundness.{channels_of, has_word, is_patience, is_statement, is_target}
+use Rattle.sb_statements.specs.declared.scripts.TargetScript.{TargetScript}
+use Rattle.sb_statements.specs.declared.statements.Statement.{Statement}
+use Rattle.sb_statements.specs.declared.statements.Statement.TheVariants.{Call, Store, Exchange, Load, Wait}
+use Rattle.sb_statements.specs.declared.statements.Word as words
+use Rattle.sb_scripttext.proofs.WrittenWords.{Texts, at_most, number_read, within_read, short_read, place_read, string_read, name_read, tag_read}
+use Rattle.sb_scripttext.specs.Arguments.{most_32, arg_at, args_at, fitting, call}
+use Rattle.sb_scripttext.specs.SoFar.{named_by}
+use Rattle.sb_scripttext.specs.ScriptTexts.{ScriptFault, first_absence}
+use Rattle.sb_scripttext.specs.Statements.{value_at, short_at, place_at, target_word_at, store, exchange, load, wait}
+use Rattle.sb_scripttext.specs.Steps.{within}
+use Rattle.sb_scripttext.specs.Writable.{is_number, is_writable_arg, is_writable_statement}
+use Rattle.sb_scripttext.specs.Writing.{number_token, place_word, arg_token, word_tokens, statement_tokens}
+use Rattle.sb_scripttext.specs.declared.faults.ScriptKind.{ScriptKind}
+use Rattle.sb_scripttext.specs.declared.faults.ScriptKind.TheVariants.{UnknownWord, WrongArgs, BadNumber, NoSuchTarget, NoSuchChannel, TooBig}
+use Rattle.sb_text.specs.Steps.{◌>>=◌, Read, later, end_at}
+use Rattle.sb_text.specs.Tokens.{Lexeme, Word}
+
+-- arguments
+
+-- an argument, and the tokens after it
+abbrev as_text : List ℕ × List Lexeme → Read Arg ScriptKind
+as_text text = Ok (arg.Str text.0, text.1)
+
+abbrev as_number : ℕ × List Lexeme → Read Arg ScriptKind
+as_number number = Ok (arg.Num number.0, number.1)
+
+small_arg : (n : ℕ) → nat_lt n (2 ^ 32) ≡ true → nat_le n most_32 ≡ true
+small_arg n h = grind (arith, nat_tests)
+
+arg_read : Texts → (kind : ParamKind) (a : Arg) (rest : List Lexeme) → fits_kind kind a ≡ true → is_writable_arg a ≡ true
+    → arg_at kind (arg_token a ∷ rest) ≡ Ok (a, rest)
+unfolding arg_at
+arg_read law Text (arg.Str text) rest h w = ap (λ (r : Read (List ℕ) ScriptKind). r >>= as_text) (string_read law WrongArgs text rest w)
+arg_read law Text (arg.Num number) rest h w = absurd (false≢true h)
+arg_read law Name (arg.Str text) rest h w = ap (λ (r : Read (List ℕ) ScriptKind). r >>= as_text) (name_read law WrongArgs text rest w h)
+arg_read law Name (arg.Num number) rest h w = absurd (false≢true h)
+arg_read law Num (arg.Str text) rest h w = absurd (false≢true h)
+arg_read law Num (arg.Num number) rest h w =
+    ap (λ (r : Read ℕ ScriptKind). r >>= as_number) (within_read law 0 most_32 WrongArgs WrongArgs number rest w (at_most number (small_arg number h)))
+arg_read law Handle (arg.Str text) rest h w = absurd (false≢true h)
+arg_read law Handle (arg.Num number) rest h w = ap (λ (r : Read ℕ ScriptKind). r >>= as_number) (number_read law WrongArgs WrongArgs number rest w)
+
+-- an argument before others
+abbrev with_others : List ParamKind → Arg × List Lexeme → Read (List Arg) ScriptKind
+with_others kinds first = args_at kinds first.1 >>= λ others. Ok (first.0 ∷ others.0, others.1)
+
+abbrev behind : Arg → List Arg × List Lexeme → Read (List Arg) ScriptKind
+behind first others = Ok (first ∷ others.0, others.1)
+
+args_read : Texts → (kinds : List ParamKind) (args : List Arg) → fit kinds args ≡ true → list_all is_writable_arg args ≡ true
+    → args_at kinds (map arg_token args) ≡ Ok (args, [])
+unfolding args_at
+args_read law [] [] h w = refl
+args_read law [] (a ∷ args) h w = absurd (false≢true h)
+args_read law (kind ∷ kinds) [] h w = absurd (false≢true h)
+args_read law (kind ∷ kinds) (a ∷ args) h w =
+    ap (λ (r : Read Arg ScriptKind). r >>= with_others kinds) (arg_read law kind a (map arg_token args) (and_parts _ _ h).0 (and_parts _ _ w).0)
+    ∙ ap (λ (r : Read (List Arg) ScriptKind). r >>= behind a) (args_read law kinds args (and_parts _ _ h).1 (and_parts _ _ w).1)
+
+-- a call
+
+-- the call of these arguments, with which the line ends
+abbrev called : CallTag → List Arg × List Lexeme → Result Statement ScriptKind
+called tag args = end_at WrongArgs UnknownWord args.1 >>= λ end. fitting tag args.0
+
+abbrev with_args : CallTag × List Lexeme → Result Statement ScriptKind
+with_args tag = args_at (shape_of tag.0) tag.1 >>= called tag.0
+
+abbrev fitted : CallTag → List Arg → Bool → Result Statement ScriptKind
+fitted tag args t = cond t (Ok (Call tag args)) (Err TooBig)
+
+call_read : Texts → (tag : CallTag) (args : List Arg) → encodes tag args ≡ true → list_all is_writable_arg args ≡ true
+    → call (Word (call_word tag) ∷ map arg_token args) ≡ Ok (Call tag args)
+unfolding call
+call_read law tag args h w =
+    ap (λ (r : Read CallTag ScriptKind). r >>= with_args) (tag_read tag (map arg_token args))
+    ∙ ap (λ (r : Read (List Arg) ScriptKind). r >>= called tag)
+    (args_read law (shape_of tag) args (and_parts _ _ h).0 w)
+    ∙ ap (fitted tag args) h
+
+-- a target, and a word of one of its channels
+
+abbrev with_place : ℕ → ℕ → ℕ × List Lexeme → Read (ℕ × words.Word) ScriptKind
+with_place target channel place = Ok ((target, record { channel = channel; at = place.0 }), place.1)
+
+abbrev with_channel : ℕ → ℕ × List Lexeme → Read (ℕ × words.Word) ScriptKind
+with_channel target channel = place_at channel.1 >>= with_place target channel.0
+
+abbrev with_target : ℕ × List Lexeme → Read (ℕ × words.Word) ScriptKind
+with_target target = short_at target.1 >>= with_channel target.0
+
+-- what a statement names can be written: neither number is past 32 bits, and the place is one of a channel
+pub record IsNamed (target : ℕ) (word : words.Word) : Type 0 where
+  pub short_target : nat_le target most_32 ≡ true
+  pub short_channel : nat_le word.channel most_32 ≡ true
+  pub place : nat_le word.at 64 ≡ true
+
+word_read : Texts → (target : ℕ) (word : words.Word) (rest : List Lexeme) → IsNamed target word
+    → target_word_at (word_tokens target word.channel word.at rest) ≡ Ok ((target, word), rest)
+unfolding target_word_at
+word_read law target word rest n =
+    ap (λ (r : Read ℕ ScriptKind). r >>= with_target) (short_read law target (number_token word.channel ∷ Word (place_word word.at) ∷ rest) n.short_target)
+    ∙ ap (λ (r : Read ℕ ScriptKind). r >>= with_channel target) (short_read law word.channel (Word (place_word word.at) ∷ rest) n.short_channel)
+    ∙ ap (λ (r : Read ℕ ScriptKind). r >>= with_place target word.channel) (place_read law word.at rest n.place)
+
+-- stores, exchanges, loads and waits
+
+abbrev stored : ℕ → words.Word → ℕ × List Lexeme → Result Statement ScriptKind
+stored target word value = end_at WrongArgs UnknownWord value.1 >>= λ end. Ok (Store target word value.0)
+
+abbrev then_stored : (ℕ × words.Word) × List Lexeme → Result Statement ScriptKind
+then_stored word = value_at word.1 >>= stored word.0.0 word.0.1
+
+store_read : Texts → (target : ℕ) (word : words.Word) (value : ℕ) → IsNamed target word → is_number value ≡ true
+    → store (word_tokens target word.channel word.at (number_token value ∷ [])) ≡ Ok (Store target word value)
+unfolding store
+store_read law target word value n h =
+    ap (λ (r : Read (ℕ × words.Word) ScriptKind). r >>= then_stored) (word_read law target word (number_token value ∷ []) n)
+    ∙ ap (λ (r : Read ℕ ScriptKind). r >>= stored target word) (number_read law BadNumber WrongArgs value [] h)
+
+abbrev exchanged : ℕ → words.Word → ℕ → ℕ × List Lexeme → Result Statement ScriptKind
+exchanged target word old new = end_at WrongArgs UnknownWord new.1 >>= λ end. Ok (Exchange target word old new.0)
+
+abbrev with_old : ℕ → words.Word → ℕ × List Lexeme → Result Statement ScriptKind
+with_old target word old = value_at old.1 >>= exchanged target word old.0
+
+abbrev then_exchanged : (ℕ × words.Word) × List Lexeme → Result Statement ScriptKind
+then_exchanged word = value_at word.1 >>= with_old word.0.0 word.0.1
+
+exchange_read : Texts → (target : ℕ) (word : words.Word) (old new : ℕ) → IsNamed target word → is_number old ≡ true → is_number new ≡ true
+    → exchange (word_tokens target word.channel word.at (number_token old ∷ number_token new ∷ [])) ≡ Ok (Exchange target word old new)
+unfolding exchange
+exchange_read law target word old new n h k =
+    ap (λ (r : Read (ℕ × words.Word) ScriptKind). r >>= then_exchanged) (word_read law target word (number_token old ∷ number_token new ∷ []) n)
+    ∙ ap (λ (r : Read ℕ ScriptKind). r >>= with_old target word) (number_read law BadNumber WrongArgs old (number_token new ∷ []) h)
+    ∙ ap (λ (r : Read ℕ ScriptKind). r >>= exchanged target word old) (number_read law BadNumber WrongArgs new [] k)
+
+abbrev loaded : (ℕ × words.Word) × List Lexeme → Result Statement ScriptKind
+loaded word = end_at WrongArgs UnknownWord word.1 >>= λ end. Ok (Load word.0.0 word.0.1)
+
+load_read : Texts → (target : ℕ) (word : words.Word) → IsNamed target word → load (word_tokens target word.channel word.at []) ≡ Ok (Load target word)
+unfolding load
+load_read law target word n = ap (λ (r : Read (ℕ × words.Word) ScriptKind). r >>= loaded) (word_read law target word [] n)
+
+abbrev waited : ℕ → words.Word → ℕ → ℕ × List Lexeme → Result Statement ScriptKind
+waited target word value loads =
+    end_at WrongArgs UnknownWord loads.1 >>= λ end. within 1 1000000 loads.0 >>= λ most. Ok (Wait target word value most)
+
+abbrev with_value : ℕ → words.Word → ℕ × List Lexeme → Result Statement ScriptKind
+with_value target word value = value_at value.1 >>= waited target word value.0
+
+abbrev then_waited : (ℕ × words.Word) × List Lexeme → Result Statement ScriptKind
+then_waited word = value_at word.1 >>= with_value word.0.0 word.0.1
+
+abbrev waited_within : ℕ → words.Word → ℕ → ℕ → Bool → Result Statement ScriptKind
+waited_within target word value most t = cond t (Ok most) (Err BadNumber) >>= λ most. Ok (Wait target word value most)
+
+pub patience_number : (n : ℕ) → is_patience n ≡ true → is_number n ≡ true
+patience_number n h = grind (arith, nat_tests)
+
+wait_read : Texts → (target : ℕ) (word : words.Word) (value most : ℕ) → IsNamed target word → is_number value ≡ true → is_patience most ≡ true
+    → wait (word_tokens target word.channel word.at (number_token value ∷ number_token most ∷ [])) ≡ Ok (Wait target word value most)
+unfolding wait
+wait_read law target word value most n h k =
+    ap (λ (r : Read (ℕ × words.Word) ScriptKind). r >>= then_waited) (word_read law target word (number_token value ∷ number_token most ∷ []) n)
+    ∙ ap (λ (r : Read ℕ ScriptKind). r >>= with_value target word) (number_read law BadNumber WrongArgs value (number_token most ∷ []) h)
+    ∙ ap (λ (r : Read ℕ ScriptKind). r >>= waited target word value) (number_read law BadNumber WrongArgs most [] (patience_number most k))
+    ∙ ap (waited_within target word value most) k
+
+-- the reader of the lines of such statements
+abbrev pub statement_reader : Statement → List Lexeme → Result Statement ScriptKind
+statement_reader (Call tag args) = call
+statement_reader (Store target word value) = store
+statement_reader (Exchange target word old new) = exchange
+statement_reader (Load target word) = load
+statement_reader (Wait target word value most) = wait
+
+-- what a sound statement names is there
+
+no_channel : (channel : ℕ) → nat_lt channel 0 ≡ true → false ≡ true
+no_channel channel h = grind (arith, nat_tests)
+
+target_there : (targets : List TargetScript) (target channel : ℕ) → nat_lt channel (channels_of (slice_get targets target)) ≡ true
+    → nat_lt target (length targets) ≡ true
+target_there [] target channel h = absurd (false≢true (no_channel channel h))
+target_there (x ∷ targets) zero channel h = next_above zero (length targets) (omega arith)
+  where
+    next_above : (n m : ℕ) → n < suc m → nat_lt n (suc m) ≡ true
+    next_above n m l = grind (arith, nat_tests)
+target_there (x ∷ targets) (suc target) channel h = one_more target (length targets) (target_there targets target channel h)
+  where
+    one_more : (n m : ℕ) → nat_lt n m ≡ true → nat_lt (suc n) (suc m) ≡ true
+    one_more n m l = grind (arith, nat_tests)
+
+few_channels : (all targets : List TargetScript) (target : ℕ) → list_all (is_target all) targets ≡ true
+    → nat_le (channels_of (slice_get targets target)) 8 ≡ true
+few_channels all [] target h = refl
+few_channels all (x ∷ targets) zero h =
+    let sound = (and_parts (is_target all x) (list_all (is_target all) targets) h).0 in
+    (and_parts (nat_le 1 x.channels) (nat_le x.channels 8) (and_parts _ _ (and_parts _ _ sound).0).0).1
+few_channels all (x ∷ targets) (suc target) h = few_channels all targets target (and_parts (is_target all x) (list_all (is_target all) targets) h).1
+
+-- targets at most 8, each of them sound
+pub record AreSound (targets : List TargetScript) : Type 0 where
+  pub few : nat_le (length targets) 8 ≡ true
+  pub sound : list_all (is_target targets) targets ≡ true
+
+-- a number below such a one is short
+short_below : (n m : ℕ) → nat_lt n m ≡ true → nat_le m 8 ≡ true → nat_le n most_32 ≡ true
+short_below n m h k = grind (arith, nat_tests)
+
+pub named_there : (targets : List TargetScript) (target : ℕ) (word : words.Word) → AreSound targets → has_word targets target word ≡ true → IsNamed target word
+named_there targets target word s h =
+    let parts = and_parts (nat_lt word.channel (channels_of (slice_get targets target))) (nat_le word.at 64) h in
+    record {
+      short_target = short_below target (length targets) (target_there targets target word.channel parts.0) s.few;
+      short_channel = short_below word.channel (channels_of (slice_get targets target)) parts.0 (few_channels targets targets target s.sound);
+      place = parts.1;
+    }
+
+-- neither the target nor its channel is absent
+word_there : (targets : List TargetScript) (line target : ℕ) (word : words.Word) → has_word targets target word ≡ true
+    → first_absence targets (record { line = line; target = target; channel = word.channel } ∷ []) ≡ None
+word_there targets line target word h =
+    let channel = (and_parts (nat_lt word.channel (channels_of (slice_get targets target))) (nat_le word.at 64) h).0 in
+    none_absent (nat_lt target (length targets)) (nat_lt word.channel (channels_of (slice_get targets target))) (target_there targets target word.channel channel) channel
+  where
+    none_absent : (a b : Bool) → a ≡ true → b ≡ true
+        → ◌≡◌ {A = Option ScriptFault}
+        (elim (cond a (cond b None (Some NoSuchChannel)) (Some NoSuchTarget)) [ None ↦ None | Some kind ↦ Some (record { line = line; kind = kind }) ]) None
+    none_absent true true h k = refl
+    none_absent true false h k = absurd (false≢true k)
+    none_absent false b h k = absurd (false≢true h)
+
+-- nothing that a sound statement names is absent
+pub statement_there : (targets : List TargetScript) (line : ℕ) (statement : Statement) → is_statement targets statement ≡ true
+    → first_absence targets (named_by line statement) ≡ None
+statement_there targets line (Call tag args) h = refl
+statement_there targets line (Store target word value) h = word_there targets line target word h
+statement_there targets line (Exchange target word old new) h = word_there targets line target word h
+statement_there targets line (Load target word) h = word_there targets line target word h
+statement_there targets line (Wait target word value most) h = word_there targets line target word (and_parts (has_word targets target word) (is_patience most) h).0
+
+-- a sound statement that can be written is read from its line
+pub statement_read : Texts → (targets : List TargetScript) (statement : Statement) → AreSound targets → is_statement targets statement ≡ true
+    → is_writable_statement statement ≡ true → statement_reader statement (later (statement_tokens statement)) ≡ Ok statement
+statement_read law targets (Call tag args) s h w = call_read law tag args h w
+statement_read law targets (Store target word value) s h w = store_read law target word value (named_there targets target word s h) w
+statement_read law targets (Exchange target word old new) s h w =
+    exchange_read law target word old new (named_there targets target word s h) (and_parts _ _ w).0 (and_parts _ _ w).1
+statement_read law targets (Load target word) s h w = load_read law target word (named_there targets target word s h)
+statement_read law targets (Wait target word value most) s h w =
+    let parts = and_parts (has_word targets target word) (is_patience most) h in
+    wait_read law target word value most (named_there targets target word s parts.0) w parts.1

@@ -1,0 +1,5 @@
+use Rattle.sb_scripttext.proofs.ReadWritable.{read_scripts_can_be_written}
+use Rattle.sb_scripttext.proofs.laws.read_scripts_can_be_written.Goals as goal
+
+pub returns : goal.returns
+returns c = read_scripts_can_be_written c.quoted_strings_are_read.ensures.read c.quoted_tokens_are_text.ensures

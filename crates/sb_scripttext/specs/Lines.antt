@@ -1,0 +1,120 @@
+-- The lines of a script text below its first.
+use Rattle.std.specs.Prelude.{ℕ, Bool, nat_eq, nat_le, List, [], None, Some, Result, Ok, Err, if◌then◌else◌, codes}
+use Rattle.std.specs.Cmp.Lexicographic.{pointwise}
+use Rattle.std.specs.List.{list_any, position}
+use Rattle.sb_call.specs.CallWords.{is_word}
+use Rattle.sb_call.specs.ShortNames.{is_short_name}
+use Rattle.sb_statements.specs.declared.scripts.StartLine.{StartLine}
+use Rattle.sb_statements.specs.declared.scripts.TargetScript.{TargetScript}
+use Rattle.sb_statements.specs.declared.statements.Statement.{Statement}
+use Rattle.sb_rule.specs.WellMade.{is_named}
+use Rattle.sb_rule.specs.declared.policies.Policy.{Policy}
+use Rattle.sb_statements.specs.Limits.{most_patience, most_channels}
+use Rattle.sb_scripttext.specs.Arguments.{most_32, call}
+use Rattle.sb_scripttext.specs.SoFar.{SoFar, is_opening, is_in_thread, with_patience, with_start, with_target, with_thread, with_statement}
+use Rattle.sb_scripttext.specs.Openings.{dir, file, key, event}
+use Rattle.sb_scripttext.specs.Statements.{store, exchange, load, wait}
+use Rattle.sb_scripttext.specs.Steps.{number_within}
+use Rattle.sb_text.specs.Steps.{◌>>=◌, or_fault, Read, word_at, end_at}
+use Rattle.sb_scripttext.specs.declared.faults.ScriptKind.{ScriptKind}
+use Rattle.sb_scripttext.specs.declared.faults.ScriptKind.TheVariants.{UnknownWord, BadNumber, NoSuchPolicy, SameName}
+use Rattle.sb_text.specs.Tokens.{Lexeme}
+
+-- `patience N`, after its first word
+unfoldable pub patience : List Lexeme → Result ℕ ScriptKind
+patience tokens = do
+  number ← number_within 1 most_patience BadNumber UnknownWord tokens
+  end ← end_at UnknownWord UnknownWord number.1
+  Ok number.0
+
+-- a target has this name
+abbrev pub is_target_named : List ℕ → TargetScript → Bool
+is_target_named name target = pointwise nat_eq target.name name
+
+-- NAME as a word: a short name that no target so far has
+abbrev pub new_name : List TargetScript → List ℕ → Result (List ℕ) ScriptKind
+new_name targets name =
+    if is_short_name name
+    then (if list_any (is_target_named name) targets then Err SameName else Ok name)
+    else Err UnknownWord
+
+-- NAME: the name of a target
+unfoldable pub new_name_at : List TargetScript → List Lexeme → Read (List ℕ) ScriptKind
+new_name_at targets tokens = do
+  word ← word_at UnknownWord UnknownWord UnknownWord tokens
+  name ← new_name targets word.0
+  Ok (name, word.1)
+
+-- the number of a policy, which has 32 bits: of this many policies a script can name no others
+abbrev pub policy_number : ℕ → Result ℕ ScriptKind
+policy_number place = if nat_le place most_32 then Ok place else Err NoSuchPolicy
+
+-- POLICY: the number of the first policy of this name, from 0
+unfoldable pub policy_at : List Policy → List Lexeme → Read ℕ ScriptKind
+policy_at policies tokens = do
+  word ← word_at NoSuchPolicy UnknownWord UnknownWord tokens
+  place ← or_fault NoSuchPolicy (position (is_named word.0) policies)
+  policy ← policy_number place
+  Ok (policy, word.1)
+
+-- `target NAME POLICY CHANNELS`, after its first word: a target that has no thread so far
+unfoldable pub heading : List Policy → List TargetScript → List Lexeme → Result TargetScript ScriptKind
+heading policies targets tokens = do
+  name ← new_name_at targets tokens
+  policy ← policy_at policies name.1
+  channels ← number_within 1 most_channels BadNumber UnknownWord policy.1
+  end ← end_at UnknownWord UnknownWord channels.1
+  Ok (record { name = name.0; policy = policy.0; channels = channels.0; threads = [] })
+
+-- a `patience` line, before the first target and once
+unfoldable pub set_patience : SoFar → List Lexeme → Result SoFar ScriptKind
+set_patience sofar tokens =
+    elim sofar.patience [
+      | None ↦ if is_opening sofar then (patience tokens >>= λ n. Ok (with_patience sofar n)) else Err UnknownWord
+      | Some n ↦ Err UnknownWord
+    ]
+
+-- a `target` line
+unfoldable pub add_target : List Policy → SoFar → List Lexeme → Result SoFar ScriptKind
+add_target policies sofar tokens = heading policies sofar.targets tokens >>= λ target. with_target sofar target
+
+-- a `thread` line, after a target
+unfoldable pub add_thread : SoFar → List Lexeme → Result SoFar ScriptKind
+add_thread sofar tokens =
+    if is_opening sofar then Err UnknownWord
+    else (end_at UnknownWord UnknownWord tokens >>= λ end. with_thread sofar)
+
+-- the object of an opening line that begins with this word
+unfoldable pub start_line : List ℕ → List Lexeme → Result StartLine ScriptKind
+start_line w tokens =
+    if is_word (codes "dir") w then dir tokens
+    else (if is_word (codes "file") w then file tokens
+    else (if is_word (codes "key") w then key tokens
+    else (if is_word (codes "event") w then event tokens
+    else Err UnknownWord)))
+
+-- the statement of a line that begins with this word
+unfoldable pub statement_line : List ℕ → List Lexeme → Result Statement ScriptKind
+statement_line w tokens =
+    if is_word (codes "call") w then call tokens
+    else (if is_word (codes "store") w then store tokens
+    else (if is_word (codes "exchange") w then exchange tokens
+    else (if is_word (codes "load") w then load tokens
+    else (if is_word (codes "wait") w then wait tokens
+    else Err UnknownWord))))
+
+-- in a thread a statement, before the first target an opening line, and elsewhere neither
+unfoldable pub plain_line : List ℕ → SoFar → ℕ → List Lexeme → Result SoFar ScriptKind
+plain_line w sofar line tokens =
+    if is_in_thread sofar then (statement_line w tokens >>= λ statement. with_statement sofar line statement)
+    else (if is_opening sofar then (start_line w tokens >>= λ start. with_start sofar start)
+    else Err UnknownWord)
+
+-- with what a line says: a patience, a target, a thread, an opening line or a statement
+unfoldable pub line_of : List Policy → SoFar → ℕ → List Lexeme → Result SoFar ScriptKind
+line_of policies sofar line tokens = do
+  word ← word_at UnknownWord UnknownWord UnknownWord tokens
+  if is_word (codes "patience") word.0 then set_patience sofar word.1
+      else (if is_word (codes "target") word.0 then add_target policies sofar word.1
+      else (if is_word (codes "thread") word.0 then add_thread sofar word.1
+      else plain_line word.0 sofar line word.1))

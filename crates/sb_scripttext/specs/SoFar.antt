@@ -1,0 +1,97 @@
+-- What is so far there of a script, and what a line adds to it.
+use Rattle.std.specs.Prelude.{ℕ, Bool, true, false, not, nat_lt, List, [], ◌∷◌, ◌++◌, length, Option, None, Some, Result, Ok, Err, if◌then◌else◌}
+use Rattle.sb_statements.specs.Limits.{most_start_lines, most_targets, most_threads, most_statements}
+use Rattle.sb_statements.specs.declared.scripts.StartLine.{StartLine}
+use Rattle.sb_statements.specs.declared.scripts.TargetScript.{TargetScript}
+use Rattle.sb_statements.specs.declared.statements.Statement.{Statement}
+use Rattle.sb_statements.specs.declared.statements.Statement.TheVariants.{Call, Store, Exchange, Load, Wait}
+use Rattle.sb_scripttext.specs.Openings.{can_place}
+use Rattle.sb_text.specs.Steps.{◌>>=◌}
+use Rattle.sb_scripttext.specs.declared.drafts.Named.{Named}
+use Rattle.sb_scripttext.specs.declared.faults.ScriptKind.{ScriptKind}
+use Rattle.sb_scripttext.specs.declared.faults.ScriptKind.TheVariants.{UnknownWord, TooMany, BadStart}
+
+-- what is so far there: the patience, if a line told it, the opening lines, the targets, and what statements name. The last target is
+-- open for threads, and its last thread for statements
+pub record SoFar : Type 0 where
+  pub patience : Option ℕ
+  pub start : List StartLine
+  pub targets : List TargetScript
+  pub named : List Named
+
+-- nothing is there
+abbrev pub nothing : SoFar
+nothing = record { patience = None; start = []; targets = []; named = [] }
+
+-- a list is empty
+abbrev pub is_empty : {A : Type 0} → List A → Bool
+is_empty [] = true
+is_empty (x ∷ xs) = false
+
+-- a list whose last value a step changes, or the fault of that step; if there is no value, no line may change it
+abbrev pub change_last : {A : Type 0} → (A → Result A ScriptKind) → List A → Result (List A) ScriptKind
+change_last step [] = Err UnknownWord
+change_last step (x ∷ []) = step x >>= λ changed. Ok (changed ∷ [])
+change_last step (x ∷ y ∷ xs) = change_last step (y ∷ xs) >>= λ more. Ok (x ∷ more)
+
+-- the threads of the last target, and none if there is no target
+abbrev pub last_threads : List TargetScript → List (List Statement)
+last_threads [] = []
+last_threads (target ∷ []) = target.threads
+last_threads (target ∷ next ∷ targets) = last_threads (next ∷ targets)
+
+-- no target was read
+abbrev pub is_opening : SoFar → Bool
+is_opening sofar = is_empty sofar.targets
+
+-- the last target has a thread
+abbrev pub is_in_thread : SoFar → Bool
+is_in_thread sofar = not (is_empty (last_threads sofar.targets))
+
+-- with this patience
+abbrev pub with_patience : SoFar → ℕ → SoFar
+with_patience sofar patience = record sofar { patience = Some patience }
+
+-- one more opening line, if it can be placed
+abbrev pub with_start : SoFar → StartLine → Result SoFar ScriptKind
+with_start sofar line =
+    if can_place sofar.start line
+    then (if nat_lt (length sofar.start) most_start_lines then Ok (record sofar { start = sofar.start ++ line ∷ [] }) else Err TooMany)
+    else Err BadStart
+
+-- one more target
+abbrev pub with_target : SoFar → TargetScript → Result SoFar ScriptKind
+with_target sofar target =
+    if nat_lt (length sofar.targets) most_targets then Ok (record sofar { targets = sofar.targets ++ target ∷ [] }) else Err TooMany
+
+-- a target with one more thread
+abbrev pub one_thread_more : TargetScript → Result TargetScript ScriptKind
+one_thread_more target =
+    if nat_lt (length target.threads) most_threads then Ok (record target { threads = target.threads ++ [] ∷ [] }) else Err TooMany
+
+-- one more thread of the last target
+abbrev pub with_thread : SoFar → Result SoFar ScriptKind
+with_thread sofar = change_last one_thread_more sofar.targets >>= λ targets. Ok (record sofar { targets = targets })
+
+-- a thread with one more statement
+abbrev pub one_statement_more : Statement → List Statement → Result (List Statement) ScriptKind
+one_statement_more statement statements =
+    if nat_lt (length statements) most_statements then Ok (statements ++ statement ∷ []) else Err TooMany
+
+-- a target whose last thread has one more statement
+abbrev pub in_last_thread : Statement → TargetScript → Result TargetScript ScriptKind
+in_last_thread statement target =
+    change_last (one_statement_more statement) target.threads >>= λ threads. Ok (record target { threads = threads })
+
+-- the target and the channel that a statement on this line names; a call names none
+abbrev pub named_by : ℕ → Statement → List Named
+named_by line (Call tag args) = []
+named_by line (Store target word value) = record { line = line; target = target; channel = word.channel } ∷ []
+named_by line (Exchange target word from to) = record { line = line; target = target; channel = word.channel } ∷ []
+named_by line (Load target word) = record { line = line; target = target; channel = word.channel } ∷ []
+named_by line (Wait target word value most) = record { line = line; target = target; channel = word.channel } ∷ []
+
+-- one more statement of the last thread, with what it names on this line
+abbrev pub with_statement : SoFar → ℕ → Statement → Result SoFar ScriptKind
+with_statement sofar line statement =
+    change_last (in_last_thread statement) sofar.targets >>= λ targets. Ok (record sofar { targets = targets; named = sofar.named ++ named_by line statement })

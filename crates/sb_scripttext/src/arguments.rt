@@ -1,0 +1,78 @@
+// `call CALL ARG ..`: a call with its arguments.
+ghost use Rattle.std.specs.Prelude.{◌≡◌};
+ghost use Rattle.sb_scripttext.specs.Arguments.{tag_at, arg_at, args_at, fitting, call};
+ghost use Rattle.sb_items.specs.Refusals.{Gives};
+ghost use Rattle.sb_text.specs.Steps.{Reads};
+
+use crate::faults::LineRefused;
+use crate::faults::ScriptKind::{TooBig, UnknownCall, UnknownWord, WrongArgs};
+use crate::steps::{name_at, number_at, number_within, string_at};
+use sb_block::encodes;
+use sb_call::{Arg, Args, CallTag, ParamKind, shape, tag_of_word};
+use sb_statements::Statement;
+use sb_text::{Tokens, end_at, or_fault, word_at};
+use std::alloc::Global;
+
+/// The greatest number of 32 bits.
+pub(crate) const MOST_32: u64 = 0xFFFF_FFFF;
+
+// CALL: the word of a call.
+#[tactic(auto, unfolding(crate::specs::Arguments::tag_at))]
+fn tag_at(tokens: &mut Tokens) -> Result<CallTag, LineRefused>
+    ensures { Reads (tag_at tokens.old) result tokens.new }
+{
+    let word = word_at(UnknownCall, UnknownWord, UnknownWord, tokens)?;
+    or_fault(UnknownCall, tag_of_word(word))
+}
+
+// ARG: an argument of this kind.
+#[tactic(auto, unfolding(crate::specs::Arguments::arg_at))]
+fn arg_at(alloc: Global, kind: ParamKind, tokens: &mut Tokens) -> Result<Arg, LineRefused>
+    ensures { Reads (arg_at kind tokens.old) result tokens.new }
+{
+    match kind {
+        ParamKind::Text => Ok(Arg::Str(string_at(alloc, WrongArgs, tokens)?)),
+        ParamKind::Name => Ok(Arg::Str(name_at(alloc, WrongArgs, tokens)?)),
+        ParamKind::Num => Ok(Arg::Num(number_within(0, MOST_32, WrongArgs, WrongArgs, tokens)?)),
+        ParamKind::Handle => Ok(Arg::Num(number_at(WrongArgs, WrongArgs, tokens)?)),
+    }
+}
+
+// An argument of each of these kinds.
+#[tactic(auto, using(crate::proofs::Reading::args_before, crate::proofs::Reading::args_none, crate::proofs::Reading::args_bad, crate::proofs::Reading::args_more))]
+fn args_at(alloc: Global, kinds: &[ParamKind], tokens: &mut Tokens) -> Result<Args, LineRefused>
+    ensures { Reads (args_at kinds.now tokens.old) result tokens.new }
+{
+    let Ok(room) = Vec::with_capacity(alloc, kinds.len()) else {
+        return Err(LineRefused::NoMemory);
+    };
+    let mut args = Args::new(room);
+    let mut left = kinds;
+    while let Some((kind, more)) = left.split_first() {
+        args.push(arg_at(alloc, *kind, tokens)?)?;
+        left = more;
+    }
+    Ok(args)
+}
+
+// The statement of a call, if its block has at most 64 words.
+fn fitting(tag: CallTag, args: Args) -> Result<Statement, LineRefused>
+    ensures { Gives (fitting tag args) result }
+{
+    if encodes(tag, args.as_slice()) {
+        Ok(Statement::Call { tag, args })
+    } else {
+        Err(LineRefused::Fault(TooBig))
+    }
+}
+
+/// `call CALL ARG ..`, after its first word.
+#[tactic(auto, unfolding(crate::specs::Arguments::call))]
+pub(crate) fn call(alloc: Global, tokens: &mut Tokens) -> Result<Statement, LineRefused>
+    ensures { Gives (call tokens.old) result }
+{
+    let tag = tag_at(tokens)?;
+    let args = args_at(alloc, shape(tag), tokens)?;
+    end_at(WrongArgs, UnknownWord, tokens)?;
+    fitting(tag, args)
+}

@@ -1,0 +1,66 @@
+// Laws of script texts. None of these functions does anything: each contract is a law.
+ghost use Rattle.sb_scripttext.specs.Laws.{FirstFaultsStay, SkippedLinesCountAlone, ReadArgumentsFit};
+ghost use Rattle.sb_scripttext.specs.Readiness.{ReadScriptsAreReady, ReadScriptsHaveUnits};
+ghost use Rattle.sb_scripttext.specs.WritingLaws.{WrittenScriptsAreRead, ReadScriptsCanBeWritten};
+
+use crate::drafts::Draft;
+use crate::faults::ScriptKind;
+use sb_text::{
+    decimals_are_read, not_utf8_line_tells, plain_lines_are_read, quoted_strings_are_read,
+    quoted_tokens_are_text,
+};
+
+/// Each script that is read for well-made policies is ready for them.
+pub fn read_scripts_are_ready()
+    ensures { ReadScriptsAreReady }
+{}
+
+/// The strings of the calls of each script that is read are made of units of 16 bits: they stand between quotes in a text that is
+/// UTF-8.
+pub fn read_scripts_have_units()
+    ensures { ReadScriptsHaveUnits }
+{
+    quoted_strings_are_read();
+    quoted_tokens_are_text();
+}
+
+/// The arguments that are read for a call fit it, so that a call is too big only for its block.
+pub fn read_arguments_fit()
+    ensures { ReadArgumentsFit }
+{}
+
+/// A fault on one of the first lines of a text, not all of which are blank or comments, is that of each text that begins with these
+/// lines, but that a target or a channel that is not there is looked for last.
+pub fn first_faults_stay()
+    ensures { FirstFaultsStay }
+{
+    sb_text::first_faults_stay::<Draft, ScriptKind>();
+}
+
+/// A blank or comment line may be put in anywhere below the first that is neither blank nor a comment, and changes nothing but numbers of
+/// lines.
+pub fn skipped_lines_count_alone()
+    ensures { SkippedLinesCountAlone }
+{
+    sb_text::skipped_lines_count_alone::<Draft, ScriptKind>();
+}
+
+/// A script that is ready for policies with short names, and whose strings, numbers and names can be written, is read back from
+/// its text as itself: so each line means what it is written for.
+pub fn written_scripts_are_read()
+    ensures { WrittenScriptsAreRead }
+{
+    not_utf8_line_tells();
+    plain_lines_are_read();
+    quoted_strings_are_read();
+    decimals_are_read();
+}
+
+/// The strings, numbers and names of each script that is read can be written. If the policies are well made it is ready for them
+/// too, by `read_scripts_are_ready`.
+pub fn read_scripts_can_be_written()
+    ensures { ReadScriptsCanBeWritten }
+{
+    quoted_strings_are_read();
+    quoted_tokens_are_text();
+}

@@ -1,0 +1,234 @@
+// Reading the lines below the first.
+ghost use Rattle.std.specs.Prelude.{◌≡◌, []};
+ghost use Rattle.std.specs.List.{list_any, position};
+ghost use Rattle.sb_rule.specs.WellMade.{is_named};
+ghost use Rattle.sb_scripttext.specs.Arguments.{call};
+ghost use Rattle.sb_scripttext.specs.Building.{target_script};
+ghost use Rattle.sb_scripttext.specs.Lines.{patience, new_name, new_name_at, policy_number, policy_at, heading, set_patience, add_target, add_thread, start_line, statement_line, plain_line, line_of};
+ghost use Rattle.sb_scripttext.specs.Openings.{dir, file, key, event};
+ghost use Rattle.sb_scripttext.specs.Statements.{store, exchange, load, wait};
+ghost use Rattle.sb_items.specs.Refusals.{Gives};
+ghost use Rattle.sb_items.specs.Refusals.{GivesAs};
+ghost use Rattle.sb_text.specs.Steps.{Reads, Becomes};
+ghost use Rattle.sb_text.specs.Tokens.{tokens_of};
+
+use crate::arguments::{MOST_32, call};
+use crate::drafts::{Draft, Heading};
+use crate::faults::LineRefused;
+use crate::faults::ScriptKind::{BadNumber, NoSuchPolicy, SameName, UnknownWord};
+use crate::openings::{dir, event, file, key};
+use crate::statements::{exchange, load, store, wait};
+use crate::steps::number_within;
+use sb_call::ShortName;
+use sb_rule::Policy;
+use sb_statements::{MOST_CHANNELS, MOST_PATIENCE, StartLine, Statement};
+use sb_text::{Line, Tokens, end_at, or_fault, word_at};
+use std::alloc::Global;
+
+// `patience N`, after its first word.
+#[tactic(auto, unfolding(crate::specs::Lines::patience))]
+fn patience(tokens: &mut Tokens) -> Result<u32, LineRefused>
+    ensures { Gives (patience tokens.old) result }
+{
+    let patience = number_within(1, u64::from(MOST_PATIENCE), BadNumber, UnknownWord, tokens)?;
+    end_at(UnknownWord, UnknownWord, tokens)?;
+    Ok(patience as u32)
+}
+
+// NAME as a word: a short name that no target so far has.
+fn new_name(draft: &Draft, word: &[u8]) -> Result<ShortName, LineRefused>
+    ensures { Gives (new_name draft.now.targets word.now) result }
+{
+    let Some(name) = ShortName::new(word) else {
+        return Err(LineRefused::Fault(UnknownWord));
+    };
+    if draft.is_named(word) {
+        return Err(LineRefused::Fault(SameName));
+    }
+    Ok(name)
+}
+
+// NAME: the name of a target.
+#[tactic(auto, unfolding(crate::specs::Lines::new_name_at))]
+fn new_name_at(draft: &Draft, tokens: &mut Tokens) -> Result<ShortName, LineRefused>
+    ensures { Reads (new_name_at draft.now.targets tokens.old) result tokens.new }
+{
+    let word = word_at(UnknownWord, UnknownWord, UnknownWord, tokens)?;
+    new_name(draft, word)
+}
+
+fn is_named(name: &[u8], policy: &Policy) -> bool
+    ensures { result ≡ is_named name.now policy.now }
+{
+    policy.name.bytes() == name
+}
+
+// The place of the first policy of this name, from 0.
+fn policy_place(name: &[u8], policies: &[Policy]) -> Option<usize>
+    ensures { result ≡ position (is_named name.now) policies.now }
+{
+    policies.iter().position(|policy| is_named(name, policy))
+}
+
+// The number of the policy at this place.
+fn policy_number(place: usize) -> Result<u32, LineRefused>
+    ensures { Gives (policy_number place) result }
+{
+    if place as u64 <= MOST_32 {
+        Ok(place as u32)
+    } else {
+        Err(LineRefused::Fault(NoSuchPolicy))
+    }
+}
+
+// POLICY: the number of the policy of this name.
+#[tactic(auto, unfolding(crate::specs::Lines::policy_at))]
+fn policy_at(policies: &[Policy], tokens: &mut Tokens) -> Result<u32, LineRefused>
+    ensures { Reads (policy_at policies.now tokens.old) result tokens.new }
+{
+    let word = word_at(NoSuchPolicy, UnknownWord, UnknownWord, tokens)?;
+    let place = or_fault(NoSuchPolicy, policy_place(word, policies))?;
+    policy_number(place)
+}
+
+// `target NAME POLICY CHANNELS`, after its first word.
+#[tactic(auto, unfolding(crate::specs::Lines::heading))]
+fn heading(policies: &[Policy], draft: &Draft, tokens: &mut Tokens) -> Result<Heading, LineRefused>
+    ensures { GivesAs (λ heading. target_script heading []) (heading policies.now draft.now.targets tokens.old) result }
+{
+    let name = new_name_at(draft, tokens)?;
+    let policy = policy_at(policies, tokens)?;
+    let channels = number_within(1, u64::from(MOST_CHANNELS), BadNumber, UnknownWord, tokens)?;
+    end_at(UnknownWord, UnknownWord, tokens)?;
+    Ok(Heading {
+        name,
+        policy,
+        channels: channels as u32,
+    })
+}
+
+// A `patience` line, before the first target and once.
+#[tactic(auto, unfolding(crate::specs::Lines::set_patience))]
+fn set_patience(draft: &mut Draft, tokens: &mut Tokens) -> Result<(), LineRefused>
+    ensures { Becomes (set_patience draft.old tokens.old) result draft.new }
+{
+    if draft.has_patience() {
+        return Err(LineRefused::Fault(UnknownWord));
+    }
+    if !draft.is_opening() {
+        return Err(LineRefused::Fault(UnknownWord));
+    }
+    let patience = patience(tokens)?;
+    draft.add_patience(patience);
+    Ok(())
+}
+
+// A `target` line.
+#[tactic(auto, unfolding(crate::specs::Lines::add_target))]
+fn add_target(
+    alloc: Global,
+    policies: &[Policy],
+    draft: &mut Draft,
+    tokens: &mut Tokens,
+) -> Result<(), LineRefused>
+    ensures { Becomes (add_target policies.now draft.old tokens.old) result draft.new }
+{
+    let heading = heading(policies, draft, tokens)?;
+    draft.add_target(alloc, heading)
+}
+
+// A `thread` line, after a target.
+#[tactic(auto, unfolding(crate::specs::Lines::add_thread))]
+fn add_thread(alloc: Global, draft: &mut Draft, tokens: &mut Tokens) -> Result<(), LineRefused>
+    ensures { Becomes (add_thread draft.old tokens.old) result draft.new }
+{
+    if draft.is_opening() {
+        return Err(LineRefused::Fault(UnknownWord));
+    }
+    end_at(UnknownWord, UnknownWord, tokens)?;
+    draft.add_thread(alloc)
+}
+
+// The object of an opening line that begins with this word.
+#[tactic(auto, unfolding(crate::specs::Lines::start_line))]
+fn start_line(alloc: Global, word: &[u8], tokens: &mut Tokens) -> Result<StartLine, LineRefused>
+    ensures { Gives (start_line word.now tokens.old) result }
+{
+    if word == b"dir".as_slice() {
+        dir(alloc, tokens)
+    } else if word == b"file".as_slice() {
+        file(alloc, tokens)
+    } else if word == b"key".as_slice() {
+        key(alloc, tokens)
+    } else if word == b"event".as_slice() {
+        event(alloc, tokens)
+    } else {
+        Err(LineRefused::Fault(UnknownWord))
+    }
+}
+
+// The statement of a line that begins with this word.
+#[tactic(auto, unfolding(crate::specs::Lines::statement_line))]
+fn statement_line(alloc: Global, word: &[u8], tokens: &mut Tokens) -> Result<Statement, LineRefused>
+    ensures { Gives (statement_line word.now tokens.old) result }
+{
+    if word == b"call".as_slice() {
+        call(alloc, tokens)
+    } else if word == b"store".as_slice() {
+        store(tokens)
+    } else if word == b"exchange".as_slice() {
+        exchange(tokens)
+    } else if word == b"load".as_slice() {
+        load(tokens)
+    } else if word == b"wait".as_slice() {
+        wait(tokens)
+    } else {
+        Err(LineRefused::Fault(UnknownWord))
+    }
+}
+
+// In a thread a statement, before the first target an opening line.
+#[tactic(auto, unfolding(crate::specs::Lines::plain_line), using(crate::proofs::Sound::start_named))]
+fn plain_line(
+    alloc: Global,
+    word: &[u8],
+    draft: &mut Draft,
+    line: u32,
+    tokens: &mut Tokens,
+) -> Result<(), LineRefused>
+    ensures { Becomes (plain_line word.now draft.old line tokens.old) result draft.new }
+{
+    if draft.is_in_thread() {
+        let statement = statement_line(alloc, word, tokens)?;
+        return draft.add_statement(line, statement);
+    }
+    if !draft.is_opening() {
+        return Err(LineRefused::Fault(UnknownWord));
+    }
+    let start = start_line(alloc, word, tokens)?;
+    draft.add_start(alloc, start)
+}
+
+/// What a line adds to what was read so far. After an error the draft is unspecified.
+#[tactic(auto, unfolding(crate::specs::Lines::line_of))]
+pub(crate) fn line_of(
+    alloc: Global,
+    policies: &[Policy],
+    draft: &mut Draft,
+    line: &Line,
+) -> Result<(), LineRefused>
+    ensures { Becomes (line_of policies.now draft.old line.now.number (tokens_of line.now.text.now)) result draft.new }
+{
+    let mut tokens = line.tokens();
+    let word = word_at(UnknownWord, UnknownWord, UnknownWord, &mut tokens)?;
+    if word == b"patience".as_slice() {
+        return set_patience(draft, &mut tokens);
+    }
+    if word == b"target".as_slice() {
+        return add_target(alloc, policies, draft, &mut tokens);
+    }
+    if word == b"thread".as_slice() {
+        return add_thread(alloc, draft, &mut tokens);
+    }
+    plain_line(alloc, word, draft, line.number, &mut tokens)
+}

@@ -1,0 +1,59 @@
+// Opening lines: what is there at the start.
+ghost use Rattle.std.specs.Prelude.{◌≡◌};
+ghost use Rattle.sb_scripttext.specs.Openings.{dir, file, key, event};
+ghost use Rattle.sb_items.specs.Refusals.{Gives};
+
+use crate::arguments::MOST_32;
+use crate::faults::LineRefused;
+use crate::faults::ScriptKind::{BadNumber, UnknownWord};
+use crate::steps::{name_at, number_within};
+use sb_statements::StartLine;
+use sb_text::{Tokens, end_at};
+use std::alloc::Global;
+
+/// `dir "NAME"`, after its first word.
+#[tactic(auto, unfolding(crate::specs::Openings::dir))]
+pub(crate) fn dir(alloc: Global, tokens: &mut Tokens) -> Result<StartLine, LineRefused>
+    ensures { Gives (dir tokens.old) result }
+{
+    let name = name_at(alloc, UnknownWord, tokens)?;
+    end_at(UnknownWord, UnknownWord, tokens)?;
+    Ok(StartLine::Dir { name })
+}
+
+/// `file "NAME" ATTR`, after its first word.
+#[tactic(auto, unfolding(crate::specs::Openings::file))]
+pub(crate) fn file(alloc: Global, tokens: &mut Tokens) -> Result<StartLine, LineRefused>
+    ensures { Gives (file tokens.old) result }
+{
+    let name = name_at(alloc, UnknownWord, tokens)?;
+    let attributes = number_within(0, MOST_32, BadNumber, UnknownWord, tokens)?;
+    end_at(UnknownWord, UnknownWord, tokens)?;
+    Ok(StartLine::File { name, attributes })
+}
+
+/// `key "NAME"`, after its first word.
+#[tactic(auto, unfolding(crate::specs::Openings::key))]
+pub(crate) fn key(alloc: Global, tokens: &mut Tokens) -> Result<StartLine, LineRefused>
+    ensures { Gives (key tokens.old) result }
+{
+    let name = name_at(alloc, UnknownWord, tokens)?;
+    end_at(UnknownWord, UnknownWord, tokens)?;
+    Ok(StartLine::Key { name })
+}
+
+/// `event "NAME" KIND INITIAL`, after its first word.
+#[tactic(auto, unfolding(crate::specs::Openings::event))]
+pub(crate) fn event(alloc: Global, tokens: &mut Tokens) -> Result<StartLine, LineRefused>
+    ensures { Gives (event tokens.old) result }
+{
+    let name = name_at(alloc, UnknownWord, tokens)?;
+    let kind = number_within(0, 1, BadNumber, UnknownWord, tokens)?;
+    let initial = number_within(0, 1, BadNumber, UnknownWord, tokens)?;
+    end_at(UnknownWord, UnknownWord, tokens)?;
+    Ok(StartLine::Event {
+        name,
+        kind,
+        initial,
+    })
+}

@@ -1,0 +1,135 @@
+// Reading script texts.
+ghost use Rattle.std.specs.Prelude.{◌≡◌, ◌<◌, ◌^◌, length, IfOk};
+ghost use Rattle.sb_kernel.specs.Openings.{opening};
+ghost use Rattle.sb_scripttext.specs.SoFar.{nothing};
+ghost use Rattle.sb_scripttext.specs.ScriptTexts.{grammar, absence, first_absence, finished, reading};
+ghost use Rattle.sb_scripttext.specs.declared.faults.ScriptKind.TheVariants.{UnknownWord};
+ghost use Rattle.sb_items.specs.Refusals.{GivesAs};
+
+use crate::drafts::{Draft, Named};
+use crate::faults::{LineRefused, ScriptFault, ScriptKind, ScriptRefused};
+use crate::laws::{read_scripts_are_ready, read_scripts_can_be_written, read_scripts_have_units};
+use crate::lines::line_of;
+use sb_book::{OpenedScript, ReadyScript};
+use sb_kernel::Kernel;
+use sb_rule::{Policy, WellMadePolicies};
+use sb_statements::{Script, SoundScript, TargetScript};
+use sb_text::{Line, Lines, TextGrammar, read_text};
+use std::alloc::Global;
+
+// Script texts, for targets of these policies.
+#[derive(Drop)]
+struct ScriptGrammar<'a> {
+    alloc: Global,
+    policies: &'a [Policy],
+}
+
+impl<'a, 'b> TextGrammar<Lines<'b>> for ScriptGrammar<'a> {
+    type Draft = Draft;
+
+    type Kind = ScriptKind;
+
+    ghost grammar = { λ texts. grammar texts.policies.now };
+
+    fn version(&self, line: &Line<'b>) -> Option<u32> {
+        line.version(b"sandbox-script", 1)
+    }
+
+    fn no_version(&self) -> ScriptKind
+        ensures { result ≡ UnknownWord }
+    {
+        ScriptKind::UnknownWord
+    }
+
+    fn start(&self) -> Draft
+        ensures { result ≡ nothing }
+    {
+        Draft::new(self.alloc)
+    }
+
+    fn add(&self, _version: u32, draft: &mut Draft, line: &Line<'b>) -> Result<(), LineRefused> {
+        line_of(self.alloc, self.policies, draft, line)
+    }
+}
+
+// Whether the target that a statement names is not there, or its channel.
+fn absence(targets: &[TargetScript], named: &Named) -> Option<ScriptKind>
+    ensures { result ≡ absence targets.now named.now }
+{
+    match targets.get(named.target as usize) {
+        None => Some(ScriptKind::NoSuchTarget),
+        Some(target) if named.channel >= target.channels => Some(ScriptKind::NoSuchChannel),
+        Some(_) => None,
+    }
+}
+
+// The first of these that names what is not there.
+fn first_absence(targets: &[TargetScript], named: &[Named]) -> Option<ScriptFault>
+    ensures { result ≡ first_absence targets.now named.now }
+{
+    for word in named {
+        if let Some(kind) = absence(targets, word) {
+            return Some(ScriptFault {
+                line: word.line,
+                kind,
+            });
+        }
+    }
+    None
+}
+
+// The script that was read, with the kernel in which its opening lines are placed, if all is there that its statements name.
+fn finished(draft: Draft) -> Result<(Script, Kernel), ScriptRefused>
+    ensures exactly { GivesAs (λ read. read.0) (finished draft) result }
+    ensures kernel { IfOk result (λ read. read.1 ≡ opening read.0.start) }
+{
+    let (script, kernel, named) = draft.into_script()?;
+    match first_absence(script.targets.as_slice(), named.as_slice()) {
+        Some(fault) => Err(ScriptRefused::Fault(fault)),
+        None => Ok((script, kernel)),
+    }
+}
+
+// What was read of a text. Its strings, numbers and names are those of a script that is ready.
+fn read_parts(
+    alloc: Global,
+    text: &[u8],
+    policies: &[Policy],
+) -> Result<(Script, Kernel), ScriptRefused>
+    requires short { length text.now < 2 ^ 32 }
+    ensures exactly { GivesAs (λ read. read.0) (reading policies.now text.now) result }
+    ensures kernel { IfOk result (λ read. read.1 ≡ opening read.0.start) }
+{
+    let grammar = ScriptGrammar { alloc, policies };
+    let draft = read_text(&grammar, ScriptKind::NotUtf8, text)?;
+    finished(draft)
+}
+
+/// The script of a text, for targets of these policies, or its first fault. The text has fewer than 2^32 bytes. The script
+/// is ready for the policies, and comes with the namespace in which its opening lines were placed.
+///
+/// The grammar of script texts is that of this project.
+///
+/// # Errors
+/// `Fault` exactly if the text has a fault: the first one, by lines from the top and within a line from the left, but
+/// for these. A text that is not UTF-8 has this fault before all others. Within a line it comes after the line's other
+/// faults that an opening line cannot be placed, that a call does not fit a block or that the loads of a `wait` are out of
+/// their range, and after these that a limit is passed. A target or channel which a statement names and which is not there
+/// comes after all other faults of the text. `NoMemory` if there was none for the script.
+#[tactic(auto, using(crate::proofs::Keeping::read_is_ready, crate::proofs::Keeping::read_is_sound))]
+pub fn read_script(
+    alloc: Global,
+    text: &[u8],
+    policies: WellMadePolicies,
+) -> Result<OpenedScript, ScriptRefused>
+    requires short { length text.now < 2 ^ 32 }
+    ensures exactly { GivesAs (λ opened. opened.script) (reading policies.list text.now) result }
+    ensures policies { IfOk result (λ opened. opened.policies ≡ policies.list) }
+{
+    read_scripts_are_ready();
+    read_scripts_have_units();
+    read_scripts_can_be_written();
+    let (script, kernel) = read_parts(alloc, text, policies.policies().list.as_slice())?;
+    let ready = ReadyScript::of(policies, SoundScript::of(script));
+    Ok(OpenedScript::of(ready, kernel))
+}

@@ -1,0 +1,143 @@
+// `store`, `exchange`, `load` and `wait`: words of channels that are stored and loaded directly.
+ghost use Rattle.std.specs.Prelude.{◌≡◌};
+ghost use Rattle.sb_scripttext.specs.Statements.{short, value_at, short_at, block_place, place_of, place_at, target_word_at, store, exchange, load, wait};
+ghost use Rattle.sb_items.specs.Refusals.{Gives};
+ghost use Rattle.sb_text.specs.Steps.{Reads};
+
+use crate::arguments::MOST_32;
+use crate::faults::LineRefused;
+use crate::faults::ScriptKind::{BadNumber, NoSuchWord, UnknownWord, WrongArgs};
+use crate::steps::{number_at, within};
+use sb_statements::{MOST_PATIENCE, Statement, Word};
+use sb_text::{Tokens, end_at, number_of, word_at};
+
+const LAST_BLOCK_WORD: u64 = 63;
+
+// The number of a target or a channel.
+fn short(number: u64) -> u32
+    ensures { result ≡ short number }
+{
+    if number <= MOST_32 {
+        number as u32
+    } else {
+        0xFFFF_FFFF
+    }
+}
+
+// V: a value.
+fn value_at(tokens: &mut Tokens) -> Result<u64, LineRefused>
+    ensures { Reads (value_at tokens.old) result tokens.new }
+{
+    number_at(BadNumber, WrongArgs, tokens)
+}
+
+// T or C: a target or a channel.
+#[tactic(auto, unfolding(crate::specs::Statements::short_at))]
+fn short_at(tokens: &mut Tokens) -> Result<u32, LineRefused>
+    ensures { Reads (short_at tokens.old) result tokens.new }
+{
+    Ok(short(value_at(tokens)?))
+}
+
+// The place of a block word in its channel.
+fn block_place(word: u64) -> Result<u32, LineRefused>
+    ensures { Gives (block_place word) result }
+{
+    if word <= LAST_BLOCK_WORD {
+        Ok(1 + word as u32)
+    } else {
+        Err(LineRefused::Fault(NoSuchWord))
+    }
+}
+
+// W as a word.
+fn place_of(word: &[u8]) -> Result<u32, LineRefused>
+    ensures { Gives (place_of word.now) result }
+{
+    if word == b"state".as_slice() {
+        return Ok(0);
+    }
+    match number_of(word) {
+        Some(number) => block_place(number),
+        None => Err(LineRefused::Fault(BadNumber)),
+    }
+}
+
+// W: the place of a word in its channel.
+#[tactic(auto, unfolding(crate::specs::Statements::place_at))]
+fn place_at(tokens: &mut Tokens) -> Result<u32, LineRefused>
+    ensures { Reads (place_at tokens.old) result tokens.new }
+{
+    place_of(word_at(BadNumber, UnknownWord, WrongArgs, tokens)?)
+}
+
+// T C W: a target, and a word of one of its channels.
+#[tactic(auto, unfolding(crate::specs::Statements::target_word_at))]
+fn target_word_at(tokens: &mut Tokens) -> Result<(u32, Word), LineRefused>
+    ensures { Reads (target_word_at tokens.old) result tokens.new }
+{
+    let target = short_at(tokens)?;
+    let channel = short_at(tokens)?;
+    let at = place_at(tokens)?;
+    Ok((target, Word { channel, at }))
+}
+
+/// `store T C W V`, after its first word.
+#[tactic(auto, unfolding(crate::specs::Statements::store))]
+pub(crate) fn store(tokens: &mut Tokens) -> Result<Statement, LineRefused>
+    ensures { Gives (store tokens.old) result }
+{
+    let (target, word) = target_word_at(tokens)?;
+    let value = value_at(tokens)?;
+    end_at(WrongArgs, UnknownWord, tokens)?;
+    Ok(Statement::Store {
+        target,
+        word,
+        value,
+    })
+}
+
+/// `exchange T C W FROM TO`, after its first word.
+#[tactic(auto, unfolding(crate::specs::Statements::exchange))]
+pub(crate) fn exchange(tokens: &mut Tokens) -> Result<Statement, LineRefused>
+    ensures { Gives (exchange tokens.old) result }
+{
+    let (target, word) = target_word_at(tokens)?;
+    let from = value_at(tokens)?;
+    let to = value_at(tokens)?;
+    end_at(WrongArgs, UnknownWord, tokens)?;
+    Ok(Statement::Exchange {
+        target,
+        word,
+        from,
+        to,
+    })
+}
+
+/// `load T C W`, after its first word.
+#[tactic(auto, unfolding(crate::specs::Statements::load))]
+pub(crate) fn load(tokens: &mut Tokens) -> Result<Statement, LineRefused>
+    ensures { Gives (load tokens.old) result }
+{
+    let (target, word) = target_word_at(tokens)?;
+    end_at(WrongArgs, UnknownWord, tokens)?;
+    Ok(Statement::Load { target, word })
+}
+
+/// `wait T C W V N`, after its first word.
+#[tactic(auto, unfolding(crate::specs::Statements::wait))]
+pub(crate) fn wait(tokens: &mut Tokens) -> Result<Statement, LineRefused>
+    ensures { Gives (wait tokens.old) result }
+{
+    let (target, word) = target_word_at(tokens)?;
+    let value = value_at(tokens)?;
+    let loads = value_at(tokens)?;
+    end_at(WrongArgs, UnknownWord, tokens)?;
+    let most = within(1, u64::from(MOST_PATIENCE), loads)? as u32;
+    Ok(Statement::Wait {
+        target,
+        word,
+        value,
+        most,
+    })
+}
