@@ -327,9 +327,9 @@ all_short policies b e h v =
     let whole = lines_more (version_tokens policies) (flat_map policy_lines policies) in
     omega (arith, few, each, version, one, line, long, whole)
 
--- a text that is the printing of policies has fewer than 2^32 bytes
+-- a text that is the printing of policies has fewer than 2^32 - 1 bytes
 pub printed_short : (policies list : List Policy) (text : List ℕ) → list ≡ policies → are_well_made policies ≡ true
-    → list_all is_policy_of_values list ≡ true → text ≡ printed list → length text < 2 ^ 32
+    → list_all is_policy_of_values list ≡ true → text ≡ printed list → length text + 1 < 2 ^ 32
 printed_short policies list text same h v e =
     let made = subst (λ l. are_well_made l ≡ true) (sym same) h in
     let few = all_short list (list_any has_read_only list) refl made v in

@@ -1,5 +1,5 @@
 // Printing policies.
-ghost use Rattle.std.specs.Prelude.{◌≡◌, ◌++◌, ◌∷◌, [], map, codes, true, length, ◌<◌, ◌^◌, IfOk, OnOk};
+ghost use Rattle.std.specs.Prelude.{◌≡◌, ◌+◌, ◌++◌, ◌∷◌, [], map, codes, true, length, ◌<◌, ◌^◌, IfOk, OnOk};
 ghost use Rattle.std.specs.List.{flat_map, list_all, list_any};
 ghost use Rattle.sb_rule.specs.Actions.{action_word};
 ghost use Rattle.sb_call.specs.CallWords.{call_word};
@@ -226,14 +226,14 @@ fn policies_text(alloc: Global, policies: &[Policy]) -> Result<Vec<u8>, NoMemory
 /// The first line is `sandbox-policy 2` if some rule has the action `ReadOnly`, and `sandbox-policy 1` otherwise. Then
 /// each policy has its heading and one line for each rule. One space stands between each two tokens, and an LF after each
 /// line. Numbers are `0x` and lower-case hexadecimal digits without leading zeros. Strings and patterns are their text, in
-/// UTF-8, between quotes. The text has fewer than 2^32 bytes. The names that it has are short, and its numbers have 64 bits.
+/// UTF-8, between quotes. The text has fewer than 2^32 - 1 bytes. The names that it has are short, and its numbers have 64 bits.
 ///
 /// # Errors
 /// `NoMemory` if there is none for the text.
 #[tactic(auto, using(crate::proofs::Lengths::printed_short))]
 pub fn print_policies(alloc: Global, policies: &WellMadePolicies) -> Result<Vec<u8>, NoMemory>
     ensures text { IfOk result (λ text. text.items ≡ printed policies.now.list) }
-    ensures short { IfOk result (λ text. length text.items < 2 ^ 32) }
+    ensures short { IfOk result (λ text. length text.items + 1 < 2 ^ 32) }
     ensures values { OnOk result (list_all is_policy_of_values policies.now.list ≡ true) }
 {
     let text = policies_text(alloc, &policies.policies().list)?;

@@ -9,28 +9,33 @@ use Rattle.sb_rule.specs.WellMade.{is_well_made_rule, is_well_made, are_well_mad
 use Rattle.sb_rule.specs.declared.policies.Policy.{Policy}
 use Rattle.sb_rule.specs.declared.policies.Rule.{Rule}
 use Rattle.sb_ruletext.proofs.Conjunctions.{both, and_true}
-use Rattle.sb_ruletext.specs.Lines.{with_last_rules, check_heading}
-use Rattle.sb_text.specs.Steps.{◌>>=◌}
+use Rattle.sb_ruletext.specs.Drafts.{is_headed}
+use Rattle.sb_ruletext.specs.Lines.{with_last_rules}
+use Rattle.sb_text.specs.Spots.{fails}
+use Rattle.sb_text.specs.Steps.{◌>>=◌, at_token, unless_fails}
+use Rattle.sb_text.specs.Tokens.{Lexeme}
+use Rattle.sb_text.specs.declared.refusals.TokenFault.{TokenFault}
 use Rattle.sb_ruletext.specs.declared.faults.PolicyFaultKind.{PolicyFaultKind}
 use Rattle.sb_ruletext.specs.declared.faults.PolicyFaultKind.TheVariants.{TooMany, NoHeading}
+use Rattle.sb_ruletext.specs.declared.faults.PolicyLimit.TheVariants.{Rules}
 
 -- a policy with these rules after its own
 abbrev pub longer : Policy → List Rule → Policy
 longer policy rules = record { name = policy.name; rules = policy.rules ++ rules }
 
 onto : (policy : Policy) (b : Bool) (before : List Policy) (last : Policy)
-    → (cond b (Ok (before ++ last ∷ [])) (Err TooMany) >>= λ others. Ok (policy ∷ others)) ≡ cond b (Ok (policy ∷ before ++ last ∷ [])) (Err TooMany)
+    → (cond b (Ok (before ++ last ∷ [])) (Err (TooMany Rules)) >>= λ others. Ok (policy ∷ others)) ≡ cond b (Ok (policy ∷ before ++ last ∷ [])) (Err (TooMany Rules))
 onto policy true before last = refl
 onto policy false before last = refl
 
-alone : (b : Bool) (last : Policy) → (cond b (Ok last) (Err TooMany) >>= λ last. Ok (last ∷ [])) ≡ cond b (Ok (last ∷ [])) (Err TooMany)
+alone : (b : Bool) (last : Policy) → (cond b (Ok last) (Err (TooMany Rules)) >>= λ last. Ok (last ∷ [])) ≡ cond b (Ok (last ∷ [])) (Err (TooMany Rules))
 alone true last = refl
 alone false last = refl
 
 -- rules are added to the last policy, if it has room for them
 pub last_rules : (before : List Policy) (last : Policy) (rules : List Rule)
     → with_last_rules (before ++ last ∷ []) rules
-    ≡ cond (nat_le (length last.rules + length rules) 256) (Ok (before ++ longer last rules ∷ [])) (Err TooMany)
+    ≡ cond (nat_le (length last.rules + length rules) 256) (Ok (before ++ longer last rules ∷ [])) (Err (TooMany Rules))
 unfolding with_last_rules
 last_rules [] last rules = alone (nat_le (length last.rules + length rules) 256) (longer last rules)
 last_rules (policy ∷ []) last rules =
@@ -41,8 +46,9 @@ last_rules (policy ∷ next ∷ before) last rules =
     ∙ onto policy (nat_le (length last.rules + length rules) 256) (next ∷ before) (longer last rules)
 
 -- the policies so far with the rules of a line
-abbrev pub added : List Policy → Result (List Rule) PolicyFaultKind → Result (List Policy) PolicyFaultKind
-added policies rules = check_heading policies >>= λ headed. rules >>= λ rules. with_last_rules policies rules
+abbrev pub added : List Lexeme → List Policy → Result (List Rule) (TokenFault PolicyFaultKind) → Result (List Policy) (TokenFault PolicyFaultKind)
+added line policies rules =
+    unless_fails line NoHeading (is_headed policies) >>= λ headed. rules >>= λ rules. at_token line (with_last_rules policies rules)
 
 -- a policy of this name with these rules
 abbrev pub policy_of : List ℕ → List Rule → Policy
@@ -53,14 +59,23 @@ pub added_fits : (before : List Policy) (name : List ℕ) (old rules : List Rule
     → with_last_rules (before ++ record { name = name; rules = old } ∷ []) rules ≡ Ok (before ++ record { name = name; rules = old ++ rules } ∷ [])
 added_fits before name old rules h =
     let t : nat_le (length old + length rules) 256 ≡ true = grind (arith, nat_tests) in
-    last_rules before (policy_of name old) rules ∙ ap (λ b. cond b (Ok (before ++ policy_of name (old ++ rules) ∷ [])) (Err TooMany)) t
+    last_rules before (policy_of name old) rules ∙ ap (λ b. cond b (Ok (before ++ policy_of name (old ++ rules) ∷ [])) (Err (TooMany Rules))) t
 
 -- there is none
 pub added_too_many : (before : List Policy) (name : List ℕ) (old rules : List Rule) → 256 < length old + length rules
-    → with_last_rules (before ++ record { name = name; rules = old } ∷ []) rules ≡ Err TooMany
+    → with_last_rules (before ++ record { name = name; rules = old } ∷ []) rules ≡ Err (TooMany Rules)
 added_too_many before name old rules h =
     let t : nat_le (length old + length rules) 256 ≡ false = grind (arith, nat_tests) in
-    last_rules before (policy_of name old) rules ∙ ap (λ b. cond b (Ok (before ++ policy_of name (old ++ rules) ∷ [])) (Err TooMany)) t
+    last_rules before (policy_of name old) rules ∙ ap (λ b. cond b (Ok (before ++ policy_of name (old ++ rules) ∷ [])) (Err (TooMany Rules))) t
+
+-- the same on a line, whose first token has the fault
+pub placed_fits : (line : List Lexeme) (before : List Policy) (name : List ℕ) (old rules : List Rule) → length old + length rules ≤ 256
+    → at_token line (with_last_rules (before ++ record { name = name; rules = old } ∷ []) rules) ≡ Ok (before ++ record { name = name; rules = old ++ rules } ∷ [])
+placed_fits line before name old rules h = ap (at_token line) (added_fits before name old rules h)
+
+pub placed_too_many : (line : List Lexeme) (before : List Policy) (name : List ℕ) (old rules : List Rule) → 256 < length old + length rules
+    → at_token line (with_last_rules (before ++ record { name = name; rules = old } ∷ []) rules) ≡ fails line (TooMany Rules)
+placed_too_many line before name old rules h = ap (at_token line) (added_too_many before name old rules h)
 
 or_false : (b : Bool) → (b || false) ≡ b
 or_false true = refl
@@ -146,11 +161,14 @@ room_more before last =
     let shifted : nat_lt (length before) 7 ≡ nat_lt (length before + 1) 8 = grind (arith, nat_tests) in
     shifted ∙ ap (λ n. nat_lt n 8) (sym (length-append before (last ∷ [])))
 
-pub chosen : (b : Bool) (policies new : List Policy) → cond b (Ok policies) (Err TooMany) ≡ Ok new → (b ≡ true) × (policies ≡ new)
-chosen true policies new h = (refl, search h)
-chosen false policies new h = search h
+pub chosen : (kind : PolicyFaultKind) (b : Bool) (policies new : List Policy) → cond b (Ok policies) (Err kind) ≡ Ok new → (b ≡ true) × (policies ≡ new)
+chosen kind true policies new h = (refl, search h)
+chosen kind false policies new h = search h
 
 -- before the first heading there is no policy to which rules could be added
 pub added_nowhere : (rules : List Rule) → with_last_rules [] rules ≡ Err NoHeading
 unfolding with_last_rules
 added_nowhere rules = refl
+
+pub placed_nowhere : (line : List Lexeme) (rules : List Rule) → at_token line (with_last_rules [] rules) ≡ fails line NoHeading
+placed_nowhere line rules = ap (at_token line) (added_nowhere rules)

@@ -2,6 +2,9 @@
 use Rattle.std.proofs.Common.{◌≡◌, refl, sym, ap, ◌∙◌, ℕ, suc, ◌+◌, ◌-◌, ◌<◌, ◌≤◌, List, [], ◌∷◌, ◌++◌, length, length-append, true, false, Ok, Err, append_assoc, arith}
 use Rattle.sb_ruletext.specs.Steps.{excess, joined_at}
 use Rattle.sb_ruletext.specs.declared.faults.PolicyFaultKind.{PolicyFaultKind}
+use Rattle.sb_ruletext.specs.declared.faults.PolicyLimit.{PolicyLimit}
+use Rattle.sb_text.specs.Spots.{fails}
+use Rattle.sb_text.specs.declared.refusals.TokenFault.{TokenFault}
 use Rattle.sb_text.specs.Steps.{◌>>=◌, Read, Reads, begins_with, later}
 use Rattle.sb_text.specs.Tokens.{Lexeme}
 use Rattle.sb_items.specs.declared.refusals.Refused.{Refused}
@@ -30,63 +33,63 @@ left_after most done item = ap (λ n. most - n) (sym (length-append done (item �
 grown : {A : Type 0} → (most : ℕ) (done : List A) (item : A) → length done < most → length (done ++ item ∷ []) ≤ most
 grown most done item l = let e : length (done ++ item ∷ []) ≡ length done + 1 = length-append done (item ∷ []) in omega (arith, l, e)
 
-item_bad : {A : Type 0} (k : ℕ) (joint : List ℕ) (item_at : ItemAt A) (done : List A) (tokens : List Lexeme) (kind : PolicyFaultKind)
-    → item_at tokens ≡ Err kind → with_items done (joined_at (suc k) joint item_at tokens) ≡ Err kind
+item_bad : {A : Type 0} (limit : PolicyLimit) (k : ℕ) (joint : List ℕ) (item_at : ItemAt A) (done : List A) (tokens : List Lexeme) (kind : TokenFault PolicyFaultKind)
+    → item_at tokens ≡ Err kind → with_items done (joined_at limit (suc k) joint item_at tokens) ≡ Err kind
 unfolding joined_at
-item_bad k joint item_at done tokens kind h = rw (h) refl
+item_bad limit k joint item_at done tokens kind h = rw (h) refl
 
-item_last : {A : Type 0} (k : ℕ) (joint : List ℕ) (item_at : ItemAt A) (done : List A) (tokens : List Lexeme) (item : A) (rest : List Lexeme)
+item_last : {A : Type 0} (limit : PolicyLimit) (k : ℕ) (joint : List ℕ) (item_at : ItemAt A) (done : List A) (tokens : List Lexeme) (item : A) (rest : List Lexeme)
     → item_at tokens ≡ Ok (item, rest) → begins_with joint rest ≡ false
-    → with_items done (joined_at (suc k) joint item_at tokens) ≡ Ok (done ++ item ∷ [], rest)
+    → with_items done (joined_at limit (suc k) joint item_at tokens) ≡ Ok (done ++ item ∷ [], rest)
 unfolding joined_at
-item_last k joint item_at done tokens item rest h b = rw (h) rw (b) refl
+item_last limit k joint item_at done tokens item rest h b = rw (h) rw (b) refl
 
-item_more : {A : Type 0} (k : ℕ) (joint : List ℕ) (item_at : ItemAt A) (done : List A) (tokens : List Lexeme) (item : A) (rest : List Lexeme)
+item_more : {A : Type 0} (limit : PolicyLimit) (k : ℕ) (joint : List ℕ) (item_at : ItemAt A) (done : List A) (tokens : List Lexeme) (item : A) (rest : List Lexeme)
     → item_at tokens ≡ Ok (item, rest) → begins_with joint rest ≡ true
-    → with_items done (joined_at (suc k) joint item_at tokens) ≡ with_items (done ++ item ∷ []) (joined_at k joint item_at (later rest))
+    → with_items done (joined_at limit (suc k) joint item_at tokens) ≡ with_items (done ++ item ∷ []) (joined_at limit k joint item_at (later rest))
 unfolding joined_at
-item_more k joint item_at done tokens item rest h b = rw (h) rw (b) (one_item done item (joined_at k joint item_at (later rest)))
+item_more limit k joint item_at done tokens item rest h b = rw (h) rw (b) (one_item done item (joined_at limit k joint item_at (later rest)))
 
 -- the fault of an item
-pub joined_bad : {A : Type 0} (most : ℕ) (joint : List ℕ) (item_at : ItemAt A) (done : List A) (tokens : List Lexeme) (kind : PolicyFaultKind)
-    → length done < most → item_at tokens ≡ Err kind → with_items done (joined_at (most - length done) joint item_at tokens) ≡ Err kind
-joined_bad most joint item_at done tokens kind l h =
-    rw (left_of most (length done) l) (item_bad (most - (length done + 1)) joint item_at done tokens kind h)
+pub joined_bad : {A : Type 0} (limit : PolicyLimit) (most : ℕ) (joint : List ℕ) (item_at : ItemAt A) (done : List A) (tokens : List Lexeme) (kind : TokenFault PolicyFaultKind)
+    → length done < most → item_at tokens ≡ Err kind → with_items done (joined_at limit (most - length done) joint item_at tokens) ≡ Err kind
+joined_bad limit most joint item_at done tokens kind l h =
+    rw (left_of most (length done) l) (item_bad limit (most - (length done + 1)) joint item_at done tokens kind h)
 
 -- the last item
-pub joined_last : {A : Type 0} (most : ℕ) (joint : List ℕ) (item_at : ItemAt A) (done : List A) (tokens : List Lexeme) (item : A) (rest : List Lexeme)
+pub joined_last : {A : Type 0} (limit : PolicyLimit) (most : ℕ) (joint : List ℕ) (item_at : ItemAt A) (done : List A) (tokens : List Lexeme) (item : A) (rest : List Lexeme)
     → length done < most → item_at tokens ≡ Ok (item, rest) → begins_with joint rest ≡ false
-    → with_items done (joined_at (most - length done) joint item_at tokens) ≡ Ok (done ++ item ∷ [], rest)
-joined_last most joint item_at done tokens item rest l h b =
-    rw (left_of most (length done) l) (item_last (most - (length done + 1)) joint item_at done tokens item rest h b)
+    → with_items done (joined_at limit (most - length done) joint item_at tokens) ≡ Ok (done ++ item ∷ [], rest)
+joined_last limit most joint item_at done tokens item rest l h b =
+    rw (left_of most (length done) l) (item_last limit (most - (length done + 1)) joint item_at done tokens item rest h b)
 
 -- an item, and the word after it
-pub joined_more : {A : Type 0} (most : ℕ) (joint : List ℕ) (item_at : ItemAt A) (done : List A) (tokens : List Lexeme) (item : A) (rest : List Lexeme)
+pub joined_more : {A : Type 0} (limit : PolicyLimit) (most : ℕ) (joint : List ℕ) (item_at : ItemAt A) (done : List A) (tokens : List Lexeme) (item : A) (rest : List Lexeme)
     → length done < most → item_at tokens ≡ Ok (item, rest) → begins_with joint rest ≡ true
-    → with_items done (joined_at (most - length done) joint item_at tokens)
-    ≡ with_items (done ++ item ∷ []) (joined_at (most - length (done ++ item ∷ [])) joint item_at (later rest))
-joined_more most joint item_at done tokens item rest l h b =
-    rw (left_of most (length done) l) rw (sym (left_after most done item)) (item_more (most - (length done + 1)) joint item_at done tokens item rest h b)
+    → with_items done (joined_at limit (most - length done) joint item_at tokens)
+    ≡ with_items (done ++ item ∷ []) (joined_at limit (most - length (done ++ item ∷ [])) joint item_at (later rest))
+joined_more limit most joint item_at done tokens item rest l h b =
+    rw (left_of most (length done) l) rw (sym (left_after most done item)) (item_more limit (most - (length done + 1)) joint item_at done tokens item rest h b)
 
 -- one item too many
-pub joined_full : {A : Type 0} (most : ℕ) (joint : List ℕ) (item_at : ItemAt A) (done : List A) (tokens : List Lexeme) → most ≤ length done
-    → with_items done (joined_at (most - length done) joint item_at tokens) ≡ Err (excess tokens)
+pub joined_full : {A : Type 0} (limit : PolicyLimit) (most : ℕ) (joint : List ℕ) (item_at : ItemAt A) (done : List A) (tokens : List Lexeme) → most ≤ length done
+    → with_items done (joined_at limit (most - length done) joint item_at tokens) ≡ fails tokens (excess limit tokens)
 unfolding joined_at
-joined_full most joint item_at done tokens l = let e : most - length done ≡ 0 = omega (arith, l) in rw (e) refl
+joined_full limit most joint item_at done tokens l = let e : most - length done ≡ 0 = omega (arith, l) in rw (e) refl
 
 -- why an item is refused is why all are
-pub joined_refused : {A : Type 0} (most : ℕ) (joint : List ℕ) (item_at : ItemAt A) (done : List A) (tokens rest after : List Lexeme)
-    (whole : Read (List A) PolicyFaultKind) (why : Refused PolicyFaultKind)
-    → length done < most → with_items done (joined_at (most - length done) joint item_at tokens) ≡ whole
+pub joined_refused : {A : Type 0} (limit : PolicyLimit) (most : ℕ) (joint : List ℕ) (item_at : ItemAt A) (done : List A) (tokens rest after : List Lexeme)
+    (whole : Read (List A) PolicyFaultKind) (why : Refused (TokenFault PolicyFaultKind))
+    → length done < most → with_items done (joined_at limit (most - length done) joint item_at tokens) ≡ whole
     → Reads (item_at tokens) (Err why) rest → Reads whole (Err why) after
-joined_refused most joint item_at done tokens rest after whole (refused.Fault kind) l i h = sym i ∙ joined_bad most joint item_at done tokens kind l h
-joined_refused most joint item_at done tokens rest after whole refused.NoMemory l i h = tt
+joined_refused limit most joint item_at done tokens rest after whole (refused.Fault kind) l i h = sym i ∙ joined_bad limit most joint item_at done tokens kind l h
+joined_refused limit most joint item_at done tokens rest after whole refused.NoMemory l i h = tt
 
 -- one more item was read, and the word after it
-pub joined_after : {A : Type 0} (most : ℕ) (joint : List ℕ) (item_at : ItemAt A) (done now : List A) (tokens rest after : List Lexeme) (item : A)
+pub joined_after : {A : Type 0} (limit : PolicyLimit) (most : ℕ) (joint : List ℕ) (item_at : ItemAt A) (done now : List A) (tokens rest after : List Lexeme) (item : A)
     (whole : Read (List A) PolicyFaultKind)
-    → length done < most → with_items done (joined_at (most - length done) joint item_at tokens) ≡ whole
+    → length done < most → with_items done (joined_at limit (most - length done) joint item_at tokens) ≡ whole
     → item_at tokens ≡ Ok (item, rest) → now ≡ done ++ item ∷ [] → begins_with joint rest ≡ true → after ≡ later rest
-    → (length now ≤ most) × (with_items now (joined_at (most - length now) joint item_at after) ≡ whole)
-joined_after most joint item_at done now tokens rest after item whole l i h e b a =
-    rw (e) rw (a) (grown most done item l, sym (joined_more most joint item_at done tokens item rest l h b) ∙ i)
+    → (length now ≤ most) × (with_items now (joined_at limit (most - length now) joint item_at after) ≡ whole)
+joined_after limit most joint item_at done now tokens rest after item whole l i h e b a =
+    rw (e) rw (a) (grown most done item l, sym (joined_more limit most joint item_at done tokens item rest l h b) ∙ i)

@@ -9,10 +9,10 @@ use Rattle.sb_text.specs.LineLaws.{ended}
 use Rattle.sb_text.specs.Lines.{NumberedLine, lines_of}
 use Rattle.sb_text.specs.ReadingLaws as laws
 use Rattle.sb_text.specs.Readings.{read_by, where_utf8, is_some_line}
-use Rattle.sb_text.specs.Utf8.{not_utf8_line}
+use Rattle.sb_text.specs.Utf8.{not_utf8_place}
 
 -- a text that is UTF-8 is read by its lines
-pub read_by_lines : (text : List ℕ) → not_utf8_line text ≡ None → reading text ≡ read_by grammar (lines_of text)
+pub read_by_lines : (text : List ℕ) → not_utf8_place text ≡ None → reading text ≡ read_by grammar (lines_of text)
 read_by_lines text h = ap (λ line. where_utf8 NotUtf8 line (read_by grammar (lines_of text))) h
 
 pub first_faults_stay : laws.FirstFaultsStay (List Policy) PolicyFaultKind → FirstFaultsStay

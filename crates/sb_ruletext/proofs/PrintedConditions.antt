@@ -15,17 +15,20 @@ use Rattle.sb_rule.specs.declared.conditions.Cond.{Cond}
 use Rattle.sb_rule.specs.declared.conditions.Test.{Test}
 use Rattle.sb_rule.specs.declared.conditions.Test.TheVariants.{OneOf, Range, Mask, Equal, Like}
 use Rattle.sb_text.specs.NumberLaws.{HexadecimalsAreRead}
-use Rattle.sb_text.specs.Tokens.{Lexeme, Word, utf8_of}
+use Rattle.sb_text.specs.Tokens.{Lexeme, Word, Quoted, utf8_of, string_of}
 use Rattle.sb_pattern.specs.Limits.{most_units}
-use Rattle.sb_ruletext.specs.Conditions.{number_at, string, cells, pattern, test_at, is_number_at, plain_condition_at, condition_at, conditions_of}
+use Rattle.sb_ruletext.specs.Conditions.{number_at, string, cells, test_at, is_number_at, plain_condition_at, condition_at, conditions_of}
 use Rattle.sb_call.specs.Parameters.{parameter_word, parameter_words}
-use Rattle.sb_ruleprint.specs.Printing.{number_word, numbers_tokens, test_tokens, not_tokens, cond_tokens, joined_tokens}
+use Rattle.sb_ruleprint.specs.Printing.{number_word, range_word, numbers_tokens, test_tokens, not_tokens, cond_tokens, joined_tokens}
 use Rattle.sb_ruleprint.specs.Values.{is_number, is_test_of_values}
 use Rattle.sb_ruletext.specs.Steps.{joined_at}
-use Rattle.sb_text.specs.Steps.{◌>>=◌, or_fault, Read, begins_with, later, end_at}
+use Rattle.sb_text.specs.Steps.{◌>>=◌, or_fails, at_token, Read, begins_with, later, end_at}
+use Rattle.sb_text.specs.declared.refusals.WordFault.TheVariants.{Extra, Broken}
 use Rattle.sb_call.specs.CallWords.{is_word}
 use Rattle.sb_ruletext.specs.declared.faults.PolicyFaultKind.{PolicyFaultKind}
 use Rattle.sb_ruletext.specs.declared.faults.PolicyFaultKind.TheVariants.{UnknownWord, UnknownParam, BadNumber, BadPattern}
+use Rattle.sb_ruletext.specs.declared.faults.PolicyLimit.{PolicyLimit}
+use Rattle.sb_ruletext.specs.declared.faults.PolicyLimit.TheVariants.{Conditions, Numbers}
 use Rattle.sb_ruletext.proofs.Conjunctions.{both}
 use Rattle.sb_text.specs.Strings.{ComesBack, StringsComeBack}
 use Rattle.sb_ruletext.proofs.PrintedWords.{parameter_back, apart_at, within, number_back, range_back}
@@ -36,28 +39,28 @@ number_small n h = grind (arith, nat_tests)
 -- numbers
 
 number_read : HexadecimalsAreRead → (n : ℕ) (rest : List Lexeme) → is_number n ≡ true → number_at (Word (number_word n) ∷ rest) ≡ Ok (n, rest)
-number_read law n rest h = ap (λ o. or_fault BadNumber o >>= λ n. Ok (n, rest)) (number_back law n (number_small n h))
+number_read law n rest h = ap (λ o. or_fails (Word (number_word n) ∷ rest) BadNumber o >>= λ n. Ok (n, rest)) (number_back law n (number_small n h))
 
 -- what `joined_at` does after the first of at most m + 1 items
-abbrev and_others : {A : Type 0} → ℕ → List ℕ → (List Lexeme → Read A PolicyFaultKind) → A × List Lexeme → Read (List A) PolicyFaultKind
-and_others m joint item_at first =
-    cond (begins_with joint first.1) (joined_at m joint item_at (later first.1) >>= λ others. Ok (first.0 ∷ others.0, others.1)) (Ok (first.0 ∷ [], first.1))
+abbrev and_others : {A : Type 0} → PolicyLimit → ℕ → List ℕ → (List Lexeme → Read A PolicyFaultKind) → A × List Lexeme → Read (List A) PolicyFaultKind
+and_others limit m joint item_at first =
+    cond (begins_with joint first.1) (joined_at limit m joint item_at (later first.1) >>= λ others. Ok (first.0 ∷ others.0, others.1)) (Ok (first.0 ∷ [], first.1))
 
-joined_step : {A : Type 0} (m : ℕ) (joint : List ℕ) (item_at : List Lexeme → Read A PolicyFaultKind) (tokens : List Lexeme)
-    → joined_at (suc m) joint item_at tokens ≡ item_at tokens >>= and_others m joint item_at
+joined_step : {A : Type 0} (limit : PolicyLimit) (m : ℕ) (joint : List ℕ) (item_at : List Lexeme → Read A PolicyFaultKind) (tokens : List Lexeme)
+    → joined_at limit (suc m) joint item_at tokens ≡ item_at tokens >>= and_others limit m joint item_at
 unfolding joined_at
-joined_step m joint item_at tokens = refl
+joined_step limit m joint item_at tokens = refl
 
 numbers_read : HexadecimalsAreRead → (m n : ℕ) (more : List ℕ) (rest : List Lexeme) → length more ≤ m → list_all is_number (n ∷ more) ≡ true
-    → begins_with (codes "or") rest ≡ false → joined_at (suc m) (codes "or") number_at (numbers_tokens (n ∷ more) ++ rest) ≡ Ok (n ∷ more, rest)
+    → begins_with (codes "or") rest ≡ false → joined_at Numbers (suc m) (codes "or") number_at (numbers_tokens (n ∷ more) ++ rest) ≡ Ok (n ∷ more, rest)
 numbers_read law m n [] rest k h e =
-    joined_step m (codes "or") number_at (Word (number_word n) ∷ rest)
-    ∙ ap (λ r. r >>= and_others m (codes "or") number_at) (number_read law n rest (both _ _ h).0)
-    ∙ ap (λ t. cond t (joined_at m (codes "or") number_at (later rest) >>= λ others. Ok (n ∷ others.0, others.1)) (Ok (n ∷ [], rest))) e
+    joined_step Numbers m (codes "or") number_at (Word (number_word n) ∷ rest)
+    ∙ ap (λ r. r >>= and_others Numbers m (codes "or") number_at) (number_read law n rest (both _ _ h).0)
+    ∙ ap (λ t. cond t (joined_at Numbers m (codes "or") number_at (later rest) >>= λ others. Ok (n ∷ others.0, others.1)) (Ok (n ∷ [], rest))) e
 numbers_read law zero n (next ∷ more) rest k h e = absurd (omega arith)
 numbers_read law (suc m) n (next ∷ more) rest k h e =
-    joined_step (suc m) (codes "or") number_at (Word (number_word n) ∷ Word (codes "or") ∷ (numbers_tokens (next ∷ more) ++ rest))
-    ∙ ap (λ r. r >>= and_others (suc m) (codes "or") number_at) (number_read law n (Word (codes "or") ∷ (numbers_tokens (next ∷ more) ++ rest)) (both _ _ h).0)
+    joined_step Numbers (suc m) (codes "or") number_at (Word (number_word n) ∷ Word (codes "or") ∷ (numbers_tokens (next ∷ more) ++ rest))
+    ∙ ap (λ r. r >>= and_others Numbers (suc m) (codes "or") number_at) (number_read law n (Word (codes "or") ∷ (numbers_tokens (next ∷ more) ++ rest)) (both _ _ h).0)
     ∙ ap (λ r. r >>= λ others. Ok (n ∷ others.0, others.1)) (numbers_read law m next more rest (omega arith) (both _ _ h).1 e)
 
 -- strings and patterns
@@ -82,11 +85,19 @@ string_read law us h =
     let few : nat_le (length us) most_units ≡ true = (both _ _ (both _ _ h).0).0 in
     ap (λ us. cond (nat_le (length us) most_units) (Ok us) (Err (BadPattern TooLong))) back ∙ ap (λ t. cond t (Ok us) (Err (BadPattern TooLong))) few
 
-pattern_read : Texts → (cs : List Cell) → is_like_text cs ≡ true → pattern (utf8_of (text_of cs)) ≡ Ok cs
-pattern_read laws cs h =
-    ap (λ us. cells (reading us)) (string_back laws.strings (text_of cs) (both _ _ h).1).string ∙ ap cells (laws.patterns cs (both _ _ h).0)
+pattern_read : Texts → (tokens : List Lexeme) (cs : List Cell) → is_like_text cs ≡ true → cells tokens (reading (string_of (utf8_of (text_of cs)))) ≡ Ok cs
+pattern_read laws tokens cs h =
+    ap (λ us. cells tokens (reading us)) (string_back laws.strings (text_of cs) (both _ _ h).1).string ∙ ap (cells tokens) (laws.patterns cs (both _ _ h).0)
 
 -- tests
+
+-- a pattern, and the tokens after it
+abbrev then_cells : List Lexeme → List Cell → Read (List Cell) PolicyFaultKind
+then_cells tokens pattern = Ok (pattern, tokens)
+
+-- the test of such a pattern
+abbrev liked : List Cell × List Lexeme → Read Test PolicyFaultKind
+liked read = Ok (Like read.0, read.1)
 
 test_read : Texts → (test : Test) (rest : List Lexeme) → is_sensible test ≡ true → is_test_of_values test ≡ true
     → begins_with (codes "or") rest ≡ false → test_at (is_number_test test) (test_tokens test ++ rest) ≡ Ok (test, rest)
@@ -98,10 +109,11 @@ test_read laws (OneOf (n ∷ more)) rest s v e =
     few : (more : List ℕ) → is_sensible (OneOf (n ∷ more)) ≡ true → length more ≤ 15
     few more s = grind (arith, nat_tests)
 test_read laws (Range lo hi) rest s v e =
-    ap (λ r. r >>= λ test. Ok (test, rest)) (range_back laws.numbers lo hi (number_small lo (both _ _ v).0) (number_small hi (both _ _ v).1) s)
+    ap (λ r. at_token (Word (range_word lo hi) ∷ rest) r >>= λ test. Ok (test, rest)) (range_back laws.numbers lo hi (number_small lo (both _ _ v).0) (number_small hi (both _ _ v).1) s)
 test_read laws (Mask mask) rest s v e = ap (λ r. r >>= λ mask. Ok (Mask mask.0, mask.1)) (number_read laws.numbers mask rest v)
-test_read laws (Equal text) rest s v e = ap (λ r. r >>= λ text. Ok (Equal text, rest)) (string_read laws.strings text s)
-test_read laws (Like pattern) rest s v e = ap (λ r. r >>= λ cells. Ok (Like cells, rest)) (pattern_read laws pattern s)
+test_read laws (Equal text) rest s v e = ap (λ r. at_token (Quoted (utf8_of text) ∷ rest) r >>= λ text. Ok (Equal text, rest)) (string_read laws.strings text s)
+test_read laws (Like pattern) rest s v e =
+    ap (λ r. (r >>= then_cells rest) >>= liked) (pattern_read laws (Quoted (utf8_of (text_of pattern)) ∷ rest) pattern s)
 
 -- conditions
 
@@ -140,7 +152,7 @@ plain_read : Texts → (negated : Bool) (tag : CallTag) (cond : Cond) (rest : Li
 plain_read laws negated tag cond rest h v e =
     let tokens = test_tokens cond.test ++ rest in
     let kind = of_its_kind (is_number_test cond.test) (is_number_at tag cond.param) (both _ _ (both _ _ h).1).0 in
-    ap (λ o. (or_fault UnknownParam o >>= then_tokens tokens) >>= λ param. test_at (is_number_at tag param.0) param.1 >>= with_test param.0 negated)
+    ap (λ o. (or_fails (Word (parameter_word tag cond.param) ∷ tokens) UnknownParam o >>= then_tokens tokens) >>= λ param. test_at (is_number_at tag param.0) param.1 >>= with_test param.0 negated)
     (parameter_back tag cond.param (both _ _ h).0)
     ∙ ap (λ t. test_at t tokens >>= with_test cond.param negated) kind
     ∙ ap (λ r. r >>= with_test cond.param negated) (test_read laws cond.test rest (both _ _ (both _ _ h).1).1 v e)
@@ -175,18 +187,18 @@ later_sound tag cond conds s = record { formed = (both _ _ s.formed).1; values =
 
 joined_read : Texts → (m : ℕ) (tag : CallTag) (cond : Cond) (more : List Cond)
     → length more ≤ m → AreSound tag (cond ∷ more)
-    → joined_at (suc m) (codes "and") (condition_at tag) (cond_tokens tag cond ++ and_tokens tag more) ≡ Ok (cond ∷ more, [])
+    → joined_at Conditions (suc m) (codes "and") (condition_at tag) (cond_tokens tag cond ++ and_tokens tag more) ≡ Ok (cond ∷ more, [])
 joined_read laws m tag cond [] k s =
-    joined_step m (codes "and") (condition_at tag) (cond_tokens tag cond ++ [])
-    ∙ ap (λ r. r >>= and_others m (codes "and") (condition_at tag)) (condition_read laws tag cond [] (both _ _ s.formed).0 (both _ _ s.values).0 refl)
+    joined_step Conditions m (codes "and") (condition_at tag) (cond_tokens tag cond ++ [])
+    ∙ ap (λ r. r >>= and_others Conditions m (codes "and") (condition_at tag)) (condition_read laws tag cond [] (both _ _ s.formed).0 (both _ _ s.values).0 refl)
 joined_read laws zero tag cond (next ∷ more) k s = absurd (omega arith)
 joined_read laws (suc m) tag cond (next ∷ more) k s =
     let rest = Word (codes "and") ∷ (cond_tokens tag next ++ and_tokens tag more) in
-    joined_step (suc m) (codes "and") (condition_at tag) (cond_tokens tag cond ++ rest)
-    ∙ ap (λ r. r >>= and_others (suc m) (codes "and") (condition_at tag)) (condition_read laws tag cond rest (both _ _ s.formed).0 (both _ _ s.values).0 refl)
+    joined_step Conditions (suc m) (codes "and") (condition_at tag) (cond_tokens tag cond ++ rest)
+    ∙ ap (λ r. r >>= and_others Conditions (suc m) (codes "and") (condition_at tag)) (condition_read laws tag cond rest (both _ _ s.formed).0 (both _ _ s.values).0 refl)
     ∙ ap (λ r. r >>= λ others. Ok (cond ∷ others.0, others.1)) (joined_read laws m tag next more (omega arith) (later_sound tag cond (next ∷ more) s))
 
 pub conditions_read : Texts → (tag : CallTag) (cond : Cond) (more : List Cond)
     → length more ≤ 7 → AreSound tag (cond ∷ more) → conditions_of tag (cond_tokens tag cond ++ and_tokens tag more) ≡ Ok (cond ∷ more)
 conditions_read laws tag cond more k s =
-    ap (λ (r : Read (List Cond) PolicyFaultKind). r >>= λ conds. end_at UnknownWord UnknownWord conds.1 >>= λ end. Ok conds.0) (joined_read laws 7 tag cond more k s)
+    ap (λ (r : Read (List Cond) PolicyFaultKind). r >>= λ conds. end_at (UnknownWord Extra) (UnknownWord Broken) conds.1 >>= λ end. Ok conds.0) (joined_read laws 7 tag cond more k s)

@@ -12,14 +12,16 @@ use Rattle.sb_rule.specs.declared.policies.Rule.{Rule}
 use Rattle.sb_text.specs.Tokens.{Lexeme, Word}
 use Rattle.sb_rule.specs.Limits.{most_rules}
 use Rattle.sb_ruletext.proofs.Added.{added}
-use Rattle.sb_ruletext.specs.Lines.{check_action, when_of, rule, with_rules, with_last_rules, line_of}
+use Rattle.sb_ruletext.specs.Lines.{first_word_fault, when_of, rule, with_rules, with_last_rules, line_of}
 use Rattle.sb_ruleprint.specs.Printing.{conds_tokens, rule_tokens}
-use Rattle.sb_text.specs.Steps.{◌>>=◌, or_fault, Read}
+use Rattle.sb_text.specs.Steps.{◌>>=◌, or_fails, unless_fails, at_token, Read}
+use Rattle.sb_text.specs.declared.refusals.TokenFault.{TokenFault}
 use Rattle.sb_call.specs.CallWords.{call_word}
 use Rattle.sb_rule.specs.Actions.{action_word}
 use Rattle.sb_ruletext.specs.Words.{action_of}
 use Rattle.sb_ruletext.specs.declared.faults.PolicyFaultKind.{PolicyFaultKind}
-use Rattle.sb_ruletext.specs.declared.faults.PolicyFaultKind.TheVariants.{UnknownWord, UnknownCall, TooMany, NotReadOnly}
+use Rattle.sb_ruletext.specs.declared.faults.PolicyFaultKind.TheVariants.{UnknownCall, TooMany, NotReadOnly}
+use Rattle.sb_ruletext.specs.declared.faults.PolicyLimit.TheVariants.{Rules}
 use Rattle.sb_ruletext.proofs.PrintedConditions.{AreSound, Texts, conditions_read}
 use Rattle.sb_ruletext.proofs.PrintedWords.{call_back}
 
@@ -34,7 +36,7 @@ when_read laws tag (cond ∷ conds) k s = conditions_read laws tag cond conds (f
     few conds k = grind (arith, nat_tests)
 
 -- a rule with these conditions on a line
-abbrev ruled : ℕ → Action → CallTag → List Cond → Result (List Rule) PolicyFaultKind
+abbrev ruled : ℕ → Action → CallTag → List Cond → Result (List Rule) (TokenFault PolicyFaultKind)
 ruled line action tag conds = Ok (record { tag = tag; conds = conds; action = action; line = line } ∷ [])
 
 -- a call, and the tokens after it
@@ -47,8 +49,9 @@ rule_read : Texts → (line : ℕ) (action : Action) (tag : CallTag) (conds : Li
 unfolding rule
 rule_read laws line action tag conds r k s =
     let tokens = conds_tokens tag conds in
-    ap (λ o. (or_fault UnknownCall o >>= then_tokens tokens) >>= λ call. check_action action call.0 >>= λ tag. when_of tag call.1 >>= ruled line action tag) (call_back tag)
-    ∙ ap (λ t. (if t then Ok tag else Err NotReadOnly) >>= λ tag. when_of tag tokens >>= ruled line action tag) r
+    let all = Word (call_word tag) ∷ tokens in
+    ap (λ o. (or_fails all UnknownCall o >>= then_tokens tokens) >>= λ call. unless_fails all NotReadOnly (is_for_readers action call.0) >>= λ may. when_of call.0 call.1 >>= ruled line action call.0) (call_back tag)
+    ∙ ap (λ t. unless_fails all NotReadOnly t >>= λ may. when_of tag tokens >>= ruled line action tag) r
     ∙ ap (λ conds. conds >>= ruled line action tag) (when_read laws tag conds k s)
 
 -- one rule more in the last policy
@@ -76,9 +79,10 @@ last_rules (first ∷ second ∷ done) policy rules =
     more (Ok last) = refl
     more (Err kind) = refl
 
-added_last : (done : List Policy) (policy : Policy) (rules : List Rule) → added (done ++ policy ∷ []) (Ok rules) ≡ with_last_rules (done ++ policy ∷ []) rules
-added_last [] policy rules = refl
-added_last (first ∷ done) policy rules = refl
+added_last : (line : List Lexeme) (done : List Policy) (policy : Policy) (rules : List Rule)
+    → added line (done ++ policy ∷ []) (Ok rules) ≡ at_token line (with_last_rules (done ++ policy ∷ []) rules)
+added_last line [] policy rules = refl
+added_last line (first ∷ done) policy rules = refl
 
 room : (n m : ℕ) → n + m ≤ 256 → nat_le (n + m) most_rules ≡ true
 room n m h = grind (arith, nat_tests)
@@ -86,7 +90,8 @@ room n m h = grind (arith, nat_tests)
 -- a line whose first word is an action
 action_line : (version : ℕ) (policies : List Policy) (line : ℕ) (action : Action) (tokens : List Lexeme)
     → line_of version policies line (Word (action_word action) ∷ tokens)
-    ≡ or_fault UnknownWord (action_of version (action_word action)) >>= λ action. added policies (rule line action tokens)
+    ≡ or_fails (Word (action_word action) ∷ tokens) (first_word_fault (action_word action)) (action_of version (action_word action))
+    >>= λ by. added (Word (action_word action) ∷ tokens) policies (rule line by tokens)
 unfolding line_of
 action_line version policies line Allow tokens = refl
 action_line version policies line Deny tokens = refl
@@ -103,9 +108,10 @@ rule_line_read laws version done name before line r a f k s few =
     let policies = done ++ policy_of name before ∷ [] in
     let tokens = Word (call_word r.tag) ∷ conds_tokens r.tag r.conds in
     let made = record r { line = line } in
+    let all = Word (action_word r.action) ∷ tokens in
     action_line version policies line r.action tokens
-    ∙ ap (λ o. or_fault UnknownWord o >>= λ action. added policies (rule line action tokens)) a
-    ∙ ap (added policies) (rule_read laws line r.action r.tag r.conds f k s)
-    ∙ added_last done (policy_of name before) (made ∷ [])
-    ∙ last_rules done (policy_of name before) (made ∷ [])
-    ∙ ap (λ t. (if t then Ok (policy_of name (before ++ made ∷ [])) else Err TooMany) >>= behind done) (room (length before) 1 few)
+    ∙ ap (λ o. or_fails all (first_word_fault (action_word r.action)) o >>= λ action. added all policies (rule line action tokens)) a
+    ∙ ap (added all policies) (rule_read laws line r.action r.tag r.conds f k s)
+    ∙ added_last all done (policy_of name before) (made ∷ [])
+    ∙ ap (at_token all) (last_rules done (policy_of name before) (made ∷ [])
+    ∙ ap (λ t. (if t then Ok (policy_of name (before ++ made ∷ [])) else Err (TooMany Rules)) >>= behind done) (room (length before) 1 few))

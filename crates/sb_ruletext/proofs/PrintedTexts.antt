@@ -14,19 +14,26 @@ use Rattle.sb_rule.specs.WellMade.{is_well_made_rule, is_well_made, is_named, ar
 use Rattle.sb_rule.specs.declared.policies.Policy.{Policy}
 use Rattle.sb_rule.specs.declared.policies.Rule.{Rule}
 use Rattle.sb_text.specs.Tokens.{Lexeme, Word}
-use Rattle.sb_text.specs.Utf8Laws.{NotUtf8LineTells}
+use Rattle.sb_text.specs.Spots.{by_tokens}
+use Rattle.sb_text.specs.TokenLaws.{written_line}
+use Rattle.sb_text.specs.Utf8Laws.{NotUtf8PlaceTells}
+use Rattle.sb_text.specs.declared.refusals.TokenFault.{TokenFault}
+use Rattle.sb_text.specs.declared.refusals.LineFault.{LineFault}
+use Rattle.sb_text.specs.declared.refusals.WordFault.TheVariants.{Unknown, Extra, Broken}
 use Rattle.sb_ruletext.specs.Lines.{heading, line_of}
 use Rattle.sb_ruletext.specs.PolicyTexts.{add_line, grammar}
 use Rattle.sb_ruleprint.specs.Printing.{rule_tokens, heading_tokens, policy_lines, is_read_only, has_read_only, version_tokens, printed_lines, printed, relined_rules, relined_from, relined}
 use Rattle.sb_ruleprint.specs.Values.{is_rule_of_values, is_policy_of_values}
 use Rattle.sb_ruletext.specs.PrintingLaws.{PrintedPoliciesAreRead}
-use Rattle.sb_text.specs.Readings.{on_line, read_lines, read_below, read_by}
-use Rattle.sb_text.specs.Steps.{◌>>=◌, Read, end_at, version_of}
+use Rattle.sb_text.specs.Readings.{on_line, read_lines, read_by}
+use Rattle.sb_text.specs.Lines.{NumberedLine}
+use Rattle.sb_text.specs.Steps.{◌>>=◌, at_token, Read, end_at, version_at}
 use Rattle.sb_rule.specs.Actions.{action_word}
 use Rattle.sb_ruletext.specs.Words.{action_of}
 use Rattle.sb_ruletext.proofs.Prefixes.{read_by_lines}
 use Rattle.sb_ruletext.specs.declared.faults.PolicyFaultKind.{PolicyFaultKind}
-use Rattle.sb_ruletext.specs.declared.faults.PolicyFaultKind.TheVariants.{UnknownWord, TooMany, SameName}
+use Rattle.sb_ruletext.specs.declared.faults.PolicyFaultKind.TheVariants.{BadVersion, UnknownWord, TooMany, SameName}
+use Rattle.sb_ruletext.specs.declared.faults.PolicyLimit.TheVariants.{Policies}
 use Rattle.sb_text.specs.PlainLines.{is_plain_line, numbered, PlainLinesAreUtf8, PlainLinesAreRead, PlainTokensAreRead}
 use Rattle.sb_ruletext.proofs.PrintedRules.{policy_of, rule_line_read}
 use Rattle.sb_ruletext.proofs.Conjunctions.{both, and_true}
@@ -35,7 +42,7 @@ use Rattle.sb_ruletext.proofs.PrintedWords.{not_true, action_back, first_action_
 
 -- the laws of lower crates that the proof stands on
 pub record Laws : Type 0 where
-  pub utf8 : NotUtf8LineTells
+  pub utf8 : NotUtf8PlaceTells
   pub plain : PlainLinesAreUtf8
   pub lines : PlainLinesAreRead
   pub tokens : PlainTokensAreRead
@@ -53,21 +60,22 @@ AreActionsOfAll version (policy ∷ policies) = AreActions version policy.rules 
 -- a line
 
 line_read : Laws → (version : ℕ) (done more : List Policy) (n : ℕ) (tokens : List Lexeme) (lines : List (List Lexeme)) → is_plain_line tokens ≡ true
-    → line_of version done n tokens ≡ Ok more → read_lines (add_line version) done (numbered n (tokens ∷ lines)) ≡ read_lines (add_line version) more (numbered (n + 1) lines)
+    → line_of version done n tokens ≡ Ok more → read_lines grammar version done (numbered n (tokens ∷ lines)) ≡ read_lines grammar version more (numbered (n + 1) lines)
 unfolding read_lines
 line_read laws version done more n tokens lines p e =
-    ap (λ tokens. on_line n (line_of version done n tokens) >>= λ more. read_lines (add_line version) more (numbered (n + 1) lines)) (laws.tokens tokens p)
-    ∙ ap (λ r. on_line n r >>= λ more. read_lines (add_line version) more (numbered (n + 1) lines)) e
+    let line : NumberedLine = record { number = n; text = written_line tokens } in
+    ap (λ tokens. on_line by_tokens line (line_of version done n tokens) >>= λ more. read_lines grammar version more (numbered (n + 1) lines)) (laws.tokens tokens p)
+    ∙ ap (λ r. on_line by_tokens line r >>= λ more. read_lines grammar version more (numbered (n + 1) lines)) e
 
 -- the rules of a policy
 
 rules_read : Laws → (version : ℕ) (done : List Policy) (name : List ℕ) (before : List Rule) (n : ℕ) (rules : List Rule) (lines : List (List Lexeme))
     → list_all is_well_made_rule rules ≡ true → list_all is_rule_of_values rules ≡ true → AreActions version rules → length before + length rules ≤ 256
-    → read_lines (add_line version) (done ++ policy_of name before ∷ []) (numbered n (map rule_tokens rules ++ lines))
-    ≡ read_lines (add_line version) (done ++ policy_of name (before ++ relined_rules n rules) ∷ []) (numbered (n + length rules) lines)
+    → read_lines grammar version (done ++ policy_of name before ∷ []) (numbered n (map rule_tokens rules ++ lines))
+    ≡ read_lines grammar version (done ++ policy_of name (before ++ relined_rules n rules) ∷ []) (numbered (n + length rules) lines)
 rules_read laws version done name before n [] lines h v a few =
-    ap (λ rules. read_lines (add_line version) (done ++ policy_of name rules ∷ []) (numbered n lines)) (sym (append-nil before))
-    ∙ ap (λ n. read_lines (add_line version) (done ++ policy_of name (before ++ []) ∷ []) (numbered n lines)) {x = n} {y = n + 0} (omega arith)
+    ap (λ rules. read_lines grammar version (done ++ policy_of name rules ∷ []) (numbered n lines)) (sym (append-nil before))
+    ∙ ap (λ n. read_lines grammar version (done ++ policy_of name (before ++ []) ∷ []) (numbered n lines)) {x = n} {y = n + 0} (omega arith)
 rules_read laws version done name before n (rule ∷ rules) lines h v a few =
     let made = record rule { line = n } in
     let formed = (both _ _ h).0 in
@@ -76,8 +84,8 @@ rules_read laws version done name before n (rule ∷ rules) lines h v a few =
     (rule_line_read laws.texts version done name before n rule a.0 (both _ _ (both _ _ formed).0).1 (both _ _ (both _ _ formed).0).0
     (sound_conds rule formed (both _ _ v).0) (omega arith))
     ∙ rules_read laws version done name (before ++ made ∷ []) (n + 1) rules lines (both _ _ h).1 (both _ _ v).1 a.1 (omega (arith, length-append before (made ∷ [])))
-    ∙ ap (λ all. read_lines (add_line version) (done ++ policy_of name all ∷ []) (numbered (n + 1 + length rules) lines)) (append_assoc before (made ∷ []) (relined_rules (n + 1) rules))
-    ∙ ap (λ m. read_lines (add_line version) (done ++ policy_of name (before ++ made ∷ relined_rules (n + 1) rules) ∷ []) (numbered m lines))
+    ∙ ap (λ all. read_lines grammar version (done ++ policy_of name all ∷ []) (numbered (n + 1 + length rules) lines)) (append_assoc before (made ∷ []) (relined_rules (n + 1) rules))
+    ∙ ap (λ m. read_lines grammar version (done ++ policy_of name (before ++ made ∷ relined_rules (n + 1) rules) ∷ []) (numbered m lines))
     {x = n + 1 + length rules} {y = n + suc (length rules)} (omega arith)
 
 -- a heading
@@ -87,9 +95,10 @@ abbrev then_end : List ℕ → Read (List ℕ) PolicyFaultKind
 then_end name = Ok (name, [])
 
 -- what `heading` does with a name, if there is room for one more policy or not
-abbrev headed : List Policy → Bool → Result (List ℕ) PolicyFaultKind → Result (List Policy) PolicyFaultKind
-headed done few name =
-    (name >>= then_end) >>= λ name. end_at UnknownWord UnknownWord name.1 >>= λ end. if few then Ok (done ++ policy_of name.0 [] ∷ []) else Err TooMany
+abbrev headed : List Policy → List Lexeme → List Lexeme → Bool → Result (List ℕ) PolicyFaultKind → Result (List Policy) (TokenFault PolicyFaultKind)
+headed done line tokens few name =
+    (at_token tokens name >>= then_end)
+    >>= λ name. end_at (UnknownWord Extra) (UnknownWord Broken) name.1 >>= λ end. at_token line (if few then Ok (done ++ policy_of name.0 [] ∷ []) else Err (TooMany Policies))
 
 heading_read : (version : ℕ) (done : List Policy) (n : ℕ) (policy : Policy) → is_short_name policy.name ≡ true → list_any (is_named policy.name) done ≡ false
     → nat_lt (length done) most_policies ≡ true → line_of version done n (heading_tokens policy) ≡ Ok (done ++ policy_of policy.name [] ∷ [])
@@ -97,7 +106,8 @@ unfolding line_of heading
 heading_read version done n policy short new few = by_tests (is_short_name policy.name) (list_any (is_named policy.name) done) (nat_lt (length done) most_policies) short new few
   where
     by_tests : (s t u : Bool) → s ≡ true → t ≡ false → u ≡ true
-        → headed done u (if s then (if t then Err SameName else Ok policy.name) else Err UnknownWord) ≡ Ok (done ++ policy_of policy.name [] ∷ [])
+        → headed done (heading_tokens policy) (Word policy.name ∷ []) u (if s then (if t then Err SameName else Ok policy.name) else Err (UnknownWord Unknown))
+        ≡ Ok (done ++ policy_of policy.name [] ∷ [])
     by_tests s t u e f g = rw (e, f, g) refl
 
 -- a policy
@@ -105,8 +115,8 @@ heading_read version done n policy short new few = by_tests (is_short_name polic
 policy_read : Laws → (version : ℕ) (done : List Policy) (n : ℕ) (policy : Policy) (lines : List (List Lexeme))
     → is_well_made policy ≡ true → is_policy_of_values policy ≡ true → AreActions version policy.rules
     → list_any (is_named policy.name) done ≡ false → nat_lt (length done) most_policies ≡ true
-    → read_lines (add_line version) done (numbered n (policy_lines policy ++ lines))
-    ≡ read_lines (add_line version) (done ++ record policy { rules = relined_rules (n + 1) policy.rules } ∷ []) (numbered (n + 1 + length policy.rules) lines)
+    → read_lines grammar version done (numbered n (policy_lines policy ++ lines))
+    ≡ read_lines grammar version (done ++ record policy { rules = relined_rules (n + 1) policy.rules } ∷ []) (numbered (n + 1 + length policy.rules) lines)
 policy_read laws version done n policy lines h v a new few =
     line_read laws version done (done ++ policy_of policy.name [] ∷ []) n (heading_tokens policy) (map rule_tokens policy.rules ++ lines)
     (heading_plain policy (both _ _ v).0) (heading_read version done n policy (both _ _ v).0 new few)
@@ -155,7 +165,7 @@ new_to_none (policy ∷ policies) = new_to_none policies
 policies_read : Laws → (version : ℕ) (done : List Policy) (n : ℕ) (policies : List Policy)
     → list_all is_well_made policies ≡ true → list_all is_policy_of_values policies ≡ true → AreActionsOfAll version policies
     → are_new done policies ≡ true → are_named_apart policies ≡ true → length done + length policies ≤ 8
-    → read_lines (add_line version) done (numbered n (flat_map policy_lines policies)) ≡ Ok (done ++ relined_from n policies)
+    → read_lines grammar version done (numbered n (flat_map policy_lines policies)) ≡ Ok (done ++ relined_from n policies)
 unfolding read_lines
 policies_read laws version done n [] h v a new apart few = ap Ok (sym (append-nil done))
 policies_read laws version done n (policy ∷ policies) h v a new apart few =
@@ -189,10 +199,19 @@ first_actions_of_all (policy ∷ policies) h = let parts = or_false _ _ h in (fi
 
 -- the whole text
 
--- the policies below the version line, if some rule only lets read or none does
+-- the first line of policies, if some rule only lets read or none does
+abbrev version_line : Bool → List Lexeme
+version_line t = Word (codes "sandbox-policy") ∷ Word (if t then codes "2" else codes "1") ∷ []
+
+-- what a first line with these tokens and the lines after it are read as
+abbrev read_after : List Lexeme → List (List Lexeme) → Result (List Policy) (LineFault PolicyFaultKind)
+read_after tokens lines =
+    on_line by_tokens (record { number = 1; text = written_line tokens }) (version_at BadVersion (codes "sandbox-policy") 2 tokens)
+    >>= λ version. read_lines grammar version [] (numbered 2 lines)
+
 below_read : Laws → (policies : List Policy) → list_all is_well_made policies ≡ true → list_all is_policy_of_values policies ≡ true
     → are_named_apart policies ≡ true → length policies ≤ 8 → (t : Bool) → list_any has_read_only policies ≡ t
-    → read_below grammar 1 (version_of (codes "sandbox-policy") 2 (Word (codes "sandbox-policy") ∷ Word (if t then codes "2" else codes "1") ∷ [])) (numbered 2 (flat_map policy_lines policies)) ≡ Ok (relined policies)
+    → read_after (version_line t) (flat_map policy_lines policies) ≡ Ok (relined policies)
 below_read laws policies h v apart few true e = policies_read laws 2 [] 2 policies h v (all_actions_of_all policies) (new_to_none policies) apart (omega arith)
 below_read laws policies h v apart few false e = policies_read laws 1 [] 2 policies h v (first_actions_of_all policies e) (new_to_none policies) apart (omega arith)
 
@@ -202,7 +221,8 @@ printed_read laws policies h v =
     let plain = printed_plain laws.texts policies made v in
     read_by_lines (printed policies) (laws.utf8.0 (printed policies) (laws.plain (printed_lines policies) plain))
     ∙ ap (read_by grammar) (laws.lines (printed_lines policies) plain)
-    ∙ ap (λ tokens. read_below grammar 1 (version_of (codes "sandbox-policy") 2 tokens) (numbered 2 (flat_map policy_lines policies))) (laws.tokens (version_tokens policies) (both _ _ plain).0)
+    ∙ ap (λ tokens. on_line by_tokens (record { number = 1; text = written_line (version_tokens policies) }) (version_at BadVersion (codes "sandbox-policy") 2 tokens)
+    >>= λ version. read_lines grammar version [] (numbered 2 (flat_map policy_lines policies))) (laws.tokens (version_tokens policies) (both _ _ plain).0)
     ∙ below_read laws policies made v (both _ _ (both _ _ h).0).1 (most policies (both _ _ (both _ _ h).0).0) (list_any has_read_only policies) refl
   where
     most : (policies : List Policy) → nat_le (length policies) 8 ≡ true → length policies ≤ 8

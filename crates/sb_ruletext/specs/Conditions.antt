@@ -5,7 +5,7 @@ use Rattle.sb_call.specs.declared.tags.CallTag.{CallTag}
 use Rattle.sb_pattern.specs.Reading.{reading}
 use Rattle.sb_pattern.specs.declared.cells.Cell.{Cell}
 use Rattle.sb_pattern.specs.declared.faults.PatternFault.{PatternFault}
-use Rattle.sb_pattern.specs.declared.faults.PatternFault.TheVariants.{TooLong}
+use Rattle.sb_pattern.specs.declared.faults.PatternFault.TheVariants.{DoubleStar, StarQuestion, TooLong}
 use Rattle.sb_pattern.specs.Limits.{most_units}
 use Rattle.sb_rule.specs.Limits.{most_conditions, most_numbers}
 use Rattle.sb_call.specs.Parameters.{is_number_kind}
@@ -16,21 +16,25 @@ use Rattle.sb_ruletext.specs.Steps.{word_or, quoted_or, line_end, joined_at}
 use Rattle.sb_call.specs.CallWords.{is_word}
 use Rattle.sb_ruletext.specs.Words.{parameter_of}
 use Rattle.sb_ruletext.specs.declared.faults.PolicyFaultKind.{PolicyFaultKind}
+use Rattle.sb_ruletext.specs.declared.faults.PolicyLimit.TheVariants.{Conditions, Numbers}
 use Rattle.sb_ruletext.specs.declared.faults.PolicyFaultKind.TheVariants.{UnknownWord, UnknownParam, WrongKind, BadNumber, EmptyRange, BadPattern}
 use Rattle.sb_text.specs.Numbers.{number_of}
-use Rattle.sb_text.specs.Steps.{◌>>=◌, or_fault, Read, begins_with, later}
+use Rattle.sb_text.specs.Spots.{fails, fails_within}
+use Rattle.sb_text.specs.Steps.{◌>>=◌, or_fault, or_fails, at_token, Read, begins_with, later}
 use Rattle.sb_text.specs.Tokens.{Lexeme, string_of}
+use Rattle.sb_text.specs.declared.refusals.TokenFault.{TokenFault}
+use Rattle.sb_text.specs.declared.refusals.WordFault.TheVariants.{Unknown, Quoted}
 
 -- N: a number
 abbrev pub number_at : List Lexeme → Read ℕ PolicyFaultKind
 number_at tokens = do
   (word, rest) ← word_or WrongKind tokens
-  n ← or_fault BadNumber (number_of word)
+  n ← or_fails tokens BadNumber (number_of word)
   Ok (n, rest)
 
 -- N or N ..
 abbrev pub numbers_at : List Lexeme → Read (List ℕ) PolicyFaultKind
-numbers_at tokens = joined_at most_numbers (codes "or") number_at tokens
+numbers_at tokens = joined_at Numbers most_numbers (codes "or") number_at tokens
 
 -- what follows `..`, if the word begins with it
 abbrev pub after_dots : List ℕ → Option (List ℕ)
@@ -51,7 +55,7 @@ around_dots (b ∷ bs) = around_from b (after_dots (b ∷ bs)) (around_dots bs)
 abbrev pub range : ℕ → ℕ → Result Test PolicyFaultKind
 range lo hi = if nat_le lo hi then Ok (Range lo hi) else Err EmptyRange
 
--- LO..HI: two numbers joined by `..`
+-- LO..HI: two numbers joined by `..`. Each fault is one of the whole word
 abbrev pub range_of : List ℕ → Result Test PolicyFaultKind
 range_of word = do
   (before, after) ← or_fault BadNumber (around_dots word)
@@ -63,71 +67,77 @@ range_of word = do
 abbrev pub range_at : List Lexeme → Read Test PolicyFaultKind
 range_at tokens = do
   (word, rest) ← word_or WrongKind tokens
-  test ← range_of word
+  test ← at_token tokens (range_of word)
   Ok (test, rest)
 
 -- what stands between quotes, as a string of a policy
 abbrev pub string : List ℕ → Result (List ℕ) PolicyFaultKind
 string quoted = if nat_le (length (string_of quoted)) most_units then Ok (string_of quoted) else Err (BadPattern TooLong)
 
--- the cells of a pattern, or its fault as one of the text
-abbrev pub cells : Result (List Cell) PatternFault → Result (List Cell) PolicyFaultKind
-cells (Ok pattern) = Ok pattern
-cells (Err fault) = Err (BadPattern fault)
+-- the fault of a pattern between quotes stands at its star; a text that is too long, at its opening quote
+abbrev pub pattern_fault : {A : Type 0} → List Lexeme → PatternFault → Result A (TokenFault PolicyFaultKind)
+pattern_fault tokens (DoubleStar unit) = fails_within tokens unit (BadPattern (DoubleStar unit))
+pattern_fault tokens (StarQuestion unit) = fails_within tokens unit (BadPattern (StarQuestion unit))
+pattern_fault tokens TooLong = fails tokens (BadPattern TooLong)
 
--- what stands between quotes, as a pattern
-abbrev pub pattern : List ℕ → Result (List Cell) PolicyFaultKind
-pattern quoted = cells (reading (string_of quoted))
+-- the cells of a pattern, or its fault in the quoted token that was due
+abbrev pub cells : List Lexeme → Result (List Cell) PatternFault → Result (List Cell) (TokenFault PolicyFaultKind)
+cells tokens (Ok pattern) = Ok pattern
+cells tokens (Err fault) = pattern_fault tokens fault
+
+-- "P": the cells of a pattern, if a quoted token stands here. A word in its place has this fault
+abbrev pub cells_at : PolicyFaultKind → List Lexeme → Read (List Cell) PolicyFaultKind
+cells_at word tokens = do
+  (quoted, rest) ← quoted_or word tokens
+  pattern ← cells tokens (reading (string_of quoted))
+  Ok (pattern, rest)
 
 -- "S": a string
 abbrev pub string_at : List Lexeme → Read Test PolicyFaultKind
 string_at tokens = do
   (quoted, rest) ← quoted_or WrongKind tokens
-  text ← string quoted
+  text ← at_token tokens (string quoted)
   Ok (Equal text, rest)
 
 -- "P": a pattern
 abbrev pub pattern_at : List Lexeme → Read Test PolicyFaultKind
-pattern_at tokens = do
-  (quoted, rest) ← quoted_or WrongKind tokens
-  cells ← pattern quoted
-  Ok (Like cells, rest)
+pattern_at tokens = cells_at WrongKind tokens >>= λ (cells, rest). Ok (Like cells, rest)
 
 -- `is` and its value, on a number or on a string
 abbrev pub is_at : Bool → List Lexeme → Read Test PolicyFaultKind
 is_at true tokens = numbers_at tokens >>= λ (numbers, rest). Ok (OneOf numbers, rest)
 is_at false tokens = string_at tokens
 
--- `in` and its value
-abbrev pub in_at : Bool → List Lexeme → Read Test PolicyFaultKind
-in_at true tokens = range_at tokens
-in_at false tokens = Err WrongKind
+-- `in` and its value; the first list begins with the test word, which does not fit a string
+abbrev pub in_at : Bool → List Lexeme → List Lexeme → Read Test PolicyFaultKind
+in_at true tokens rest = range_at rest
+in_at false tokens rest = fails tokens WrongKind
 
 -- `has` and its value
-abbrev pub has_at : Bool → List Lexeme → Read Test PolicyFaultKind
-has_at true tokens = number_at tokens >>= λ (mask, rest). Ok (Mask mask, rest)
-has_at false tokens = Err WrongKind
+abbrev pub has_at : Bool → List Lexeme → List Lexeme → Read Test PolicyFaultKind
+has_at true tokens rest = number_at rest >>= λ (mask, after). Ok (Mask mask, after)
+has_at false tokens rest = fails tokens WrongKind
 
 -- `like` and its value
-abbrev pub like_at : Bool → List Lexeme → Read Test PolicyFaultKind
-like_at true tokens = Err WrongKind
-like_at false tokens = pattern_at tokens
+abbrev pub like_at : Bool → List Lexeme → List Lexeme → Read Test PolicyFaultKind
+like_at true tokens rest = fails tokens WrongKind
+like_at false tokens rest = pattern_at rest
 
 -- a test word, and a value that fits it; the first argument tells whether the parameter is a number
 unfoldable pub test_at : Bool → List Lexeme → Read Test PolicyFaultKind
 test_at is_number tokens = do
-  (word, rest) ← word_or UnknownWord tokens
+  (word, rest) ← word_or (UnknownWord Quoted) tokens
   if is_word (codes "is") word then is_at is_number rest
-      else (if is_word (codes "in") word then in_at is_number rest
-      else (if is_word (codes "has") word then has_at is_number rest
-      else (if is_word (codes "like") word then like_at is_number rest
-      else Err UnknownWord)))
+      else (if is_word (codes "in") word then in_at is_number tokens rest
+      else (if is_word (codes "has") word then has_at is_number tokens rest
+      else (if is_word (codes "like") word then like_at is_number tokens rest
+      else fails tokens (UnknownWord Unknown))))
 
 -- the name of a parameter of the call
 abbrev pub parameter_at : CallTag → List Lexeme → Read ℕ PolicyFaultKind
 parameter_at tag tokens = do
   (word, rest) ← word_or UnknownParam tokens
-  param ← or_fault UnknownParam (parameter_of tag word)
+  param ← or_fails tokens UnknownParam (parameter_of tag word)
   Ok (param, rest)
 
 -- the parameter of a call is a number
@@ -148,10 +158,10 @@ condition_at tag tokens =
 
 -- COND and COND ..
 abbrev pub conditions_at : CallTag → List Lexeme → Read (List Cond) PolicyFaultKind
-conditions_at tag tokens = joined_at most_conditions (codes "and") (condition_at tag) tokens
+conditions_at tag tokens = joined_at Conditions most_conditions (codes "and") (condition_at tag) tokens
 
 -- the same up to the line's end
-abbrev pub conditions_of : CallTag → List Lexeme → Result (List Cond) PolicyFaultKind
+abbrev pub conditions_of : CallTag → List Lexeme → Result (List Cond) (TokenFault PolicyFaultKind)
 conditions_of tag tokens = do
   (conds, rest) ← conditions_at tag tokens
   end ← line_end rest

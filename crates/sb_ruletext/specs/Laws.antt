@@ -8,26 +8,26 @@ use Rattle.sb_ruletext.specs.declared.faults.PolicyFaultKind.TheVariants.{BadVer
 use Rattle.sb_text.specs.LineLaws.{ended, is_line}
 use Rattle.sb_text.specs.Lines.{raw_lines, lines_of, is_skipped, without_cr}
 use Rattle.sb_text.specs.Readings.{is_some_line, renumbered, behind}
-use Rattle.sb_text.specs.Utf8.{not_utf8_line}
+use Rattle.sb_text.specs.Utf8.{not_utf8_place}
 
 -- a fault on one of the first lines of a text, not all of which are blank or comments, is that of each text that begins with these lines
 abbrev pub FirstFaultsStay : Type 0
 FirstFaultsStay = (front rest other : List ℕ) (fault : PolicyFault)
-    → not_utf8_line (ended front ++ rest) ≡ None → not_utf8_line (ended front ++ other) ≡ None
+    → not_utf8_place (ended front ++ rest) ≡ None → not_utf8_place (ended front ++ other) ≡ None
     → is_some_line (lines_of (ended front)) ≡ true → fault.line ≤ length (raw_lines (ended front))
     → reading (ended front ++ rest) ≡ Err fault → reading (ended front ++ other) ≡ Err fault
 
 -- the lines before a fault, not all of which are blank or comments, are policies
 abbrev pub LinesBeforeAreRead : Type 0
 LinesBeforeAreRead = (front rest : List ℕ) (fault : PolicyFault)
-    → not_utf8_line (ended front ++ rest) ≡ None → not_utf8_line (ended front) ≡ None
+    → not_utf8_place (ended front ++ rest) ≡ None → not_utf8_place (ended front) ≡ None
     → is_some_line (lines_of (ended front)) ≡ true → length (raw_lines (ended front)) < fault.line
     → reading (ended front ++ rest) ≡ Err fault → (policies : List Policy) × (reading (ended front) ≡ Ok policies)
 
 -- blank or comment lines lack a version
 abbrev pub SilentTextsLackAVersion : Type 0
-SilentTextsLackAVersion = (text : List ℕ) → not_utf8_line text ≡ None → is_some_line (lines_of text) ≡ false
-    → reading text ≡ Err (record { line = 1; kind = BadVersion })
+SilentTextsLackAVersion = (text : List ℕ) → not_utf8_place text ≡ None → is_some_line (lines_of text) ≡ false
+    → reading text ≡ Err (record { line = 1; column = 0; kind = BadVersion })
 
 -- the policies that a text is read as are well made
 abbrev pub ReadPoliciesAreWellMade : Type 0
@@ -44,6 +44,6 @@ renumbered_policy f policy = record { name = policy.name; rules = map (renumbere
 abbrev pub SkippedLinesCountAlone : Type 0
 SkippedLinesCountAlone = (front line rest : List ℕ) → is_line line ≡ true → is_skipped (without_cr line) ≡ true
     → is_some_line (lines_of (ended front)) ≡ true
-    → not_utf8_line (ended front ++ rest) ≡ None → not_utf8_line (ended front ++ (ended line ++ rest)) ≡ None
+    → not_utf8_place (ended front ++ rest) ≡ None → not_utf8_place (ended front ++ (ended line ++ rest)) ≡ None
     → reading (ended front ++ (ended line ++ rest))
     ≡ renumbered (behind (length (raw_lines (ended front)))) (map (renumbered_policy (behind (length (raw_lines (ended front)))))) (reading (ended front ++ rest))

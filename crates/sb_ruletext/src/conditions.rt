@@ -1,18 +1,24 @@
 // Reading conditions: COND and COND .., each a parameter, a test word and a value.
 ghost use Rattle.std.specs.Prelude.{◌≡◌, None, Some, MatchOption};
-ghost use Rattle.sb_ruletext.specs.Conditions.{number_at, numbers_at, after_dots, around_dots, range_of, range_at, pattern, string, string_at, pattern_at, is_at, in_at, has_at, like_at, test_at, parameter_at, is_number_at, plain_condition_at, condition_at, conditions_at, conditions_of};
+ghost use Rattle.sb_pattern.specs.Reading.{reading};
+ghost use Rattle.sb_ruletext.specs.Conditions.{number_at, numbers_at, after_dots, around_dots, range_of, range_at, cells, cells_at, string, string_at, pattern_at, is_at, in_at, has_at, like_at, test_at, parameter_at, is_number_at, plain_condition_at, condition_at, conditions_at, conditions_of};
 ghost use Rattle.sb_ruletext.specs.Steps.{excess};
 ghost use Rattle.sb_items.specs.Refusals.{Gives};
-ghost use Rattle.sb_text.specs.Steps.{Reads};
+ghost use Rattle.sb_text.specs.Steps.{Reads, at_token, or_fault};
+ghost use Rattle.sb_ruletext.specs.declared.faults.PolicyFaultKind.TheVariants.{BadNumber};
+ghost use Rattle.sb_text.specs.Numbers.{number_of};
+ghost use Rattle.sb_text.specs.Tokens.{string_of};
 
-use crate::faults::LineRefused;
-use crate::faults::PolicyFaultKind::{self, BadNumber, UnknownParam, UnknownWord, WrongKind};
-use crate::readers::{line_end, quoted_or, word_or};
+use crate::faults::PolicyFaultKind::{
+    self, BadNumber, BadPattern, UnknownParam, UnknownWord, WrongKind,
+};
+use crate::faults::{LineRefused, PolicyLimit};
+use crate::readers::{at_token, line_end, quoted_or, word_or};
 use crate::words::parameter_of;
 use sb_call::CallTag;
 use sb_pattern::{MOST_UNITS, Pattern, PatternFault, PatternRefused};
 use sb_rule::{Cond, Conds, MOST_CONDITIONS, MOST_NUMBERS, Numbers, Test};
-use sb_text::{Token, Tokens, number_of, or_fault, string_of};
+use sb_text::{Token, Tokens, WordFault, number_of, or_fails, string_of};
 use sb_wide::Wide;
 use std::alloc::Global;
 
@@ -20,17 +26,19 @@ use std::alloc::Global;
 fn number_at(tokens: &mut Tokens) -> Result<u64, LineRefused>
     ensures { Reads (number_at tokens.old) result tokens.new }
 {
+    let due = tokens.copy();
     let word = word_or(WrongKind, tokens)?;
-    or_fault(BadNumber, number_of(word))
+    or_fails(&due, BadNumber, number_of(word))
 }
 
 // The fault if one more begins than there may be.
-fn excess(tokens: &Tokens) -> PolicyFaultKind
-    ensures { result ≡ excess tokens.now }
+fn excess(limit: PolicyLimit, tokens: &Tokens) -> PolicyFaultKind
+    ensures { result ≡ excess limit tokens.now }
 {
     match tokens.peek() {
-        Some(Token::Word(_)) | Some(Token::Quoted(_)) => PolicyFaultKind::TooMany,
-        Some(Token::Bad) | None => UnknownWord,
+        Some(Token::Word(_)) | Some(Token::Quoted(_)) => PolicyFaultKind::TooMany(limit),
+        Some(Token::Bad) => UnknownWord(WordFault::Broken),
+        None => UnknownWord(WordFault::Missing),
     }
 }
 
@@ -46,7 +54,7 @@ fn numbers_at(alloc: Global, tokens: &mut Tokens) -> Result<Numbers, LineRefused
             return Ok(numbers);
         }
     }
-    Err(LineRefused::Fault(excess(tokens)))
+    Err(tokens.fail(excess(PolicyLimit::Numbers, tokens)))
 }
 
 // What follows `..`, if the bytes begin with it.
@@ -75,17 +83,24 @@ fn around_dots(word: &[u8]) -> Option<(&[u8], &[u8])>
     None
 }
 
-// LO..HI: two numbers joined by `..`.
-fn range_of(word: &[u8]) -> Result<Test, LineRefused>
-    ensures { Gives (range_of word.now) result }
+// A number, or its fault.
+fn number(word: &[u8]) -> Result<u64, PolicyFaultKind>
+    ensures { result ≡ or_fault BadNumber (number_of word.now) }
 {
-    let (low, high) = around_dots(word).ok_or(LineRefused::Fault(BadNumber))?;
-    let lo = or_fault(BadNumber, number_of(low))?;
-    let hi = or_fault(BadNumber, number_of(high))?;
+    number_of(word).ok_or(BadNumber)
+}
+
+// LO..HI: two numbers joined by `..`.
+fn range_of(word: &[u8]) -> Result<Test, PolicyFaultKind>
+    ensures { result ≡ range_of word.now }
+{
+    let (low, high) = around_dots(word).ok_or(BadNumber)?;
+    let lo = number(low)?;
+    let hi = number(high)?;
     if lo <= hi {
         Ok(Test::Range { lo, hi })
     } else {
-        Err(LineRefused::Fault(PolicyFaultKind::EmptyRange))
+        Err(PolicyFaultKind::EmptyRange)
     }
 }
 
@@ -93,48 +108,69 @@ fn range_of(word: &[u8]) -> Result<Test, LineRefused>
 fn range_at(tokens: &mut Tokens) -> Result<Test, LineRefused>
     ensures { Reads (range_at tokens.old) result tokens.new }
 {
-    range_of(word_or(WrongKind, tokens)?)
+    let due = tokens.copy();
+    let word = word_or(WrongKind, tokens)?;
+    at_token(&due, range_of(word))
 }
 
-// What stands between quotes, as a string of a policy.
-fn string(alloc: Global, quoted: &str) -> Result<Wide, LineRefused>
-    ensures { Gives (string quoted.now) result }
+// What stands between quotes, as a string of a policy, or its fault at the token that was due.
+fn string(alloc: Global, due: &Tokens, quoted: &str) -> Result<Wide, LineRefused>
+    ensures { Gives (at_token due.now (string quoted.now)) result }
 {
     let text = string_of(alloc, quoted)?;
     if text.len() > MOST_UNITS {
-        return Err(LineRefused::Fault(PolicyFaultKind::BadPattern(PatternFault::TooLong)));
+        return Err(due.fail(BadPattern(PatternFault::TooLong)));
     }
     Ok(text)
 }
 
-/// What stands between quotes, as a pattern.
-pub(crate) fn pattern(alloc: Global, quoted: &str) -> Result<Pattern, LineRefused>
-    ensures { Gives (pattern quoted.now) result }
+// What stands between quotes, as a pattern, or its fault in the token that was due.
+fn cells(alloc: Global, due: &Tokens, quoted: &str) -> Result<Pattern, LineRefused>
+    ensures { Gives (cells due.now (reading (string_of quoted.now))) result }
 {
     let text = string_of(alloc, quoted)?;
     match Pattern::read(alloc, text.as_units()) {
         Ok(pattern) => Ok(pattern),
-        Err(PatternRefused::Fault(fault)) => Err(LineRefused::Fault(PolicyFaultKind::BadPattern(
-            fault,
-        ))),
+        Err(PatternRefused::Fault(PatternFault::DoubleStar(unit))) => {
+            Err(due.fail_within(unit, BadPattern(PatternFault::DoubleStar(unit))))
+        }
+        Err(PatternRefused::Fault(PatternFault::StarQuestion(unit))) => {
+            Err(due.fail_within(unit, BadPattern(PatternFault::StarQuestion(unit))))
+        }
+        Err(PatternRefused::Fault(PatternFault::TooLong)) => {
+            Err(due.fail(BadPattern(PatternFault::TooLong)))
+        }
         Err(PatternRefused::NoMemory) => Err(LineRefused::NoMemory),
     }
+}
+
+/// "P": a pattern. A word in its place has this fault.
+pub(crate) fn cells_at(
+    alloc: Global,
+    word: PolicyFaultKind,
+    tokens: &mut Tokens,
+) -> Result<Pattern, LineRefused>
+    ensures { Reads (cells_at word tokens.old) result tokens.new }
+{
+    let due = tokens.copy();
+    let quoted = quoted_or(word, tokens)?;
+    cells(alloc, &due, quoted)
 }
 
 // "S": a string.
 fn string_at(alloc: Global, tokens: &mut Tokens) -> Result<Test, LineRefused>
     ensures { Reads (string_at tokens.old) result tokens.new }
 {
+    let due = tokens.copy();
     let quoted = quoted_or(WrongKind, tokens)?;
-    Ok(Test::Equal(string(alloc, quoted)?))
+    Ok(Test::Equal(string(alloc, &due, quoted)?))
 }
 
 // "P": a pattern.
 fn pattern_at(alloc: Global, tokens: &mut Tokens) -> Result<Test, LineRefused>
     ensures { Reads (pattern_at tokens.old) result tokens.new }
 {
-    let quoted = quoted_or(WrongKind, tokens)?;
-    Ok(Test::Like(pattern(alloc, quoted)?))
+    Ok(Test::Like(cells_at(alloc, WrongKind, tokens)?))
 }
 
 // The value of `is`.
@@ -148,34 +184,39 @@ fn is_at(alloc: Global, is_number: bool, tokens: &mut Tokens) -> Result<Test, Li
     }
 }
 
-// The value of `in`.
-fn in_at(is_number: bool, tokens: &mut Tokens) -> Result<Test, LineRefused>
-    ensures { Reads (in_at is_number tokens.old) result tokens.new }
+// The value of `in`; `due` begins with the test word, which does not fit a string.
+fn in_at(is_number: bool, due: &Tokens, tokens: &mut Tokens) -> Result<Test, LineRefused>
+    ensures { Reads (in_at is_number due.now tokens.old) result tokens.new }
 {
     if is_number {
         range_at(tokens)
     } else {
-        Err(LineRefused::Fault(WrongKind))
+        Err(due.fail(WrongKind))
     }
 }
 
 // The value of `has`.
-fn has_at(is_number: bool, tokens: &mut Tokens) -> Result<Test, LineRefused>
-    ensures { Reads (has_at is_number tokens.old) result tokens.new }
+fn has_at(is_number: bool, due: &Tokens, tokens: &mut Tokens) -> Result<Test, LineRefused>
+    ensures { Reads (has_at is_number due.now tokens.old) result tokens.new }
 {
     if is_number {
         Ok(Test::Mask(number_at(tokens)?))
     } else {
-        Err(LineRefused::Fault(WrongKind))
+        Err(due.fail(WrongKind))
     }
 }
 
 // The value of `like`.
-fn like_at(alloc: Global, is_number: bool, tokens: &mut Tokens) -> Result<Test, LineRefused>
-    ensures { Reads (like_at is_number tokens.old) result tokens.new }
+fn like_at(
+    alloc: Global,
+    is_number: bool,
+    due: &Tokens,
+    tokens: &mut Tokens,
+) -> Result<Test, LineRefused>
+    ensures { Reads (like_at is_number due.now tokens.old) result tokens.new }
 {
     if is_number {
-        Err(LineRefused::Fault(WrongKind))
+        Err(due.fail(WrongKind))
     } else {
         pattern_at(alloc, tokens)
     }
@@ -186,12 +227,13 @@ fn like_at(alloc: Global, is_number: bool, tokens: &mut Tokens) -> Result<Test, 
 fn test_at(alloc: Global, is_number: bool, tokens: &mut Tokens) -> Result<Test, LineRefused>
     ensures { Reads (test_at is_number tokens.old) result tokens.new }
 {
-    match word_or(UnknownWord, tokens)? {
+    let due = tokens.copy();
+    match word_or(UnknownWord(WordFault::Quoted), tokens)? {
         b"is" => is_at(alloc, is_number, tokens),
-        b"in" => in_at(is_number, tokens),
-        b"has" => has_at(is_number, tokens),
-        b"like" => like_at(alloc, is_number, tokens),
-        _ => Err(LineRefused::Fault(UnknownWord)),
+        b"in" => in_at(is_number, &due, tokens),
+        b"has" => has_at(is_number, &due, tokens),
+        b"like" => like_at(alloc, is_number, &due, tokens),
+        _ => Err(due.fail(UnknownWord(WordFault::Unknown))),
     }
 }
 
@@ -199,8 +241,9 @@ fn test_at(alloc: Global, is_number: bool, tokens: &mut Tokens) -> Result<Test, 
 fn parameter_at(tag: CallTag, tokens: &mut Tokens) -> Result<u32, LineRefused>
     ensures { Reads (parameter_at tag tokens.old) result tokens.new }
 {
+    let due = tokens.copy();
     let word = word_or(UnknownParam, tokens)?;
-    parameter_of(tag, word).ok_or(LineRefused::Fault(UnknownParam))
+    or_fails(&due, UnknownParam, parameter_of(tag, word))
 }
 
 // Whether the parameter of a call is a number.
@@ -252,7 +295,7 @@ fn conditions_at(alloc: Global, tag: CallTag, tokens: &mut Tokens) -> Result<Con
             return Ok(conds);
         }
     }
-    Err(LineRefused::Fault(excess(tokens)))
+    Err(tokens.fail(excess(PolicyLimit::Conditions, tokens)))
 }
 
 /// COND and COND .., up to the line's end.

@@ -5,12 +5,13 @@ ghost use Rattle.sb_rule.specs.Limits.{most_policies};
 ghost use Rattle.sb_rule.specs.WellMade.{is_named};
 ghost use Rattle.sb_ruletext.specs.Drafts.{is_headed};
 ghost use Rattle.sb_ruletext.specs.Lines.{with_policy, with_last_rules};
-ghost use Rattle.sb_text.specs.Steps.{Becomes};
+ghost use Rattle.sb_text.specs.Steps.{Becomes, at_token};
 
-use crate::faults::{LineRefused, PolicyFaultKind};
+use crate::faults::{LineRefused, PolicyFaultKind, PolicyLimit};
 use sb_call::ShortName;
 use sb_items::NoMemory;
 use sb_rule::{MOST_POLICIES, MOST_RULES, Policy, PolicyList, Rule, Rules};
+use sb_text::Tokens;
 use std::alloc::Global;
 use std::marker::Model;
 use std::mem;
@@ -76,13 +77,18 @@ impl Draft {
         }
     }
 
-    /// Adds a policy without rules. After an error the draft is as it was.
-    pub(crate) fn add_policy(&mut self, alloc: Global, name: ShortName) -> Result<(), LineRefused>
-        ensures read { Becomes (with_policy self.old name) result self.new }
+    /// Adds a policy without rules, by this line. After an error the draft is as it was.
+    pub(crate) fn add_policy(
+        &mut self,
+        alloc: Global,
+        line: &Tokens,
+        name: ShortName,
+    ) -> Result<(), LineRefused>
+        ensures read { Becomes (at_token line.now (with_policy self.old name)) result self.new }
         ensures kept { OnErr result (self.new ≡ self.old) }
     {
         if !self.has_room() {
-            return Err(LineRefused::Fault(PolicyFaultKind::TooMany));
+            return Err(line.fail(PolicyFaultKind::TooMany(PolicyLimit::Policies)));
         }
         reserve_one(&mut self.before)?;
         if let Some(last) = mem::replace(&mut self.last_name, Some(name)) {
@@ -95,17 +101,17 @@ impl Draft {
         Ok(())
     }
 
-    /// Adds rules to the last policy. After an error the draft is as it was.
-    #[tactic(auto, using(crate::proofs::Added::added_fits, crate::proofs::Added::added_too_many, crate::proofs::Added::added_nowhere))]
-    pub(crate) fn add_rules(&mut self, rules: Rules) -> Result<(), LineRefused>
-        ensures read { Becomes (with_last_rules self.old rules) result self.new }
+    /// Adds rules to the last policy, by this line. After an error the draft is as it was.
+    #[tactic(auto, using(crate::proofs::Added::placed_fits, crate::proofs::Added::placed_too_many, crate::proofs::Added::placed_nowhere))]
+    pub(crate) fn add_rules(&mut self, line: &Tokens, rules: Rules) -> Result<(), LineRefused>
+        ensures read { Becomes (at_token line.now (with_last_rules self.old rules)) result self.new }
         ensures kept { OnErr result (self.new ≡ self.old) }
     {
         if self.last_name.is_none() {
-            return Err(LineRefused::Fault(PolicyFaultKind::NoHeading));
+            return Err(line.fail(PolicyFaultKind::NoHeading));
         }
         if self.last_rules.len() + rules.len() > MOST_RULES {
-            return Err(LineRefused::Fault(PolicyFaultKind::TooMany));
+            return Err(line.fail(PolicyFaultKind::TooMany(PolicyLimit::Rules)));
         }
         let mut rules = rules.into_items();
         match self.last_rules.append(&mut rules) {

@@ -3,8 +3,21 @@ ghost use Rattle.std.specs.Prelude.{◌≡◌};
 ghost use Rattle.sb_ruletext.specs.Kinds.{kind_number};
 
 use sb_pattern::PatternFault;
-use sb_text::{LineFault, Refused};
+use sb_text::{LineFault, Refused, TokenFault, WordFault};
 use thiserror::Error;
+
+/// What a policy text may have only a limited number of.
+#[derive(Clone, Copy, Debug)]
+pub enum PolicyLimit {
+    /// Policies: at most 8 of a text.
+    Policies,
+    /// Rules: at most 256 of a policy, those of grants included.
+    Rules,
+    /// Conditions: at most 8 of a rule.
+    Conditions,
+    /// Numbers: at most 16 of a condition.
+    Numbers,
+}
 
 /// What is wrong with a line of a policy text.
 #[derive(Clone, Copy, Debug, Error)]
@@ -15,9 +28,9 @@ pub enum PolicyFaultKind {
     /// The first line that is neither blank nor a comment is neither `sandbox-policy 1` nor `sandbox-policy 2`.
     #[error("no version line")]
     BadVersion,
-    /// A word that is not known here, a token that is missing, broken or one too many.
-    #[error("unknown, missing or further word")]
-    UnknownWord,
+    /// A word that is not known here, or a token that is missing, broken or one too many.
+    #[error("unknown, missing or extra word")]
+    UnknownWord(WordFault),
     /// There is no call of this name.
     #[error("unknown call")]
     UnknownCall,
@@ -36,9 +49,9 @@ pub enum PolicyFaultKind {
     /// The pattern has this fault; a string of more than 256 units is `TooLong`.
     #[error("bad pattern: {0}")]
     BadPattern(PatternFault),
-    /// One policy, rule, condition or number too many.
+    /// One too many of these.
     #[error("too many")]
-    TooMany,
+    TooMany(PolicyLimit),
     /// An earlier policy has this name.
     #[error("a policy of this name stands before")]
     SameName,
@@ -58,14 +71,14 @@ impl PolicyFaultKind {
         match self {
             PolicyFaultKind::NotUtf8 => 1,
             PolicyFaultKind::BadVersion => 2,
-            PolicyFaultKind::UnknownWord => 3,
+            PolicyFaultKind::UnknownWord(_) => 3,
             PolicyFaultKind::UnknownCall => 4,
             PolicyFaultKind::UnknownParam => 5,
             PolicyFaultKind::WrongKind => 6,
             PolicyFaultKind::BadNumber => 7,
             PolicyFaultKind::EmptyRange => 8,
             PolicyFaultKind::BadPattern(_) => 9,
-            PolicyFaultKind::TooMany => 10,
+            PolicyFaultKind::TooMany(_) => 10,
             PolicyFaultKind::SameName => 11,
             PolicyFaultKind::NoHeading => 12,
             PolicyFaultKind::NotReadOnly => 13,
@@ -80,4 +93,4 @@ pub type PolicyFault = LineFault<PolicyFaultKind>;
 pub type TextRefused = Refused<PolicyFault>;
 
 // Why there is nothing of a line, whose number is not known here.
-pub(crate) type LineRefused = Refused<PolicyFaultKind>;
+pub(crate) type LineRefused = Refused<TokenFault<PolicyFaultKind>>;

@@ -1,4 +1,4 @@
-// Policies as the texts that people write: reading them, with the first fault and its line. A text means one list of
+// Policies as the texts that people write: reading them, with the first fault, its line and its column. A text means one list of
 // policies or it has one first fault; what is read is well made.
 #![tactic(auto)]
 
@@ -14,7 +14,7 @@ mod printing_laws;
 mod readers;
 mod words;
 
-pub use faults::{PolicyFault, PolicyFaultKind, TextRefused};
+pub use faults::{PolicyFault, PolicyFaultKind, PolicyLimit, TextRefused};
 pub use laws::{
     first_faults_stay, lines_before_are_read, read_policies_are_well_made,
     silent_texts_lack_a_version, skipped_lines_count_alone,

@@ -1,32 +1,33 @@
 // Reading the lines below the version line.
 ghost use Rattle.std.specs.Prelude.{◌≡◌, OnErr};
-ghost use Rattle.sb_ruletext.specs.Lines.{new_name, name_at, heading, call_at, check_action, when_of, rule, grant_at, granted_at, grant, check_heading, with_grant, with_rule, line_of};
 ghost use Rattle.sb_items.specs.Refusals.{Gives};
-ghost use Rattle.sb_text.specs.Steps.{Reads, Becomes};
+ghost use Rattle.sb_ruletext.specs.Drafts.{is_headed};
+ghost use Rattle.sb_ruletext.specs.Lines.{new_name, name_at, heading, call_at, end_at_when, when_of, rule, grant_at, grant, with_grant, with_rule, first_word_fault, line_of};
+ghost use Rattle.sb_ruletext.specs.declared.faults.PolicyFaultKind.TheVariants.{NoHeading};
+ghost use Rattle.sb_text.specs.Steps.{Reads, Becomes, at_token, unless_fails};
 ghost use Rattle.sb_text.specs.Tokens.{tokens_of};
 
-use crate::conditions::{conditions_of, pattern};
+use crate::conditions::{cells_at, conditions_of};
 use crate::drafts::Draft;
 use crate::faults::LineRefused;
 use crate::faults::PolicyFaultKind::{self, UnknownCall, UnknownWord};
 use crate::grants::{Grant, grant_of, one, rules_of};
-use crate::readers::{line_end, quoted_or, word_or};
+use crate::readers::{line_end, word_or};
 use crate::words::action_of;
 use sb_call::{CallTag, ShortName, tag_of_word};
-use sb_pattern::Pattern;
 use sb_rule::{Action, Conds, Rule, Rules, is_for_readers};
-use sb_text::{Line, Tokens, or_fault};
+use sb_text::{Line, Token, Tokens, WordFault, or_fails};
 use std::alloc::Global;
 
-// NAME: a short name that no policy so far has.
-fn new_name(draft: &Draft, word: &[u8]) -> Result<ShortName, LineRefused>
-    ensures { Gives (new_name draft.now word.now) result }
+// NAME: a short name that no policy so far has, or its fault at the token that was due.
+fn new_name(draft: &Draft, due: &Tokens, word: &[u8]) -> Result<ShortName, LineRefused>
+    ensures { Gives (at_token due.now (new_name draft.now word.now)) result }
 {
     let Some(name) = ShortName::new(word) else {
-        return Err(LineRefused::Fault(UnknownWord));
+        return Err(due.fail(UnknownWord(WordFault::Unknown)));
     };
     if draft.is_named(word) {
-        return Err(LineRefused::Fault(PolicyFaultKind::SameName));
+        return Err(due.fail(PolicyFaultKind::SameName));
     }
     Ok(name)
 }
@@ -35,27 +36,44 @@ fn new_name(draft: &Draft, word: &[u8]) -> Result<ShortName, LineRefused>
 fn name_at(draft: &Draft, tokens: &mut Tokens) -> Result<ShortName, LineRefused>
     ensures { Reads (name_at draft.now tokens.old) result tokens.new }
 {
-    let word = word_or(UnknownWord, tokens)?;
-    new_name(draft, word)
+    let due = tokens.copy();
+    let word = word_or(UnknownWord(WordFault::Quoted), tokens)?;
+    new_name(draft, &due, word)
 }
 
 // `policy NAME`, after its first word. After an error the policies are as they were.
 #[tactic(auto, unfolding(crate::specs::Lines::heading))]
-fn heading(alloc: Global, draft: &mut Draft, tokens: &mut Tokens) -> Result<(), LineRefused>
-    ensures read { Becomes (heading draft.old tokens.old) result draft.new }
+fn heading(
+    alloc: Global,
+    draft: &mut Draft,
+    line: &Tokens,
+    tokens: &mut Tokens,
+) -> Result<(), LineRefused>
+    ensures read { Becomes (heading draft.old line.now tokens.old) result draft.new }
     ensures kept { OnErr result (draft.new ≡ draft.old) }
 {
     let name = name_at(draft, tokens)?;
     line_end(tokens)?;
-    draft.add_policy(alloc, name)
+    draft.add_policy(alloc, line, name)
 }
 
 // The name of a call.
 fn call_at(tokens: &mut Tokens) -> Result<CallTag, LineRefused>
     ensures { Reads (call_at tokens.old) result tokens.new }
 {
+    let due = tokens.copy();
     let word = word_or(UnknownCall, tokens)?;
-    or_fault(UnknownCall, tag_of_word(word))
+    or_fails(&due, UnknownCall, tag_of_word(word))
+}
+
+// The fault of what stands here in place of `when`.
+fn end_at_when(tokens: &Tokens) -> Result<Conds, LineRefused>
+    ensures { Gives (end_at_when tokens.now) result }
+{
+    match tokens.peek() {
+        Some(Token::Bad) => Err(tokens.fail(UnknownWord(WordFault::Broken))),
+        _ => Err(tokens.fail(UnknownWord(WordFault::Unknown))),
+    }
 }
 
 // Nothing, or `when` and conditions, up to the line's end.
@@ -66,7 +84,7 @@ fn when_of(alloc: Global, tag: CallTag, tokens: &mut Tokens) -> Result<Conds, Li
         return Ok(Conds::empty(alloc));
     }
     if !tokens.pass_word(b"when") {
-        return Err(LineRefused::Fault(UnknownWord));
+        return end_at_when(tokens);
     }
     conditions_of(alloc, tag, tokens)
 }
@@ -76,9 +94,10 @@ fn when_of(alloc: Global, tag: CallTag, tokens: &mut Tokens) -> Result<Conds, Li
 fn rule(alloc: Global, line: u32, action: Action, tokens: &mut Tokens) -> Result<Rules, LineRefused>
     ensures { Gives (rule line action tokens.old) result }
 {
+    let due = tokens.copy();
     let tag = call_at(tokens)?;
     if !is_for_readers(action, tag) {
-        return Err(LineRefused::Fault(PolicyFaultKind::NotReadOnly));
+        return Err(due.fail(PolicyFaultKind::NotReadOnly));
     }
     let conds = when_of(alloc, tag, tokens)?;
     Ok(one(
@@ -96,16 +115,9 @@ fn rule(alloc: Global, line: u32, action: Action, tokens: &mut Tokens) -> Result
 fn grant_at(tokens: &mut Tokens) -> Result<Grant, LineRefused>
     ensures { Reads (grant_at tokens.old) result tokens.new }
 {
-    let word = word_or(UnknownWord, tokens)?;
-    or_fault(UnknownWord, grant_of(word))
-}
-
-// The pattern of a grant.
-fn granted_at(alloc: Global, tokens: &mut Tokens) -> Result<Pattern, LineRefused>
-    ensures { Reads (granted_at tokens.old) result tokens.new }
-{
-    let quoted = quoted_or(UnknownWord, tokens)?;
-    pattern(alloc, quoted)
+    let due = tokens.copy();
+    let word = word_or(UnknownWord(WordFault::Quoted), tokens)?;
+    or_fails(&due, UnknownWord(WordFault::Unknown), grant_of(word))
 }
 
 // `grant GRANT "PATTERN"`, after its first word.
@@ -114,19 +126,19 @@ fn grant(alloc: Global, line: u32, tokens: &mut Tokens) -> Result<Rules, LineRef
     ensures { Gives (grant line tokens.old) result }
 {
     let grant = grant_at(tokens)?;
-    let pattern = granted_at(alloc, tokens)?;
+    let pattern = cells_at(alloc, UnknownWord(WordFault::Unquoted), tokens)?;
     line_end(tokens)?;
     Ok(rules_of(alloc, line, grant, &pattern)?)
 }
 
 // A heading is to stand before the line.
-fn check_heading(draft: &Draft) -> Result<(), LineRefused>
-    ensures { Gives (check_heading draft.now) result }
+fn check_heading(draft: &Draft, line: &Tokens) -> Result<(), LineRefused>
+    ensures { Gives (unless_fails line.now NoHeading (is_headed draft.now)) result }
 {
     if draft.is_headed() {
         Ok(())
     } else {
-        Err(LineRefused::Fault(PolicyFaultKind::NoHeading))
+        Err(line.fail(PolicyFaultKind::NoHeading))
     }
 }
 
@@ -134,31 +146,44 @@ fn check_heading(draft: &Draft) -> Result<(), LineRefused>
 fn add_grant(
     alloc: Global,
     draft: &mut Draft,
-    line: u32,
+    number: u32,
+    line: &Tokens,
     tokens: &mut Tokens,
 ) -> Result<(), LineRefused>
-    ensures read { Becomes (with_grant draft.old line tokens.old) result draft.new }
+    ensures read { Becomes (with_grant draft.old number line.now tokens.old) result draft.new }
     ensures kept { OnErr result (draft.new ≡ draft.old) }
 {
-    check_heading(draft)?;
-    let rules = grant(alloc, line, tokens)?;
-    draft.add_rules(rules)
+    check_heading(draft, line)?;
+    let rules = grant(alloc, number, tokens)?;
+    draft.add_rules(line, rules)
 }
 
 // Adds a rule to the last policy. After an error the policies are as they were.
 fn add_rule(
     alloc: Global,
     draft: &mut Draft,
-    line: u32,
+    number: u32,
     action: Action,
+    line: &Tokens,
     tokens: &mut Tokens,
 ) -> Result<(), LineRefused>
-    ensures read { Becomes (with_rule draft.old line action tokens.old) result draft.new }
+    ensures read { Becomes (with_rule draft.old number action line.now tokens.old) result draft.new }
     ensures kept { OnErr result (draft.new ≡ draft.old) }
 {
-    check_heading(draft)?;
-    let rules = rule(alloc, line, action, tokens)?;
-    draft.add_rules(rules)
+    check_heading(draft, line)?;
+    let rules = rule(alloc, number, action, tokens)?;
+    draft.add_rules(line, rules)
+}
+
+// Why a first word is not known: `readonly` is, in a text of version 2.
+fn first_word_fault(word: &[u8]) -> PolicyFaultKind
+    ensures { result ≡ first_word_fault word.now }
+{
+    if word == b"readonly".as_slice() {
+        UnknownWord(WordFault::Misplaced)
+    } else {
+        UnknownWord(WordFault::Unknown)
+    }
 }
 
 /// What a line adds to the policies so far. After an error they are as they were.
@@ -172,13 +197,14 @@ pub(crate) fn line_of(
     ensures read { Becomes (line_of version draft.old line.now.number (tokens_of line.now.text.now)) result draft.new }
     ensures kept { OnErr result (draft.new ≡ draft.old) }
 {
-    let mut tokens = line.tokens();
-    match word_or(UnknownWord, &mut tokens)? {
-        b"policy" => heading(alloc, draft, &mut tokens),
-        b"grant" => add_grant(alloc, draft, line.number, &mut tokens),
+    let first = line.tokens();
+    let mut tokens = first.copy();
+    match word_or(UnknownWord(WordFault::Quoted), &mut tokens)? {
+        b"policy" => heading(alloc, draft, &first, &mut tokens),
+        b"grant" => add_grant(alloc, draft, line.number, &first, &mut tokens),
         word => match action_of(version, word) {
-            Some(action) => add_rule(alloc, draft, line.number, action, &mut tokens),
-            None => Err(LineRefused::Fault(UnknownWord)),
+            Some(action) => add_rule(alloc, draft, line.number, action, &first, &mut tokens),
+            None => Err(first.fail(first_word_fault(word))),
         },
     }
 }

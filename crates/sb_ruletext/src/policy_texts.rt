@@ -1,15 +1,16 @@
 // Reading policy texts.
-ghost use Rattle.std.specs.Prelude.{◌≡◌, ◌<◌, ◌^◌, [], length};
+ghost use Rattle.std.specs.Prelude.{◌≡◌, ◌+◌, ◌<◌, ◌^◌, [], length};
 ghost use Rattle.sb_ruletext.specs.PolicyTexts.{grammar, reading};
 ghost use Rattle.sb_ruletext.specs.declared.faults.PolicyFaultKind.TheVariants.{BadVersion};
 ghost use Rattle.sb_items.specs.Refusals.{GivesAs};
+ghost use Rattle.sb_text.specs.Spots.{by_tokens};
 
 use crate::drafts::Draft;
 use crate::faults::{LineRefused, PolicyFaultKind, TextRefused};
 use crate::laws::read_policies_are_well_made;
 use crate::lines::line_of;
 use sb_rule::{Policies, WellMadePolicies};
-use sb_text::{Line, Lines, TextGrammar, read_text};
+use sb_text::{Layout, Line, Lines, TextGrammar, read_text, version_at};
 use std::alloc::Global;
 
 // Policy texts.
@@ -25,8 +26,19 @@ impl<'b> TextGrammar<Lines<'b>> for PolicyGrammar {
 
     ghost grammar = { λ texts. grammar };
 
-    fn version(&self, line: &Line<'b>) -> Option<u32> {
-        line.version(b"sandbox-policy", 2)
+    fn layout(&self) -> Layout
+        ensures { result ≡ by_tokens }
+    {
+        Layout::Text
+    }
+
+    fn version(&self, line: &Line<'b>) -> Result<u32, LineRefused> {
+        version_at(
+            PolicyFaultKind::BadVersion,
+            b"sandbox-policy",
+            2,
+            &line.tokens(),
+        )
     }
 
     fn no_version(&self) -> PolicyFaultKind
@@ -46,20 +58,20 @@ impl<'b> TextGrammar<Lines<'b>> for PolicyGrammar {
     }
 }
 
-/// The policies of a text, which are well made, or its first fault. The text has fewer than 2^32 bytes.
+/// The policies of a text, which are well made, or its first fault. The text has fewer than 2^32 - 1 bytes.
 ///
 /// The grammar of policy texts is that of this project; the grants and the mask of access bits that they refuse to readers
 /// follow Chromium's low-level policy engine for Windows.
 ///
 /// # Errors
-/// `Fault` exactly if the text has a fault: the first one, by lines from the top and within a line from the left, but
-/// that a text that is not UTF-8 has this fault before all others. `NoMemory` if there was none for the policies.
+/// `Fault` exactly if the text has a fault: the first one, by lines from the top and within a line from the left, with its line and its
+/// column; a text that is not UTF-8 has this fault before all others. `NoMemory` if there was none for the policies.
 pub fn read_policies(alloc: Global, text: &[u8]) -> Result<WellMadePolicies, TextRefused>
-    requires { length text.now < 2 ^ 32 }
+    requires { length text.now + 1 < 2 ^ 32 }
     ensures { GivesAs (λ policies. policies.list) (reading text.now) result }
 {
     read_policies_are_well_made();
     let draft = read_text(&PolicyGrammar { alloc }, PolicyFaultKind::NotUtf8, text)?;
     let list = draft.into_policies()?;
-    Ok(WellMadePolicies::from_well_made(Policies { list }))
+    Ok(WellMadePolicies::of(Policies { list }))
 }

@@ -7,7 +7,7 @@ use Rattle.std.specs.List.{list_all}
 use Rattle.sb_call.specs.CallWords.{is_word}
 use Rattle.sb_scheduletext.proofs.Counts.{one_more}
 use Rattle.sb_scheduletext.proofs.Made.{step_made}
-use Rattle.sb_scheduletext.proofs.Passing.{made, ok_same, passed, was_there}
+use Rattle.sb_scheduletext.proofs.Passing.{at_made, made, ok_same, passed, was_there}
 use Rattle.sb_scheduletext.specs.Printing.{is_made}
 use Rattle.sb_scheduletext.specs.Actors.{actor_named, where_there, actor_of}
 use Rattle.sb_statements.specs.Actors.{is_there, is_step_there}
@@ -15,7 +15,7 @@ use Rattle.sb_scheduletext.specs.Drafts.{Drafted, step_count, nothing, has_round
 use Rattle.sb_scheduletext.specs.Laws.{ActorsAreThere, StepsAreCounted, RoundsAreCounted}
 use Rattle.sb_scheduletext.specs.PrintingLaws.{ActorsMakeSteps}
 use Rattle.sb_scheduletext.specs.Limits.{most_steps, most_rounds}
-use Rattle.sb_scheduletext.specs.Lines.{within, no_more, count_at, step, rounds, line_by, line_with, line_of}
+use Rattle.sb_scheduletext.specs.Lines.{within, no_more, count_at, step, add_steps, rounds, line_by, line_with, line_of}
 use Rattle.sb_scheduletext.specs.ScheduleTexts.{ScheduleFault, schedule_version, add_line, grammar, reading}
 use Rattle.sb_scheduletext.specs.declared.faults.ScheduleKind.{ScheduleKind}
 use Rattle.sb_scheduletext.specs.declared.faults.ScheduleKind.TheVariants.{UnknownWord, UnknownActor, BadNumber, TooMany}
@@ -24,15 +24,18 @@ use Rattle.sb_statements.specs.declared.schedules.Schedule.{Schedule}
 use Rattle.sb_statements.specs.declared.scripts.TargetScript.{TargetScript}
 use Rattle.sb_text.specs.Lines.{NumberedLine, raw_lines, lines_of}
 use Rattle.sb_text.specs.Numbers.{number_of}
-use Rattle.sb_text.specs.Readings.{on_line, read_lines, read_below, read_by}
+use Rattle.sb_text.specs.Readings.{on_line, read_lines, read_by}
 use Rattle.sb_items.specs.Refusals.{Gives}
-use Rattle.sb_text.specs.Steps.{◌>>=◌, or_fault}
+use Rattle.sb_text.specs.Spots.{by_words, fails_left}
+use Rattle.sb_text.specs.Steps.{◌>>=◌, at_left, or_fault}
+use Rattle.sb_text.specs.declared.refusals.TokenFault.{TokenFault}
+use Rattle.sb_text.specs.declared.refusals.WordFault.TheVariants.{Misplaced, Unknown}
 use Rattle.sb_items.specs.declared.refusals.Refused.{Refused}
 use Rattle.sb_text.specs.Words.{words_of}
 
-on_this : {A : Type 0} (line : ℕ) (read : Result A ScheduleKind) (x : A) → on_line line read ≡ Ok x → read ≡ Ok x
+on_this : {A : Type 0} (line : NumberedLine) (read : Result A (TokenFault ScheduleKind)) (x : A) → on_line by_words line read ≡ Ok x → read ≡ Ok x
 on_this line (Ok y) x h = ap Ok (ok_same y x h)
-on_this line (Err kind) x h = absurd cc
+on_this line (Err fault) x h = absurd cc
 
 named_there : (targets : List TargetScript) (word : List ℕ) (actor : Actor) → actor_of targets word ≡ Some actor → is_there targets actor ≡ true
 named_there targets word actor h = by_name (actor_named word) h
@@ -58,17 +61,19 @@ within_most lo hi word n h = by_number (number_of word) h
 step_there : (targets : List TargetScript) (words : List (List ℕ)) (s : Actor × ℕ) → step targets words ≡ Ok s → is_step_there targets s ≡ true
 step_there targets [] s h = absurd cc
 step_there targets (word ∷ words) s h =
-    let a = made (or_fault UnknownActor (actor_of targets word)) (λ actor. count_at words >>= λ n. Ok (actor, n)) s h in
+    let named = at_left (length (word ∷ words)) (or_fault UnknownActor (actor_of targets word)) in
+    let a = made named (λ actor. count_at words >>= λ n. Ok (actor, n)) s h in
     let n = made (count_at words) (λ n. Ok (a.0, n)) s a.2 in
     let same : a.0 ≡ s.0 = ap (λ (y : Actor × ℕ). y.0) (ok_same (a.0, n.0) s n.2) in
-    subst (λ x. is_there targets x ≡ true) same (named_there targets word a.0 (was_there (actor_of targets word) a.0 UnknownActor a.1))
+    subst (λ x. is_there targets x ≡ true) same
+    (named_there targets word a.0 (was_there (actor_of targets word) a.0 UnknownActor (at_made (length (word ∷ words)) (or_fault UnknownActor (actor_of targets word)) a.0 a.1)))
 
 rounds_most : (words : List (List ℕ)) (n : ℕ) → rounds words ≡ Ok n → n ≤ most_rounds
 rounds_most [] n h = absurd cc
 rounds_most (word ∷ words) n h =
-    let m = made (within 0 most_rounds word) (λ m. no_more words >>= λ end. Ok m) n h in
+    let m = made (at_left (length (word ∷ words)) (within 0 most_rounds word)) (λ m. no_more words >>= λ end. Ok m) n h in
     let e = made (no_more words) (λ end. Ok m.0) n m.2 in
-    subst (λ k. k ≤ most_rounds) (ok_same m.0 n e.2) (within_most 0 most_rounds word m.0 m.1)
+    subst (λ k. k ≤ most_rounds) (ok_same m.0 n e.2) (within_most 0 most_rounds word m.0 (at_made (length (word ∷ words)) (within 0 most_rounds word) m.0 m.1))
 
 -- what was read is within its bounds
 pub record IsBounded (targets : List TargetScript) (draft : Drafted) : Type 0 where
@@ -99,10 +104,12 @@ line_by_bounded : (targets : List TargetScript) (draft new : Drafted) (first : L
 unfolding line_by
 line_by_bounded targets draft new first words b h = by_words (is_word (codes "step") first) (is_word (codes "rounds") first) h
   where
-    by_words : (p q : Bool) → cond p (step targets words >>= λ s. with_step draft s) (cond q (rounds words >>= λ n. Ok (with_rounds draft n)) (Err UnknownWord)) ≡ Ok new → IsBounded targets new
+    by_words : (p q : Bool)
+        → cond p (add_steps targets draft words) (cond q (rounds words >>= λ n. Ok (with_rounds draft n)) (fails_left (length (first ∷ words)) (UnknownWord Unknown))) ≡ Ok new
+        → IsBounded targets new
     by_words true q h =
-        let s = made (step targets words) (λ s. with_step draft s) new h in
-        with_step_bounded targets draft new s.0 b (step_there targets words s.0 s.1) (step_made targets words s.0 s.1) s.2
+        let s = made (step targets words) (λ s. at_left 1 (with_step draft s)) new h in
+        with_step_bounded targets draft new s.0 b (step_there targets words s.0 s.1) (step_made targets words s.0 s.1) (at_made 1 (with_step draft s.0) new s.2)
     by_words false true h =
         let n = made (rounds words) (λ n. Ok (with_rounds draft n)) new h in
         subst (IsBounded targets) (ok_same (with_rounds draft n.0) new n.2)
@@ -114,27 +121,25 @@ line_bounded : (targets : List TargetScript) (draft new : Drafted) (words : List
 unfolding line_of
 line_bounded targets draft new words b h = by_rounds words (has_rounds draft) h
   where
-    by_rounds : (words : List (List ℕ)) (told : Bool) → cond told (Err UnknownWord) (line_with targets draft words) ≡ Ok new → IsBounded targets new
+    by_rounds : (words : List (List ℕ)) (told : Bool) → cond told (fails_left (length words) (UnknownWord Misplaced)) (line_with targets draft words) ≡ Ok new → IsBounded targets new
     by_rounds words true h = absurd cc
     by_rounds [] false h = absurd cc
     by_rounds (first ∷ words) false h = line_by_bounded targets draft new first words b h
 
-lines_bounded : (targets : List TargetScript) (draft new : Drafted) (lines : List NumberedLine) → IsBounded targets draft
-    → read_lines (add_line targets) draft lines ≡ Ok new → IsBounded targets new
+lines_bounded : (targets : List TargetScript) (version : ℕ) (draft new : Drafted) (lines : List NumberedLine) → IsBounded targets draft
+    → read_lines (grammar targets) version draft lines ≡ Ok new → IsBounded targets new
 unfolding read_lines
-lines_bounded targets draft new [] b h = subst (IsBounded targets) (ok_same draft new h) b
-lines_bounded targets draft new (line ∷ lines) b h =
+lines_bounded targets version draft new [] b h = subst (IsBounded targets) (ok_same draft new h) b
+lines_bounded targets version draft new (line ∷ lines) b h =
     let read = add_line targets draft line in
-    let m = made (on_line line.number read) (λ more. read_lines (add_line targets) more lines) new h in
-    lines_bounded targets m.0 new lines (line_bounded targets draft m.0 (words_of line.text) b (on_this line.number read m.0 m.1)) m.2
+    let m = made (on_line by_words line read) (λ more. read_lines (grammar targets) version more lines) new h in
+    lines_bounded targets version m.0 new lines (line_bounded targets draft m.0 (words_of line.text) b (on_this line read m.0 m.1)) m.2
 
 by_bounded : (targets : List TargetScript) (lines : List NumberedLine) (draft : Drafted) → read_by (grammar targets) lines ≡ Ok draft → IsBounded targets draft
 by_bounded targets [] draft h = absurd cc
-by_bounded targets (first ∷ lines) draft h = by_version (schedule_version first.text) h
-  where
-    by_version : (version : Option ℕ) → read_below (grammar targets) first.number version lines ≡ Ok draft → IsBounded targets draft
-    by_version None h = absurd cc
-    by_version (Some version) h = lines_bounded targets nothing draft lines record { there = refl; each = refl; steps = omega arith; rounds = λ n e. absurd cc } h
+by_bounded targets (first ∷ lines) draft h =
+    let m = made (on_line by_words first (schedule_version first.text)) (λ version. read_lines (grammar targets) version nothing lines) draft h in
+    lines_bounded targets m.0 nothing draft lines record { there = refl; each = refl; steps = omega arith; rounds = λ n e. absurd cc } m.2
 
 -- what is within its bounds of a schedule that is read
 record IsRead (targets : List TargetScript) (schedule : Schedule) : Type 0 where

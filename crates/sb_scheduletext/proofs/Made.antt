@@ -1,11 +1,11 @@
 -- The actors of what is read have numbers of 32 bits, and each makes at least one step.
-use Rattle.std.proofs.Common.{◌≡◌, refl, subst, ℕ, ◌^◌, ◌==◌, List, [], ◌∷◌, Bool, true, false, ◌&&◌, nat_le, nat_lt, cond, Option, None, Some, Result, Ok, Err}
+use Rattle.std.proofs.Common.{◌≡◌, refl, subst, ℕ, ◌^◌, ◌==◌, List, [], ◌∷◌, Bool, true, false, ◌&&◌, nat_le, nat_lt, cond, length, Option, None, Some, Result, Ok, Err}
 use Rattle.std.proofs.lemmas.Bool.{and_parts}
 use Rattle.sb_scheduletext.specs.Actors.{number_32, worker_at, thread_at, thread_named, actor_named, where_there, actor_of}
 use Rattle.std.specs.List.{before_first, after_first}
 use Rattle.sb_scheduletext.specs.Actors.{is_dot}
 use Rattle.sb_scheduletext.specs.Limits.{most_steps}
-use Rattle.sb_scheduletext.specs.Lines.{within, no_more, count_at, step}
+use Rattle.sb_scheduletext.specs.Lines.{within, no_more, last_number, count_at, step}
 use Rattle.sb_scheduletext.specs.Printing.{is_number_32, is_actor_of_values, is_made}
 use Rattle.sb_scheduletext.specs.declared.faults.ScheduleKind.{ScheduleKind}
 use Rattle.sb_scheduletext.specs.declared.faults.ScheduleKind.TheVariants.{UnknownActor, BadNumber}
@@ -14,10 +14,10 @@ use Rattle.sb_statements.specs.declared.schedules.Actor.{Actor}
 use Rattle.sb_statements.specs.declared.schedules.Actor.TheVariants.{Worker, Thread}
 use Rattle.sb_statements.specs.declared.scripts.TargetScript.{TargetScript}
 use Rattle.sb_text.specs.Numbers.{decimal_of, number_of}
-use Rattle.sb_text.specs.Steps.{◌>>=◌, or_fault}
+use Rattle.sb_text.specs.Steps.{◌>>=◌, at_left, or_fault}
 use Rattle.sb_scheduletext.proofs.Conjunctions.{and_true}
 use Rattle.sb_scheduletext.proofs.PrintedActors.{below_2_32}
-use Rattle.sb_scheduletext.proofs.Passing.{made, ok_same, passed, was_there}
+use Rattle.sb_scheduletext.proofs.Passing.{at_made, made, ok_same, passed, was_there}
 
 number_small : (word : List ℕ) (n : ℕ) → number_32 word ≡ Some n → is_number_32 n ≡ true
 number_small word n h = by_number (decimal_of word) h
@@ -72,17 +72,22 @@ within_least lo hi word n h = by_number (number_of word) h
         let t = passed (nat_le lo m && nat_le m hi) m n BadNumber h in
         subst (λ k. nat_le lo k ≡ true) t.1 (and_parts (nat_le lo m) (nat_le m hi) t.0).0
 
+last_least : (lo hi : ℕ) (word : List ℕ) (words : List (List ℕ)) (n : ℕ) → last_number lo hi word words ≡ Ok n → nat_le lo n ≡ true
+last_least lo hi word words n h =
+    let m = made (at_left (length (word ∷ words)) (within lo hi word)) (λ m. no_more words >>= λ end. Ok m) n h in
+    let e = made (no_more words) (λ end. Ok m.0) n m.2 in
+    subst (λ k. nat_le lo k ≡ true) (ok_same m.0 n e.2) (within_least lo hi word m.0 (at_made (length (word ∷ words)) (within lo hi word) m.0 m.1))
+
 count_least : (words : List (List ℕ)) (n : ℕ) → count_at words ≡ Ok n → nat_le 1 n ≡ true
 count_least [] n h = subst (λ k. nat_le 1 k ≡ true) (ok_same 1 n h) refl
-count_least (word ∷ words) n h =
-    let m = made (within 1 most_steps word) (λ m. no_more words >>= λ end. Ok m) n h in
-    let e = made (no_more words) (λ end. Ok m.0) n m.2 in
-    subst (λ k. nat_le 1 k ≡ true) (ok_same m.0 n e.2) (within_least 1 most_steps word m.0 m.1)
+count_least (word ∷ words) n h = last_least 1 most_steps word words n h
 
 pub step_made : (targets : List TargetScript) (words : List (List ℕ)) (s : Actor × ℕ) → step targets words ≡ Ok s → is_made s ≡ true
 step_made targets [] s h = absurd cc
 step_made targets (word ∷ words) s h =
-    let a = made (or_fault UnknownActor (actor_of targets word)) (λ actor. count_at words >>= λ n. Ok (actor, n)) s h in
+    let named = at_left (length (word ∷ words)) (or_fault UnknownActor (actor_of targets word)) in
+    let a = made named (λ actor. count_at words >>= λ n. Ok (actor, n)) s h in
     let n = made (count_at words) (λ n. Ok (a.0, n)) s a.2 in
     subst (λ x. is_made x ≡ true) (ok_same (a.0, n.0) s n.2)
-    (and_true _ _ (actor_small targets word a.0 (was_there (actor_of targets word) a.0 UnknownActor a.1)) (count_least words n.0 n.1))
+    (and_true _ _ (actor_small targets word a.0 (was_there (actor_of targets word) a.0 UnknownActor (at_made (length (word ∷ words)) (or_fault UnknownActor (actor_of targets word)) a.0 a.1)))
+    (count_least words n.0 n.1))

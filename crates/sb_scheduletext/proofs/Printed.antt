@@ -10,9 +10,9 @@ use Rattle.std.proofs.lemmas.List.Sums.{sum_by-cons}
 use Rattle.sb_scheduletext.specs.Drafts.{Drafted, step_count, with_step, finished}
 use Rattle.sb_scheduletext.specs.Limits.{most_steps, most_rounds}
 use Rattle.sb_scheduletext.specs.Lines.{no_more, count_at, step, rounds, line_by, line_of}
-use Rattle.sb_scheduletext.specs.Printing.{actor_word, version_words, step_words, rounds_words, schedule_lines, written, is_actor_of_values, is_made, in_order}
+use Rattle.sb_scheduletext.specs.Printing.{actor_word, version_words, step_words, rounds_words, schedule_lines, words_line, written, is_actor_of_values, is_made, in_order}
 use Rattle.sb_scheduletext.specs.PrintingLaws.{WrittenSchedulesAreRead, OrdersAreRead, ReadSchedulesAreReadAgain}
-use Rattle.sb_scheduletext.specs.ScheduleTexts.{ScheduleFault, is_version, add_line, grammar}
+use Rattle.sb_scheduletext.specs.ScheduleTexts.{ScheduleFault, version_line, grammar}
 use Rattle.sb_scheduletext.specs.declared.faults.ScheduleKind.{ScheduleKind}
 use Rattle.sb_scheduletext.specs.declared.faults.ScheduleKind.TheVariants.{UnknownActor, TooMany}
 use Rattle.sb_statements.specs.Actors.{is_there, is_step_there}
@@ -21,8 +21,10 @@ use Rattle.sb_statements.specs.declared.schedules.Schedule.{Schedule}
 use Rattle.sb_statements.specs.declared.scripts.TargetScript.{TargetScript}
 use Rattle.sb_text.specs.Lines.{NumberedLine, raw_lines}
 use Rattle.sb_text.specs.NumberLaws.{DecimalsAreRead}
-use Rattle.sb_text.specs.Readings.{on_line, read_lines, read_below, read_by}
-use Rattle.sb_text.specs.Steps.{◌>>=◌, or_fault}
+use Rattle.sb_text.specs.Readings.{on_line, read_lines, read_by}
+use Rattle.sb_text.specs.Spots.{by_words}
+use Rattle.sb_text.specs.Steps.{◌>>=◌, at_left, or_fault}
+use Rattle.sb_text.specs.declared.refusals.TokenFault.{TokenFault}
 use Rattle.sb_text.specs.PlainLines.{PlainLinesAreRead, PlainWordsAreRead}
 use Rattle.sb_scheduletext.proofs.Bounds.{actors_are_there, actors_make_steps, steps_are_counted, rounds_are_counted}
 use Rattle.sb_scheduletext.proofs.Conjunctions.{both, and_true}
@@ -51,7 +53,7 @@ at_most n most h = grind (arith, nat_tests)
 
 count_read : DecimalsAreRead → (n : ℕ) → nat_le 1 n ≡ true → n ≤ 100000 → count_at (decimal n ∷ []) ≡ Ok n
 count_read law n one most =
-    ap (λ (read : Result ℕ ScheduleKind). read >>= λ n. no_more [] >>= λ end. Ok n)
+    ap (λ (read : Result ℕ ScheduleKind). at_left 1 read >>= λ n. no_more [] >>= λ end. Ok n)
     (within_back law 1 most_steps n (omega (arith, most)) (and_true (nat_le 1 n) (nat_le n most_steps) one (at_most n most_steps most)))
 
 least : (n : ℕ) → nat_le 0 n ≡ true
@@ -59,7 +61,7 @@ least n = grind (arith, nat_tests)
 
 rounds_read : DecimalsAreRead → (n : ℕ) → n ≤ 20000000 → rounds (decimal n ∷ []) ≡ Ok n
 rounds_read law n most =
-    ap (λ (read : Result ℕ ScheduleKind). read >>= λ n. no_more [] >>= λ end. Ok n)
+    ap (λ (read : Result ℕ ScheduleKind). at_left 1 read >>= λ n. no_more [] >>= λ end. Ok n)
     (within_back law 0 most_rounds n (omega (arith, most)) (and_true (nat_le 0 n) (nat_le n most_rounds) (least n) (at_most n most_rounds most)))
 
 -- an actor and its count
@@ -67,8 +69,8 @@ rounds_read law n most =
 step_read : DecimalsAreRead → (targets : List TargetScript) (actor : Actor) (n : ℕ) → is_there targets actor ≡ true → is_actor_of_values actor ≡ true
     → nat_le 1 n ≡ true → n ≤ 100000 → step targets (actor_word actor ∷ decimal n ∷ []) ≡ Ok (actor, n)
 step_read law targets actor n there small one most =
-    ap (λ (read : Option Actor). or_fault UnknownActor read >>= λ actor. count_at (decimal n ∷ []) >>= λ n. Ok (actor, n)) (actor_read law targets actor there small)
-    ∙ ap (λ (read : Result ℕ ScheduleKind). read >>= λ n. Ok (actor, n)) (count_read law n one most)
+    ap (λ (read : Option Actor). at_left 2 (or_fault UnknownActor read) >>= λ actor. count_at (decimal n ∷ []) >>= λ n. Ok (actor, n)) (actor_read law targets actor there small)
+    ∙ ap (λ (read : Result ℕ (TokenFault ScheduleKind)). read >>= λ n. Ok (actor, n)) (count_read law n one most)
 
 room : (done : List (Actor × ℕ)) (s : Actor × ℕ) → nat_le (step_count done + s.1) most_steps ≡ true → with_step (drafted done) s ≡ Ok (drafted (done ++ s ∷ []))
 room done s h = ap {B = Result Drafted ScheduleKind} (λ t. cond t (Ok (drafted (done ++ s ∷ []))) (Err TooMany)) h
@@ -79,13 +81,14 @@ step_line : DecimalsAreRead → (targets : List TargetScript) (done : List (Acto
     → s.1 ≤ 100000 → nat_le (step_count done + s.1) most_steps ≡ true → line_of targets (drafted done) (step_words s) ≡ Ok (drafted (done ++ s ∷ []))
 unfolding line_of line_by
 step_line law targets done s there made most few =
-    ap (λ (read : Result (Actor × ℕ) ScheduleKind). read >>= λ s. with_step (drafted done) s) (step_read law targets s.0 s.1 there (both _ _ made).0 (both _ _ made).1 most)
-    ∙ room done s few
+    ap (λ (read : Result (Actor × ℕ) (TokenFault ScheduleKind)). read >>= λ s. at_left 1 (with_step (drafted done) s))
+    (step_read law targets s.0 s.1 there (both _ _ made).0 (both _ _ made).1 most)
+    ∙ ap (at_left 1) (room done s few)
 
 rounds_line : DecimalsAreRead → (targets : List TargetScript) (steps : List (Actor × ℕ)) (n : ℕ) → n ≤ 20000000
     → line_of targets (drafted steps) (rounds_words n) ≡ Ok (told steps n)
 unfolding line_of line_by
-rounds_line law targets steps n most = ap (λ (read : Result ℕ ScheduleKind). read >>= λ n. Ok (told steps n)) (rounds_read law n most)
+rounds_line law targets steps n most = ap (λ (read : Result ℕ (TokenFault ScheduleKind)). read >>= λ n. Ok (told steps n)) (rounds_read law n most)
 
 step_plain : DecimalsAreRead → (s : Actor × ℕ) → is_made s ≡ true → s.1 ≤ 100000 → is_plain_line (step_words s) ≡ true
 step_plain law s made most = and_true _ _ (actor_plain law s.0 (both _ _ made).0) (and_true _ _ (decimal_plain law s.1 (omega (arith, most))) refl)
@@ -95,20 +98,20 @@ rounds_plain law n most = and_true _ _ (decimal_plain law n (omega (arith, most)
 
 -- a line is read, and then those after it
 line_read : Laws → (targets : List TargetScript) (draft more : Drafted) (n : ℕ) (words : List (List ℕ)) (lines : List (List (List ℕ))) → is_plain_line words ≡ true
-    → line_of targets draft words ≡ Ok more → read_lines (add_line targets) draft (numbered n (words ∷ lines)) ≡ read_lines (add_line targets) more (numbered (n + 1) lines)
+    → line_of targets draft words ≡ Ok more → read_lines (grammar targets) 1 draft (numbered n (words ∷ lines)) ≡ read_lines (grammar targets) 1 more (numbered (n + 1) lines)
 unfolding read_lines
 line_read laws targets draft more n words lines p e =
-    ap (λ (words : List (List ℕ)). on_line n (line_of targets draft words) >>= λ more. read_lines (add_line targets) more (numbered (n + 1) lines)) (laws.words words p)
-    ∙ ap (λ (r : Result Drafted ScheduleKind). on_line n r >>= λ more. read_lines (add_line targets) more (numbered (n + 1) lines)) e
+    ap (λ (found : List (List ℕ)). on_line by_words (record { number = n; text = words_line words }) (line_of targets draft found) >>= λ more. read_lines (grammar targets) 1 more (numbered (n + 1) lines)) (laws.words words p)
+    ∙ ap (λ (r : Result Drafted (TokenFault ScheduleKind)). on_line by_words (record { number = n; text = words_line words }) r >>= λ more. read_lines (grammar targets) 1 more (numbered (n + 1) lines)) e
 
 -- the steps of a schedule, after those that were read
 steps_read : Laws → (targets : List TargetScript) (done : List (Actor × ℕ)) (n : ℕ) (steps : List (Actor × ℕ)) (lines : List (List (List ℕ)))
     → list_all (is_step_there targets) steps ≡ true → list_all is_made steps ≡ true → step_count done + step_count steps ≤ 100000
-    → read_lines (add_line targets) (drafted done) (numbered n (map step_words steps ++ lines))
-    ≡ read_lines (add_line targets) (drafted (done ++ steps)) (numbered (n + length steps) lines)
+    → read_lines (grammar targets) 1 (drafted done) (numbered n (map step_words steps ++ lines))
+    ≡ read_lines (grammar targets) 1 (drafted (done ++ steps)) (numbered (n + length steps) lines)
 steps_read laws targets done n [] lines there made few =
-    ap (λ steps. read_lines (add_line targets) (drafted steps) (numbered n lines)) (sym (append-nil done))
-    ∙ ap (λ m. read_lines (add_line targets) (drafted (done ++ [])) (numbered m lines)) {x = n} {y = n + 0} (omega arith)
+    ap (λ steps. read_lines (grammar targets) 1 (drafted steps) (numbered n lines)) (sym (append-nil done))
+    ∙ ap (λ m. read_lines (grammar targets) 1 (drafted (done ++ [])) (numbered m lines)) {x = n} {y = n + 0} (omega arith)
 steps_read laws targets done n (s ∷ steps) lines there made few =
     let sum = sum_by-cons (λ (s : Actor × ℕ). s.1) s steps in
     let more = one_more done s in
@@ -119,8 +122,8 @@ steps_read laws targets done n (s ∷ steps) lines there made few =
     (step_plain laws.numbers s (both _ _ made).0 most)
     (step_line laws.numbers targets done s (both _ _ there).0 (both _ _ made).0 most (at_most (step_count done + s.1) most_steps within))
     ∙ steps_read laws targets (done ++ s ∷ []) (n + 1) steps lines (both _ _ there).1 (both _ _ made).1 after
-    ∙ ap (λ all. read_lines (add_line targets) (drafted all) (numbered (n + 1 + length steps) lines)) (append_assoc done (s ∷ []) steps)
-    ∙ ap (λ m. read_lines (add_line targets) (drafted (done ++ s ∷ steps)) (numbered m lines)) {x = n + 1 + length steps} {y = n + suc (length steps)} (omega arith)
+    ∙ ap (λ all. read_lines (grammar targets) 1 (drafted all) (numbered (n + 1 + length steps) lines)) (append_assoc done (s ∷ []) steps)
+    ∙ ap (λ m. read_lines (grammar targets) 1 (drafted (done ++ s ∷ steps)) (numbered m lines)) {x = n + 1 + length steps} {y = n + suc (length steps)} (omega arith)
 
 steps_plain : DecimalsAreRead → (steps : List (Actor × ℕ)) → list_all is_made steps ≡ true → step_count steps ≤ 100000 → list_all is_plain_line (map step_words steps) ≡ true
 steps_plain law [] made few = refl
@@ -131,7 +134,7 @@ steps_plain law (s ∷ steps) made few =
 -- all lines below the first
 body_read : Laws → (targets : List TargetScript) (steps : List (Actor × ℕ)) (n : ℕ) → list_all (is_step_there targets) steps ≡ true → list_all is_made steps ≡ true
     → step_count steps ≤ 100000 → n ≤ 20000000
-    → read_lines (add_line targets) (drafted []) (numbered 2 (map step_words steps ++ rounds_words n ∷ [])) ≡ Ok (told steps n)
+    → read_lines (grammar targets) 1 (drafted []) (numbered 2 (map step_words steps ++ rounds_words n ∷ [])) ≡ Ok (told steps n)
 unfolding read_lines
 body_read laws targets steps n there made few most =
     steps_read laws targets [] 2 steps (rounds_words n ∷ []) there made (omega (arith, few))
@@ -149,7 +152,8 @@ written_read laws targets schedule there made few most =
     let below = numbered 2 (map step_words schedule.steps ++ rounds_words schedule.rounds ∷ []) in
     let count = length (raw_lines (written schedule)) in
     ap (λ (lines : List NumberedLine). read_by (grammar targets) lines >>= λ draft. finished count draft) (lines_back laws.lines (schedule_lines schedule) plain)
-    ∙ ap (λ (words : List (List ℕ)). read_below (grammar targets) 1 (if is_version words then Some 1 else None) below >>= λ draft. finished count draft)
+    ∙ ap (λ (found : List (List ℕ)). (on_line by_words (record { number = 1; text = words_line version_words }) (version_line found)
+    >>= λ version. read_lines (grammar targets) version (drafted []) below) >>= λ draft. finished count draft)
     (laws.words version_words refl)
     ∙ ap (λ (read : Result Drafted ScheduleFault). read >>= λ draft. finished count draft) (body_read laws targets schedule.steps schedule.rounds there made few most)
 

@@ -49,7 +49,7 @@ read_moves f m n (Ok draft) told = by_rounds draft.steps draft.rounds told
     by_rounds : (steps : List (Actor × ℕ)) (rounds : Option ℕ)
         → ((fault : ScheduleFault) → finished n (record { steps = steps; rounds = rounds }) ≡ Err fault → is_known_last fault.kind ≡ false)
         → finished m (record { steps = steps; rounds = rounds }) ≡ renumbered f (λ schedule. schedule) (finished n (record { steps = steps; rounds = rounds }))
-    by_rounds steps None told = absurd (false≢true (sym (told (record { line = n; kind = NoRounds }) refl)))
+    by_rounds steps None told = absurd (false≢true (sym (told (record { line = n; column = 0; kind = NoRounds }) refl)))
     by_rounds steps (Some rounds) told = refl
 read_moves f m n (Err fault) told = refl
 

@@ -6,6 +6,7 @@ use Rattle.sb_scheduletext.specs.declared.faults.ScheduleKind.{ScheduleKind}
 use Rattle.sb_scheduletext.specs.declared.faults.ScheduleKind.TheVariants.{TooMany, NoRounds}
 use Rattle.sb_statements.specs.declared.schedules.Actor.{Actor}
 use Rattle.sb_statements.specs.declared.schedules.Schedule.{Schedule}
+use Rattle.sb_text.specs.Readings.{without_column}
 use Rattle.sb_text.specs.declared.refusals.LineFault.{LineFault}
 
 -- the steps so far, and the rounds if a line told them
@@ -38,6 +39,6 @@ with_rounds draft rounds = record draft { rounds = Some rounds }
 -- the schedule that was read of a text of this many lines; if no line told the rounds, they are missing on the last
 abbrev pub finished : ℕ → Drafted → Result Schedule (LineFault ScheduleKind)
 finished lines draft = elim draft.rounds [
-  | None ↦ Err (record { line = lines; kind = NoRounds })
+  | None ↦ Err (without_column lines NoRounds)
   | Some rounds ↦ Ok (record { steps = draft.steps; rounds = rounds })
 ]

@@ -5,7 +5,7 @@ use Rattle.sb_scheduletext.specs.declared.faults.ScheduleKind.TheVariants.{Unkno
 
 -- the number of a kind of fault
 abbrev pub kind_number : ScheduleKind → ℕ
-kind_number UnknownWord = 1
+kind_number (UnknownWord why) = 1
 kind_number UnknownActor = 2
 kind_number BadNumber = 3
 kind_number TooMany = 4

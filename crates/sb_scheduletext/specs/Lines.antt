@@ -1,5 +1,5 @@
 -- The lines of a schedule text below its first, as lists of words.
-use Rattle.std.specs.Prelude.{⊤, ℕ, ◌&&◌, nat_le, List, [], ◌∷◌, None, Some, Result, Ok, Err, if◌then◌else◌, codes}
+use Rattle.std.specs.Prelude.{⊤, ℕ, ◌&&◌, nat_le, List, [], ◌∷◌, length, None, Some, Result, Ok, Err, if◌then◌else◌, codes}
 use Rattle.sb_call.specs.CallWords.{is_word}
 use Rattle.sb_scheduletext.specs.Actors.{actor_of}
 use Rattle.sb_scheduletext.specs.Drafts.{Drafted, has_rounds, with_step, with_rounds}
@@ -9,44 +9,61 @@ use Rattle.sb_scheduletext.specs.declared.faults.ScheduleKind.TheVariants.{Unkno
 use Rattle.sb_statements.specs.declared.schedules.Actor.{Actor}
 use Rattle.sb_statements.specs.declared.scripts.TargetScript.{TargetScript}
 use Rattle.sb_text.specs.Numbers.{number_of}
-use Rattle.sb_text.specs.Steps.{◌>>=◌, or_fault}
+use Rattle.sb_text.specs.Spots.{fails_left}
+use Rattle.sb_text.specs.Steps.{◌>>=◌, at_left, or_fault}
+use Rattle.sb_text.specs.declared.refusals.TokenFault.{TokenFault}
+use Rattle.sb_text.specs.declared.refusals.WordFault.TheVariants.{Unknown, Missing, Extra, Misplaced}
 
 -- N from lo to hi
 abbrev pub within : ℕ → ℕ → List ℕ → Result ℕ ScheduleKind
 within lo hi word = elim (number_of word) [ None ↦ Err BadNumber | Some n ↦ if nat_le lo n && nat_le n hi then Ok n else Err BadNumber ]
 
+-- a word is missing at the line's end
+abbrev pub missing : {A : Type 0} → Result A (TokenFault ScheduleKind)
+missing = fails_left 0 (UnknownWord Missing)
+
 -- the line ends here
-abbrev pub no_more : List (List ℕ) → Result ⊤ ScheduleKind
+abbrev pub no_more : List (List ℕ) → Result ⊤ (TokenFault ScheduleKind)
 no_more [] = Ok tt
-no_more (word ∷ words) = Err UnknownWord
+no_more (word ∷ words) = fails_left (length (word ∷ words)) (UnknownWord Extra)
+
+-- N from lo to hi, the last word of its line
+abbrev pub last_number : ℕ → ℕ → List ℕ → List (List ℕ) → Result ℕ (TokenFault ScheduleKind)
+last_number lo hi word words = at_left (length (word ∷ words)) (within lo hi word) >>= λ n. no_more words >>= λ end. Ok n
 
 -- how many steps, after the actor: one if the line does not say
-abbrev pub count_at : List (List ℕ) → Result ℕ ScheduleKind
+abbrev pub count_at : List (List ℕ) → Result ℕ (TokenFault ScheduleKind)
 count_at [] = Ok 1
-count_at (word ∷ words) = within 1 most_steps word >>= λ n. no_more words >>= λ end. Ok n
+count_at (word ∷ words) = last_number 1 most_steps word words
 
 -- `step ACTOR` or `step ACTOR N`, after its first word
-abbrev pub step : List TargetScript → List (List ℕ) → Result (Actor × ℕ) ScheduleKind
-step targets [] = Err UnknownWord
-step targets (word ∷ words) = or_fault UnknownActor (actor_of targets word) >>= λ actor. count_at words >>= λ n. Ok (actor, n)
+abbrev pub step : List TargetScript → List (List ℕ) → Result (Actor × ℕ) (TokenFault ScheduleKind)
+step targets [] = missing
+step targets (word ∷ words) =
+    at_left (length (word ∷ words)) (or_fault UnknownActor (actor_of targets word)) >>= λ actor. count_at words >>= λ n. Ok (actor, n)
+
+-- the draft with such steps; that they are too many is told at the last word of the line, N or the actor
+abbrev pub add_steps : List TargetScript → Drafted → List (List ℕ) → Result Drafted (TokenFault ScheduleKind)
+add_steps targets draft words = step targets words >>= λ s. at_left 1 (with_step draft s)
 
 -- `rounds N`, after its first word
-abbrev pub rounds : List (List ℕ) → Result ℕ ScheduleKind
-rounds [] = Err UnknownWord
-rounds (word ∷ words) = within 0 most_rounds word >>= λ n. no_more words >>= λ end. Ok n
+abbrev pub rounds : List (List ℕ) → Result ℕ (TokenFault ScheduleKind)
+rounds [] = missing
+rounds (word ∷ words) = last_number 0 most_rounds word words
 
 -- what a line that begins with this word adds
-unfoldable pub line_by : List TargetScript → Drafted → List ℕ → List (List ℕ) → Result Drafted ScheduleKind
+unfoldable pub line_by : List TargetScript → Drafted → List ℕ → List (List ℕ) → Result Drafted (TokenFault ScheduleKind)
 line_by targets draft first words =
-    if is_word (codes "step") first then (step targets words >>= λ s. with_step draft s)
+    if is_word (codes "step") first then add_steps targets draft words
     else (if is_word (codes "rounds") first then (rounds words >>= λ n. Ok (with_rounds draft n))
-    else Err UnknownWord)
+    else fails_left (length (first ∷ words)) (UnknownWord Unknown))
 
--- a line of words; nothing stands after `rounds`
-abbrev pub line_with : List TargetScript → Drafted → List (List ℕ) → Result Drafted ScheduleKind
-line_with targets draft [] = Err UnknownWord
+-- a line of words
+abbrev pub line_with : List TargetScript → Drafted → List (List ℕ) → Result Drafted (TokenFault ScheduleKind)
+line_with targets draft [] = missing
 line_with targets draft (first ∷ words) = line_by targets draft first words
 
--- what a line adds to what was read so far
-unfoldable pub line_of : List TargetScript → Drafted → List (List ℕ) → Result Drafted ScheduleKind
-line_of targets draft words = if has_rounds draft then Err UnknownWord else line_with targets draft words
+-- what a line adds to what was read so far; nothing follows `rounds`
+unfoldable pub line_of : List TargetScript → Drafted → List (List ℕ) → Result Drafted (TokenFault ScheduleKind)
+line_of targets draft words =
+    if has_rounds draft then fails_left (length words) (UnknownWord Misplaced) else line_with targets draft words

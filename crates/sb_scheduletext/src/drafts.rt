@@ -6,10 +6,10 @@ ghost use Rattle.sb_items.specs.Refusals.{Gives};
 ghost use Rattle.sb_text.specs.Steps.{Becomes};
 
 use crate::faults::ScheduleKind::{NoRounds, TooMany};
-use crate::faults::{LineRefused, ScheduleRefused};
+use crate::faults::{KindRefused, ScheduleRefused};
 use crate::lines::MOST_STEPS;
 use sb_statements::{Actor, Schedule, Steps};
-use sb_text::on_line;
+use sb_text::LineFault;
 use std::alloc::Global;
 use std::marker::Model;
 
@@ -54,13 +54,13 @@ impl Draft {
 
     /// An actor makes steps. After an error the draft is unspecified.
     #[tactic(auto, using(crate::proofs::Counts::one_more))]
-    pub(crate) fn add_step(&mut self, actor: Actor, count: u32) -> Result<(), LineRefused>
+    pub(crate) fn add_step(&mut self, actor: Actor, count: u32) -> Result<(), KindRefused>
         requires { count ≤ most_steps }
         ensures { Becomes (with_step self.old (actor, count)) result self.new }
     {
         let sum = self.count + count;
         if sum > MOST_STEPS {
-            return Err(LineRefused::Fault(TooMany));
+            return Err(KindRefused::Fault(TooMany));
         }
         self.steps.push((actor, count))?;
         self.count = sum;
@@ -83,7 +83,11 @@ impl Draft {
                 steps: self.steps,
                 rounds,
             }),
-            None => Err(on_line(LineRefused::Fault(NoRounds), lines)),
+            None => Err(ScheduleRefused::Fault(LineFault {
+                line: lines,
+                column: 0,
+                kind: NoRounds,
+            })),
         }
     }
 }

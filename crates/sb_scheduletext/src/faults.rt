@@ -2,16 +2,16 @@
 ghost use Rattle.std.specs.Prelude.{◌≡◌};
 ghost use Rattle.sb_scheduletext.specs.Kinds.{kind_number};
 
-use sb_text::{LineFault, Refused};
+use sb_text::{LineFault, Refused, TokenFault, WordFault};
 use thiserror::Error;
 
 /// What is wrong with a line of a schedule text.
 #[derive(Clone, Copy, Debug, Error)]
 pub enum ScheduleKind {
-    /// The first line with words is not `sandbox-schedule 1`, a line is neither `step` nor `rounds` or stands after `rounds`, or
+    /// The first line with words is not `sandbox-schedule 1`, a line is neither `step` nor `rounds` or follows `rounds`, or
     /// a word is missing or one too many.
     #[error("unknown, missing or extra word")]
-    UnknownWord,
+    UnknownWord(WordFault),
     /// The word names no actor, or one that the script does not have.
     #[error("unknown actor")]
     UnknownActor,
@@ -32,7 +32,7 @@ impl ScheduleKind {
         ensures { result ≡ kind_number self }
     {
         match self {
-            ScheduleKind::UnknownWord => 1,
+            ScheduleKind::UnknownWord(_) => 1,
             ScheduleKind::UnknownActor => 2,
             ScheduleKind::BadNumber => 3,
             ScheduleKind::TooMany => 4,
@@ -48,4 +48,7 @@ pub type ScheduleFault = LineFault<ScheduleKind>;
 pub type ScheduleRefused = Refused<ScheduleFault>;
 
 // Why there is nothing of a line, whose number is not known here.
-pub(crate) type LineRefused = Refused<ScheduleKind>;
+pub(crate) type LineRefused = Refused<TokenFault<ScheduleKind>>;
+
+// Why there is nothing of a word, whose place is not known here.
+pub(crate) type KindRefused = Refused<ScheduleKind>;

@@ -1,17 +1,17 @@
 // Reading the lines below the first.
-ghost use Rattle.std.specs.Prelude.{◌≡◌, ◌≤◌, IfOk};
+ghost use Rattle.std.specs.Prelude.{◌≡◌, ◌∷◌, ◌≤◌, IfOk};
 ghost use Rattle.sb_scheduletext.specs.Drafts.{has_rounds};
 ghost use Rattle.sb_scheduletext.specs.Limits.{most_steps, most_rounds};
-ghost use Rattle.sb_scheduletext.specs.Lines.{within, no_more, count_at, step, rounds, line_by, line_of};
+ghost use Rattle.sb_scheduletext.specs.Lines.{within, no_more, last_number, count_at, step, add_steps, rounds, line_with, line_of};
 ghost use Rattle.sb_items.specs.Refusals.{Gives};
 ghost use Rattle.sb_text.specs.Steps.{Becomes};
 
 use crate::actors::actor_of;
 use crate::drafts::Draft;
-use crate::faults::LineRefused;
 use crate::faults::ScheduleKind::{BadNumber, UnknownActor, UnknownWord};
+use crate::faults::{KindRefused, LineRefused};
 use sb_statements::{Actor, Script};
-use sb_text::{Words, number_of, or_fault};
+use sb_text::{TokenFault, WordFault, Words, number_of};
 
 /// The most steps of a schedule.
 pub const MOST_STEPS: u32 = 100_000;
@@ -20,97 +20,129 @@ pub const MOST_STEPS: u32 = 100_000;
 pub const MOST_ROUNDS: u32 = 20_000_000;
 
 // N from `lo` to `hi`.
-fn within(lo: u32, hi: u32, word: &[u8]) -> Result<u32, LineRefused>
+fn within(lo: u32, hi: u32, word: &[u8]) -> Result<u32, KindRefused>
     ensures number { Gives (within lo hi word.now) result }
     ensures most { IfOk result (λ n. n ≤ hi) }
 {
     match number_of(word) {
         Some(number) if u64::from(lo) <= number && number <= u64::from(hi) => Ok(number as u32),
-        _ => Err(LineRefused::Fault(BadNumber)),
+        _ => Err(KindRefused::Fault(BadNumber)),
     }
 }
 
 // The line ends here.
-fn no_more(words: &mut Words) -> Result<(), LineRefused>
-    ensures { Gives (no_more words.old) result }
+fn no_more(words: &Words) -> Result<(), LineRefused>
+    ensures { Gives (no_more words.now) result }
 {
-    match words.next_word() {
+    match words.copy().next_word() {
         None => Ok(()),
-        Some(_) => Err(LineRefused::Fault(UnknownWord)),
+        Some(_) => Err(words.fail(UnknownWord(WordFault::Extra))),
+    }
+}
+
+// N from `lo` to `hi`, the last word of its line, where these words are due.
+fn last_number(
+    lo: u32,
+    hi: u32,
+    due: &Words,
+    word: &[u8],
+    words: &Words,
+) -> Result<u32, LineRefused>
+    requires { due.now ≡ word.now ∷ words.now }
+    ensures number { Gives (last_number lo hi word.now words.now) result }
+    ensures most { IfOk result (λ n. n ≤ hi) }
+{
+    match within(lo, hi, word) {
+        Ok(count) => {
+            no_more(words)?;
+            Ok(count)
+        }
+        Err(refused) => Err(due.refuse(refused)),
     }
 }
 
 // How many steps, after the actor: one if the line does not say.
-fn count_at(words: &mut Words) -> Result<u32, LineRefused>
-    ensures count { Gives (count_at words.old) result }
+fn count_at(due: &Words) -> Result<u32, LineRefused>
+    ensures count { Gives (count_at due.now) result }
     ensures most { IfOk result (λ n. n ≤ most_steps) }
 {
-    let Some(word) = words.next_word() else {
-        return Ok(1);
-    };
-    let count = within(1, MOST_STEPS, word)?;
-    no_more(words)?;
-    Ok(count)
+    let mut words = due.copy();
+    match words.next_word() {
+        Some(word) => last_number(1, MOST_STEPS, due, word, &words),
+        None => Ok(1),
+    }
 }
 
 // `step ACTOR` or `step ACTOR N`, after its first word.
-fn step(script: &Script, words: &mut Words) -> Result<(Actor, u32), LineRefused>
-    ensures step { Gives (step script.now.targets words.old) result }
+fn step(script: &Script, due: &Words) -> Result<(Actor, u32), LineRefused>
+    ensures step { Gives (step script.now.targets due.now) result }
     ensures most { IfOk result (λ s. s.1 ≤ most_steps) }
 {
+    let mut words = due.copy();
     let Some(word) = words.next_word() else {
-        return Err(LineRefused::Fault(UnknownWord));
+        return Err(due.fail(UnknownWord(WordFault::Missing)));
     };
-    let actor = or_fault(UnknownActor, actor_of(script, word))?;
-    let count = count_at(words)?;
+    let Some(actor) = actor_of(script, word) else {
+        return Err(due.fail(UnknownActor));
+    };
+    let count = count_at(&words)?;
     Ok((actor, count))
 }
 
-// `rounds N`, after its first word.
-fn rounds(words: &mut Words) -> Result<u32, LineRefused>
-    ensures { Gives (rounds words.old) result }
+// The draft with such steps. That they are too many is told at the last word of the line.
+fn add_steps(script: &Script, draft: &mut Draft, words: &Words) -> Result<(), LineRefused>
+    ensures { Becomes (add_steps script.now.targets draft.old words.now) result draft.new }
 {
-    let Some(word) = words.next_word() else {
-        return Err(LineRefused::Fault(UnknownWord));
-    };
-    let count = within(0, MOST_ROUNDS, word)?;
-    no_more(words)?;
-    Ok(count)
+    let (actor, count) = step(script, words)?;
+    match draft.add_step(actor, count) {
+        Ok(()) => Ok(()),
+        Err(KindRefused::Fault(kind)) => Err(LineRefused::Fault(TokenFault {
+            left: 1,
+            unit: None,
+            kind,
+        })),
+        Err(KindRefused::NoMemory) => Err(LineRefused::NoMemory),
+    }
 }
 
-// What a line that begins with this word adds.
-#[tactic(auto, unfolding(crate::specs::Lines::line_by))]
-fn line_by(
-    script: &Script,
-    draft: &mut Draft,
-    first: &[u8],
-    words: &mut Words,
-) -> Result<(), LineRefused>
-    ensures { Becomes (line_by script.now.targets draft.old first.now words.old) result draft.new }
+// `rounds N`, after its first word.
+fn rounds(due: &Words) -> Result<u32, LineRefused>
+    ensures { Gives (rounds due.now) result }
 {
+    let mut words = due.copy();
+    match words.next_word() {
+        Some(word) => last_number(0, MOST_ROUNDS, due, word, &words),
+        None => Err(due.fail(UnknownWord(WordFault::Missing))),
+    }
+}
+
+// What a line of words adds.
+#[tactic(auto, unfolding(crate::specs::Lines::line_by))]
+fn line_with(script: &Script, draft: &mut Draft, line: &Words) -> Result<(), LineRefused>
+    ensures { Becomes (line_with script.now.targets draft.old line.now) result draft.new }
+{
+    let mut words = line.copy();
+    let Some(first) = words.next_word() else {
+        return Err(line.fail(UnknownWord(WordFault::Missing)));
+    };
     if first == b"step".as_slice() {
-        let (actor, count) = step(script, words)?;
-        return draft.add_step(actor, count);
+        return add_steps(script, draft, &words);
     }
     if first == b"rounds".as_slice() {
-        let count = rounds(words)?;
+        let count = rounds(&words)?;
         draft.set_rounds(count);
         return Ok(());
     }
-    Err(LineRefused::Fault(UnknownWord))
+    Err(line.fail(UnknownWord(WordFault::Unknown)))
 }
 
 /// What a line adds to what was read so far. After an error the draft is unspecified.
 #[tactic(auto, unfolding(crate::specs::Lines::line_of))]
-pub(crate) fn line_of(script: &Script, draft: &mut Draft, words: Words) -> Result<(), LineRefused>
-    ensures { Becomes (line_of script.now.targets draft.old words.entry) result draft.new }
+pub(crate) fn line_of(script: &Script, draft: &mut Draft, words: &Words) -> Result<(), LineRefused>
+    ensures { Becomes (line_of script.now.targets draft.old words.now) result draft.new }
 {
     if draft.has_rounds() {
-        return Err(LineRefused::Fault(UnknownWord));
+        return Err(words.fail(UnknownWord(WordFault::Misplaced)));
     }
-    let mut words = words;
-    match words.next_word() {
-        Some(first) => line_by(script, draft, first, &mut words),
-        None => Err(LineRefused::Fault(UnknownWord)),
-    }
+    line_with(script, draft, words)
 }

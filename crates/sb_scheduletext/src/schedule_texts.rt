@@ -1,35 +1,52 @@
 // Reading schedule texts.
-ghost use Rattle.std.specs.Prelude.{◌≡◌, ◌<◌, ◌≤◌, ◌^◌, length, true, IfOk};
+ghost use Rattle.std.specs.Prelude.{◌≡◌, ◌+◌, ◌<◌, ◌≤◌, ◌^◌, length, true, IfOk};
 ghost use Rattle.std.specs.List.{list_all};
 ghost use Rattle.sb_statements.specs.Actors.{is_step_there};
 ghost use Rattle.sb_scheduletext.specs.Drafts.{nothing, step_count};
 ghost use Rattle.sb_scheduletext.specs.Limits.{most_steps, most_rounds};
-ghost use Rattle.sb_scheduletext.specs.ScheduleTexts.{is_version, grammar, reading};
+ghost use Rattle.sb_scheduletext.specs.ScheduleTexts.{no_version, version_one, version_line, grammar, reading};
 ghost use Rattle.sb_scheduletext.specs.declared.faults.ScheduleKind.TheVariants.{UnknownWord};
 ghost use Rattle.sb_items.specs.Refusals.{Gives};
-ghost use Rattle.sb_text.specs.Words.{words_of};
+ghost use Rattle.sb_text.specs.Spots.{by_words};
+ghost use Rattle.sb_text.specs.declared.refusals.WordFault.TheVariants.{NoVersion};
 
 use crate::drafts::Draft;
 use crate::faults::{LineRefused, ScheduleKind, ScheduleRefused};
 use crate::laws::read_schedules_are_bounded;
 use crate::lines::line_of;
 use sb_statements::{Schedule, Script};
-use sb_text::{ByteLine, ByteLines, TextGrammar, line_count, read_by};
+use sb_text::{ByteLine, ByteLines, Layout, TextGrammar, WordFault, Words, line_count, read_by};
 use std::alloc::Global;
 
-// Whether a line is `sandbox-schedule 1`.
-fn is_version(line: &ByteLine) -> bool
-    ensures { result ≡ is_version (words_of line.now.text.now) }
+// A first line that is not `sandbox-schedule 1`, with the first word that departs.
+fn no_version(due: &Words) -> Result<u32, LineRefused>
+    ensures { Gives (no_version due.now) result }
 {
-    let mut words = line.words();
-    let first = words.next_word();
-    let second = words.next_word();
-    let more = words.next_word();
-    match (first, second, more) {
-        (Some(name), Some(version), None) => {
-            name == b"sandbox-schedule".as_slice() && version == b"1".as_slice()
-        }
-        _ => false,
+    Err(due.fail(ScheduleKind::UnknownWord(WordFault::NoVersion)))
+}
+
+// The version is `1`, up to the end of the line.
+fn version_one(due: &Words) -> Result<u32, LineRefused>
+    ensures { Gives (version_one due.now) result }
+{
+    let mut words = due.copy();
+    match words.next_word() {
+        Some(word) if word == b"1".as_slice() => match words.copy().next_word() {
+            None => Ok(1),
+            Some(_) => no_version(&words),
+        },
+        _ => no_version(due),
+    }
+}
+
+// The version line is `sandbox-schedule 1`.
+fn version_line(due: &Words) -> Result<u32, LineRefused>
+    ensures { Gives (version_line due.now) result }
+{
+    let mut words = due.copy();
+    match words.next_word() {
+        Some(word) if word == b"sandbox-schedule".as_slice() => version_one(&words),
+        _ => no_version(due),
     }
 }
 
@@ -47,14 +64,20 @@ impl<'a, 'b> TextGrammar<ByteLines<'b>> for ScheduleGrammar<'a> {
 
     ghost grammar = { λ texts. grammar texts.script.now.targets };
 
-    fn version(&self, line: &ByteLine<'b>) -> Option<u32> {
-        if is_version(line) { Some(1) } else { None }
+    fn layout(&self) -> Layout
+        ensures { result ≡ by_words }
+    {
+        Layout::Bytes
+    }
+
+    fn version(&self, line: &ByteLine<'b>) -> Result<u32, LineRefused> {
+        version_line(&line.words())
     }
 
     fn no_version(&self) -> ScheduleKind
-        ensures { result ≡ UnknownWord }
+        ensures { result ≡ UnknownWord NoVersion }
     {
-        ScheduleKind::UnknownWord
+        ScheduleKind::UnknownWord(WordFault::NoVersion)
     }
 
     fn start(&self) -> Draft
@@ -69,17 +92,17 @@ impl<'a, 'b> TextGrammar<ByteLines<'b>> for ScheduleGrammar<'a> {
         draft: &mut Draft,
         line: &ByteLine<'b>,
     ) -> Result<(), LineRefused> {
-        line_of(self.script, draft, line.words())
+        line_of(self.script, draft, &line.words())
     }
 }
 
-/// The schedule of a text, for the actors of a script, or its first fault. The text has fewer than 2^32 bytes, which need not be
+/// The schedule of a text, for the actors of a script, or its first fault. The text has fewer than 2^32 - 1 bytes, which need not be
 /// UTF-8. Each actor of the schedule is there, its steps are at most 100,000 in all, and its rounds at most 20,000,000.
 ///
 /// The grammar of schedule texts is that of this project.
 ///
 /// # Errors
-/// `Fault` exactly if the text has a fault: the first one, by lines from the top and within a line from the left, except that
+/// `Fault` exactly if the text has a fault: the first one, by lines from the top and within a line from the left, with its line and column, except that
 /// a line with too many steps has its other faults first. If no line tells the rounds, `NoRounds` comes on the last line.
 /// `NoMemory` if there was none for the schedule.
 pub fn read_schedule(
@@ -87,7 +110,7 @@ pub fn read_schedule(
     text: &[u8],
     script: &Script,
 ) -> Result<Schedule, ScheduleRefused>
-    requires short { length text.now < 2 ^ 32 }
+    requires short { length text.now + 1 < 2 ^ 32 }
     ensures exactly { Gives (reading script.now.targets text.now) result }
     ensures there { IfOk result (λ s. list_all (is_step_there script.now.targets) s.steps ≡ true) }
     ensures steps { IfOk result (λ s. step_count s.steps ≤ most_steps) }

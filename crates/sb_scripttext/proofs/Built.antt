@@ -15,6 +15,8 @@ use Rattle.sb_scripttext.specs.declared.drafts.Heading.{Heading}
 use Rattle.sb_scripttext.specs.declared.faults.ScriptKind.{ScriptKind}
 use Rattle.sb_scripttext.specs.declared.faults.ScriptKind.TheVariants.{UnknownWord, TooMany}
 use Rattle.sb_text.specs.Steps.{◌>>=◌}
+use Rattle.sb_scripttext.specs.declared.faults.ScriptLimit.TheVariants.{Threads, Statements}
+use Rattle.sb_text.specs.declared.refusals.WordFault.TheVariants.{Misplaced}
 
 -- whether there is a target, and a last thread of it
 pub opening_built : (before : List TargetScript) (last : Option Heading) (threads : List (List Statement)) (in_thread : Bool) (statements : List Statement)
@@ -60,16 +62,16 @@ with_last_thread threads statements = statements >>= λ statements. Ok (threads 
 
 thread_behind : (before : List TargetScript) (heading : Heading) (threads : List (List Statement))
     → change_last one_thread_more (before ++ target_script heading threads ∷ [])
-    ≡ with_last before (cond (nat_lt (length threads) 4) (Ok (target_script heading (threads ++ [] ∷ []))) (Err TooMany))
+    ≡ with_last before (cond (nat_lt (length threads) 4) (Ok (target_script heading (threads ++ [] ∷ []))) (Err (TooMany Threads)))
 thread_behind before heading threads = changed_behind one_thread_more before (target_script heading threads)
 
 -- whether there is room for one more
 abbrev behind_threads : List TargetScript → Heading → List (List Statement) → Bool → Result (List TargetScript) ScriptKind
-behind_threads before heading threads room = with_last before (cond room (Ok (target_script heading (threads ++ [] ∷ []))) (Err TooMany))
+behind_threads before heading threads room = with_last before (cond room (Ok (target_script heading (threads ++ [] ∷ []))) (Err (TooMany Threads)))
 
 -- there is no target
 pub thread_nowhere : (before : List TargetScript) (last : Option Heading) (threads : List (List Statement)) (in_thread : Bool) (statements : List Statement)
-    → is_none last ≡ true → change_last one_thread_more (built before last threads in_thread statements) ≡ Err UnknownWord
+    → is_none last ≡ true → change_last one_thread_more (built before last threads in_thread statements) ≡ Err (UnknownWord Misplaced)
 thread_nowhere before None threads in_thread statements h = refl
 thread_nowhere before (Some heading) threads in_thread statements h = absurd cc
 
@@ -103,7 +105,7 @@ thread_more before (Some heading) threads true statements h t l =
 -- there are as many as there may be
 pub thread_too_many : (before : List TargetScript) (last : Option Heading) (threads : List (List Statement)) (in_thread : Bool) (statements : List Statement)
     → is_none last ≡ false → in_thread ≡ true → 3 ≤ length threads
-    → change_last one_thread_more (built before last threads in_thread statements) ≡ Err TooMany
+    → change_last one_thread_more (built before last threads in_thread statements) ≡ Err (TooMany Threads)
 thread_too_many before None threads in_thread statements h t l = absurd cc
 thread_too_many before (Some heading) threads false statements h t l = absurd cc
 thread_too_many before (Some heading) threads true statements h t l =
@@ -115,7 +117,7 @@ thread_too_many before (Some heading) threads true statements h t l =
 -- whether there is room for one more
 abbrev behind_statements : List TargetScript → Heading → List (List Statement) → List Statement → Statement → Bool → Result (List TargetScript) ScriptKind
 behind_statements before heading threads statements statement room =
-    with_last before (with_threads heading (with_last_thread threads (cond room (Ok (statements ++ statement ∷ [])) (Err TooMany))))
+    with_last before (with_threads heading (with_last_thread threads (cond room (Ok (statements ++ statement ∷ [])) (Err (TooMany Statements)))))
 
 statement_behind : (before : List TargetScript) (heading : Heading) (threads : List (List Statement)) (statements : List Statement) (statement : Statement)
     → change_last (in_last_thread statement) (before ++ target_script heading (threads ++ statements ∷ []) ∷ [])
@@ -127,7 +129,7 @@ statement_behind before heading threads statements statement =
 -- there is no thread
 pub statement_nowhere : (before : List TargetScript) (last : Option Heading) (threads : List (List Statement)) (in_thread : Bool) (statements : List Statement)
     (statement : Statement) → IsBuilt before last threads in_thread statements → in_thread ≡ false
-    → change_last (in_last_thread statement) (built before last threads in_thread statements) ≡ Err UnknownWord
+    → change_last (in_last_thread statement) (built before last threads in_thread statements) ≡ Err (UnknownWord Misplaced)
 statement_nowhere before None threads in_thread statements statement b f = refl
 statement_nowhere before (Some heading) threads true statements statement b f = absurd cc
 statement_nowhere before (Some heading) threads false statements statement b f =
@@ -146,7 +148,7 @@ statement_more before (Some heading) threads true statements statement b t l =
 -- there are as many as there may be
 pub statement_too_many : (before : List TargetScript) (last : Option Heading) (threads : List (List Statement)) (in_thread : Bool) (statements : List Statement)
     (statement : Statement) → IsBuilt before last threads in_thread statements → in_thread ≡ true → 4096 ≤ length statements
-    → change_last (in_last_thread statement) (built before last threads in_thread statements) ≡ Err TooMany
+    → change_last (in_last_thread statement) (built before last threads in_thread statements) ≡ Err (TooMany Statements)
 statement_too_many before None threads in_thread statements statement b t l = absurd (false≢true (sym b.1 ∙ t))
 statement_too_many before (Some heading) threads false statements statement b t l = absurd cc
 statement_too_many before (Some heading) threads true statements statement b t l =

@@ -13,21 +13,22 @@ use Rattle.sb_scripttext.specs.Steps.{number_at, number_within, string_at, name_
 use Rattle.sb_text.specs.Steps.{◌>>=◌}
 use Rattle.sb_scripttext.specs.declared.faults.ScriptKind.TheVariants.{WrongArgs}
 use Rattle.sb_text.specs.Tokens.{Lexeme}
+use Rattle.sb_text.specs.declared.refusals.WordFault.TheVariants.{Missing, Quoted, Unquoted}
 
 arg_fits : (kind : ParamKind) (tokens : List Lexeme) (x : Arg × List Lexeme) → arg_at kind tokens ≡ Ok x → fits_kind kind x.0 ≡ true
 unfolding arg_at
 arg_fits Text tokens x h =
-    let t = made (string_at WrongArgs tokens) (λ text. Ok (arg.Str text.0, text.1)) x h in
+    let t = made (string_at (WrongArgs Unquoted) (WrongArgs Missing) tokens) (λ text. Ok (arg.Str text.0, text.1)) x h in
     subst (λ (y : Arg × List Lexeme). fits_kind Text y.0 ≡ true) (ok_same (arg.Str t.0.0, t.0.1) x t.2) refl
 arg_fits Name tokens x h =
-    let n = made (name_at WrongArgs tokens) (λ name. Ok (arg.Str name.0, name.1)) x h in
-    subst (λ (y : Arg × List Lexeme). fits_kind Name y.0 ≡ true) (ok_same (arg.Str n.0.0, n.0.1) x n.2) (named_well WrongArgs tokens n.0 n.1)
+    let n = made (name_at (WrongArgs Unquoted) (WrongArgs Missing) tokens) (λ name. Ok (arg.Str name.0, name.1)) x h in
+    subst (λ (y : Arg × List Lexeme). fits_kind Name y.0 ≡ true) (ok_same (arg.Str n.0.0, n.0.1) x n.2) (named_well (WrongArgs Unquoted) (WrongArgs Missing) tokens n.0 n.1)
 arg_fits Num tokens x h =
-    let n = made (number_within 0 most_32 WrongArgs WrongArgs tokens) (λ number. Ok (arg.Num number.0, number.1)) x h in
+    let n = made (number_within 0 most_32 (WrongArgs Quoted) (WrongArgs Missing) tokens) (λ number. Ok (arg.Num number.0, number.1)) x h in
     subst (λ (y : Arg × List Lexeme). fits_kind Num y.0 ≡ true) (ok_same (arg.Num n.0.0, n.0.1) x n.2)
-    (below_32 n.0.0 (in_range 0 most_32 WrongArgs WrongArgs tokens n.0 n.1))
+    (below_32 n.0.0 (in_range 0 most_32 (WrongArgs Quoted) (WrongArgs Missing) tokens n.0 n.1))
 arg_fits Handle tokens x h =
-    let n = made (number_at WrongArgs WrongArgs tokens) (λ handle. Ok (arg.Num handle.0, handle.1)) x h in
+    let n = made (number_at (WrongArgs Quoted) (WrongArgs Missing) tokens) (λ handle. Ok (arg.Num handle.0, handle.1)) x h in
     subst (λ (y : Arg × List Lexeme). fits_kind Handle y.0 ≡ true) (ok_same (arg.Num n.0.0, n.0.1) x n.2) refl
 
 args_fit : (kinds : List ParamKind) (tokens : List Lexeme) (x : List Arg × List Lexeme) → args_at kinds tokens ≡ Ok x → fit kinds x.0 ≡ true

@@ -12,10 +12,9 @@ use Rattle.sb_statements.specs.SoundScripts.{IsSoundScript, has_short_name, has_
 use Rattle.sb_statements.specs.Soundness.{is_sound}
 use Rattle.sb_statements.specs.declared.scripts.Script.{Script}
 use Rattle.sb_statements.specs.declared.scripts.TargetScript.{TargetScript}
-use Rattle.sb_scripttext.specs.Readiness.{ReadScriptsAreReady, ReadScriptsHaveUnits}
+use Rattle.sb_scripttext.specs.Readiness.{ReadScriptsAreReady}
 use Rattle.sb_scripttext.specs.ScriptTexts.{reading}
 use Rattle.sb_scripttext.specs.Writable.{is_writable_start, is_writable_target, is_writable_thread}
-use Rattle.sb_scripttext.specs.WritingLaws.{ReadScriptsCanBeWritten}
 
 both : (a b : Bool) → a ≡ true → b ≡ true → (a && b) ≡ true
 both a b ha hb = rw (ha, hb) refl
@@ -35,14 +34,16 @@ sound_of policies script h =
     (and_parts (is_sound script && are_well_made policies) (list_all (is_judged (length policies)) script.targets)
     (and_parts (is_sound script && are_well_made policies && list_all (is_judged (length policies)) script.targets) (is_ok (opened script.start)) h).0).0).0
 
+-- so it has short names if it can be written
+pub short_of : (script : Script) → (list_all is_writable_start script.start && list_all is_writable_target script.targets) ≡ true → has_short_names script ≡ true
+short_of script h = short_each script.targets (and_parts (list_all is_writable_start script.start) (list_all is_writable_target script.targets) h).1
+
 pub read_is_ready : ReadScriptsAreReady → (policies : List Policy) (text : List ℕ) (script : Script) → are_well_made policies ≡ true → reading policies text ≡ Ok script
     → is_ready policies script ≡ true
-read_is_ready law policies text script made e = law policies text script made e
+read_is_ready law policies text script made e = (law policies text script made e).ready
 
-pub read_is_sound : ReadScriptsAreReady → ReadScriptsHaveUnits → ReadScriptsCanBeWritten → (policies : List Policy) (text : List ℕ) (script : Script)
-    → are_well_made policies ≡ true → reading policies text ≡ Ok script → IsSoundScript script
-read_is_sound ready units written policies text script made e = record {
-  sound = sound_of policies script (ready policies text script made e);
-  units = units policies text script e;
-  short = short_each script.targets (and_parts (list_all is_writable_start script.start) (list_all is_writable_target script.targets) (written policies text script e)).1;
-}
+pub read_is_sound : ReadScriptsAreReady → (policies : List Policy) (text : List ℕ) (script : Script) → are_well_made policies ≡ true
+    → reading policies text ≡ Ok script → IsSoundScript script
+read_is_sound law policies text script made e =
+    let known = law policies text script made e in
+    record { sound = sound_of policies script known.ready; units = known.units; short = known.short }

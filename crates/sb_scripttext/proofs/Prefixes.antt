@@ -8,53 +8,54 @@ use Rattle.sb_statements.specs.declared.scripts.TargetScript.{TargetScript}
 use Rattle.sb_rule.specs.declared.policies.Policy.{Policy}
 use Rattle.sb_scripttext.specs.SoFar.{SoFar}
 use Rattle.sb_scripttext.specs.Laws.{is_looked_for_last, FirstFaultsStay}
-use Rattle.sb_scripttext.specs.ScriptTexts.{ScriptFault, grammar, first_absence, script_of, finished, reading}
+use Rattle.sb_scripttext.specs.ScriptTexts.{Absence, ScriptFault, absence_fault, no_channel, no_target, grammar, first_absence, script_of, finished, reading}
 use Rattle.sb_text.specs.Steps.{◌>>=◌}
 use Rattle.sb_scripttext.specs.declared.drafts.Named.{Named}
 use Rattle.sb_scripttext.specs.declared.faults.ScriptKind.{ScriptKind}
-use Rattle.sb_scripttext.specs.declared.faults.ScriptKind.TheVariants.{NotUtf8, NoSuchTarget, NoSuchChannel}
+use Rattle.sb_scripttext.specs.declared.faults.ScriptKind.TheVariants.{NotUtf8}
 use Rattle.sb_text.specs.LineLaws.{ended}
 use Rattle.sb_text.specs.Lines.{lines_of}
 use Rattle.sb_text.specs.ReadingLaws as laws
 use Rattle.sb_text.specs.Readings.{read_by, where_utf8}
-use Rattle.sb_text.specs.Utf8.{not_utf8_line}
+use Rattle.sb_text.specs.Utf8.{not_utf8_place}
+use Rattle.sb_text.specs.declared.refusals.TokenFault.{TokenFault}
 
 -- a text that is UTF-8 is read by its lines
-pub read_by_lines : (policies : List Policy) (text : List ℕ) → not_utf8_line text ≡ None
-    → reading policies text ≡ (read_by (grammar policies) (lines_of text) >>= λ sofar. finished sofar)
+pub read_by_lines : (policies : List Policy) (text : List ℕ) → not_utf8_place text ≡ None
+    → reading policies text ≡ (read_by (grammar policies) (lines_of text) >>= λ sofar. finished text sofar)
 read_by_lines policies text h =
-    ap (λ line. where_utf8 NotUtf8 line (read_by (grammar policies) (lines_of text)) >>= λ sofar. finished sofar) h
+    ap (λ place. where_utf8 NotUtf8 place (read_by (grammar policies) (lines_of text)) >>= λ sofar. finished text sofar) h
 
 -- a fault that is looked for last
-abbrev IsLast : Option ScriptFault → Type 0
-IsLast absent = (fault : ScriptFault) → absent ≡ Some fault → is_looked_for_last fault.kind ≡ true
+abbrev IsLast : Option Absence → Type 0
+IsLast absent = (absence : Absence) → absent ≡ Some absence → is_looked_for_last absence.1.kind ≡ true
 
 absent_last : (targets : List TargetScript) (named : List Named) → IsLast (first_absence targets named)
-absent_last targets [] = λ fault h. absurd cc
+absent_last targets [] = λ absence h. absurd cc
 absent_last targets (x ∷ xs) =
-    by_tests (absent_last targets xs) (nat_lt x.target (length targets)) (nat_lt x.channel (channels_of (slice_get targets x.target)))
+    by_tests (no_channel x (channels_of (slice_get targets x.target))) (no_target x (length targets)) refl refl (absent_last targets xs) (nat_lt x.target (length targets)) (nat_lt x.channel (channels_of (slice_get targets x.target)))
   where
-    told : (kind : ScriptKind) → is_looked_for_last kind ≡ true → (fault : ScriptFault) → ◌≡◌ {A = Option ScriptFault} (Some (record { line = x.line; kind = kind })) (Some fault) → is_looked_for_last fault.kind ≡ true
-    told kind t fault h = ap (λ (absent : Option ScriptFault). elim absent [ None ↦ true | Some fault ↦ is_looked_for_last fault.kind ]) (sym h) ∙ t
+    told : (fault : TokenFault ScriptKind) → is_looked_for_last fault.kind ≡ true → (absence : Absence) → ◌≡◌ {A = Option Absence} (Some (x.line, fault)) (Some absence)
+        → is_looked_for_last absence.1.kind ≡ true
+    told fault t absence h = ap (λ (absent : Option Absence). elim absent [ None ↦ true | Some absence ↦ is_looked_for_last absence.1.kind ]) (sym h) ∙ t
 
-    by_tests : IsLast (first_absence targets xs) → (a b : Bool) → IsLast (elim (cond a (cond b None (Some NoSuchChannel)) (Some NoSuchTarget)) [
-      | None ↦ first_absence targets xs
-      | Some kind ↦ Some (record { line = x.line; kind = kind })
-    ])
-    by_tests others true true fault h = others fault h
-    by_tests others true false fault h = told NoSuchChannel refl fault h
-    by_tests others false b fault h = told NoSuchTarget refl fault h
+    by_tests : (c t : TokenFault ScriptKind) → is_looked_for_last c.kind ≡ true → is_looked_for_last t.kind ≡ true → IsLast (first_absence targets xs) → (a b : Bool)
+        → IsLast (elim (cond a (cond b None (Some c)) (Some t)) [ None ↦ first_absence targets xs | Some fault ↦ Some (x.line, fault) ])
+    by_tests c t p q others true true absence h = others absence h
+    by_tests c t p q others true false absence h = told c p absence h
+    by_tests c t p q others false b absence h = told t q absence h
 
-finished_last : (sofar : SoFar) (fault : ScriptFault) → finished sofar ≡ Err fault → is_looked_for_last fault.kind ≡ true
-finished_last sofar fault h = by_absence (first_absence sofar.targets sofar.named) (absent_last sofar.targets sofar.named) h
+finished_last : (text : List ℕ) (sofar : SoFar) (fault : ScriptFault) → finished text sofar ≡ Err fault → is_looked_for_last fault.kind ≡ true
+finished_last text sofar fault h = by_absence (first_absence sofar.targets sofar.named) (absent_last sofar.targets sofar.named) h
   where
-    same_fault : (a b : ScriptFault) → ◌≡◌ {A = Result Script ScriptFault} (Err a) (Err b) → ◌≡◌ {A = Option ScriptFault} (Some a) (Some b)
-    same_fault a b h = ap (λ (read : Result Script ScriptFault). elim read [ Ok script ↦ None | Err fault ↦ Some fault ]) h
+    same_last : (a b : ScriptFault) → ◌≡◌ {A = Result Script ScriptFault} (Err a) (Err b) → is_looked_for_last b.kind ≡ is_looked_for_last a.kind
+    same_last a b h = ap (λ (read : Result Script ScriptFault). elim read [ Ok script ↦ true | Err fault ↦ is_looked_for_last fault.kind ]) (sym h)
 
-    by_absence : (absent : Option ScriptFault) → IsLast absent → ◌≡◌ {A = Result Script ScriptFault} (elim absent [ None ↦ Ok (script_of sofar) | Some fault ↦ Err fault ]) (Err fault)
+    by_absence : (absent : Option Absence) → IsLast absent
+        → ◌≡◌ {A = Result Script ScriptFault} (elim absent [ None ↦ Ok (script_of sofar) | Some absence ↦ Err (absence_fault text absence) ]) (Err fault)
         → is_looked_for_last fault.kind ≡ true
     by_absence None l h = absurd cc
-    by_absence (Some other) l h = l fault (same_fault other fault h)
+    by_absence (Some absence) l h = same_last (absence_fault text absence) fault h ∙ l absence refl
 
 abbrev fault_in : {A : Type 0} → Result A ScriptFault → Option ScriptFault
 fault_in (Ok x) = None
@@ -65,13 +66,13 @@ refused None other = other
 refused (Some fault) other = Err fault
 
 -- a fault is one of the lines, or one that is looked for last
-of_lines : (read : Result SoFar ScriptFault) (fault : ScriptFault) → is_looked_for_last fault.kind ≡ false → (read >>= λ sofar. finished sofar) ≡ Err fault → read ≡ Err fault
-of_lines (Ok sofar) fault k e = absurd (false≢true (sym k ∙ finished_last sofar fault e))
-of_lines (Err other) fault k e = ap (λ absent. refused absent (Err other)) (ap fault_in e)
+of_lines : (text : List ℕ) (read : Result SoFar ScriptFault) (fault : ScriptFault) → is_looked_for_last fault.kind ≡ false → (read >>= λ sofar. finished text sofar) ≡ Err fault → read ≡ Err fault
+of_lines text (Ok sofar) fault k e = absurd (false≢true (sym k ∙ finished_last text sofar fault e))
+of_lines text (Err other) fault k e = ap (λ absent. refused absent (Err other)) (ap fault_in e)
 
 pub first_faults_stay : laws.FirstFaultsStay SoFar ScriptKind → FirstFaultsStay
 first_faults_stay law policies front rest other fault u v s l k e =
     read_by_lines policies (ended front ++ other) v
-    ∙ ap (λ (read : Result SoFar ScriptFault). read >>= λ sofar. finished sofar)
+    ∙ ap (λ (read : Result SoFar ScriptFault). read >>= λ sofar. finished (ended front ++ other) sofar)
     (law (grammar policies) front rest other fault s l
-    (of_lines (read_by (grammar policies) (lines_of (ended front ++ rest))) fault k (sym (read_by_lines policies (ended front ++ rest) u) ∙ e)))
+    (of_lines (ended front ++ rest) (read_by (grammar policies) (lines_of (ended front ++ rest))) fault k (sym (read_by_lines policies (ended front ++ rest) u) ∙ e)))

@@ -24,14 +24,14 @@ use Rattle.sb_statements.specs.declared.statements.Statement.{Statement}
 use Rattle.sb_statements.specs.declared.statements.Statement.TheVariants.{Call, Store, Exchange, Load, Wait}
 use Rattle.sb_text.specs.Strings.{QuotedStringsAreText}
 use Rattle.sb_scripttext.proofs.LastChanged.{changed_all}
-use Rattle.sb_scripttext.proofs.Ready.{all_more, on_this}
-use Rattle.sb_scripttext.proofs.Sound.{both, made, ok_same, passed, branches}
+use Rattle.sb_scripttext.proofs.Ready.{all_more, on_this, start_made}
+use Rattle.sb_scripttext.proofs.Sound.{at_made, both, made, ok_same, passed, branches}
 use Rattle.sb_scripttext.specs.Arguments.{most_32, tag_at, arg_at, args_at, fitting, call}
 use Rattle.sb_scripttext.specs.SoFar.{SoFar, nothing, change_last, is_opening, is_in_thread, with_patience, with_start, with_target, one_thread_more, with_thread, one_statement_more, in_last_thread, named_by, with_statement}
-use Rattle.sb_scripttext.specs.Lines.{is_target_named, new_name, new_name_at, policy_at, heading, patience, set_patience, add_target, add_thread, start_line, statement_line, plain_line, line_of}
+use Rattle.sb_scripttext.specs.Lines.{is_target_named, new_name, new_name_at, policy_at, heading, patience, set_patience, add_target, add_thread, at_start, misplaced, not_here, start_line, statement_line, plain_line, line_of}
 use Rattle.sb_scripttext.specs.Openings.{can_place, dir, file, key, event}
 use Rattle.sb_scripttext.specs.Readiness.{ReadScriptsHaveUnits}
-use Rattle.sb_scripttext.specs.ScriptTexts.{ScriptFault, script_version, add_line, grammar, first_absence, script_of, finished, reading}
+use Rattle.sb_scripttext.specs.ScriptTexts.{Absence, ScriptFault, absence_fault, script_version, add_line, grammar, first_absence, script_of, finished, reading}
 use Rattle.sb_scripttext.specs.Statements.{value_at, target_word_at, store, exchange, load, wait}
 use Rattle.sb_scripttext.specs.Steps.{number_at, within, number_within, string_at, name, name_at}
 use Rattle.sb_scripttext.specs.Writable.{is_text, is_number, is_writable_start, is_writable_arg, is_writable_statement, is_writable_thread, is_writable_target, is_writable}
@@ -40,13 +40,17 @@ use Rattle.sb_scripttext.specs.declared.faults.ScriptKind.{ScriptKind}
 use Rattle.sb_scripttext.specs.declared.faults.ScriptKind.TheVariants.{NotUtf8, UnknownWord, UnknownCall, WrongArgs, BadNumber, BadName, SameName, TooBig, TooMany, BadStart}
 use Rattle.sb_text.specs.Lines.{NumberedLine, lines_of}
 use Rattle.sb_text.specs.Numbers.{is_decimal_digit, is_hexadecimal_digit, value_from, below_2_64, are_digits, decimal_of, hexadecimal_of, number_of}
-use Rattle.sb_text.specs.Readings.{on_line, read_lines, read_below, read_by, where_utf8, read_text}
-use Rattle.sb_text.specs.Steps.{◌>>=◌, or_fault, word_at, quoted_at, end_at}
+use Rattle.sb_text.specs.Readings.{on_line, read_lines, read_by, where_utf8, read_text}
+use Rattle.sb_text.specs.Spots.{by_tokens, fails_left}
+use Rattle.sb_text.specs.Steps.{◌>>=◌, at_left, at_token, or_fails, with_first, word_at, quoted_at, end_at}
 use Rattle.sb_text.specs.TokenLaws.{is_quoted_byte, is_quoted_text, has_quoted_text, QuotedTokensAreText}
 use Rattle.sb_text.specs.Tokens.{Lexeme, Word, Quoted, Bad, string_of, tokens_of}
-use Rattle.sb_text.specs.Utf8.{not_utf8_line}
+use Rattle.sb_text.specs.Utf8.{Place, not_utf8_place}
 use Rattle.sb_wide.specs.Names.{is_name_of}
 use Rattle.sb_wide.specs.Wide.{is_unit, is_text_unit}
+use Rattle.sb_scripttext.specs.declared.faults.ScriptLimit.TheVariants.{Openings, Targets, Threads, Statements}
+use Rattle.sb_text.specs.declared.refusals.TokenFault.{TokenFault}
+use Rattle.sb_text.specs.declared.refusals.WordFault.TheVariants.{Broken, Extra, Missing, Quoted, Repeated, Unknown, Unquoted}
 
 -- what quoted tokens hold is text
 abbrev AreText : List Lexeme → Type 0
@@ -97,12 +101,12 @@ record IsRead (x : ℕ × List Lexeme) : Type 0 where
 number_small : (quoted missing : ScriptKind) (tokens : List Lexeme) (x : ℕ × List Lexeme) → number_at quoted missing tokens ≡ Ok x → is_number x.0 ≡ true
 unfolding number_at
 number_small quoted missing tokens x h =
-    let w = made (word_at quoted UnknownWord missing tokens) (λ word. or_fault BadNumber (number_of word.0) >>= λ n. Ok (n, word.1)) x h in
-    let n = made (or_fault BadNumber (number_of w.0.0)) (λ n. Ok (n, w.0.1)) x w.2 in
+    let w = made (word_at quoted (UnknownWord Broken) missing tokens) (λ word. or_fails tokens BadNumber (number_of word.0) >>= λ n. Ok (n, word.1)) x h in
+    let n = made (or_fails tokens BadNumber (number_of w.0.0)) (λ n. Ok (n, w.0.1)) x w.2 in
     subst (λ (y : ℕ × List Lexeme). is_number y.0 ≡ true) {x = (n.0, w.0.1)} (ok_same (n.0, w.0.1) x n.2)
     (word_number w.0.0 n.0 (there (number_of w.0.0) n.0 n.1))
   where
-    there : (o : Option ℕ) (n : ℕ) → ◌≡◌ {A = Result ℕ ScriptKind} (or_fault BadNumber o) (Ok n) → o ≡ Some n
+    there : (o : Option ℕ) (n : ℕ) → ◌≡◌ {A = Result ℕ (TokenFault ScriptKind)} (or_fails tokens BadNumber o) (Ok n) → o ≡ Some n
     there (Some m) n h = ap Some (ok_same m n h)
     there None n h = absurd cc
 
@@ -110,10 +114,10 @@ number_rest : (quoted missing : ScriptKind) (tokens : List Lexeme) (x : ℕ × L
     → AreText tokens → AreText x.1
 unfolding number_at
 number_rest quoted missing tokens x h t =
-    let w = made (word_at quoted UnknownWord missing tokens) (λ word. or_fault BadNumber (number_of word.0) >>= λ n. Ok (n, word.1)) x h in
-    let n = made (or_fault BadNumber (number_of w.0.0)) (λ n. Ok (n, w.0.1)) x w.2 in
+    let w = made (word_at quoted (UnknownWord Broken) missing tokens) (λ word. or_fails tokens BadNumber (number_of word.0) >>= λ n. Ok (n, word.1)) x h in
+    let n = made (or_fails tokens BadNumber (number_of w.0.0)) (λ n. Ok (n, w.0.1)) x w.2 in
     subst (λ (y : ℕ × List Lexeme). AreText y.1) {x = (n.0, w.0.1)} (ok_same (n.0, w.0.1) x n.2)
-    (word_rest quoted UnknownWord missing tokens w.0 w.1 t)
+    (word_rest quoted (UnknownWord Broken) missing tokens w.0 w.1 t)
 
 number_fine : (quoted missing : ScriptKind) (tokens : List Lexeme) (x : ℕ × List Lexeme) → number_at quoted missing tokens ≡ Ok x
     → AreText tokens → IsRead x
@@ -123,9 +127,9 @@ within_fine : (lo hi : ℕ) (quoted missing : ScriptKind) (tokens : List Lexeme)
     → AreText tokens → IsRead x
 unfolding number_within
 within_fine lo hi quoted missing tokens x h t =
-    let n = made (number_at quoted missing tokens) (λ n. within lo hi n.0 >>= λ number. Ok (number, n.1)) x h in
-    let m = made (within lo hi n.0.0) (λ number. Ok (number, n.0.1)) x n.2 in
-    let p = passed (nat_le lo n.0.0 && nat_le n.0.0 hi) n.0.0 m.0 BadNumber m.1 in
+    let n = made (number_at quoted missing tokens) (λ n. at_token tokens (within lo hi n.0) >>= λ number. Ok (number, n.1)) x h in
+    let m = made (at_token tokens (within lo hi n.0.0)) (λ number. Ok (number, n.0.1)) x n.2 in
+    let p = passed (nat_le lo n.0.0 && nat_le n.0.0 hi) n.0.0 m.0 BadNumber (at_made (length tokens) (within lo hi n.0.0) m.0 m.1) in
     let fine = number_fine quoted missing tokens n.0 n.1 t in
     subst IsRead {x = (m.0, n.0.1)} (ok_same (m.0, n.0.1) x m.2)
     (record { number = subst (λ n. is_number n ≡ true) p.1 fine.number; rest = fine.rest })
@@ -155,19 +159,19 @@ quoted_fine law word bad missing (Word w ∷ tokens) x h t = absurd cc
 quoted_fine law word bad missing (Bad ∷ tokens) x h t = absurd cc
 quoted_fine law word bad missing [] x h t = absurd cc
 
-string_fine : QuotedAreText → (other : ScriptKind) (tokens : List Lexeme) (x : List ℕ × List Lexeme) → string_at other tokens ≡ Ok x → AreText tokens → IsString x
+string_fine : QuotedAreText → (unquoted missing : ScriptKind) (tokens : List Lexeme) (x : List ℕ × List Lexeme) → string_at unquoted missing tokens ≡ Ok x → AreText tokens → IsString x
 unfolding string_at
-string_fine law other tokens x h t =
-    let q = made (quoted_at other UnknownWord other tokens) (λ quoted. Ok (string_of quoted.0, quoted.1)) x h in
-    subst IsString {x = (string_of q.0.0, q.0.1)} (ok_same (string_of q.0.0, q.0.1) x q.2) (quoted_fine law other UnknownWord other tokens q.0 q.1 t)
+string_fine law unquoted missing tokens x h t =
+    let q = made (quoted_at unquoted (UnknownWord Broken) missing tokens) (λ quoted. Ok (string_of quoted.0, quoted.1)) x h in
+    subst IsString {x = (string_of q.0.0, q.0.1)} (ok_same (string_of q.0.0, q.0.1) x q.2) (quoted_fine law unquoted (UnknownWord Broken) missing tokens q.0 q.1 t)
 
-name_fine : QuotedAreText → (other : ScriptKind) (tokens : List Lexeme) (x : List ℕ × List Lexeme) → name_at other tokens ≡ Ok x → AreText tokens → IsString x
+name_fine : QuotedAreText → (unquoted missing : ScriptKind) (tokens : List Lexeme) (x : List ℕ × List Lexeme) → name_at unquoted missing tokens ≡ Ok x → AreText tokens → IsString x
 unfolding name_at
-name_fine law other tokens x h t =
-    let s = made (string_at other tokens) (λ units. name units.0 >>= λ named. Ok (named, units.1)) x h in
-    let n = made (name s.0.0) (λ named. Ok (named, s.0.1)) x s.2 in
-    let p = passed (is_name_of s.0.0) s.0.0 n.0 BadName n.1 in
-    let fine = string_fine law other tokens s.0 s.1 t in
+name_fine law unquoted missing tokens x h t =
+    let s = made (string_at unquoted missing tokens) (λ units. at_token tokens (name units.0) >>= λ named. Ok (named, units.1)) x h in
+    let n = made (at_token tokens (name s.0.0)) (λ named. Ok (named, s.0.1)) x s.2 in
+    let p = passed (is_name_of s.0.0) s.0.0 n.0 BadName (at_made (length tokens) (name s.0.0) n.0 n.1) in
+    let fine = string_fine law unquoted missing tokens s.0 s.1 t in
     subst IsString {x = (n.0, s.0.1)} (ok_same (n.0, s.0.1) x n.2)
     (record { text = subst (λ us. is_text us ≡ true) p.1 fine.text; rest = fine.rest })
 
@@ -179,20 +183,20 @@ record IsArgument (x : Arg × List Lexeme) : Type 0 where
 arg_fine : QuotedAreText → (kind : ParamKind) (tokens : List Lexeme) (x : Arg × List Lexeme) → arg_at kind tokens ≡ Ok x → AreText tokens → IsArgument x
 unfolding arg_at
 arg_fine law Text tokens x h t =
-    let s = made (string_at WrongArgs tokens) (λ text. Ok (arg.Str text.0, text.1)) x h in
-    let fine = string_fine law WrongArgs tokens s.0 s.1 t in
+    let s = made (string_at (WrongArgs Unquoted) (WrongArgs Missing) tokens) (λ text. Ok (arg.Str text.0, text.1)) x h in
+    let fine = string_fine law (WrongArgs Unquoted) (WrongArgs Missing) tokens s.0 s.1 t in
     subst IsArgument {x = (arg.Str s.0.0, s.0.1)} (ok_same (arg.Str s.0.0, s.0.1) x s.2) (record { writable = fine.text; rest = fine.rest })
 arg_fine law Name tokens x h t =
-    let n = made (name_at WrongArgs tokens) (λ name. Ok (arg.Str name.0, name.1)) x h in
-    let fine = name_fine law WrongArgs tokens n.0 n.1 t in
+    let n = made (name_at (WrongArgs Unquoted) (WrongArgs Missing) tokens) (λ name. Ok (arg.Str name.0, name.1)) x h in
+    let fine = name_fine law (WrongArgs Unquoted) (WrongArgs Missing) tokens n.0 n.1 t in
     subst IsArgument {x = (arg.Str n.0.0, n.0.1)} (ok_same (arg.Str n.0.0, n.0.1) x n.2) (record { writable = fine.text; rest = fine.rest })
 arg_fine law Num tokens x h t =
-    let n = made (number_within 0 most_32 WrongArgs WrongArgs tokens) (λ number. Ok (arg.Num number.0, number.1)) x h in
-    let fine = within_fine 0 most_32 WrongArgs WrongArgs tokens n.0 n.1 t in
+    let n = made (number_within 0 most_32 (WrongArgs Quoted) (WrongArgs Missing) tokens) (λ number. Ok (arg.Num number.0, number.1)) x h in
+    let fine = within_fine 0 most_32 (WrongArgs Quoted) (WrongArgs Missing) tokens n.0 n.1 t in
     subst IsArgument {x = (arg.Num n.0.0, n.0.1)} (ok_same (arg.Num n.0.0, n.0.1) x n.2) (record { writable = fine.number; rest = fine.rest })
 arg_fine law Handle tokens x h t =
-    let n = made (number_at WrongArgs WrongArgs tokens) (λ handle. Ok (arg.Num handle.0, handle.1)) x h in
-    let fine = number_fine WrongArgs WrongArgs tokens n.0 n.1 t in
+    let n = made (number_at (WrongArgs Quoted) (WrongArgs Missing) tokens) (λ handle. Ok (arg.Num handle.0, handle.1)) x h in
+    let fine = number_fine (WrongArgs Quoted) (WrongArgs Missing) tokens n.0 n.1 t in
     subst IsArgument {x = (arg.Num n.0.0, n.0.1)} (ok_same (arg.Num n.0.0, n.0.1) x n.2) (record { writable = fine.number; rest = fine.rest })
 
 args_fine : QuotedAreText → (kinds : List ParamKind) (tokens : List Lexeme) (x : List Arg × List Lexeme) → args_at kinds tokens ≡ Ok x → AreText tokens
@@ -209,7 +213,7 @@ args_fine law (kind ∷ kinds) tokens x h t =
 tag_rest : (tokens : List Lexeme) (x : CallTag × List Lexeme) → tag_at tokens ≡ Ok x → AreText tokens → AreText x.1
 unfolding tag_at
 tag_rest (Word w ∷ tokens) x h t =
-    let g = made (or_fault UnknownCall (tag_of_word w)) (λ tag. Ok (tag, tokens)) x h in
+    let g = made (or_fails (Word w ∷ tokens) UnknownCall (tag_of_word w)) (λ tag. Ok (tag, tokens)) x h in
     subst (λ (y : CallTag × List Lexeme). AreText y.1) {x = (g.0, tokens)} (ok_same (g.0, tokens) x g.2)
     (and_parts (is_quoted_text (Word w)) (list_all is_quoted_text tokens) t).1
 tag_rest (Quoted q ∷ tokens) x h t = absurd cc
@@ -219,43 +223,43 @@ tag_rest [] x h t = absurd cc
 -- opening lines
 
 -- each opening line that is read can be written
-abbrev Starts : Result StartLine ScriptKind → Type 0
+abbrev Starts : Result StartLine (TokenFault ScriptKind) → Type 0
 Starts read = (line : StartLine) → read ≡ Ok line → is_writable_start line ≡ true
 
 dir_fine : QuotedAreText → (tokens : List Lexeme) → AreText tokens → Starts (dir tokens)
 unfolding dir
 dir_fine law tokens t line h =
-    let x = made (name_at UnknownWord tokens) (λ name. end_at UnknownWord UnknownWord name.1 >>= λ end. Ok (Dir name.0)) line h in
-    let e = made (end_at UnknownWord UnknownWord x.0.1) (λ end. Ok (Dir x.0.0)) line x.2 in
-    subst (λ line. is_writable_start line ≡ true) {x = Dir x.0.0} (ok_same (Dir x.0.0) line e.2) (name_fine law UnknownWord tokens x.0 x.1 t).text
+    let x = made (name_at (UnknownWord Unquoted) (UnknownWord Missing) tokens) (λ name. end_at (UnknownWord Extra) (UnknownWord Broken) name.1 >>= λ end. Ok (Dir name.0)) line h in
+    let e = made (end_at (UnknownWord Extra) (UnknownWord Broken) x.0.1) (λ end. Ok (Dir x.0.0)) line x.2 in
+    subst (λ line. is_writable_start line ≡ true) {x = Dir x.0.0} (ok_same (Dir x.0.0) line e.2) (name_fine law (UnknownWord Unquoted) (UnknownWord Missing) tokens x.0 x.1 t).text
 
 key_fine : QuotedAreText → (tokens : List Lexeme) → AreText tokens → Starts (key tokens)
 unfolding key
 key_fine law tokens t line h =
-    let x = made (name_at UnknownWord tokens) (λ name. end_at UnknownWord UnknownWord name.1 >>= λ end. Ok (Key name.0)) line h in
-    let e = made (end_at UnknownWord UnknownWord x.0.1) (λ end. Ok (Key x.0.0)) line x.2 in
-    subst (λ line. is_writable_start line ≡ true) {x = Key x.0.0} (ok_same (Key x.0.0) line e.2) (name_fine law UnknownWord tokens x.0 x.1 t).text
+    let x = made (name_at (UnknownWord Unquoted) (UnknownWord Missing) tokens) (λ name. end_at (UnknownWord Extra) (UnknownWord Broken) name.1 >>= λ end. Ok (Key name.0)) line h in
+    let e = made (end_at (UnknownWord Extra) (UnknownWord Broken) x.0.1) (λ end. Ok (Key x.0.0)) line x.2 in
+    subst (λ line. is_writable_start line ≡ true) {x = Key x.0.0} (ok_same (Key x.0.0) line e.2) (name_fine law (UnknownWord Unquoted) (UnknownWord Missing) tokens x.0 x.1 t).text
 
 file_fine : QuotedAreText → (tokens : List Lexeme) → AreText tokens → Starts (file tokens)
 unfolding file
 file_fine law tokens t line h =
-    let x = made (name_at UnknownWord tokens)
-    (λ name. number_within 0 most_32 BadNumber UnknownWord name.1 >>= λ attributes. end_at UnknownWord UnknownWord attributes.1 >>= λ end. Ok (File name.0 attributes.0)) line h in
-    let a = made (number_within 0 most_32 BadNumber UnknownWord x.0.1) (λ attributes. end_at UnknownWord UnknownWord attributes.1 >>= λ end. Ok (File x.0.0 attributes.0)) line x.2 in
-    let e = made (end_at UnknownWord UnknownWord a.0.1) (λ end. Ok (File x.0.0 a.0.0)) line a.2 in
-    subst (λ line. is_writable_start line ≡ true) {x = File x.0.0 a.0.0} (ok_same (File x.0.0 a.0.0) line e.2) (name_fine law UnknownWord tokens x.0 x.1 t).text
+    let x = made (name_at (UnknownWord Unquoted) (UnknownWord Missing) tokens)
+    (λ name. number_within 0 most_32 BadNumber (UnknownWord Missing) name.1 >>= λ attributes. end_at (UnknownWord Extra) (UnknownWord Broken) attributes.1 >>= λ end. Ok (File name.0 attributes.0)) line h in
+    let a = made (number_within 0 most_32 BadNumber (UnknownWord Missing) x.0.1) (λ attributes. end_at (UnknownWord Extra) (UnknownWord Broken) attributes.1 >>= λ end. Ok (File x.0.0 attributes.0)) line x.2 in
+    let e = made (end_at (UnknownWord Extra) (UnknownWord Broken) a.0.1) (λ end. Ok (File x.0.0 a.0.0)) line a.2 in
+    subst (λ line. is_writable_start line ≡ true) {x = File x.0.0 a.0.0} (ok_same (File x.0.0 a.0.0) line e.2) (name_fine law (UnknownWord Unquoted) (UnknownWord Missing) tokens x.0 x.1 t).text
 
 event_fine : QuotedAreText → (tokens : List Lexeme) → AreText tokens → Starts (event tokens)
 unfolding event
 event_fine law tokens t line h =
-    let x = made (name_at UnknownWord tokens)
-    (λ name. number_within 0 1 BadNumber UnknownWord name.1 >>= λ kind. number_within 0 1 BadNumber UnknownWord kind.1 >>= λ initial. end_at UnknownWord UnknownWord initial.1 >>= λ end. Ok (Event name.0 kind.0 initial.0)) line h in
-    let k = made (number_within 0 1 BadNumber UnknownWord x.0.1)
-    (λ kind. number_within 0 1 BadNumber UnknownWord kind.1 >>= λ initial. end_at UnknownWord UnknownWord initial.1 >>= λ end. Ok (Event x.0.0 kind.0 initial.0)) line x.2 in
-    let i = made (number_within 0 1 BadNumber UnknownWord k.0.1) (λ initial. end_at UnknownWord UnknownWord initial.1 >>= λ end. Ok (Event x.0.0 k.0.0 initial.0)) line k.2 in
-    let e = made (end_at UnknownWord UnknownWord i.0.1) (λ end. Ok (Event x.0.0 k.0.0 i.0.0)) line i.2 in
+    let x = made (name_at (UnknownWord Unquoted) (UnknownWord Missing) tokens)
+    (λ name. number_within 0 1 BadNumber (UnknownWord Missing) name.1 >>= λ kind. number_within 0 1 BadNumber (UnknownWord Missing) kind.1 >>= λ initial. end_at (UnknownWord Extra) (UnknownWord Broken) initial.1 >>= λ end. Ok (Event name.0 kind.0 initial.0)) line h in
+    let k = made (number_within 0 1 BadNumber (UnknownWord Missing) x.0.1)
+    (λ kind. number_within 0 1 BadNumber (UnknownWord Missing) kind.1 >>= λ initial. end_at (UnknownWord Extra) (UnknownWord Broken) initial.1 >>= λ end. Ok (Event x.0.0 kind.0 initial.0)) line x.2 in
+    let i = made (number_within 0 1 BadNumber (UnknownWord Missing) k.0.1) (λ initial. end_at (UnknownWord Extra) (UnknownWord Broken) initial.1 >>= λ end. Ok (Event x.0.0 k.0.0 initial.0)) line k.2 in
+    let e = made (end_at (UnknownWord Extra) (UnknownWord Broken) i.0.1) (λ end. Ok (Event x.0.0 k.0.0 i.0.0)) line i.2 in
     subst (λ line. is_writable_start line ≡ true) {x = Event x.0.0 k.0.0 i.0.0} (ok_same (Event x.0.0 k.0.0 i.0.0) line e.2)
-    (name_fine law UnknownWord tokens x.0 x.1 t).text
+    (name_fine law (UnknownWord Unquoted) (UnknownWord Missing) tokens x.0 x.1 t).text
 
 start_fine : QuotedAreText → (w : List ℕ) (tokens : List Lexeme) → AreText tokens → Starts (start_line w tokens)
 unfolding start_line
@@ -268,37 +272,37 @@ start_fine law w tokens t =
 -- statements
 
 -- each statement that is read can be written
-abbrev States : Result Statement ScriptKind → Type 0
+abbrev States : Result Statement (TokenFault ScriptKind) → Type 0
 States read = (statement : Statement) → read ≡ Ok statement → is_writable_statement statement ≡ true
 
 call_fine : QuotedAreText → (tokens : List Lexeme) → AreText tokens → States (call tokens)
 unfolding call
 call_fine law tokens text statement h =
-    let t = made (tag_at tokens) (λ tag. args_at (shape_of tag.0) tag.1 >>= λ args. end_at WrongArgs UnknownWord args.1 >>= λ end. fitting tag.0 args.0) statement h in
-    let a = made (args_at (shape_of t.0.0) t.0.1) (λ args. end_at WrongArgs UnknownWord args.1 >>= λ end. fitting t.0.0 args.0) statement t.2 in
-    let e = made (end_at WrongArgs UnknownWord a.0.1) (λ end. fitting t.0.0 a.0.0) statement a.2 in
-    let f = passed (encodes t.0.0 a.0.0) (Call t.0.0 a.0.0) statement TooBig e.2 in
+    let t = made (tag_at tokens) (λ tag. args_at (shape_of tag.0) tag.1 >>= λ args. end_at (WrongArgs Extra) (UnknownWord Broken) args.1 >>= λ end. at_left (with_first tokens) (fitting tag.0 args.0)) statement h in
+    let a = made (args_at (shape_of t.0.0) t.0.1) (λ args. end_at (WrongArgs Extra) (UnknownWord Broken) args.1 >>= λ end. at_left (with_first tokens) (fitting t.0.0 args.0)) statement t.2 in
+    let e = made (end_at (WrongArgs Extra) (UnknownWord Broken) a.0.1) (λ end. at_left (with_first tokens) (fitting t.0.0 a.0.0)) statement a.2 in
+    let f = passed (encodes t.0.0 a.0.0) (Call t.0.0 a.0.0) statement TooBig (at_made (with_first tokens) (fitting t.0.0 a.0.0) statement e.2) in
     subst (λ statement. is_writable_statement statement ≡ true) f.1 (args_fine law (shape_of t.0.0) t.0.1 a.0 a.1 (tag_rest tokens t.0 t.1 text))
 
 value_fine : (tokens : List Lexeme) (x : ℕ × List Lexeme) → value_at tokens ≡ Ok x → is_number x.0 ≡ true
-value_fine tokens x h = number_small BadNumber WrongArgs tokens x h
+value_fine tokens x h = number_small BadNumber (WrongArgs Missing) tokens x h
 
 store_fine : (tokens : List Lexeme) → States (store tokens)
 unfolding store
 store_fine tokens statement h =
-    let w = made (target_word_at tokens) (λ word. value_at word.1 >>= λ value. end_at WrongArgs UnknownWord value.1 >>= λ end. Ok (Store word.0.0 word.0.1 value.0)) statement h in
-    let v = made (value_at w.0.1) (λ value. end_at WrongArgs UnknownWord value.1 >>= λ end. Ok (Store w.0.0.0 w.0.0.1 value.0)) statement w.2 in
-    let e = made (end_at WrongArgs UnknownWord v.0.1) (λ end. Ok (Store w.0.0.0 w.0.0.1 v.0.0)) statement v.2 in
+    let w = made (target_word_at tokens) (λ word. value_at word.1 >>= λ value. end_at (WrongArgs Extra) (UnknownWord Broken) value.1 >>= λ end. Ok (Store word.0.0 word.0.1 value.0)) statement h in
+    let v = made (value_at w.0.1) (λ value. end_at (WrongArgs Extra) (UnknownWord Broken) value.1 >>= λ end. Ok (Store w.0.0.0 w.0.0.1 value.0)) statement w.2 in
+    let e = made (end_at (WrongArgs Extra) (UnknownWord Broken) v.0.1) (λ end. Ok (Store w.0.0.0 w.0.0.1 v.0.0)) statement v.2 in
     subst (λ statement. is_writable_statement statement ≡ true) {x = Store w.0.0.0 w.0.0.1 v.0.0} (ok_same (Store w.0.0.0 w.0.0.1 v.0.0) statement e.2)
     (value_fine w.0.1 v.0 v.1)
 
 exchange_fine : (tokens : List Lexeme) → States (exchange tokens)
 unfolding exchange
 exchange_fine tokens statement h =
-    let w = made (target_word_at tokens) (λ word. value_at word.1 >>= λ from. value_at from.1 >>= λ to. end_at WrongArgs UnknownWord to.1 >>= λ end. Ok (Exchange word.0.0 word.0.1 from.0 to.0)) statement h in
-    let f = made (value_at w.0.1) (λ from. value_at from.1 >>= λ to. end_at WrongArgs UnknownWord to.1 >>= λ end. Ok (Exchange w.0.0.0 w.0.0.1 from.0 to.0)) statement w.2 in
-    let t = made (value_at f.0.1) (λ to. end_at WrongArgs UnknownWord to.1 >>= λ end. Ok (Exchange w.0.0.0 w.0.0.1 f.0.0 to.0)) statement f.2 in
-    let e = made (end_at WrongArgs UnknownWord t.0.1) (λ end. Ok (Exchange w.0.0.0 w.0.0.1 f.0.0 t.0.0)) statement t.2 in
+    let w = made (target_word_at tokens) (λ word. value_at word.1 >>= λ from. value_at from.1 >>= λ to. end_at (WrongArgs Extra) (UnknownWord Broken) to.1 >>= λ end. Ok (Exchange word.0.0 word.0.1 from.0 to.0)) statement h in
+    let f = made (value_at w.0.1) (λ from. value_at from.1 >>= λ to. end_at (WrongArgs Extra) (UnknownWord Broken) to.1 >>= λ end. Ok (Exchange w.0.0.0 w.0.0.1 from.0 to.0)) statement w.2 in
+    let t = made (value_at f.0.1) (λ to. end_at (WrongArgs Extra) (UnknownWord Broken) to.1 >>= λ end. Ok (Exchange w.0.0.0 w.0.0.1 f.0.0 to.0)) statement f.2 in
+    let e = made (end_at (WrongArgs Extra) (UnknownWord Broken) t.0.1) (λ end. Ok (Exchange w.0.0.0 w.0.0.1 f.0.0 t.0.0)) statement t.2 in
     subst (λ statement. is_writable_statement statement ≡ true) {x = Exchange w.0.0.0 w.0.0.1 f.0.0 t.0.0}
     (ok_same (Exchange w.0.0.0 w.0.0.1 f.0.0 t.0.0) statement e.2)
     (both _ _ (value_fine w.0.1 f.0 f.1) (value_fine f.0.1 t.0 t.1))
@@ -306,20 +310,20 @@ exchange_fine tokens statement h =
 load_fine : (tokens : List Lexeme) → States (load tokens)
 unfolding load
 load_fine tokens statement h =
-    let w = made (target_word_at tokens) (λ word. end_at WrongArgs UnknownWord word.1 >>= λ end. Ok (Load word.0.0 word.0.1)) statement h in
-    let e = made (end_at WrongArgs UnknownWord w.0.1) (λ end. Ok (Load w.0.0.0 w.0.0.1)) statement w.2 in
+    let w = made (target_word_at tokens) (λ word. end_at (WrongArgs Extra) (UnknownWord Broken) word.1 >>= λ end. Ok (Load word.0.0 word.0.1)) statement h in
+    let e = made (end_at (WrongArgs Extra) (UnknownWord Broken) w.0.1) (λ end. Ok (Load w.0.0.0 w.0.0.1)) statement w.2 in
     subst (λ statement. is_writable_statement statement ≡ true) {x = Load w.0.0.0 w.0.0.1} (ok_same (Load w.0.0.0 w.0.0.1) statement e.2) refl
 
 wait_fine : (tokens : List Lexeme) → States (wait tokens)
 unfolding wait
 wait_fine tokens statement h =
     let w = made (target_word_at tokens)
-    (λ word. value_at word.1 >>= λ value. value_at value.1 >>= λ loads. end_at WrongArgs UnknownWord loads.1 >>= λ end. within 1 1000000 loads.0 >>= λ most. Ok (Wait word.0.0 word.0.1 value.0 most)) statement h in
+    (λ word. value_at word.1 >>= λ value. value_at value.1 >>= λ loads. end_at (WrongArgs Extra) (UnknownWord Broken) loads.1 >>= λ end. at_token value.1 (within 1 1000000 loads.0) >>= λ most. Ok (Wait word.0.0 word.0.1 value.0 most)) statement h in
     let v = made (value_at w.0.1)
-    (λ value. value_at value.1 >>= λ loads. end_at WrongArgs UnknownWord loads.1 >>= λ end. within 1 1000000 loads.0 >>= λ most. Ok (Wait w.0.0.0 w.0.0.1 value.0 most)) statement w.2 in
-    let l = made (value_at v.0.1) (λ loads. end_at WrongArgs UnknownWord loads.1 >>= λ end. within 1 1000000 loads.0 >>= λ most. Ok (Wait w.0.0.0 w.0.0.1 v.0.0 most)) statement v.2 in
-    let e = made (end_at WrongArgs UnknownWord l.0.1) (λ end. within 1 1000000 l.0.0 >>= λ most. Ok (Wait w.0.0.0 w.0.0.1 v.0.0 most)) statement l.2 in
-    let m = made (within 1 1000000 l.0.0) (λ most. Ok (Wait w.0.0.0 w.0.0.1 v.0.0 most)) statement e.2 in
+    (λ value. value_at value.1 >>= λ loads. end_at (WrongArgs Extra) (UnknownWord Broken) loads.1 >>= λ end. at_token value.1 (within 1 1000000 loads.0) >>= λ most. Ok (Wait w.0.0.0 w.0.0.1 value.0 most)) statement w.2 in
+    let l = made (value_at v.0.1) (λ loads. end_at (WrongArgs Extra) (UnknownWord Broken) loads.1 >>= λ end. at_token v.0.1 (within 1 1000000 loads.0) >>= λ most. Ok (Wait w.0.0.0 w.0.0.1 v.0.0 most)) statement v.2 in
+    let e = made (end_at (WrongArgs Extra) (UnknownWord Broken) l.0.1) (λ end. at_token v.0.1 (within 1 1000000 l.0.0) >>= λ most. Ok (Wait w.0.0.0 w.0.0.1 v.0.0 most)) statement l.2 in
+    let m = made (at_token v.0.1 (within 1 1000000 l.0.0)) (λ most. Ok (Wait w.0.0.0 w.0.0.1 v.0.0 most)) statement e.2 in
     subst (λ statement. is_writable_statement statement ≡ true) {x = Wait w.0.0.0 w.0.0.1 v.0.0 m.0} (ok_same (Wait w.0.0.0 w.0.0.1 v.0.0 m.0) statement m.2)
     (value_fine w.0.1 v.0 v.1)
 
@@ -339,15 +343,19 @@ record IsWritable (sofar : SoFar) : Type 0 where
   starts : list_all is_writable_start sofar.start ≡ true
   targets : list_all is_writable_target sofar.targets ≡ true
 
--- and it can of what a line gives
-abbrev Makes : Result SoFar ScriptKind → Type 0
+-- and it can of what is there with one more part
+abbrev Gains : Result SoFar ScriptKind → Type 0
+Gains read = (new : SoFar) → read ≡ Ok new → IsWritable new
+
+-- and of what a line gives
+abbrev Makes : Result SoFar (TokenFault ScriptKind) → Type 0
 Makes read = (new : SoFar) → read ≡ Ok new → IsWritable new
 
-start_more : (sofar : SoFar) (line : StartLine) → IsWritable sofar → is_writable_start line ≡ true → Makes (with_start sofar line)
+start_more : (sofar : SoFar) (line : StartLine) → IsWritable sofar → is_writable_start line ≡ true → Gains (with_start sofar line)
 start_more sofar line f w =
-    branches Makes (can_place sofar.start line) _ (Err BadStart)
+    branches Gains (can_place sofar.start line) _ (Err BadStart)
     (λ new h.
-    let t = passed (nat_lt (length sofar.start) 4096) (record sofar { start = sofar.start ++ line ∷ [] }) new TooMany h in
+    let t = passed (nat_lt (length sofar.start) 4096) (record sofar { start = sofar.start ++ line ∷ [] }) new (TooMany Openings) h in
     subst IsWritable t.1 (record { starts = all_more is_writable_start sofar.start line f.starts w; targets = f.targets }))
     (λ new h. absurd cc)
 
@@ -355,11 +363,11 @@ start_more sofar line f w =
 new_name_short : (targets : List TargetScript) (tokens : List Lexeme) (x : List ℕ × List Lexeme) → new_name_at targets tokens ≡ Ok x → is_short_name x.0 ≡ true
 unfolding new_name_at
 new_name_short targets (Word w ∷ tokens) x h =
-    let n = made (new_name targets w) (λ name. Ok (name, tokens)) x h in
-    let t = by_tests (is_short_name w) (list_any (is_target_named w) targets) w n.0 n.1 in
+    let n = made (at_token (Word w ∷ tokens) (new_name targets w)) (λ name. Ok (name, tokens)) x h in
+    let t = by_tests (is_short_name w) (list_any (is_target_named w) targets) w n.0 (at_made (length (Word w ∷ tokens)) (new_name targets w) n.0 n.1) in
     subst (λ (y : List ℕ × List Lexeme). is_short_name y.0 ≡ true) (ok_same (n.0, tokens) x n.2) (subst (λ name. is_short_name name ≡ true) t.1 t.0)
   where
-    by_tests : (a b : Bool) (w name : List ℕ) → cond a (cond b (Err SameName) (Ok w)) (Err UnknownWord) ≡ Ok name → (a ≡ true) × (w ≡ name)
+    by_tests : (a b : Bool) (w name : List ℕ) → cond a (cond b (Err SameName) (Ok w)) (Err (UnknownWord Unknown)) ≡ Ok name → (a ≡ true) × (w ≡ name)
     by_tests true false w name h = (refl, ok_same w name h)
     by_tests true true w name h = absurd cc
     by_tests false b w name h = absurd cc
@@ -371,38 +379,38 @@ heading_writable : (policies : List Policy) (targets : List TargetScript) (token
 unfolding heading
 heading_writable policies targets tokens x h =
     let n = made (new_name_at targets tokens)
-    (λ name. policy_at policies name.1 >>= λ policy. number_within 1 8 BadNumber UnknownWord policy.1 >>= λ channels. end_at UnknownWord UnknownWord channels.1
+    (λ name. policy_at policies name.1 >>= λ policy. number_within 1 8 BadNumber (UnknownWord Missing) policy.1 >>= λ channels. end_at (UnknownWord Extra) (UnknownWord Broken) channels.1
     >>= λ end. Ok (record { name = name.0; policy = policy.0; channels = channels.0; threads = [] })) x h in
     let p = made (policy_at policies n.0.1)
-    (λ policy. number_within 1 8 BadNumber UnknownWord policy.1 >>= λ channels. end_at UnknownWord UnknownWord channels.1
+    (λ policy. number_within 1 8 BadNumber (UnknownWord Missing) policy.1 >>= λ channels. end_at (UnknownWord Extra) (UnknownWord Broken) channels.1
     >>= λ end. Ok (record { name = n.0.0; policy = policy.0; channels = channels.0; threads = [] })) x n.2 in
-    let c = made (number_within 1 8 BadNumber UnknownWord p.0.1)
-    (λ channels. end_at UnknownWord UnknownWord channels.1 >>= λ end. Ok (record { name = n.0.0; policy = p.0.0; channels = channels.0; threads = [] })) x p.2 in
-    let e = made (end_at UnknownWord UnknownWord c.0.1) (λ end. Ok (record { name = n.0.0; policy = p.0.0; channels = c.0.0; threads = [] })) x c.2 in
+    let c = made (number_within 1 8 BadNumber (UnknownWord Missing) p.0.1)
+    (λ channels. end_at (UnknownWord Extra) (UnknownWord Broken) channels.1 >>= λ end. Ok (record { name = n.0.0; policy = p.0.0; channels = channels.0; threads = [] })) x p.2 in
+    let e = made (end_at (UnknownWord Extra) (UnknownWord Broken) c.0.1) (λ end. Ok (record { name = n.0.0; policy = p.0.0; channels = c.0.0; threads = [] })) x c.2 in
     subst (λ target. is_writable_target target ≡ true) {x = record { name = n.0.0; policy = p.0.0; channels = c.0.0; threads = [] }}
     (ok_same (record { name = n.0.0; policy = p.0.0; channels = c.0.0; threads = [] }) x e.2) (both _ _ (new_name_short targets tokens n.0 n.1) refl)
 
 target_more : (policies : List Policy) (sofar : SoFar) (tokens : List Lexeme) → IsWritable sofar → Makes (add_target policies sofar tokens)
 unfolding add_target
 target_more policies sofar tokens f new h =
-    let x = made (heading policies sofar.targets tokens) (λ target. with_target sofar target) new h in
-    let t = passed (nat_lt (length sofar.targets) 8) (record sofar { targets = sofar.targets ++ x.0 ∷ [] }) new TooMany x.2 in
+    let x = made (heading policies sofar.targets tokens) (λ target. at_left (with_first tokens) (with_target sofar target)) new h in
+    let t = passed (nat_lt (length sofar.targets) 8) (record sofar { targets = sofar.targets ++ x.0 ∷ [] }) new (TooMany Targets) (at_made (with_first tokens) (with_target sofar x.0) new x.2) in
     subst IsWritable t.1 (record { starts = f.starts; targets = all_more is_writable_target sofar.targets x.0 f.targets (heading_writable policies sofar.targets tokens x.0 x.1) })
 
 thread_step : (x y : TargetScript) → is_writable_target x ≡ true → one_thread_more x ≡ Ok y → is_writable_target y ≡ true
 thread_step x y h e =
-    let t = passed (nat_lt (length x.threads) 4) (record x { threads = x.threads ++ [] ∷ [] }) y TooMany e in
+    let t = passed (nat_lt (length x.threads) 4) (record x { threads = x.threads ++ [] ∷ [] }) y (TooMany Threads) e in
     let parts = and_parts (is_short_name x.name) (list_all is_writable_thread x.threads) h in
     subst (λ y. is_writable_target y ≡ true) t.1 (both _ _ parts.0 (all_more is_writable_thread x.threads [] parts.1 refl))
 
 thread_more : (sofar : SoFar) (tokens : List Lexeme) → IsWritable sofar → Makes (add_thread sofar tokens)
 unfolding add_thread
-thread_more sofar tokens f = branches Makes (is_opening sofar) (Err UnknownWord) _ (λ new h. absurd cc) told
+thread_more sofar tokens f = branches Makes (is_opening sofar) (misplaced tokens) _ (λ new h. absurd cc) told
   where
-    told : Makes (end_at UnknownWord UnknownWord tokens >>= λ end. with_thread sofar)
+    told : Makes (end_at (UnknownWord Extra) (UnknownWord Broken) tokens >>= λ end. at_left (with_first tokens) (with_thread sofar))
     told new h =
-        let e = made (end_at UnknownWord UnknownWord tokens) (λ end. with_thread sofar) new h in
-        let m = made (change_last one_thread_more sofar.targets) (λ targets. Ok (record sofar { targets = targets })) new e.2 in
+        let e = made (end_at (UnknownWord Extra) (UnknownWord Broken) tokens) (λ end. at_left (with_first tokens) (with_thread sofar)) new h in
+        let m = made (change_last one_thread_more sofar.targets) (λ targets. Ok (record sofar { targets = targets })) new (at_made (with_first tokens) (with_thread sofar) new e.2) in
         subst IsWritable (ok_same (record sofar { targets = m.0 }) new m.2)
         (record { starts = f.starts; targets = changed_all is_writable_target one_thread_more sofar.targets m.0 thread_step f.targets m.1 })
 
@@ -416,8 +424,8 @@ patience_more sofar tokens f = by_patience sofar.patience
         subst IsWritable (ok_same (with_patience sofar n.0) new n.2) (record { starts = f.starts; targets = f.targets })
 
     by_patience : (old : Option ℕ) → Makes (elim old [
-      | None ↦ cond (is_opening sofar) (patience tokens >>= λ n. Ok (with_patience sofar n)) (Err UnknownWord)
-      | Some n ↦ Err UnknownWord
+      | None ↦ cond (is_opening sofar) (patience tokens >>= λ n. Ok (with_patience sofar n)) (misplaced tokens)
+      | Some n ↦ fails_left (with_first tokens) (UnknownWord Repeated)
     ])
     by_patience None = branches Makes (is_opening sofar) _ _ told (λ new h. absurd cc)
     by_patience (Some n) = λ new h. absurd cc
@@ -432,10 +440,10 @@ statement_step statement x y s h e =
   where
     one : (before after : List Statement) → is_writable_thread before ≡ true → one_statement_more statement before ≡ Ok after → is_writable_thread after ≡ true
     one before after h e =
-        let t = passed (nat_lt (length before) 4096) (before ++ statement ∷ []) after TooMany e in
+        let t = passed (nat_lt (length before) 4096) (before ++ statement ∷ []) after (TooMany Statements) e in
         subst (λ after. is_writable_thread after ≡ true) t.1 (all_more is_writable_statement before statement h s)
 
-statement_more : (line : ℕ) (sofar : SoFar) (statement : Statement) → IsWritable sofar → is_writable_statement statement ≡ true → Makes (with_statement sofar line statement)
+statement_more : (line : ℕ) (sofar : SoFar) (statement : Statement) → IsWritable sofar → is_writable_statement statement ≡ true → Gains (with_statement sofar line statement)
 statement_more line sofar statement f s new h =
     let named = sofar.named ++ named_by line statement in
     let m = made (change_last (in_last_thread statement) sofar.targets) (λ targets. Ok (record sofar { targets = targets; named = named })) new h in
@@ -448,10 +456,11 @@ plain_more : QuotedAreText → (line : ℕ) (w : List ℕ) (sofar : SoFar) (toke
 unfolding plain_line
 plain_more law line w sofar tokens f t =
     branches Makes (is_in_thread sofar) _ _
-    (λ new h. let s = made (statement_line w tokens) (λ statement. with_statement sofar line statement) new h in
-    statement_more line sofar s.0 f (statement_fine law w tokens t s.0 s.1) new s.2)
-    (branches Makes (is_opening sofar) _ (Err UnknownWord)
-    (λ new h. let s = made (start_line w tokens) (λ start. with_start sofar start) new h in start_more sofar s.0 f (start_fine law w tokens t s.0 s.1) new s.2)
+    (λ new h. let s = made (statement_line w tokens) (λ statement. at_left (with_first tokens) (with_statement sofar line statement)) new h in
+    statement_more line sofar s.0 f (statement_fine law w tokens t s.0 s.1) new (at_made (with_first tokens) (with_statement sofar line s.0) new s.2))
+    (branches Makes (is_opening sofar) _ (not_here w tokens)
+    (λ new h. let s = made (start_line w tokens) (λ start. at_start tokens (with_start sofar start)) new h in
+    start_more sofar s.0 f (start_fine law w tokens t s.0 s.1) new (start_made tokens (with_start sofar s.0) new s.2))
     (λ new h. absurd cc))
 
 line_more : QuotedAreText → (policies : List Policy) (sofar : SoFar) (line : ℕ) (tokens : List Lexeme) → IsWritable sofar → AreText tokens
@@ -468,46 +477,42 @@ line_more law policies sofar line [] f t = λ new h. absurd cc
 
 -- texts
 
-lines_more : QuotedAreText → (policies : List Policy) (sofar : SoFar) (lines : List NumberedLine) → IsWritable sofar → list_all has_quoted_text lines ≡ true
-    → (new : SoFar) → read_lines (add_line policies) sofar lines ≡ Ok new → IsWritable new
+lines_more : QuotedAreText → (policies : List Policy) (version : ℕ) (sofar : SoFar) (lines : List NumberedLine) → IsWritable sofar → list_all has_quoted_text lines ≡ true
+    → (new : SoFar) → read_lines (grammar policies) version sofar lines ≡ Ok new → IsWritable new
 unfolding read_lines
-lines_more law policies sofar [] f t new h = subst IsWritable (ok_same sofar new h) f
-lines_more law policies sofar (line ∷ lines) f t new h =
+lines_more law policies version sofar [] f t new h = subst IsWritable (ok_same sofar new h) f
+lines_more law policies version sofar (line ∷ lines) f t new h =
     let read = add_line policies sofar line in
     let parts = and_parts (has_quoted_text line) (list_all has_quoted_text lines) t in
-    let m = made (on_line line.number read) (λ more. read_lines (add_line policies) more lines) new h in
-    let more = line_more law policies sofar line.number (tokens_of line.text) f parts.0 m.0 (on_this line.number read m.0 m.1) in
-    lines_more law policies m.0 lines more parts.1 new m.2
-
-below_writable : QuotedAreText → (policies : List Policy) (line : ℕ) (version : Option ℕ) (lines : List NumberedLine) (sofar : SoFar)
-    → list_all has_quoted_text lines ≡ true → read_below (grammar policies) line version lines ≡ Ok sofar → IsWritable sofar
-below_writable law policies line None lines sofar t h = absurd cc
-below_writable law policies line (Some version) lines sofar t h = lines_more law policies nothing lines (record { starts = refl; targets = refl }) t sofar h
+    let m = made (on_line by_tokens line read) (λ more. read_lines (grammar policies) version more lines) new h in
+    let more = line_more law policies sofar line.number (tokens_of line.text) f parts.0 m.0 (on_this line read m.0 m.1) in
+    lines_more law policies version m.0 lines more parts.1 new m.2
 
 by_writable : QuotedAreText → (policies : List Policy) (lines : List NumberedLine) (sofar : SoFar) → list_all has_quoted_text lines ≡ true
     → read_by (grammar policies) lines ≡ Ok sofar → IsWritable sofar
 by_writable law policies [] sofar t h = absurd cc
 by_writable law policies (first ∷ lines) sofar t h =
-    below_writable law policies first.number (script_version first.text) lines sofar (and_parts (has_quoted_text first) (list_all has_quoted_text lines) t).1 h
+    let m = made (on_line by_tokens first (script_version first.text)) (λ version. read_lines (grammar policies) version nothing lines) sofar h in
+    lines_more law policies m.0 nothing lines (record { starts = refl; targets = refl }) (and_parts (has_quoted_text first) (list_all has_quoted_text lines) t).1 sofar m.2
 
-script_writable : (sofar : SoFar) (script : Script) → IsWritable sofar → finished sofar ≡ Ok script → is_writable script ≡ true
-script_writable sofar script f h = by_absence (first_absence sofar.targets sofar.named) h
+script_writable : (text : List ℕ) (sofar : SoFar) (script : Script) → IsWritable sofar → finished text sofar ≡ Ok script → is_writable script ≡ true
+script_writable text sofar script f h = by_absence (first_absence sofar.targets sofar.named) h
   where
-    by_absence : (absent : Option ScriptFault)
-        → ◌≡◌ {A = Result Script ScriptFault} (elim absent [ None ↦ Ok (script_of sofar) | Some fault ↦ Err fault ]) (Ok script) → is_writable script ≡ true
+    by_absence : (absent : Option Absence)
+        → ◌≡◌ {A = Result Script ScriptFault} (elim absent [ None ↦ Ok (script_of sofar) | Some absence ↦ Err (absence_fault text absence) ]) (Ok script) → is_writable script ≡ true
     by_absence None h = subst (λ s. is_writable s ≡ true) (ok_same (script_of sofar) script h) (both _ _ f.starts f.targets)
-    by_absence (Some fault) h = absurd cc
+    by_absence (Some absence) h = absurd cc
 
 read_writable : QuotedAreText → QuotedTokensAreText → (policies : List Policy) (text : List ℕ) (script : Script) → reading policies text ≡ Ok script → is_writable script ≡ true
 read_writable strings law policies text script h =
-    let d = made (read_text NotUtf8 (grammar policies) text) (λ sofar. finished sofar) script h in
-    script_writable d.0 script (by_utf8 d.0 (not_utf8_line text) refl d.1) d.2
+    let d = made (read_text NotUtf8 (grammar policies) text) (λ sofar. finished text sofar) script h in
+    script_writable text d.0 script (by_utf8 d.0 (not_utf8_place text) refl d.1) d.2
   where
-    by_utf8 : (sofar : SoFar) (line : Option ℕ) → not_utf8_line text ≡ line
-        → where_utf8 NotUtf8 line (read_by (grammar policies) (lines_of text)) ≡ Ok sofar
+    by_utf8 : (sofar : SoFar) (place : Option Place) → not_utf8_place text ≡ place
+        → where_utf8 NotUtf8 place (read_by (grammar policies) (lines_of text)) ≡ Ok sofar
         → IsWritable sofar
     by_utf8 sofar None e h = by_writable strings policies (lines_of text) sofar (law text e) h
-    by_utf8 sofar (Some line) e h = absurd cc
+    by_utf8 sofar (Some place) e h = absurd cc
 
 pub read_scripts_can_be_written : QuotedStringsAreText → QuotedTokensAreText → ReadScriptsCanBeWritten
 read_scripts_can_be_written strings law policies text script h = read_writable (quoted_are_text strings) law policies text script h

@@ -10,6 +10,7 @@ use Rattle.sb_items.specs.declared.refusals.Refused.{Refused}
 use Rattle.sb_items.specs.declared.refusals.Refused.TheVariants as refused
 use Rattle.sb_scripttext.specs.declared.faults.ScriptKind.{ScriptKind}
 use Rattle.sb_text.specs.Tokens.{Lexeme}
+use Rattle.sb_text.specs.declared.refusals.TokenFault.{TokenFault}
 
 -- arguments that were read, and those that follow
 abbrev pub with_args : List Arg → Read (List Arg) ScriptKind → Read (List Arg) ScriptKind
@@ -37,7 +38,7 @@ empty [] h = refl
 empty (x ∷ xs) h = absurd cc
 
 -- the fault of an argument
-pub args_bad : (done : List Arg) (kind : ParamKind) (kinds : List ParamKind) (tokens : List Lexeme) (fault : ScriptKind)
+pub args_bad : (done : List Arg) (kind : ParamKind) (kinds : List ParamKind) (tokens : List Lexeme) (fault : TokenFault ScriptKind)
     → arg_at kind tokens ≡ Err fault → with_args done (args_at (kind ∷ kinds) tokens) ≡ Err fault
 unfolding args_at
 args_bad done kind kinds tokens fault h = rw (h) refl
@@ -49,7 +50,7 @@ unfolding args_at
 args_more done kind kinds tokens a rest h = rw (h) (one_arg done a (args_at kinds rest))
 
 -- why an argument is refused is why all are
-pub args_refused : (done : List Arg) (kind : ParamKind) (kinds : List ParamKind) (tokens rest after : List Lexeme) (whole : Read (List Arg) ScriptKind) (why : Refused ScriptKind)
+pub args_refused : (done : List Arg) (kind : ParamKind) (kinds : List ParamKind) (tokens rest after : List Lexeme) (whole : Read (List Arg) ScriptKind) (why : Refused (TokenFault ScriptKind))
     → with_args done (args_at (kind ∷ kinds) tokens) ≡ whole → Reads (arg_at kind tokens) (Err why) rest → Reads whole (Err why) after
 args_refused done kind kinds tokens rest after whole (refused.Fault fault) i h = sym i ∙ args_bad done kind kinds tokens fault h
 args_refused done kind kinds tokens rest after whole refused.NoMemory i h = tt

@@ -14,28 +14,31 @@ use Rattle.sb_statements.specs.declared.scripts.Script.{Script}
 use Rattle.sb_statements.specs.declared.scripts.StartLine.{StartLine}
 use Rattle.sb_statements.specs.declared.scripts.TargetScript.{TargetScript}
 use Rattle.sb_statements.specs.declared.statements.Statement.{Statement}
-use Rattle.sb_book.specs.Readiness.{is_judged}
+use Rattle.sb_book.specs.Readiness.{is_judged, is_ready}
 use Rattle.sb_kernel.specs.Openings.{opened}
-use Rattle.sb_rule.specs.WellMade.{is_named}
+use Rattle.sb_rule.specs.WellMade.{are_well_made, is_named}
 use Rattle.sb_rule.specs.declared.policies.Policy.{Policy}
 use Rattle.sb_scripttext.proofs.LastChanged.{KeepsName, changed_all, changed_length, changed_differ}
 use Rattle.sb_scripttext.proofs.Opened.{opens_with}
-use Rattle.sb_scripttext.proofs.Sound.{both, made, ok_same, passed, branches, in_range, none_absent, patience_sound, start_sound, statement_sound}
+use Rattle.sb_scripttext.proofs.Sound.{at_made, both, made, ok_same, passed, branches, in_range, none_absent, patience_sound, start_sound, statement_sound}
 use Rattle.sb_scripttext.specs.Arguments.{most_32}
 use Rattle.sb_scripttext.specs.SoFar.{SoFar, nothing, change_last, is_opening, is_in_thread, with_patience, with_start, with_target, one_thread_more, with_thread, one_statement_more, in_last_thread, named_by, with_statement}
-use Rattle.sb_scripttext.specs.Lines.{is_target_named, new_name, new_name_at, policy_number, policy_at, heading, patience, set_patience, add_target, add_thread, start_line, statement_line, plain_line, line_of}
+use Rattle.sb_scripttext.specs.Lines.{is_target_named, new_name, new_name_at, policy_number, policy_at, heading, patience, set_patience, add_target, add_thread, at_start, misplaced, not_here, start_line, statement_line, plain_line, line_of}
 use Rattle.sb_scripttext.specs.Openings.{can_place}
-use Rattle.sb_scripttext.specs.Readiness.{ReadScriptsAreReady}
-use Rattle.sb_scripttext.specs.ScriptTexts.{ScriptFault, script_version, add_line, grammar, absence, first_absence, patience_of, script_of, finished, reading}
-use Rattle.sb_text.specs.Readings.{on_line, read_lines, read_below, read_by, where_utf8, read_text}
+use Rattle.sb_scripttext.specs.ScriptTexts.{Absence, ScriptFault, script_version, add_line, grammar, absence, absence_fault, first_absence, patience_of, script_of, finished, reading}
+use Rattle.sb_text.specs.Readings.{on_line, read_lines, read_by, where_utf8, read_text}
+use Rattle.sb_text.specs.Spots.{by_tokens, fails_left}
 use Rattle.sb_scripttext.specs.Steps.{number_within}
-use Rattle.sb_text.specs.Steps.{◌>>=◌, or_fault, end_at}
+use Rattle.sb_text.specs.Steps.{◌>>=◌, at_left, at_token, or_fails, with_first, end_at}
 use Rattle.sb_scripttext.specs.declared.drafts.Named.{Named}
 use Rattle.sb_scripttext.specs.declared.faults.ScriptKind.{ScriptKind}
 use Rattle.sb_scripttext.specs.declared.faults.ScriptKind.TheVariants.{NotUtf8, UnknownWord, BadNumber, SameName, NoSuchPolicy, TooMany, BadStart}
 use Rattle.sb_text.specs.Lines.{NumberedLine, lines_of}
 use Rattle.sb_text.specs.Tokens.{Lexeme, Word, Quoted, Bad, tokens_of}
-use Rattle.sb_text.specs.Utf8.{not_utf8_line}
+use Rattle.sb_text.specs.Utf8.{Place, not_utf8_place}
+use Rattle.sb_scripttext.specs.declared.faults.ScriptLimit.TheVariants.{Openings, Targets, Threads, Statements}
+use Rattle.sb_text.specs.declared.refusals.TokenFault.{TokenFault}
+use Rattle.sb_text.specs.declared.refusals.WordFault.TheVariants.{Broken, Extra, Missing, Repeated, Unknown}
 
 -- a list whose last item became another
 abbrev pub behind : {A : Type 0} → List A → A → List A
@@ -69,10 +72,10 @@ same_length before last new = length-append before (new ∷ []) ∙ sym (length-
 one_longer : {A : Type 0} (most : ℕ) (before : List A) (last : A) → nat_lt (length before) most ≡ true → nat_le (length (behind before last)) most ≡ true
 one_longer most before last h = let e : length (behind before last) ≡ length before + 1 = length-append before (last ∷ []) in grind (arith, nat_tests, h, e)
 
-pub none_here : (first : Option ScriptKind) (line : ℕ) (others : Option ScriptFault) → first ≡ None → others ≡ None
-    → ◌≡◌ {A = Option ScriptFault} (elim first [ None ↦ others | Some kind ↦ Some (record { line = line; kind = kind }) ]) None
+pub none_here : (first : Option (TokenFault ScriptKind)) (line : ℕ) (others : Option Absence) → first ≡ None → others ≡ None
+    → ◌≡◌ {A = Option Absence} (elim first [ None ↦ others | Some fault ↦ Some (line, fault) ]) None
 none_here None line others h k = k
-none_here (Some kind) line others h k = absurd cc
+none_here (Some fault) line others h k = absurd cc
 
 -- nothing of the front, and nothing of the rest, is absent
 absent_front : (targets : List TargetScript) (xs ys : List Named) → first_absence targets (xs ++ ys) ≡ None → first_absence targets xs ≡ None
@@ -143,7 +146,7 @@ with_threads all x threads c l t =
 
 -- what one thread more is
 thread_made : (x y : TargetScript) → one_thread_more x ≡ Ok y → (nat_lt (length x.threads) 4 ≡ true) × (record x { threads = x.threads ++ [] ∷ [] } ≡ y)
-thread_made x y e = passed (nat_lt (length x.threads) 4) (record x { threads = x.threads ++ [] ∷ [] }) y TooMany e
+thread_made x y e = passed (nat_lt (length x.threads) 4) (record x { threads = x.threads ++ [] ∷ [] }) y (TooMany Threads) e
 
 thread_step : (all : List TargetScript) (x y : TargetScript) → is_target all x ≡ true → one_thread_more x ≡ Ok y → is_target all y ≡ true
 thread_step all x y h e =
@@ -162,7 +165,7 @@ statement_made statement x y e =
 in_thread_step : (all : List TargetScript) (statement : Statement) (statements more : List Statement) → is_statement all statement ≡ true
     → is_thread all statements ≡ true → one_statement_more statement statements ≡ Ok more → is_thread all more ≡ true
 in_thread_step all statement statements more s h e =
-    let t = passed (nat_lt (length statements) 4096) (statements ++ statement ∷ []) more TooMany e in
+    let t = passed (nat_lt (length statements) 4096) (statements ++ statement ∷ []) more (TooMany Statements) e in
     let parts = and_parts (nat_le (length statements) 4096) (list_all (is_statement all) statements) h in
     subst (λ more. is_thread all more ≡ true) t.1
     (both _ _ (one_longer 4096 statements statement t.0) (all_more (is_statement all) statements statement parts.1 s))
@@ -188,11 +191,16 @@ changed_fine count step xs ys old new k j t f e = record {
   each = λ all a. changed_all (is_target all) step xs ys (t all a).1 (f.each all (t all a).0) e;
 }
 
+-- an opening line that was placed
+pub start_made : {A : Type 0} (tokens : List Lexeme) (read : Result A ScriptKind) (x : A) → at_start tokens read ≡ Ok x → read ≡ Ok x
+start_made tokens (Ok y) x h = ap Ok (ok_same y x h)
+start_made tokens (Err kind) x h = absurd cc
+
 -- the patience, the opening lines and the targets so far
 fine_start : (count : ℕ) (sofar new : SoFar) (line : StartLine) → IsFine count sofar → is_start line ≡ true → with_start sofar line ≡ Ok new → IsFine count new
 fine_start count sofar new line f s h =
-    let p = placeable (can_place sofar.start line) (cond (nat_lt (length sofar.start) 4096) (Ok (record sofar { start = sofar.start ++ line ∷ [] })) (Err TooMany)) new h in
-    let t = passed (nat_lt (length sofar.start) 4096) (record sofar { start = sofar.start ++ line ∷ [] }) new TooMany p.1 in
+    let p = placeable (can_place sofar.start line) (cond (nat_lt (length sofar.start) 4096) (Ok (record sofar { start = sofar.start ++ line ∷ [] })) (Err (TooMany Openings))) new h in
+    let t = passed (nat_lt (length sofar.start) 4096) (record sofar { start = sofar.start ++ line ∷ [] }) new (TooMany Openings) p.1 in
     subst (IsFine count) t.1 (record {
       patience = f.patience;
       start = record {
@@ -218,12 +226,12 @@ new_name_read : (targets : List TargetScript) (tokens : List Lexeme) (x : List �
     → list_any (is_target_named x.0) targets ≡ false
 unfolding new_name_at
 new_name_read targets (Word w ∷ tokens) x h =
-    let n = made (new_name targets w) (λ name. Ok (name, tokens)) x h in
-    let t = by_tests (is_short_name w) (list_any (is_target_named w) targets) w n.0 n.1 in
+    let n = made (at_token (Word w ∷ tokens) (new_name targets w)) (λ name. Ok (name, tokens)) x h in
+    let t = by_tests (is_short_name w) (list_any (is_target_named w) targets) w n.0 (at_made (length (Word w ∷ tokens)) (new_name targets w) n.0 n.1) in
     subst (λ (y : List ℕ × List Lexeme). list_any (is_target_named y.0) targets ≡ false) (ok_same (n.0, tokens) x n.2)
     (subst (λ name. list_any (is_target_named name) targets ≡ false) t.1 t.0)
   where
-    by_tests : (a b : Bool) (w name : List ℕ) → cond a (cond b (Err SameName) (Ok w)) (Err UnknownWord) ≡ Ok name → (b ≡ false) × (w ≡ name)
+    by_tests : (a b : Bool) (w name : List ℕ) → cond a (cond b (Err SameName) (Ok w)) (Err (UnknownWord Unknown)) ≡ Ok name → (b ≡ false) × (w ≡ name)
     by_tests true false w name h = (refl, ok_same w name h)
     by_tests true true w name h = absurd cc
     by_tests false b w name h = absurd cc
@@ -237,17 +245,17 @@ position_below p xs n h = grind (arith, nat_tests, h)
 policy_read : (policies : List Policy) (tokens : List Lexeme) (x : ℕ × List Lexeme) → policy_at policies tokens ≡ Ok x → nat_lt x.0 (length policies) ≡ true
 unfolding policy_at
 policy_read policies (Word w ∷ tokens) x h = by_place (position (is_named w) policies) refl
-    (made (or_fault NoSuchPolicy (position (is_named w) policies)) (λ place. policy_number place >>= λ policy. Ok (policy, tokens)) x h)
+    (made (or_fails (Word w ∷ tokens) NoSuchPolicy (position (is_named w) policies)) (λ place. at_token (Word w ∷ tokens) (policy_number place) >>= λ policy. Ok (policy, tokens)) x h)
   where
     by_place : (place : Option ℕ) → position (is_named w) policies ≡ place
-        → (n : ℕ) × (or_fault NoSuchPolicy place ≡ Ok n) × ((policy_number n >>= λ policy. Ok (policy, tokens)) ≡ Ok x) → nat_lt x.0 (length policies) ≡ true
+        → (n : ℕ) × (or_fails (Word w ∷ tokens) NoSuchPolicy place ≡ Ok n) × ((at_token (Word w ∷ tokens) (policy_number n) >>= λ policy. Ok (policy, tokens)) ≡ Ok x) → nat_lt x.0 (length policies) ≡ true
     by_place (Some n) e m =
-        let p = made (policy_number m.0) (λ policy. Ok (policy, tokens)) x m.2 in
-        let t = passed (nat_le m.0 most_32) m.0 p.0 NoSuchPolicy p.1 in
+        let p = made (at_token (Word w ∷ tokens) (policy_number m.0)) (λ policy. Ok (policy, tokens)) x m.2 in
+        let t = passed (nat_le m.0 most_32) m.0 p.0 NoSuchPolicy (at_made (length (Word w ∷ tokens)) (policy_number m.0) p.0 p.1) in
         subst (λ (y : ℕ × List Lexeme). nat_lt y.0 (length policies) ≡ true) (ok_same (p.0, tokens) x p.2)
         (subst (λ i. nat_lt i (length policies) ≡ true) (ok_same n m.0 m.1 ∙ t.1) (position_below (is_named w) policies n e))
     by_place None e m =
-        let h : ◌≡◌ {A = Result ℕ ScriptKind} (Err NoSuchPolicy) (Ok m.0) = m.1 in absurd cc
+        let h : ◌≡◌ {A = Result ℕ (TokenFault ScriptKind)} (or_fails (Word w ∷ tokens) NoSuchPolicy None) (Ok m.0) = m.1 in absurd cc
 policy_read policies (Quoted q ∷ tokens) x h = absurd cc
 policy_read policies (Bad ∷ tokens) x h = absurd cc
 policy_read policies [] x h = absurd cc
@@ -257,18 +265,18 @@ heading_read : (policies : List Policy) (targets : List TargetScript) (tokens : 
 unfolding heading
 heading_read policies targets tokens x h =
     let n = made (new_name_at targets tokens)
-    (λ name. policy_at policies name.1 >>= λ policy. number_within 1 8 BadNumber UnknownWord policy.1 >>= λ channels. end_at UnknownWord UnknownWord channels.1
+    (λ name. policy_at policies name.1 >>= λ policy. number_within 1 8 BadNumber (UnknownWord Missing) policy.1 >>= λ channels. end_at (UnknownWord Extra) (UnknownWord Broken) channels.1
     >>= λ end. Ok (record { name = name.0; policy = policy.0; channels = channels.0; threads = [] })) x h in
     let p = made (policy_at policies n.0.1)
-    (λ policy. number_within 1 8 BadNumber UnknownWord policy.1 >>= λ channels. end_at UnknownWord UnknownWord channels.1
+    (λ policy. number_within 1 8 BadNumber (UnknownWord Missing) policy.1 >>= λ channels. end_at (UnknownWord Extra) (UnknownWord Broken) channels.1
     >>= λ end. Ok (record { name = n.0.0; policy = policy.0; channels = channels.0; threads = [] })) x n.2 in
-    let c = made (number_within 1 8 BadNumber UnknownWord p.0.1)
-    (λ channels. end_at UnknownWord UnknownWord channels.1 >>= λ end. Ok (record { name = n.0.0; policy = p.0.0; channels = channels.0; threads = [] })) x p.2 in
-    let e = made (end_at UnknownWord UnknownWord c.0.1) (λ end. Ok (record { name = n.0.0; policy = p.0.0; channels = c.0.0; threads = [] })) x c.2 in
+    let c = made (number_within 1 8 BadNumber (UnknownWord Missing) p.0.1)
+    (λ channels. end_at (UnknownWord Extra) (UnknownWord Broken) channels.1 >>= λ end. Ok (record { name = n.0.0; policy = p.0.0; channels = channels.0; threads = [] })) x p.2 in
+    let e = made (end_at (UnknownWord Extra) (UnknownWord Broken) c.0.1) (λ end. Ok (record { name = n.0.0; policy = p.0.0; channels = c.0.0; threads = [] })) x c.2 in
     subst (IsHeading (length policies) targets) {x = record { name = n.0.0; policy = p.0.0; channels = c.0.0; threads = [] }} (ok_same (record { name = n.0.0; policy = p.0.0; channels = c.0.0; threads = [] }) x e.2) (record {
       new = new_name_read targets tokens n.0 n.1;
       judged = policy_read policies n.0.1 p.0 p.1;
-      channels = in_range 1 8 BadNumber UnknownWord p.0.1 c.0 c.1;
+      channels = in_range 1 8 BadNumber (UnknownWord Missing) p.0.1 c.0 c.1;
       none = refl;
     })
 
@@ -276,7 +284,7 @@ fine_target : (count : ℕ) (sofar new : SoFar) (target : TargetScript) → IsFi
     → with_target sofar target ≡ Ok new → IsFine count new
 fine_target count sofar new target f i e =
     let old = sofar.targets in
-    let t = passed (nat_lt (length old) 8) (record sofar { targets = old ++ target ∷ [] }) new TooMany e in
+    let t = passed (nat_lt (length old) 8) (record sofar { targets = old ++ target ∷ [] }) new (TooMany Targets) e in
     let bare : (all : List TargetScript) → is_target all target ≡ true =
     λ all. subst (λ threads. is_target all (record target { threads = threads }) ≡ true) (sym i.none) (with_threads all target [] i.channels refl refl) in
     subst (IsFine count) t.1 (record {
@@ -322,7 +330,7 @@ fine_statement count line sofar new statement f s e =
     })
 
 -- what a line makes of what is so far there, and is fine
-abbrev Makes : ℕ → Result SoFar ScriptKind → Type 0
+abbrev Makes : ℕ → Result SoFar (TokenFault ScriptKind) → Type 0
 Makes count read = (new : SoFar) → read ≡ Ok new → IsFine count new
 
 patience_fine : (count : ℕ) (sofar : SoFar) (tokens : List Lexeme) → IsFine count sofar → Makes count (set_patience sofar tokens)
@@ -339,8 +347,8 @@ patience_fine count sofar tokens f = by_patience sofar.patience
         })
 
     by_patience : (old : Option ℕ) → Makes count (elim old [
-      | None ↦ cond (is_opening sofar) (patience tokens >>= λ n. Ok (with_patience sofar n)) (Err UnknownWord)
-      | Some n ↦ Err UnknownWord
+      | None ↦ cond (is_opening sofar) (patience tokens >>= λ n. Ok (with_patience sofar n)) (misplaced tokens)
+      | Some n ↦ fails_left (with_first tokens) (UnknownWord Repeated)
     ])
     by_patience None = branches (Makes count) (is_opening sofar) _ _ told (λ new h. absurd cc)
     by_patience (Some n) = λ new h. absurd cc
@@ -348,23 +356,23 @@ patience_fine count sofar tokens f = by_patience sofar.patience
 target_fine : (policies : List Policy) (sofar : SoFar) (tokens : List Lexeme) → IsFine (length policies) sofar → Makes (length policies) (add_target policies sofar tokens)
 unfolding add_target
 target_fine policies sofar tokens f new h =
-    let x = made (heading policies sofar.targets tokens) (λ target. with_target sofar target) new h in
-    fine_target (length policies) sofar new x.0 f (heading_read policies sofar.targets tokens x.0 x.1) x.2
+    let x = made (heading policies sofar.targets tokens) (λ target. at_left (with_first tokens) (with_target sofar target)) new h in
+    fine_target (length policies) sofar new x.0 f (heading_read policies sofar.targets tokens x.0 x.1) (at_made (with_first tokens) (with_target sofar x.0) new x.2)
 
 thread_fine : (count : ℕ) (sofar : SoFar) (tokens : List Lexeme) → IsFine count sofar → Makes count (add_thread sofar tokens)
 unfolding add_thread
-thread_fine count sofar tokens f = branches (Makes count) (is_opening sofar) (Err UnknownWord) _ (λ new h. absurd cc)
-    (λ new h. fine_thread count sofar new f (made (end_at UnknownWord UnknownWord tokens) (λ end. with_thread sofar) new h).2)
+thread_fine count sofar tokens f = branches (Makes count) (is_opening sofar) (misplaced tokens) _ (λ new h. absurd cc)
+    (λ new h. fine_thread count sofar new f (at_made (with_first tokens) (with_thread sofar) new (made (end_at (UnknownWord Extra) (UnknownWord Broken) tokens) (λ end. at_left (with_first tokens) (with_thread sofar)) new h).2))
 
 plain_fine : (count line : ℕ) (w : List ℕ) (sofar : SoFar) (tokens : List Lexeme) → IsFine count sofar → Makes count (plain_line w sofar line tokens)
 unfolding plain_line
 plain_fine count line w sofar tokens f =
     branches (Makes count) (is_in_thread sofar) _ _
-    (λ new h. let s = made (statement_line w tokens) (λ statement. with_statement sofar line statement) new h in
-    fine_statement count line sofar new s.0 f (λ all a. statement_sound w tokens s.0 s.1 all line a) s.2)
-    (branches (Makes count) (is_opening sofar) _ (Err UnknownWord)
-    (λ new h. let s = made (start_line w tokens) (λ start. with_start sofar start) new h in
-    fine_start count sofar new s.0 f (start_sound w tokens s.0 s.1) s.2)
+    (λ new h. let s = made (statement_line w tokens) (λ statement. at_left (with_first tokens) (with_statement sofar line statement)) new h in
+    fine_statement count line sofar new s.0 f (λ all a. statement_sound w tokens s.0 s.1 all line a) (at_made (with_first tokens) (with_statement sofar line s.0) new s.2))
+    (branches (Makes count) (is_opening sofar) _ (not_here w tokens)
+    (λ new h. let s = made (start_line w tokens) (λ start. at_start tokens (with_start sofar start)) new h in
+    fine_start count sofar new s.0 f (start_sound w tokens s.0 s.1) (start_made tokens (with_start sofar s.0) new s.2))
     (λ new h. absurd cc))
 
 line_fine : (policies : List Policy) (sofar : SoFar) (line : ℕ) (tokens : List Lexeme) → IsFine (length policies) sofar
@@ -379,18 +387,18 @@ line_fine policies sofar line (Quoted q ∷ tokens) f = λ new h. absurd cc
 line_fine policies sofar line (Bad ∷ tokens) f = λ new h. absurd cc
 line_fine policies sofar line [] f = λ new h. absurd cc
 
-pub on_this : {A : Type 0} (line : ℕ) (read : Result A ScriptKind) (x : A) → on_line line read ≡ Ok x → read ≡ Ok x
+pub on_this : {A : Type 0} (line : NumberedLine) (read : Result A (TokenFault ScriptKind)) (x : A) → on_line by_tokens line read ≡ Ok x → read ≡ Ok x
 on_this line (Ok y) x h = ap Ok (ok_same y x h)
-on_this line (Err kind) x h = absurd cc
+on_this line (Err fault) x h = absurd cc
 
-lines_fine : (policies : List Policy) (sofar : SoFar) (lines : List NumberedLine) → IsFine (length policies) sofar
-    → (new : SoFar) → read_lines (add_line policies) sofar lines ≡ Ok new → IsFine (length policies) new
+lines_fine : (policies : List Policy) (version : ℕ) (sofar : SoFar) (lines : List NumberedLine) → IsFine (length policies) sofar
+    → (new : SoFar) → read_lines (grammar policies) version sofar lines ≡ Ok new → IsFine (length policies) new
 unfolding read_lines
-lines_fine policies sofar [] f new h = subst (IsFine (length policies)) (ok_same sofar new h) f
-lines_fine policies sofar (line ∷ lines) f new h =
+lines_fine policies version sofar [] f new h = subst (IsFine (length policies)) (ok_same sofar new h) f
+lines_fine policies version sofar (line ∷ lines) f new h =
     let read = add_line policies sofar line in
-    let m = made (on_line line.number read) (λ more. read_lines (add_line policies) more lines) new h in
-    lines_fine policies m.0 lines (line_fine policies sofar line.number (tokens_of line.text) f m.0 (on_this line.number read m.0 m.1)) new m.2
+    let m = made (on_line by_tokens line read) (λ more. read_lines (grammar policies) version more lines) new h in
+    lines_fine policies version m.0 lines (line_fine policies sofar line.number (tokens_of line.text) f m.0 (on_this line read m.0 m.1)) new m.2
 
 nothing_fine : (count : ℕ) → IsFine count nothing
 nothing_fine count = record {
@@ -405,11 +413,11 @@ record IsReady (count : ℕ) (script : Script) : Type 0 where
   judged : list_all (is_judged count) script.targets ≡ true
   placed : is_ok (opened script.start) ≡ true
 
-sofar_ready : (count : ℕ) (sofar : SoFar) (script : Script) → IsFine count sofar → finished sofar ≡ Ok script → IsReady count script
-sofar_ready count sofar script f h = by_absence (first_absence sofar.targets sofar.named) refl h
+sofar_ready : (count : ℕ) (text : List ℕ) (sofar : SoFar) (script : Script) → IsFine count sofar → finished text sofar ≡ Ok script → IsReady count script
+sofar_ready count text sofar script f h = by_absence (first_absence sofar.targets sofar.named) refl h
   where
-    by_absence : (absent : Option ScriptFault) → first_absence sofar.targets sofar.named ≡ absent
-        → ◌≡◌ {A = Result Script ScriptFault} (elim absent [ None ↦ Ok (script_of sofar) | Some fault ↦ Err fault ]) (Ok script) → IsReady count script
+    by_absence : (absent : Option Absence) → first_absence sofar.targets sofar.named ≡ absent
+        → ◌≡◌ {A = Result Script ScriptFault} (elim absent [ None ↦ Ok (script_of sofar) | Some absence ↦ Err (absence_fault text absence) ]) (Ok script) → IsReady count script
     by_absence None a h =
         let t = f.targets in
         subst (IsReady count) (ok_same (script_of sofar) script h) (record {
@@ -419,26 +427,24 @@ sofar_ready count sofar script f h = by_absence (first_absence sofar.targets sof
         })
     by_absence (Some fault) a h = absurd cc
 
-below_fine : (policies : List Policy) (line : ℕ) (version : Option ℕ) (lines : List NumberedLine) (sofar : SoFar)
-    → read_below (grammar policies) line version lines ≡ Ok sofar → IsFine (length policies) sofar
-below_fine policies line None lines sofar h = absurd cc
-below_fine policies line (Some version) lines sofar h = lines_fine policies nothing lines (nothing_fine (length policies)) sofar h
-
 by_fine : (policies : List Policy) (lines : List NumberedLine) (sofar : SoFar) → read_by (grammar policies) lines ≡ Ok sofar → IsFine (length policies) sofar
 by_fine policies [] sofar h = absurd cc
-by_fine policies (first ∷ lines) sofar h = below_fine policies first.number (script_version first.text) lines sofar h
+by_fine policies (first ∷ lines) sofar h =
+    let m = made (on_line by_tokens first (script_version first.text)) (λ version. read_lines (grammar policies) version nothing lines) sofar h in
+    lines_fine policies m.0 nothing lines (nothing_fine (length policies)) sofar m.2
 
 ready : (policies : List Policy) (text : List ℕ) (script : Script) → reading policies text ≡ Ok script → IsReady (length policies) script
 ready policies text script h =
-    let d = made (read_text NotUtf8 (grammar policies) text) (λ sofar. finished sofar) script h in
-    sofar_ready (length policies) d.0 script (by_utf8 d.0 (not_utf8_line text) d.1) d.2
+    let d = made (read_text NotUtf8 (grammar policies) text) (λ sofar. finished text sofar) script h in
+    sofar_ready (length policies) text d.0 script (by_utf8 d.0 (not_utf8_place text) d.1) d.2
   where
-    by_utf8 : (sofar : SoFar) (line : Option ℕ)
-        → where_utf8 NotUtf8 line (read_by (grammar policies) (lines_of text)) ≡ Ok sofar
+    by_utf8 : (sofar : SoFar) (place : Option Place)
+        → where_utf8 NotUtf8 place (read_by (grammar policies) (lines_of text)) ≡ Ok sofar
         → IsFine (length policies) sofar
     by_utf8 sofar None h = by_fine policies (lines_of text) sofar h
-    by_utf8 sofar (Some line) h = absurd cc
+    by_utf8 sofar (Some place) h = absurd cc
 
-pub read_scripts_are_ready : ReadScriptsAreReady
-read_scripts_are_ready policies text script m h =
+pub scripts_are_ready : (policies : List Policy) (text : List ℕ) (script : Script) → are_well_made policies ≡ true → reading policies text ≡ Ok script
+    → is_ready policies script ≡ true
+scripts_are_ready policies text script m h =
     let r = ready policies text script h in both _ _ (both _ _ (both _ _ r.sound m) r.judged) r.placed

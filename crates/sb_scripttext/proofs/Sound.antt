@@ -18,15 +18,18 @@ use Rattle.sb_scripttext.specs.Arguments.{most_32, tag_at, args_at, fitting, cal
 use Rattle.sb_scripttext.specs.SoFar.{named_by}
 use Rattle.sb_scripttext.specs.Lines.{patience, start_line, statement_line}
 use Rattle.sb_scripttext.specs.Openings.{dir, file, key, event}
-use Rattle.sb_scripttext.specs.ScriptTexts.{ScriptFault, absence, first_absence}
+use Rattle.sb_scripttext.specs.ScriptTexts.{Absence, absence, first_absence, no_channel, no_target}
 use Rattle.sb_scripttext.specs.Statements.{value_at, short_at, block_place, place_of, place_at, target_word_at, store, exchange, load, wait}
 use Rattle.sb_scripttext.specs.Steps.{number_at, within, number_within, string_at, name, name_at}
-use Rattle.sb_text.specs.Steps.{◌>>=◌, or_fault, end_at}
+use Rattle.sb_text.specs.Steps.{◌>>=◌, at_left, at_token, or_fault, with_first, end_at}
 use Rattle.sb_scripttext.specs.declared.faults.ScriptKind.{ScriptKind}
-use Rattle.sb_scripttext.specs.declared.faults.ScriptKind.TheVariants.{UnknownWord, WrongArgs, BadNumber, BadName, NoSuchTarget, NoSuchChannel, NoSuchWord, TooBig}
+use Rattle.sb_scripttext.specs.declared.faults.ScriptKind.TheVariants.{UnknownWord, WrongArgs, BadNumber, BadName, NoSuchWord, TooBig}
 use Rattle.sb_text.specs.Numbers.{number_of}
 use Rattle.sb_text.specs.Tokens.{Lexeme, Word, Quoted, Bad}
 use Rattle.sb_wide.specs.Names.{is_name_of}
+use Rattle.sb_scripttext.specs.declared.drafts.Named.{Named}
+use Rattle.sb_text.specs.declared.refusals.TokenFault.{TokenFault}
+use Rattle.sb_text.specs.declared.refusals.WordFault.TheVariants.{Broken, Extra, Missing, Quoted, Unquoted}
 
 pub both : (a b : Bool) → a ≡ true → b ≡ true → (a && b) ≡ true
 both a b h k = rw (h) rw (k) refl
@@ -49,22 +52,27 @@ pub branches : {X : Type 0} (P : X → Type 0) (b : Bool) (x y : X) → P x → 
 branches P true x y h k = h
 branches P false x y h k = k
 
+-- a value that was placed
+pub at_made : {A K : Type 0} (left : ℕ) (read : Result A K) (x : A) → at_left left read ≡ Ok x → read ≡ Ok x
+at_made left (Ok y) x h = ap Ok (ok_same y x h)
+at_made left (Err kind) x h = absurd cc
+
 pub in_range : (lo hi : ℕ) (quoted missing : ScriptKind) (tokens : List Lexeme) (x : ℕ × List Lexeme) → number_within lo hi quoted missing tokens ≡ Ok x
     → (nat_le lo x.0 && nat_le x.0 hi) ≡ true
 unfolding number_within
 in_range lo hi quoted missing tokens x h =
-    let n = made (number_at quoted missing tokens) (λ n. within lo hi n.0 >>= λ number. Ok (number, n.1)) x h in
-    let m = made (within lo hi n.0.0) (λ number. Ok (number, n.0.1)) x n.2 in
-    let t = passed (nat_le lo n.0.0 && nat_le n.0.0 hi) n.0.0 m.0 BadNumber m.1 in
+    let n = made (number_at quoted missing tokens) (λ n. at_token tokens (within lo hi n.0) >>= λ number. Ok (number, n.1)) x h in
+    let m = made (at_token tokens (within lo hi n.0.0)) (λ number. Ok (number, n.0.1)) x n.2 in
+    let t = passed (nat_le lo n.0.0 && nat_le n.0.0 hi) n.0.0 m.0 BadNumber (at_made (length tokens) (within lo hi n.0.0) m.0 m.1) in
     let same : m.0 ≡ x.0 = ap (λ (y : ℕ × List Lexeme). y.0) (ok_same (m.0, n.0.1) x m.2) in
     subst (λ k. (nat_le lo k && nat_le k hi) ≡ true) (t.1 ∙ same) t.0
 
-pub named_well : (other : ScriptKind) (tokens : List Lexeme) (x : List ℕ × List Lexeme) → name_at other tokens ≡ Ok x → is_name_of x.0 ≡ true
+pub named_well : (unquoted missing : ScriptKind) (tokens : List Lexeme) (x : List ℕ × List Lexeme) → name_at unquoted missing tokens ≡ Ok x → is_name_of x.0 ≡ true
 unfolding name_at
-named_well other tokens x h =
-    let u = made (string_at other tokens) (λ units. name units.0 >>= λ named. Ok (named, units.1)) x h in
-    let m = made (name u.0.0) (λ named. Ok (named, u.0.1)) x u.2 in
-    let t = passed (is_name_of u.0.0) u.0.0 m.0 BadName m.1 in
+named_well unquoted missing tokens x h =
+    let u = made (string_at unquoted missing tokens) (λ units. at_token tokens (name units.0) >>= λ named. Ok (named, units.1)) x h in
+    let m = made (at_token tokens (name u.0.0)) (λ named. Ok (named, u.0.1)) x u.2 in
+    let t = passed (is_name_of u.0.0) u.0.0 m.0 BadName (at_made (length tokens) (name u.0.0) m.0 m.1) in
     let same : m.0 ≡ x.0 = ap (λ (y : List ℕ × List Lexeme). y.0) (ok_same (m.0, u.0.1) x m.2) in
     subst (λ k. is_name_of k ≡ true) (t.1 ∙ same) t.0
 
@@ -72,12 +80,12 @@ named_well other tokens x h =
 pub patience_sound : (tokens : List Lexeme) (n : ℕ) → patience tokens ≡ Ok n → is_patience n ≡ true
 unfolding patience
 patience_sound tokens n h =
-    let x = made (number_within 1 1000000 BadNumber UnknownWord tokens) (λ number. end_at UnknownWord UnknownWord number.1 >>= λ end. Ok number.0) n h in
-    let e = made (end_at UnknownWord UnknownWord x.0.1) (λ end. Ok x.0.0) n x.2 in
-    subst (λ n. is_patience n ≡ true) (ok_same x.0.0 n e.2) (in_range 1 1000000 BadNumber UnknownWord tokens x.0 x.1)
+    let x = made (number_within 1 1000000 BadNumber (UnknownWord Missing) tokens) (λ number. end_at (UnknownWord Extra) (UnknownWord Broken) number.1 >>= λ end. Ok number.0) n h in
+    let e = made (end_at (UnknownWord Extra) (UnknownWord Broken) x.0.1) (λ end. Ok x.0.0) n x.2 in
+    subst (λ n. is_patience n ≡ true) (ok_same x.0.0 n e.2) (in_range 1 1000000 BadNumber (UnknownWord Missing) tokens x.0 x.1)
 
 -- an opening line that was read is sound
-abbrev pub Starts : Result StartLine ScriptKind → Type 0
+abbrev pub Starts : Result StartLine (TokenFault ScriptKind) → Type 0
 Starts read = (line : StartLine) → read ≡ Ok line → is_start line ≡ true
 
 pub below_32 : (n : ℕ) → (nat_le 0 n && nat_le n most_32) ≡ true → nat_lt n (2 ^ 32) ≡ true
@@ -86,40 +94,40 @@ below_32 n h = let t = (and_parts (nat_le 0 n) (nat_le n most_32) h).1 in grind 
 dir_sound : (tokens : List Lexeme) → Starts (dir tokens)
 unfolding dir
 dir_sound tokens line h =
-    let x = made (name_at UnknownWord tokens) (λ name. end_at UnknownWord UnknownWord name.1 >>= λ end. Ok (Dir name.0)) line h in
-    let e = made (end_at UnknownWord UnknownWord x.0.1) (λ end. Ok (Dir x.0.0)) line x.2 in
-    subst (λ line. is_start line ≡ true) {x = Dir x.0.0} (ok_same (Dir x.0.0) line e.2) (named_well UnknownWord tokens x.0 x.1)
+    let x = made (name_at (UnknownWord Unquoted) (UnknownWord Missing) tokens) (λ name. end_at (UnknownWord Extra) (UnknownWord Broken) name.1 >>= λ end. Ok (Dir name.0)) line h in
+    let e = made (end_at (UnknownWord Extra) (UnknownWord Broken) x.0.1) (λ end. Ok (Dir x.0.0)) line x.2 in
+    subst (λ line. is_start line ≡ true) {x = Dir x.0.0} (ok_same (Dir x.0.0) line e.2) (named_well (UnknownWord Unquoted) (UnknownWord Missing) tokens x.0 x.1)
 
 key_sound : (tokens : List Lexeme) → Starts (key tokens)
 unfolding key
 key_sound tokens line h =
-    let x = made (name_at UnknownWord tokens) (λ name. end_at UnknownWord UnknownWord name.1 >>= λ end. Ok (Key name.0)) line h in
-    let e = made (end_at UnknownWord UnknownWord x.0.1) (λ end. Ok (Key x.0.0)) line x.2 in
-    subst (λ line. is_start line ≡ true) {x = Key x.0.0} (ok_same (Key x.0.0) line e.2) (named_well UnknownWord tokens x.0 x.1)
+    let x = made (name_at (UnknownWord Unquoted) (UnknownWord Missing) tokens) (λ name. end_at (UnknownWord Extra) (UnknownWord Broken) name.1 >>= λ end. Ok (Key name.0)) line h in
+    let e = made (end_at (UnknownWord Extra) (UnknownWord Broken) x.0.1) (λ end. Ok (Key x.0.0)) line x.2 in
+    subst (λ line. is_start line ≡ true) {x = Key x.0.0} (ok_same (Key x.0.0) line e.2) (named_well (UnknownWord Unquoted) (UnknownWord Missing) tokens x.0 x.1)
 
 file_sound : (tokens : List Lexeme) → Starts (file tokens)
 unfolding file
 file_sound tokens line h =
-    let x = made (name_at UnknownWord tokens)
-    (λ name. number_within 0 most_32 BadNumber UnknownWord name.1 >>= λ attributes. end_at UnknownWord UnknownWord attributes.1 >>= λ end. Ok (File name.0 attributes.0)) line h in
-    let a = made (number_within 0 most_32 BadNumber UnknownWord x.0.1) (λ attributes. end_at UnknownWord UnknownWord attributes.1 >>= λ end. Ok (File x.0.0 attributes.0)) line x.2 in
-    let e = made (end_at UnknownWord UnknownWord a.0.1) (λ end. Ok (File x.0.0 a.0.0)) line a.2 in
+    let x = made (name_at (UnknownWord Unquoted) (UnknownWord Missing) tokens)
+    (λ name. number_within 0 most_32 BadNumber (UnknownWord Missing) name.1 >>= λ attributes. end_at (UnknownWord Extra) (UnknownWord Broken) attributes.1 >>= λ end. Ok (File name.0 attributes.0)) line h in
+    let a = made (number_within 0 most_32 BadNumber (UnknownWord Missing) x.0.1) (λ attributes. end_at (UnknownWord Extra) (UnknownWord Broken) attributes.1 >>= λ end. Ok (File x.0.0 attributes.0)) line x.2 in
+    let e = made (end_at (UnknownWord Extra) (UnknownWord Broken) a.0.1) (λ end. Ok (File x.0.0 a.0.0)) line a.2 in
     subst (λ line. is_start line ≡ true) {x = File x.0.0 a.0.0} (ok_same (File x.0.0 a.0.0) line e.2)
-    (both (is_name_of x.0.0) (nat_lt a.0.0 (2 ^ 32)) (named_well UnknownWord tokens x.0 x.1) (below_32 a.0.0 (in_range 0 most_32 BadNumber UnknownWord x.0.1 a.0 a.1)))
+    (both (is_name_of x.0.0) (nat_lt a.0.0 (2 ^ 32)) (named_well (UnknownWord Unquoted) (UnknownWord Missing) tokens x.0 x.1) (below_32 a.0.0 (in_range 0 most_32 BadNumber (UnknownWord Missing) x.0.1 a.0 a.1)))
 
 event_sound : (tokens : List Lexeme) → Starts (event tokens)
 unfolding event
 event_sound tokens line h =
-    let x = made (name_at UnknownWord tokens)
-    (λ name. number_within 0 1 BadNumber UnknownWord name.1 >>= λ kind. number_within 0 1 BadNumber UnknownWord kind.1 >>= λ initial. end_at UnknownWord UnknownWord initial.1 >>= λ end. Ok (Event name.0 kind.0 initial.0)) line h in
-    let k = made (number_within 0 1 BadNumber UnknownWord x.0.1)
-    (λ kind. number_within 0 1 BadNumber UnknownWord kind.1 >>= λ initial. end_at UnknownWord UnknownWord initial.1 >>= λ end. Ok (Event x.0.0 kind.0 initial.0)) line x.2 in
-    let i = made (number_within 0 1 BadNumber UnknownWord k.0.1) (λ initial. end_at UnknownWord UnknownWord initial.1 >>= λ end. Ok (Event x.0.0 k.0.0 initial.0)) line k.2 in
-    let e = made (end_at UnknownWord UnknownWord i.0.1) (λ end. Ok (Event x.0.0 k.0.0 i.0.0)) line i.2 in
-    let kind = (and_parts (nat_le 0 k.0.0) (nat_le k.0.0 1) (in_range 0 1 BadNumber UnknownWord x.0.1 k.0 k.1)).1 in
-    let initial = (and_parts (nat_le 0 i.0.0) (nat_le i.0.0 1) (in_range 0 1 BadNumber UnknownWord k.0.1 i.0 i.1)).1 in
+    let x = made (name_at (UnknownWord Unquoted) (UnknownWord Missing) tokens)
+    (λ name. number_within 0 1 BadNumber (UnknownWord Missing) name.1 >>= λ kind. number_within 0 1 BadNumber (UnknownWord Missing) kind.1 >>= λ initial. end_at (UnknownWord Extra) (UnknownWord Broken) initial.1 >>= λ end. Ok (Event name.0 kind.0 initial.0)) line h in
+    let k = made (number_within 0 1 BadNumber (UnknownWord Missing) x.0.1)
+    (λ kind. number_within 0 1 BadNumber (UnknownWord Missing) kind.1 >>= λ initial. end_at (UnknownWord Extra) (UnknownWord Broken) initial.1 >>= λ end. Ok (Event x.0.0 kind.0 initial.0)) line x.2 in
+    let i = made (number_within 0 1 BadNumber (UnknownWord Missing) k.0.1) (λ initial. end_at (UnknownWord Extra) (UnknownWord Broken) initial.1 >>= λ end. Ok (Event x.0.0 k.0.0 initial.0)) line k.2 in
+    let e = made (end_at (UnknownWord Extra) (UnknownWord Broken) i.0.1) (λ end. Ok (Event x.0.0 k.0.0 i.0.0)) line i.2 in
+    let kind = (and_parts (nat_le 0 k.0.0) (nat_le k.0.0 1) (in_range 0 1 BadNumber (UnknownWord Missing) x.0.1 k.0 k.1)).1 in
+    let initial = (and_parts (nat_le 0 i.0.0) (nat_le i.0.0 1) (in_range 0 1 BadNumber (UnknownWord Missing) k.0.1 i.0 i.1)).1 in
     subst (λ line. is_start line ≡ true) {x = Event x.0.0 k.0.0 i.0.0} (ok_same (Event x.0.0 k.0.0 i.0.0) line e.2)
-    (both (is_name_of x.0.0 && nat_le k.0.0 1) (nat_le i.0.0 1) (both (is_name_of x.0.0) (nat_le k.0.0 1) (named_well UnknownWord tokens x.0 x.1) kind) initial)
+    (both (is_name_of x.0.0 && nat_le k.0.0 1) (nat_le i.0.0 1) (both (is_name_of x.0.0) (nat_le k.0.0 1) (named_well (UnknownWord Unquoted) (UnknownWord Missing) tokens x.0 x.1) kind) initial)
 
 pub start_sound : (w : List ℕ) (tokens : List Lexeme) → Starts (start_line w tokens)
 unfolding start_line
@@ -144,23 +152,23 @@ abbrev pub IsSoundOnce : Statement → Type 0
 IsSoundOnce statement = (targets : List TargetScript) (line : ℕ) → first_absence targets (named_by line statement) ≡ None → is_statement targets statement ≡ true
 
 -- so is a statement that was read
-abbrev pub States : Result Statement ScriptKind → Type 0
+abbrev pub States : Result Statement (TokenFault ScriptKind) → Type 0
 States read = (statement : Statement) → read ≡ Ok statement → IsSoundOnce statement
 
 call_sound : (tokens : List Lexeme) → States (call tokens)
 unfolding call
 call_sound tokens statement h targets line absent =
-    let t = made (tag_at tokens) (λ tag. args_at (shape_of tag.0) tag.1 >>= λ args. end_at WrongArgs UnknownWord args.1 >>= λ end. fitting tag.0 args.0) statement h in
-    let a = made (args_at (shape_of t.0.0) t.0.1) (λ args. end_at WrongArgs UnknownWord args.1 >>= λ end. fitting t.0.0 args.0) statement t.2 in
-    let e = made (end_at WrongArgs UnknownWord a.0.1) (λ end. fitting t.0.0 a.0.0) statement a.2 in
-    let f = passed (encodes t.0.0 a.0.0) (Call t.0.0 a.0.0) statement TooBig e.2 in
+    let t = made (tag_at tokens) (λ tag. args_at (shape_of tag.0) tag.1 >>= λ args. end_at (WrongArgs Extra) (UnknownWord Broken) args.1 >>= λ end. at_left (with_first tokens) (fitting tag.0 args.0)) statement h in
+    let a = made (args_at (shape_of t.0.0) t.0.1) (λ args. end_at (WrongArgs Extra) (UnknownWord Broken) args.1 >>= λ end. at_left (with_first tokens) (fitting t.0.0 args.0)) statement t.2 in
+    let e = made (end_at (WrongArgs Extra) (UnknownWord Broken) a.0.1) (λ end. at_left (with_first tokens) (fitting t.0.0 a.0.0)) statement a.2 in
+    let f = passed (encodes t.0.0 a.0.0) (Call t.0.0 a.0.0) statement TooBig (at_made (with_first tokens) (fitting t.0.0 a.0.0) statement e.2) in
     subst (λ statement. is_statement targets statement ≡ true) f.1 f.0
 
 place_sound : (tokens : List Lexeme) (x : ℕ × List Lexeme) → place_at tokens ≡ Ok x → nat_le x.0 64 ≡ true
 unfolding place_at
 place_sound (Word w ∷ tokens) x h =
-    let p = made (place_of w) (λ place. Ok (place, tokens)) x h in
-    subst (λ (y : ℕ × List Lexeme). nat_le y.0 64 ≡ true) {x = (p.0, tokens)} (ok_same (p.0, tokens) x p.2) (by_word (is_word (codes "state") w) (number_of w) p.0 p.1)
+    let p = made (at_token (Word w ∷ tokens) (place_of w)) (λ place. Ok (place, tokens)) x h in
+    subst (λ (y : ℕ × List Lexeme). nat_le y.0 64 ≡ true) {x = (p.0, tokens)} (ok_same (p.0, tokens) x p.2) (by_word (is_word (codes "state") w) (number_of w) p.0 (at_made (length (Word w ∷ tokens)) (place_of w) p.0 p.1))
   where
     block : (i place : ℕ) → block_place i ≡ Ok place → nat_le place 64 ≡ true
     block i place h =
@@ -190,66 +198,69 @@ word_sound tokens x h =
     (ok_same ((t.0.0, record { channel = c.0.0; at = p.0.0 }), p.0.1) x p.2) (place_sound c.0.1 p.0 p.1)
 
 -- nothing of all these is absent: neither the first, nor one of the others
-pub none_absent : (first : Option ScriptKind) (line : ℕ) (others : Option ScriptFault)
-    → ◌≡◌ {A = Option ScriptFault} (elim first [ None ↦ others | Some kind ↦ Some (record { line = line; kind = kind }) ]) None → (first ≡ None) × (others ≡ None)
+pub none_absent : (first : Option (TokenFault ScriptKind)) (line : ℕ) (others : Option Absence)
+    → ◌≡◌ {A = Option Absence} (elim first [ None ↦ others | Some fault ↦ Some (line, fault) ]) None → (first ≡ None) × (others ≡ None)
 none_absent None line others h = (refl, h)
-none_absent (Some kind) line others h = absurd cc
+none_absent (Some fault) line others h = absurd cc
 
-there : (targets : List TargetScript) (line target channel : ℕ) → first_absence targets (record { line = line; target = target; channel = channel } ∷ []) ≡ None
+there : (targets : List TargetScript) (line left target channel : ℕ) → first_absence targets (record { line = line; left = left; target = target; channel = channel } ∷ []) ≡ None
     → nat_lt channel (channels_of (slice_get targets target)) ≡ true
-there targets line target channel h =
-    both_there (nat_lt target (length targets)) (nat_lt channel (channels_of (slice_get targets target)))
-    (none_absent (absence targets (record { line = line; target = target; channel = channel })) line None h).0
+there targets line left target channel h =
+    both_there (no_channel named (channels_of (slice_get targets target))) (no_target named (length targets)) (nat_lt target (length targets)) (nat_lt channel (channels_of (slice_get targets target)))
+    (none_absent (absence targets named) line None h).0
   where
-    both_there : (a b : Bool) → cond a (cond b None (Some NoSuchChannel)) (Some NoSuchTarget) ≡ None → b ≡ true
-    both_there true true h = refl
-    both_there true false h = absurd cc
-    both_there false b h = absurd cc
+    named : Named
+    named = record { line = line; left = left; target = target; channel = channel }
+
+    both_there : (c t : TokenFault ScriptKind) (a b : Bool) → cond a (cond b None (Some c)) (Some t) ≡ None → b ≡ true
+    both_there c t true true h = refl
+    both_there c t true false h = absurd cc
+    both_there c t false b h = absurd cc
 
 store_sound : (tokens : List Lexeme) → States (store tokens)
 unfolding store
 store_sound tokens statement h =
-    let w = made (target_word_at tokens) (λ word. value_at word.1 >>= λ value. end_at WrongArgs UnknownWord value.1 >>= λ end. Ok (Store word.0.0 word.0.1 value.0)) statement h in
-    let v = made (value_at w.0.1) (λ value. end_at WrongArgs UnknownWord value.1 >>= λ end. Ok (Store w.0.0.0 w.0.0.1 value.0)) statement w.2 in
-    let e = made (end_at WrongArgs UnknownWord v.0.1) (λ end. Ok (Store w.0.0.0 w.0.0.1 v.0.0)) statement v.2 in
+    let w = made (target_word_at tokens) (λ word. value_at word.1 >>= λ value. end_at (WrongArgs Extra) (UnknownWord Broken) value.1 >>= λ end. Ok (Store word.0.0 word.0.1 value.0)) statement h in
+    let v = made (value_at w.0.1) (λ value. end_at (WrongArgs Extra) (UnknownWord Broken) value.1 >>= λ end. Ok (Store w.0.0.0 w.0.0.1 value.0)) statement w.2 in
+    let e = made (end_at (WrongArgs Extra) (UnknownWord Broken) v.0.1) (λ end. Ok (Store w.0.0.0 w.0.0.1 v.0.0)) statement v.2 in
     subst IsSoundOnce {x = Store w.0.0.0 w.0.0.1 v.0.0}
     (ok_same (Store w.0.0.0 w.0.0.1 v.0.0) statement e.2)
-    (λ targets line absent. both _ _ (there targets line w.0.0.0 w.0.0.1.channel absent) (word_sound tokens w.0 w.1))
+    (λ targets line absent. both _ _ (there targets line 4 w.0.0.0 w.0.0.1.channel absent) (word_sound tokens w.0 w.1))
 
 exchange_sound : (tokens : List Lexeme) → States (exchange tokens)
 unfolding exchange
 exchange_sound tokens statement h =
-    let w = made (target_word_at tokens) (λ word. value_at word.1 >>= λ from. value_at from.1 >>= λ to. end_at WrongArgs UnknownWord to.1 >>= λ end. Ok (Exchange word.0.0 word.0.1 from.0 to.0)) statement h in
-    let f = made (value_at w.0.1) (λ from. value_at from.1 >>= λ to. end_at WrongArgs UnknownWord to.1 >>= λ end. Ok (Exchange w.0.0.0 w.0.0.1 from.0 to.0)) statement w.2 in
-    let t = made (value_at f.0.1) (λ to. end_at WrongArgs UnknownWord to.1 >>= λ end. Ok (Exchange w.0.0.0 w.0.0.1 f.0.0 to.0)) statement f.2 in
-    let e = made (end_at WrongArgs UnknownWord t.0.1) (λ end. Ok (Exchange w.0.0.0 w.0.0.1 f.0.0 t.0.0)) statement t.2 in
+    let w = made (target_word_at tokens) (λ word. value_at word.1 >>= λ from. value_at from.1 >>= λ to. end_at (WrongArgs Extra) (UnknownWord Broken) to.1 >>= λ end. Ok (Exchange word.0.0 word.0.1 from.0 to.0)) statement h in
+    let f = made (value_at w.0.1) (λ from. value_at from.1 >>= λ to. end_at (WrongArgs Extra) (UnknownWord Broken) to.1 >>= λ end. Ok (Exchange w.0.0.0 w.0.0.1 from.0 to.0)) statement w.2 in
+    let t = made (value_at f.0.1) (λ to. end_at (WrongArgs Extra) (UnknownWord Broken) to.1 >>= λ end. Ok (Exchange w.0.0.0 w.0.0.1 f.0.0 to.0)) statement f.2 in
+    let e = made (end_at (WrongArgs Extra) (UnknownWord Broken) t.0.1) (λ end. Ok (Exchange w.0.0.0 w.0.0.1 f.0.0 t.0.0)) statement t.2 in
     subst IsSoundOnce {x = Exchange w.0.0.0 w.0.0.1 f.0.0 t.0.0}
     (ok_same (Exchange w.0.0.0 w.0.0.1 f.0.0 t.0.0) statement e.2)
-    (λ targets line absent. both _ _ (there targets line w.0.0.0 w.0.0.1.channel absent) (word_sound tokens w.0 w.1))
+    (λ targets line absent. both _ _ (there targets line 5 w.0.0.0 w.0.0.1.channel absent) (word_sound tokens w.0 w.1))
 
 load_sound : (tokens : List Lexeme) → States (load tokens)
 unfolding load
 load_sound tokens statement h =
-    let w = made (target_word_at tokens) (λ word. end_at WrongArgs UnknownWord word.1 >>= λ end. Ok (Load word.0.0 word.0.1)) statement h in
-    let e = made (end_at WrongArgs UnknownWord w.0.1) (λ end. Ok (Load w.0.0.0 w.0.0.1)) statement w.2 in
+    let w = made (target_word_at tokens) (λ word. end_at (WrongArgs Extra) (UnknownWord Broken) word.1 >>= λ end. Ok (Load word.0.0 word.0.1)) statement h in
+    let e = made (end_at (WrongArgs Extra) (UnknownWord Broken) w.0.1) (λ end. Ok (Load w.0.0.0 w.0.0.1)) statement w.2 in
     subst IsSoundOnce {x = Load w.0.0.0 w.0.0.1}
     (ok_same (Load w.0.0.0 w.0.0.1) statement e.2)
-    (λ targets line absent. both _ _ (there targets line w.0.0.0 w.0.0.1.channel absent) (word_sound tokens w.0 w.1))
+    (λ targets line absent. both _ _ (there targets line 3 w.0.0.0 w.0.0.1.channel absent) (word_sound tokens w.0 w.1))
 
 wait_sound : (tokens : List Lexeme) → States (wait tokens)
 unfolding wait
 wait_sound tokens statement h =
     let w = made (target_word_at tokens)
-    (λ word. value_at word.1 >>= λ value. value_at value.1 >>= λ loads. end_at WrongArgs UnknownWord loads.1 >>= λ end. within 1 1000000 loads.0 >>= λ most. Ok (Wait word.0.0 word.0.1 value.0 most)) statement h in
+    (λ word. value_at word.1 >>= λ value. value_at value.1 >>= λ loads. end_at (WrongArgs Extra) (UnknownWord Broken) loads.1 >>= λ end. at_token value.1 (within 1 1000000 loads.0) >>= λ most. Ok (Wait word.0.0 word.0.1 value.0 most)) statement h in
     let v = made (value_at w.0.1)
-    (λ value. value_at value.1 >>= λ loads. end_at WrongArgs UnknownWord loads.1 >>= λ end. within 1 1000000 loads.0 >>= λ most. Ok (Wait w.0.0.0 w.0.0.1 value.0 most)) statement w.2 in
-    let l = made (value_at v.0.1) (λ loads. end_at WrongArgs UnknownWord loads.1 >>= λ end. within 1 1000000 loads.0 >>= λ most. Ok (Wait w.0.0.0 w.0.0.1 v.0.0 most)) statement v.2 in
-    let e = made (end_at WrongArgs UnknownWord l.0.1) (λ end. within 1 1000000 l.0.0 >>= λ most. Ok (Wait w.0.0.0 w.0.0.1 v.0.0 most)) statement l.2 in
-    let m = made (within 1 1000000 l.0.0) (λ most. Ok (Wait w.0.0.0 w.0.0.1 v.0.0 most)) statement e.2 in
-    let t = passed (nat_le 1 l.0.0 && nat_le l.0.0 1000000) l.0.0 m.0 BadNumber m.1 in
+    (λ value. value_at value.1 >>= λ loads. end_at (WrongArgs Extra) (UnknownWord Broken) loads.1 >>= λ end. at_token value.1 (within 1 1000000 loads.0) >>= λ most. Ok (Wait w.0.0.0 w.0.0.1 value.0 most)) statement w.2 in
+    let l = made (value_at v.0.1) (λ loads. end_at (WrongArgs Extra) (UnknownWord Broken) loads.1 >>= λ end. at_token v.0.1 (within 1 1000000 loads.0) >>= λ most. Ok (Wait w.0.0.0 w.0.0.1 v.0.0 most)) statement v.2 in
+    let e = made (end_at (WrongArgs Extra) (UnknownWord Broken) l.0.1) (λ end. at_token v.0.1 (within 1 1000000 l.0.0) >>= λ most. Ok (Wait w.0.0.0 w.0.0.1 v.0.0 most)) statement l.2 in
+    let m = made (at_token v.0.1 (within 1 1000000 l.0.0)) (λ most. Ok (Wait w.0.0.0 w.0.0.1 v.0.0 most)) statement e.2 in
+    let t = passed (nat_le 1 l.0.0 && nat_le l.0.0 1000000) l.0.0 m.0 BadNumber (at_made (length v.0.1) (within 1 1000000 l.0.0) m.0 m.1) in
     subst IsSoundOnce {x = Wait w.0.0.0 w.0.0.1 v.0.0 m.0}
     (ok_same (Wait w.0.0.0 w.0.0.1 v.0.0 m.0) statement m.2)
-    (λ targets line absent. both (nat_lt w.0.0.1.channel (channels_of (slice_get targets w.0.0.0)) && nat_le w.0.0.1.at 64) (is_patience m.0) (both _ _ (there targets line w.0.0.0 w.0.0.1.channel absent) (word_sound tokens w.0 w.1)) (subst (λ n. is_patience n ≡ true) {x = l.0.0} {y = m.0} t.1 t.0))
+    (λ targets line absent. both (nat_lt w.0.0.1.channel (channels_of (slice_get targets w.0.0.0)) && nat_le w.0.0.1.at 64) (is_patience m.0) (both _ _ (there targets line 5 w.0.0.0 w.0.0.1.channel absent) (word_sound tokens w.0 w.1)) (subst (λ n. is_patience n ≡ true) {x = l.0.0} {y = m.0} t.1 t.0))
 
 pub statement_sound : (w : List ℕ) (tokens : List Lexeme) → States (statement_line w tokens)
 unfolding statement_line

@@ -11,6 +11,7 @@ use Rattle.sb_items.specs.Refusals.{Gives}
 use Rattle.sb_text.specs.Steps.{Becomes}
 use Rattle.sb_items.specs.declared.refusals.Refused.{Refused}
 use Rattle.sb_items.specs.declared.refusals.Refused.TheVariants as refused
+use Rattle.sb_scripttext.specs.declared.faults.ScriptLimit.TheVariants.{Openings}
 
 same_lines : (a b : List StartLine) → ◌≡◌ {A = Result (List StartLine) ScriptKind} (Ok a) (Ok b) → a ≡ b
 same_lines a b e = cc
@@ -29,7 +30,7 @@ start_more sofar line before lines s e l =
     (grind (arith, nat_tests, l))
   where
     by : (b : Bool) (more : List StartLine) (few : Bool) → ◌≡◌ {A = Result (List StartLine) ScriptKind} (cond b (Ok more) (Err BadStart)) (Ok lines) → few ≡ true
-        → ◌≡◌ {A = Result SoFar ScriptKind} (cond b (cond few (with_lines sofar more) (Err TooMany)) (Err BadStart)) (with_lines sofar lines)
+        → ◌≡◌ {A = Result SoFar ScriptKind} (cond b (cond few (with_lines sofar more) (Err (TooMany Openings))) (Err BadStart)) (with_lines sofar lines)
     by true more true e l = ap (with_lines sofar) (same_lines more lines e)
     by true more false e l = absurd cc
     by false more few e l = absurd cc
@@ -39,7 +40,7 @@ pub start_refused : (sofar new : SoFar) (line : StartLine) (before : List StartL
     → Gives {A = List StartLine} (with_line before line) (Err why) → Becomes {A = ⊤} (with_start sofar line) (Err why) new
 start_refused sofar new line before (refused.Fault kind) s h =
     by (can_place sofar.start line) (sofar.start ++ line ∷ [])
-    (cond (nat_lt (length sofar.start) 4096) (with_lines sofar (sofar.start ++ line ∷ [])) (Err TooMany)) (ap (λ lines. with_line lines line) (sym s) ∙ h)
+    (cond (nat_lt (length sofar.start) 4096) (with_lines sofar (sofar.start ++ line ∷ [])) (Err (TooMany Openings))) (ap (λ lines. with_line lines line) (sym s) ∙ h)
   where
     by : (b : Bool) (more : List StartLine) (next : Result SoFar ScriptKind) → ◌≡◌ {A = Result (List StartLine) ScriptKind} (cond b (Ok more) (Err BadStart)) (Err kind)
         → ◌≡◌ {A = Result SoFar ScriptKind} (cond b next (Err BadStart)) (Err kind)

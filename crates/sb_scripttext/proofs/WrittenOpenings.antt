@@ -16,25 +16,27 @@ use Rattle.sb_scripttext.specs.declared.faults.ScriptKind.TheVariants.{UnknownWo
 use Rattle.sb_text.specs.Steps.{◌>>=◌, Read, later, end_at}
 use Rattle.sb_text.specs.Tokens.{Lexeme}
 use Rattle.sb_wide.specs.Names.{is_name_of}
+use Rattle.sb_text.specs.declared.refusals.TokenFault.{TokenFault}
+use Rattle.sb_text.specs.declared.refusals.WordFault.TheVariants.{Broken, Extra, Missing, Unquoted}
 
 -- a directory or a key, whose name ends the line
-abbrev named : (List ℕ → StartLine) → List ℕ × List Lexeme → Result StartLine ScriptKind
-named line name = end_at UnknownWord UnknownWord name.1 >>= λ end. Ok (line name.0)
+abbrev named : (List ℕ → StartLine) → List ℕ × List Lexeme → Result StartLine (TokenFault ScriptKind)
+named line name = end_at (UnknownWord Extra) (UnknownWord Broken) name.1 >>= λ end. Ok (line name.0)
 
 dir_read : Texts → (name : List ℕ) → is_text name ≡ true → is_name_of name ≡ true → dir (string_token name ∷ []) ≡ Ok (Dir name)
 unfolding dir
-dir_read law name t h = ap (λ (r : Read (List ℕ) ScriptKind). r >>= named Dir) (name_read law UnknownWord name [] t h)
+dir_read law name t h = ap (λ (r : Read (List ℕ) ScriptKind). r >>= named Dir) (name_read law (UnknownWord Unquoted) (UnknownWord Missing) name [] t h)
 
 key_read : Texts → (name : List ℕ) → is_text name ≡ true → is_name_of name ≡ true → key (string_token name ∷ []) ≡ Ok (Key name)
 unfolding key
-key_read law name t h = ap (λ (r : Read (List ℕ) ScriptKind). r >>= named Key) (name_read law UnknownWord name [] t h)
+key_read law name t h = ap (λ (r : Read (List ℕ) ScriptKind). r >>= named Key) (name_read law (UnknownWord Unquoted) (UnknownWord Missing) name [] t h)
 
 -- a file, whose attributes end the line
-abbrev attributed : List ℕ → ℕ × List Lexeme → Result StartLine ScriptKind
-attributed name attributes = end_at UnknownWord UnknownWord attributes.1 >>= λ end. Ok (File name attributes.0)
+abbrev attributed : List ℕ → ℕ × List Lexeme → Result StartLine (TokenFault ScriptKind)
+attributed name attributes = end_at (UnknownWord Extra) (UnknownWord Broken) attributes.1 >>= λ end. Ok (File name attributes.0)
 
-abbrev then_attributed : List ℕ × List Lexeme → Result StartLine ScriptKind
-then_attributed name = number_within 0 most_32 BadNumber UnknownWord name.1 >>= attributed name.0
+abbrev then_attributed : List ℕ × List Lexeme → Result StartLine (TokenFault ScriptKind)
+then_attributed name = number_within 0 most_32 BadNumber (UnknownWord Missing) name.1 >>= attributed name.0
 
 pub few_attributes : (n : ℕ) → nat_lt n (2 ^ 32) ≡ true → nat_le n most_32 ≡ true
 few_attributes n h = grind (arith, nat_tests)
@@ -44,19 +46,19 @@ file_read : Texts → (name : List ℕ) (attributes : ℕ) → is_text name ≡ 
 unfolding file
 file_read law name attributes t h k =
     let few = few_attributes attributes k in
-    ap (λ (r : Read (List ℕ) ScriptKind). r >>= then_attributed) (name_read law UnknownWord name (number_token attributes ∷ []) t h)
+    ap (λ (r : Read (List ℕ) ScriptKind). r >>= then_attributed) (name_read law (UnknownWord Unquoted) (UnknownWord Missing) name (number_token attributes ∷ []) t h)
     ∙ ap (λ (r : Read ℕ ScriptKind). r >>= attributed name)
-    (within_read law 0 most_32 BadNumber UnknownWord attributes [] (short_number attributes few) (at_most attributes few))
+    (within_read law 0 most_32 BadNumber (UnknownWord Missing) attributes [] (short_number attributes few) (at_most attributes few))
 
 -- an event, whose initial state ends the line
-abbrev begun : List ℕ → ℕ → ℕ × List Lexeme → Result StartLine ScriptKind
-begun name kind initial = end_at UnknownWord UnknownWord initial.1 >>= λ end. Ok (Event name kind initial.0)
+abbrev begun : List ℕ → ℕ → ℕ × List Lexeme → Result StartLine (TokenFault ScriptKind)
+begun name kind initial = end_at (UnknownWord Extra) (UnknownWord Broken) initial.1 >>= λ end. Ok (Event name kind initial.0)
 
-abbrev of_kind : List ℕ → ℕ × List Lexeme → Result StartLine ScriptKind
-of_kind name kind = number_within 0 1 BadNumber UnknownWord kind.1 >>= begun name kind.0
+abbrev of_kind : List ℕ → ℕ × List Lexeme → Result StartLine (TokenFault ScriptKind)
+of_kind name kind = number_within 0 1 BadNumber (UnknownWord Missing) kind.1 >>= begun name kind.0
 
-abbrev then_kind : List ℕ × List Lexeme → Result StartLine ScriptKind
-then_kind name = number_within 0 1 BadNumber UnknownWord name.1 >>= of_kind name.0
+abbrev then_kind : List ℕ × List Lexeme → Result StartLine (TokenFault ScriptKind)
+then_kind name = number_within 0 1 BadNumber (UnknownWord Missing) name.1 >>= of_kind name.0
 
 pub bit_number : (n : ℕ) → nat_le n 1 ≡ true → is_number n ≡ true
 bit_number n h = grind (arith, nat_tests)
@@ -68,13 +70,13 @@ event_read : Texts → (name : List ℕ) (kind initial : ℕ) → is_text name �
     → event (string_token name ∷ number_token kind ∷ number_token initial ∷ []) ≡ Ok (Event name kind initial)
 unfolding event
 event_read law name kind initial t h k i =
-    ap (λ (r : Read (List ℕ) ScriptKind). r >>= then_kind) (name_read law UnknownWord name (number_token kind ∷ number_token initial ∷ []) t h)
+    ap (λ (r : Read (List ℕ) ScriptKind). r >>= then_kind) (name_read law (UnknownWord Unquoted) (UnknownWord Missing) name (number_token kind ∷ number_token initial ∷ []) t h)
     ∙ ap (λ (r : Read ℕ ScriptKind). r >>= of_kind name)
-    (within_read law 0 1 BadNumber UnknownWord kind (number_token initial ∷ []) (bit_number kind k) (a_bit kind k))
-    ∙ ap (λ (r : Read ℕ ScriptKind). r >>= begun name kind) (within_read law 0 1 BadNumber UnknownWord initial [] (bit_number initial i) (a_bit initial i))
+    (within_read law 0 1 BadNumber (UnknownWord Missing) kind (number_token initial ∷ []) (bit_number kind k) (a_bit kind k))
+    ∙ ap (λ (r : Read ℕ ScriptKind). r >>= begun name kind) (within_read law 0 1 BadNumber (UnknownWord Missing) initial [] (bit_number initial i) (a_bit initial i))
 
 -- the reader of such opening lines
-abbrev pub start_reader : StartLine → List Lexeme → Result StartLine ScriptKind
+abbrev pub start_reader : StartLine → List Lexeme → Result StartLine (TokenFault ScriptKind)
 start_reader (Dir name) = dir
 start_reader (File name attributes) = file
 start_reader (Key name) = key

@@ -23,15 +23,17 @@ use Rattle.sb_scripttext.proofs.Opened.{place_within}
 use Rattle.sb_scripttext.proofs.Prefixes.{read_by_lines}
 use Rattle.sb_scripttext.proofs.Ready.{none_here}
 use Rattle.sb_scripttext.proofs.Sound.{both, none_absent}
+use Rattle.sb_text.specs.Lines.{NumberedLine}
+use Rattle.sb_text.specs.TokenLaws.{written_line}
 use Rattle.sb_text.specs.PlainLines.{is_plain_line, numbered, PlainLinesAreUtf8, PlainLinesAreRead, PlainTokensAreRead}
 use Rattle.sb_scripttext.proofs.WrittenOpenings.{start_reader, start_read}
 use Rattle.sb_scripttext.proofs.WrittenStatements.{AreSound, patience_number, statement_reader, statement_read, statement_there}
 use Rattle.sb_scripttext.proofs.WrittenTokens.{IsWhole, sound_target, channels_number, start_plain, statement_plain, patience_plain, heading_plain, script_plain}
 use Rattle.sb_scripttext.proofs.WrittenWords.{Texts, not_true, names_symm, or_false, within_read, policy_read}
 use Rattle.sb_scripttext.specs.SoFar.{SoFar, nothing, is_empty, is_opening, is_in_thread, with_patience, with_start, with_target, one_thread_more, with_thread, one_statement_more, in_last_thread, named_by, with_statement}
-use Rattle.sb_scripttext.specs.Lines.{is_target_named, new_name_at, policy_at, heading, patience, set_patience, add_target, add_thread, start_line, statement_line, plain_line, line_of}
+use Rattle.sb_scripttext.specs.Lines.{add_target, add_thread, at_start, heading, is_target_named, line_of, misplaced, new_name_at, not_here, patience, plain_line, policy_at, set_patience, start_line, statement_line}
 use Rattle.sb_scripttext.specs.Openings.{can_place}
-use Rattle.sb_scripttext.specs.ScriptTexts.{ScriptFault, add_line, grammar, absence, first_absence, finished}
+use Rattle.sb_scripttext.specs.ScriptTexts.{Absence, ScriptFault, absence_fault, add_line, grammar, absence, first_absence, finished}
 use Rattle.sb_scripttext.specs.Steps.{number_within}
 use Rattle.sb_scripttext.specs.Writable.{is_writable_start, is_writable_statement, is_writable_thread, is_writable_target, is_writable, are_short_named}
 use Rattle.sb_scripttext.specs.Writing.{number_token, start_tokens, statement_tokens, thread_lines, policy_name, heading_tokens, target_lines, version_tokens, patience_tokens, script_lines, written}
@@ -39,14 +41,18 @@ use Rattle.sb_scripttext.specs.WritingLaws.{WrittenScriptsAreRead}
 use Rattle.sb_scripttext.specs.declared.drafts.Named.{Named}
 use Rattle.sb_scripttext.specs.declared.faults.ScriptKind.{ScriptKind}
 use Rattle.sb_scripttext.specs.declared.faults.ScriptKind.TheVariants.{UnknownWord, BadNumber, SameName, TooMany, BadStart}
-use Rattle.sb_text.specs.Readings.{on_line, read_lines, read_below, read_by}
-use Rattle.sb_text.specs.Steps.{◌>>=◌, Read, end_at, later, version_of}
+use Rattle.sb_text.specs.Readings.{on_line, read_lines, read_by}
+use Rattle.sb_text.specs.Spots.{by_tokens}
+use Rattle.sb_text.specs.Steps.{◌>>=◌, Read, at_left, at_token, end_at, later, version_at, with_first}
 use Rattle.sb_text.specs.Tokens.{Lexeme, Word}
-use Rattle.sb_text.specs.Utf8Laws.{NotUtf8LineTells}
+use Rattle.sb_text.specs.Utf8Laws.{NotUtf8PlaceTells}
+use Rattle.sb_scripttext.specs.declared.faults.ScriptLimit.TheVariants.{Openings, Statements, Targets, Threads}
+use Rattle.sb_text.specs.declared.refusals.TokenFault.{TokenFault}
+use Rattle.sb_text.specs.declared.refusals.WordFault.TheVariants.{Broken, Extra, Missing, NoVersion, Unknown}
 
 -- the laws of lower crates that the proof stands on
 pub record Laws : Type 0 where
-  pub utf8 : NotUtf8LineTells
+  pub utf8 : NotUtf8PlaceTells
   pub plain : PlainLinesAreUtf8
   pub lines : PlainLinesAreRead
   pub tokens : PlainTokensAreRead
@@ -56,22 +62,23 @@ pub record Laws : Type 0 where
 
 line_read : Laws → (policies : List Policy) (sofar more : SoFar) (n : ℕ) (tokens : List Lexeme) (lines : List (List Lexeme)) → is_plain_line tokens ≡ true
     → line_of policies sofar n tokens ≡ Ok more
-    → read_lines (add_line policies) sofar (numbered n (tokens ∷ lines)) ≡ read_lines (add_line policies) more (numbered (n + 1) lines)
+    → read_lines (grammar policies) 1 sofar (numbered n (tokens ∷ lines)) ≡ read_lines (grammar policies) 1 more (numbered (n + 1) lines)
 unfolding read_lines
 line_read laws policies sofar more n tokens lines p e =
-    ap (λ tokens. on_line n (line_of policies sofar n tokens) >>= λ more. read_lines (add_line policies) more (numbered (n + 1) lines)) (laws.tokens tokens p)
-    ∙ ap (λ r. on_line n r >>= λ more. read_lines (add_line policies) more (numbered (n + 1) lines)) e
+    let here : NumberedLine = record { number = n; text = written_line tokens } in
+    ap (λ tokens. on_line by_tokens here (line_of policies sofar n tokens) >>= λ more. read_lines (grammar policies) 1 more (numbered (n + 1) lines)) (laws.tokens tokens p)
+    ∙ ap (λ r. on_line by_tokens here r >>= λ more. read_lines (grammar policies) 1 more (numbered (n + 1) lines)) e
 
 -- what is read up to some line, and what is read on from there
 abbrev Continues : List Policy → SoFar → ℕ → List (List Lexeme) → SoFar → ℕ → Type 0
 Continues policies old n lines new m = (rest : List (List Lexeme))
-    → read_lines (add_line policies) old (numbered n (lines ++ rest)) ≡ read_lines (add_line policies) new (numbered m rest)
+    → read_lines (grammar policies) 1 old (numbered n (lines ++ rest)) ≡ read_lines (grammar policies) 1 new (numbered m rest)
 
 -- lines after others
 joined : (policies : List Policy) (old middle new : SoFar) (n m k : ℕ) (front lines : List (List Lexeme))
     → Continues policies old n front middle m → Continues policies middle m lines new k → Continues policies old n (front ++ lines) new k
 joined policies old middle new n m k front lines f g rest =
-    ap (λ all. read_lines (add_line policies) old (numbered n all)) (append_assoc front lines rest) ∙ f (lines ++ rest) ∙ g rest
+    ap (λ all. read_lines (grammar policies) 1 old (numbered n all)) (append_assoc front lines rest) ∙ f (lines ++ rest) ∙ g rest
 
 -- nothing of both is absent
 both_there : (targets : List TargetScript) (xs ys : List Named) → first_absence targets xs ≡ None → first_absence targets ys ≡ None
@@ -95,21 +102,21 @@ few k most h = grind (arith, nat_tests)
 -- the patience
 
 -- a patience, with which the line ends
-abbrev then_patience : ℕ × List Lexeme → Result ℕ ScriptKind
-then_patience number = end_at UnknownWord UnknownWord number.1 >>= λ end. Ok number.0
+abbrev then_patience : ℕ × List Lexeme → Result ℕ (TokenFault ScriptKind)
+then_patience number = end_at (UnknownWord Extra) (UnknownWord Broken) number.1 >>= λ end. Ok number.0
 
-abbrev patient : ℕ → Result SoFar ScriptKind
+abbrev patient : ℕ → Result SoFar (TokenFault ScriptKind)
 patient n = Ok (with_patience nothing n)
 
 patience_read : Texts → (n : ℕ) → is_patience n ≡ true → patience (number_token n ∷ []) ≡ Ok n
 unfolding patience
 patience_read law n h =
-    ap (λ (r : Read ℕ ScriptKind). r >>= then_patience) (within_read law 1 1000000 BadNumber UnknownWord n [] (patience_number n h) h)
+    ap (λ (r : Read ℕ ScriptKind). r >>= then_patience) (within_read law 1 1000000 BadNumber (UnknownWord Missing) n [] (patience_number n h) h)
 
 patience_line : Laws → (policies : List Policy) (line n : ℕ) → is_patience n ≡ true
     → line_of policies nothing line (patience_tokens n) ≡ Ok (with_patience nothing n)
 unfolding line_of set_patience
-patience_line laws policies line n h = ap (λ (r : Result ℕ ScriptKind). r >>= patient) (patience_read laws.texts n h)
+patience_line laws policies line n h = ap (λ (r : Result ℕ (TokenFault ScriptKind)). r >>= patient) (patience_read laws.texts n h)
 
 -- opening lines
 
@@ -117,9 +124,13 @@ patience_line laws policies line n h = ap (λ (r : Result ℕ ScriptKind). r >>=
 abbrev opening : ℕ → List StartLine → SoFar
 opening n start = record { patience = Some n; start = start; targets = []; named = [] }
 
+-- what an opening line with these tokens after its first adds
+abbrev starting : List Lexeme → SoFar → StartLine → Result SoFar (TokenFault ScriptKind)
+starting tokens sofar start = at_start tokens (with_start sofar start)
+
 -- an opening line is read by its reader
 start_by : (policies : List Policy) (n line : ℕ) (before : List StartLine) (start : StartLine)
-    → line_of policies (opening n before) line (start_tokens start) ≡ start_reader start (later (start_tokens start)) >>= with_start (opening n before)
+    → line_of policies (opening n before) line (start_tokens start) ≡ start_reader start (later (start_tokens start)) >>= starting (later (start_tokens start)) (opening n before)
 unfolding line_of plain_line start_line
 start_by policies n line before (Dir name) = refl
 start_by policies n line before (File name attributes) = refl
@@ -127,23 +138,24 @@ start_by policies n line before (Key name) = refl
 start_by policies n line before (Event name kind initial) = refl
 
 -- an opening line that can be placed, if there is room for one more
-abbrev placed : ℕ → List StartLine → StartLine → Bool → Bool → Result SoFar ScriptKind
-placed n before start place room = cond place (cond room (Ok (opening n (before ++ start ∷ []))) (Err TooMany)) (Err BadStart)
+abbrev placed : List Lexeme → ℕ → List StartLine → StartLine → Bool → Bool → Result SoFar (TokenFault ScriptKind)
+placed tokens n before start place room = at_start tokens (cond place (cond room (Ok (opening n (before ++ start ∷ []))) (Err (TooMany Openings))) (Err BadStart))
 
 start_line_read : Texts → (policies : List Policy) (n line : ℕ) (before : List StartLine) (start : StartLine) → is_start start ≡ true
     → is_writable_start start ≡ true → can_place before start ≡ true → nat_lt (length before) 4096 ≡ true
     → line_of policies (opening n before) line (start_tokens start) ≡ Ok (opening n (before ++ start ∷ []))
 start_line_read law policies n line before start h w p l =
+    let tokens = later (start_tokens start) in
     start_by policies n line before start
-    ∙ ap (λ (r : Result StartLine ScriptKind). r >>= with_start (opening n before)) (start_read law start h w)
-    ∙ ap (λ t. placed n before start t (nat_lt (length before) 4096)) p
-    ∙ ap (placed n before start true) l
+    ∙ ap (λ (r : Result StartLine (TokenFault ScriptKind)). r >>= starting tokens (opening n before)) (start_read law start h w)
+    ∙ ap (λ t. placed tokens n before start t (nat_lt (length before) 4096)) p
+    ∙ ap (placed tokens n before start true) l
 
 starts_read : Laws → (policies : List Policy) (n line : ℕ) (before lines : List StartLine) → list_all is_start lines ≡ true
     → list_all is_writable_start lines ≡ true → is_ok (opened (before ++ lines)) ≡ true → length before + length lines ≤ 4096
     → (m : ℕ) × Continues policies (opening n before) line (map start_tokens lines) (opening n (before ++ lines)) m
 starts_read laws policies n line before [] h w p l =
-    (line, λ rest. ap (λ all. read_lines (add_line policies) (opening n all) (numbered line rest)) (sym (append-nil before)))
+    (line, λ rest. ap (λ all. read_lines (grammar policies) 1 (opening n all) (numbered line rest)) (sym (append-nil before)))
 starts_read laws policies n line before (start ∷ lines) h w p l =
     let sound = and_parts (is_start start) (list_all is_start lines) h in
     let writable = and_parts (is_writable_start start) (list_all is_writable_start lines) w in
@@ -155,7 +167,7 @@ starts_read laws policies n line before (start ∷ lines) h w p l =
           (start_plain laws.texts start sound.0 writable.0)
           (start_line_read laws.texts policies n line before start sound.0 writable.0 (place_within before start lines p) (room 4096 before lines l))
           ∙ further.1 rest
-          ∙ ap (λ all. read_lines (add_line policies) (opening n all) (numbered further.0 rest)) (append_assoc before (start ∷ []) lines),
+          ∙ ap (λ all. read_lines (grammar policies) 1 (opening n all) (numbered further.0 rest)) (append_assoc before (start ∷ []) lines),
     )
 
 -- inside a target
@@ -189,21 +201,25 @@ in_thread : (sofar : SoFar) (target : TargetScript) (threads : List (List Statem
 in_thread sofar target threads before named =
     ap (λ threads. not (is_empty threads)) (last_behind sofar.targets (record target { threads = threads ++ before ∷ [] })) ∙ ap not (some_behind threads before)
 
+-- what a statement with these tokens after its first adds
+abbrev stating : List Lexeme → SoFar → ℕ → Statement → Result SoFar (TokenFault ScriptKind)
+stating tokens sofar line statement = at_left (with_first tokens) (with_statement sofar line statement)
+
 -- in a thread a line is a statement
 plain_in_thread : (w : List ℕ) (sofar : SoFar) (line : ℕ) (tokens : List Lexeme) → is_in_thread sofar ≡ true
-    → plain_line w sofar line tokens ≡ (statement_line w tokens >>= with_statement sofar line)
+    → plain_line w sofar line tokens ≡ (statement_line w tokens >>= stating tokens sofar line)
 unfolding plain_line
 plain_in_thread w sofar line tokens h =
-    by (is_in_thread sofar) (statement_line w tokens >>= with_statement sofar line)
-    (cond (is_opening sofar) (start_line w tokens >>= with_start sofar) (Err UnknownWord)) h
+    by (is_in_thread sofar) (statement_line w tokens >>= stating tokens sofar line)
+    (cond (is_opening sofar) (start_line w tokens >>= starting tokens sofar) (not_here w tokens)) h
   where
-    by : (t : Bool) (a b : Result SoFar ScriptKind) → t ≡ true → cond t a b ≡ a
+    by : (t : Bool) (a b : Result SoFar (TokenFault ScriptKind)) → t ≡ true → cond t a b ≡ a
     by true a b h = refl
     by false a b h = absurd (false≢true h)
 
 -- a statement is read by its reader
 statement_by : (policies : List Policy) (sofar : SoFar) (line : ℕ) (statement : Statement) → is_in_thread sofar ≡ true
-    → line_of policies sofar line (statement_tokens statement) ≡ statement_reader statement (later (statement_tokens statement)) >>= with_statement sofar line
+    → line_of policies sofar line (statement_tokens statement) ≡ statement_reader statement (later (statement_tokens statement)) >>= stating (later (statement_tokens statement)) sofar line
 unfolding line_of statement_line
 statement_by policies sofar line (Call tag args) h = plain_in_thread (codes "call") sofar line (later (statement_tokens (Call tag args))) h
 statement_by policies sofar line (Store target word value) h = plain_in_thread (codes "store") sofar line (later (statement_tokens (Store target word value))) h
@@ -216,7 +232,7 @@ statement_by policies sofar line (Wait target word value most) h =
 -- the last thread has one statement more
 abbrev told_more : SoFar → TargetScript → List (List Statement) → List Statement → List Named → Statement → Bool → Result SoFar ScriptKind
 told_more sofar target threads before named statement room =
-    with_targets sofar named (with_last sofar (with_its_threads target (with_last_thread threads (cond room (Ok (before ++ statement ∷ [])) (Err TooMany)))))
+    with_targets sofar named (with_last sofar (with_its_threads target (with_last_thread threads (cond room (Ok (before ++ statement ∷ [])) (Err (TooMany Statements))))))
 
 statement_told : (sofar : SoFar) (target : TargetScript) (threads : List (List Statement)) (before : List Statement) (named : List Named)
     (line : ℕ) (statement : Statement) → nat_lt (length before) 4096 ≡ true
@@ -236,8 +252,8 @@ statement_line_read : Texts → (policies : List Policy) (all : List TargetScrip
 statement_line_read law policies all sofar target threads before named line statement s h w l =
     let here = inside sofar target (threads ++ before ∷ []) named in
     statement_by policies here line statement (in_thread sofar target threads before named)
-    ∙ ap (λ (r : Result Statement ScriptKind). r >>= with_statement here line) (statement_read law all statement s h w)
-    ∙ statement_told sofar target threads before named line statement l
+    ∙ ap (λ (r : Result Statement (TokenFault ScriptKind)). r >>= stating (later (statement_tokens statement)) here line) (statement_read law all statement s h w)
+    ∙ ap (at_left (with_first (later (statement_tokens statement)))) (statement_told sofar target threads before named line statement l)
 
 -- if lines lead: all that is named is there
 record Leads (policies : List Policy) (all : List TargetScript) (old : SoFar) (line : ℕ) (lines : List (List Lexeme)) (new : List Named → SoFar) : Type 0 where
@@ -254,7 +270,7 @@ statements_read laws policies all sofar target threads before named line [] s h 
   names = named;
   next = line;
   there = there;
-  reads = λ rest. ap (λ all. read_lines (add_line policies) (inside sofar target (threads ++ all ∷ []) named) (numbered line rest)) (sym (append-nil before));
+  reads = λ rest. ap (λ all. read_lines (grammar policies) 1 (inside sofar target (threads ++ all ∷ []) named) (numbered line rest)) (sym (append-nil before));
 }
 statements_read laws policies all sofar target threads before named line (statement ∷ more) s h w l there =
     let sound = and_parts (is_statement all statement) (list_all (is_statement all) more) h in
@@ -272,7 +288,7 @@ statements_read laws policies all sofar target threads before named line (statem
           (statement_tokens statement) (map statement_tokens more ++ rest) (statement_plain laws.texts all statement s sound.0 writable.0)
           (statement_line_read laws.texts policies all sofar target threads before named line statement s sound.0 writable.0 (room 4096 before more l))
           ∙ further.reads rest
-          ∙ ap (λ all. read_lines (add_line policies) (inside sofar target (threads ++ all ∷ []) further.names) (numbered further.next rest)) (append_assoc before (statement ∷ []) more);
+          ∙ ap (λ all. read_lines (grammar policies) 1 (inside sofar target (threads ++ all ∷ []) further.names) (numbered further.next rest)) (append_assoc before (statement ∷ []) more);
     }
 
 -- threads
@@ -280,7 +296,7 @@ statements_read laws policies all sofar target threads before named line (statem
 -- a target with one thread more
 abbrev begun : SoFar → TargetScript → List (List Statement) → List Named → Bool → Result SoFar ScriptKind
 begun sofar target threads named room =
-    with_targets sofar named (with_last sofar (cond room (Ok (record target { threads = threads ++ [] ∷ [] })) (Err TooMany)))
+    with_targets sofar named (with_last sofar (cond room (Ok (record target { threads = threads ++ [] ∷ [] })) (Err (TooMany Threads))))
 
 thread_line : (policies : List Policy) (sofar : SoFar) (target : TargetScript) (threads : List (List Statement)) (named : List Named) (line : ℕ)
     → nat_lt (length threads) 4 ≡ true
@@ -288,9 +304,8 @@ thread_line : (policies : List Policy) (sofar : SoFar) (target : TargetScript) (
 unfolding line_of add_thread
 thread_line policies sofar target threads named line l =
     let here = record target { threads = threads } in
-    ap (λ t. cond t (Err UnknownWord) (with_thread (inside sofar target threads named))) (some_behind sofar.targets here)
-    ∙ ap (with_targets sofar named) (changed_behind one_thread_more sofar.targets here)
-    ∙ ap (begun sofar target threads named) l
+    ap (λ t. cond t (misplaced []) (at_left 1 (with_thread (inside sofar target threads named)))) (some_behind sofar.targets here)
+    ∙ ap (at_left 1) (ap (with_targets sofar named) (changed_behind one_thread_more sofar.targets here) ∙ ap (begun sofar target threads named) l)
 
 threads_read : Laws → (policies : List Policy) (all : List TargetScript) (sofar : SoFar) (target : TargetScript) (threads : List (List Statement))
     (named : List Named) (line : ℕ) (more : List (List Statement)) → AreSound all → list_all (is_thread all) more ≡ true
@@ -300,7 +315,7 @@ threads_read laws policies all sofar target threads named line [] s h w l there 
   names = named;
   next = line;
   there = there;
-  reads = λ rest. ap (λ all. read_lines (add_line policies) (inside sofar target all named) (numbered line rest)) (sym (append-nil threads));
+  reads = λ rest. ap (λ all. read_lines (grammar policies) 1 (inside sofar target all named) (numbered line rest)) (sym (append-nil threads));
 }
 threads_read laws policies all sofar target threads named line (thread ∷ more) s h w l there =
     let sound = and_parts (is_thread all thread) (list_all (is_thread all) more) h in
@@ -321,7 +336,7 @@ threads_read laws policies all sofar target threads named line (thread ∷ more)
       reads = λ rest.
           joined policies (inside sofar target threads named) (inside sofar target told inner.names) (inside sofar target (told ++ more) further.names)
           line inner.next further.next (thread_lines thread) (flat_map thread_lines more) first further.reads rest
-          ∙ ap (λ all. read_lines (add_line policies) (inside sofar target all further.names) (numbered further.next rest)) (append_assoc threads (thread ∷ []) more);
+          ∙ ap (λ all. read_lines (grammar policies) 1 (inside sofar target all further.names) (numbered further.next rest)) (append_assoc threads (thread ∷ []) more);
     }
 
 -- headings
@@ -336,14 +351,14 @@ record AreNamed (policies : List Policy) : Type 0 where
 abbrev bare : TargetScript → TargetScript
 bare target = record target { threads = [] }
 
-abbrev with_channels : List ℕ → ℕ → ℕ × List Lexeme → Result TargetScript ScriptKind
+abbrev with_channels : List ℕ → ℕ → ℕ × List Lexeme → Result TargetScript (TokenFault ScriptKind)
 with_channels name policy channels =
-    end_at UnknownWord UnknownWord channels.1 >>= λ end. Ok (record { name = name; policy = policy; channels = channels.0; threads = [] })
+    end_at (UnknownWord Extra) (UnknownWord Broken) channels.1 >>= λ end. Ok (record { name = name; policy = policy; channels = channels.0; threads = [] })
 
-abbrev with_policy : List ℕ → ℕ × List Lexeme → Result TargetScript ScriptKind
-with_policy name policy = number_within 1 8 BadNumber UnknownWord policy.1 >>= with_channels name policy.0
+abbrev with_policy : List ℕ → ℕ × List Lexeme → Result TargetScript (TokenFault ScriptKind)
+with_policy name policy = number_within 1 8 BadNumber (UnknownWord Missing) policy.1 >>= with_channels name policy.0
 
-abbrev with_name : List Policy → List ℕ × List Lexeme → Result TargetScript ScriptKind
+abbrev with_name : List Policy → List ℕ × List Lexeme → Result TargetScript (TokenFault ScriptKind)
 with_name policies name = policy_at policies name.1 >>= with_policy name.0
 
 -- a name, and the tokens after it
@@ -357,20 +372,20 @@ heading_read : Texts → (policies : List Policy) (targets : List TargetScript) 
 unfolding heading new_name_at
 heading_read law policies targets target named judged short new channels =
     let rest = Word (policy_name policies target.policy) ∷ number_token target.channels ∷ [] in
-    ap (λ (r : Result (List ℕ) ScriptKind). (r >>= then_name rest) >>= with_name policies)
+    ap (λ (r : Result (List ℕ) ScriptKind). (at_token (Word target.name ∷ rest) r >>= then_name rest) >>= with_name policies)
     (by_tests (is_short_name target.name) (list_any (is_target_named target.name) targets) short new)
     ∙ ap (λ (r : Read ℕ ScriptKind). r >>= with_policy target.name) (policy_read policies target.policy (number_token target.channels ∷ []) named.few named.apart judged)
     ∙ ap (λ (r : Read ℕ ScriptKind). r >>= with_channels target.name target.policy)
-    (within_read law 1 8 BadNumber UnknownWord target.channels [] (channels_number target.channels (and_parts _ _ channels).1) channels)
+    (within_read law 1 8 BadNumber (UnknownWord Missing) target.channels [] (channels_number target.channels (and_parts _ _ channels).1) channels)
   where
     by_tests : (short taken : Bool) → short ≡ true → taken ≡ false
-        → ◌≡◌ {A = Result (List ℕ) ScriptKind} (cond short (cond taken (Err SameName) (Ok target.name)) (Err UnknownWord)) (Ok target.name)
+        → ◌≡◌ {A = Result (List ℕ) ScriptKind} (cond short (cond taken (Err SameName) (Ok target.name)) (Err (UnknownWord Unknown))) (Ok target.name)
     by_tests true false e f = refl
     by_tests true true e f = absurd (false≢true (sym f))
     by_tests false taken e f = absurd (false≢true e)
 
-abbrev headed_below : SoFar → TargetScript → Bool → Result SoFar ScriptKind
-headed_below sofar target room = cond room (Ok (inside sofar target [] sofar.named)) (Err TooMany)
+abbrev headed_below : ℕ → SoFar → TargetScript → Bool → Result SoFar (TokenFault ScriptKind)
+headed_below left sofar target room = at_left left (cond room (Ok (inside sofar target [] sofar.named)) (Err (TooMany Targets)))
 
 heading_line : Texts → (policies : List Policy) (sofar : SoFar) (line : ℕ) (target : TargetScript)
     → AreNamed policies → is_judged (length policies) target ≡ true → is_short_name target.name ≡ true
@@ -379,8 +394,9 @@ heading_line : Texts → (policies : List Policy) (sofar : SoFar) (line : ℕ) (
     → line_of policies sofar line (heading_tokens policies target) ≡ Ok (inside sofar target [] sofar.named)
 unfolding line_of add_target
 heading_line law policies sofar line target named judged short new channels l =
-    ap (λ (r : Result TargetScript ScriptKind). r >>= λ target. with_target sofar target) (heading_read law policies sofar.targets target named judged short new channels)
-    ∙ ap (headed_below sofar target) l
+    let left = with_first (later (heading_tokens policies target)) in
+    ap (λ (r : Result TargetScript (TokenFault ScriptKind)). r >>= λ target. at_left left (with_target sofar target)) (heading_read law policies sofar.targets target named judged short new channels)
+    ∙ ap (headed_below left sofar target) l
 
 -- names that no target so far has
 
@@ -427,7 +443,7 @@ targets_read laws policies all sofar line [] p s t new l there = record {
   names = sofar.named;
   next = line;
   there = there;
-  reads = λ rest. ap (λ all. read_lines (add_line policies) (record sofar { targets = all }) (numbered line rest)) (sym (append-nil sofar.targets));
+  reads = λ rest. ap (λ all. read_lines (grammar policies) 1 (record sofar { targets = all }) (numbered line rest)) (sym (append-nil sofar.targets));
 }
 targets_read laws policies all sofar line (target ∷ targets) p s t new l there =
     let done = sofar.targets in
@@ -457,34 +473,34 @@ targets_read laws policies all sofar line (target ∷ targets) p s t new l there
       reads = λ rest.
           joined policies sofar middle (followed middle targets further.names) line inner.next further.next (target_lines policies target)
           (flat_map (target_lines policies) targets) first further.reads rest
-          ∙ ap (λ all. read_lines (add_line policies) (record sofar { targets = all; named = further.names }) (numbered further.next rest)) (append_assoc done (target ∷ []) targets);
+          ∙ ap (λ all. read_lines (grammar policies) 1 (record sofar { targets = all; named = further.names }) (numbered further.next rest)) (append_assoc done (target ∷ []) targets);
     }
 
 -- the whole text
 
-abbrev unless_absent : Script → Option ScriptFault → Result Script ScriptFault
-unless_absent script absent = elim absent [ None ↦ Ok script | Some fault ↦ Err fault ]
+abbrev unless_absent : List ℕ → Script → Option Absence → Result Script ScriptFault
+unless_absent text script absent = elim absent [ None ↦ Ok script | Some absence ↦ Err (absence_fault text absence) ]
 
 -- the lines below the first
-lines_read : Laws → (policies : List Policy) (script : Script) → AreNamed policies → IsWhole policies script
+lines_read : Laws → (policies : List Policy) (text : List ℕ) (script : Script) → AreNamed policies → IsWhole policies script
     → is_ok (opened script.start) ≡ true → names_differ script.targets ≡ true
-    → (read_lines (add_line policies) nothing (numbered 2 (patience_tokens script.patience ∷ (map start_tokens script.start ++ flat_map (target_lines policies) script.targets)))
-    >>= λ sofar. finished sofar) ≡ Ok script
+    → (read_lines (grammar policies) 1 nothing (numbered 2 (patience_tokens script.patience ∷ (map start_tokens script.start ++ flat_map (target_lines policies) script.targets)))
+    >>= λ sofar. finished text sofar) ≡ Ok script
 unfolding read_lines
-lines_read laws policies script named whole placed differ =
+lines_read laws policies text script named whole placed differ =
     let n = script.patience in
     let targets_lines = flat_map (target_lines policies) script.targets in
     let starts = starts_read laws policies n 3 [] script.start whole.starts whole.writable_starts placed (few (length script.start) 4096 whole.few_starts) in
     let targets = targets_read laws policies script.targets (opening n script.start) starts.0 script.targets named whole.targets
     (record { sound = whole.targets.sound; judged = whole.judged; writable = whole.writable_targets; differ = differ }) (new_to_none script.targets)
     (few (length script.targets) 8 whole.targets.few) refl in
-    ap (λ (r : Result SoFar ScriptFault). r >>= λ sofar. finished sofar)
+    ap (λ (r : Result SoFar ScriptFault). r >>= λ sofar. finished text sofar)
     (line_read laws policies nothing (with_patience nothing n) 2 (patience_tokens n) (map start_tokens script.start ++ targets_lines)
     (patience_plain laws.texts n whole.patience) (patience_line laws policies 2 n whole.patience)
     ∙ starts.1 targets_lines
-    ∙ ap (λ lines. read_lines (add_line policies) (opening n script.start) (numbered starts.0 lines)) (sym (append-nil targets_lines))
+    ∙ ap (λ lines. read_lines (grammar policies) 1 (opening n script.start) (numbered starts.0 lines)) (sym (append-nil targets_lines))
     ∙ targets.reads [])
-    ∙ ap (unless_absent script) targets.there
+    ∙ ap (unless_absent text script) targets.there
 
 -- the parts of a script that is ready, and of its policies
 record Parts (policies : List Policy) (script : Script) : Type 0 where
@@ -526,10 +542,12 @@ pub written_scripts_are_read : Laws → WrittenScriptsAreRead
 written_scripts_are_read laws policies script short r w =
     let parts = parts_of policies script short r w in
     let lines = script_lines policies script in
+    let text = written policies script in
     let plain = script_plain laws.texts policies script short parts.whole in
     let below = patience_tokens script.patience ∷ (map start_tokens script.start ++ flat_map (target_lines policies) script.targets) in
     read_by_lines policies (written policies script) (laws.utf8.0 (written policies script) (laws.plain lines plain))
-    ∙ ap (λ all. read_by (grammar policies) all >>= λ sofar. finished sofar) (laws.lines lines plain)
-    ∙ ap (λ tokens. read_below (grammar policies) 1 (version_of (codes "sandbox-script") 1 tokens) (numbered 2 below) >>= λ sofar. finished sofar)
+    ∙ ap (λ all. read_by (grammar policies) all >>= λ sofar. finished text sofar) (laws.lines lines plain)
+    ∙ ap (λ tokens. (on_line by_tokens (record { number = 1; text = written_line version_tokens }) (version_at (UnknownWord NoVersion) (codes "sandbox-script") 1 tokens)
+    >>= λ version. read_lines (grammar policies) version nothing (numbered 2 below)) >>= λ sofar. finished text sofar)
     (laws.tokens version_tokens refl)
-    ∙ lines_read laws policies script parts.named parts.whole parts.placed parts.differ
+    ∙ lines_read laws policies text script parts.named parts.whole parts.placed parts.differ

@@ -20,15 +20,18 @@ use Rattle.sb_statements.specs.declared.statements.Word as words
 use Rattle.sb_scripttext.proofs.WrittenWords.{Texts, at_most, number_read, within_read, short_read, place_read, string_read, name_read, tag_read}
 use Rattle.sb_scripttext.specs.Arguments.{most_32, arg_at, args_at, fitting, call}
 use Rattle.sb_scripttext.specs.SoFar.{named_by}
-use Rattle.sb_scripttext.specs.ScriptTexts.{ScriptFault, first_absence}
+use Rattle.sb_scripttext.specs.ScriptTexts.{Absence, first_absence, no_channel, no_target}
 use Rattle.sb_scripttext.specs.Statements.{value_at, short_at, place_at, target_word_at, store, exchange, load, wait}
 use Rattle.sb_scripttext.specs.Steps.{within}
 use Rattle.sb_scripttext.specs.Writable.{is_number, is_writable_arg, is_writable_statement}
 use Rattle.sb_scripttext.specs.Writing.{number_token, place_word, arg_token, word_tokens, statement_tokens}
 use Rattle.sb_scripttext.specs.declared.faults.ScriptKind.{ScriptKind}
 use Rattle.sb_scripttext.specs.declared.faults.ScriptKind.TheVariants.{UnknownWord, WrongArgs, BadNumber, NoSuchTarget, NoSuchChannel, TooBig}
-use Rattle.sb_text.specs.Steps.{◌>>=◌, Read, later, end_at}
+use Rattle.sb_text.specs.Steps.{◌>>=◌, Read, at_left, at_token, later, with_first, end_at}
 use Rattle.sb_text.specs.Tokens.{Lexeme, Word}
+use Rattle.sb_scripttext.specs.declared.drafts.Named.{Named}
+use Rattle.sb_text.specs.declared.refusals.TokenFault.{TokenFault}
+use Rattle.sb_text.specs.declared.refusals.WordFault.TheVariants.{Broken, Extra, Missing, Quoted, Unquoted}
 
 -- arguments
 
@@ -45,15 +48,15 @@ small_arg n h = grind (arith, nat_tests)
 arg_read : Texts → (kind : ParamKind) (a : Arg) (rest : List Lexeme) → fits_kind kind a ≡ true → is_writable_arg a ≡ true
     → arg_at kind (arg_token a ∷ rest) ≡ Ok (a, rest)
 unfolding arg_at
-arg_read law Text (arg.Str text) rest h w = ap (λ (r : Read (List ℕ) ScriptKind). r >>= as_text) (string_read law WrongArgs text rest w)
+arg_read law Text (arg.Str text) rest h w = ap (λ (r : Read (List ℕ) ScriptKind). r >>= as_text) (string_read law (WrongArgs Unquoted) (WrongArgs Missing) text rest w)
 arg_read law Text (arg.Num number) rest h w = absurd (false≢true h)
-arg_read law Name (arg.Str text) rest h w = ap (λ (r : Read (List ℕ) ScriptKind). r >>= as_text) (name_read law WrongArgs text rest w h)
+arg_read law Name (arg.Str text) rest h w = ap (λ (r : Read (List ℕ) ScriptKind). r >>= as_text) (name_read law (WrongArgs Unquoted) (WrongArgs Missing) text rest w h)
 arg_read law Name (arg.Num number) rest h w = absurd (false≢true h)
 arg_read law Num (arg.Str text) rest h w = absurd (false≢true h)
 arg_read law Num (arg.Num number) rest h w =
-    ap (λ (r : Read ℕ ScriptKind). r >>= as_number) (within_read law 0 most_32 WrongArgs WrongArgs number rest w (at_most number (small_arg number h)))
+    ap (λ (r : Read ℕ ScriptKind). r >>= as_number) (within_read law 0 most_32 (WrongArgs Quoted) (WrongArgs Missing) number rest w (at_most number (small_arg number h)))
 arg_read law Handle (arg.Str text) rest h w = absurd (false≢true h)
-arg_read law Handle (arg.Num number) rest h w = ap (λ (r : Read ℕ ScriptKind). r >>= as_number) (number_read law WrongArgs WrongArgs number rest w)
+arg_read law Handle (arg.Num number) rest h w = ap (λ (r : Read ℕ ScriptKind). r >>= as_number) (number_read law (WrongArgs Quoted) (WrongArgs Missing) number rest w)
 
 -- an argument before others
 abbrev with_others : List ParamKind → Arg × List Lexeme → Read (List Arg) ScriptKind
@@ -75,23 +78,24 @@ args_read law (kind ∷ kinds) (a ∷ args) h w =
 -- a call
 
 -- the call of these arguments, with which the line ends
-abbrev called : CallTag → List Arg × List Lexeme → Result Statement ScriptKind
-called tag args = end_at WrongArgs UnknownWord args.1 >>= λ end. fitting tag args.0
+abbrev called : List Lexeme → CallTag → List Arg × List Lexeme → Result Statement (TokenFault ScriptKind)
+called line tag args = end_at (WrongArgs Extra) (UnknownWord Broken) args.1 >>= λ end. at_left (with_first line) (fitting tag args.0)
 
-abbrev with_args : CallTag × List Lexeme → Result Statement ScriptKind
-with_args tag = args_at (shape_of tag.0) tag.1 >>= called tag.0
+abbrev with_args : List Lexeme → CallTag × List Lexeme → Result Statement (TokenFault ScriptKind)
+with_args line tag = args_at (shape_of tag.0) tag.1 >>= called line tag.0
 
-abbrev fitted : CallTag → List Arg → Bool → Result Statement ScriptKind
-fitted tag args t = cond t (Ok (Call tag args)) (Err TooBig)
+abbrev fitted : List Lexeme → CallTag → List Arg → Bool → Result Statement (TokenFault ScriptKind)
+fitted line tag args t = at_left (with_first line) (cond t (Ok (Call tag args)) (Err TooBig))
 
 call_read : Texts → (tag : CallTag) (args : List Arg) → encodes tag args ≡ true → list_all is_writable_arg args ≡ true
     → call (Word (call_word tag) ∷ map arg_token args) ≡ Ok (Call tag args)
 unfolding call
 call_read law tag args h w =
-    ap (λ (r : Read CallTag ScriptKind). r >>= with_args) (tag_read tag (map arg_token args))
-    ∙ ap (λ (r : Read (List Arg) ScriptKind). r >>= called tag)
+    let line = Word (call_word tag) ∷ map arg_token args in
+    ap (λ (r : Read CallTag ScriptKind). r >>= with_args line) (tag_read tag (map arg_token args))
+    ∙ ap (λ (r : Read (List Arg) ScriptKind). r >>= called line tag)
     (args_read law (shape_of tag) args (and_parts _ _ h).0 w)
-    ∙ ap (fitted tag args) h
+    ∙ ap (fitted line tag args) h
 
 -- a target, and a word of one of its channels
 
@@ -120,10 +124,10 @@ word_read law target word rest n =
 
 -- stores, exchanges, loads and waits
 
-abbrev stored : ℕ → words.Word → ℕ × List Lexeme → Result Statement ScriptKind
-stored target word value = end_at WrongArgs UnknownWord value.1 >>= λ end. Ok (Store target word value.0)
+abbrev stored : ℕ → words.Word → ℕ × List Lexeme → Result Statement (TokenFault ScriptKind)
+stored target word value = end_at (WrongArgs Extra) (UnknownWord Broken) value.1 >>= λ end. Ok (Store target word value.0)
 
-abbrev then_stored : (ℕ × words.Word) × List Lexeme → Result Statement ScriptKind
+abbrev then_stored : (ℕ × words.Word) × List Lexeme → Result Statement (TokenFault ScriptKind)
 then_stored word = value_at word.1 >>= stored word.0.0 word.0.1
 
 store_read : Texts → (target : ℕ) (word : words.Word) (value : ℕ) → IsNamed target word → is_number value ≡ true
@@ -131,15 +135,15 @@ store_read : Texts → (target : ℕ) (word : words.Word) (value : ℕ) → IsNa
 unfolding store
 store_read law target word value n h =
     ap (λ (r : Read (ℕ × words.Word) ScriptKind). r >>= then_stored) (word_read law target word (number_token value ∷ []) n)
-    ∙ ap (λ (r : Read ℕ ScriptKind). r >>= stored target word) (number_read law BadNumber WrongArgs value [] h)
+    ∙ ap (λ (r : Read ℕ ScriptKind). r >>= stored target word) (number_read law BadNumber (WrongArgs Missing) value [] h)
 
-abbrev exchanged : ℕ → words.Word → ℕ → ℕ × List Lexeme → Result Statement ScriptKind
-exchanged target word old new = end_at WrongArgs UnknownWord new.1 >>= λ end. Ok (Exchange target word old new.0)
+abbrev exchanged : ℕ → words.Word → ℕ → ℕ × List Lexeme → Result Statement (TokenFault ScriptKind)
+exchanged target word old new = end_at (WrongArgs Extra) (UnknownWord Broken) new.1 >>= λ end. Ok (Exchange target word old new.0)
 
-abbrev with_old : ℕ → words.Word → ℕ × List Lexeme → Result Statement ScriptKind
+abbrev with_old : ℕ → words.Word → ℕ × List Lexeme → Result Statement (TokenFault ScriptKind)
 with_old target word old = value_at old.1 >>= exchanged target word old.0
 
-abbrev then_exchanged : (ℕ × words.Word) × List Lexeme → Result Statement ScriptKind
+abbrev then_exchanged : (ℕ × words.Word) × List Lexeme → Result Statement (TokenFault ScriptKind)
 then_exchanged word = value_at word.1 >>= with_old word.0.0 word.0.1
 
 exchange_read : Texts → (target : ℕ) (word : words.Word) (old new : ℕ) → IsNamed target word → is_number old ≡ true → is_number new ≡ true
@@ -147,28 +151,28 @@ exchange_read : Texts → (target : ℕ) (word : words.Word) (old new : ℕ) →
 unfolding exchange
 exchange_read law target word old new n h k =
     ap (λ (r : Read (ℕ × words.Word) ScriptKind). r >>= then_exchanged) (word_read law target word (number_token old ∷ number_token new ∷ []) n)
-    ∙ ap (λ (r : Read ℕ ScriptKind). r >>= with_old target word) (number_read law BadNumber WrongArgs old (number_token new ∷ []) h)
-    ∙ ap (λ (r : Read ℕ ScriptKind). r >>= exchanged target word old) (number_read law BadNumber WrongArgs new [] k)
+    ∙ ap (λ (r : Read ℕ ScriptKind). r >>= with_old target word) (number_read law BadNumber (WrongArgs Missing) old (number_token new ∷ []) h)
+    ∙ ap (λ (r : Read ℕ ScriptKind). r >>= exchanged target word old) (number_read law BadNumber (WrongArgs Missing) new [] k)
 
-abbrev loaded : (ℕ × words.Word) × List Lexeme → Result Statement ScriptKind
-loaded word = end_at WrongArgs UnknownWord word.1 >>= λ end. Ok (Load word.0.0 word.0.1)
+abbrev loaded : (ℕ × words.Word) × List Lexeme → Result Statement (TokenFault ScriptKind)
+loaded word = end_at (WrongArgs Extra) (UnknownWord Broken) word.1 >>= λ end. Ok (Load word.0.0 word.0.1)
 
 load_read : Texts → (target : ℕ) (word : words.Word) → IsNamed target word → load (word_tokens target word.channel word.at []) ≡ Ok (Load target word)
 unfolding load
 load_read law target word n = ap (λ (r : Read (ℕ × words.Word) ScriptKind). r >>= loaded) (word_read law target word [] n)
 
-abbrev waited : ℕ → words.Word → ℕ → ℕ × List Lexeme → Result Statement ScriptKind
-waited target word value loads =
-    end_at WrongArgs UnknownWord loads.1 >>= λ end. within 1 1000000 loads.0 >>= λ most. Ok (Wait target word value most)
+abbrev waited : List Lexeme → ℕ → words.Word → ℕ → ℕ × List Lexeme → Result Statement (TokenFault ScriptKind)
+waited due target word value loads =
+    end_at (WrongArgs Extra) (UnknownWord Broken) loads.1 >>= λ end. at_token due (within 1 1000000 loads.0) >>= λ most. Ok (Wait target word value most)
 
-abbrev with_value : ℕ → words.Word → ℕ × List Lexeme → Result Statement ScriptKind
-with_value target word value = value_at value.1 >>= waited target word value.0
+abbrev with_value : ℕ → words.Word → ℕ × List Lexeme → Result Statement (TokenFault ScriptKind)
+with_value target word value = value_at value.1 >>= waited value.1 target word value.0
 
-abbrev then_waited : (ℕ × words.Word) × List Lexeme → Result Statement ScriptKind
+abbrev then_waited : (ℕ × words.Word) × List Lexeme → Result Statement (TokenFault ScriptKind)
 then_waited word = value_at word.1 >>= with_value word.0.0 word.0.1
 
-abbrev waited_within : ℕ → words.Word → ℕ → ℕ → Bool → Result Statement ScriptKind
-waited_within target word value most t = cond t (Ok most) (Err BadNumber) >>= λ most. Ok (Wait target word value most)
+abbrev waited_within : List Lexeme → ℕ → words.Word → ℕ → ℕ → Bool → Result Statement (TokenFault ScriptKind)
+waited_within due target word value most t = at_token due (cond t (Ok most) (Err BadNumber)) >>= λ most. Ok (Wait target word value most)
 
 pub patience_number : (n : ℕ) → is_patience n ≡ true → is_number n ≡ true
 patience_number n h = grind (arith, nat_tests)
@@ -178,12 +182,12 @@ wait_read : Texts → (target : ℕ) (word : words.Word) (value most : ℕ) → 
 unfolding wait
 wait_read law target word value most n h k =
     ap (λ (r : Read (ℕ × words.Word) ScriptKind). r >>= then_waited) (word_read law target word (number_token value ∷ number_token most ∷ []) n)
-    ∙ ap (λ (r : Read ℕ ScriptKind). r >>= with_value target word) (number_read law BadNumber WrongArgs value (number_token most ∷ []) h)
-    ∙ ap (λ (r : Read ℕ ScriptKind). r >>= waited target word value) (number_read law BadNumber WrongArgs most [] (patience_number most k))
-    ∙ ap (waited_within target word value most) k
+    ∙ ap (λ (r : Read ℕ ScriptKind). r >>= with_value target word) (number_read law BadNumber (WrongArgs Missing) value (number_token most ∷ []) h)
+    ∙ ap (λ (r : Read ℕ ScriptKind). r >>= waited (number_token most ∷ []) target word value) (number_read law BadNumber (WrongArgs Missing) most [] (patience_number most k))
+    ∙ ap (waited_within (number_token most ∷ []) target word value most) k
 
 -- the reader of the lines of such statements
-abbrev pub statement_reader : Statement → List Lexeme → Result Statement ScriptKind
+abbrev pub statement_reader : Statement → List Lexeme → Result Statement (TokenFault ScriptKind)
 statement_reader (Call tag args) = call
 statement_reader (Store target word value) = store
 statement_reader (Exchange target word old new) = exchange
@@ -192,12 +196,12 @@ statement_reader (Wait target word value most) = wait
 
 -- what a sound statement names is there
 
-no_channel : (channel : ℕ) → nat_lt channel 0 ≡ true → false ≡ true
-no_channel channel h = grind (arith, nat_tests)
+none_below : (channel : ℕ) → nat_lt channel 0 ≡ true → false ≡ true
+none_below channel h = grind (arith, nat_tests)
 
 target_there : (targets : List TargetScript) (target channel : ℕ) → nat_lt channel (channels_of (slice_get targets target)) ≡ true
     → nat_lt target (length targets) ≡ true
-target_there [] target channel h = absurd (false≢true (no_channel channel h))
+target_there [] target channel h = absurd (false≢true (none_below channel h))
 target_there (x ∷ targets) zero channel h = next_above zero (length targets) (omega arith)
   where
     next_above : (n m : ℕ) → n < suc m → nat_lt n (suc m) ≡ true
@@ -234,27 +238,30 @@ named_there targets target word s h =
     }
 
 -- neither the target nor its channel is absent
-word_there : (targets : List TargetScript) (line target : ℕ) (word : words.Word) → has_word targets target word ≡ true
-    → first_absence targets (record { line = line; target = target; channel = word.channel } ∷ []) ≡ None
-word_there targets line target word h =
+word_there : (targets : List TargetScript) (line left target : ℕ) (word : words.Word) → has_word targets target word ≡ true
+    → first_absence targets (record { line = line; left = left; target = target; channel = word.channel } ∷ []) ≡ None
+word_there targets line left target word h =
     let channel = (and_parts (nat_lt word.channel (channels_of (slice_get targets target))) (nat_le word.at 64) h).0 in
-    none_absent (nat_lt target (length targets)) (nat_lt word.channel (channels_of (slice_get targets target))) (target_there targets target word.channel channel) channel
+    none_absent (no_channel named (channels_of (slice_get targets target))) (no_target named (length targets))
+    (nat_lt target (length targets)) (nat_lt word.channel (channels_of (slice_get targets target))) (target_there targets target word.channel channel) channel
   where
-    none_absent : (a b : Bool) → a ≡ true → b ≡ true
-        → ◌≡◌ {A = Option ScriptFault}
-        (elim (cond a (cond b None (Some NoSuchChannel)) (Some NoSuchTarget)) [ None ↦ None | Some kind ↦ Some (record { line = line; kind = kind }) ]) None
-    none_absent true true h k = refl
-    none_absent true false h k = absurd (false≢true k)
-    none_absent false b h k = absurd (false≢true h)
+    named : Named
+    named = record { line = line; left = left; target = target; channel = word.channel }
+
+    none_absent : (c t : TokenFault ScriptKind) (a b : Bool) → a ≡ true → b ≡ true
+        → ◌≡◌ {A = Option Absence} (elim (cond a (cond b None (Some c)) (Some t)) [ None ↦ None | Some fault ↦ Some (line, fault) ]) None
+    none_absent c t true true h k = refl
+    none_absent c t true false h k = absurd (false≢true k)
+    none_absent c t false b h k = absurd (false≢true h)
 
 -- nothing that a sound statement names is absent
 pub statement_there : (targets : List TargetScript) (line : ℕ) (statement : Statement) → is_statement targets statement ≡ true
     → first_absence targets (named_by line statement) ≡ None
 statement_there targets line (Call tag args) h = refl
-statement_there targets line (Store target word value) h = word_there targets line target word h
-statement_there targets line (Exchange target word old new) h = word_there targets line target word h
-statement_there targets line (Load target word) h = word_there targets line target word h
-statement_there targets line (Wait target word value most) h = word_there targets line target word (and_parts (has_word targets target word) (is_patience most) h).0
+statement_there targets line (Store target word value) h = word_there targets line 4 target word h
+statement_there targets line (Exchange target word old new) h = word_there targets line 5 target word h
+statement_there targets line (Load target word) h = word_there targets line 3 target word h
+statement_there targets line (Wait target word value most) h = word_there targets line 5 target word (and_parts (has_word targets target word) (is_patience most) h).0
 
 -- a sound statement that can be written is read from its line
 pub statement_read : Texts → (targets : List TargetScript) (statement : Statement) → AreSound targets → is_statement targets statement ≡ true

@@ -22,7 +22,8 @@ use Rattle.sb_scripttext.specs.declared.faults.ScriptKind.{ScriptKind}
 use Rattle.sb_scripttext.specs.declared.faults.ScriptKind.TheVariants.{UnknownCall, WrongArgs, BadNumber, BadName, NoSuchPolicy, NoSuchWord}
 use Rattle.sb_text.specs.NumberLaws.{DecimalsAreRead}
 use Rattle.sb_text.specs.Numbers.{is_decimal_digit, are_digits, number_of}
-use Rattle.sb_text.specs.Steps.{◌>>=◌, or_fault, Read}
+use Rattle.sb_text.specs.Steps.{◌>>=◌, Read, at_token, or_fails, or_fault}
+use Rattle.sb_text.specs.declared.refusals.WordFault.TheVariants.{Missing}
 use Rattle.sb_text.specs.Tokens.{Lexeme, Word}
 use Rattle.sb_wide.specs.Names.{is_name_of}
 
@@ -54,21 +55,21 @@ number_digits law n h = made _ _ n (law.numbers n (small n h)).0
 pub number_read : Texts → (quoted missing : ScriptKind) (n : ℕ) (rest : List Lexeme) → is_number n ≡ true
     → number_at quoted missing (number_token n ∷ rest) ≡ Ok (n, rest)
 unfolding number_at
-number_read law quoted missing n rest h = ap (λ o. or_fault BadNumber o >>= λ n. Ok (n, rest)) (number_back law n h)
+number_read law quoted missing n rest h = ap (λ o. or_fails (number_token n ∷ rest) BadNumber o >>= λ n. Ok (n, rest)) (number_back law n h)
 
 -- what `number_within` does with a number
-abbrev ranged : ℕ → ℕ → ℕ × List Lexeme → Read ℕ ScriptKind
-ranged lo hi n = within lo hi n.0 >>= λ number. Ok (number, n.1)
+abbrev ranged : List Lexeme → ℕ → ℕ → ℕ × List Lexeme → Read ℕ ScriptKind
+ranged due lo hi n = at_token due (within lo hi n.0) >>= λ number. Ok (number, n.1)
 
 -- a number that is in its range, with the tokens after it
-abbrev in_range : ℕ → List Lexeme → Bool → Read ℕ ScriptKind
-in_range n rest t = cond t (Ok n) (Err BadNumber) >>= λ number. Ok (number, rest)
+abbrev in_range : List Lexeme → ℕ → List Lexeme → Bool → Read ℕ ScriptKind
+in_range due n rest t = at_token due (cond t (Ok n) (Err BadNumber)) >>= λ number. Ok (number, rest)
 
 pub within_read : Texts → (lo hi : ℕ) (quoted missing : ScriptKind) (n : ℕ) (rest : List Lexeme) → is_number n ≡ true
     → (nat_le lo n && nat_le n hi) ≡ true → number_within lo hi quoted missing (number_token n ∷ rest) ≡ Ok (n, rest)
 unfolding number_within
 within_read law lo hi quoted missing n rest h k =
-    ap (λ (r : Read ℕ ScriptKind). r >>= ranged lo hi) (number_read law quoted missing n rest h) ∙ ap (in_range n rest) k
+    ap (λ (r : Read ℕ ScriptKind). r >>= ranged (number_token n ∷ rest) lo hi) (number_read law quoted missing n rest h) ∙ ap (in_range (number_token n ∷ rest) n rest) k
 
 pub short_number : (n : ℕ) → nat_le n most_32 ≡ true → is_number n ≡ true
 short_number n h = grind (arith, nat_tests)
@@ -88,7 +89,7 @@ short_or n rest t = Ok (cond t n most_32, rest)
 pub short_read : Texts → (n : ℕ) (rest : List Lexeme) → nat_le n most_32 ≡ true → short_at (number_token n ∷ rest) ≡ Ok (n, rest)
 unfolding short_at
 short_read law n rest h =
-    ap (λ (r : Read ℕ ScriptKind). r >>= shortened) (number_read law BadNumber WrongArgs n rest (short_number n h)) ∙ ap (short_or n rest) h
+    ap (λ (r : Read ℕ ScriptKind). r >>= shortened) (number_read law BadNumber (WrongArgs Missing) n rest (short_number n h)) ∙ ap (short_or n rest) h
 
 -- the place of a word
 
@@ -129,7 +130,7 @@ then_place rest place = Ok (place, rest)
 
 pub place_read : Texts → (at : ℕ) (rest : List Lexeme) → nat_le at 64 ≡ true → place_at (Word (place_word at) ∷ rest) ≡ Ok (at, rest)
 unfolding place_at
-place_read law at rest h = ap (λ (p : Result ℕ ScriptKind). p >>= then_place rest) (place_back law at h)
+place_read law at rest h = ap (λ (p : Result ℕ ScriptKind). at_token (Word (place_word at) ∷ rest) p >>= then_place rest) (place_back law at h)
 
 -- strings
 
@@ -137,21 +138,23 @@ place_read law at rest h = ap (λ (p : Result ℕ ScriptKind). p >>= then_place 
 pub string_back : Texts → (us : List ℕ) → is_text us ≡ true → ComesBack us
 string_back law us h = let parts = and_parts _ _ h in law.strings us parts.0 parts.1
 
-pub string_read : Texts → (other : ScriptKind) (us : List ℕ) (rest : List Lexeme) → is_text us ≡ true → string_at other (string_token us ∷ rest) ≡ Ok (us, rest)
+pub string_read : Texts → (unquoted missing : ScriptKind) (us : List ℕ) (rest : List Lexeme) → is_text us ≡ true → string_at unquoted missing (string_token us ∷ rest) ≡ Ok (us, rest)
 unfolding string_at
-string_read law other us rest h = ap (λ us. Ok (us, rest)) (string_back law us h).string
+string_read law unquoted missing us rest h = ap (λ us. Ok (us, rest)) (string_back law us h).string
 
 -- what `name_at` does with a string
-abbrev naming : List ℕ × List Lexeme → Read (List ℕ) ScriptKind
-naming units = name units.0 >>= λ named. Ok (named, units.1)
+abbrev naming : List Lexeme → List ℕ × List Lexeme → Read (List ℕ) ScriptKind
+naming due units = at_token due (name units.0) >>= λ named. Ok (named, units.1)
 
-abbrev named : List ℕ → List Lexeme → Bool → Read (List ℕ) ScriptKind
-named us rest t = cond t (Ok us) (Err BadName) >>= λ named. Ok (named, rest)
+abbrev named : List Lexeme → List ℕ → List Lexeme → Bool → Read (List ℕ) ScriptKind
+named due us rest t = at_token due (cond t (Ok us) (Err BadName)) >>= λ named. Ok (named, rest)
 
-pub name_read : Texts → (other : ScriptKind) (us : List ℕ) (rest : List Lexeme) → is_text us ≡ true → is_name_of us ≡ true
-    → name_at other (string_token us ∷ rest) ≡ Ok (us, rest)
+pub name_read : Texts → (unquoted missing : ScriptKind) (us : List ℕ) (rest : List Lexeme) → is_text us ≡ true → is_name_of us ≡ true
+    → name_at unquoted missing (string_token us ∷ rest) ≡ Ok (us, rest)
 unfolding name_at
-name_read law other us rest h k = ap (λ (r : Read (List ℕ) ScriptKind). r >>= naming) (string_read law other us rest h) ∙ ap (named us rest) k
+name_read law unquoted missing us rest h k =
+    ap (λ (r : Read (List ℕ) ScriptKind). r >>= naming (string_token us ∷ rest)) (string_read law unquoted missing us rest h)
+    ∙ ap (named (string_token us ∷ rest) us rest) k
 
 -- calls
 
@@ -174,7 +177,7 @@ then_tag rest tag = Ok (tag, rest)
 
 pub tag_read : (tag : CallTag) (rest : List Lexeme) → tag_at (Word (call_word tag) ∷ rest) ≡ Ok (tag, rest)
 unfolding tag_at
-tag_read tag rest = ap (λ o. or_fault UnknownCall o >>= then_tag rest) (call_back tag)
+tag_read tag rest = ap (λ o. or_fails (Word (call_word tag) ∷ rest) UnknownCall o >>= then_tag rest) (call_back tag)
 
 -- policies
 
@@ -225,5 +228,6 @@ pub policy_read : (policies : List Policy) (i : ℕ) (rest : List Lexeme) → le
 unfolding policy_at
 policy_read policies i rest few h k =
     let short : nat_le i most_32 ≡ true = grind (arith, nat_tests, few, k) in
-    ap (λ o. or_fault NoSuchPolicy o >>= λ place. policy_number place >>= then_policy rest) (position_back policies i h k)
-    ∙ ap (λ b. cond b (Ok i) (Err NoSuchPolicy) >>= then_policy rest) short
+    let due = Word (policy_name policies i) ∷ rest in
+    ap (λ o. or_fails due NoSuchPolicy o >>= λ place. at_token due (policy_number place) >>= then_policy rest) (position_back policies i h k)
+    ∙ ap (λ b. at_token due (cond b (Ok i) (Err NoSuchPolicy)) >>= then_policy rest) short

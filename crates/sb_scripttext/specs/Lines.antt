@@ -1,5 +1,5 @@
 -- The lines of a script text below its first.
-use Rattle.std.specs.Prelude.{ℕ, Bool, nat_eq, nat_le, List, [], None, Some, Result, Ok, Err, if◌then◌else◌, codes}
+use Rattle.std.specs.Prelude.{ℕ, Bool, nat_eq, nat_le, List, [], ◌∷◌, length, None, Some, Result, Ok, Err, if◌then◌else◌, codes}
 use Rattle.std.specs.Cmp.Lexicographic.{pointwise}
 use Rattle.std.specs.List.{list_any, position}
 use Rattle.sb_call.specs.CallWords.{is_word}
@@ -15,16 +15,21 @@ use Rattle.sb_scripttext.specs.SoFar.{SoFar, is_opening, is_in_thread, with_pati
 use Rattle.sb_scripttext.specs.Openings.{dir, file, key, event}
 use Rattle.sb_scripttext.specs.Statements.{store, exchange, load, wait}
 use Rattle.sb_scripttext.specs.Steps.{number_within}
-use Rattle.sb_text.specs.Steps.{◌>>=◌, or_fault, Read, word_at, end_at}
+use Rattle.sb_text.specs.Steps.{◌>>=◌, at_left, at_token, or_fails, Read, with_first, word_at, end_at}
+use Rattle.sb_items.specs.declared.refusals.Refused.{Refused}
+use Rattle.sb_items.specs.declared.refusals.Refused.TheVariants.{Fault, NoMemory}
 use Rattle.sb_scripttext.specs.declared.faults.ScriptKind.{ScriptKind}
-use Rattle.sb_scripttext.specs.declared.faults.ScriptKind.TheVariants.{UnknownWord, BadNumber, NoSuchPolicy, SameName}
+use Rattle.sb_scripttext.specs.declared.faults.ScriptKind.TheVariants.{UnknownWord, BadNumber, NoSuchPolicy, SameName, BadStart}
+use Rattle.sb_text.specs.Spots.{fails_left}
 use Rattle.sb_text.specs.Tokens.{Lexeme}
+use Rattle.sb_text.specs.declared.refusals.TokenFault.{TokenFault}
+use Rattle.sb_text.specs.declared.refusals.WordFault.TheVariants.{Unknown, Missing, Extra, Broken, Quoted, Misplaced, Repeated}
 
 -- `patience N`, after its first word
-unfoldable pub patience : List Lexeme → Result ℕ ScriptKind
+unfoldable pub patience : List Lexeme → Result ℕ (TokenFault ScriptKind)
 patience tokens = do
-  number ← number_within 1 most_patience BadNumber UnknownWord tokens
-  end ← end_at UnknownWord UnknownWord number.1
+  number ← number_within 1 most_patience BadNumber (UnknownWord Missing) tokens
+  end ← end_at (UnknownWord Extra) (UnknownWord Broken) number.1
   Ok number.0
 
 -- a target has this name
@@ -36,13 +41,13 @@ abbrev pub new_name : List TargetScript → List ℕ → Result (List ℕ) Scrip
 new_name targets name =
     if is_short_name name
     then (if list_any (is_target_named name) targets then Err SameName else Ok name)
-    else Err UnknownWord
+    else Err (UnknownWord Unknown)
 
 -- NAME: the name of a target
 unfoldable pub new_name_at : List TargetScript → List Lexeme → Read (List ℕ) ScriptKind
 new_name_at targets tokens = do
-  word ← word_at UnknownWord UnknownWord UnknownWord tokens
-  name ← new_name targets word.0
+  word ← word_at (UnknownWord Quoted) (UnknownWord Broken) (UnknownWord Missing) tokens
+  name ← at_token tokens (new_name targets word.0)
   Ok (name, word.1)
 
 -- the number of a policy, which has 32 bits: of this many policies a script can name no others
@@ -52,68 +57,99 @@ policy_number place = if nat_le place most_32 then Ok place else Err NoSuchPolic
 -- POLICY: the number of the first policy of this name, from 0
 unfoldable pub policy_at : List Policy → List Lexeme → Read ℕ ScriptKind
 policy_at policies tokens = do
-  word ← word_at NoSuchPolicy UnknownWord UnknownWord tokens
-  place ← or_fault NoSuchPolicy (position (is_named word.0) policies)
-  policy ← policy_number place
+  word ← word_at NoSuchPolicy (UnknownWord Broken) (UnknownWord Missing) tokens
+  place ← or_fails tokens NoSuchPolicy (position (is_named word.0) policies)
+  policy ← at_token tokens (policy_number place)
   Ok (policy, word.1)
 
 -- `target NAME POLICY CHANNELS`, after its first word: a target that has no thread so far
-unfoldable pub heading : List Policy → List TargetScript → List Lexeme → Result TargetScript ScriptKind
+unfoldable pub heading : List Policy → List TargetScript → List Lexeme → Result TargetScript (TokenFault ScriptKind)
 heading policies targets tokens = do
   name ← new_name_at targets tokens
   policy ← policy_at policies name.1
-  channels ← number_within 1 most_channels BadNumber UnknownWord policy.1
-  end ← end_at UnknownWord UnknownWord channels.1
+  channels ← number_within 1 most_channels BadNumber (UnknownWord Missing) policy.1
+  end ← end_at (UnknownWord Extra) (UnknownWord Broken) channels.1
   Ok (record { name = name.0; policy = policy.0; channels = channels.0; threads = [] })
 
+-- a line that is out of place, with the tokens after its first
+abbrev pub misplaced : {A : Type 0} → List Lexeme → Result A (TokenFault ScriptKind)
+misplaced tokens = fails_left (with_first tokens) (UnknownWord Misplaced)
+
+-- the word begins a line that is allowed elsewhere in a script
+abbrev pub is_line_word : List ℕ → Bool
+is_line_word w = list_any (λ name. is_word name w)
+    (codes "dir" ∷ codes "file" ∷ codes "key" ∷ codes "event" ∷ codes "call" ∷ codes "store" ∷ codes "exchange" ∷ codes "load" ∷ codes "wait" ∷ [])
+
+-- why a line that begins with this word is out of place
+abbrev pub first_word_fault : List ℕ → ScriptKind
+first_word_fault w = if is_line_word w then UnknownWord Misplaced else UnknownWord Unknown
+
+abbrev pub not_here : {A : Type 0} → List ℕ → List Lexeme → Result A (TokenFault ScriptKind)
+not_here w tokens = fails_left (with_first tokens) (first_word_fault w)
+
+-- how many tokens are left where it is told that an opening line is refused: a bad start at the name, and all else at the first word
+abbrev pub start_left : List Lexeme → ScriptKind → ℕ
+start_left tokens BadStart = length tokens
+start_left tokens other = with_first tokens
+
+-- a refusal there
+abbrev pub refused_start : List Lexeme → Refused ScriptKind → Refused (TokenFault ScriptKind)
+refused_start tokens (Fault kind) = Fault (record { left = start_left tokens kind; unit = None; kind = kind })
+refused_start tokens NoMemory = NoMemory
+
+-- what an opening line makes, or its fault there
+abbrev pub at_start : {A : Type 0} → List Lexeme → Result A ScriptKind → Result A (TokenFault ScriptKind)
+at_start tokens (Ok x) = Ok x
+at_start tokens (Err kind) = fails_left (start_left tokens kind) kind
+
 -- a `patience` line, before the first target and once
-unfoldable pub set_patience : SoFar → List Lexeme → Result SoFar ScriptKind
+unfoldable pub set_patience : SoFar → List Lexeme → Result SoFar (TokenFault ScriptKind)
 set_patience sofar tokens =
     elim sofar.patience [
-      | None ↦ if is_opening sofar then (patience tokens >>= λ n. Ok (with_patience sofar n)) else Err UnknownWord
-      | Some n ↦ Err UnknownWord
+      | None ↦ if is_opening sofar then (patience tokens >>= λ n. Ok (with_patience sofar n)) else misplaced tokens
+      | Some n ↦ fails_left (with_first tokens) (UnknownWord Repeated)
     ]
 
 -- a `target` line
-unfoldable pub add_target : List Policy → SoFar → List Lexeme → Result SoFar ScriptKind
-add_target policies sofar tokens = heading policies sofar.targets tokens >>= λ target. with_target sofar target
+unfoldable pub add_target : List Policy → SoFar → List Lexeme → Result SoFar (TokenFault ScriptKind)
+add_target policies sofar tokens = heading policies sofar.targets tokens >>= λ target. at_left (with_first tokens) (with_target sofar target)
 
 -- a `thread` line, after a target
-unfoldable pub add_thread : SoFar → List Lexeme → Result SoFar ScriptKind
+unfoldable pub add_thread : SoFar → List Lexeme → Result SoFar (TokenFault ScriptKind)
 add_thread sofar tokens =
-    if is_opening sofar then Err UnknownWord
-    else (end_at UnknownWord UnknownWord tokens >>= λ end. with_thread sofar)
+    if is_opening sofar then misplaced tokens
+    else (end_at (UnknownWord Extra) (UnknownWord Broken) tokens >>= λ end. at_left (with_first tokens) (with_thread sofar))
 
 -- the object of an opening line that begins with this word
-unfoldable pub start_line : List ℕ → List Lexeme → Result StartLine ScriptKind
+unfoldable pub start_line : List ℕ → List Lexeme → Result StartLine (TokenFault ScriptKind)
 start_line w tokens =
     if is_word (codes "dir") w then dir tokens
     else (if is_word (codes "file") w then file tokens
     else (if is_word (codes "key") w then key tokens
     else (if is_word (codes "event") w then event tokens
-    else Err UnknownWord)))
+    else not_here w tokens)))
 
 -- the statement of a line that begins with this word
-unfoldable pub statement_line : List ℕ → List Lexeme → Result Statement ScriptKind
+unfoldable pub statement_line : List ℕ → List Lexeme → Result Statement (TokenFault ScriptKind)
 statement_line w tokens =
     if is_word (codes "call") w then call tokens
     else (if is_word (codes "store") w then store tokens
     else (if is_word (codes "exchange") w then exchange tokens
     else (if is_word (codes "load") w then load tokens
     else (if is_word (codes "wait") w then wait tokens
-    else Err UnknownWord))))
+    else not_here w tokens))))
 
 -- in a thread a statement, before the first target an opening line, and elsewhere neither
-unfoldable pub plain_line : List ℕ → SoFar → ℕ → List Lexeme → Result SoFar ScriptKind
+unfoldable pub plain_line : List ℕ → SoFar → ℕ → List Lexeme → Result SoFar (TokenFault ScriptKind)
 plain_line w sofar line tokens =
-    if is_in_thread sofar then (statement_line w tokens >>= λ statement. with_statement sofar line statement)
-    else (if is_opening sofar then (start_line w tokens >>= λ start. with_start sofar start)
-    else Err UnknownWord)
+    if is_in_thread sofar then (statement_line w tokens >>= λ statement. at_left (with_first tokens) (with_statement sofar line statement))
+    else (if is_opening sofar then (start_line w tokens >>= λ start. at_start tokens (with_start sofar start))
+    else not_here w tokens)
 
 -- with what a line says: a patience, a target, a thread, an opening line or a statement
-unfoldable pub line_of : List Policy → SoFar → ℕ → List Lexeme → Result SoFar ScriptKind
+unfoldable pub line_of : List Policy → SoFar → ℕ → List Lexeme → Result SoFar (TokenFault ScriptKind)
 line_of policies sofar line tokens = do
-  word ← word_at UnknownWord UnknownWord UnknownWord tokens
+  word ← word_at (UnknownWord Quoted) (UnknownWord Broken) (UnknownWord Missing) tokens
   if is_word (codes "patience") word.0 then set_patience sofar word.1
       else (if is_word (codes "target") word.0 then add_target policies sofar word.1
       else (if is_word (codes "thread") word.0 then add_thread sofar word.1

@@ -1,19 +1,22 @@
 -- What a script text means: a script, or the first fault.
-use Rattle.std.specs.Prelude.{ℕ, nat_lt, List, [], ◌∷◌, length, slice_get, Option, None, Some, Result, Ok, Err, if◌then◌else◌, codes}
+use Rattle.std.specs.Prelude.{ℕ, ◌-◌, nat_lt, List, [], ◌∷◌, length, slice_get, Option, None, Some, Result, Ok, Err, if◌then◌else◌, codes}
 use Rattle.sb_statements.specs.Soundness.{channels_of}
 use Rattle.sb_statements.specs.declared.scripts.Script.{Script}
 use Rattle.sb_statements.specs.declared.scripts.TargetScript.{TargetScript}
 use Rattle.sb_rule.specs.declared.policies.Policy.{Policy}
 use Rattle.sb_scripttext.specs.SoFar.{SoFar, nothing}
 use Rattle.sb_scripttext.specs.Lines.{line_of}
-use Rattle.sb_text.specs.Steps.{◌>>=◌, version_of}
+use Rattle.sb_text.specs.Steps.{◌>>=◌, version_at}
 use Rattle.sb_scripttext.specs.declared.drafts.Named.{Named}
 use Rattle.sb_scripttext.specs.declared.faults.ScriptKind.{ScriptKind}
 use Rattle.sb_scripttext.specs.declared.faults.ScriptKind.TheVariants.{NotUtf8, UnknownWord, NoSuchTarget, NoSuchChannel}
-use Rattle.sb_text.specs.Lines.{NumberedLine}
-use Rattle.sb_text.specs.Readings.{Grammar, read_text}
+use Rattle.sb_text.specs.Lines.{NumberedLine, line_numbered}
+use Rattle.sb_text.specs.Readings.{Grammar, fault_on, read_text}
+use Rattle.sb_text.specs.Spots.{by_tokens}
 use Rattle.sb_text.specs.Tokens.{tokens_of}
 use Rattle.sb_text.specs.declared.refusals.LineFault.{LineFault}
+use Rattle.sb_text.specs.declared.refusals.TokenFault.{TokenFault}
+use Rattle.sb_text.specs.declared.refusals.WordFault.TheVariants.{NoVersion}
 
 -- the first fault of a script text
 abbrev pub ScriptFault : Type 0
@@ -24,29 +27,49 @@ abbrev pub usual_patience : ℕ
 usual_patience = 10000
 
 -- the version line: `sandbox-script 1`
-abbrev pub script_version : List ℕ → Option ℕ
-script_version line = version_of (codes "sandbox-script") 1 (tokens_of line)
+abbrev pub script_version : List ℕ → Result ℕ (TokenFault ScriptKind)
+script_version line = version_at (UnknownWord NoVersion) (codes "sandbox-script") 1 (tokens_of line)
 
 -- what was read so far, and what a line adds to it
-abbrev pub add_line : List Policy → SoFar → NumberedLine → Result SoFar ScriptKind
+abbrev pub add_line : List Policy → SoFar → NumberedLine → Result SoFar (TokenFault ScriptKind)
 add_line policies sofar line = line_of policies sofar line.number (tokens_of line.text)
 
 -- script texts, for targets of these policies
 abbrev pub grammar : List Policy → Grammar SoFar ScriptKind
-grammar policies = record { version = script_version; no_version = UnknownWord; start = nothing; add = λ version. add_line policies }
+grammar policies = record { layout = by_tokens; version = script_version; no_version = UnknownWord NoVersion; start = nothing; add = λ version. add_line policies }
 
--- the target that a statement names is not there, or it is and its channel is not
-abbrev pub absence : List TargetScript → Named → Option ScriptKind
+-- the line of this number in a text, and no bytes if there is none
+abbrev pub line_on : ℕ → List ℕ → List ℕ
+line_on number text = elim (line_numbered number text) [ None ↦ [] | Some line ↦ line ]
+
+-- there is no such target among this many
+abbrev pub no_target : Named → ℕ → TokenFault ScriptKind
+no_target named targets = record { left = named.left; unit = None; kind = NoSuchTarget named.target targets }
+
+-- the target has this many channels, and no such one
+abbrev pub no_channel : Named → ℕ → TokenFault ScriptKind
+no_channel named channels = record { left = named.left - 1; unit = None; kind = NoSuchChannel named.channel named.target channels }
+
+-- the target that a statement names is not there, or it is and its channel is not: told at T, or at C after it
+abbrev pub absence : List TargetScript → Named → Option (TokenFault ScriptKind)
 absence targets named =
     if nat_lt named.target (length targets)
-    then (if nat_lt named.channel (channels_of (slice_get targets named.target)) then None else Some NoSuchChannel)
-    else Some NoSuchTarget
+    then (if nat_lt named.channel (channels_of (slice_get targets named.target)) then None else Some (no_channel named (channels_of (slice_get targets named.target))))
+    else Some (no_target named (length targets))
+
+-- what is not there, on the line of this number
+abbrev pub Absence : Type 0
+Absence = ℕ × TokenFault ScriptKind
+
+-- the same as a fault of this text
+abbrev pub absence_fault : List ℕ → Absence → ScriptFault
+absence_fault text absence = fault_on by_tokens absence.0 (line_on absence.0 text) absence.1
 
 -- the first of these that names what is not there
-abbrev pub first_absence : List TargetScript → List Named → Option ScriptFault
+abbrev pub first_absence : List TargetScript → List Named → Option Absence
 first_absence targets [] = None
 first_absence targets (named ∷ more) =
-    elim (absence targets named) [ None ↦ first_absence targets more | Some kind ↦ Some (record { line = named.line; kind = kind }) ]
+    elim (absence targets named) [ None ↦ first_absence targets more | Some fault ↦ Some (named.line, fault) ]
 
 -- the patience that was read, or the usual one
 abbrev pub patience_of : Option ℕ → ℕ
@@ -57,10 +80,11 @@ patience_of None = usual_patience
 abbrev pub script_of : SoFar → Script
 script_of sofar = record { patience = patience_of sofar.patience; start = sofar.start; targets = sofar.targets }
 
--- the script that was read, if all is there that its statements name
-abbrev pub finished : SoFar → Result Script ScriptFault
-finished sofar = elim (first_absence sofar.targets sofar.named) [ None ↦ Ok (script_of sofar) | Some fault ↦ Err fault ]
+-- the script that was read of a text, if all is there that its statements name
+abbrev pub finished : List ℕ → SoFar → Result Script ScriptFault
+finished text sofar =
+    elim (first_absence sofar.targets sofar.named) [ None ↦ Ok (script_of sofar) | Some absence ↦ Err (absence_fault text absence) ]
 
 -- the script of a text for targets of these policies, or its first fault
 abbrev pub reading : List Policy → List ℕ → Result Script ScriptFault
-reading policies text = read_text NotUtf8 (grammar policies) text >>= λ sofar. finished sofar
+reading policies text = read_text NotUtf8 (grammar policies) text >>= λ sofar. finished text sofar

@@ -10,6 +10,8 @@ use Rattle.sb_text.specs.Steps.{◌>>=◌}
 use Rattle.sb_scripttext.specs.declared.drafts.Named.{Named}
 use Rattle.sb_scripttext.specs.declared.faults.ScriptKind.{ScriptKind}
 use Rattle.sb_scripttext.specs.declared.faults.ScriptKind.TheVariants.{UnknownWord, TooMany, BadStart}
+use Rattle.sb_scripttext.specs.declared.faults.ScriptLimit.TheVariants.{Openings, Targets, Threads, Statements}
+use Rattle.sb_text.specs.declared.refusals.WordFault.TheVariants.{Misplaced}
 
 -- what is so far there: the patience, if a line told it, the opening lines, the targets, and what statements name. The last target is
 -- open for threads, and its last thread for statements
@@ -30,7 +32,7 @@ is_empty (x ∷ xs) = false
 
 -- a list whose last value a step changes, or the fault of that step; if there is no value, no line may change it
 abbrev pub change_last : {A : Type 0} → (A → Result A ScriptKind) → List A → Result (List A) ScriptKind
-change_last step [] = Err UnknownWord
+change_last step [] = Err (UnknownWord Misplaced)
 change_last step (x ∷ []) = step x >>= λ changed. Ok (changed ∷ [])
 change_last step (x ∷ y ∷ xs) = change_last step (y ∷ xs) >>= λ more. Ok (x ∷ more)
 
@@ -56,18 +58,18 @@ with_patience sofar patience = record sofar { patience = Some patience }
 abbrev pub with_start : SoFar → StartLine → Result SoFar ScriptKind
 with_start sofar line =
     if can_place sofar.start line
-    then (if nat_lt (length sofar.start) most_start_lines then Ok (record sofar { start = sofar.start ++ line ∷ [] }) else Err TooMany)
+    then (if nat_lt (length sofar.start) most_start_lines then Ok (record sofar { start = sofar.start ++ line ∷ [] }) else Err (TooMany Openings))
     else Err BadStart
 
 -- one more target
 abbrev pub with_target : SoFar → TargetScript → Result SoFar ScriptKind
 with_target sofar target =
-    if nat_lt (length sofar.targets) most_targets then Ok (record sofar { targets = sofar.targets ++ target ∷ [] }) else Err TooMany
+    if nat_lt (length sofar.targets) most_targets then Ok (record sofar { targets = sofar.targets ++ target ∷ [] }) else Err (TooMany Targets)
 
 -- a target with one more thread
 abbrev pub one_thread_more : TargetScript → Result TargetScript ScriptKind
 one_thread_more target =
-    if nat_lt (length target.threads) most_threads then Ok (record target { threads = target.threads ++ [] ∷ [] }) else Err TooMany
+    if nat_lt (length target.threads) most_threads then Ok (record target { threads = target.threads ++ [] ∷ [] }) else Err (TooMany Threads)
 
 -- one more thread of the last target
 abbrev pub with_thread : SoFar → Result SoFar ScriptKind
@@ -76,20 +78,21 @@ with_thread sofar = change_last one_thread_more sofar.targets >>= λ targets. Ok
 -- a thread with one more statement
 abbrev pub one_statement_more : Statement → List Statement → Result (List Statement) ScriptKind
 one_statement_more statement statements =
-    if nat_lt (length statements) most_statements then Ok (statements ++ statement ∷ []) else Err TooMany
+    if nat_lt (length statements) most_statements then Ok (statements ++ statement ∷ []) else Err (TooMany Statements)
 
 -- a target whose last thread has one more statement
 abbrev pub in_last_thread : Statement → TargetScript → Result TargetScript ScriptKind
 in_last_thread statement target =
     change_last (one_statement_more statement) target.threads >>= λ threads. Ok (record target { threads = threads })
 
--- the target and the channel that a statement on this line names; a call names none
+-- the target and the channel that a statement on this line names, and how many tokens are left at the target: it is followed by C and W, and by
+-- the values that the statement takes. A call names none
 abbrev pub named_by : ℕ → Statement → List Named
 named_by line (Call tag args) = []
-named_by line (Store target word value) = record { line = line; target = target; channel = word.channel } ∷ []
-named_by line (Exchange target word from to) = record { line = line; target = target; channel = word.channel } ∷ []
-named_by line (Load target word) = record { line = line; target = target; channel = word.channel } ∷ []
-named_by line (Wait target word value most) = record { line = line; target = target; channel = word.channel } ∷ []
+named_by line (Store target word value) = record { line = line; left = 4; target = target; channel = word.channel } ∷ []
+named_by line (Exchange target word from to) = record { line = line; left = 5; target = target; channel = word.channel } ∷ []
+named_by line (Load target word) = record { line = line; left = 3; target = target; channel = word.channel } ∷ []
+named_by line (Wait target word value most) = record { line = line; left = 5; target = target; channel = word.channel } ∷ []
 
 -- one more statement of the last thread, with what it names on this line
 abbrev pub with_statement : SoFar → ℕ → Statement → Result SoFar ScriptKind

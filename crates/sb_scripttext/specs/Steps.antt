@@ -3,15 +3,16 @@ use Rattle.std.specs.Prelude.{ℕ, ◌&&◌, nat_le, List, Result, Ok, Err, if�
 use Rattle.sb_scripttext.specs.declared.faults.ScriptKind.{ScriptKind}
 use Rattle.sb_scripttext.specs.declared.faults.ScriptKind.TheVariants.{UnknownWord, BadNumber, BadName}
 use Rattle.sb_text.specs.Numbers.{number_of}
-use Rattle.sb_text.specs.Steps.{◌>>=◌, or_fault, Read, word_at, quoted_at}
+use Rattle.sb_text.specs.Steps.{◌>>=◌, at_token, or_fails, Read, word_at, quoted_at}
 use Rattle.sb_text.specs.Tokens.{Lexeme, string_of}
+use Rattle.sb_text.specs.declared.refusals.WordFault.TheVariants.{Broken}
 use Rattle.sb_wide.specs.Names.{is_name_of}
 
 -- N: a number. The fault of a quoted token in its place, and that of none
 unfoldable pub number_at : ScriptKind → ScriptKind → List Lexeme → Read ℕ ScriptKind
 number_at quoted missing tokens = do
-  word ← word_at quoted UnknownWord missing tokens
-  n ← or_fault BadNumber (number_of word.0)
+  word ← word_at quoted (UnknownWord Broken) missing tokens
+  n ← or_fails tokens BadNumber (number_of word.0)
   Ok (n, word.1)
 
 -- a number from lo to hi
@@ -22,13 +23,13 @@ within lo hi n = if nat_le lo n && nat_le n hi then Ok n else Err BadNumber
 unfoldable pub number_within : ℕ → ℕ → ScriptKind → ScriptKind → List Lexeme → Read ℕ ScriptKind
 number_within lo hi quoted missing tokens = do
   n ← number_at quoted missing tokens
-  number ← within lo hi n.0
+  number ← at_token tokens (within lo hi n.0)
   Ok (number, n.1)
 
--- "S": a string. The fault of a word in its place, and of none
-unfoldable pub string_at : ScriptKind → List Lexeme → Read (List ℕ) ScriptKind
-string_at other tokens = do
-  quoted ← quoted_at other UnknownWord other tokens
+-- "S": a string. The fault of a word in its place, and that of none
+unfoldable pub string_at : ScriptKind → ScriptKind → List Lexeme → Read (List ℕ) ScriptKind
+string_at unquoted missing tokens = do
+  quoted ← quoted_at unquoted (UnknownWord Broken) missing tokens
   Ok (string_of quoted.0, quoted.1)
 
 -- a string that is a name
@@ -36,8 +37,8 @@ abbrev pub name : List ℕ → Result (List ℕ) ScriptKind
 name units = if is_name_of units then Ok units else Err BadName
 
 -- "NAME": a name
-unfoldable pub name_at : ScriptKind → List Lexeme → Read (List ℕ) ScriptKind
-name_at other tokens = do
-  units ← string_at other tokens
-  named ← name units.0
+unfoldable pub name_at : ScriptKind → ScriptKind → List Lexeme → Read (List ℕ) ScriptKind
+name_at unquoted missing tokens = do
+  units ← string_at unquoted missing tokens
+  named ← at_token tokens (name units.0)
   Ok (named, units.1)

@@ -4,25 +4,33 @@ ghost use Rattle.sb_scripttext.specs.Arguments.{tag_at, arg_at, args_at, fitting
 ghost use Rattle.sb_items.specs.Refusals.{Gives};
 ghost use Rattle.sb_text.specs.Steps.{Reads};
 
-use crate::faults::LineRefused;
 use crate::faults::ScriptKind::{TooBig, UnknownCall, UnknownWord, WrongArgs};
-use crate::steps::{name_at, number_at, number_within, string_at};
+use crate::faults::{KindRefused, LineRefused, ScriptKind};
+use crate::steps::{BROKEN, name_at, number_at, number_within, string_at};
 use sb_block::encodes;
 use sb_call::{Arg, Args, CallTag, ParamKind, shape, tag_of_word};
 use sb_statements::Statement;
-use sb_text::{Tokens, end_at, or_fault, word_at};
+use sb_text::{Tokens, WordFault, end_at, or_fails, word_at};
 use std::alloc::Global;
 
 /// The greatest number of 32 bits.
 pub(crate) const MOST_32: u64 = 0xFFFF_FFFF;
+
+// The faults of an argument that is not a string, that is one, and that is not there.
+const UNQUOTED: ScriptKind = WrongArgs(WordFault::Unquoted);
+
+const QUOTED: ScriptKind = WrongArgs(WordFault::Quoted);
+
+const MISSING: ScriptKind = WrongArgs(WordFault::Missing);
 
 // CALL: the word of a call.
 #[tactic(auto, unfolding(crate::specs::Arguments::tag_at))]
 fn tag_at(tokens: &mut Tokens) -> Result<CallTag, LineRefused>
     ensures { Reads (tag_at tokens.old) result tokens.new }
 {
-    let word = word_at(UnknownCall, UnknownWord, UnknownWord, tokens)?;
-    or_fault(UnknownCall, tag_of_word(word))
+    let due = tokens.copy();
+    let word = word_at(UnknownCall, BROKEN, UnknownWord(WordFault::Missing), tokens)?;
+    or_fails(&due, UnknownCall, tag_of_word(word))
 }
 
 // ARG: an argument of this kind.
@@ -31,10 +39,10 @@ fn arg_at(alloc: Global, kind: ParamKind, tokens: &mut Tokens) -> Result<Arg, Li
     ensures { Reads (arg_at kind tokens.old) result tokens.new }
 {
     match kind {
-        ParamKind::Text => Ok(Arg::Str(string_at(alloc, WrongArgs, tokens)?)),
-        ParamKind::Name => Ok(Arg::Str(name_at(alloc, WrongArgs, tokens)?)),
-        ParamKind::Num => Ok(Arg::Num(number_within(0, MOST_32, WrongArgs, WrongArgs, tokens)?)),
-        ParamKind::Handle => Ok(Arg::Num(number_at(WrongArgs, WrongArgs, tokens)?)),
+        ParamKind::Text => Ok(Arg::Str(string_at(alloc, UNQUOTED, MISSING, tokens)?)),
+        ParamKind::Name => Ok(Arg::Str(name_at(alloc, UNQUOTED, MISSING, tokens)?)),
+        ParamKind::Num => Ok(Arg::Num(number_within(0, MOST_32, QUOTED, MISSING, tokens)?)),
+        ParamKind::Handle => Ok(Arg::Num(number_at(QUOTED, MISSING, tokens)?)),
     }
 }
 
@@ -56,13 +64,13 @@ fn args_at(alloc: Global, kinds: &[ParamKind], tokens: &mut Tokens) -> Result<Ar
 }
 
 // The statement of a call, if its block has at most 64 words.
-fn fitting(tag: CallTag, args: Args) -> Result<Statement, LineRefused>
+fn fitting(tag: CallTag, args: Args) -> Result<Statement, KindRefused>
     ensures { Gives (fitting tag args) result }
 {
     if encodes(tag, args.as_slice()) {
         Ok(Statement::Call { tag, args })
     } else {
-        Err(LineRefused::Fault(TooBig))
+        Err(KindRefused::Fault(TooBig))
     }
 }
 
@@ -71,8 +79,12 @@ fn fitting(tag: CallTag, args: Args) -> Result<Statement, LineRefused>
 pub(crate) fn call(alloc: Global, tokens: &mut Tokens) -> Result<Statement, LineRefused>
     ensures { Gives (call tokens.old) result }
 {
+    let others = tokens.copy();
     let tag = tag_at(tokens)?;
     let args = args_at(alloc, shape(tag), tokens)?;
-    end_at(WrongArgs, UnknownWord, tokens)?;
-    fitting(tag, args)
+    end_at(WrongArgs(WordFault::Extra), BROKEN, tokens)?;
+    match fitting(tag, args) {
+        Ok(statement) => Ok(statement),
+        Err(refused) => Err(others.refuse_first(refused)),
+    }
 }

@@ -9,7 +9,7 @@ ghost use Rattle.sb_scripttext.specs.ScriptTexts.{script_of};
 ghost use Rattle.sb_scripttext.specs.SoFar.{nothing, is_opening, is_in_thread, with_patience, with_start, with_target, with_thread, named_by, with_statement};
 ghost use Rattle.sb_text.specs.Steps.{Becomes};
 
-use crate::faults::{LineRefused, ScriptKind};
+use crate::faults::{KindRefused, ScriptKind, ScriptLimit};
 use crate::placing::Placed;
 use sb_call::ShortName;
 use sb_items::{Items, NoMemory};
@@ -18,6 +18,7 @@ use sb_statements::{
     MOST_START_LINES, MOST_STATEMENTS, MOST_TARGETS, MOST_THREADS, Script, StartLine, Statement,
     Statements, TargetScript, Targets, Threads, Word,
 };
+use sb_text::WordFault;
 use std::alloc::Global;
 use std::marker::Model;
 use std::mem;
@@ -40,6 +41,8 @@ pub(crate) struct Heading {
 pub(crate) struct Named {
     /// The line of the statement.
     pub(crate) line: u32,
+    /// The number of tokens that are left at the target.
+    pub(crate) left: usize,
     /// The target, from 0.
     pub(crate) target: u32,
     /// The channel, from 0.
@@ -49,11 +52,18 @@ pub(crate) struct Named {
 /// What statements name, in the order of their lines.
 pub(crate) type NamedWords = Items<Named>;
 
-fn add_word(named: &mut NamedWords, line: u32, target: u32, word: Word) -> Result<(), NoMemory>
-    ensures { OnOk result (named.new ≡ named.old ++ record { line = line; target = target; channel = word.channel } ∷ []) }
+fn add_word(
+    named: &mut NamedWords,
+    line: u32,
+    left: usize,
+    target: u32,
+    word: Word,
+) -> Result<(), NoMemory>
+    ensures { OnOk result (named.new ≡ named.old ++ record { line = line; left = left; target = target; channel = word.channel } ∷ []) }
 {
     named.push(Named {
         line,
+        left,
         target,
         channel: word.channel,
     })
@@ -65,10 +75,11 @@ fn add_named(named: &mut NamedWords, line: u32, statement: &Statement) -> Result
 {
     match statement {
         Statement::Call { .. } => Ok(()),
-        Statement::Store { target, word, .. }
-        | Statement::Exchange { target, word, .. }
-        | Statement::Load { target, word }
-        | Statement::Wait { target, word, .. } => add_word(named, line, *target, *word),
+        Statement::Load { target, word } => add_word(named, line, 3, *target, *word),
+        Statement::Store { target, word, .. } => add_word(named, line, 4, *target, *word),
+        Statement::Exchange { target, word, .. } | Statement::Wait { target, word, .. } => {
+            add_word(named, line, 5, *target, *word)
+        }
     }
 }
 
@@ -204,15 +215,15 @@ impl Draft {
     }
 
     /// One more opening line. After an error the draft is unspecified.
-    pub(crate) fn add_start(&mut self, alloc: Global, line: StartLine) -> Result<(), LineRefused>
+    pub(crate) fn add_start(&mut self, alloc: Global, line: StartLine) -> Result<(), KindRefused>
         requires name { is_named line ≡ true }
         ensures { Becomes (with_start self.old line) result self.new }
     {
         if self.start.len() >= MOST_START_LINES {
             if self.start.can_place(&line) {
-                return Err(LineRefused::Fault(ScriptKind::TooMany));
+                return Err(KindRefused::Fault(ScriptKind::TooMany(ScriptLimit::Openings)));
             }
-            return Err(LineRefused::Fault(ScriptKind::BadStart));
+            return Err(KindRefused::Fault(ScriptKind::BadStart));
         }
         let start = mem::replace(&mut self.start, Placed::new(alloc));
         self.start = start.with(line)?;
@@ -220,11 +231,11 @@ impl Draft {
     }
 
     /// One more target. After an error the draft is unspecified.
-    pub(crate) fn add_target(&mut self, alloc: Global, heading: Heading) -> Result<(), LineRefused>
+    pub(crate) fn add_target(&mut self, alloc: Global, heading: Heading) -> Result<(), KindRefused>
         ensures { Becomes (with_target self.old (target_script heading [])) result self.new }
     {
         if !self.has_room() {
-            return Err(LineRefused::Fault(ScriptKind::TooMany));
+            return Err(KindRefused::Fault(ScriptKind::TooMany(ScriptLimit::Targets)));
         }
         let threads = mem::replace(&mut self.threads, Threads::new(Vec::new(alloc)));
         let in_thread = mem::replace(&mut self.in_thread, false);
@@ -238,15 +249,15 @@ impl Draft {
 
     /// One more thread of the last target. After an error the draft is unspecified.
     #[tactic(auto, using(crate::proofs::Built::thread_nowhere, crate::proofs::Built::thread_too_many, crate::proofs::Built::thread_first, crate::proofs::Built::thread_more))]
-    pub(crate) fn add_thread(&mut self, alloc: Global) -> Result<(), LineRefused>
+    pub(crate) fn add_thread(&mut self, alloc: Global) -> Result<(), KindRefused>
         ensures { Becomes (with_thread self.old) result self.new }
     {
         if self.last.is_none() {
-            return Err(LineRefused::Fault(ScriptKind::UnknownWord));
+            return Err(KindRefused::Fault(ScriptKind::UnknownWord(WordFault::Misplaced)));
         }
         if self.in_thread {
             if self.threads.len() >= MOST_THREADS - 1 {
-                return Err(LineRefused::Fault(ScriptKind::TooMany));
+                return Err(KindRefused::Fault(ScriptKind::TooMany(ScriptLimit::Threads)));
             }
             let ended = mem::replace(&mut self.statements, Statements::new(Vec::new(alloc)));
             self.threads.push(ended)?;
@@ -261,14 +272,14 @@ impl Draft {
         &mut self,
         line: u32,
         statement: Statement,
-    ) -> Result<(), LineRefused>
+    ) -> Result<(), KindRefused>
         ensures { Becomes (with_statement self.old line statement) result self.new }
     {
         if !self.in_thread {
-            return Err(LineRefused::Fault(ScriptKind::UnknownWord));
+            return Err(KindRefused::Fault(ScriptKind::UnknownWord(WordFault::Misplaced)));
         }
         if self.statements.len() >= MOST_STATEMENTS {
-            return Err(LineRefused::Fault(ScriptKind::TooMany));
+            return Err(KindRefused::Fault(ScriptKind::TooMany(ScriptLimit::Statements)));
         }
         add_named(&mut self.named, line, &statement)?;
         self.statements.push(statement)?;

@@ -2,8 +2,21 @@
 ghost use Rattle.std.specs.Prelude.{◌≡◌};
 ghost use Rattle.sb_scripttext.specs.Kinds.{kind_number};
 
-use sb_text::{LineFault, Refused};
+use sb_text::{LineFault, Refused, TokenFault, WordFault};
 use thiserror::Error;
+
+/// What a script text may have only a limited number of.
+#[derive(Clone, Copy, Debug)]
+pub enum ScriptLimit {
+    /// Opening lines: at most 4,096.
+    Openings,
+    /// Targets: at most 8.
+    Targets,
+    /// Threads of a target: at most 4.
+    Threads,
+    /// Statements of a thread: at most 4,096.
+    Statements,
+}
 
 /// What is wrong with a line of a script text.
 #[derive(Clone, Copy, Debug, Error)]
@@ -11,16 +24,16 @@ pub enum ScriptKind {
     /// The text is not UTF-8.
     #[error("the text is not UTF-8")]
     NotUtf8,
-    /// The first line that is neither blank nor a comment is not `sandbox-script 1`, a line may not stand here, or a word is not known here,
+    /// The first line that is neither blank nor a comment is not `sandbox-script 1`, a line is out of place, or a word is not known here,
     /// missing, broken or one too many.
-    #[error("unknown, missing or further word")]
-    UnknownWord,
+    #[error("unknown, missing or extra word")]
+    UnknownWord(WordFault),
     /// There is no call of this name.
     #[error("unknown call")]
     UnknownCall,
-    /// An argument of a call is missing, further or of the wrong kind, or another statement has too few or too many words.
+    /// An argument of a call is missing, one too many or of the wrong kind, or another statement has too few or too many words.
     #[error("wrong arguments")]
-    WrongArgs,
+    WrongArgs(WordFault),
     /// No number, or one out of its range: a patience and the loads of a `wait` are 1 to 1,000,000, the channels of a target
     /// 1 to 8, the kind and the initial state of an event 0 or 1, attributes and the numbers of a call below 2^32, and
     /// handles and all other numbers below 2^64.
@@ -34,21 +47,33 @@ pub enum ScriptKind {
     NoSuchPolicy,
     /// The target that a statement names is not there.
     #[error("no such target")]
-    NoSuchTarget,
+    NoSuchTarget {
+        /// The number named, or 4,294,967,295 for one above it.
+        target: u32,
+        /// The number of targets of the script.
+        targets: usize,
+    },
     /// The channel that a statement names is not there.
     #[error("no such channel")]
-    NoSuchChannel,
+    NoSuchChannel {
+        /// The number named, or 4,294,967,295 for one above it.
+        channel: u32,
+        /// Its target.
+        target: u32,
+        /// The number of channels of the target.
+        channels: u32,
+    },
     /// A block word above 63.
     #[error("no such word")]
     NoSuchWord,
-    /// More than 4,096 opening lines, 8 targets, 4 threads of a target or 4,096 statements of a thread.
+    /// One more than the limit.
     #[error("too many")]
-    TooMany,
+    TooMany(ScriptLimit),
     /// The block of the call would need more than 64 words.
     #[error("the call is too big")]
     TooBig,
     /// An earlier target has this name.
-    #[error("a target of this name stands before")]
+    #[error("an earlier target has this name")]
     SameName,
     /// The parent of an opening line's name is missing or no directory, or its name is there.
     #[error("cannot be placed")]
@@ -62,16 +87,16 @@ impl ScriptKind {
     {
         match self {
             ScriptKind::NotUtf8 => 1,
-            ScriptKind::UnknownWord => 2,
+            ScriptKind::UnknownWord(_) => 2,
             ScriptKind::UnknownCall => 3,
-            ScriptKind::WrongArgs => 4,
+            ScriptKind::WrongArgs(_) => 4,
             ScriptKind::BadNumber => 5,
             ScriptKind::BadName => 6,
             ScriptKind::NoSuchPolicy => 7,
-            ScriptKind::NoSuchTarget => 8,
-            ScriptKind::NoSuchChannel => 9,
+            ScriptKind::NoSuchTarget { .. } => 8,
+            ScriptKind::NoSuchChannel { .. } => 9,
             ScriptKind::NoSuchWord => 10,
-            ScriptKind::TooMany => 11,
+            ScriptKind::TooMany(_) => 11,
             ScriptKind::TooBig => 12,
             ScriptKind::SameName => 13,
             ScriptKind::BadStart => 14,
@@ -86,4 +111,7 @@ pub type ScriptFault = LineFault<ScriptKind>;
 pub type ScriptRefused = Refused<ScriptFault>;
 
 // Why there is nothing of a line, whose number is not known here.
-pub(crate) type LineRefused = Refused<ScriptKind>;
+pub(crate) type LineRefused = Refused<TokenFault<ScriptKind>>;
+
+// Why there is nothing of a part of a line, whose place is not known here.
+pub(crate) type KindRefused = Refused<ScriptKind>;

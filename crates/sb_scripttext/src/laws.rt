@@ -6,14 +6,17 @@ ghost use Rattle.sb_scripttext.specs.WritingLaws.{WrittenScriptsAreRead, ReadScr
 use crate::drafts::Draft;
 use crate::faults::ScriptKind;
 use sb_text::{
-    decimals_are_read, not_utf8_line_tells, plain_lines_are_read, quoted_strings_are_read,
+    decimals_are_read, not_utf8_place_tells, plain_lines_are_read, quoted_strings_are_read,
     quoted_tokens_are_text,
 };
 
 /// Each script that is read for well-made policies is ready for them.
 pub fn read_scripts_are_ready()
     ensures { ReadScriptsAreReady }
-{}
+{
+    quoted_strings_are_read();
+    quoted_tokens_are_text();
+}
 
 /// The strings of the calls of each script that is read are made of units of 16 bits: they stand between quotes in a text that is
 /// UTF-8.
@@ -42,6 +45,8 @@ pub fn first_faults_stay()
 pub fn skipped_lines_count_alone()
     ensures { SkippedLinesCountAlone }
 {
+    sb_text::lines_append();
+    sb_text::written_lines_are_read();
     sb_text::skipped_lines_count_alone::<Draft, ScriptKind>();
 }
 
@@ -50,7 +55,7 @@ pub fn skipped_lines_count_alone()
 pub fn written_scripts_are_read()
     ensures { WrittenScriptsAreRead }
 {
-    not_utf8_line_tells();
+    not_utf8_place_tells();
     plain_lines_are_read();
     quoted_strings_are_read();
     decimals_are_read();

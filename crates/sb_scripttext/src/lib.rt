@@ -1,4 +1,4 @@
-// Scripts as the texts that people write: reading them, with the first fault and its line. A text means one script for
+// Scripts as the texts that people write: reading them, with the first fault, its line and its column. A text means one script for
 // given policies or it has one first fault; what is read is sound and ready for its policies.
 #![tactic(auto)]
 
@@ -13,7 +13,7 @@ mod script_texts;
 mod statements;
 mod steps;
 
-pub use faults::{ScriptFault, ScriptKind, ScriptRefused};
+pub use faults::{ScriptFault, ScriptKind, ScriptLimit, ScriptRefused};
 pub use laws::{
     first_faults_stay, read_arguments_fit, read_scripts_are_ready, read_scripts_can_be_written,
     read_scripts_have_units, skipped_lines_count_alone, written_scripts_are_read,

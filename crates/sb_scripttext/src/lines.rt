@@ -4,7 +4,7 @@ ghost use Rattle.std.specs.List.{list_any, position};
 ghost use Rattle.sb_rule.specs.WellMade.{is_named};
 ghost use Rattle.sb_scripttext.specs.Arguments.{call};
 ghost use Rattle.sb_scripttext.specs.Building.{target_script};
-ghost use Rattle.sb_scripttext.specs.Lines.{patience, new_name, new_name_at, policy_number, policy_at, heading, set_patience, add_target, add_thread, start_line, statement_line, plain_line, line_of};
+ghost use Rattle.sb_scripttext.specs.Lines.{patience, new_name, new_name_at, policy_number, policy_at, heading, set_patience, add_target, add_thread, is_line_word, first_word_fault, refused_start, start_line, statement_line, plain_line, line_of};
 ghost use Rattle.sb_scripttext.specs.Openings.{dir, file, key, event};
 ghost use Rattle.sb_scripttext.specs.Statements.{store, exchange, load, wait};
 ghost use Rattle.sb_items.specs.Refusals.{Gives};
@@ -14,36 +14,45 @@ ghost use Rattle.sb_text.specs.Tokens.{tokens_of};
 
 use crate::arguments::{MOST_32, call};
 use crate::drafts::{Draft, Heading};
-use crate::faults::LineRefused;
-use crate::faults::ScriptKind::{BadNumber, NoSuchPolicy, SameName, UnknownWord};
+use crate::faults::ScriptKind::{BadNumber, BadStart, NoSuchPolicy, SameName, UnknownWord};
+use crate::faults::{KindRefused, LineRefused, ScriptKind};
 use crate::openings::{dir, event, file, key};
 use crate::statements::{exchange, load, store, wait};
-use crate::steps::number_within;
+use crate::steps::{BROKEN, number_within};
 use sb_call::ShortName;
 use sb_rule::Policy;
 use sb_statements::{MOST_CHANNELS, MOST_PATIENCE, StartLine, Statement};
-use sb_text::{Line, Tokens, end_at, or_fault, word_at};
+use sb_text::{Line, Tokens, WordFault, end_at, or_fails, word_at};
 use std::alloc::Global;
+
+// The faults of a quoted token, of one that is not there, of an extra one, and of a line that is out of place.
+const QUOTED: ScriptKind = UnknownWord(WordFault::Quoted);
+
+const MISSING: ScriptKind = UnknownWord(WordFault::Missing);
+
+const EXTRA: ScriptKind = UnknownWord(WordFault::Extra);
+
+const MISPLACED: ScriptKind = UnknownWord(WordFault::Misplaced);
 
 // `patience N`, after its first word.
 #[tactic(auto, unfolding(crate::specs::Lines::patience))]
 fn patience(tokens: &mut Tokens) -> Result<u32, LineRefused>
     ensures { Gives (patience tokens.old) result }
 {
-    let patience = number_within(1, u64::from(MOST_PATIENCE), BadNumber, UnknownWord, tokens)?;
-    end_at(UnknownWord, UnknownWord, tokens)?;
+    let patience = number_within(1, u64::from(MOST_PATIENCE), BadNumber, MISSING, tokens)?;
+    end_at(EXTRA, BROKEN, tokens)?;
     Ok(patience as u32)
 }
 
 // NAME as a word: a short name that no target so far has.
-fn new_name(draft: &Draft, word: &[u8]) -> Result<ShortName, LineRefused>
+fn new_name(draft: &Draft, word: &[u8]) -> Result<ShortName, KindRefused>
     ensures { Gives (new_name draft.now.targets word.now) result }
 {
     let Some(name) = ShortName::new(word) else {
-        return Err(LineRefused::Fault(UnknownWord));
+        return Err(KindRefused::Fault(UnknownWord(WordFault::Unknown)));
     };
     if draft.is_named(word) {
-        return Err(LineRefused::Fault(SameName));
+        return Err(KindRefused::Fault(SameName));
     }
     Ok(name)
 }
@@ -53,8 +62,12 @@ fn new_name(draft: &Draft, word: &[u8]) -> Result<ShortName, LineRefused>
 fn new_name_at(draft: &Draft, tokens: &mut Tokens) -> Result<ShortName, LineRefused>
     ensures { Reads (new_name_at draft.now.targets tokens.old) result tokens.new }
 {
-    let word = word_at(UnknownWord, UnknownWord, UnknownWord, tokens)?;
-    new_name(draft, word)
+    let due = tokens.copy();
+    let word = word_at(QUOTED, BROKEN, MISSING, tokens)?;
+    match new_name(draft, word) {
+        Ok(name) => Ok(name),
+        Err(refused) => Err(due.refuse(refused)),
+    }
 }
 
 fn is_named(name: &[u8], policy: &Policy) -> bool
@@ -71,13 +84,13 @@ fn policy_place(name: &[u8], policies: &[Policy]) -> Option<usize>
 }
 
 // The number of the policy at this place.
-fn policy_number(place: usize) -> Result<u32, LineRefused>
+fn policy_number(place: usize) -> Result<u32, KindRefused>
     ensures { Gives (policy_number place) result }
 {
     if place as u64 <= MOST_32 {
         Ok(place as u32)
     } else {
-        Err(LineRefused::Fault(NoSuchPolicy))
+        Err(KindRefused::Fault(NoSuchPolicy))
     }
 }
 
@@ -86,9 +99,13 @@ fn policy_number(place: usize) -> Result<u32, LineRefused>
 fn policy_at(policies: &[Policy], tokens: &mut Tokens) -> Result<u32, LineRefused>
     ensures { Reads (policy_at policies.now tokens.old) result tokens.new }
 {
-    let word = word_at(NoSuchPolicy, UnknownWord, UnknownWord, tokens)?;
-    let place = or_fault(NoSuchPolicy, policy_place(word, policies))?;
-    policy_number(place)
+    let due = tokens.copy();
+    let word = word_at(NoSuchPolicy, BROKEN, MISSING, tokens)?;
+    let place = or_fails(&due, NoSuchPolicy, policy_place(word, policies))?;
+    match policy_number(place) {
+        Ok(policy) => Ok(policy),
+        Err(refused) => Err(due.refuse(refused)),
+    }
 }
 
 // `target NAME POLICY CHANNELS`, after its first word.
@@ -98,8 +115,8 @@ fn heading(policies: &[Policy], draft: &Draft, tokens: &mut Tokens) -> Result<He
 {
     let name = new_name_at(draft, tokens)?;
     let policy = policy_at(policies, tokens)?;
-    let channels = number_within(1, u64::from(MOST_CHANNELS), BadNumber, UnknownWord, tokens)?;
-    end_at(UnknownWord, UnknownWord, tokens)?;
+    let channels = number_within(1, u64::from(MOST_CHANNELS), BadNumber, MISSING, tokens)?;
+    end_at(EXTRA, BROKEN, tokens)?;
     Ok(Heading {
         name,
         policy,
@@ -113,10 +130,10 @@ fn set_patience(draft: &mut Draft, tokens: &mut Tokens) -> Result<(), LineRefuse
     ensures { Becomes (set_patience draft.old tokens.old) result draft.new }
 {
     if draft.has_patience() {
-        return Err(LineRefused::Fault(UnknownWord));
+        return Err(tokens.fail_first(UnknownWord(WordFault::Repeated)));
     }
     if !draft.is_opening() {
-        return Err(LineRefused::Fault(UnknownWord));
+        return Err(tokens.fail_first(MISPLACED));
     }
     let patience = patience(tokens)?;
     draft.add_patience(patience);
@@ -133,8 +150,12 @@ fn add_target(
 ) -> Result<(), LineRefused>
     ensures { Becomes (add_target policies.now draft.old tokens.old) result draft.new }
 {
+    let others = tokens.copy();
     let heading = heading(policies, draft, tokens)?;
-    draft.add_target(alloc, heading)
+    match draft.add_target(alloc, heading) {
+        Ok(()) => Ok(()),
+        Err(refused) => Err(others.refuse_first(refused)),
+    }
 }
 
 // A `thread` line, after a target.
@@ -143,10 +164,49 @@ fn add_thread(alloc: Global, draft: &mut Draft, tokens: &mut Tokens) -> Result<(
     ensures { Becomes (add_thread draft.old tokens.old) result draft.new }
 {
     if draft.is_opening() {
-        return Err(LineRefused::Fault(UnknownWord));
+        return Err(tokens.fail_first(MISPLACED));
     }
-    end_at(UnknownWord, UnknownWord, tokens)?;
-    draft.add_thread(alloc)
+    end_at(EXTRA, BROKEN, tokens)?;
+    match draft.add_thread(alloc) {
+        Ok(()) => Ok(()),
+        Err(refused) => Err(tokens.refuse_first(refused)),
+    }
+}
+
+// Whether the word begins a line that is allowed elsewhere in a script.
+fn is_line_word(word: &[u8]) -> bool
+    ensures { result ≡ is_line_word word.now }
+{
+    word == b"dir".as_slice()
+        || word == b"file".as_slice()
+        || word == b"key".as_slice()
+        || word == b"event".as_slice()
+        || word == b"call".as_slice()
+        || word == b"store".as_slice()
+        || word == b"exchange".as_slice()
+        || word == b"load".as_slice()
+        || word == b"wait".as_slice()
+}
+
+// Why a line that begins with this word is out of place.
+fn first_word_fault(word: &[u8]) -> ScriptKind
+    ensures { result ≡ first_word_fault word.now }
+{
+    if is_line_word(word) {
+        MISPLACED
+    } else {
+        UnknownWord(WordFault::Unknown)
+    }
+}
+
+// The refusal of an opening line: a bad start is told at the name, and all else at the first word.
+fn refuse_start(others: &Tokens, refused: KindRefused) -> LineRefused
+    ensures { result ≡ refused_start others.now refused }
+{
+    match refused {
+        KindRefused::Fault(BadStart) => others.fail(BadStart),
+        refused => others.refuse_first(refused),
+    }
 }
 
 // The object of an opening line that begins with this word.
@@ -163,7 +223,7 @@ fn start_line(alloc: Global, word: &[u8], tokens: &mut Tokens) -> Result<StartLi
     } else if word == b"event".as_slice() {
         event(alloc, tokens)
     } else {
-        Err(LineRefused::Fault(UnknownWord))
+        Err(tokens.fail_first(first_word_fault(word)))
     }
 }
 
@@ -183,7 +243,7 @@ fn statement_line(alloc: Global, word: &[u8], tokens: &mut Tokens) -> Result<Sta
     } else if word == b"wait".as_slice() {
         wait(tokens)
     } else {
-        Err(LineRefused::Fault(UnknownWord))
+        Err(tokens.fail_first(first_word_fault(word)))
     }
 }
 
@@ -198,15 +258,22 @@ fn plain_line(
 ) -> Result<(), LineRefused>
     ensures { Becomes (plain_line word.now draft.old line tokens.old) result draft.new }
 {
+    let others = tokens.copy();
     if draft.is_in_thread() {
         let statement = statement_line(alloc, word, tokens)?;
-        return draft.add_statement(line, statement);
+        return match draft.add_statement(line, statement) {
+            Ok(()) => Ok(()),
+            Err(refused) => Err(others.refuse_first(refused)),
+        };
     }
     if !draft.is_opening() {
-        return Err(LineRefused::Fault(UnknownWord));
+        return Err(others.fail_first(first_word_fault(word)));
     }
     let start = start_line(alloc, word, tokens)?;
-    draft.add_start(alloc, start)
+    match draft.add_start(alloc, start) {
+        Ok(()) => Ok(()),
+        Err(refused) => Err(refuse_start(&others, refused)),
+    }
 }
 
 /// What a line adds to what was read so far. After an error the draft is unspecified.
@@ -220,7 +287,7 @@ pub(crate) fn line_of(
     ensures { Becomes (line_of policies.now draft.old line.now.number (tokens_of line.now.text.now)) result draft.new }
 {
     let mut tokens = line.tokens();
-    let word = word_at(UnknownWord, UnknownWord, UnknownWord, &mut tokens)?;
+    let word = word_at(QUOTED, BROKEN, MISSING, &mut tokens)?;
     if word == b"patience".as_slice() {
         return set_patience(draft, &mut tokens);
     }

@@ -4,20 +4,27 @@ ghost use Rattle.sb_scripttext.specs.Openings.{dir, file, key, event};
 ghost use Rattle.sb_items.specs.Refusals.{Gives};
 
 use crate::arguments::MOST_32;
-use crate::faults::LineRefused;
 use crate::faults::ScriptKind::{BadNumber, UnknownWord};
-use crate::steps::{name_at, number_within};
+use crate::faults::{LineRefused, ScriptKind};
+use crate::steps::{BROKEN, name_at, number_within};
 use sb_statements::StartLine;
-use sb_text::{Tokens, end_at};
+use sb_text::{Tokens, WordFault, end_at};
 use std::alloc::Global;
+
+// The faults of a word in place of a name, of a token that is not there, and of an extra one.
+const UNQUOTED: ScriptKind = UnknownWord(WordFault::Unquoted);
+
+const MISSING: ScriptKind = UnknownWord(WordFault::Missing);
+
+const EXTRA: ScriptKind = UnknownWord(WordFault::Extra);
 
 /// `dir "NAME"`, after its first word.
 #[tactic(auto, unfolding(crate::specs::Openings::dir))]
 pub(crate) fn dir(alloc: Global, tokens: &mut Tokens) -> Result<StartLine, LineRefused>
     ensures { Gives (dir tokens.old) result }
 {
-    let name = name_at(alloc, UnknownWord, tokens)?;
-    end_at(UnknownWord, UnknownWord, tokens)?;
+    let name = name_at(alloc, UNQUOTED, MISSING, tokens)?;
+    end_at(EXTRA, BROKEN, tokens)?;
     Ok(StartLine::Dir { name })
 }
 
@@ -26,9 +33,9 @@ pub(crate) fn dir(alloc: Global, tokens: &mut Tokens) -> Result<StartLine, LineR
 pub(crate) fn file(alloc: Global, tokens: &mut Tokens) -> Result<StartLine, LineRefused>
     ensures { Gives (file tokens.old) result }
 {
-    let name = name_at(alloc, UnknownWord, tokens)?;
-    let attributes = number_within(0, MOST_32, BadNumber, UnknownWord, tokens)?;
-    end_at(UnknownWord, UnknownWord, tokens)?;
+    let name = name_at(alloc, UNQUOTED, MISSING, tokens)?;
+    let attributes = number_within(0, MOST_32, BadNumber, MISSING, tokens)?;
+    end_at(EXTRA, BROKEN, tokens)?;
     Ok(StartLine::File { name, attributes })
 }
 
@@ -37,8 +44,8 @@ pub(crate) fn file(alloc: Global, tokens: &mut Tokens) -> Result<StartLine, Line
 pub(crate) fn key(alloc: Global, tokens: &mut Tokens) -> Result<StartLine, LineRefused>
     ensures { Gives (key tokens.old) result }
 {
-    let name = name_at(alloc, UnknownWord, tokens)?;
-    end_at(UnknownWord, UnknownWord, tokens)?;
+    let name = name_at(alloc, UNQUOTED, MISSING, tokens)?;
+    end_at(EXTRA, BROKEN, tokens)?;
     Ok(StartLine::Key { name })
 }
 
@@ -47,10 +54,10 @@ pub(crate) fn key(alloc: Global, tokens: &mut Tokens) -> Result<StartLine, LineR
 pub(crate) fn event(alloc: Global, tokens: &mut Tokens) -> Result<StartLine, LineRefused>
     ensures { Gives (event tokens.old) result }
 {
-    let name = name_at(alloc, UnknownWord, tokens)?;
-    let kind = number_within(0, 1, BadNumber, UnknownWord, tokens)?;
-    let initial = number_within(0, 1, BadNumber, UnknownWord, tokens)?;
-    end_at(UnknownWord, UnknownWord, tokens)?;
+    let name = name_at(alloc, UNQUOTED, MISSING, tokens)?;
+    let kind = number_within(0, 1, BadNumber, MISSING, tokens)?;
+    let initial = number_within(0, 1, BadNumber, MISSING, tokens)?;
+    end_at(EXTRA, BROKEN, tokens)?;
     Ok(StartLine::Event {
         name,
         kind,

@@ -5,7 +5,7 @@ ghost use Rattle.sb_scripttext.specs.Openings.{can_place, with_line};
 ghost use Rattle.sb_statements.specs.Limits.{most_start_lines};
 ghost use Rattle.sb_items.specs.Refusals.{Gives};
 
-use crate::faults::{LineRefused, ScriptKind};
+use crate::faults::{KindRefused, ScriptKind};
 use sb_kernel::{Kernel, openings_make_few};
 use sb_statements::{StartLine, StartLines};
 use std::alloc::Global;
@@ -66,7 +66,7 @@ impl Placed {
     }
 
     /// With one more line, while there are fewer than 4,096. One that cannot be placed is a bad start.
-    pub(crate) fn with(self, line: StartLine) -> Result<Placed, LineRefused>
+    pub(crate) fn with(self, line: StartLine) -> Result<Placed, KindRefused>
         requires name { is_named line ≡ true }
         requires few { length self < most_start_lines }
         ensures { Gives (with_line self line) result }
@@ -77,7 +77,7 @@ impl Placed {
             mut kernel,
         } = self;
         if !kernel.place(&line)? {
-            return Err(LineRefused::Fault(ScriptKind::BadStart));
+            return Err(KindRefused::Fault(ScriptKind::BadStart));
         }
         lines.push(line)?;
         Ok(Placed { lines, kernel })

@@ -1,20 +1,26 @@
 // Reading script texts.
-ghost use Rattle.std.specs.Prelude.{◌≡◌, ◌<◌, ◌^◌, length, IfOk};
+ghost use Rattle.std.specs.Prelude.{◌≡◌, ◌+◌, ◌<◌, ◌≤◌, ◌^◌, length, IfOk};
 ghost use Rattle.sb_kernel.specs.Openings.{opening};
 ghost use Rattle.sb_scripttext.specs.SoFar.{nothing};
-ghost use Rattle.sb_scripttext.specs.ScriptTexts.{grammar, absence, first_absence, finished, reading};
+ghost use Rattle.sb_scripttext.specs.ScriptTexts.{grammar, absence, line_on, first_absence, finished, reading};
 ghost use Rattle.sb_scripttext.specs.declared.faults.ScriptKind.TheVariants.{UnknownWord};
 ghost use Rattle.sb_items.specs.Refusals.{GivesAs};
+ghost use Rattle.sb_text.specs.Readings.{fault_on};
+ghost use Rattle.sb_text.specs.Spots.{by_tokens};
+ghost use Rattle.sb_text.specs.declared.refusals.WordFault.TheVariants.{NoVersion};
 
 use crate::drafts::{Draft, Named};
 use crate::faults::{LineRefused, ScriptFault, ScriptKind, ScriptRefused};
-use crate::laws::{read_scripts_are_ready, read_scripts_can_be_written, read_scripts_have_units};
+use crate::laws::read_scripts_are_ready;
 use crate::lines::line_of;
 use sb_book::{OpenedScript, ReadyScript};
 use sb_kernel::Kernel;
 use sb_rule::{Policy, WellMadePolicies};
 use sb_statements::{Script, SoundScript, TargetScript};
-use sb_text::{Line, Lines, TextGrammar, read_text};
+use sb_text::{
+    Layout, Line, Lines, TextGrammar, TokenFault, WordFault, column_at, line_numbered, read_text,
+    version_at,
+};
 use std::alloc::Global;
 
 // Script texts, for targets of these policies.
@@ -31,14 +37,25 @@ impl<'a, 'b> TextGrammar<Lines<'b>> for ScriptGrammar<'a> {
 
     ghost grammar = { λ texts. grammar texts.policies.now };
 
-    fn version(&self, line: &Line<'b>) -> Option<u32> {
-        line.version(b"sandbox-script", 1)
+    fn layout(&self) -> Layout
+        ensures { result ≡ by_tokens }
+    {
+        Layout::Text
+    }
+
+    fn version(&self, line: &Line<'b>) -> Result<u32, LineRefused> {
+        version_at(
+            ScriptKind::UnknownWord(WordFault::NoVersion),
+            b"sandbox-script",
+            1,
+            &line.tokens(),
+        )
     }
 
     fn no_version(&self) -> ScriptKind
-        ensures { result ≡ UnknownWord }
+        ensures { result ≡ UnknownWord NoVersion }
     {
-        ScriptKind::UnknownWord
+        ScriptKind::UnknownWord(WordFault::NoVersion)
     }
 
     fn start(&self) -> Draft
@@ -53,39 +70,75 @@ impl<'a, 'b> TextGrammar<Lines<'b>> for ScriptGrammar<'a> {
 }
 
 // Whether the target that a statement names is not there, or its channel.
-fn absence(targets: &[TargetScript], named: &Named) -> Option<ScriptKind>
+fn absence(targets: &[TargetScript], named: &Named) -> Option<TokenFault<ScriptKind>>
     ensures { result ≡ absence targets.now named.now }
 {
     match targets.get(named.target as usize) {
-        None => Some(ScriptKind::NoSuchTarget),
-        Some(target) if named.channel >= target.channels => Some(ScriptKind::NoSuchChannel),
+        None => Some(TokenFault {
+            left: named.left,
+            unit: None,
+            kind: ScriptKind::NoSuchTarget {
+                target: named.target,
+                targets: targets.len(),
+            },
+        }),
+        Some(target) if named.channel >= target.channels => Some(TokenFault {
+            left: named.left.saturating_sub(1),
+            unit: None,
+            kind: ScriptKind::NoSuchChannel {
+                channel: named.channel,
+                target: named.target,
+                channels: target.channels,
+            },
+        }),
         Some(_) => None,
     }
 }
 
+// The line of this number in a text, and no bytes if there is none.
+fn line_on(number: u32, text: &[u8]) -> &[u8]
+    ensures value { result.now ≡ line_on number text.now }
+    ensures within { length result.now ≤ length text.now }
+{
+    match line_numbered(number, text) {
+        Some(line) => line,
+        None => &[],
+    }
+}
+
+// A fault on the line of this number in a text.
+fn fault_at(text: &[u8], line: u32, fault: TokenFault<ScriptKind>) -> ScriptFault
+    requires { length text.now + 1 < 2 ^ 32 }
+    ensures { result ≡ fault_on by_tokens line (line_on line text.now) fault }
+{
+    ScriptFault {
+        line,
+        column: column_at(Layout::Text, line_on(line, text), fault.left, fault.unit),
+        kind: fault.kind,
+    }
+}
+
 // The first of these that names what is not there.
-fn first_absence(targets: &[TargetScript], named: &[Named]) -> Option<ScriptFault>
+fn first_absence(targets: &[TargetScript], named: &[Named]) -> Option<(u32, TokenFault<ScriptKind>)>
     ensures { result ≡ first_absence targets.now named.now }
 {
     for word in named {
-        if let Some(kind) = absence(targets, word) {
-            return Some(ScriptFault {
-                line: word.line,
-                kind,
-            });
+        if let Some(fault) = absence(targets, word) {
+            return Some((word.line, fault));
         }
     }
     None
 }
 
 // The script that was read, with the kernel in which its opening lines are placed, if all is there that its statements name.
-fn finished(draft: Draft) -> Result<(Script, Kernel), ScriptRefused>
-    ensures exactly { GivesAs (λ read. read.0) (finished draft) result }
+fn finished(text: &[u8], draft: Draft) -> Result<(Script, Kernel), ScriptRefused>
+    requires { length text.now + 1 < 2 ^ 32 }
+    ensures exactly { GivesAs (λ read. read.0) (finished text.now draft) result }
     ensures kernel { IfOk result (λ read. read.1 ≡ opening read.0.start) }
 {
     let (script, kernel, named) = draft.into_script()?;
     match first_absence(script.targets.as_slice(), named.as_slice()) {
-        Some(fault) => Err(ScriptRefused::Fault(fault)),
+        Some((line, fault)) => Err(ScriptRefused::Fault(fault_at(text, line, fault))),
         None => Ok((script, kernel)),
     }
 }
@@ -96,22 +149,22 @@ fn read_parts(
     text: &[u8],
     policies: &[Policy],
 ) -> Result<(Script, Kernel), ScriptRefused>
-    requires short { length text.now < 2 ^ 32 }
+    requires short { length text.now + 1 < 2 ^ 32 }
     ensures exactly { GivesAs (λ read. read.0) (reading policies.now text.now) result }
     ensures kernel { IfOk result (λ read. read.1 ≡ opening read.0.start) }
 {
     let grammar = ScriptGrammar { alloc, policies };
     let draft = read_text(&grammar, ScriptKind::NotUtf8, text)?;
-    finished(draft)
+    finished(text, draft)
 }
 
-/// The script of a text, for targets of these policies, or its first fault. The text has fewer than 2^32 bytes. The script
+/// The script of a text, for targets of these policies, or its first fault. The text has fewer than 2^32 - 1 bytes. The script
 /// is ready for the policies, and comes with the namespace in which its opening lines were placed.
 ///
 /// The grammar of script texts is that of this project.
 ///
 /// # Errors
-/// `Fault` exactly if the text has a fault: the first one, by lines from the top and within a line from the left, but
+/// `Fault` exactly if the text has a fault: the first one, with its line and column, by lines from the top and within a line from the left, but
 /// for these. A text that is not UTF-8 has this fault before all others. Within a line it comes after the line's other
 /// faults that an opening line cannot be placed, that a call does not fit a block or that the loads of a `wait` are out of
 /// their range, and after these that a limit is passed. A target or channel which a statement names and which is not there
@@ -122,13 +175,11 @@ pub fn read_script(
     text: &[u8],
     policies: WellMadePolicies,
 ) -> Result<OpenedScript, ScriptRefused>
-    requires short { length text.now < 2 ^ 32 }
+    requires short { length text.now + 1 < 2 ^ 32 }
     ensures exactly { GivesAs (λ opened. opened.script) (reading policies.list text.now) result }
     ensures policies { IfOk result (λ opened. opened.policies ≡ policies.list) }
 {
     read_scripts_are_ready();
-    read_scripts_have_units();
-    read_scripts_can_be_written();
     let (script, kernel) = read_parts(alloc, text, policies.policies().list.as_slice())?;
     let ready = ReadyScript::of(policies, SoundScript::of(script));
     Ok(OpenedScript::of(ready, kernel))

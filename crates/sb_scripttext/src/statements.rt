@@ -5,13 +5,18 @@ ghost use Rattle.sb_items.specs.Refusals.{Gives};
 ghost use Rattle.sb_text.specs.Steps.{Reads};
 
 use crate::arguments::MOST_32;
-use crate::faults::LineRefused;
-use crate::faults::ScriptKind::{BadNumber, NoSuchWord, UnknownWord, WrongArgs};
-use crate::steps::{number_at, within};
+use crate::faults::ScriptKind::{BadNumber, NoSuchWord, WrongArgs};
+use crate::faults::{KindRefused, LineRefused, ScriptKind};
+use crate::steps::{BROKEN, number_at, within};
 use sb_statements::{MOST_PATIENCE, Statement, Word};
-use sb_text::{Tokens, end_at, number_of, word_at};
+use sb_text::{Tokens, WordFault, end_at, number_of, word_at};
 
 const LAST_BLOCK_WORD: u64 = 63;
+
+// The faults of a token that is not there, and of an extra one.
+const MISSING: ScriptKind = WrongArgs(WordFault::Missing);
+
+const EXTRA: ScriptKind = WrongArgs(WordFault::Extra);
 
 // The number of a target or a channel.
 fn short(number: u64) -> u32
@@ -28,7 +33,7 @@ fn short(number: u64) -> u32
 fn value_at(tokens: &mut Tokens) -> Result<u64, LineRefused>
     ensures { Reads (value_at tokens.old) result tokens.new }
 {
-    number_at(BadNumber, WrongArgs, tokens)
+    number_at(BadNumber, MISSING, tokens)
 }
 
 // T or C: a target or a channel.
@@ -40,18 +45,18 @@ fn short_at(tokens: &mut Tokens) -> Result<u32, LineRefused>
 }
 
 // The place of a block word in its channel.
-fn block_place(word: u64) -> Result<u32, LineRefused>
+fn block_place(word: u64) -> Result<u32, KindRefused>
     ensures { Gives (block_place word) result }
 {
     if word <= LAST_BLOCK_WORD {
         Ok(1 + word as u32)
     } else {
-        Err(LineRefused::Fault(NoSuchWord))
+        Err(KindRefused::Fault(NoSuchWord))
     }
 }
 
 // W as a word.
-fn place_of(word: &[u8]) -> Result<u32, LineRefused>
+fn place_of(word: &[u8]) -> Result<u32, KindRefused>
     ensures { Gives (place_of word.now) result }
 {
     if word == b"state".as_slice() {
@@ -59,7 +64,7 @@ fn place_of(word: &[u8]) -> Result<u32, LineRefused>
     }
     match number_of(word) {
         Some(number) => block_place(number),
-        None => Err(LineRefused::Fault(BadNumber)),
+        None => Err(KindRefused::Fault(BadNumber)),
     }
 }
 
@@ -68,7 +73,11 @@ fn place_of(word: &[u8]) -> Result<u32, LineRefused>
 fn place_at(tokens: &mut Tokens) -> Result<u32, LineRefused>
     ensures { Reads (place_at tokens.old) result tokens.new }
 {
-    place_of(word_at(BadNumber, UnknownWord, WrongArgs, tokens)?)
+    let due = tokens.copy();
+    match place_of(word_at(BadNumber, BROKEN, MISSING, tokens)?) {
+        Ok(place) => Ok(place),
+        Err(refused) => Err(due.refuse(refused)),
+    }
 }
 
 // T C W: a target, and a word of one of its channels.
@@ -89,7 +98,7 @@ pub(crate) fn store(tokens: &mut Tokens) -> Result<Statement, LineRefused>
 {
     let (target, word) = target_word_at(tokens)?;
     let value = value_at(tokens)?;
-    end_at(WrongArgs, UnknownWord, tokens)?;
+    end_at(EXTRA, BROKEN, tokens)?;
     Ok(Statement::Store {
         target,
         word,
@@ -105,7 +114,7 @@ pub(crate) fn exchange(tokens: &mut Tokens) -> Result<Statement, LineRefused>
     let (target, word) = target_word_at(tokens)?;
     let from = value_at(tokens)?;
     let to = value_at(tokens)?;
-    end_at(WrongArgs, UnknownWord, tokens)?;
+    end_at(EXTRA, BROKEN, tokens)?;
     Ok(Statement::Exchange {
         target,
         word,
@@ -120,7 +129,7 @@ pub(crate) fn load(tokens: &mut Tokens) -> Result<Statement, LineRefused>
     ensures { Gives (load tokens.old) result }
 {
     let (target, word) = target_word_at(tokens)?;
-    end_at(WrongArgs, UnknownWord, tokens)?;
+    end_at(EXTRA, BROKEN, tokens)?;
     Ok(Statement::Load { target, word })
 }
 
@@ -131,13 +140,16 @@ pub(crate) fn wait(tokens: &mut Tokens) -> Result<Statement, LineRefused>
 {
     let (target, word) = target_word_at(tokens)?;
     let value = value_at(tokens)?;
+    let due = tokens.copy();
     let loads = value_at(tokens)?;
-    end_at(WrongArgs, UnknownWord, tokens)?;
-    let most = within(1, u64::from(MOST_PATIENCE), loads)? as u32;
-    Ok(Statement::Wait {
-        target,
-        word,
-        value,
-        most,
-    })
+    end_at(EXTRA, BROKEN, tokens)?;
+    match within(1, u64::from(MOST_PATIENCE), loads) {
+        Ok(most) => Ok(Statement::Wait {
+            target,
+            word,
+            value,
+            most: most as u32,
+        }),
+        Err(refused) => Err(due.refuse(refused)),
+    }
 }

@@ -12,3 +12,5 @@ mod ReadingLaws
 pub mod PlainLines
 pub mod WrittenStrings
 pub mod QuotedStrings
+pub mod Places
+pub mod SpotLaws

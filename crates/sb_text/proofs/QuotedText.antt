@@ -1,6 +1,5 @@
 -- What quoted tokens hold, in a text that is UTF-8.
 use Rattle.std.proofs.Common.{◌≡◌, refl, sym, ap, ◌∙◌, subst, arith, ℕ, zero, suc, ◌+◌, ◌-◌, ◌<◌, ◌≤◌, ◌==◌, nat_lt, Bool, true, false, cond, List, [], ◌∷◌, ◌++◌, length, take, drop, slice_index, None, Some}
-use Rattle.std.specs.Prelude.{count_by}
 use Rattle.std.proofs.Math.Seq.{get_or-append_seam, take-append_seam}
 use Rattle.std.proofs.lemmas.Bool.Decides.{nat_tests}
 use Rattle.std.proofs.lemmas.List.{append_assoc, append-nil, drop_at, length-append}
@@ -11,7 +10,7 @@ use Rattle.std.specs.Str.Lossy.{utf8_valid_len, valid_len_up_to}
 use Rattle.sb_text.specs.Lines.{is_blank, is_skipped, has_cr, without_cr, raw_lines, lines_from}
 use Rattle.sb_text.specs.TokenLaws.{is_quoted_byte, is_quoted_text, has_quoted_text, QuotedTokensAreText}
 use Rattle.sb_text.specs.Tokens.{Word, Quoted, Bad, Place, Between, InWord, InQuote, AfterQuote, scan}
-use Rattle.sb_text.specs.Utf8.{not_utf8_line}
+use Rattle.sb_text.specs.Utf8.{first_place, not_utf8_place, place_after}
 use Rattle.sb_text.proofs.Conjunctions.{both, and_true}
 use Rattle.sb_text.proofs.TokenLaws.{all_more, quoted_byte}
 
@@ -44,11 +43,11 @@ whole_front bs e = front_is_text bs (length bs) e
 take_all : (bs : List ℕ) → take (length bs) bs ≡ bs
 take_all bs = ap (take (length bs)) (sym (append-nil bs)) ∙ take-append_seam bs []
 
-pub whole_text : (bs : List ℕ) → not_utf8_line bs ≡ None → IsUtf8 bs
+pub whole_text : (bs : List ℕ) → not_utf8_place bs ≡ None → IsUtf8 bs
 whole_text bs h = by_length (nat_lt (utf8_valid_len bs) (length bs)) refl h
   where
     by_length : (b : Bool) → nat_lt (utf8_valid_len bs) (length bs) ≡ b
-        → cond b (Some (count_by (λ b. b == 10) (take (utf8_valid_len bs) bs) + 1)) None ≡ None → IsUtf8 bs
+        → cond b (Some (place_after first_place (take (utf8_valid_len bs) bs))) None ≡ None → IsUtf8 bs
     by_length true t e = absurd cc
     by_length false t e =
         let most = utf8_valid_len_le bs in

@@ -9,85 +9,80 @@ use Rattle.sb_text.proofs.LineLaws.{append, saying_append, within, within_from, 
 use Rattle.sb_text.specs.LineLaws.{ended, is_line}
 use Rattle.sb_text.specs.Lines.{NumberedLine, raw_lines, lines_from, lines_of, is_skipped, without_cr}
 use Rattle.sb_text.specs.ReadingLaws.{FirstFaultsStay, LinesBeforeAreRead, MovesWith, SkippedLinesCountAlone}
-use Rattle.sb_text.specs.Readings.{Grammar, on_line, refused_on, read_lines, read_below, read_by, is_some_line, renumbered_line, renumbered, behind}
+use Rattle.sb_text.specs.Readings.{Grammar, on_line, refused_on, read_lines, read_by, is_some_line, renumbered_line, renumbered, behind}
 use Rattle.sb_items.specs.Refusals.{Gives}
 use Rattle.sb_text.specs.Steps.{◌>>=◌, on_value, Becomes}
 use Rattle.sb_text.specs.declared.refusals.LineFault.{LineFault}
+use Rattle.sb_text.specs.declared.refusals.TokenFault.{TokenFault}
+use Rattle.sb_text.specs.declared.spots.Layout.{Layout}
 use Rattle.sb_items.specs.declared.refusals.Refused.{Refused}
 use Rattle.sb_items.specs.declared.refusals.Refused.TheVariants.{Fault, NoMemory}
 
 -- if no line is left, what was read so far is all
-pub no_line : {D K : Type 0} (add : D → NumberedLine → Result D K) (sofar : D) → read_lines add sofar [] ≡ Ok sofar
+pub no_line : {D K : Type 0} (grammar : Grammar D K) (version : ℕ) (sofar : D) → read_lines grammar version sofar [] ≡ Ok sofar
 unfolding read_lines
-no_line add sofar = refl
+no_line grammar version sofar = refl
 
 -- after a first line that adds to it the others are read
-pub added_in_turn : {D K : Type 0} (add : D → NumberedLine → Result D K) (sofar more : D) (line : NumberedLine) (lines : List NumberedLine)
-    → add sofar line ≡ Ok more → read_lines add sofar (line ∷ lines) ≡ read_lines add more lines
+pub added_in_turn : {D K : Type 0} (grammar : Grammar D K) (version : ℕ) (sofar more : D) (line : NumberedLine) (lines : List NumberedLine)
+    → grammar.add version sofar line ≡ Ok more → read_lines grammar version sofar (line ∷ lines) ≡ read_lines grammar version more lines
 unfolding read_lines
-added_in_turn add sofar more line lines h = rw (h) refl
+added_in_turn grammar version sofar more line lines h = rw (h) refl
 
-first_refused : {D K : Type 0} (add : D → NumberedLine → Result D K) (sofar new : D) (line : NumberedLine) (lines : List NumberedLine) (why : Refused K)
-    → Becomes {A = ⊤} (add sofar line) (Err why) new → Gives {A = D} (read_lines add sofar (line ∷ lines)) (Err (refused_on line.number why))
+first_refused : {D K : Type 0} (grammar : Grammar D K) (version : ℕ) (sofar new : D) (line : NumberedLine) (lines : List NumberedLine) (why : Refused (TokenFault K))
+    → Becomes {A = ⊤} (grammar.add version sofar line) (Err why) new
+    → Gives {A = D} (read_lines grammar version sofar (line ∷ lines)) (Err (refused_on grammar.layout line.number line.text why))
 unfolding read_lines
-first_refused add sofar new line lines (Fault kind) h = rw (h) refl
-first_refused add sofar new line lines NoMemory h = tt
+first_refused grammar version sofar new line lines (Fault fault) h = rw (h) refl
+first_refused grammar version sofar new line lines NoMemory h = tt
 
 -- and why the first line of those that are left is refused is why all lines are
-pub refused_in_turn : {D K : Type 0} (add : D → NumberedLine → Result D K) (start sofar new : D) (all left : List NumberedLine) (line : NumberedLine)
-    (lines : List NumberedLine) (n : ℕ) (why : Refused K) (met : Refused (LineFault K)) → read_lines add sofar left ≡ read_lines add start all
-    → left ≡ line ∷ lines → Becomes {A = ⊤} (add sofar line) (Err why) new → n ≡ line.number → met ≡ refused_on n why
-    → Gives {A = D} (read_lines add start all) (Err met)
-refused_in_turn add start sofar new all left line lines n why met whole first h number here =
-    let refused = first_refused add sofar new line lines why h in
-    subst (λ met. Gives (read_lines add start all) (Err met)) (ap (λ n. refused_on n why) (sym number) ∙ sym here)
-    (subst (λ (read : Result _ (LineFault _)). Gives read (Err (refused_on line.number why))) (ap (read_lines add sofar) (sym first) ∙ whole) refused)
+pub refused_in_turn : {D K : Type 0} (grammar : Grammar D K) (version : ℕ) (start sofar new : D) (all left : List NumberedLine) (line : NumberedLine)
+    (lines : List NumberedLine) (why : Refused (TokenFault K)) (met : Refused (LineFault K))
+    → read_lines grammar version sofar left ≡ read_lines grammar version start all
+    → left ≡ line ∷ lines → Becomes {A = ⊤} (grammar.add version sofar line) (Err why) new → met ≡ refused_on grammar.layout line.number line.text why
+    → Gives {A = D} (read_lines grammar version start all) (Err met)
+refused_in_turn grammar version start sofar new all left line lines why met whole first h here =
+    let refused = first_refused grammar version sofar new line lines why h in
+    subst (λ met. Gives (read_lines grammar version start all) (Err met)) (sym here)
+    (subst (λ (read : Result _ (LineFault _)). Gives read (Err (refused_on grammar.layout line.number line.text why))) (ap (read_lines grammar version sofar) (sym first) ∙ whole) refused)
 
-nested : {D K : Type 0} (add : D → NumberedLine → Result D K) (xs ys : List NumberedLine) (first : Result D (LineFault K))
-    → ((more : D) → read_lines add more (xs ++ ys) ≡ (read_lines add more xs >>= λ more. read_lines add more ys))
-    → (first >>= λ more. read_lines add more (xs ++ ys)) ≡ ((first >>= λ more. read_lines add more xs) >>= λ more. read_lines add more ys)
-nested add xs ys (Ok more) h = h more
-nested add xs ys (Err fault) h = refl
+nested : {D K : Type 0} (grammar : Grammar D K) (version : ℕ) (xs ys : List NumberedLine) (first : Result D (LineFault K))
+    → ((more : D) → read_lines grammar version more (xs ++ ys) ≡ (read_lines grammar version more xs >>= λ more. read_lines grammar version more ys))
+    → (first >>= λ more. read_lines grammar version more (xs ++ ys))
+    ≡ ((first >>= λ more. read_lines grammar version more xs) >>= λ more. read_lines grammar version more ys)
+nested grammar version xs ys (Ok more) h = h more
+nested grammar version xs ys (Err fault) h = refl
 
 -- what lines and further lines add
-lines_append : {D K : Type 0} (add : D → NumberedLine → Result D K) (sofar : D) (xs ys : List NumberedLine)
-    → read_lines add sofar (xs ++ ys) ≡ (read_lines add sofar xs >>= λ more. read_lines add more ys)
+lines_append : {D K : Type 0} (grammar : Grammar D K) (version : ℕ) (sofar : D) (xs ys : List NumberedLine)
+    → read_lines grammar version sofar (xs ++ ys) ≡ (read_lines grammar version sofar xs >>= λ more. read_lines grammar version more ys)
 unfolding read_lines
-lines_append add sofar [] ys = refl
-lines_append add sofar (x ∷ xs) ys = nested add xs ys (on_line x.number (add sofar x)) (λ more. lines_append add more xs ys)
+lines_append grammar version sofar [] ys = refl
+lines_append grammar version sofar (x ∷ xs) ys =
+    nested grammar version xs ys (on_line grammar.layout x (grammar.add version sofar x)) (λ more. lines_append grammar version more xs ys)
 
 abbrev line_in : {A K : Type 0} → Result A (LineFault K) → ℕ
 line_in (Ok x) = 0
 line_in (Err fault) = fault.line
 
-abbrev refused : {D K : Type 0} → LineFault K → Result D (LineFault K)
-refused fault = Err fault
-
 -- if this is a fault, it has such a number
 abbrev IsFaultIn : {D K : Type 0} → (ℕ → Bool) → Result D (LineFault K) → LineFault K → Type 0
 IsFaultIn p read fault = read ≡ Err fault → p fault.line ≡ true
 
-fault_here : {D K : Type 0} (p : ℕ → Bool) (n : ℕ) (kind : K) (fault : LineFault K) → p n ≡ true
-    → IsFaultIn {D = D} p (Err (record { line = n; kind = kind })) fault
-fault_here p n kind fault t e = ap p (sym (ap line_in e)) ∙ t
-
-first_among : {D K : Type 0} (p : ℕ → Bool) (n : ℕ) (read : Result D K) (rest : D → Result D (LineFault K)) (fault : LineFault K) → p n ≡ true
-    → ((more : D) → IsFaultIn p (rest more) fault) → IsFaultIn p (on_line n read >>= rest) fault
-first_among p n (Ok more) rest fault t h e = h more e
-first_among p n (Err kind) rest fault t h e = fault_here p n kind fault t e
+first_among : {A D K : Type 0} (p : ℕ → Bool) (layout : Layout) (line : NumberedLine) (read : Result A (TokenFault K)) (rest : A → Result D (LineFault K)) (fault : LineFault K)
+    → p line.number ≡ true → ((more : A) → IsFaultIn p (rest more) fault) → IsFaultIn p (on_line layout line read >>= rest) fault
+first_among p layout line (Ok more) rest fault t h e = h more e
+first_among p layout line (Err other) rest fault t h e = ap p (sym (ap line_in e)) ∙ t
 
 -- a fault has the number of one of the lines
-among : {D K : Type 0} (p : ℕ → Bool) (add : D → NumberedLine → Result D K) (sofar : D) (lines : List NumberedLine) (fault : LineFault K)
-    → list_all (λ line. p line.number) lines ≡ true → IsFaultIn p (read_lines add sofar lines) fault
+among : {D K : Type 0} (p : ℕ → Bool) (grammar : Grammar D K) (version : ℕ) (sofar : D) (lines : List NumberedLine) (fault : LineFault K)
+    → list_all (λ line. p line.number) lines ≡ true → IsFaultIn p (read_lines grammar version sofar lines) fault
 unfolding read_lines
-among p add sofar [] fault t e = absurd cc
-among p add sofar (x ∷ xs) fault t e =
-    first_among p x.number (add sofar x) (λ more. read_lines add more xs) fault (both _ _ t).0 (λ more. among p add more xs fault (both _ _ t).1) e
-
-below_among : {D K : Type 0} (p : ℕ → Bool) (grammar : Grammar D K) (n : ℕ) (version : Option ℕ) (lines : List NumberedLine) (fault : LineFault K)
-    → p n ≡ true → list_all (λ line. p line.number) lines ≡ true → IsFaultIn p (read_below grammar n version lines) fault
-below_among p grammar n None lines fault t h e = fault_here p n grammar.no_version fault t e
-below_among p grammar n (Some version) lines fault t h e = among p (grammar.add version) grammar.start lines fault h e
+among p grammar version sofar [] fault t e = absurd cc
+among p grammar version sofar (x ∷ xs) fault t e =
+    first_among p grammar.layout x (grammar.add version sofar x) (λ more. read_lines grammar version more xs) fault (both _ _ t).0
+    (λ more. among p grammar version more xs fault (both _ _ t).1) e
 
 -- a fault that is none of the rest comes from the front
 from_front : {D K : Type 0} (p : ℕ → Bool) (front : Result D (LineFault K)) (rest : D → Result D (LineFault K)) (fault : LineFault K)
@@ -101,38 +96,40 @@ front_read : {D K : Type 0} (p : ℕ → Bool) (front : Result D (LineFault K)) 
 front_read p (Ok more) rest fault h n e = (more, refl)
 front_read p (Err other) rest fault h n e = absurd (false≢true (sym n ∙ h e))
 
-below_stays : {D K : Type 0} (p : ℕ → Bool) (grammar : Grammar D K) (n : ℕ) (version : Option ℕ) (xs ys zs : List NumberedLine) (fault : LineFault K)
-    → list_all (λ line. p line.number) ys ≡ true → p fault.line ≡ false
-    → read_below grammar n version (xs ++ ys) ≡ Err fault → read_below grammar n version (xs ++ zs) ≡ Err fault
-below_stays p grammar n None xs ys zs fault h k e = e
-below_stays p grammar n (Some version) xs ys zs fault h k e =
-    let add = grammar.add version in
-    let front : read_lines add grammar.start xs ≡ Err fault =
-    from_front p (read_lines add grammar.start xs) (λ more. read_lines add more ys) fault (λ more. among p add more ys fault h) k
-    (sym (lines_append add grammar.start xs ys) ∙ e) in
-    lines_append add grammar.start xs zs ∙ ap (λ (front : Result _ (LineFault _)). front >>= λ more. read_lines add more zs) front
+-- what is read of a first line that names this version, and of the others
+abbrev read_after : {D K : Type 0} → Grammar D K → NumberedLine → Result ℕ (TokenFault K) → List NumberedLine → Result D (LineFault K)
+read_after grammar first read lines = on_line grammar.layout first read >>= λ version. read_lines grammar version grammar.start lines
 
-below_read : {D K : Type 0} (p : ℕ → Bool) (grammar : Grammar D K) (n : ℕ) (version : Option ℕ) (xs ys : List NumberedLine) (fault : LineFault K)
-    → p n ≡ true → list_all (λ line. p line.number) xs ≡ true → p fault.line ≡ false
-    → read_below grammar n version (xs ++ ys) ≡ Err fault → (read : D) × (read_below grammar n version xs ≡ Ok read)
-below_read p grammar n None xs ys fault t h k e = absurd (false≢true (sym k ∙ fault_here p n grammar.no_version fault t e))
-below_read p grammar n (Some version) xs ys fault t h k e =
-    let add = grammar.add version in
-    front_read p (read_lines add grammar.start xs) (λ more. read_lines add more ys) fault (among p add grammar.start xs fault h) k
-    (sym (lines_append add grammar.start xs ys) ∙ e)
+after_stays : {D K : Type 0} (p : ℕ → Bool) (grammar : Grammar D K) (first : NumberedLine) (read : Result ℕ (TokenFault K)) (xs ys zs : List NumberedLine) (fault : LineFault K)
+    → list_all (λ line. p line.number) ys ≡ true → p fault.line ≡ false
+    → read_after grammar first read (xs ++ ys) ≡ Err fault → read_after grammar first read (xs ++ zs) ≡ Err fault
+after_stays p grammar first (Err other) xs ys zs fault h k e = e
+after_stays p grammar first (Ok version) xs ys zs fault h k e =
+    let front : read_lines grammar version grammar.start xs ≡ Err fault =
+    from_front p (read_lines grammar version grammar.start xs) (λ more. read_lines grammar version more ys) fault (λ more. among p grammar version more ys fault h) k
+    (sym (lines_append grammar version grammar.start xs ys) ∙ e) in
+    lines_append grammar version grammar.start xs zs ∙ ap (λ (front : Result _ (LineFault _)). front >>= λ more. read_lines grammar version more zs) front
+
+after_read : {D K : Type 0} (p : ℕ → Bool) (grammar : Grammar D K) (first : NumberedLine) (read : Result ℕ (TokenFault K)) (xs ys : List NumberedLine) (fault : LineFault K)
+    → p first.number ≡ true → list_all (λ line. p line.number) xs ≡ true → p fault.line ≡ false
+    → read_after grammar first read (xs ++ ys) ≡ Err fault → (found : D) × (read_after grammar first read xs ≡ Ok found)
+after_read p grammar first (Err other) xs ys fault t h k e = absurd (false≢true (sym k ∙ (ap p (sym (ap line_in e)) ∙ t)))
+after_read p grammar first (Ok version) xs ys fault t h k e =
+    front_read p (read_lines grammar version grammar.start xs) (λ more. read_lines grammar version more ys) fault (among p grammar version grammar.start xs fault h) k
+    (sym (lines_append grammar version grammar.start xs ys) ∙ e)
 
 lines_stay : {D K : Type 0} (p : ℕ → Bool) (grammar : Grammar D K) (front ys zs : List NumberedLine) (fault : LineFault K) → is_some_line front ≡ true
     → list_all (λ line. p line.number) ys ≡ true → p fault.line ≡ false
     → read_by grammar (front ++ ys) ≡ Err fault → read_by grammar (front ++ zs) ≡ Err fault
 lines_stay p grammar [] ys zs fault s h k e = absurd (false≢true s)
-lines_stay p grammar (x ∷ xs) ys zs fault s h k e = below_stays p grammar x.number (grammar.version x.text) xs ys zs fault h k e
+lines_stay p grammar (x ∷ xs) ys zs fault s h k e = after_stays p grammar x (grammar.version x.text) xs ys zs fault h k e
 
 lines_read : {D K : Type 0} (p : ℕ → Bool) (grammar : Grammar D K) (front ys : List NumberedLine) (fault : LineFault K) → is_some_line front ≡ true
     → list_all (λ line. p line.number) front ≡ true → p fault.line ≡ false
     → read_by grammar (front ++ ys) ≡ Err fault → (read : D) × (read_by grammar front ≡ Ok read)
 lines_read p grammar [] ys fault s h k e = absurd (false≢true s)
 lines_read p grammar (x ∷ xs) ys fault s h k e =
-    below_read p grammar x.number (grammar.version x.text) xs ys fault (both _ _ h).0 (both _ _ h).1 k e
+    after_read p grammar x (grammar.version x.text) xs ys fault (both _ _ h).0 (both _ _ h).1 k e
 
 outside : (low high k : ℕ) → k < low → (nat_le low k && nat_le k high) ≡ false
 outside low high k h = grind (arith, nat_tests)
@@ -156,35 +153,35 @@ lines_before grammar front rest fault s l e =
     lines_read (λ k. nat_le 1 k && nat_le k n) grammar (lines_of (ended front)) (lines_from (1 + n) (raw_lines rest)) fault s
     (within (ended front)) (above 1 n fault.line l) (ap (read_by grammar) (sym (saying_append front rest)) ∙ e)
 
-first_moves : {D K : Type 0} (f : ℕ → ℕ) (moved : D → D) (n : ℕ) (read other : Result D K) (rest others : D → Result D (LineFault K))
-    → on_value moved read ≡ other → ((more : D) → renumbered f moved (rest more) ≡ others (moved more))
-    → renumbered f moved (on_line n read >>= rest) ≡ (on_line (f n) other >>= others)
-first_moves f moved n (Ok more) other rest others e h = h more ∙ ap (λ read. on_line (f n) read >>= others) e
-first_moves f moved n (Err kind) other rest others e h = ap (λ read. on_line (f n) read >>= others) e
+first_moves : {D K : Type 0} (f : ℕ → ℕ) (moved : D → D) (layout : Layout) (line : NumberedLine) (read other : Result D (TokenFault K))
+    (rest others : D → Result D (LineFault K)) → on_value moved read ≡ other → ((more : D) → renumbered f moved (rest more) ≡ others (moved more))
+    → renumbered f moved (on_line layout line read >>= rest) ≡ (on_line layout (renumbered_line f line) other >>= others)
+first_moves f moved layout line (Ok more) other rest others e h = h more ∙ ap (λ read. on_line layout (renumbered_line f line) read >>= others) e
+first_moves f moved layout line (Err fault) other rest others e h = ap (λ read. on_line layout (renumbered_line f line) read >>= others) e
 
-lines_move : {D K : Type 0} (f : ℕ → ℕ) (moved : D → D) (add : D → NumberedLine → Result D K)
-    → ((sofar : D) (line : NumberedLine) → on_value moved (add sofar line) ≡ add (moved sofar) (renumbered_line f line))
+lines_move : {D K : Type 0} (f : ℕ → ℕ) (moved : D → D) (grammar : Grammar D K) (version : ℕ) → MovesWith grammar f moved
     → (sofar : D) (lines : List NumberedLine)
-    → renumbered f moved (read_lines add sofar lines) ≡ read_lines add (moved sofar) (map (renumbered_line f) lines)
+    → renumbered f moved (read_lines grammar version sofar lines) ≡ read_lines grammar version (moved sofar) (map (renumbered_line f) lines)
 unfolding read_lines
-lines_move f moved add h sofar [] = refl
-lines_move f moved add h sofar (x ∷ xs) =
-    first_moves f moved x.number (add sofar x) (add (moved sofar) (renumbered_line f x)) (λ more. read_lines add more xs)
-    (λ more. read_lines add more (map (renumbered_line f) xs)) (h sofar x) (λ more. lines_move f moved add h more xs)
+lines_move f moved grammar version h sofar [] = refl
+lines_move f moved grammar version h sofar (x ∷ xs) =
+    first_moves f moved grammar.layout x (grammar.add version sofar x) (grammar.add version (moved sofar) (renumbered_line f x))
+    (λ more. read_lines grammar version more xs) (λ more. read_lines grammar version more (map (renumbered_line f) xs)) (h.1 version sofar x)
+    (λ more. lines_move f moved grammar version h more xs)
 
-below_moves : {D K : Type 0} (f : ℕ → ℕ) (moved : D → D) (grammar : Grammar D K) → MovesWith grammar f moved
-    → (n : ℕ) (version : Option ℕ) (lines : List NumberedLine)
-    → renumbered f moved (read_below grammar n version lines) ≡ read_below grammar (f n) version (map (renumbered_line f) lines)
-below_moves f moved grammar h n None lines = refl
-below_moves f moved grammar h n (Some version) lines =
-    lines_move f moved (grammar.add version) (h.1 version) grammar.start lines
-    ∙ ap (λ sofar. read_lines (grammar.add version) sofar (map (renumbered_line f) lines)) h.0
+after_moves : {D K : Type 0} (f : ℕ → ℕ) (moved : D → D) (grammar : Grammar D K) → MovesWith grammar f moved
+    → (first : NumberedLine) (read : Result ℕ (TokenFault K)) (lines : List NumberedLine)
+    → renumbered f moved (read_after grammar first read lines) ≡ read_after grammar (renumbered_line f first) read (map (renumbered_line f) lines)
+after_moves f moved grammar h first (Err fault) lines = refl
+after_moves f moved grammar h first (Ok version) lines =
+    lines_move f moved grammar version h grammar.start lines
+    ∙ ap (λ sofar. read_lines grammar version sofar (map (renumbered_line f) lines)) h.0
 
 -- what is read of lines with other numbers
 by_moves : {D K : Type 0} (f : ℕ → ℕ) (moved : D → D) (grammar : Grammar D K) → MovesWith grammar f moved → (lines : List NumberedLine)
     → is_some_line lines ≡ true → renumbered f moved (read_by grammar lines) ≡ read_by grammar (map (renumbered_line f) lines)
 by_moves f moved grammar h [] s = absurd (false≢true s)
-by_moves f moved grammar h (x ∷ xs) s = below_moves f moved grammar h x.number (grammar.version x.text) xs
+by_moves f moved grammar h (x ∷ xs) s = after_moves f moved grammar h x (grammar.version x.text) xs
 
 front_stays : (f : ℕ → ℕ) (p : ℕ → Bool) (lines : List NumberedLine) → ((k : ℕ) → p k ≡ true → f k ≡ k)
     → list_all (λ line. p line.number) lines ≡ true → map (renumbered_line f) lines ≡ lines

@@ -1,5 +1,5 @@
 -- The laws of tokens.
-use Rattle.std.proofs.Common.{◌≡◌, ◌∙◌, ℕ, ◌<◌, ◌==◌, nat_lt, Bool, true, false, not, cond, List, [], ◌∷◌, ◌++◌, length, ap, refl, sym, subst, slice_index, map, arith}
+use Rattle.std.proofs.Common.{◌≡◌, ◌∙◌, ℕ, ◌+◌, ◌*◌, ◌<◌, ◌≤◌, ◌==◌, nat_lt, Bool, true, false, not, cond, List, [], ◌∷◌, ◌++◌, length, ap, refl, sym, subst, slice_index, map, arith}
 use Rattle.std.proofs.lemmas.Grind.{common_steps}
 use Rattle.std.proofs.lemmas.Bool.{false≢true}
 use Rattle.std.proofs.lemmas.Bool.Decides.{nat_tests}
@@ -349,3 +349,48 @@ pub sound_next : (token : Lexeme) (tokens : List Lexeme) → are_found (token �
 sound_next (Word w) tokens h = refl
 sound_next (Quoted q) tokens h = (both (is_writable (Quoted q)) (are_found tokens) h).0
 sound_next Bad tokens h = refl
+
+-- tokens have a blank between them, so that a line has at most half as many as bytes
+
+abbrev begun : Place → ℕ
+begun Between = 1
+begun (InWord w) = 2
+begun (InQuote w) = 2
+begun (AfterQuote w) = 2
+
+scan_few : (p : Place) (line : List ℕ) → 2 * length (scan p line) ≤ begun p + length line
+scan_few Between [] = omega arith
+scan_few (InWord w) [] = omega arith
+scan_few (InQuote w) [] = omega arith
+scan_few (AfterQuote w) [] = omega arith
+scan_few Between (b ∷ line) = omega (arith, by_byte (is_blank b) (b == 34) (scan_few Between line) (scan_few (InQuote []) line) (scan_few (InWord (b ∷ [])) line))
+  where
+    by_byte : (blank quote : Bool) → 2 * length (scan Between line) ≤ 1 + length line → 2 * length (scan (InQuote []) line) ≤ 2 + length line
+        → 2 * length (scan (InWord (b ∷ [])) line) ≤ 2 + length line
+        → 2 * length (cond blank (scan Between line) (cond quote (scan (InQuote []) line) (scan (InWord (b ∷ [])) line))) ≤ 2 + length line
+    by_byte true quote h q w = omega (arith, h)
+    by_byte false true h q w = q
+    by_byte false false h q w = w
+scan_few (InWord v) (b ∷ line) = omega (arith, by_byte (is_blank b) (b == 34) (scan_few Between line) (scan_few (InWord (v ++ b ∷ [])) line))
+  where
+    by_byte : (blank quote : Bool) → 2 * length (scan Between line) ≤ 1 + length line → 2 * length (scan (InWord (v ++ b ∷ [])) line) ≤ 2 + length line
+        → 2 * length (cond blank (Word v ∷ scan Between line) (cond quote (Bad ∷ []) (scan (InWord (v ++ b ∷ [])) line))) ≤ 2 + (1 + length line)
+    by_byte true quote h w = omega (arith, h)
+    by_byte false true h w = omega arith
+    by_byte false false h w = omega (arith, w)
+scan_few (InQuote v) (b ∷ line) = omega (arith, by_byte (b == 34) (nat_lt b 32) (scan_few (AfterQuote v) line) (scan_few (InQuote (v ++ b ∷ [])) line))
+  where
+    by_byte : (quote low : Bool) → 2 * length (scan (AfterQuote v) line) ≤ 2 + length line → 2 * length (scan (InQuote (v ++ b ∷ [])) line) ≤ 2 + length line
+        → 2 * length (cond quote (scan (AfterQuote v) line) (cond low (Bad ∷ []) (scan (InQuote (v ++ b ∷ [])) line))) ≤ 2 + (1 + length line)
+    by_byte true low h w = omega (arith, h)
+    by_byte false true h w = omega arith
+    by_byte false false h w = omega (arith, w)
+scan_few (AfterQuote v) (b ∷ line) = omega (arith, by_byte (is_blank b) (scan_few Between line))
+  where
+    by_byte : (blank : Bool) → 2 * length (scan Between line) ≤ 1 + length line
+        → 2 * length (cond blank (Quoted v ∷ scan Between line) (Bad ∷ [])) ≤ 2 + (1 + length line)
+    by_byte true h = omega (arith, h)
+    by_byte false h = omega arith
+
+pub tokens_few : (line : List ℕ) → 2 * length (tokens_of line) ≤ 1 + length line
+tokens_few line = scan_few Between line

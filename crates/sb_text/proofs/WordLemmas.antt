@@ -1,5 +1,5 @@
 -- The words of a line that begins with no blank.
-use Rattle.std.proofs.Common.{suc, subst, ◌≡◌, ◌∙◌, ℕ, ◌+◌, ◌<◌, Bool, not, false, List, [], ◌∷◌, length, take, drop, get_or, ap, refl, arith, true, cond}
+use Rattle.std.proofs.Common.{suc, subst, ◌≡◌, ◌∙◌, ℕ, ◌+◌, ◌<◌, ◌≤◌, Bool, not, false, List, [], ◌∷◌, length, take, drop, get_or, ap, refl, arith, true, cond}
 use Rattle.std.proofs.lemmas.Grind.{common_steps}
 use Rattle.std.proofs.lemmas.Bool.Decides.{nat_tests}
 use Rattle.std.specs.List.{filter, onto_first, position_or_len, slice_split}
@@ -47,3 +47,20 @@ words_at_first bs h k =
     ap (filter is_some_word) (parts_at_first bs)
     ∙ kept (take n bs) (past_blank (drop n bs)) (grind (arith, nat_tests, common_steps, starts_word bs h k))
     ∙ ap (λ ws. take n bs ∷ ws) (words_past (drop n bs) (stops bs))
+
+-- a line has no more words than bytes
+
+onto_few : (b : ℕ) (parts : List (List ℕ)) → length (filter is_some_word (onto_first b parts)) ≤ 1 + length (filter is_some_word parts)
+onto_few b [] = omega arith
+onto_few b ([] ∷ parts) = omega arith
+onto_few b ((c ∷ part) ∷ parts) = omega arith
+
+pub words_few : (line : List ℕ) → length (words_of line) ≤ length line
+words_few [] = omega arith
+words_few (b ∷ line) = by_blank (is_blank b) (words_few line) (onto_few b (slice_split is_blank line))
+  where
+    by_blank : (t : Bool) → length (words_of line) ≤ length line
+        → length (filter is_some_word (onto_first b (slice_split is_blank line))) ≤ 1 + length (words_of line)
+        → length (filter is_some_word (cond t ([] ∷ slice_split is_blank line) (onto_first b (slice_split is_blank line)))) ≤ length (b ∷ line)
+    by_blank true h k = omega (arith, h)
+    by_blank false h k = omega (arith, h, k)

@@ -12,3 +12,5 @@ pub mod Utf8Laws
 pub mod ReadingLaws
 pub mod PlainLines
 pub mod Strings
+pub mod Spots
+pub mod SpotLaws

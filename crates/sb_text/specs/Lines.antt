@@ -1,5 +1,5 @@
 -- The lines of a text.
-use Rattle.std.specs.Prelude.{ℕ, ◌+◌, ◌-◌, Bool, true, ◌||◌, ◌&&◌, List, [], ◌∷◌, length, take, slice_index, nat_lt, ◌==◌, if◌then◌else◌}
+use Rattle.std.specs.Prelude.{ℕ, ◌+◌, ◌-◌, Bool, true, ◌||◌, ◌&&◌, List, [], ◌∷◌, length, take, slice_index, slice_get, map, Option, nat_lt, ◌==◌, if◌then◌else◌}
 use Rattle.std.specs.List.{onto_first}
 
 -- the bytes between LFs: a line for each LF, and one more if bytes follow the last LF
@@ -66,3 +66,7 @@ lines_from n (line ∷ lines) =
 -- the lines of a text that are neither blank nor comments, numbered from 1 among all its lines
 abbrev pub lines_of : List ℕ → List NumberedLine
 lines_of text = lines_from 1 (raw_lines text)
+
+-- the line of this number, from 1 among all lines, blank and comment lines too
+abbrev pub line_numbered : ℕ → List ℕ → Option (List ℕ)
+line_numbered n text = slice_get (map without_cr (raw_lines text)) (n - 1)

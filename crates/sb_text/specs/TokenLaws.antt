@@ -4,7 +4,7 @@ use Rattle.std.specs.List.{list_all}
 use Rattle.std.specs.Str.{is_utf8}
 use Rattle.sb_text.specs.Lines.{NumberedLine, is_blank, is_skipped, lines_of}
 use Rattle.sb_text.specs.Tokens.{Lexeme, Word, Quoted, Bad, tokens_of}
-use Rattle.sb_text.specs.Utf8.{not_utf8_line}
+use Rattle.sb_text.specs.Utf8.{not_utf8_place}
 use Rattle.sb_text.specs.Words.{is_some_word, words_of}
 
 -- neither a blank nor `"`
@@ -103,4 +103,4 @@ FirstTokenSkips =
 
 -- in a text that is UTF-8 each quoted token holds UTF-8, which can stand between quotes
 abbrev pub QuotedTokensAreText : Type 0
-QuotedTokensAreText = (text : List ℕ) → not_utf8_line text ≡ None → list_all has_quoted_text (lines_of text) ≡ true
+QuotedTokensAreText = (text : List ℕ) → not_utf8_place text ≡ None → list_all has_quoted_text (lines_of text) ≡ true

@@ -1,5 +1,5 @@
 // The lines of bytes that are neither blank nor comments, one after another.
-ghost use Rattle.std.specs.Prelude.{◌≡◌, ◌∷◌, ◌<◌, ◌^◌, [], length, MatchOption};
+ghost use Rattle.std.specs.Prelude.{◌≡◌, ◌∷◌, ◌+◌, ◌<◌, ◌^◌, [], length, IfSome, MatchOption};
 ghost use Rattle.sb_text.specs.Lines.{NumberedLine, lines_of};
 ghost use Rattle.sb_text.specs.Words.{words_of};
 
@@ -41,13 +41,13 @@ impl<'a> Model for ByteLines<'a> {
 
     ghost view = { λ l. lines_from (l.passed + 1) (raw_lines l.rest.now) };
 
-    ghost invariant = { λ l. l.passed + length l.rest.now < 2 ^ 32 };
+    ghost invariant = { λ l. l.passed + length l.rest.now + 1 < 2 ^ 32 };
 }
 
 impl<'a> ByteLines<'a> {
-    /// The lines of fewer than 2^32 bytes.
+    /// The lines of fewer than 2^32 - 1 bytes.
     pub fn new(bytes: &'a [u8]) -> ByteLines<'a>
-        requires { length bytes.now < 2 ^ 32 }
+        requires { length bytes.now + 1 < 2 ^ 32 }
         ensures { result ≡ lines_of bytes.now }
     {
         ByteLines {
@@ -58,8 +58,9 @@ impl<'a> ByteLines<'a> {
 
     /// The next line that is neither blank nor a comment.
     pub fn next_line(&mut self) -> Option<ByteLine<'a>>
-        ensures { MatchOption result ((self.old ≡ []) × (self.new ≡ []))
+        ensures line { MatchOption result ((self.old ≡ []) × (self.new ≡ []))
             (λ line. self.old ≡ record { number = line.number; text = line.text.now } ∷ self.new) }
+        ensures short { IfSome result (λ line. length line.text.now + 1 < 2 ^ 32) }
     {
         while let Some((line, later)) = cut_bytes(self.rest) {
             self.rest = later;

@@ -1,7 +1,7 @@
 // How a text is cut into lines.
-ghost use Rattle.std.specs.Prelude.{◌≡◌, ◌∷◌, ◌==◌, ◌<◌, ◌≤◌, ◌+◌, ◌^◌, [], length, take, drop, slice_index, ℕ, nat_lt, IfSome, MatchOption};
+ghost use Rattle.std.specs.Prelude.{◌≡◌, ◌∷◌, ◌==◌, ◌<◌, ◌≤◌, ◌+◌, ◌^◌, [], length, take, drop, slice_index, ℕ, nat_lt, None, Some, IfSome, MatchOption};
 ghost use Rattle.std.specs.List.{position_or_len};
-ghost use Rattle.sb_text.specs.Lines.{raw_lines, raw_lines_from, without_cr};
+ghost use Rattle.sb_text.specs.Lines.{line_numbered, raw_lines, raw_lines_from, without_cr};
 
 // How many bytes stand before the first LF, all if there is none.
 fn line_len(bytes: &[u8]) -> usize
@@ -61,6 +61,7 @@ fn after(bytes: &[u8], end: usize) -> &[u8]
 #[tactic(auto, using(crate::proofs::LineLemmas::lines_at_first, crate::proofs::LineLemmas::lf_at_first))]
 pub fn cut_text(text: &str) -> Option<(&str, &str)>
     ensures line { MatchOption result (text.now ≡ []) (λ cut. raw_lines text.now ≡ cut.0.now ∷ raw_lines cut.1.now) }
+    ensures within { IfSome result (λ cut. length cut.0.now ≤ length text.now) }
     ensures shorter { IfSome result (λ cut. length cut.1.now < length text.now) }
 {
     if text.is_empty() {
@@ -76,6 +77,7 @@ pub fn cut_bytes(bytes: &[u8]) -> Option<(&[u8], &[u8])>
     ensures line { MatchOption result (bytes.now ≡ []) (λ cut. raw_lines bytes.now ≡ cut.0.now ∷ raw_lines cut.1.now) }
     ensures raw { IfSome result (λ cut. (n : ℕ) → raw_lines_from n bytes.now
         ≡ record { number = n; bytes = cut.0.now; is_ended = nat_lt (length cut.0.now) (length bytes.now) } ∷ raw_lines_from (n + 1) cut.1.now) }
+    ensures within { IfSome result (λ cut. length cut.0.now ≤ length bytes.now) }
     ensures shorter { IfSome result (λ cut. length cut.1.now < length bytes.now) }
 {
     if bytes.is_empty() {
@@ -87,14 +89,16 @@ pub fn cut_bytes(bytes: &[u8]) -> Option<(&[u8], &[u8])>
 
 /// A line of a text without one CR at its end.
 pub fn text_without_cr(line: &str) -> &str
-    ensures { result.now ≡ without_cr line.now }
+    ensures value { result.now ≡ without_cr line.now }
+    ensures within { length result.now ≤ length line.now }
 {
     &line[..text_len(line.as_bytes())]
 }
 
 /// A line of bytes without one CR at its end.
 pub fn bytes_without_cr(line: &[u8]) -> &[u8]
-    ensures { result.now ≡ without_cr line.now }
+    ensures value { result.now ≡ without_cr line.now }
+    ensures within { length result.now ≤ length line.now }
 {
     &line[..text_len(line)]
 }
@@ -111,4 +115,21 @@ pub fn line_count(bytes: &[u8]) -> u32
         count += 1;
     }
     count
+}
+
+/// The line of this number, from 1 among all lines, without its LF and without one CR at its end; None if there is no such line.
+pub fn line_numbered(number: u32, text: &[u8]) -> Option<&[u8]>
+    ensures line { MatchOption result (line_numbered number text.now ≡ None) (λ line. line_numbered number text.now ≡ Some line.now) }
+    ensures within { IfSome result (λ line. length line.now ≤ length text.now) }
+{
+    let mut rest = text;
+    let mut before = number.saturating_sub(1);
+    while let Some((line, later)) = cut_bytes(rest) {
+        if before == 0 {
+            return Some(bytes_without_cr(line));
+        }
+        rest = later;
+        before -= 1;
+    }
+    None
 }

@@ -1,8 +1,11 @@
 // Grammars of texts that are read line by line.
 ghost use Rattle.std.specs.Prelude.{◌≡◌};
 ghost use Rattle.sb_text.specs.Readings.{Grammar};
+ghost use Rattle.sb_items.specs.Refusals.{Gives};
 ghost use Rattle.sb_text.specs.Steps.{Becomes};
 
+use crate::refusals::TokenFault;
+use crate::spots::Layout;
 use crate::text_lines::TextLines;
 use sb_items::Refused;
 
@@ -16,11 +19,18 @@ pub trait TextGrammar<L: TextLines> {
 
     ghost grammar: { Self → Grammar Self.Draft Self.Kind };
 
-    /// The version that a first line names.
-    fn version(&self, line: &L::Line) -> Option<u32>
-        ensures { result ≡ (grammar self.now).version (L.numbered line.now).text };
+    /// What the lines of its texts are made of.
+    fn layout(&self) -> Layout
+        ensures { result ≡ (grammar self.now).layout };
 
-    /// What is wrong if the first line names no version, or there is no line.
+    /// The version that a first line names.
+    ///
+    /// # Errors
+    /// `Fault` exactly if it names none, at the first token that departs.
+    fn version(&self, line: &L::Line) -> Result<u32, Refused<TokenFault<Self::Kind>>>
+        ensures { Gives ((grammar self.now).version (L.numbered line.now).text) result };
+
+    /// What is wrong if there is no first line.
     fn no_version(&self) -> Self::Kind
         ensures { result ≡ (grammar self.now).no_version };
 
@@ -31,12 +41,13 @@ pub trait TextGrammar<L: TextLines> {
     /// What another line of a text of this version adds to what was read so far. After an error the draft is unspecified.
     ///
     /// # Errors
-    /// `Fault` exactly if something is wrong with the line, the first such from the left. `NoMemory` if there was none.
+    /// `Fault` exactly if something is wrong with the line, the first such from the left, at its place. `NoMemory` if out of
+    /// memory.
     fn add(
         &self,
         version: u32,
         draft: &mut Self::Draft,
         line: &L::Line,
-    ) -> Result<(), Refused<Self::Kind>>
+    ) -> Result<(), Refused<TokenFault<Self::Kind>>>
         ensures { Becomes ((grammar self.now).add version draft.old (L.numbered line.now)) result draft.new };
 }

@@ -1,8 +1,9 @@
 // Laws of the definitions.
 ghost use Rattle.sb_text.specs.ReadingLaws.{FirstFaultsStay, LinesBeforeAreRead, SkippedLinesCountAlone};
 ghost use Rattle.sb_text.specs.LineLaws.{WrittenRawLinesAreRead, RawLinesAreLines, WrittenLinesAreRead, LinesHoldNoLf, RawLinesJoin, LinesAreCounted, LinesAppend, SayingLinesAppend, NumbersAreWithin, OneCrIsDropped, OtherEndsAreKept};
-ghost use Rattle.sb_text.specs.Utf8Laws.{NotUtf8LineTells};
+ghost use Rattle.sb_text.specs.Utf8Laws.{NotUtf8PlaceTells, PlacesAreCounted};
 ghost use Rattle.sb_text.specs.TokenLaws.{TokenIsReadBeforeBlank, BrokenTokensAreBad, WrittenTokensAreRead, TokensAreFound, BlanksAreNothing, PlainLinesHaveWords, SayingLinesHaveTokens, FirstTokenSkips, QuotedTokensAreText};
+ghost use Rattle.sb_text.specs.SpotLaws.{ColumnsAreWithin, TokensHaveStarts};
 ghost use Rattle.sb_text.specs.Strings.{StringsComeBack, QuotedStringsAreText};
 ghost use Rattle.sb_text.specs.NumberLaws.{DecimalsAreRead, HexadecimalsAreRead};
 ghost use Rattle.sb_text.specs.PlainLines.{PlainLinesAreUtf8, PlainLinesAreRead, PlainTokensAreRead, PlainWordsAreRead};
@@ -129,10 +130,25 @@ pub fn other_ends_are_kept()
     ensures { OtherEndsAreKept }
 {}
 
-/// There is no line where bytes are not UTF-8 if all of them are; else it is one more than the
-/// number of LF in their longest front that is.
-pub fn not_utf8_line_tells()
-    ensures { NotUtf8LineTells }
+/// There is no place where bytes are not UTF-8 if all of them are; else it is right after their longest front that is.
+pub fn not_utf8_place_tells()
+    ensures { NotUtf8PlaceTells }
+{}
+
+/// The line of the place after bytes is one more than the number of LF in them, and its column one more than the number of characters
+/// after the last LF.
+pub fn places_are_counted()
+    ensures { PlacesAreCounted }
+{}
+
+/// Each token of a line has its start, and each word of bytes: so a number of tokens that are left names one place.
+pub fn tokens_have_starts()
+    ensures { TokensHaveStarts }
+{}
+
+/// A column is from 1 to one more than the number of bytes of the line.
+pub fn columns_are_within()
+    ensures { ColumnsAreWithin }
 {}
 
 /// A fault on one of the first lines of a text, some of which have tokens, is that of each text that begins with these

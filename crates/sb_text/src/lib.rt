@@ -1,5 +1,5 @@
 // What all texts of users are made of: lines cut at LF and their numbers, the lines that are neither blank nor comments, tokens with
-// quotes, words cut at blanks alone, numbers, the line on which bytes stop being UTF-8, and what a quoted token means.
+// quotes, words cut at blanks alone, numbers, the columns of faults, the place at which bytes stop being UTF-8, and what a quoted token means.
 // Nothing here takes memory but the last: lines, tokens and words are parts of the text.
 #![tactic(auto)]
 
@@ -14,6 +14,7 @@ mod numbers;
 mod raw_lines;
 mod reading;
 mod refusals;
+mod spots;
 mod steps;
 mod text_lines;
 mod tokens;
@@ -21,25 +22,26 @@ mod utf8;
 mod words;
 
 pub use byte_lines::{ByteLine, ByteLines};
-pub use cuts::line_count;
+pub use cuts::{line_count, line_numbered};
 pub use grammars::TextGrammar;
 pub use laws::{
-    blanks_are_nothing, broken_tokens_are_bad, decimals_are_read, first_faults_stay,
-    first_token_skips, hexadecimals_are_read, lines_append, lines_are_counted,
-    lines_before_are_read, lines_hold_no_lf, not_utf8_line_tells, numbers_are_within,
-    one_cr_is_dropped, other_ends_are_kept, plain_lines_are_read, plain_lines_have_words,
-    quoted_strings_are_read, quoted_tokens_are_text, raw_lines_are_lines, raw_lines_join,
-    saying_lines_append, saying_lines_have_tokens, skipped_lines_count_alone,
-    token_is_read_before_blank, tokens_are_found, written_lines_are_read,
+    blanks_are_nothing, broken_tokens_are_bad, columns_are_within, decimals_are_read,
+    first_faults_stay, first_token_skips, hexadecimals_are_read, lines_append, lines_are_counted,
+    lines_before_are_read, lines_hold_no_lf, not_utf8_place_tells, numbers_are_within,
+    one_cr_is_dropped, other_ends_are_kept, places_are_counted, plain_lines_are_read,
+    plain_lines_have_words, quoted_strings_are_read, quoted_tokens_are_text, raw_lines_are_lines,
+    raw_lines_join, saying_lines_append, saying_lines_have_tokens, skipped_lines_count_alone,
+    token_is_read_before_blank, tokens_are_found, tokens_have_starts, written_lines_are_read,
     written_raw_lines_are_read, written_tokens_are_read,
 };
 pub use lines::{Line, Lines};
 pub use numbers::{decimal_of, number_of};
 pub use raw_lines::{RawLine, RawLines};
-pub use reading::{read_by, read_text};
-pub use refusals::{LineFault, on_line};
+pub use reading::{on_line, read_by, read_text};
+pub use refusals::{LineFault, TokenFault, WordFault};
 pub use sb_items::Refused;
-pub use steps::{end_at, or_fault, quoted_at, word_at};
+pub use spots::{Layout, Within, column_at};
+pub use steps::{end_at, or_fails, or_fault, quoted_at, version_at, version_digit, word_at};
 pub use text_lines::TextLines;
 pub use tokens::{Token, Tokens};
 pub use utf8::{NotUtf8, string_of, text_of};

@@ -1,28 +1,50 @@
-// The faults of a text by their lines.
-ghost use Rattle.std.specs.Prelude.{◌≡◌};
-ghost use Rattle.sb_text.specs.Readings.{refused_on};
-
-use sb_items::Refused;
+// Why there is nothing of a text, or of one of its lines.
 use std::fmt::Display;
 use thiserror::Error;
 
-/// What is wrong with a line of a text.
-#[derive(Clone, Copy, Debug, Error)]
-#[error("line {line}: {kind}")]
-#[error_bound(K: Display)]
-pub struct LineFault<K> {
-    /// The line, from 1.
-    pub line: u32,
+/// What is wrong with a line, and where: by its tokens, counted from the line's end.
+#[derive(Clone, Copy, Debug)]
+pub struct TokenFault<K> {
+    /// The number of tokens that are left: the one with the fault and all after it, or 0 at the line's end.
+    pub left: usize,
+    /// Within a quoted token the UTF-16 unit, from 0, at whose character the fault is.
+    pub unit: Option<u32>,
     /// What is wrong there.
     pub kind: K,
 }
 
-/// The refusal of a line as that of a text in which the line has this number.
-pub fn on_line<K>(refused: Refused<K>, line: u32) -> Refused<LineFault<K>>
-    ensures { result ≡ refused_on line refused }
-{
-    match refused {
-        Refused::Fault(kind) => Refused::Fault(LineFault { line, kind }),
-        Refused::NoMemory => Refused::NoMemory,
-    }
+/// Why a token is not the word that is due.
+#[derive(Clone, Copy, Debug)]
+pub enum WordFault {
+    /// There is no such word.
+    Unknown,
+    /// The line ends where a token is due.
+    Missing,
+    /// The line goes on where it has to end.
+    Extra,
+    /// The token breaks the rules for tokens.
+    Broken,
+    /// The token is quoted, and may not be.
+    Quoted,
+    /// The token is not quoted, and has to be.
+    Unquoted,
+    /// The word is known, but not allowed on this line of the text.
+    Misplaced,
+    /// The line is allowed only once, and there was one before.
+    Repeated,
+    /// The first line with tokens does not name a version of its kind of text.
+    NoVersion,
+}
+
+/// What is wrong with a text, and where.
+#[derive(Clone, Copy, Debug, Error)]
+#[error("line {line}, column {column}: {kind}")]
+#[error_bound(K: Display)]
+pub struct LineFault<K> {
+    /// The line, from 1.
+    pub line: u32,
+    /// The character of the line, from 1, at which the token begins that brings the fault; 0 if no place in a line is meant.
+    pub column: u32,
+    /// What is wrong there.
+    pub kind: K,
 }

@@ -1,10 +1,11 @@
-// Reading a line from left to right: a word, a quoted token, and the line's end, each with its faults.
-ghost use Rattle.std.specs.Prelude.{◌≡◌, true, IfOk};
+// Reading a line from left to right: a word, a quoted token, and the line's end, each with its faults and their places.
+ghost use Rattle.std.specs.Prelude.{◌≡◌, ◌≤◌, true, IfOk};
 ghost use Rattle.std.specs.List.{list_all};
 ghost use Rattle.sb_items.specs.Refusals.{Gives};
-ghost use Rattle.sb_text.specs.Steps.{word_at, quoted_at, end_at, or_fault, ReadsAs};
+ghost use Rattle.sb_text.specs.Steps.{word_at, quoted_at, end_at, or_fault, or_fails, version_at, version_digit, ReadsAs};
 ghost use Rattle.sb_text.specs.TokenLaws.{is_quoted_byte};
 
+use crate::refusals::TokenFault;
 use crate::tokens::{Token, Tokens};
 use sb_items::Refused;
 
@@ -15,48 +16,50 @@ pub fn word_at<'a, K: Drop>(
     bad: K,
     missing: K,
     tokens: &mut Tokens<'a>,
-) -> Result<&'a [u8], Refused<K>>
+) -> Result<&'a [u8], Refused<TokenFault<K>>>
     ensures { ReadsAs (λ word. word.now) (word_at quoted bad missing tokens.old) result tokens.new }
 {
+    let due = tokens.copy();
     match tokens.next_token() {
         Some(Token::Word(word)) => Ok(word),
-        Some(Token::Quoted(_)) => Err(Refused::Fault(quoted)),
-        Some(Token::Bad) => Err(Refused::Fault(bad)),
-        None => Err(Refused::Fault(missing)),
+        Some(Token::Quoted(_)) => Err(due.fail(quoted)),
+        Some(Token::Bad) => Err(due.fail(bad)),
+        None => Err(due.fail(missing)),
     }
 }
 
-/// A quoted token: what stands between its quotes. `word` is the fault of a word in its place, `bad` that of a token that
+/// A quoted token: what is between its quotes. `word` is the fault of a word in its place, `bad` that of a token that
 /// breaks the rules, and `missing` that of none.
 pub fn quoted_at<'a, K: Drop>(
     word: K,
     bad: K,
     missing: K,
     tokens: &mut Tokens<'a>,
-) -> Result<&'a str, Refused<K>>
+) -> Result<&'a str, Refused<TokenFault<K>>>
     ensures read { ReadsAs (λ quoted. quoted.now) (quoted_at word bad missing tokens.old) result tokens.new }
     ensures quotable { IfOk result (λ quoted. list_all is_quoted_byte quoted.now ≡ true) }
 {
+    let due = tokens.copy();
     match tokens.next_token() {
         Some(Token::Quoted(quoted)) => Ok(quoted),
-        Some(Token::Word(_)) => Err(Refused::Fault(word)),
-        Some(Token::Bad) => Err(Refused::Fault(bad)),
-        None => Err(Refused::Fault(missing)),
+        Some(Token::Word(_)) => Err(due.fail(word)),
+        Some(Token::Bad) => Err(due.fail(bad)),
+        None => Err(due.fail(missing)),
     }
 }
 
-/// The line is to end here. `extra` is the fault of an extra token, `bad` that of one that breaks the rules.
-pub fn end_at<K: Drop>(extra: K, bad: K, tokens: &Tokens) -> Result<(), Refused<K>>
+/// The line has to end here. `extra` is the fault of an extra token, `bad` that of one that breaks the rules.
+pub fn end_at<K: Drop>(extra: K, bad: K, tokens: &Tokens) -> Result<(), Refused<TokenFault<K>>>
     ensures { Gives (end_at extra bad tokens.now) result }
 {
     match tokens.peek() {
         None => Ok(()),
-        Some(Token::Word(_)) | Some(Token::Quoted(_)) => Err(Refused::Fault(extra)),
-        Some(Token::Bad) => Err(Refused::Fault(bad)),
+        Some(Token::Word(_)) | Some(Token::Quoted(_)) => Err(tokens.fail(extra)),
+        Some(Token::Bad) => Err(tokens.fail(bad)),
     }
 }
 
-/// A value that is there, or this fault.
+/// A value that is there, or this fault, without a place.
 pub fn or_fault<A: Drop, K: Drop>(kind: K, value: Option<A>) -> Result<A, Refused<K>>
     ensures { Gives (or_fault kind value) result }
 {
@@ -64,4 +67,53 @@ pub fn or_fault<A: Drop, K: Drop>(kind: K, value: Option<A>) -> Result<A, Refuse
         Some(value) => Ok(value),
         None => Err(Refused::Fault(kind)),
     }
+}
+
+/// A value that is there, or this fault at the token that was due.
+pub fn or_fails<A: Drop, K: Drop>(
+    due: &Tokens,
+    kind: K,
+    value: Option<A>,
+) -> Result<A, Refused<TokenFault<K>>>
+    ensures { Gives (or_fails due.now kind value) result }
+{
+    match value {
+        Some(value) => Ok(value),
+        None => Err(due.fail(kind)),
+    }
+}
+
+/// A digit from 1 to `most`.
+pub fn version_digit(most: u8, digit: &[u8]) -> Option<u32>
+    requires { most ≤ 9 }
+    ensures { result ≡ version_digit most digit.now }
+{
+    match digit {
+        [digit] if b'1' <= *digit && *digit <= b'0' + most => Some(u32::from(*digit - b'0')),
+        _ => None,
+    }
+}
+
+/// The version that a first line of these tokens names: the word `name`, and a digit from 1 to `most`.
+///
+/// # Errors
+/// `Fault` with this kind exactly if it names none, at the first token that departs.
+pub fn version_at<K: Copy + Drop>(
+    kind: K,
+    name: &[u8],
+    most: u8,
+    tokens: &Tokens,
+) -> Result<u32, Refused<TokenFault<K>>>
+    requires { most ≤ 9 }
+    ensures { Gives (version_at kind name.now most tokens.now) result }
+{
+    let mut rest = tokens.copy();
+    if word_at(kind, kind, kind, &mut rest)? != name {
+        return Err(tokens.fail(kind));
+    }
+    let due = rest.copy();
+    let digit = word_at(kind, kind, kind, &mut rest)?;
+    let version = or_fails(&due, kind, version_digit(most, digit))?;
+    end_at(kind, kind, &rest)?;
+    Ok(version)
 }

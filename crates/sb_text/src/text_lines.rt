@@ -1,5 +1,5 @@
 // Lines that are neither blank nor comments, one after another, whatever they are cut from.
-ghost use Rattle.std.specs.Prelude.{◌≡◌, ◌∷◌, [], List, MatchOption};
+ghost use Rattle.std.specs.Prelude.{◌≡◌, ◌∷◌, ◌+◌, ◌<◌, ◌^◌, [], List, length, IfSome, MatchOption};
 ghost use Rattle.sb_text.specs.Lines.{NumberedLine};
 
 use crate::byte_lines::{ByteLine, ByteLines};
@@ -16,11 +16,16 @@ pub trait TextLines: Drop {
 
     /// The next line that is neither blank nor a comment.
     fn next_line(&mut self) -> Option<Self::Line>
-        ensures { MatchOption result ((left self.old ≡ []) × (left self.new ≡ [])) (λ line. left self.old ≡ numbered line ∷ left self.new) };
+        ensures line { MatchOption result ((left self.old ≡ []) × (left self.new ≡ [])) (λ line. left self.old ≡ numbered line ∷ left self.new) }
+        ensures short { IfSome result (λ line. length (numbered line).text + 1 < 2 ^ 32) };
 
     /// The number of a line in its text, from 1.
     fn number_of(line: &Self::Line) -> u32
         ensures { result ≡ (numbered line.now).number };
+
+    /// The bytes of a line.
+    fn bytes_of<'b>(line: &'b Self::Line) -> &'b [u8]
+        ensures { result.now ≡ (numbered line.now).text };
 }
 
 impl<'a> TextLines for Lines<'a> {
@@ -37,6 +42,10 @@ impl<'a> TextLines for Lines<'a> {
     fn number_of(line: &Line<'a>) -> u32 {
         line.number
     }
+
+    fn bytes_of<'b>(line: &'b Line<'a>) -> &'b [u8] {
+        line.text.as_bytes()
+    }
 }
 
 impl<'a> TextLines for ByteLines<'a> {
@@ -52,5 +61,9 @@ impl<'a> TextLines for ByteLines<'a> {
 
     fn number_of(line: &ByteLine<'a>) -> u32 {
         line.number
+    }
+
+    fn bytes_of<'b>(line: &'b ByteLine<'a>) -> &'b [u8] {
+        line.text
     }
 }

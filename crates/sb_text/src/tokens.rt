@@ -1,11 +1,14 @@
 // The tokens of a line, one after another.
-ghost use Rattle.std.specs.Prelude.{◌≡◌, ◌∷◌, [], true, if◌then◌else◌, IfSome, MatchOption};
-ghost use Rattle.sb_text.specs.Steps.{begins_with, later, is_end};
+ghost use Rattle.std.specs.Prelude.{◌≡◌, ◌∷◌, ◌+◌, ◌<◌, ◌^◌, [], length, None, Some, true, if◌then◌else◌, IfSome, MatchOption};
+ghost use Rattle.sb_items.specs.declared.refusals.Refused.TheVariants.{Fault};
+ghost use Rattle.sb_text.specs.Steps.{begins_with, later, is_end, refused_left, with_first};
 ghost use Rattle.sb_text.specs.TokenLaws.{is_quotable};
 ghost use Rattle.sb_text.specs.Tokens.{tokens_of, lexeme_of};
 
 use crate::first_tokens::cut_token;
 use crate::laws::tokens_are_found;
+use crate::refusals::TokenFault;
+use sb_items::Refused;
 use std::marker::Model;
 
 /// A token of a line, or bytes that break the rules for tokens.
@@ -27,7 +30,7 @@ pub struct Tokens<'a> {
 }
 
 impl<'a> Model for Tokens<'a> {
-    ghost use Rattle.std.specs.Prelude.{◌≡◌, List, true};
+    ghost use Rattle.std.specs.Prelude.{◌≡◌, ◌+◌, ◌<◌, ◌^◌, List, length, true};
     ghost use Rattle.sb_text.specs.TokenLaws.{are_found};
     ghost use Rattle.sb_text.specs.Tokens.{Lexeme, tokens_of, at_hand};
 
@@ -35,17 +38,29 @@ impl<'a> Model for Tokens<'a> {
 
     ghost view = { λ t. at_hand t.next (tokens_of t.rest.now) };
 
-    ghost invariant = { λ t. are_found (at_hand t.next (tokens_of t.rest.now)) ≡ true };
+    ghost invariant = { λ t. (are_found (at_hand t.next (tokens_of t.rest.now)) ≡ true)
+        × (length (at_hand t.next (tokens_of t.rest.now)) + 1 < 2 ^ 64) };
 }
 
 impl<'a> Tokens<'a> {
     /// The tokens of a line.
+    #[tactic(auto, using(crate::proofs::TokenLaws::tokens_few))]
     pub fn new(line: &'a str) -> Tokens<'a>
         ensures { result ≡ tokens_of line.now }
     {
         tokens_are_found();
         let (next, rest) = cut_token(line);
         Tokens { next, rest }
+    }
+
+    /// The same tokens, to go back to.
+    pub fn copy(&self) -> Tokens<'a>
+        ensures { result ≡ self.now }
+    {
+        Tokens {
+            next: self.next,
+            rest: self.rest,
+        }
     }
 
     /// The next token, which is passed. Nothing is left after one that breaks the rules.
@@ -66,6 +81,72 @@ impl<'a> Tokens<'a> {
         ensures { MatchOption result (self.now ≡ []) (λ token. self.now ≡ lexeme_of token ∷ later self.now) }
     {
         self.next
+    }
+
+    /// The number of tokens that are left. Walks over them.
+    pub fn left(&self) -> usize
+        ensures value { result ≡ length self.now }
+        ensures most { result + 1 < 2 ^ 64 }
+    {
+        let mut tokens = self.copy();
+        let mut count = 0;
+        while tokens.next_token().is_some() {
+            count += 1;
+        }
+        count
+    }
+
+    /// This refusal, with its fault at the first token of a line of which these are the others.
+    pub fn refuse_first<K: Drop>(&self, refused: Refused<K>) -> Refused<TokenFault<K>>
+        ensures { result ≡ refused_left (with_first self.now) refused }
+    {
+        match refused {
+            Refused::Fault(kind) => self.fail_first(kind),
+            Refused::NoMemory => Refused::NoMemory,
+        }
+    }
+
+    /// This fault at the first token of a line of which these are the others.
+    pub fn fail_first<K: Drop>(&self, kind: K) -> Refused<TokenFault<K>>
+        ensures { result ≡ Fault (record { left = with_first self.now; unit = None; kind = kind }) }
+    {
+        Refused::Fault(TokenFault {
+            left: 1 + self.left(),
+            unit: None,
+            kind,
+        })
+    }
+
+    /// This refusal, with its fault at the next token, or at the line's end if there is none.
+    pub fn refuse<K: Drop>(&self, refused: Refused<K>) -> Refused<TokenFault<K>>
+        ensures { result ≡ refused_left (length self.now) refused }
+    {
+        match refused {
+            Refused::Fault(kind) => self.fail(kind),
+            Refused::NoMemory => Refused::NoMemory,
+        }
+    }
+
+    /// This fault at the next token, or at the line's end if there is none.
+    pub fn fail<K: Drop>(&self, kind: K) -> Refused<TokenFault<K>>
+        ensures { result ≡ Fault (record { left = length self.now; unit = None; kind = kind }) }
+    {
+        Refused::Fault(TokenFault {
+            left: self.left(),
+            unit: None,
+            kind,
+        })
+    }
+
+    /// This fault at the character of a UTF-16 unit, from 0, between the quotes of the next token.
+    pub fn fail_within<K: Drop>(&self, unit: u32, kind: K) -> Refused<TokenFault<K>>
+        ensures { result ≡ Fault (record { left = length self.now; unit = Some unit; kind = kind }) }
+    {
+        Refused::Fault(TokenFault {
+            left: self.left(),
+            unit: Some(unit),
+            kind,
+        })
     }
 
     /// Whether the line ends here.

@@ -1,10 +1,14 @@
 // The words of a line of bytes, cut at blanks alone.
-ghost use Rattle.std.specs.Prelude.{◌≡◌, ◌∷◌, ◌<◌, ◌≤◌, [], length, slice_index, MatchOption, false};
+ghost use Rattle.std.specs.Prelude.{◌≡◌, ◌∷◌, ◌<◌, ◌≤◌, [], length, slice_index, None, MatchOption, false};
 ghost use Rattle.std.specs.List.{position_or_len};
 ghost use Rattle.sb_text.specs.Lines.{is_blank};
+ghost use Rattle.sb_items.specs.declared.refusals.Refused.TheVariants.{Fault};
+ghost use Rattle.sb_text.specs.Steps.{refused_left};
 ghost use Rattle.sb_text.specs.Words.{words_of};
 
 use crate::blanks::is_blank;
+use crate::refusals::TokenFault;
+use sb_items::Refused;
 use std::marker::Model;
 
 /// What is left of a line: its words. A `"` is a byte like any other.
@@ -14,12 +18,14 @@ pub struct Words<'a> {
 }
 
 impl<'a> Model for Words<'a> {
-    ghost use Rattle.std.specs.Prelude.{List, ℕ};
+    ghost use Rattle.std.specs.Prelude.{List, ℕ, length, ◌<◌, ◌^◌};
     ghost use Rattle.sb_text.specs.Words.{words_of};
 
     ghost Value = { List (List ℕ) };
 
     ghost view = { λ w. words_of w.rest.now };
+
+    ghost invariant = { λ w. length (words_of w.rest.now) < 2 ^ 64 };
 }
 
 // The bytes without the blanks that they begin with.
@@ -60,13 +66,21 @@ fn cut_word(bytes: &[u8]) -> (&[u8], &[u8])
 
 impl<'a> Words<'a> {
     /// The words of a line.
+    #[tactic(auto, using(crate::proofs::WordLemmas::words_few))]
     pub fn new(line: &'a [u8]) -> Words<'a>
         ensures { result ≡ words_of line.now }
     {
         Words { rest: line }
     }
 
-    /// The next word.
+    /// The same words, to go back to.
+    pub fn copy(&self) -> Words<'a>
+        ensures { result ≡ self.now }
+    {
+        Words { rest: self.rest }
+    }
+
+    /// The next word, which is passed.
     pub fn next_word(&mut self) -> Option<&'a [u8]>
         ensures { MatchOption result ((self.old ≡ []) × (self.new ≡ [])) (λ word. self.old ≡ word.now ∷ self.new) }
     {
@@ -78,5 +92,38 @@ impl<'a> Words<'a> {
         let (word, later) = cut_word(rest);
         self.rest = later;
         Some(word)
+    }
+
+    /// The number of words that are left. Walks over them.
+    pub fn left(&self) -> usize
+        ensures { result ≡ length self.now }
+    {
+        let mut words = self.copy();
+        let mut count = 0;
+        while words.next_word().is_some() {
+            count += 1;
+        }
+        count
+    }
+
+    /// This refusal, with its fault at the next word, or at the line's end if there is none.
+    pub fn refuse<K: Drop>(&self, refused: Refused<K>) -> Refused<TokenFault<K>>
+        ensures { result ≡ refused_left (length self.now) refused }
+    {
+        match refused {
+            Refused::Fault(kind) => self.fail(kind),
+            Refused::NoMemory => Refused::NoMemory,
+        }
+    }
+
+    /// This fault at the next word, or at the line's end if there is none.
+    pub fn fail<K: Drop>(&self, kind: K) -> Refused<TokenFault<K>>
+        ensures { result ≡ Fault (record { left = length self.now; unit = None; kind = kind }) }
+    {
+        Refused::Fault(TokenFault {
+            left: self.left(),
+            unit: None,
+            kind,
+        })
     }
 }

@@ -12,4 +12,4 @@ of-requires c =
     let script = c.in_ok-script.script in
     let made : are_well_made policies ≡ true = search rules in
     let read : reading policies text ≡ Ok script = search rules in
-    read_is_sound c.read_scripts_are_ready.ensures c.read_scripts_have_units.ensures c.read_scripts_can_be_written.ensures policies text script made read
+    read_is_sound c.read_scripts_are_ready.ensures policies text script made read

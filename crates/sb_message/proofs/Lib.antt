@@ -1,0 +1,3 @@
+mod Cuts
+mod CaretLaws
+mod CleanLaws

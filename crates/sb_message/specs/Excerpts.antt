@@ -1,0 +1,48 @@
+-- What is shown of a line, and the caret under a place of it.
+use Rattle.std.specs.Prelude.{ℕ, ◌+◌, ◌-◌, Bool, true, false, nat_lt, min, List, [], ◌∷◌, ◌++◌, length, take, drop, replicate, if◌then◌else◌, codes}
+use Rattle.std.specs.Str.{chars}
+use Rattle.unicode_width.specs.Width.{str_width}
+use Rattle.sb_message.specs.declared.glyphs.Glyph.{Glyph}
+use Rattle.sb_message.specs.Glyphs.{is_tab, shown, shown_glyph}
+
+-- how many glyphs of a line are shown at most, and how many before the place at most, if as many follow
+abbrev pub most_glyphs : ℕ
+most_glyphs = 120
+
+abbrev pub most_before : ℕ
+most_before = 60
+
+-- the place of the first glyph that is shown, of n glyphs round this place
+abbrev pub window_start : ℕ → ℕ → ℕ
+window_start place n = min (place - most_before) (n - most_glyphs)
+
+-- dots, if something is left out
+abbrev pub dots : Bool → List ℕ
+dots left_out = if left_out then codes ".." else []
+
+-- what is shown of a line from a glyph on
+abbrev pub excerpt_from : ℕ → List Glyph → List ℕ
+excerpt_from start glyphs =
+    dots (nat_lt 0 start) ++ shown (take most_glyphs (drop start glyphs)) ++ dots (nat_lt most_glyphs (length glyphs - start))
+
+-- what is shown of a line round a place: all of it, or 120 glyphs
+abbrev pub excerpt : ℕ → List Glyph → List ℕ
+excerpt place glyphs = excerpt_from (window_start place (length glyphs)) glyphs
+
+-- how many columns of a terminal a text takes
+abbrev pub width : List ℕ → ℕ
+width text = str_width false (chars text)
+
+-- spaces as wide as a text and then glyphs are shown, in which tabs stay tabs
+abbrev pub blanks_under : List ℕ → List Glyph → List ℕ
+blanks_under text [] = replicate (width text) 32
+blanks_under text (glyph ∷ glyphs) =
+    if is_tab glyph then replicate (width text) 32 ++ 9 ∷ blanks_under [] glyphs else blanks_under (text ++ shown_glyph glyph) glyphs
+
+-- the caret under a place of a line that is shown from a glyph on
+abbrev pub caret_from : ℕ → ℕ → List Glyph → List ℕ
+caret_from start place glyphs = blanks_under (dots (nat_lt 0 start)) (take (place - start) (drop start glyphs)) ++ 94 ∷ []
+
+-- the caret under a place of a line that is shown round it
+abbrev pub caret : ℕ → List Glyph → List ℕ
+caret place glyphs = caret_from (window_start place (length glyphs)) place glyphs

@@ -1,0 +1,10 @@
+pub mod Glyphs
+pub mod Excerpts
+pub mod Tokens
+pub mod Messages
+pub mod MessageLaws
+pub mod Causes
+pub mod PolicyMessages
+pub mod ScheduleMessages
+pub mod ScriptMessages
+pub mod EndMessages

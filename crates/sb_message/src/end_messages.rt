@@ -1,0 +1,137 @@
+// The messages of ends that are not the fault of a text.
+ghost use Rattle.std.specs.Prelude.{◌≡◌, ◌++◌, ◌∷◌, [], codes, OnOk, IfOk, string_bytes};
+ghost use Rattle.sb_message.specs.EndMessages.{numbers_text, file_text, end_text, end_message};
+
+use crate::glyphs::put_shown;
+use crate::messages::put_decimal;
+use sb_items::NoMemory;
+use std::alloc::Global;
+
+/// How a command ended, if neither well nor by the fault of a text. Files are numbered by their place in the command, from 1.
+#[derive(Clone, Copy)]
+pub enum EndFault {
+    /// A run left this thread of this target unfinished; both are numbered from 0.
+    Unfinished { target: u32, thread: u32 },
+    /// There is no such file.
+    Missing { which: u8 },
+    /// The file has more bytes than are read.
+    TooLong { which: u8 },
+    /// The file cannot be read.
+    ReadFault { which: u8 },
+    /// The output cannot be written.
+    WriteFault,
+    /// Out of memory.
+    NoMemory,
+}
+
+// Appends words around two numbers.
+fn put_numbers(
+    out: &mut String,
+    before: &str,
+    first: u64,
+    between: &str,
+    second: u64,
+    after: &str,
+) -> Result<(), NoMemory>
+    ensures { OnOk result (string_bytes out.new ≡ string_bytes out.old ++ numbers_text before.now first between.now second after.now) }
+{
+    out.push_str(before)?;
+    put_decimal(out, first)?;
+    out.push_str(between)?;
+    put_decimal(out, second)?;
+    out.push_str(after)?;
+    Ok(())
+}
+
+// Appends words around a number and the name of a file.
+fn put_file(
+    out: &mut String,
+    before: &str,
+    which: u8,
+    between: &str,
+    file: &[u8],
+    after: &str,
+) -> Result<(), NoMemory>
+    ensures { OnOk result (string_bytes out.new ≡ string_bytes out.old ++ file_text before.now which between.now file.now after.now) }
+{
+    out.push_str(before)?;
+    put_decimal(out, u64::from(which))?;
+    out.push_str(between)?;
+    put_shown(out, file)?;
+    out.push_str(after)?;
+    Ok(())
+}
+
+fn put_unfinished(out: &mut String, target: u32, thread: u32) -> Result<(), NoMemory>
+    ensures { OnOk result (string_bytes out.new ≡ string_bytes out.old
+        ++ numbers_text (codes "unfinished: target ") target (codes " thread ") thread (codes ": the thread did not end")) }
+{
+    put_numbers(
+        out,
+        "unfinished: target ",
+        u64::from(target),
+        " thread ",
+        u64::from(thread),
+        ": the thread did not end",
+    )
+}
+
+fn put_missing(out: &mut String, which: u8, file: &[u8]) -> Result<(), NoMemory>
+    ensures { OnOk result (string_bytes out.new ≡ string_bytes out.old ++ file_text (codes "missing file ") which (codes ": ") file.now (codes " does not exist")) }
+{
+    put_file(out, "missing file ", which, ": ", file, " does not exist")
+}
+
+fn put_too_long(out: &mut String, which: u8, file: &[u8]) -> Result<(), NoMemory>
+    ensures { OnOk result (string_bytes out.new ≡ string_bytes out.old
+        ++ file_text (codes "file ") which (codes " too long: ") file.now (codes " has more bytes than are read")) }
+{
+    put_file(
+        out,
+        "file ",
+        which,
+        " too long: ",
+        file,
+        " has more bytes than are read",
+    )
+}
+
+fn put_read_fault(out: &mut String, which: u8, file: &[u8]) -> Result<(), NoMemory>
+    ensures { OnOk result (string_bytes out.new ≡ string_bytes out.old ++ file_text (codes "read fault in file ") which (codes ": ") file.now (codes " cannot be read")) }
+{
+    put_file(
+        out,
+        "read fault in file ",
+        which,
+        ": ",
+        file,
+        " cannot be read",
+    )
+}
+
+fn put_end_text(out: &mut String, fault: EndFault, file: &[u8]) -> Result<(), NoMemory>
+    ensures { OnOk result (string_bytes out.new ≡ string_bytes out.old ++ end_text fault file.now) }
+{
+    match fault {
+        EndFault::Unfinished { target, thread } => put_unfinished(out, target, thread),
+        EndFault::Missing { which } => put_missing(out, which, file),
+        EndFault::TooLong { which } => put_too_long(out, which, file),
+        EndFault::ReadFault { which } => put_read_fault(out, which, file),
+        EndFault::WriteFault => Ok(out.push_str("write fault: standard output cannot be written")?),
+        EndFault::NoMemory => Ok(out.push_str("no memory: out of memory")?),
+    }
+}
+
+/// The message of such an end: one line. `file` is the name of the file that is meant, as the user gave it, and empty if none is.
+///
+/// # Errors
+/// `NoMemory` if there was none for the message.
+pub fn end_message(alloc: Global, fault: EndFault, file: &[u8]) -> Result<String, NoMemory>
+    ensures { IfOk result (λ message. string_bytes message ≡ end_message fault file.now) }
+{
+    let mut message = String::new(alloc);
+    message.push_str("sandbox: ")?;
+    put_end_text(&mut message, fault, file)?;
+    message.push('\n')?;
+    Ok(message)
+}

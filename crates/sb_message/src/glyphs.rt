@@ -1,0 +1,134 @@
+// The characters of bytes, and what is shown of them.
+ghost use Rattle.std.specs.Prelude.{◌≡◌, ◌<◌, ◌++◌, ◌∷◌, [], length, IfOk, OnOk, IfSome, MatchOption, string_bytes};
+ghost use Rattle.sb_wide.specs.Numbers.{hexadecimal};
+ghost use Rattle.sb_message.specs.Glyphs.{glyphs_of, is_hidden, is_tab, escaped, shown_glyph, shown, shown_bytes};
+
+use bstr::decode_utf8;
+use sb_items::NoMemory;
+use std::alloc::Global;
+use std::fmt::Write;
+use ucd_category::GeneralCategory;
+
+/// A character, or a byte that is not part of one.
+#[derive(Clone, Copy)]
+pub enum Glyph {
+    /// A Unicode scalar value.
+    Char(char),
+    /// A byte at which no character begins.
+    Byte(u8),
+}
+
+// The first glyph of bytes, and the bytes after it.
+#[tactic(auto, using(crate::proofs::Cuts::byte_cut, crate::proofs::Cuts::size_within, crate::proofs::Cuts::char_shorter))]
+fn cut_glyph(bytes: &[u8]) -> Option<(Glyph, &[u8])>
+    ensures value { MatchOption result (bytes.now ≡ []) (λ cut. glyphs_of bytes.now ≡ cut.0 ∷ glyphs_of cut.1.now) }
+    ensures shorter { IfSome result (λ cut. length cut.1.now < length bytes.now) }
+{
+    let (first, later) = bytes.split_first()?;
+    match decode_utf8(bytes) {
+        (Some(character), size) => {
+            let (_, after) = bytes.split_at(size);
+            Some((Glyph::Char(character), after))
+        }
+        (None, _) => Some((Glyph::Byte(*first), later)),
+    }
+}
+
+/// The characters of bytes. A byte at which no character begins is a glyph of its own.
+///
+/// # Errors
+/// `NoMemory` if there was none for the list.
+pub fn glyphs_of(alloc: Global, bytes: &[u8]) -> Result<Vec<Glyph>, NoMemory>
+    ensures { IfOk result (λ glyphs. glyphs.items ≡ glyphs_of bytes.now) }
+{
+    let mut glyphs = Vec::new(alloc);
+    let mut rest = bytes;
+    while let Some((glyph, after)) = cut_glyph(rest) {
+        glyphs.push(glyph)?;
+        rest = after;
+    }
+    Ok(glyphs)
+}
+
+// Whether a character is shown by its number: a control or format character except a tab, or one that separates lines or paragraphs.
+fn is_hidden(character: char) -> bool
+    ensures { result ≡ is_hidden character }
+{
+    character != '\t'
+        && (character.is_control()
+            || character == '\u{2028}'
+            || character == '\u{2029}'
+            || GeneralCategory::for_char(character) == GeneralCategory::Format)
+}
+
+/// Whether a glyph is a tab.
+pub(crate) fn is_tab(glyph: Glyph) -> bool
+    ensures { result ≡ is_tab glyph }
+{
+    matches!(glyph, Glyph::Char('\t'))
+}
+
+// Appends a number in lower-case hexadecimal digits.
+fn put_hexadecimal(out: &mut String, number: u32) -> Result<(), NoMemory>
+    ensures { OnOk result (string_bytes out.new ≡ string_bytes out.old ++ hexadecimal number) }
+{
+    match write!(out, "{number:x}") {
+        Ok(()) => Ok(()),
+        Err(_) => Err(NoMemory),
+    }
+}
+
+// Appends a backslash and a letter with `{`, a number and `}`.
+fn put_escaped(out: &mut String, opening: &str, number: u32) -> Result<(), NoMemory>
+    ensures { OnOk result (string_bytes out.new ≡ string_bytes out.old ++ escaped opening.now number) }
+{
+    out.push_str(opening)?;
+    put_hexadecimal(out, number)?;
+    out.push('}')?;
+    Ok(())
+}
+
+fn put_character(out: &mut String, character: char) -> Result<(), NoMemory>
+    ensures { OnOk result (string_bytes out.new ≡ string_bytes out.old ++ shown_glyph (Glyph.Char character)) }
+{
+    if is_hidden(character) {
+        return put_escaped(out, "\\u{", u32::from(character));
+    }
+    out.push(character)?;
+    Ok(())
+}
+
+/// Appends what is shown of a glyph.
+pub(crate) fn put_glyph(out: &mut String, glyph: Glyph) -> Result<(), NoMemory>
+    ensures { OnOk result (string_bytes out.new ≡ string_bytes out.old ++ shown_glyph glyph) }
+{
+    match glyph {
+        Glyph::Char(character) => put_character(out, character),
+        Glyph::Byte(byte) => put_escaped(out, "\\x{", u32::from(byte)),
+    }
+}
+
+/// Appends what is shown of glyphs: characters as they are, but control and format characters except a tab, U+2028 and U+2029 as `\u{..}`; and a
+/// byte at which no character begins as `\x{..}`.
+///
+/// # Errors
+/// `NoMemory` if there was none for the bytes.
+pub fn put_glyphs(out: &mut String, glyphs: &[Glyph]) -> Result<(), NoMemory>
+    ensures { OnOk result (string_bytes out.new ≡ string_bytes out.old ++ shown glyphs.now) }
+{
+    for glyph in glyphs {
+        put_glyph(out, *glyph)?;
+    }
+    Ok(())
+}
+
+/// Appends what is shown of bytes.
+///
+/// # Errors
+/// `NoMemory` if there was none for the bytes.
+pub fn put_shown(out: &mut String, bytes: &[u8]) -> Result<(), NoMemory>
+    ensures { OnOk result (string_bytes out.new ≡ string_bytes out.old ++ shown_bytes bytes.now) }
+{
+    let glyphs = glyphs_of(*out.allocator(), bytes)?;
+    put_glyphs(out, &glyphs)
+}

@@ -1,0 +1,5 @@
+use Rattle.sb_text.proofs.SpotLaws.{columns_within}
+use Rattle.sb_text.proofs.laws.columns_are_within.Goals as goal
+
+pub returns : goal.returns
+returns c = columns_within
