@@ -1,4 +1,4 @@
-// The call that stands in a copy of a block.
+// The call in a copy of a block.
 ghost use Rattle.std.specs.Prelude.{◌≡◌, ◌≤◌, length, true, None, IfOk, IfErr, Ok, MatchResult};
 ghost use Rattle.sb_call.specs.Arguments.{fits};
 ghost use Rattle.sb_block.specs.Calls.{argument_in, arguments_in, decoded, IsRefusal};

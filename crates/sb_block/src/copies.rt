@@ -7,7 +7,7 @@ use crate::layout::{MOST_PARAMETERS, is_end};
 use crate::words::Words;
 use std::marker::Model;
 
-/// A copy of a block, with the count and the end that were fetched before it.
+/// A copy of a block, with the count and the end that were loaded before it.
 ///
 /// A count above 9 ends the copying at once: the end is then 0 and there are no words. An end
 /// below `16 + count` or above 64 ends it too, and there are no words. Otherwise there are as many
@@ -52,14 +52,14 @@ impl BlockCopy {
         Some(BlockCopy { count, end, words })
     }
 
-    /// The number of parameters that was fetched before the copy.
+    /// The number of parameters that was loaded before the copy.
     pub fn count_seen(&self) -> u64
         ensures { result ≡ self.now.count_seen }
     {
         self.count
     }
 
-    /// The end, in words, that was fetched before the copy, or 0 if it was not fetched.
+    /// The end, in words, that was loaded before the copy, or 0 if it was not loaded.
     pub fn end_seen(&self) -> u64
         ensures { result ≡ self.now.end_seen }
     {

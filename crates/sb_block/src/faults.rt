@@ -25,10 +25,10 @@ pub enum BlockFault {
     /// word 64.
     #[error("the end is {0}")]
     BadEnd(u64),
-    /// The first count was fetched before the copy, and the second stands in it.
+    /// The first count was loaded before the copy, and the second is in it.
     #[error("the count was {0} and is {1}")]
     CountChanged(u64, u64),
-    /// The first end was fetched before the copy, and the second stands in it.
+    /// The first end was loaded before the copy, and the second is in it.
     #[error("the end was {0} and is {1}")]
     EndChanged(u64, u64),
     /// This parameter, from 0, is neither string, number nor handle.

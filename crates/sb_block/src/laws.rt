@@ -2,7 +2,7 @@
 ghost use Rattle.sb_block.specs.Laws.{FetchedNumbersAreCopied, FaultlessCopiesAreWhole, LaterFaultsAreOfWholeCopies, TagsAreKnown, ParametersLieInside, ParametersHaveTheirTypes, ParametersHaveTheirSizes, ParametersAreAsMany, WellFormedWordsHaveNoFault, BlocksComeBack, FaultlessCopiesFit, UnreadWordsDoNotMatter, UpperHalvesDoNotMatter};
 
 /// No double fetch. The count and the end that were fetched before a copy without a fault are those
-/// that stand in it. So the copy is its words taken whole, and these alone decide. A copy whose fault
+/// that are in it. So the copy is its words taken whole, and these alone decide. A copy whose fault
 /// is of a parameter or of the tag, and not of the count or the end, is its words taken whole too.
 pub fn copies_are_whole()
     ensures fetched { FetchedNumbersAreCopied }

@@ -11,14 +11,17 @@ pub const MOST_WORDS: u64 = 64;
 /// The most parameters of a block.
 pub const MOST_PARAMETERS: u64 = 9;
 
-/// The first of the words in which the reply stands.
+/// The word that holds the number of parameters.
+pub const COUNT_WORD: u64 = 2;
+
+/// The first of the words of the reply.
 pub const FIRST_REPLY_WORD: u32 = 3;
 
-/// The number of words in which the reply stands.
+/// The number of words of the reply.
 pub const REPLY_LENGTH: usize = 12;
 
-/// The word of the first parameter's descriptor. The others follow it, and then the end item.
-const FIRST_DESCRIPTOR: u64 = 15;
+/// The word of the first parameter's descriptor. The others follow it, and then the end item, whose offset is the end.
+pub const FIRST_DESCRIPTOR: u64 = 15;
 
 /// The first word in which a parameter may stand, in a block with this number of parameters.
 pub fn first_offset(count: u64) -> u64
@@ -28,7 +31,7 @@ pub fn first_offset(count: u64) -> u64
     FIRST_DESCRIPTOR + count + 1
 }
 
-/// Whether a block with this number of parameters, of which there are at most 9, may end there.
+/// Whether a block with this number of parameters, of which there are at most 9, may end after this number of words.
 pub fn is_end(count: u64, end: u64) -> bool
     requires { count ≤ most_parameters }
     ensures { result ≡ is_end count end }
@@ -47,7 +50,7 @@ pub fn tag_word(words: &[u64]) -> u64
 pub fn count_in(words: &[u64]) -> u64
     ensures { result ≡ count_in words.now }
 {
-    word_at(words, 2)
+    word_at(words, COUNT_WORD)
 }
 
 /// The descriptors of parameters, of which there are at most 9: as many as word 2 counts, or

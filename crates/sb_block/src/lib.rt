@@ -1,10 +1,10 @@
-// The parameter block: how a call and its reply stand in the words of a channel. A worker copies
+// The parameter block: how a call and its reply are laid out in the words of a channel. A worker copies
 // the words of a block one by one, while their writer may change them, and decides on the copy
 // alone. No word is trusted: each copy has either a fault or one call, whatever its words are.
 //
 // The laws, in `laws`:
 // - `copies_are_whole`: no double fetch. The count and the end that were fetched before a copy
-//   without a fault are those that stand in it, so that nothing but the copied words decides.
+//   without a fault are those in it, so that the copied words alone decide.
 // - `parameters_lie_inside`: each parameter of a copy without a fault lies after the end item and
 //   within the copy, with the type and the size of its argument; `nothing_else_is_refused` is the
 //   converse.
@@ -34,6 +34,10 @@ pub use laws::{
     blocks_come_back, copies_are_whole, faultless_copies_fit, nothing_else_is_refused,
     parameters_lie_inside, unread_parts_do_not_matter,
 };
-pub use layout::{FIRST_REPLY_WORD, MOST_PARAMETERS, MOST_WORDS, REPLY_LENGTH};
+pub use layout::{
+    COUNT_WORD, FIRST_DESCRIPTOR, FIRST_REPLY_WORD, MOST_PARAMETERS, MOST_WORDS, REPLY_LENGTH,
+    is_end,
+};
+pub use packing::offset_of;
 pub use replies::{read_reply, replies_come_back, reply_words};
 pub use words::Words;

@@ -1,6 +1,6 @@
 -- The codes of a program stand at the numbers of their calls.
-use Rattle.std.specs.Prelude.{Option, None, Some, slice_index_or}
-use Rattle.std.proofs.Common.{◌≡◌, ◌∙◌, ℕ, ◌-◌, zero, suc, Bool, true, false, List, [], ◌∷◌, ◌++◌, map, refl, ap, sym}
+use Rattle.std.specs.Prelude.{Option, None, slice_index_or}
+use Rattle.std.proofs.Common.{◌≡◌, ℕ, ◌-◌, zero, suc, true, List, [], ◌∷◌, ◌++◌, map, refl}
 use Rattle.std.proofs.lemmas.Bool.{and_parts, false≢true}
 use Rattle.sb_call.specs.Tags.{number_of}
 use Rattle.sb_call.specs.declared.tags.CallTag.{CallTag}

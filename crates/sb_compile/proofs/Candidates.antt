@@ -1,8 +1,8 @@
 -- Judging by candidates leaves nothing out.
-use Rattle.std.specs.Prelude.{nat_le, slice_index_or}
+use Rattle.std.specs.Prelude.{slice_index_or}
 use Rattle.std.specs.List.{list_all}
 use Rattle.std.proofs.Common.{◌≡◌, ◌∙◌, ◌≤◌, ◌<◌, ◌+◌, ◌-◌, ℕ, zero, suc, Bool, true, false, cond, List, [], ◌∷◌, ◌&&◌, eqb, ltb, filter, length, map, drop, refl, ap, sym, subst, arith}
-use Rattle.std.proofs.lemmas.Bool.{and_parts, and_from, false≢true}
+use Rattle.std.proofs.lemmas.Bool.{and_parts, and_from}
 use Rattle.std.proofs.lemmas.Bool.Decides.{nat_tests}
 use Rattle.std.proofs.lemmas.List.{get_or-map, drop_more}
 use Rattle.sb_call.specs.Arguments.{fits, FittingArgsAreOfTheirKinds}
@@ -14,17 +14,15 @@ use Rattle.sb_rule.specs.Verdicts as rule
 use Rattle.sb_rule.specs.WellMade.{is_well_formed, is_well_made_rule}
 use Rattle.sb_rule.specs.declared.actions.Action.TheVariants.{Allow}
 use Rattle.sb_rule.specs.declared.policies.Rule.{Rule}
-use Rattle.sb_rule.specs.declared.verdicts.Verdict.{Verdict}
 use Rattle.sb_rule.specs.declared.verdicts.Verdict.TheVariants.{NoRule}
 use Rattle.sb_index.specs.Sets.{Has}
 use Rattle.sb_index.specs.Tables.{HasAllThatHold}
-use Rattle.sb_index.specs.declared.indexes.Index.{Index}
 use Rattle.sb_opcode.specs.Groups.{rules_of}
 use Rattle.sb_opcode.specs.Meaning.{action_of_rule, judged_by, rule_holds}
 use Rattle.sb_opcode.specs.Opcodes.{Opcode}
-use Rattle.sb_opcode.specs.Verified.{VerifiedCode}
-use Rattle.sb_compile.specs.Compiling.{code_of, is_for, rule_code}
-use Rattle.sb_compile.specs.Indexed.{CandidatesHaveEachThatHolds, CompiledRulesAreFew, HasEachThatHolds, IsCompiled}
+use Rattle.sb_compile.specs.Compiling.{code_of, rule_code}
+use Rattle.sb_rule.specs.Verdicts.{is_for}
+use Rattle.sb_compile.specs.Indexed.{CandidatesHaveEachThatHolds, CompiledRulesAreFew, HasEachThatHolds}
 use Rattle.sb_compile.proofs.Cuts.{is_formed, rules_are}
 use Rattle.sb_compile.proofs.Verdicts.{call_formed, rule_means, rules_formed, same_tag}
 
@@ -65,10 +63,10 @@ rules_mine tag rules ops h e = ap rules_of e ∙ rules_are (filter (is_for tag) 
 
 pub compiled_rules_are_few : CompiledRulesAreFew
 compiled_rules_are_few code index c =
-    let many : length (rules_of code.code) ≡ length (filter (is_for code.tag) c.rules) =
-    ap length (rules_mine code.tag c.rules code.code c.well_made c.codes) ∙ mapped rule_code (filter (is_for code.tag) c.rules)
+    let many : length (rules_of code.code) ≡ length (filter (is_for code.tag) index.rules) =
+    ap length (rules_mine code.tag index.rules code.code c.well_made c.codes) ∙ mapped rule_code (filter (is_for code.tag) index.rules)
     in
-    omega (arith, many, c.few, fewer (is_for code.tag) c.rules)
+    omega (arith, many, c.few, fewer (is_for code.tag) index.rules)
 
 -- a rule whose code holds, holds
 mine_holds : (kinds : FittingArgsAreOfTheirKinds) → TagsComeBack → (tag : CallTag) (args : List Arg) (r : Rule) → fits tag args ≡ true → is_formed r ≡ true
@@ -81,17 +79,18 @@ mine_holds kinds tags tag args r f formed mine h =
 
 pub candidates_have_each : FittingArgsAreOfTheirKinds → TagsComeBack → CandidatesHaveEachThatHolds
 candidates_have_each kinds tags code index c args set f has number within h =
-    let mine = filter (is_for code.tag) c.rules in
-    let cut : rules_of code.code ≡ map rule_code mine = rules_mine code.tag c.rules code.code c.well_made c.codes in
+    let mine = filter (is_for code.tag) index.rules in
+    let cut : rules_of code.code ≡ map rule_code mine = rules_mine code.tag index.rules code.code c.well_made c.codes in
     let many : length (rules_of code.code) ≡ length mine = ap length cut ∙ mapped rule_code mine in
     let inside : number < length mine = omega (arith, within, many) in
     let r = slice_index_or mine number some_rule in
     let is : slice_index_or (rules_of code.code) number [] ≡ rule_code r =
     ap (λ l. slice_index_or l number []) cut ∙ get_or-map rule_code mine number some_rule [] inside
     in
-    let formed : is_formed r ≡ true = at_passes is_formed mine number some_rule (call_formed code.tag c.rules (rules_formed c.rules c.well_made)) inside in
-    let mine_is : is_for code.tag r ≡ true = at_passes (is_for code.tag) mine number some_rule (all_mine code.tag c.rules) inside in
-    has number some_rule inside (mine_holds kinds tags code.tag args r f formed mine_is (sym (ap (rule_holds args) is) ∙ h))
+    let formed : is_formed r ≡ true = at_passes is_formed mine number some_rule (call_formed code.tag index.rules (rules_formed index.rules c.well_made)) inside in
+    let mine_is : is_for code.tag r ≡ true = at_passes (is_for code.tag) mine number some_rule (all_mine code.tag index.rules) inside in
+    let has_mine : HasAllThatHold index.rules code.tag args set = subst (λ t. HasAllThatHold index.rules t args set) c.tag has in
+    has_mine number some_rule inside (mine_holds kinds tags code.tag args r f formed mine_is (sym (ap (rule_holds args) is) ∙ h))
 
 all_dropped : (at : ℕ) (xs : List (List Opcode)) → length xs ≤ at → drop at xs ≡ []
 all_dropped zero [] e = refl

@@ -18,7 +18,8 @@ use Rattle.sb_opcode.specs.Groups.{is_act}
 use Rattle.sb_opcode.specs.Options.{has, NEGATE, CLEAR, OR, FOLD, EXACT, has_options}
 use Rattle.sb_opcode.specs.declared.faults.CodeFault.TheVariants.{NoAction, OpenGroup, BadParam}
 use Rattle.sb_opcode.specs.Opcodes.{Opcode}
-use Rattle.sb_compile.specs.Compiling.{closed, cond_code, rule_code, code_of, end_bits, is_for, with_options}
+use Rattle.sb_compile.specs.Compiling.{closed, cond_code, rule_code, code_of, end_bits, with_options}
+use Rattle.sb_rule.specs.Verdicts.{is_for}
 use Rattle.sb_compile.specs.Laws.{CompiledCodeIsFaultless}
 use Rattle.sb_compile.proofs.Ends.{is_plain, kept}
 use Rattle.sb_compile.proofs.Members.{is_member, are_members, member, both, same}

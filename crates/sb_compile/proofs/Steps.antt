@@ -15,7 +15,8 @@ use Rattle.sb_opcode.specs.Opcodes.{Opcode}
 use Rattle.sb_opcode.specs.Opcodes as op
 use Rattle.sb_opcode.specs.declared.opcodes.Seek.TheVariants.{Forward}
 use Rattle.sb_opcode.specs.Options.{OR, FOLD}
-use Rattle.sb_compile.specs.Compiling.{opcode, closed, cond_code, code_of, here, is_for, later_code, rule_code, or_true, runs_code}
+use Rattle.sb_compile.specs.Compiling.{opcode, closed, cond_code, code_of, here, later_code, rule_code, or_true, runs_code}
+use Rattle.sb_rule.specs.Verdicts.{is_for}
 use Rattle.sb_compile.specs.Steps.{last_if, is_none}
 use Rattle.sb_compile.proofs.Members.{both, is_placed_well}
 use Rattle.sb_compile.proofs.Runs.{runs_of}

@@ -13,13 +13,13 @@ use Rattle.sb_rule.specs.WellMade.{is_well_formed, is_well_made_rule, is_for_rea
 use Rattle.sb_rule.specs.declared.conditions.Cond.{Cond}
 use Rattle.sb_rule.specs.declared.policies.Policy.{Policy}
 use Rattle.sb_rule.specs.declared.policies.Rule.{Rule}
-use Rattle.sb_rule.specs.declared.verdicts.Verdict.{Verdict}
 use Rattle.sb_opcode.specs.Groups.{is_act}
 use Rattle.sb_opcode.specs.Opcodes.{Opcode}
 use Rattle.sb_opcode.specs.Opcodes.{OpKind}
 use Rattle.sb_opcode.specs.Opcodes as op
 use Rattle.sb_opcode.specs.Meaning.{group_holds, rule_holds, action_of_rule, judged_by, meaning}
-use Rattle.sb_compile.specs.Compiling.{cond_code, rule_code, code_of, code_in, is_for, program_of}
+use Rattle.sb_compile.specs.Compiling.{cond_code, rule_code, code_of, code_in, program_of}
+use Rattle.sb_rule.specs.Verdicts.{is_for}
 use Rattle.sb_compile.specs.Laws.{CompilingKeepsVerdicts}
 use Rattle.sb_compile.proofs.Conditions.{cond_means}
 use Rattle.sb_compile.proofs.Cuts.{no_acts, is_no, act_of, is_formed, conds_no_acts, groups_are, rules_are}

@@ -1,5 +1,5 @@
 -- The code of a policy: for each call the codes of its rules in order.
-use Rattle.std.specs.Prelude.{ℕ, ◌-◌, Bool, true, false, ◌==◌, bit_or, List, [], ◌∷◌, ◌++◌, drop, map, filter, slice_index_or, if◌then◌else◌}
+use Rattle.std.specs.Prelude.{ℕ, ◌-◌, Bool, true, false, bit_or, List, [], ◌∷◌, ◌++◌, drop, map, filter, slice_index_or, if◌then◌else◌}
 use Rattle.std.specs.List.{flat_map, prefix_len, slice_split}
 use Rattle.sb_call.specs.CallWords.{every_tag}
 use Rattle.sb_call.specs.Tags.{number_of}
@@ -14,6 +14,7 @@ use Rattle.sb_rule.specs.declared.conditions.Cond.{Cond}
 use Rattle.sb_rule.specs.declared.conditions.Test.{Test}
 use Rattle.sb_rule.specs.declared.conditions.Test.TheVariants as test
 use Rattle.sb_rule.specs.declared.policies.Policy.{Policy}
+use Rattle.sb_rule.specs.Verdicts.{is_for}
 use Rattle.sb_rule.specs.declared.policies.Rule.{Rule}
 use Rattle.sb_rule.specs.declared.verdicts.Verdict.{Verdict}
 use Rattle.sb_opcode.specs.Options.{options_of, NEGATE, CLEAR, OR, FOLD, EXACT}
@@ -99,10 +100,6 @@ cond_code cond = closed cond.negated (test_code cond.param cond.test)
 -- the code of a rule: a group for each condition, and the action
 abbrev pub rule_code : Rule → List Opcode
 rule_code rule = flat_map cond_code rule.conds ++ opcode 0 0 (op.Act rule.action rule.line) ∷ []
-
--- the rule is for the calls of this tag
-abbrev pub is_for : CallTag → Rule → Bool
-is_for tag rule = number_of rule.tag == number_of tag
 
 -- the code of a call; a call without rules has none
 abbrev pub code_of : List Rule → CallTag → List Opcode

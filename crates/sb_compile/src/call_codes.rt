@@ -14,8 +14,8 @@ use crate::laws::{candidates_have_each_that_holds, compiled_rules_are_few};
 use sb_call::{Arg, CallTag};
 use sb_index::{Index, RuleSet};
 use sb_items::NoMemory;
-use sb_opcode::{Code, RuleCodes, Verified, eval};
-use sb_rule::{Rule, Verdict};
+use sb_opcode::{Code, RuleCodes, Verified};
+use sb_rule::{Rules, Verdict};
 use std::alloc::Global;
 use std::marker::Model;
 
@@ -48,7 +48,7 @@ impl Model for CallCode {
 // The index of the rules for a tag, if there are enough of them and it can leave out some.
 fn index_of(
     alloc: Global,
-    rules: &[Rule],
+    rules: &Rules,
     tag: CallTag,
     code: &RuleCodes,
 ) -> Result<Option<Index>, NoMemory>
@@ -62,10 +62,10 @@ fn index_of(
         return Ok(None);
     }
     let index = Index::new(alloc, rules, tag)?;
-    if index.tells() {
-        Ok(Some(index))
-    } else {
+    if index.is_empty() {
         Ok(None)
+    } else {
+        Ok(Some(index))
     }
 }
 
@@ -74,12 +74,7 @@ impl CallCode {
     ///
     /// # Errors
     /// `NoMemory` if there was none for the places of the rules or the index.
-    pub fn new(
-        alloc: Global,
-        rules: &[Rule],
-        tag: CallTag,
-        code: Code,
-    ) -> Result<CallCode, NoMemory>
+    pub fn new(alloc: Global, rules: &Rules, tag: CallTag, code: Code) -> Result<CallCode, NoMemory>
         requires few { length rules.now ≤ most_rules }
         requires well_made { list_all is_well_made_rule rules.now ≡ true }
         requires code { code ≡ code_of rules.now tag }
@@ -106,8 +101,7 @@ impl CallCode {
     {
         match &self.index {
             Some(index) => judge_by(&self.rules, index, args),
-            None if self.rules.len() > 1 => judge_each(&self.rules, args),
-            None => eval(self.rules.code(), args),
+            None => judge_each(&self.rules, args),
         }
     }
 }

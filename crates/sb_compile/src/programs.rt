@@ -53,7 +53,7 @@ fn compile_call(alloc: Global, policy: &Policy, tag: CallTag) -> Result<Option<C
     ensures memory { OnErr result (code_of policy.now.rules tag ≢ []) }
 {
     compiled_code_is_faultless();
-    let rules = policy.rules.as_slice();
+    let rules = &policy.rules;
     let code = code_of(alloc, rules, tag)?;
     if code.is_empty() {
         return Ok(None);

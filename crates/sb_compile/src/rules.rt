@@ -13,7 +13,7 @@ use crate::groups::{Group, push};
 use crate::numbers::push_numbers;
 use crate::patterns::push_pattern;
 use bitflags::Flags;
-use sb_call::{CallTag, number_of};
+use sb_call::CallTag;
 use sb_items::NoMemory;
 use sb_opcode::{Code, OpKind, Options};
 use sb_rule::{Cond, Rule, Test};
@@ -91,7 +91,7 @@ pub(crate) fn code_of(alloc: Global, rules: &[Rule], tag: CallTag) -> Result<Cod
     let mut code = Code::new(alloc);
     let mut rest = rules;
     while let Some((rule, later)) = rest.split_first() {
-        if number_of(rule.tag) == number_of(tag) {
+        if rule.is_for(tag) {
             push_rule(&mut code, rule)?;
         }
         rest = later;

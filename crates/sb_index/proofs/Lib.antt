@@ -2,7 +2,9 @@ pub mod SetLemmas
 pub mod FrontLemmas
 pub mod PassLemmas
 pub mod ValueLemmas
+pub mod BoundLemmas
 pub mod SlotLemmas
 pub mod MarkLemmas
 pub mod BucketLemmas
 pub mod TableLemmas
+pub mod SizeLemmas

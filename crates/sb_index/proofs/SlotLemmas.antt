@@ -1,12 +1,17 @@
 -- Slots between rising bounds.
-use Rattle.std.proofs.Common.{◌≡◌, ◌∙◌, ◌≤◌, ◌<◌, ◌+◌, ◌-◌, ◌^◌, ℕ, zero, suc, Bool, true, false, cond, List, [], ◌∷◌, ◌++◌, ◌&&◌, eqb, ltb, length, refl, ap, sym, arith}
+use Rattle.std.proofs.Common.{◌≡◌, ◌∙◌, ◌≤◌, ◌<◌, ◌+◌, ◌-◌, ◌^◌, ℕ, zero, suc, Bool, true, false, cond, List, [], ◌∷◌, ◌++◌, ◌&&◌, ◌||◌, eqb, ltb, length, take, refl, ap, sym, arith}
 use Rattle.std.specs.Prelude.{nat_le, slice_index_or}
-use Rattle.std.proofs.lemmas.Bool.{and_parts}
+use Rattle.std.specs.List.{list_all, list_any}
+use Rattle.sb_rule.specs.declared.conditions.Cond.{Cond}
+use Rattle.sb_index.specs.declared.questions.Feature.{Feature}
+use Rattle.sb_index.specs.declared.questions.Question.TheVariants.{Within}
+use Rattle.std.proofs.lemmas.Bool.{and_parts, eqb-true, false≢true}
 use Rattle.std.proofs.lemmas.Bool.Decides.{nat_tests}
-use Rattle.std.proofs.lemmas.List.{get_or_append_left, get_or_push, length-append}
+use Rattle.std.proofs.lemmas.List.{get_or_append_left, get_or_push, length-append, take_more}
+use Rattle.std.proofs.lemmas.List.Folds.{list_any-append}
 use Rattle.sb_index.specs.Bounds.{IsRising, first_of, last_of}
-use Rattle.sb_index.specs.Questions.{lies}
-use Rattle.sb_index.proofs.SetLemmas.{not_less}
+use Rattle.sb_index.specs.Questions.{cond_may_pass, lies}
+use Rattle.sb_index.proofs.SetLemmas.{differ, not_less}
 
 -- the first number of a slot that is not the first
 first_after : (bounds : List ℕ) (slot : ℕ) → first_of bounds (suc slot) ≡ slice_index_or bounds slot 0
@@ -78,18 +83,6 @@ in_order bounds rising slot other n within first last = by (ltb slot other) refl
         absurd (omega (arith, apart bounds rising slot other less within, first, last))
     by false t = not_less slot other t
 
--- the slots of the numbers from one to another lie between theirs
-pub between : (bounds : List ℕ) → IsRising bounds → (lo hi first last slot : ℕ) → first ≤ length bounds → first_of bounds first ≤ lo → hi ≤ last_of bounds last
-    → slot ≤ length bounds → (nat_le lo (last_of bounds slot) && nat_le (first_of bounds slot) hi) ≡ true → (first ≤ slot) × (slot ≤ last)
-between bounds rising lo hi first last slot within low high inside h =
-    let p = and_parts (nat_le lo (last_of bounds slot)) (nat_le (first_of bounds slot) hi) h in (
-      in_order bounds rising slot first lo within low (le lo (last_of bounds slot) p.0),
-      in_order bounds rising last slot hi inside (le (first_of bounds slot) hi p.1) high,
-    )
-  where
-    le : (a b : ℕ) → nat_le a b ≡ true → a ≤ b
-    le a b h = grind (arith, nat_tests, h)
-
 -- a number lies in its slot alone
 pub same_slot : (bounds : List ℕ) → IsRising bounds → (n slot other : ℕ) → other ≤ length bounds → first_of bounds other ≤ n → n ≤ last_of bounds other
     → slot ≤ length bounds → lies (first_of bounds slot) (last_of bounds slot) n ≡ true → other ≡ slot
@@ -99,3 +92,136 @@ same_slot bounds rising n slot other within first last inside h =
   where
     le : (a b : ℕ) → nat_le a b ≡ true → a ≤ b
     le a b h = grind (arith, nat_tests, h)
+
+-- a number that does not lie after a slot does not lie after a later one
+not_after : (bounds : List ℕ) → IsRising bounds → (n slot other : ℕ) → n < 2 ^ 64 → slot ≤ other → other ≤ length bounds → n ≤ last_of bounds slot
+    → n ≤ last_of bounds other
+not_after bounds rising n slot other small h within le = by (eqb slot other) refl (ltb other (length bounds)) refl
+  where
+    by : (b : Bool) → eqb slot other ≡ b → (i : Bool) → ltb other (length bounds) ≡ i → n ≤ last_of bounds other
+    by true t i f = let same : slot ≡ other = eqb-true slot other t in omega (arith, le, ap (last_of bounds) same)
+    by false t true f =
+        let less : slot < other = grind (arith, nat_tests, t, h) in
+        let inside : other < length bounds = grind (arith, nat_tests, f) in
+        omega (arith, le, apart bounds rising slot other less within, rising other inside, last_inside bounds other inside)
+    by false t false f = omega (arith, small, ap (λ b. cond b (slice_index_or bounds other 0 - 1) (2 ^ 64 - 1)) f)
+
+-- a range is in the slots from that of its first number to that of its last
+pub run_is : (bounds : List ℕ) → IsRising bounds → (lo hi first last slot : ℕ) → lo < 2 ^ 64 → first ≤ length bounds → last ≤ length bounds
+    → first_of bounds first ≤ lo → lo ≤ last_of bounds first → first_of bounds last ≤ hi → hi ≤ last_of bounds last → slot ≤ length bounds
+    → (nat_le first slot && nat_le slot last) ≡ (nat_le lo (last_of bounds slot) && nat_le (first_of bounds slot) hi)
+run_is bounds rising lo hi first last slot small within inside low low_end high high_end here =
+    ap (λ b. b && nat_le slot last) (left (nat_le first slot) refl)
+    ∙ ap (λ b. nat_le lo (last_of bounds slot) && b) (right (nat_le slot last) refl)
+  where
+    yes : (a b : ℕ) → a ≤ b → true ≡ nat_le a b
+    yes a b h = grind (arith, nat_tests, h)
+
+    no : (a b : ℕ) → b < a → false ≡ nat_le a b
+    no a b h = grind (arith, nat_tests, h)
+
+    le : (a b : ℕ) → nat_le a b ≡ true → a ≤ b
+    le a b h = grind (arith, nat_tests, h)
+
+    lt : (a b : ℕ) → nat_le a b ≡ false → b < a
+    lt a b h = grind (arith, nat_tests, h)
+
+    left : (b : Bool) → nat_le first slot ≡ b → nat_le first slot ≡ nat_le lo (last_of bounds slot)
+    left true t = t ∙ yes lo (last_of bounds slot) (not_after bounds rising lo first slot small (le first slot t) here low_end)
+    left false t = t ∙ no lo (last_of bounds slot) (omega (arith, low, apart bounds rising slot first (lt first slot t) within))
+
+    right : (b : Bool) → nat_le slot last ≡ b → nat_le slot last ≡ nat_le (first_of bounds slot) hi
+    right true t =
+        let le : slot ≤ last = le slot last t in
+        let gap : slot + (last - slot) ≡ last = omega (arith, le) in
+        let rise = up bounds rising slot (last - slot) (omega (arith, gap, inside)) in
+        t ∙ yes (first_of bounds slot) hi (omega (arith, rise, ap (first_of bounds) gap, high))
+    right false t = t ∙ no (first_of bounds slot) hi (omega (arith, high_end, apart bounds rising last slot (lt slot last t) here))
+
+-- a number and a test of slots: both hold in the slot of the number, if the test does there
+pub slot_here : (bounds : List ℕ) → IsRising bounds → (n at slot : ℕ) (test : ℕ → Bool) (b : Bool) → at ≤ length bounds → first_of bounds at ≤ n → n ≤ last_of bounds at
+    → slot ≤ length bounds → test at ≡ b → (eqb slot at && b) ≡ (lies (first_of bounds slot) (last_of bounds slot) n && test slot)
+slot_here bounds rising n at slot test b within first last inside e = by (eqb slot at) refl (lies (first_of bounds slot) (last_of bounds slot) n) refl
+  where
+    lying : (a n c : ℕ) → a ≤ n → n ≤ c → lies a c n ≡ true
+    lying a n c h g = grind (arith, nat_tests, h, g)
+
+    by : (q : Bool) → eqb slot at ≡ q → (l : Bool) → lies (first_of bounds slot) (last_of bounds slot) n ≡ l → (q && b) ≡ (l && test slot)
+    by true t true f = sym (ap test (eqb-true slot at t) ∙ e)
+    by true t false f =
+        let same : slot ≡ at = eqb-true slot at t in
+        let yes : lies (first_of bounds slot) (last_of bounds slot) n ≡ true =
+        lying (first_of bounds slot) n (last_of bounds slot) (omega (arith, first, ap (first_of bounds) same)) (omega (arith, last, ap (last_of bounds) same)) in
+        absurd (false≢true (sym f ∙ yes))
+    by false t true f =
+        let same = same_slot bounds rising n slot at within first last inside f in
+        absurd (differ slot at t (sym same))
+    by false t false f = refl
+
+-- a rule in the slot of a number
+pub point_marked : (new old e q : Bool) (x y : Bool) → new ≡ (old || (e && q)) → (q && true) ≡ (x && y) → new ≡ (old || (e && (x && y)))
+point_marked new old e q x y is same = is ∙ ap (λ b. old || (e && b)) (both q ∙ same)
+  where
+    both : (q : Bool) → q ≡ (q && true)
+    both true = refl
+    both false = refl
+
+pub no_point_marked : (old e q : Bool) (x y : Bool) → (q && false) ≡ (x && y) → old ≡ (old || (e && (x && y)))
+no_point_marked old e q x y same = sym (ap (λ b. old || (e && b)) (sym same) ∙ by old e q)
+  where
+    by : (o e q : Bool) → (o || (e && (q && false))) ≡ o
+    by true e q = refl
+    by false true true = refl
+    by false true false = refl
+    by false false q = refl
+
+-- one number more
+pub number_put : (first last : ℕ) (numbers : List ℕ) (i n : ℕ) (start old new e p : Bool) → i < length numbers → n ≡ slice_index_or numbers i n
+    → old ≡ (start || (e && (list_any (lies first last) (take i numbers) && p))) → new ≡ (old || (e && (lies first last n && p)))
+    → new ≡ (start || (e && (list_any (lies first last) (take (i + 1) numbers) && p)))
+number_put first last numbers i n start old new e p h is before put =
+    let more : take (i + 1) numbers ≡ take i numbers ++ n ∷ [] = take_more numbers i n h ∙ ap (λ y. take i numbers ++ y ∷ []) (sym is) in
+    put ∙ ap (λ b. b || (e && (lies first last n && p))) before
+    ∙ parts start e (list_any (lies first last) (take i numbers)) (lies first last n) p
+    ∙ ap (λ b. start || (e && (b && p))) (sym (ap (list_any (lies first last)) more ∙ list_any-append (lies first last) (take i numbers) (n ∷ [])))
+  where
+    parts : (s e a l p : Bool) → ((s || (e && (a && p))) || (e && (l && p))) ≡ (s || (e && ((a || (l || false)) && p)))
+    parts true e a l p = refl
+    parts false false a l p = refl
+    parts false true true true true = refl
+    parts false true true false true = refl
+    parts false true true l false = refl_by l
+      where
+        refl_by : (l : Bool) → (false || (l && false)) ≡ false
+        refl_by true = refl
+        refl_by false = refl
+    parts false true false true p = refl
+    parts false true false false p = refl
+
+pub no_number : (start e p : Bool) → start ≡ (start || (e && (false && p)))
+no_number true e p = refl
+no_number false true p = refl
+no_number false false p = refl
+
+-- a rule with a list of numbers passes in no slot without one of them
+pub list_marked : (new old e x p : Bool) → new ≡ (old || (e && (x && p))) → (p ≡ true → x ≡ true) → new ≡ (old || (e && p))
+list_marked new old e x p is h = is ∙ ap (λ b. old || (e && b)) (by p refl)
+  where
+    by : (b : Bool) → p ≡ b → (x && p) ≡ p
+    by true t = ap (λ y. y && p) (h t)
+    by false t = ap (λ y. x && y) t ∙ none x ∙ sym t
+      where
+        none : (x : Bool) → (x && false) ≡ false
+        none true = refl
+        none false = refl
+
+-- whether conditions pass the question of a slot
+abbrev pub slot_test : Feature → List ℕ → List Cond → ℕ → Bool
+slot_test feature bounds conds slot = list_all (cond_may_pass (Within feature (first_of bounds slot) (last_of bounds slot))) conds
+
+-- a rule that passes everywhere is in all slots
+pub everywhere : (slots slot : ℕ) (new old e p : Bool) → slot ≤ slots → new ≡ (old || (e && (nat_le 0 slot && nat_le slot slots))) → p ≡ true → new ≡ (old || (e && p))
+everywhere slots slot new old e p h is all = is ∙ ap (λ b. old || (e && b)) (within slot slots h ∙ sym all)
+  where
+    within : (slot slots : ℕ) → slot ≤ slots → (nat_le 0 slot && nat_le slot slots) ≡ true
+    within slot slots h = grind (arith, nat_tests, h)

@@ -1,43 +1,50 @@
 -- Tables and buckets keep the rules that hold.
-use Rattle.std.proofs.Common.{◌≡◌, ◌∙◌, ◌≤◌, ◌<◌, ◌+◌, ℕ, Bool, true, false, not, cond, List, [], ◌∷◌, ◌++◌, ltb, length, take, refl, ap, sym, subst, arith}
-use Rattle.std.specs.Int.{bit_at}
-use Rattle.std.specs.List.{list_any}
-use Rattle.std.proofs.lemmas.List.{get_or_append_left, get_or_push, length-append, take_more}
+use Rattle.std.proofs.Common.{◌≡◌, ◌∙◌, ◌≤◌, ◌<◌, ◌+◌, ℕ, zero, suc, not, Bool, true, false, cond, List, [], ◌∷◌, ◌++◌, ◌&&◌, ◌||◌, eqb, ltb, length, take, refl, ap, sym, subst, arith}
+use Rattle.std.proofs.lemmas.List.{get_or_append_left, get_or_default, get_or_push, length-append, take_more}
 use Rattle.std.specs.Prelude.{slice_index_or}
 use Rattle.std.proofs.lemmas.Bool.Decides.{nat_tests}
-use Rattle.sb_call.specs.Arguments.{arg_at}
 use Rattle.sb_call.specs.declared.arguments.Arg.{Arg}
 use Rattle.sb_call.specs.declared.tags.CallTag.{CallTag}
 use Rattle.sb_rule.specs.declared.policies.Rule.{Rule}
-use Rattle.sb_index.proofs.SetLemmas.{not_less}
+use Rattle.std.proofs.lemmas.Bool.{and_parts}
+use Rattle.sb_index.proofs.SetLemmas.{not_less, or_false}
 use Rattle.sb_index.specs.Bounds.{first_of, last_of}
 use Rattle.sb_index.specs.Laws.{RulesThatHoldPass}
 use Rattle.sb_index.specs.Questions.{is_in_bucket, lies, value_of, may_pass, meets, units_in}
-use Rattle.sb_index.specs.Sets.{Has}
-use Rattle.sb_index.specs.Tables.{AreBuckets, Covers, HasAllThatHold, IsTable, is_for, rules_for}
+use Rattle.sb_index.specs.Marks.{AreMarked, is_marked}
+use Rattle.sb_index.specs.Sets.{has, Has}
+use Rattle.sb_index.specs.declared.marks.Marks.{Marks}
+use Rattle.sb_index.specs.Tables.{AreBuckets, AreNeeded, AreSlots, AreTables, HasAllThatHold, IsTable, PassTables, PassesTable, Selects, rules_for}
+use Rattle.sb_index.specs.declared.tables.Table.{Table}
+use Rattle.sb_call.specs.Arguments.{arg_at}
+use Rattle.std.specs.Int.{bit_at}
+use Rattle.std.specs.List.{list_any}
+use Rattle.std.proofs.lemmas.Nat.Bits.{bit_at-lt}
+use Rattle.sb_rule.specs.Verdicts.{is_for, rule_holds}
+use Rattle.sb_index.specs.declared.questions.Feature.{Feature}
 use Rattle.sb_index.specs.declared.questions.Question.{Question}
 use Rattle.sb_index.specs.declared.questions.Question.TheVariants.{Within, Without}
-use Rattle.sb_index.specs.declared.tables.Table.{Table}
 
--- a set that covers a question that the arguments meet has the rules that hold
-pub covered : RulesThatHoldPass → (rules : List Rule) (tag : CallTag) (args : List Arg) (question : Question) (set : List ℕ) → Covers rules tag question set
+-- a set that selects a question that the arguments meet has the rules that hold
+pub selected : RulesThatHoldPass → (rules : List Rule) (tag : CallTag) (args : List Arg) (question : Question) (set : List ℕ) → Selects rules tag question set
     → meets question args ≡ true → HasAllThatHold rules tag args set
-covered pass rules tag args question set covers m j d h holds = covers j d h (pass question (slice_index_or (rules_for tag rules) j d) tag args holds m)
+selected pass rules tag args question set selects m j d h holds =
+    selects j d h ∙ pass question (slice_index_or (rules_for tag rules) j d) tag args holds m
 
-pub lies_within : (first last value : ℕ) → first ≤ value → value ≤ last → lies first last value ≡ true
+lies_within : (first last value : ℕ) → first ≤ value → value ≤ last → lies first last value ≡ true
 lies_within first last value h k = grind (arith, nat_tests, h, k)
 
-pub narrowed : RulesThatHoldPass → (rules : List Rule) (tag : CallTag) (args : List Arg) (table : Table) (slot : ℕ) → IsTable rules tag table
-    → slot < length table.sets.items → first_of table.bounds slot ≤ value_of table.feature args → value_of table.feature args ≤ last_of table.bounds slot
-    → (e : List ℕ) → HasAllThatHold rules tag args (slice_index_or table.sets.items slot e)
-narrowed pass rules tag args table slot is within first last e =
-    covered pass rules tag args (Within table.feature (first_of table.bounds slot) (last_of table.bounds slot)) (slice_index_or table.sets.items slot e)
-    (is.1 slot e within) (lies_within (first_of table.bounds slot) (last_of table.bounds slot) (value_of table.feature args) first last)
+pub slot_found : (feature : Feature) (args : List Arg) (bounds : List ℕ) (slot value : ℕ) → value ≡ value_of feature args
+    → first_of bounds slot ≤ value → value ≤ last_of bounds slot → meets (Within feature (first_of bounds slot) (last_of bounds slot)) args ≡ true
+slot_found feature args bounds slot value is first last =
+    ap (lies (first_of bounds slot) (last_of bounds slot)) (sym is) ∙ lies_within (first_of bounds slot) (last_of bounds slot) value first last
 
--- what two sets have in common
-pub both_hold : (rules : List Rule) (tag : CallTag) (args : List Arg) (old other new : List ℕ) → ((k : ℕ) → Has old k → Has other k → Has new k)
-    → HasAllThatHold rules tag args old → HasAllThatHold rules tag args other → HasAllThatHold rules tag args new
-both_hold rules tag args old other new common a b j d h holds = common j (a j d h holds) (b j d h holds)
+-- a number is in what two sets have in common exactly if both have it
+pub common : (set old other : Bool) → set ≡ (old && other) → set ≡ true → (old ≡ true) × (other ≡ true)
+common set old other is h = and_parts old other (sym is ∙ h)
+
+pub in_both : (set old other : Bool) → set ≡ (old && other) → old ≡ true → other ≡ true → set ≡ true
+in_both set old other is h g = is ∙ (λ i. h i && g i)
 
 -- one rule more
 for_more : (tag : CallTag) (xs : List Rule) (r : Rule) → rules_for tag (xs ++ r ∷ []) ≡ cond (is_for tag r) (rules_for tag xs ++ r ∷ []) (rules_for tag xs)
@@ -54,23 +61,31 @@ for_more tag (x ∷ xs) r = by (is_for tag x) (for_more tag xs r)
     by true e = ap (λ l. x ∷ l) e ∙ first (is_for tag r)
     by false e = e
 
--- each of these rules that passes is a member
-abbrev Has_passing : Question → List Rule → (ℕ → Type 0) → Type 0
-Has_passing question mine P = (j : ℕ) (d : Rule) → j < length mine → may_pass question (slice_index_or mine j d) ≡ true → P j
+-- the set has exactly those of these rules that pass
+abbrev Has_passing : Question → List Rule → (ℕ → Bool) → Type 0
+Has_passing question mine P = (j : ℕ) (d : Rule) → j < length mine → P j ≡ may_pass question (slice_index_or mine j d)
 
-put_more : (question : Question) (mine : List Rule) (r : Rule) (b : Bool) (at : ℕ) (P Q : ℕ → Type 0) → at ≡ length mine → Has_passing question mine P
-    → ((k : ℕ) → P k → Q k) → (b ≡ true → may_pass question r ≡ true → Q at) → Has_passing question (cond b (mine ++ r ∷ []) mine) Q
-put_more question mine r false at P Q e old kept added j d h m = kept j (old j d h m)
-put_more question mine r true at P Q e old kept added j d h m = by (ltb j (length mine)) refl
+not_last : (j at : ℕ) → j < at → eqb j at ≡ false
+not_last j at h = grind (arith, nat_tests, h)
+
+self_equal : (j : ℕ) → eqb j j ≡ true
+self_equal j = grind (arith, nat_tests)
+
+put_more : (question : Question) (mine : List Rule) (r : Rule) (b : Bool) (at : ℕ) (P Q : ℕ → Bool) → at ≡ length mine → Has_passing question mine P
+    → P at ≡ false → ((k : ℕ) → Q k ≡ (P k || (b && (eqb k at && may_pass question r)))) → Has_passing question (cond b (mine ++ r ∷ []) mine) Q
+put_more question mine r false at P Q e old none put j d h = put j ∙ or_false (P j) ∙ old j d h
+put_more question mine r true at P Q e old none put j d h = by (ltb j (length mine)) refl
   where
-    by : (b : Bool) → ltb j (length mine) ≡ b → Q j
+    by : (b : Bool) → ltb j (length mine) ≡ b → Q j ≡ may_pass question (slice_index_or (mine ++ r ∷ []) j d)
     by true t =
         let inside : j < length mine = grind (arith, nat_tests, t) in
-        kept j (old j d inside (ap (may_pass question) (sym (get_or_append_left mine (r ∷ []) d j inside)) ∙ m))
+        put j ∙ ap (λ b. P j || (true && (b && may_pass question r))) (not_last j at (omega (arith, inside, e))) ∙ or_false (P j)
+        ∙ old j d inside ∙ ap (may_pass question) (sym (get_or_append_left mine (r ∷ []) d j inside))
     by false t =
         let last : j ≡ at = omega (arith, e, h, length-append mine (r ∷ []), not_less j (length mine) t) in
         let is : slice_index_or (mine ++ r ∷ []) j d ≡ r = get_or_push mine r d j (sym (last ∙ e)) in
-        subst Q (sym last) (added refl (ap (may_pass question) (sym is) ∙ m))
+        put j ∙ ap (λ b. P j || (true && (b && may_pass question r))) (ap (λ n. eqb n at) last ∙ self_equal at)
+        ∙ ap (λ b. b || (true && (true && may_pass question r))) (ap P last ∙ none) ∙ ap (may_pass question) (sym is)
 
 counted : (b : Bool) (at : ℕ) (mine : List Rule) (r : Rule) → at ≡ length mine → cond b (at + 1) at ≡ length (cond b (mine ++ r ∷ []) mine)
 counted true at mine r e = omega (arith, e, length-append mine (r ∷ []))
@@ -95,13 +110,50 @@ next_put rules tag i r at next h is e most n = (
   subst (λ m. m ≤ i + 1) (sym n) (at_most (is_for tag r) at i most),
 )
 
--- what holds of each rule that passes, after one rule more
-pub rule_put : (rules : List Rule) (tag : CallTag) (question : Question) (i : ℕ) (r : Rule) (at : ℕ) (P Q : ℕ → Type 0) → i < length rules
+-- the set after one rule more
+pub rule_put : (rules : List Rule) (tag : CallTag) (question : Question) (i : ℕ) (r : Rule) (at : ℕ) (P Q : ℕ → Bool) → i < length rules
     → r ≡ slice_index_or rules i r → at ≡ length (rules_for tag (take i rules)) → Has_passing question (rules_for tag (take i rules)) P
-    → ((k : ℕ) → P k → Q k) → (is_for tag r ≡ true → may_pass question r ≡ true → Q at)
+    → P at ≡ false → ((k : ℕ) → Q k ≡ (P k || (is_for tag r && (eqb k at && may_pass question r))))
     → Has_passing question (rules_for tag (take (i + 1) rules)) Q
-rule_put rules tag question i r at P Q h is e old kept added =
-    subst (λ l. Has_passing question l Q) (sym (mine_more rules tag i r h is)) (put_more question (rules_for tag (take i rules)) r (is_for tag r) at P Q e old kept added)
+rule_put rules tag question i r at P Q h is e old none put =
+    subst (λ l. Has_passing question l Q) (sym (mine_more rules tag i r h is)) (put_more question (rules_for tag (take i rules)) r (is_for tag r) at P Q e old none put)
+
+-- the numbers of the rules to come are in no set
+pub none_put : (tag : CallTag) (r : Rule) (at next k : ℕ) (question : Question) (P Q : ℕ → Bool) → next ≡ cond (is_for tag r) (at + 1) at → next ≤ k
+    → (at ≤ k → P k ≡ false) → Q k ≡ (P k || (is_for tag r && (eqb k at && may_pass question r))) → Q k ≡ false
+none_put tag r at next k question P Q is le none put = by (is_for tag r) is put
+  where
+    by : (b : Bool) → next ≡ cond b (at + 1) at → Q k ≡ (P k || (b && (eqb k at && may_pass question r))) → Q k ≡ false
+    by true is put =
+        let more : at < k = omega (arith, is, le) in
+        put ∙ ap (λ b. P k || (true && (b && may_pass question r))) (after at k more) ∙ or_false (P k) ∙ none (omega (arith, more))
+      where
+        after : (at k : ℕ) → at < k → eqb k at ≡ false
+        after at k h = grind (arith, nat_tests, h)
+    by false is put = put ∙ or_false (P k) ∙ none (omega (arith, is, le))
+
+-- what each of the rules for a tag passes, after one rule more
+abbrev All_pass : Question → List Rule → Type 0
+All_pass question mine = (j : ℕ) (d : Rule) → j < length mine → may_pass question (slice_index_or mine j d) ≡ true
+
+one_passes : (question : Question) (mine : List Rule) (r : Rule) (b : Bool) → All_pass question mine → (b ≡ true → may_pass question r ≡ true)
+    → All_pass question (cond b (mine ++ r ∷ []) mine)
+one_passes question mine r false old new j d h = old j d h
+one_passes question mine r true old new j d h = by (ltb j (length mine)) refl
+  where
+    by : (b : Bool) → ltb j (length mine) ≡ b → may_pass question (slice_index_or (mine ++ r ∷ []) j d) ≡ true
+    by true t =
+        let inside : j < length mine = grind (arith, nat_tests, t) in
+        ap (may_pass question) (get_or_append_left mine (r ∷ []) d j inside) ∙ old j d inside
+    by false t =
+        let last : j ≡ length mine = omega (arith, h, length-append mine (r ∷ []), not_less j (length mine) t) in
+        ap (may_pass question) (get_or_push mine r d j (sym last)) ∙ new refl
+
+pub rule_passes : (rules : List Rule) (tag : CallTag) (question : Question) (i : ℕ) (r : Rule) → i < length rules → r ≡ slice_index_or rules i r
+    → All_pass question (rules_for tag (take i rules)) → (is_for tag r ≡ true → may_pass question r ≡ true)
+    → All_pass question (rules_for tag (take (i + 1) rules))
+rule_passes rules tag question i r h is old new =
+    subst (All_pass question) (sym (mine_more rules tag i r h is)) (one_passes question (rules_for tag (take i rules)) r (is_for tag r) old new)
 
 -- there are no more rules for a tag than rules
 pub fewer : (tag : CallTag) (rules : List Rule) → length (rules_for tag rules) ≤ length rules
@@ -112,15 +164,107 @@ fewer tag (r ∷ rules) = by (is_for tag r) (fewer tag rules)
     by true e = omega (arith, e)
     by false e = omega (arith, e)
 
--- a bucket whose bit is 0 has no unit of the string
-absent : (b : Bool) (bit : ℕ) → bit ≡ cond b 1 0 → bit ≡ 0 → not b ≡ true
-absent true bit e none = absurd (omega (arith, e, none))
-absent false bit e none = refl
+-- the sets of the slots
+pub slots_selected : (rules : List Rule) (tag : CallTag) (feature : Feature) (bounds : List ℕ) (marks : Marks) (sets : List (List ℕ)) (slots : ℕ)
+    → AreMarked rules tag feature bounds marks → slots ≡ length bounds + 1 → length sets ≡ slots
+    → ((slot : ℕ) (k : ℕ) → slot < slots → has (slice_index_or sets slot []) k ≡ is_marked marks slot k) → AreSlots rules tag feature bounds sets
+slots_selected rules tag feature bounds marks sets slots marked n many is slot e within j d h =
+    ap (λ s. has s j) (sym (get_or_default sets slot [] e within)) ∙ is slot j (omega (arith, within, many))
+    ∙ marked slot (omega (arith, within, many, n)) j d h
 
-pub bucket_narrowed : RulesThatHoldPass → (rules : List Rule) (tag : CallTag) (args : List Arg) (param bucket bits : ℕ) (sets : List (List ℕ))
-    → AreBuckets rules tag param sets → bucket < length sets
-    → bit_at bits bucket ≡ cond (list_any (is_in_bucket bucket) (units_in (arg_at args param))) 1 0
-    → bit_at bits bucket ≡ 0 → (set : List ℕ) → set ≡ slice_index_or sets bucket set → HasAllThatHold rules tag args set
-bucket_narrowed pass rules tag args param bucket bits sets are within bit none set is =
-    covered pass rules tag args (Without param bucket) set (subst (Covers rules tag (Without param bucket)) (sym is) (are bucket set within))
-    (absent (list_any (is_in_bucket bucket) (units_in (arg_at args param))) (bit_at bits bucket) bit none)
+-- the set of all rules
+pub all_at_first : (rules : List Rule) (tag : CallTag) (args : List Arg) (set : List ℕ) → length rules ≤ 256 → ((k : ℕ) → has set k ≡ ltb k 256)
+    → HasAllThatHold rules tag args set
+all_at_first rules tag args set few all j d h holds = all j ∙ below j (omega (arith, h, few, fewer tag rules))
+  where
+    below : (j : ℕ) → j < 256 → ltb j 256 ≡ true
+    below j h = grind (arith, nat_tests, h)
+
+-- each of the rules for the tag in the set passes each of the first tables
+abbrev pub PassUpTo : List Rule → CallTag → List Table → ℕ → List Arg → List ℕ → Type 0
+PassUpTo rules tag tables n args set = (j : ℕ) (d : Rule) → j < length (rules_for tag rules) → Has set j
+    → (i : ℕ) (t : Table) → i < length tables → i < n → PassesTable (slice_index_or tables i t) args (slice_index_or (rules_for tag rules) j d)
+
+pub none_up_to : (rules : List Rule) (tag : CallTag) (tables : List Table) (args : List Arg) (set : List ℕ) → PassUpTo rules tag tables 0 args set
+none_up_to rules tag tables args set j d h has i t within none = absurd (omega (arith, none))
+
+-- the question of a slot of a table
+abbrev Asked : Table → ℕ → Question
+Asked table slot = Within table.feature (first_of table.bounds slot) (last_of table.bounds slot)
+
+table_is : (rules : List Rule) (tag : CallTag) (tables : List Table) (i : ℕ) (table : Table) → i < length tables → table ≡ slice_index_or tables i table
+    → AreTables rules tag tables → IsTable rules tag table
+table_is rules tag tables i table h is are = subst (IsTable rules tag) (sym is) (are i table h)
+
+pub table_complete : RulesThatHoldPass → (rules : List Rule) (tag : CallTag) (args : List Arg) (tables : List Table) (i : ℕ) (table : Table) (old new : List ℕ) (slot : ℕ)
+    → i < length tables → table ≡ slice_index_or tables i table → AreTables rules tag tables → slot ≤ length table.bounds
+    → meets (Asked table slot) args ≡ true → ((k : ℕ) → has new k ≡ (has old k && has (slice_index_or table.sets.items slot []) k))
+    → HasAllThatHold rules tag args old → HasAllThatHold rules tag args new
+table_complete pass rules tag args tables i table old new slot within is are inside m put all j d h holds =
+    let this = table_is rules tag tables i table within is are in
+    let there : slot < length table.sets.items = omega (arith, inside, this.0) in
+    in_both (has new j) (has old j) (has (slice_index_or table.sets.items slot []) j) (put j) (all j d h holds)
+    (selected pass rules tag args (Asked table slot) (slice_index_or table.sets.items slot []) (this.2 slot [] there) m j d h holds)
+
+pub table_alone : (rules : List Rule) (tag : CallTag) (args : List Arg) (tables : List Table) (i : ℕ) (table : Table) (old new : List ℕ) (slot : ℕ)
+    → i < length tables → table ≡ slice_index_or tables i table → AreTables rules tag tables → slot ≤ length table.bounds
+    → meets (Asked table slot) args ≡ true → ((k : ℕ) → has new k ≡ (has old k && has (slice_index_or table.sets.items slot []) k))
+    → PassUpTo rules tag tables i args old → PassUpTo rules tag tables (i + 1) args new
+table_alone rules tag args tables i table old new slot within is are inside m put up j d h has_new n t here before =
+    by (ltb n i) refl
+  where
+    both : (has old j ≡ true) × (has (slice_index_or table.sets.items slot []) j ≡ true)
+    both = common (has new j) (has old j) (has (slice_index_or table.sets.items slot []) j) (put j) has_new
+
+    this : IsTable rules tag table
+    this = table_is rules tag tables i table within is are
+
+    passes : PassesTable table args (slice_index_or (rules_for tag rules) j d)
+    passes = (slot, inside, m, sym (this.2 slot [] (omega (arith, inside, this.0)) j d h) ∙ both.1)
+
+    by : (b : Bool) → ltb n i ≡ b → PassesTable (slice_index_or tables n t) args (slice_index_or (rules_for tag rules) j d)
+    by true e = up j d h both.0 n t here (less n i e)
+      where
+        less : (n i : ℕ) → ltb n i ≡ true → n < i
+        less n i e = grind (arith, nat_tests, e)
+    by false e =
+        let last : n ≡ i = omega (arith, before, not_less n i e) in
+        let same : slice_index_or tables n t ≡ table =
+        ap (λ m. slice_index_or tables m t) last ∙ get_or_default tables i t table within ∙ sym is
+        in
+        subst (λ u. PassesTable u args (slice_index_or (rules_for tag rules) j d)) (sym same) passes
+
+pub passed_all : (rules : List Rule) (tag : CallTag) (tables : List Table) (n : ℕ) (args : List Arg) (set : List ℕ) → length tables ≤ n
+    → PassUpTo rules tag tables n args set → PassTables rules tag tables args set
+passed_all rules tag tables n args set many up j d h has i t within = up j d h has i t within (omega (arith, within, many))
+
+-- buckets
+lacking : (b : Bool) → not b ≡ true → b ≡ false
+lacking true h = sym h
+lacking false h = refl
+
+lacks : (b : Bool) → b ≡ false → not b ≡ true
+lacks true h = sym h
+lacks false h = refl
+
+pub bucket_complete : RulesThatHoldPass → (rules : List Rule) (tag : CallTag) (args : List Arg) (param bucket : ℕ) (sets : List (List ℕ))
+    → AreBuckets rules tag param sets → bucket < length sets → list_any (is_in_bucket bucket) (units_in (arg_at args param)) ≡ false
+    → (j : ℕ) (d : Rule) → j < length (rules_for tag rules) → rule_holds (slice_index_or (rules_for tag rules) j d) tag args ≡ true
+    → Has (slice_index_or sets bucket []) j
+bucket_complete pass rules tag args param bucket sets are within none j d h holds =
+    selected pass rules tag args (Without param bucket) (slice_index_or sets bucket []) (are bucket [] within)
+    (lacks (list_any (is_in_bucket bucket) (units_in (arg_at args param))) none) j d h holds
+
+pub bucket_alone : (rules : List Rule) (tag : CallTag) (args : List Arg) (param bits : ℕ) (sets : List (List ℕ)) → length sets ≡ 64
+    → AreBuckets rules tag param sets → AreNeeded rules tag param bits → (j : ℕ) (d : Rule) → j < length (rules_for tag rules)
+    → (bucket : ℕ) → bucket < 64 → meets (Without param bucket) args ≡ true
+    → (bit_at bits bucket ≡ 1 → list_any (is_in_bucket bucket) (units_in (arg_at args param)) ≡ false → Has (slice_index_or sets bucket []) j)
+    → may_pass (Without param bucket) (slice_index_or (rules_for tag rules) j d) ≡ true
+bucket_alone rules tag args param bits sets many are needed j d h bucket within m has_it = by (bit_at bits bucket) refl (bit_at-lt bits bucket)
+  where
+    by : (bit : ℕ) → bit_at bits bucket ≡ bit → bit < 2 → may_pass (Without param bucket) (slice_index_or (rules_for tag rules) j d) ≡ true
+    by zero e g = needed bucket within e j d h
+    by (suc zero) e g =
+        sym (are bucket [] (omega (arith, within, many)) j d h)
+        ∙ has_it e (lacking (list_any (is_in_bucket bucket) (units_in (arg_at args param))) m)
+    by (suc (suc bit)) e g = absurd (omega (arith, g))

@@ -6,3 +6,4 @@ pub mod Values
 pub mod Tables
 pub mod Marks
 pub mod Laws
+pub mod Sizes

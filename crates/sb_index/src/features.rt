@@ -1,11 +1,13 @@
-// Which features tell the rules of a call apart, and the bounds of the ranges of their values. Nothing is promised of
-// these: an index is one with any features and bounds.
-ghost use Rattle.std.specs.Prelude.{◌≤◌};
+// Which features tell the rules of a call apart, and the bounds of the ranges of their values. An index may have any features; they
+// decide how many rules it leaves out.
+ghost use Rattle.std.specs.Prelude.{◌≡◌, ◌≤◌, ◌*◌, length, IfOk};
+ghost use Rattle.sb_index.specs.Bounds.{most_bounds};
+ghost use Rattle.sb_index.specs.Tables.{rules_for};
 
-use crate::bounds::{Bounds, MOST_BOUNDS};
+use crate::bounds::Bounds;
 use crate::questions::Feature;
 use crate::values::{Values, values_of};
-use sb_call::{CallTag, ParamKind, number_of, shape};
+use sb_call::{CallTag, ParamKind};
 use sb_items::NoMemory;
 use sb_rule::{MOST_RULES, Rule};
 use std::alloc::Global;
@@ -37,7 +39,7 @@ fn push_values(bounds: &mut Vec<u64>, values: Values<'_>) -> Result<(), NoMemory
 }
 
 fn push_rule(bounds: &mut Vec<u64>, feature: Feature, rule: &Rule) -> Result<(), NoMemory> {
-    for cond in rule.conds.as_slice() {
+    for cond in &rule.conds {
         if let Some(values) = values_of(feature, cond) {
             push_values(bounds, values)?;
         }
@@ -45,36 +47,45 @@ fn push_rule(bounds: &mut Vec<u64>, feature: Feature, rule: &Rule) -> Result<(),
     Ok(())
 }
 
-// How many bounds a table may have, so that those of a policy are few together: two for each rule for the tag, and two.
-fn most_bounds(rules: &[Rule], tag: CallTag) -> usize
-    ensures { result ≤ 514 }
+// How many rules are for a tag.
+fn count_for(rules: &[Rule], tag: CallTag) -> usize
+    ensures { result ≡ length (rules_for tag rules.now) }
 {
-    let many = rules
-        .iter()
-        .filter(|rule| number_of(rule.tag) == number_of(tag))
-        .count();
-    if many < MOST_RULES {
-        2 * many + 2
-    } else {
-        MOST_BOUNDS
+    let mut count = 0;
+    for rule in rules {
+        if rule.is_for(tag) {
+            count += 1;
+        }
     }
+    count
 }
 
-/// The bounds of a feature for the rules of a tag, in order and each once: at most two for each rule, and two.
+// How many bounds a table may have, so that those of a policy are few together: two for each rule for the tag.
+fn bounds_for(rules: &[Rule], tag: CallTag) -> usize
+    ensures most { result ≤ most_bounds }
+    ensures few { result ≤ 2 * length (rules_for tag rules.now) }
+{
+    2 * count_for(rules, tag).min(MOST_RULES)
+}
+
+/// The bounds of a feature for the rules of a tag, in order and each once: at most two for each rule.
+#[tactic(auto, using(crate::proofs::BoundLemmas::not_more))]
 pub fn bounds_of(
     alloc: Global,
     rules: &[Rule],
     tag: CallTag,
     feature: Feature,
-) -> Result<Bounds, NoMemory> {
+) -> Result<Bounds, NoMemory>
+    ensures { IfOk result (λ bounds. length bounds ≤ 2 * length (rules_for tag rules.now)) }
+{
     let mut bounds = Vec::new(alloc);
     for rule in rules {
-        if number_of(rule.tag) == number_of(tag) {
+        if rule.is_for(tag) {
             push_rule(&mut bounds, feature, rule)?;
         }
     }
     bounds.sort_unstable();
-    Bounds::new(alloc, &bounds, most_bounds(rules, tag))
+    Bounds::new(alloc, &bounds, bounds_for(rules, tag))
 }
 
 // The front of a parameter that has the most bounds.

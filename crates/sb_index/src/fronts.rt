@@ -40,7 +40,7 @@ pub fn key(units: &[u16]) -> u64
 }
 
 /// What is left of a string after this many units.
-pub fn skipped(units: &[u16], skip: usize) -> &[u16]
+pub fn rest_after(units: &[u16], skip: usize) -> &[u16]
     ensures { result.now ≡ drop skip units.now }
 {
     if skip > units.len() {

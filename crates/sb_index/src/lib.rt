@@ -18,5 +18,5 @@ mod tables;
 mod values;
 
 pub use indexes::Index;
-pub use laws::rules_that_hold_pass;
+pub use laws::{indexes_are_small, rules_that_hold_pass};
 pub use sets::RuleSet;

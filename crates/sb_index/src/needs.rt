@@ -1,5 +1,5 @@
 // The buckets of units that strings have and rules need, as bits.
-ghost use Rattle.std.specs.Prelude.{◌≡◌, ℕ, true, false, if◌then◌else◌};
+ghost use Rattle.std.specs.Prelude.{◌≡◌, ℕ, if◌then◌else◌};
 ghost use Rattle.std.specs.Int.{bit_at};
 ghost use Rattle.std.specs.List.{list_all, list_any};
 ghost use Rattle.sb_index.specs.Questions.{is_in_bucket, is_cell_in_bucket, needs_bucket, cond_may_pass, may_pass};
@@ -65,9 +65,9 @@ fn test_bits(test: &Test) -> u64
 }
 
 // The buckets without a unit of which a condition does not hold.
-#[tactic(auto, using(crate::proofs::BucketLemmas::no_bit_is_set, crate::proofs::BucketLemmas::needed))]
+#[tactic(auto, using(crate::proofs::BucketLemmas::no_unit, crate::proofs::BucketLemmas::not_needed, crate::proofs::BucketLemmas::needed))]
 fn cond_bits(param: u32, cond: &Cond) -> u64
-    ensures { (bucket : ℕ) → bit_at result bucket ≡ 1 → cond_may_pass (Without param bucket) cond.now ≡ false }
+    ensures { (bucket : ℕ) → bit_at result bucket ≡ (if cond_may_pass (Without param bucket) cond.now then 0 else 1) }
 {
     if cond.negated || cond.param != param {
         return 0;
@@ -76,9 +76,9 @@ fn cond_bits(param: u32, cond: &Cond) -> u64
 }
 
 // The buckets without a unit of which some condition does not hold.
-#[tactic(auto, using(crate::proofs::BucketLemmas::no_bit_is_set, crate::proofs::BucketLemmas::cond_more))]
+#[tactic(auto, using(crate::proofs::BucketLemmas::no_unit, crate::proofs::BucketLemmas::cond_more))]
 fn conds_bits(param: u32, conds: &[Cond]) -> u64
-    ensures { (bucket : ℕ) → bit_at result bucket ≡ 1 → list_all (cond_may_pass (Without param bucket)) conds.now ≡ false }
+    ensures { (bucket : ℕ) → bit_at result bucket ≡ (if list_all (cond_may_pass (Without param bucket)) conds.now then 0 else 1) }
 {
     let mut bits = 0;
     for cond in conds {
@@ -87,9 +87,9 @@ fn conds_bits(param: u32, conds: &[Cond]) -> u64
     bits
 }
 
-/// The buckets without a unit of which a rule does not hold.
+/// The buckets without a unit of which a rule does not hold: a bucket's bit is 1 exactly if the rule needs a unit in it.
 pub fn rule_bits(param: u32, rule: &Rule) -> u64
-    ensures { (bucket : ℕ) → bit_at result bucket ≡ 1 → may_pass (Without param bucket) rule.now ≡ false }
+    ensures { (bucket : ℕ) → bit_at result bucket ≡ (if may_pass (Without param bucket) rule.now then 0 else 1) }
 {
     conds_bits(param, rule.conds.as_slice())
 }

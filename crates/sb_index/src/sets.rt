@@ -1,6 +1,6 @@
 // Sets of rules by their numbers.
-ghost use Rattle.std.specs.Prelude.{◌≡◌, ◌<◌, ◌≤◌, ℕ, MatchOption};
-ghost use Rattle.sb_index.specs.Sets.{Has};
+ghost use Rattle.std.specs.Prelude.{◌≡◌, ◌≤◌, ◌<◌, ◌==◌, ◌&&◌, ◌||◌, ℕ, true, false, nat_lt, MatchOption};
+ghost use Rattle.sb_index.specs.Sets.{has, Has, HasAtMostOne, HasSeveral};
 
 use std::marker::Model;
 
@@ -19,15 +19,18 @@ impl Model for RuleSet {
 }
 
 impl RuleSet {
+    #[tactic(auto, using(crate::proofs::SetLemmas::none_has))]
     /// The set without a number.
-    pub fn empty() -> RuleSet {
+    pub fn empty() -> RuleSet
+        ensures { (k : ℕ) → has result k ≡ false }
+    {
         RuleSet { words: [0; 4] }
     }
 
     #[tactic(auto, using(crate::proofs::SetLemmas::all_has))]
     /// The set of all numbers below 256.
     pub fn all() -> RuleSet
-        ensures { (k : ℕ) → k < 256 → Has result k }
+        ensures { (k : ℕ) → has result k ≡ nat_lt k 256 }
     {
         RuleSet {
             words: [u64::MAX; 4],
@@ -37,15 +40,14 @@ impl RuleSet {
     /// Puts a number into the set.
     pub fn insert(&mut self, number: usize)
         requires { number < 256 }
-        ensures added { Has self.new number }
-        ensures kept { (k : ℕ) → Has self.old k → Has self.new k }
+        ensures { (k : ℕ) → has self.new k ≡ (has self.old k || k == number) }
     {
         self.words[number / 64] |= 1 << (number % 64);
     }
 
     /// Takes the numbers out of the set that are not in another.
     pub fn intersect(&mut self, other: &RuleSet)
-        ensures { (k : ℕ) → Has self.old k → Has other.now k → Has self.new k }
+        ensures { (k : ℕ) → has self.new k ≡ (has self.old k && has other.now k) }
     {
         let [a, b, c, d] = self.words;
         let [e, f, g, h] = other.words;
@@ -54,8 +56,7 @@ impl RuleSet {
 
     /// Puts the numbers of another set into the set.
     pub fn unite(&mut self, other: &RuleSet)
-        ensures kept { (k : ℕ) → Has self.old k → Has self.new k }
-        ensures added { (k : ℕ) → Has other.now k → Has self.new k }
+        ensures { (k : ℕ) → has self.new k ≡ (has self.old k || has other.now k) }
     {
         let [a, b, c, d] = self.words;
         let [e, f, g, h] = other.words;
@@ -69,17 +70,24 @@ impl RuleSet {
         RuleSet { words: self.words }
     }
 
-    /// Whether the set has at most one number of each 64.
-    pub fn is_small(&self) -> bool {
-        self.words
-            .iter()
-            .all(|word| *word & word.saturating_sub(1) == 0)
+    /// Whether the set has more than one number.
+    pub fn has_several(&self) -> bool
+        ensures several { result ≡ true → HasSeveral self.now }
+        ensures one { result ≡ false → HasAtMostOne self.now }
+    {
+        match self.next_from(0) {
+            Some(first) => match self.next_from(first + 1) {
+                Some(_) => true,
+                None => false,
+            },
+            None => false,
+        }
     }
 
-    /// The lowest number of the set from one on.
+    /// The lowest number of the set from one on. None exactly if there is none below 256.
     pub fn next_from(&self, from: usize) -> Option<usize>
         ensures { MatchOption result ((k : ℕ) → from ≤ k → k < 256 → Has self.now k → ⊥)
-            (λ number. (from ≤ number) × (number < 256) × ((k : ℕ) → from ≤ k → k < number → Has self.now k → ⊥)) }
+            (λ number. (from ≤ number) × (number < 256) × Has self.now number × ((k : ℕ) → from ≤ k → k < number → Has self.now k → ⊥)) }
     {
         let mut at = from;
         while at < 256 {

@@ -1,95 +1,111 @@
 // The slots in which each rule may hold.
-ghost use Rattle.std.specs.Prelude.{◌≡◌, ◌≤◌, ◌<◌, ◌+◌, ℕ, true, length, IfOk, if◌then◌else◌};
-ghost use Rattle.std.specs.List.{list_any};
+ghost use Rattle.std.specs.Prelude.{◌≡◌, ◌≤◌, ◌<◌, ◌+◌, ◌==◌, ◌&&◌, ◌||◌, ℕ, length, Some, IfOk, if◌then◌else◌};
+ghost use Rattle.std.specs.List.{list_all, list_any};
 ghost use Rattle.sb_rule.specs.Limits.{most_rules};
+ghost use Rattle.sb_rule.specs.Verdicts.{is_for};
 ghost use Rattle.sb_index.specs.Bounds.{first_of, last_of};
-ghost use Rattle.sb_index.specs.Marks.{AreKept, AreMarked, AreSized, IsMarked};
-ghost use Rattle.sb_index.specs.Questions.{lies, may_pass};
-ghost use Rattle.sb_index.specs.Tables.{is_for};
-ghost use Rattle.sb_index.specs.Values.{may_lie};
+ghost use Rattle.sb_index.specs.Marks.{AreFresh, AreMarked, AreSized, is_marked};
+ghost use Rattle.sb_index.specs.Questions.{cond_may_pass, lies, may_pass};
+ghost use Rattle.sb_index.specs.Values.{AreAdmitted};
 ghost use Rattle.sb_index.specs.declared.questions.Question.TheVariants.{Within};
 
 use crate::bounds::Bounds;
 use crate::marks::Marks;
 use crate::questions::Feature;
-use crate::values::{Values, values_at, values_of};
-use sb_call::{CallTag, number_of};
+use crate::values::{Values, conds_pass, values_of_all};
+use sb_call::CallTag;
 use sb_items::NoMemory;
 use sb_rule::{Cond, Rule};
 use std::alloc::Global;
 
-// In how many slots values lie. It decides the speed alone.
-fn width(bounds: &Bounds, values: Values<'_>) -> usize {
-    match values {
-        Values::Among(numbers) => numbers.len(),
-        Values::Between { lo, hi } => bounds.slot_of(hi).saturating_sub(bounds.slot_of(lo)),
-    }
-}
-
-// The place of the condition that admits values in the fewest slots.
-fn narrowest(bounds: &Bounds, feature: Feature, conds: &[Cond]) -> usize {
-    let mut place = 0;
-    let mut least = usize::MAX;
-    for (at, cond) in conds.iter().enumerate() {
-        if let Some(values) = values_of(feature, cond) {
-            let width = width(bounds, values);
-            if width < least {
-                least = width;
-                place = at;
-            }
-        }
-    }
-    place
-}
-
-// Puts a rule to the slots of some numbers.
-fn put_numbers(marks: &mut Marks, bounds: &Bounds, numbers: &[u64], rule: usize)
+// Puts a rule with these conditions to the slot of a number, if they pass there.
+fn put_number(
+    marks: &mut Marks,
+    bounds: &Bounds,
+    feature: Feature,
+    conds: &[Cond],
+    number: u64,
+    rule: usize,
+)
     requires rule { rule < 256 }
     requires sized { AreSized marks.old (length bounds.now + 1) }
     ensures sized { AreSized marks.new (length bounds.now + 1) }
-    ensures kept { AreKept marks.old marks.new }
-    ensures added { (slot : ℕ) → slot ≤ length bounds.now
-        → list_any (lies (first_of bounds.now slot) (last_of bounds.now slot)) numbers.now ≡ true → IsMarked marks.new slot rule }
+    ensures fresh { (from : ℕ) → rule < from → AreFresh marks.old from → AreFresh marks.new from }
+    ensures marked { (slot : ℕ) (k : ℕ) → slot ≤ length bounds.now → is_marked marks.new slot k ≡ (is_marked marks.old slot k
+        || (k == rule && (lies (first_of bounds.now slot) (last_of bounds.now slot) number
+        && list_all (cond_may_pass (Within feature (first_of bounds.now slot) (last_of bounds.now slot))) conds.now))) }
+{
+    let slot = bounds.slot_of(number);
+    if conds_pass(feature, conds, bounds.first(slot), bounds.last(slot)) {
+        marks.put_point(bounds.len() + 1, slot, rule);
+    }
+}
+
+// Puts a rule with these conditions to the slots of some numbers, as far as they pass there.
+fn put_numbers(
+    marks: &mut Marks,
+    bounds: &Bounds,
+    feature: Feature,
+    conds: &[Cond],
+    numbers: &[u64],
+    rule: usize,
+)
+    requires rule { rule < 256 }
+    requires sized { AreSized marks.old (length bounds.now + 1) }
+    ensures sized { AreSized marks.new (length bounds.now + 1) }
+    ensures fresh { (from : ℕ) → rule < from → AreFresh marks.old from → AreFresh marks.new from }
+    ensures marked { (slot : ℕ) (k : ℕ) → slot ≤ length bounds.now → is_marked marks.new slot k ≡ (is_marked marks.old slot k
+        || (k == rule && (list_any (lies (first_of bounds.now slot) (last_of bounds.now slot)) numbers.now
+        && list_all (cond_may_pass (Within feature (first_of bounds.now slot) (last_of bounds.now slot))) conds.now))) }
 {
     for number in numbers {
-        marks.put_point(bounds.len() + 1, bounds.slot_of(*number), rule);
+        put_number(marks, bounds, feature, conds, *number, rule);
     }
 }
 
-// Puts a rule to the slots of these values.
-fn put_values(marks: &mut Marks, bounds: &Bounds, values: Values<'_>, rule: usize)
+// Puts a rule with these conditions, which no slot has, to the slots of the values that they admit.
+fn put_values(
+    marks: &mut Marks,
+    bounds: &Bounds,
+    feature: Feature,
+    conds: &[Cond],
+    values: Values<'_>,
+    rule: usize,
+)
     requires rule { rule < 256 }
     requires sized { AreSized marks.old (length bounds.now + 1) }
+    requires fresh { AreFresh marks.old rule }
+    requires admitted { (first : ℕ) (last : ℕ) → AreAdmitted (Some values) first last (list_all (cond_may_pass (Within feature first last)) conds.now) }
     ensures sized { AreSized marks.new (length bounds.now + 1) }
-    ensures kept { AreKept marks.old marks.new }
-    ensures added { (slot : ℕ) → slot ≤ length bounds.now
-        → may_lie values.entry (first_of bounds.now slot) (last_of bounds.now slot) ≡ true → IsMarked marks.new slot rule }
+    ensures fresh { AreFresh marks.new (rule + 1) }
+    ensures marked { (slot : ℕ) (k : ℕ) → slot ≤ length bounds.now → is_marked marks.new slot k ≡ (is_marked marks.old slot k
+        || (k == rule && list_all (cond_may_pass (Within feature (first_of bounds.now slot) (last_of bounds.now slot))) conds.now)) }
 {
     match values {
-        Values::Among(numbers) => put_numbers(marks, bounds, numbers, rule),
-        Values::Between { lo, hi } => {
-            marks.put_run(
-                bounds.len() + 1,
-                bounds.slot_of(lo),
-                bounds.slot_of(hi),
-                rule,
-            )
-        }
+        Values::Among(numbers) => put_numbers(marks, bounds, feature, conds, numbers, rule),
+        Values::Between { lo, hi } => marks.put_run(
+            bounds.len() + 1,
+            bounds.slot_of(lo),
+            bounds.slot_of(hi),
+            rule,
+        ),
     }
 }
 
-// Puts a rule to the slots in which it may hold.
+// Puts a rule, which no slot has, to the slots in which it may hold.
+#[tactic(auto, using(crate::proofs::SlotLemmas::everywhere))]
 fn put_rule(marks: &mut Marks, bounds: &Bounds, feature: Feature, rule: &Rule, at: usize)
     requires rule { at < 256 }
     requires sized { AreSized marks.old (length bounds.now + 1) }
+    requires fresh { AreFresh marks.old at }
     ensures sized { AreSized marks.new (length bounds.now + 1) }
-    ensures kept { AreKept marks.old marks.new }
-    ensures added { (slot : ℕ) → slot ≤ length bounds.now
-        → may_pass (Within feature (first_of bounds.now slot) (last_of bounds.now slot)) rule.now ≡ true → IsMarked marks.new slot at }
+    ensures fresh { AreFresh marks.new (at + 1) }
+    ensures marked { (slot : ℕ) (k : ℕ) → slot ≤ length bounds.now → is_marked marks.new slot k ≡ (is_marked marks.old slot k
+        || (k == at && may_pass (Within feature (first_of bounds.now slot) (last_of bounds.now slot)) rule.now)) }
 {
-    let conds = rule.conds.as_slice();
-    match values_at(feature, conds, narrowest(bounds, feature, conds)) {
-        Some(values) => put_values(marks, bounds, values, at),
+    let conds: &[Cond] = &rule.conds;
+    match values_of_all(feature, conds) {
+        Some(values) => put_values(marks, bounds, feature, conds, values, at),
         None => marks.put_run(bounds.len() + 1, 0, bounds.len(), at),
     }
 }
@@ -106,13 +122,14 @@ fn put_next(
 ) -> usize
     requires rule { at < 256 }
     requires sized { AreSized marks.old (length bounds.now + 1) }
+    requires fresh { AreFresh marks.old at }
     ensures next { result ≡ (if is_for tag rule.now then at + 1 else at) }
     ensures sized { AreSized marks.new (length bounds.now + 1) }
-    ensures kept { AreKept marks.old marks.new }
-    ensures added { is_for tag rule.now ≡ true → (slot : ℕ) → slot ≤ length bounds.now
-        → may_pass (Within feature (first_of bounds.now slot) (last_of bounds.now slot)) rule.now ≡ true → IsMarked marks.new slot at }
+    ensures fresh { AreFresh marks.new result }
+    ensures marked { (slot : ℕ) (k : ℕ) → slot ≤ length bounds.now → is_marked marks.new slot k ≡ (is_marked marks.old slot k
+        || (is_for tag rule.now && (k == at && may_pass (Within feature (first_of bounds.now slot) (last_of bounds.now slot)) rule.now))) }
 {
-    if number_of(rule.tag) != number_of(tag) {
+    if !rule.is_for(tag) {
         return at;
     }
     put_rule(marks, bounds, feature, rule, at);

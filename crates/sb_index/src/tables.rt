@@ -1,15 +1,16 @@
 // Tables: a set of rules for each range of the values of one feature.
-ghost use Rattle.std.specs.Prelude.{◌≡◌, ◌≤◌, ◌+◌, List, length, IfOk};
+ghost use Rattle.std.specs.Prelude.{◌≡◌, ◌≤◌, ◌+◌, ◌*◌, ◌&&◌, ℕ, [], true, length, slice_index_or, IfOk};
 ghost use Rattle.sb_call.specs.Arguments.{arg_at};
 ghost use Rattle.sb_rule.specs.Limits.{most_rules};
 ghost use Rattle.sb_index.specs.Questions.{value_of, number_in, units_in};
-ghost use Rattle.sb_call.specs.declared.tags.CallTag.{CallTag};
-ghost use Rattle.sb_rule.specs.declared.policies.Rule.{Rule};
-ghost use Rattle.sb_index.specs.Tables.{AreSlots, HasAllThatHold, IsTable};
+ghost use Rattle.sb_index.specs.Bounds.{first_of, last_of};
+ghost use Rattle.sb_index.specs.Questions.{meets};
+ghost use Rattle.sb_index.specs.Sets.{has};
+ghost use Rattle.sb_index.specs.Tables.{AreSlots, IsTable, rules_for};
+ghost use Rattle.sb_index.specs.declared.questions.Question.TheVariants.{Within};
 
 use crate::bounds::Bounds;
-use crate::fronts::{key, skipped};
-use crate::laws::rules_that_hold_pass;
+use crate::fronts::{key, rest_after};
 use crate::questions::Feature;
 use crate::sets::RuleSet;
 use crate::slots::marks_of;
@@ -54,7 +55,7 @@ fn value_of(feature: Feature, args: &[Arg]) -> u64
 {
     match feature {
         Feature::Number { param } => number_in(args, param),
-        Feature::Front { param, skip } => key(skipped(units_in(args, param), skip)),
+        Feature::Front { param, skip } => key(rest_after(units_in(args, param), skip)),
     }
 }
 
@@ -87,7 +88,8 @@ impl Table {
         feature: Feature,
         bounds: Bounds,
     ) -> Result<Table, NoMemory>
-        requires { length rules.now ≤ most_rules }
+        requires rules { length rules.now ≤ most_rules }
+        requires bounds { length bounds ≤ 2 * length (rules_for tag rules.now) }
         ensures { IfOk result (λ table. IsTable rules.now tag table) }
     {
         let sets = sets_of(alloc, rules, tag, feature, &bounds)?;
@@ -98,15 +100,15 @@ impl Table {
         })
     }
 
-    #[tactic(auto, using(crate::proofs::TableLemmas::narrowed))]
-    /// Takes rules out of a set that do not hold of these arguments, by their feature.
+    #[tactic(auto, using(crate::proofs::TableLemmas::slot_found))]
+    /// Takes the rules out of a set that are not in the set of the slot of these arguments.
     pub fn narrow(&self, args: &[Arg], set: &mut RuleSet)
-        ensures { (rules : List Rule) (tag : CallTag) → IsTable rules tag self.now → HasAllThatHold rules tag args.now set.old → HasAllThatHold rules tag args.now set.new }
+        requires { length self.now.sets.items ≡ length self.now.bounds + 1 }
+        ensures { (slot : ℕ) × (slot ≤ length self.now.bounds)
+            × (meets (Within self.now.feature (first_of self.now.bounds slot) (last_of self.now.bounds slot)) args.now ≡ true)
+            × ((k : ℕ) → has set.new k ≡ (has set.old k && has (slice_index_or self.now.sets.items slot []) k)) }
     {
-        rules_that_hold_pass();
         let slot = self.bounds.slot_of(value_of(self.feature, args));
-        if let Some(slot) = self.sets.get(slot) {
-            set.intersect(slot);
-        }
+        set.intersect(&self.sets[slot]);
     }
 }

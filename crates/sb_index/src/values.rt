@@ -1,11 +1,11 @@
 // What a condition says of the values of a feature.
-ghost use Rattle.std.specs.Prelude.{◌≡◌, ℕ, true, IfSome};
-ghost use Rattle.std.specs.List.{list_all};
-ghost use Rattle.sb_index.specs.Questions.{cond_may_pass, front_may_lie, number_may_lie};
-ghost use Rattle.sb_index.specs.Values.{may_lie};
+ghost use Rattle.std.specs.Prelude.{◌≡◌, ◌&&◌, ℕ, Bool, Some};
+ghost use Rattle.std.specs.List.{list_all, list_any};
+ghost use Rattle.sb_index.specs.Questions.{cond_may_pass, front_may_lie, lies, number_may_lie};
+ghost use Rattle.sb_index.specs.Values.{AreAdmitted, AreValues, may_lie};
 ghost use Rattle.sb_index.specs.declared.questions.Question.TheVariants.{Within};
 
-use crate::fronts::{edge, key, past, skipped};
+use crate::fronts::{edge, key, past, rest_after};
 use crate::questions::Feature;
 use sb_rule::{Cond, Test};
 
@@ -18,11 +18,31 @@ pub enum Values<'a> {
     Between { lo: u64, hi: u64 },
 }
 
+impl<'a> Values<'a> {
+    /// Whether one of the values is from `first` to `last`.
+    pub fn lie(self, first: u64, last: u64) -> bool
+        ensures { result ≡ may_lie self.entry first last }
+    {
+        match self {
+            Values::Among(numbers) => one_lies(numbers, first, last),
+            Values::Between { lo, hi } => lo <= last && first <= hi,
+        }
+    }
+}
+
+fn one_lies(numbers: &[u64], first: u64, last: u64) -> bool
+    ensures { result ≡ list_any (lies first last) numbers.now }
+{
+    numbers
+        .iter()
+        .any(|number| first <= *number && *number <= last)
+}
+
 fn numbers_of(test: &Test) -> Option<Values<'_>>
-    ensures { IfSome result (λ values. (first : ℕ) (last : ℕ) → number_may_lie test.now first last ≡ true → may_lie values first last ≡ true) }
+    ensures { AreValues result (number_may_lie test.now) }
 {
     match test {
-        Test::OneOf(numbers) => Some(Values::Among(numbers.as_slice())),
+        Test::OneOf(numbers) => Some(Values::Among(numbers)),
         Test::Range { lo, hi } => Some(Values::Between { lo: *lo, hi: *hi }),
         Test::Mask(_) | Test::Equal(_) | Test::Like(_) => None,
     }
@@ -30,12 +50,12 @@ fn numbers_of(test: &Test) -> Option<Values<'_>>
 
 #[tactic(auto, using(crate::proofs::ValueLemmas::one_value))]
 fn fronts_of(test: &Test, skip: usize) -> Option<Values<'_>>
-    ensures { IfSome result (λ values. (first : ℕ) (last : ℕ) → front_may_lie test.now skip first last ≡ true → may_lie values first last ≡ true) }
+    ensures { AreValues result (front_may_lie test.now skip) }
 {
     match test {
         Test::OneOf(_) | Test::Range { .. } | Test::Mask(_) => None,
         Test::Equal(text) => {
-            let key = key(skipped(text.as_units(), skip));
+            let key = key(rest_after(text.as_units(), skip));
             Some(Values::Between { lo: key, hi: key })
         }
         Test::Like(pattern) => {
@@ -49,24 +69,69 @@ fn fronts_of(test: &Test, skip: usize) -> Option<Values<'_>>
 }
 
 /// The values that a condition admits. None if it says nothing of the feature.
+#[tactic(auto, using(crate::proofs::ValueLemmas::not_asked))]
 pub fn values_of(feature: Feature, cond: &Cond) -> Option<Values<'_>>
-    ensures { IfSome result (λ values. (first : ℕ) (last : ℕ) → cond_may_pass (Within feature first last) cond.now ≡ true → may_lie values first last ≡ true) }
+    ensures { AreValues result (λ first last. cond_may_pass (Within feature first last) cond.now) }
 {
     if cond.negated {
         return None;
     }
     match feature {
-        Feature::Number { param } if param == cond.param => numbers_of(&cond.test),
-        Feature::Front { param, skip } if param == cond.param => fronts_of(&cond.test, skip),
+        Feature::Number { param } if cond.param == param => numbers_of(&cond.test),
+        Feature::Front { param, skip } if cond.param == param => fronts_of(&cond.test, skip),
         _ => None,
     }
 }
 
-/// The values that one of these conditions admits. None if there is none at this place, or if it says nothing of the feature.
-#[tactic(auto, using(crate::proofs::ValueLemmas::one_of_all))]
-pub fn values_at(feature: Feature, conds: &[Cond], place: usize) -> Option<Values<'_>>
-    ensures { IfSome result (λ values. (first : ℕ) (last : ℕ) → list_all (cond_may_pass (Within feature first last)) conds.now ≡ true → may_lie values first last ≡ true) }
+// Whether a condition admits a value from `first` to `last`, or says nothing of the feature.
+fn cond_passes(feature: Feature, cond: &Cond, first: u64, last: u64) -> bool
+    ensures { result ≡ cond_may_pass (Within feature first last) cond.now }
 {
-    let cond = conds.get(place)?;
-    values_of(feature, cond)
+    match values_of(feature, cond) {
+        Some(values) => values.lie(first, last),
+        None => true,
+    }
+}
+
+/// Whether each of some conditions admits a value from `first` to `last`, or says nothing of the feature.
+pub fn conds_pass(feature: Feature, conds: &[Cond], first: u64, last: u64) -> bool
+    ensures { result ≡ list_all (cond_may_pass (Within feature first last)) conds.now }
+{
+    conds
+        .iter()
+        .all(|cond| cond_passes(feature, cond, first, last))
+}
+
+// The values that are among these, if there are some, and among those of one more condition: exactly, or of two lists of numbers the
+// first.
+#[tactic(auto, using(crate::proofs::ValueLemmas::ranges_meet, crate::proofs::ValueLemmas::left_lies, crate::proofs::ValueLemmas::right_lies, crate::proofs::ValueLemmas::first_values))]
+fn meet<'a>(all: Option<Values<'a>>, values: Values<'a>) -> Values<'a>
+    ensures { (first : ℕ) (last : ℕ) (admits : Bool) → AreAdmitted all.entry first last admits
+        → AreAdmitted (Some result) first last (admits && may_lie values.entry first last) }
+{
+    match all {
+        None => values,
+        Some(Values::Among(numbers)) => Values::Among(numbers),
+        Some(Values::Between { lo, hi }) => match values {
+            Values::Among(numbers) => Values::Among(numbers),
+            Values::Between { lo: low, hi: high } => Values::Between {
+                lo: lo.max(low),
+                hi: hi.min(high),
+            },
+        },
+    }
+}
+
+/// The values that all of some conditions admit: a range, or if one of them has a list of numbers the numbers of a list. None if they
+/// say nothing of the feature.
+pub fn values_of_all(feature: Feature, conds: &[Cond]) -> Option<Values<'_>>
+    ensures { (first : ℕ) (last : ℕ) → AreAdmitted result first last (list_all (cond_may_pass (Within feature first last)) conds.now) }
+{
+    let mut all = None;
+    for cond in conds {
+        if let Some(values) = values_of(feature, cond) {
+            all = Some(meet(all, values));
+        }
+    }
+    all
 }

@@ -1,1 +1,2 @@
 pub mod FirstRules
+pub mod Members

@@ -31,9 +31,13 @@ abbrev pub cond_holds : Cond → List Arg → Bool
 cond_holds cond args =
     if cond.negated then not (test_holds cond.test (arg_at args cond.param)) else test_holds cond.test (arg_at args cond.param)
 
+-- the rule is for the calls of this tag
+abbrev pub is_for : CallTag → Rule → Bool
+is_for tag rule = number_of rule.tag == number_of tag
+
 -- a rule holds if it is for the tag and all its conditions hold
 abbrev pub rule_holds : Rule → CallTag → List Arg → Bool
-rule_holds rule tag args = number_of rule.tag == number_of tag && list_all (λ cond. cond_holds cond args) rule.conds
+rule_holds rule tag args = is_for tag rule && list_all (λ cond. cond_holds cond args) rule.conds
 
 -- what a rule says
 abbrev pub verdict_by_rule : Rule → Verdict

@@ -25,4 +25,4 @@ pub use laws::{
 pub use limits::{MOST_CONDITIONS, MOST_NUMBERS, MOST_POLICIES, MOST_RULES};
 pub use policies::{Policies, Policy, PolicyList, Rule, Rules};
 pub use verdicts::{Verdict, verdict_plain};
-pub use well_made_policies::WellMadePolicies;
+pub use well_made_policies::{WellMadePolicies, WellMadePolicy};

@@ -1,9 +1,10 @@
 // Policies: named lists of rules.
 ghost use Rattle.std.specs.Prelude.{◌≡◌};
+ghost use Rattle.sb_rule.specs.Verdicts.{is_for};
 
 use crate::actions::Action;
 use crate::conditions::Conds;
-use sb_call::{CallTag, ShortName};
+use sb_call::{CallTag, ShortName, number_of};
 use sb_items::Items;
 use std::alloc::AllocError;
 
@@ -18,6 +19,15 @@ pub struct Rule {
     pub action: Action,
     /// The line of the policy text on which it stands, from 1.
     pub line: u32,
+}
+
+impl Rule {
+    /// Whether the rule is for the calls of this tag.
+    pub fn is_for(&self, tag: CallTag) -> bool
+        ensures { result ≡ is_for tag self.now }
+    {
+        number_of(self.tag) == number_of(tag)
+    }
 }
 
 impl Drop for Rule {

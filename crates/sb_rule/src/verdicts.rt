@@ -7,7 +7,7 @@ ghost use Rattle.sb_rule.specs.Verdicts.{test_holds, cond_holds, rule_holds, ver
 use crate::actions::Action;
 use crate::conditions::{Cond, Test};
 use crate::policies::{Policy, Rule};
-use sb_call::{Arg, CallTag, number_of};
+use sb_call::{Arg, CallTag};
 use sb_wide::eq_ignore_ascii_case;
 
 /// What a policy says of a call.
@@ -66,7 +66,7 @@ fn conds_hold(conds: &[Cond], args: &[Arg]) -> bool
 fn rule_holds(rule: &Rule, tag: CallTag, args: &[Arg]) -> bool
     ensures { result ≡ rule_holds rule.now tag args.now }
 {
-    number_of(rule.tag) == number_of(tag) && conds_hold(&rule.conds, args)
+    rule.is_for(tag) && conds_hold(&rule.conds, args)
 }
 
 /// The verdict of a policy on a call: the line and the action of the first rule for the call's tag whose conditions all

@@ -1,10 +1,12 @@
 // Policies that are well made.
-ghost use Rattle.std.specs.Prelude.{◌≡◌, ◌↔◌, true, IsOk, IfOk, IfErr};
-ghost use Rattle.sb_rule.specs.WellMade.{are_well_made};
+ghost use Rattle.std.specs.Prelude.{◌≡◌, ◌↔◌, ◌≤◌, ◌<◌, true, length, slice_index_or, IsOk, IfOk, IfErr, IsSome, IfSome, MatchOption};
+ghost use Rattle.sb_rule.specs.WellMade.{are_well_made, is_well_made};
+ghost use Rattle.sb_rule.specs.declared.policies.Policy.{Policy};
 
-use crate::checks::all_well_made;
-use crate::policies::Policies;
+use crate::checks::{all_well_made, well_made};
+use crate::policies::{Policies, Policy};
 use std::marker::Model;
+use std::ops::Deref;
 
 /// Policies that are well made: at most 8, no two of one name, and each of them well made, as `all_well_made` tests it.
 /// Contracts see the plain policies.
@@ -47,8 +49,8 @@ impl WellMadePolicies {
         }
     }
 
-    /// Policies that the caller has shown to be well made. They are not tested again.
-    pub fn from_well_made(policies: Policies) -> WellMadePolicies
+    /// The policies, which are known to be well made. They are not tested again. Does not allocate.
+    pub fn of(policies: Policies) -> WellMadePolicies
         requires { are_well_made policies.list ≡ true }
         ensures { result ≡ policies }
     {
@@ -63,19 +65,70 @@ impl WellMadePolicies {
         &self.policies
     }
 
+    #[tactic(auto, using(crate::proofs::Members::policy_is_well_made))]
+    /// The policy with this number, from 0. None exactly if there are not as many.
+    pub fn get(&self, number: usize) -> Option<WellMadePolicy<'_>>
+        ensures { MatchOption result (length self.now.list ≤ number)
+            (λ policy. (number < length self.now.list) × ((d : Policy) → policy ≡ slice_index_or self.now.list number d)) }
+    {
+        let policy = self.policies.list.get(number)?;
+        Some(WellMadePolicy { policy })
+    }
+
     /// Establishes that the policies are well made, for a proof that needs it and no policy.
     pub fn establish_well_made(&self)
         ensures { are_well_made self.now.list ≡ true }
     {
         self.policies();
     }
+}
 
-    /// The plain policies, given back, which are well made. Does not allocate.
-    pub fn into_policies(self) -> Policies
-        ensures policies { result ≡ self }
-        ensures well_made { are_well_made result.list ≡ true }
+impl Deref for WellMadePolicies {
+    type Target = Policies;
+
+    ghost deref_gives = { λ made policies. policies ≡ made };
+
+    fn deref(&self) -> &Policies {
+        &self.policies
+    }
+}
+
+/// A policy that is well made: one of `WellMadePolicies`, or one that was tested. Contracts see the plain policy.
+#[derive(Drop)]
+pub struct WellMadePolicy<'a> {
+    policy: &'a Policy,
+}
+
+impl<'a> Model for WellMadePolicy<'a> {
+    ghost use Rattle.std.specs.Prelude.{◌≡◌, true};
+    ghost use Rattle.sb_rule.specs.WellMade.{is_well_made};
+    ghost use Rattle.sb_rule.specs.declared.policies.Policy.{Policy};
+
+    ghost Value = { Policy };
+
+    ghost view = { λ made. made.policy.now };
+
+    ghost invariant = { λ made. is_well_made made.policy.now ≡ true };
+}
+
+impl<'a> WellMadePolicy<'a> {
+    /// The policy, if it is well made. None exactly if it is not.
+    pub fn new(policy: &'a Policy) -> Option<WellMadePolicy<'a>>
+        ensures exactly { IsSome result ↔ (is_well_made policy.now ≡ true) }
+        ensures made { IfSome result (λ made. made ≡ policy.now) }
     {
-        let WellMadePolicies { policies } = self;
-        policies
+        if well_made(policy) {
+            Some(WellMadePolicy { policy })
+        } else {
+            None
+        }
+    }
+
+    /// The plain policy, which is well made.
+    pub fn policy(&self) -> &'a Policy
+        ensures policy { result.now ≡ self.now }
+        ensures well_made { is_well_made self.now ≡ true }
+    {
+        self.policy
     }
 }

@@ -13,7 +13,7 @@ returns-then-number-len c =
     let number = c.in-Some.number in
     let next = c.in-Some.ensures in
     let past : length (rules_of ops) ≤ number = search rules in
-    sym (at_end args (rules_of ops) number past) ∙ sym (to_next ops args c.args.set.now c.loop-number.at number c.requires.candidates next.0 next.2)
+    sym (at_end args (rules_of ops) number past) ∙ sym (to_next ops args c.args.set.now c.loop-number.at number c.requires.candidates next.0 next.3)
     ∙ c.loop-number.invariant.0
 
 pub returns-in-Some-judge_rule : goal.returns-in-Some-judge_rule
@@ -25,7 +25,7 @@ returns-in-Some-judge_rule c =
     let judged = c.in-Some-judge_rule.ensures in
     let within : number < length (rules_of ops) = search rules in
     judged.1 ∙ sym (at_one ops args number within judged.0)
-    ∙ sym (to_next ops args c.args.set.now c.loop-number.at number c.requires.candidates next.0 next.2) ∙ c.loop-number.invariant.0
+    ∙ sym (to_next ops args c.args.set.now c.loop-number.at number c.requires.candidates next.0 next.3) ∙ c.loop-number.invariant.0
 
 pub loop-number-preserved : goal.loop-number-preserved
 loop-number-preserved c =
@@ -35,7 +35,7 @@ loop-number-preserved c =
     let next = c.in-Some.ensures in
     let unheld : rule_holds args (slice_index_or (rules_of ops) number []) ≡ false = search rules in (
       sym (past_one ops args number unheld)
-          ∙ sym (to_next ops args c.args.set.now c.loop-number.at number c.requires.candidates next.0 next.2) ∙ c.loop-number.invariant.0,
+          ∙ sym (to_next ops args c.args.set.now c.loop-number.at number c.requires.candidates next.0 next.3) ∙ c.loop-number.invariant.0,
       omega (arith, next.1),
     )
 

@@ -1,11 +1,11 @@
-use Rattle.std.proofs.Common.{◌≡◌, ◌<◌, ℕ, [], length}
+use Rattle.std.proofs.Common.{◌≡◌, ◌<◌, ℕ, suc, [], length}
 use Rattle.std.specs.Prelude.{slice_index_or}
-use Rattle.sb_index.specs.Marks.{HasUpTo}
-use Rattle.sb_index.specs.Sets.{Has}
+use Rattle.sb_index.specs.Marks.{up_to}
+use Rattle.sb_index.specs.Sets.{has}
 use Rattle.sb_index.proofs.marks.unions.Given as goal
 
 abbrev pub invariant-loop-one : goal.invariant-loop-one
 invariant-loop-one l =
     (length l.all.items ≡ l.one-index)
-    × ((t : ℕ) (k : ℕ) → t < l.one-index → Has (slice_index_or l.sets t []) k → Has l.set k)
-    × ((slot : ℕ) (k : ℕ) → slot < l.one-index → HasUpTo l.sets slot k → Has (slice_index_or l.all.items slot []) k)
+    × ((k : ℕ) → has l.set k ≡ up_to l.sets l.one-index k)
+    × ((slot : ℕ) (k : ℕ) → slot < l.one-index → has (slice_index_or l.all.items slot []) k ≡ up_to l.sets (suc slot) k)

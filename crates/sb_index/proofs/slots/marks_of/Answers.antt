@@ -1,6 +1,7 @@
 use Rattle.sb_index.specs.Bounds.{first_of, last_of}
-use Rattle.sb_index.specs.Marks.{IsMarked}
+use Rattle.sb_index.specs.Marks.{is_marked}
 use Rattle.sb_index.specs.declared.questions.Question.TheVariants.{Within}
+use Rattle.sb_index.proofs.MarkLemmas.{fresh_unmarked}
 use Rattle.sb_index.proofs.TableLemmas.{next_put, rule_put}
 use Rattle.sb_index.proofs.slots.marks_of.Goals as goal
 
@@ -13,10 +14,13 @@ loop-rule-preserved c =
     let rule = c.rule-item.result in
     let old = c.loop-rule.invariant in
     let put = c.put_next-at in
-    let next = next_put rules tag i rule c.loop-rule.at put.result c.loop-rule-test.true c.rule-item.is old.1 old.2 put.ensures.next in (
+    let at = c.loop-rule.at in
+    let next = next_put rules tag i rule at put.result c.loop-rule-test.true c.rule-item.is old.2 old.3 put.ensures.next in (
       put.ensures.sized,
+      put.ensures.fresh,
       next.0,
       next.1,
-      λ slot h. rule_put rules tag (Within c.args.feature (first_of bounds slot) (last_of bounds slot)) i rule c.loop-rule.at (IsMarked c.loop-rule.marks slot)
-          (IsMarked put.new.marks slot) c.loop-rule-test.true c.rule-item.is old.1 (old.3 slot h) (put.ensures.kept slot) (λ mine. put.ensures.added mine slot h),
+      λ slot h. rule_put rules tag (Within c.args.feature (first_of bounds slot) (last_of bounds slot)) i rule at (is_marked c.loop-rule.marks slot)
+          (is_marked put.new.marks slot) c.loop-rule-test.true c.rule-item.is old.2 (old.4 slot h)
+          (fresh_unmarked c.loop-rule.marks at slot old.1) (λ k. put.ensures.marked slot k h),
     )

@@ -1,22 +1,36 @@
-use Rattle.std.proofs.Common.{◌≡◌, ◌+◌, subst}
+use Rattle.std.proofs.Common.{◌≡◌, eqb}
+use Rattle.std.specs.List.{list_all}
 use Rattle.std.specs.Prelude.{slice_index_or}
 use Rattle.std.proofs.lemmas.List.{get_or_default}
-use Rattle.sb_index.specs.Marks.{AreSized}
-use Rattle.sb_index.proofs.MarkLemmas.{kept_on, number_put}
+use Rattle.sb_index.specs.Bounds.{first_of, last_of}
+use Rattle.sb_index.specs.Marks.{is_marked}
+use Rattle.sb_index.specs.Questions.{cond_may_pass}
+use Rattle.sb_index.specs.declared.questions.Question.TheVariants.{Within}
+use Rattle.sb_index.proofs.SlotLemmas.{no_number, number_put}
 use Rattle.sb_index.proofs.slots.put_numbers.Goals as goal
+
+pub loop-number-init : goal.loop-number-init
+loop-number-init c =
+    let bounds = c.args.bounds.now in (
+      c.requires.sized,
+      λ from h fresh. fresh,
+      λ slot k h. no_number (is_marked c.args.marks.now slot k) (eqb k c.args.rule)
+          (list_all (cond_may_pass (Within c.args.feature (first_of bounds slot) (last_of bounds slot))) c.args.conds.now),
+    )
 
 pub loop-number-preserved : goal.loop-number-preserved
 loop-number-preserved c =
     let bounds = c.args.bounds.now in
     let numbers = c.args.numbers.now in
     let i = c.loop-number.number-index in
-    let slot = c.slot_of.ensures in
-    let old = c.loop-number.marks in
-    let new = c.put_point.new.self in
+    let old = c.loop-number.invariant in
+    let put = c.put_number.ensures in
     let n = slice_index_or numbers i 0 in
     let is : n ≡ slice_index_or numbers i n = get_or_default numbers i 0 n c.loop-number-test.true in (
-      subst (λ m. AreSized new (m + 1)) c.len.ensures.is c.put_point.ensures.sized,
-      kept_on c.args.marks.now old new c.loop-number.invariant.1 c.put_point.ensures.kept,
-      number_put bounds slot.rising numbers i n c.slot_of.result c.args.rule old new c.loop-number-test.true is slot.within slot.first slot.last
-          c.put_point.ensures.kept c.put_point.ensures.added c.loop-number.invariant.2,
+      put.sized,
+      λ from h fresh. put.fresh from h (old.1 from h fresh),
+      λ slot k h. number_put (first_of bounds slot) (last_of bounds slot) numbers i n (is_marked c.args.marks.now slot k)
+          (is_marked c.loop-number.marks slot k) (is_marked c.put_number.new.marks slot k) (eqb k c.args.rule)
+          (list_all (cond_may_pass (Within c.args.feature (first_of bounds slot) (last_of bounds slot))) c.args.conds.now)
+          c.loop-number-test.true is (old.2 slot k h) (put.marked slot k h),
     )

@@ -1,4 +1,4 @@
-use Rattle.std.proofs.Common.{sym, subst}
+use Rattle.std.proofs.Common.{subst}
 use Rattle.sb_compile.specs.Indexed.{IsIndexed}
 use Rattle.sb_compile.proofs.call_codes.CallCode.judge.Goals as goal
 

@@ -1,9 +1,9 @@
-use Rattle.std.proofs.Common.{rules, sym, subst}
-use Rattle.sb_index.specs.Sets.{Has}
+use Rattle.std.proofs.Common.{rules, ◌∙◌, ◌&&◌, ap}
+use Rattle.sb_index.specs.Sets.{has}
 use Rattle.sb_index.proofs.SetLemmas.{intersected}
 use Rattle.sb_index.proofs.sets.RuleSet.intersect.Goals as goal
 
 pub returns : goal.returns
-returns c k h g =
-    intersected c.self.inside.words c.other.inside.words k (search rules) (subst (λ w. Has w k) (sym c.self.view_is) h)
-    (subst (λ w. Has w k) (sym c.other.view_is) g)
+returns c k =
+    intersected c.self.inside.words c.other.inside.words k (search rules) (search rules)
+    ∙ ap (λ w. has w k && has c.other.inside.words k) c.self.view_is ∙ ap (λ w. has c.args.self.now k && has w k) c.other.view_is

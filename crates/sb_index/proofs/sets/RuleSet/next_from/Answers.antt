@@ -1,4 +1,5 @@
-use Rattle.std.proofs.Common.{rules, ◌≡◌, ◌≤◌, ◌<◌, ◌/◌, ◌%◌, ◌^◌, ℕ, sym, subst, arith}
+use Rattle.std.proofs.Common.{rules, ◌≡◌, ◌≤◌, ◌<◌, ◌+◌, ◌/◌, ◌%◌, ◌^◌, ℕ, sym, subst, arith}
+use Rattle.std.specs.Int.{trailing_zeros, w64}
 use Rattle.std.specs.Prelude.{slice_index_or}
 use Rattle.sb_index.specs.Sets.{Has}
 use Rattle.sb_index.proofs.SetLemmas.{lowest_left, none_left}
@@ -13,8 +14,12 @@ returns-then-word-ne0 c =
     let some : 0 < slice_index_or words (at / 64) 0 / 2 ^ (at % 64) = search rules in
     let before : (k : ℕ) → c.args.from ≤ k → k < at → Has words k → ⊥ =
     λ k h g has. c.loop-at.invariant.1 k h g (subst (λ w. Has w k) c.self.view_is has) in
-    let found = lowest_left words c.args.from at small c.loop-at-test.true some fits before in
-    (omega (arith, c.loop-at.invariant.0), found.0, λ k h g has. found.1 k h g (subst (λ w. Has w k) (sym c.self.view_is) has))
+    let found = lowest_left words c.args.from at small c.loop-at-test.true some fits before in (
+      omega (arith, c.loop-at.invariant.0),
+      found.0,
+      subst (λ w. Has w (at + trailing_zeros w64 (slice_index_or words (at / 64) 0 / 2 ^ (at % 64)))) c.self.view_is found.1,
+      λ k h g has. found.2 k h g (subst (λ w. Has w k) (sym c.self.view_is) has),
+    )
 
 pub loop-at-preserved : goal.loop-at-preserved
 loop-at-preserved c =
