@@ -18,7 +18,7 @@ pub struct AddRefused<T> {
 }
 
 /// Nodes with values, linked as trees: a node has at most one parent, and its children are in order. Only `add` and `reserve`
-/// take memory.
+/// allocate.
 #[derive(Drop)]
 pub struct Arena<T> {
     links: Vec<Link>,
@@ -45,7 +45,7 @@ impl<T> Model for Arena<T> {
 }
 
 // The node of a number.
-fn named(at: Option<u64>) -> Option<NodeId>
+fn node_at(at: Option<u64>) -> Option<NodeId>
     ensures { option_map (λ n. n.0) result ≡ at }
 {
     match at {
@@ -97,6 +97,7 @@ impl<T> Arena<T> {
         ensures even { length self.now.rows ≡ length self.now.values }
         ensures small { length self.now.rows < 2 ^ 64 }
     {
+        // A body that reads a field has the invariant of the whole to conclude from.
         let _count = self.links.as_slice().len();
     }
 
@@ -126,7 +127,7 @@ impl<T> Arena<T> {
         requires { IsLive self.now node.0 }
         ensures { option_map (λ n. n.0) result ≡ parent_of self.now node.0 }
     {
-        named(link_of(&self.links, node.0).parent)
+        node_at(link_of(&self.links, node.0).parent)
     }
 
     /// The first child of the node, or None if it has none.
@@ -135,7 +136,7 @@ impl<T> Arena<T> {
         requires { IsLive self.now node.0 }
         ensures { option_map (λ n. n.0) result ≡ first_of (children_of self.now node.0) }
     {
-        named(link_of(&self.links, node.0).first)
+        node_at(link_of(&self.links, node.0).first)
     }
 
     /// The next child of the node's parent, or None if the node is the last child or has no parent.
@@ -143,7 +144,7 @@ impl<T> Arena<T> {
         requires { IsLive self.now node.0 }
         ensures { option_map (λ n. n.0) result ≡ next_of self.now node.0 }
     {
-        named(next_linked(link_of(&self.links, node.0)))
+        node_at(next_linked(link_of(&self.links, node.0)))
     }
 
     /// The value of the node.
@@ -183,7 +184,7 @@ impl<T> Arena<T> {
 
 impl<T: Drop> Arena<T> {
     /// Adds a node that has neither parent nor children. It has the number of the node freed last if there is a free one,
-    /// and then no memory is taken.
+    /// and then nothing is allocated.
     ///
     /// # Errors
     /// `AddRefused` with the value if there was no memory. The arena is then as it was.
@@ -211,10 +212,10 @@ impl<T: Drop> Arena<T> {
         }
     }
 
-    /// Takes the memory for one more node, so that the next `add` takes none: there is a free node afterwards.
+    /// Allocates one more node, so that the next `add` allocates nothing: there is a free node afterwards.
     ///
     /// # Errors
-    /// `AllocError` if there is none for a node. The arena is then as it was.
+    /// `AllocError` if there was no memory for a node. The arena is then as it was.
     pub fn reserve(&mut self) -> Result<(), AllocError>
         ensures ok { OnOk result (self.new ≡ with_vacancy self.old) }
         ensures err { OnErr result (self.new ≡ self.old) }

@@ -1,5 +1,5 @@
 -- The laws of events.
-use Rattle.std.proofs.Common.{◌≡◌, ◌+◌, ℕ, Bool, true, false, refl, List, [], ◌∷◌, if◌then◌else◌, ◌==◌}
+use Rattle.std.proofs.Common.{◌≡◌, ◌+◌, ℕ, Bool, true, false, refl, List, if◌then◌else◌, ◌==◌}
 use Rattle.std.specs.Prelude.{Option, None, Some, not, ◌&&◌}
 use Rattle.sb_call.specs.Statuses.{success, name_exists, type_mismatch}
 use Rattle.sb_handles.specs.Effects.{Effect, refused, grants}

@@ -13,7 +13,7 @@ use Rattle.sb_event.specs.Kinds.{kind_number}
 use Rattle.sb_event.specs.Laws.{CreatesGrantTheirEvent, IsGrantedOn, OpensGrantTheirEvent, is_granted}
 use Rattle.sb_event.specs.declared.rows.EventRow.{EventRow}
 
-own_key : (key : List ℕ) → is_key key key ≡ true
+pub own_key : (key : List ℕ) → is_key key key ≡ true
 own_key [] = refl
 own_key (u ∷ us) =
     let same : nat_eq u u ≡ true = grind (arith, nat_tests) in

@@ -1,4 +1,5 @@
 pub mod EventLaws
 pub mod GrantLaws
+pub mod KeptNames
 pub mod Numbering
 mod WorkedCases

@@ -1,5 +1,5 @@
 -- Each name is one and leads to an event that was made, and no two to one, after one more was made or taken back.
-use Rattle.std.proofs.Common.{◌≡◌, ◌+◌, ℕ, true, false, refl, sym, ◌∙◌, ap, subst, if◌then◌else◌, List, [], ◌∷◌, nat_eq}
+use Rattle.std.proofs.Common.{◌≡◌, ◌+◌, ℕ, true, refl, sym, subst, List, [], ◌∷◌, nat_eq}
 use Rattle.std.proofs.lemmas.Bool.{and_parts}
 use Rattle.std.specs.BTreeMap.{insert_entry}
 use Rattle.std.specs.Cmp.Lexicographic.{slice_cmp}
@@ -10,7 +10,7 @@ use Rattle.std.specs.declared.cmp.Ordering.TheVariants.{Less, Equal, Greater}
 use Rattle.sb_wide.specs.Names.{is_name_of}
 use Rattle.sb_names.specs.Keys.{key_of}
 use Rattle.sb_names.specs.Laws.{NamesFold}
-use Rattle.sb_names.specs.Maps.{Rows, is_there, put, put_new}
+use Rattle.sb_names.specs.Maps.{Rows, put}
 use Rattle.sb_names.specs.Numbers.{AreNumbered, PutsKeepNumbers}
 use Rattle.sb_event.specs.Events.{Events, AreMade, AreNamed, number_of}
 use Rattle.sb_event.specs.declared.rows.EventRow.{EventRow}
@@ -46,10 +46,3 @@ one_more keeps folds events rows name row number next own e is_name are = record
       (subst (λ rows. AreNumbered number_of (events.made + 1) rows) (sym e) (keeps number_of events.made events.rows name row are.numbered own));
   named = subst AreNamed (sym e) (named_put (key_of name) row events.rows are.named (folds name is_name));
 }
-
--- one more was made if the name was free
-pub one_more_if_free : PutsKeepNumbers EventRow → NamesFold → (events : Events) (rows : Rows EventRow) (name : List ℕ) (row : EventRow) (number : ℕ)
-    → number ≡ events.made + 1 → row.number ≡ events.made + 1 → is_there events.rows name ≡ false → rows ≡ put_new events.rows name row → is_name_of name ≡ true
-    → AreMade events → AreMade (record { rows = rows; made = number })
-one_more_if_free keeps folds events rows name row number next own free e is_name are =
-    one_more keeps folds events rows name row number next own (e ∙ ap (λ b. if b then events.rows else put events.rows name row) free) is_name are

@@ -1,5 +1,5 @@
 -- The events, and what each call on them does.
-use Rattle.std.specs.Prelude.{◌≡◌, ◌+◌, ℕ, Bool, true, not, ◌==◌, List, [], ◌∷◌, Option, None, Some, if◌then◌else◌}
+use Rattle.std.specs.Prelude.{◌≡◌, ◌+◌, ◌<◌, ℕ, Bool, true, not, ◌==◌, List, [], ◌∷◌, Option, None, Some, length, slice_index_or, if◌then◌else◌}
 use Rattle.std.specs.List.{list_all}
 use Rattle.sb_wide.specs.Names.{is_name_of}
 use Rattle.sb_call.specs.Statuses.{success, name_exists, type_mismatch, name_not_found}
@@ -9,6 +9,7 @@ use Rattle.sb_handles.specs.Tables.{Table}
 use Rattle.sb_handles.specs.declared.objects.Held.{Held}
 use Rattle.sb_handles.specs.declared.objects.Service.TheVariants as service
 use Rattle.sb_names.specs.Maps.{Rows, Rises, found, is_there, put}
+use Rattle.sb_names.specs.Objects.{IsNameBy}
 use Rattle.sb_names.specs.Numbers.{AreNumbered}
 use Rattle.sb_event.specs.Kinds.{kind_number, state_number}
 use Rattle.sb_event.specs.declared.kinds.EventKind.{EventKind}
@@ -34,6 +35,11 @@ AreNamed rows = list_all (λ row. is_name_of row.0) rows ≡ true
 pub record AreMade (events : Events) : Type 0 where
   pub numbered : AreNumbered number_of events.made events.rows
   pub named : AreNamed events.rows
+
+-- what a service keeps: the events, and beside them the folded name of each, that of event n at place n - 1
+pub record AreKept (rows : Rows EventRow) (names : List (List ℕ)) : Type 0 where
+  pub made : AreMade (record { rows = rows; made = length names })
+  pub under : (n : ℕ) → n < length names → IsNameBy number_of rows (n + 1) (Some (slice_index_or names n []))
 
 -- and names are in rising order
 pub record AreEvents (events : Events) : Type 0 where

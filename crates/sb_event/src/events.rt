@@ -1,11 +1,15 @@
 // The events by their names, and the calls on them.
-ghost use Rattle.std.specs.Prelude.{◌≡◌, ◌+◌, ◌<◌, ◌^◌, ◌∷◌, [], true, None, IfOk, OnOk, OnErr};
+ghost use Rattle.std.specs.Prelude.{◌≡◌, ◌+◌, ◌-◌, ◌<◌, ◌^◌, ◌∷◌, [], true, false, Some, None, IfSome, IfNone, IfOk, OnOk, OnErr, length};
+ghost use Rattle.std.specs.List.{slice_get};
 ghost use Rattle.sb_wide.specs.Names.{is_name_of};
 ghost use Rattle.sb_handles.specs.Effects.{IsDone};
 ghost use Rattle.sb_call.specs.Statuses.{granting};
 ghost use Rattle.sb_names.specs.Maps.{found};
+ghost use Rattle.sb_names.specs.Numbers.{is_given};
+ghost use Rattle.sb_names.specs.Objects.{IsNameBy};
 ghost use Rattle.sb_event.specs.Kinds.{kind_number, state_number};
-ghost use Rattle.sb_event.specs.Events.{AreEvents, no_events, with_event, on_event, create, create_by, open_by_name, can_start, started};
+ghost use Rattle.sb_event.specs.Laws.{is_granted};
+ghost use Rattle.sb_event.specs.Events.{AreEvents, no_events, number_of, on_event, create, create_by, open_by_name, can_start, started};
 
 use crate::kinds::{EventKind, state_number};
 use crate::rows::EventRow;
@@ -13,30 +17,33 @@ use bitflags::Flags;
 use sb_call::{Answer, NAME_EXISTS, NAME_NOT_FOUND, SUCCESS, TYPE_MISMATCH};
 use sb_handles::{Access, HandleTable, Held, Object, Service, Sharing};
 use sb_items::NoMemory;
-use sb_names::{NameMap, names_fold, numbers_are_kept};
+use sb_names::{NameMap, fold_name, names_fold, numbers_are_kept, puts_are_found, puts_keep_rows};
+use sb_wide::Wide;
 use std::alloc::Global;
 use std::marker::Model;
 
 /// The events that were ever made, each under its name. Names are compared folded, and have no parents.
 pub struct EventService {
     rows: NameMap<EventRow>,
-    made: u64,
+    // The folded name of each event: that of event n at place n - 1.
+    names: Vec<Wide>,
 }
 
 impl Drop for EventService {
     fn drop(self) {
-        let EventService { rows: _, made: _ } = self;
+        let EventService { rows: _, names: _ } = self;
     }
 }
 
 impl Model for EventService {
-    ghost use Rattle.sb_event.specs.Events.{Events, AreMade};
+    ghost use Rattle.std.specs.Prelude.{length};
+    ghost use Rattle.sb_event.specs.Events.{Events, AreKept};
 
     ghost Value = { Events };
 
-    ghost view = { λ s. record { rows = s.rows; made = s.made } };
+    ghost view = { λ s. record { rows = s.rows; made = length s.names.items } };
 
-    ghost invariant = { λ s. AreMade (record { rows = s.rows; made = s.made }) };
+    ghost invariant = { λ s. AreKept s.rows s.names.items };
 }
 
 // A handle on the event of this number, with this access.
@@ -50,6 +57,18 @@ fn on_event(number: u64, access: Access) -> Held
         },
         access,
         sharing: Sharing::empty(),
+    }
+}
+
+// The name at the place of a number, or None if there is no such place.
+fn name_at(names: &[Wide], number: u64) -> Option<&[u16]>
+    ensures some { IfSome result (λ name. (number - 1 + 1 ≡ number) × (slice_get names.now (number - 1) ≡ Some name.now)) }
+    ensures none { IfNone result (is_given (length names.now) number ≡ false) }
+{
+    let place = number.checked_sub(1)?;
+    match names.get(place as usize) {
+        Some(name) => Some(name.as_units()),
+        None => None,
     }
 }
 
@@ -67,7 +86,7 @@ impl EventService {
     {
         EventService {
             rows: NameMap::new(alloc),
-            made: 0,
+            names: Vec::new(alloc),
         }
     }
 
@@ -75,36 +94,30 @@ impl EventService {
     pub fn made(&self) -> u64
         ensures { result ≡ self.now.made }
     {
-        self.made
+        self.names.len() as u64
     }
 
-    /// Each name is one and leads to an event that was made, no two to one, and names are kept in rising order. It changes
-    /// nothing.
-    pub fn events_are_made(&self)
+    /// Establishes for a proof that each name is well-formed and leads to an event that was made, no two to one, and that
+    /// names are in rising order. It does nothing.
+    pub fn establish_events(&self)
         ensures { AreEvents self.now }
     {
-        self.rows.rows_rise();
+        self.rows.establish_order();
     }
 
-    // Makes an event under a name that is free, with the next number.
-    fn add_next(&mut self, name: &[u16], kind: EventKind, initial: bool) -> Result<u64, NoMemory>
-        requires name { is_name_of name.now ≡ true }
-        requires made { self.old.made < 2 ^ 63 }
-        ensures number { IfOk result (λ number. number ≡ self.old.made + 1) }
-        ensures service { OnOk result (self.new ≡ with_event self.old name.now kind initial) }
-        ensures err { OnErr result (self.new ≡ self.old) }
+    /// The folded name of the event of this number, or None if no event of this number was made. It takes the time of the
+    /// name, however many events there are.
+    ///
+    /// # Errors
+    /// `NoMemory` if there was none for the name.
+    #[tactic(auto, using(crate::proofs::KeptNames::none_of_number))]
+    pub fn name_of(&self, number: u64) -> Result<Option<Wide>, NoMemory>
+        ensures { IfOk result (λ name. IsNameBy number_of self.now.rows number name) }
     {
-        names_fold();
-        numbers_are_kept::<EventRow>();
-        let number = self.made + 1;
-        let row = EventRow {
-            number,
-            kind,
-            initial,
-        };
-        self.rows.insert(name, row)?;
-        self.made = number;
-        Ok(number)
+        match name_at(&self.names, number) {
+            Some(name) => Ok(Some(Wide::from_units(*self.names.allocator(), name)?)),
+            None => Ok(None),
+        }
     }
 
     // Makes an event under a name that is free, and grants a handle on it.
@@ -123,7 +136,8 @@ impl EventService {
         ensures err { OnErr result ((self.new ≡ self.old) × (handles.new.table ≡ handles.old.table)) }
     {
         handles.reserve()?;
-        let number = self.add_next(name, kind, initial)?;
+        self.start(name, kind, initial)?;
+        let number = self.made();
         let handle = handles.grant_reserved(target, on_event(number, Access::empty()));
         Ok(showing(SUCCESS, handle, kind, initial))
     }
@@ -149,6 +163,7 @@ impl EventService {
         requires name { is_name_of name.now ≡ true }
         requires made { self.old.made < 2 ^ 63 }
         ensures effect { IfOk result (λ a. IsDone (create self.old handles.old.table target name.now kind initial) self.new handles.new.table a) }
+        ensures memory { OnErr result (is_granted (create self.old handles.old.table target name.now kind initial).answer.status ≡ true) }
         ensures err { OnErr result ((self.new ≡ self.old) × (handles.new.table ≡ handles.old.table)) }
     {
         match self.rows.find(name) {
@@ -176,6 +191,7 @@ impl EventService {
     ) -> Result<Answer, NoMemory>
         requires name { is_name_of name.now ≡ true }
         ensures effect { IfOk result (λ a. IsDone (open_by_name self.old handles.old.table target name.now access.0) self.new handles.new.table a) }
+        ensures memory { OnErr result (is_granted (open_by_name self.old handles.old.table target name.now access.0).answer.status ≡ true) }
         ensures service { self.new ≡ self.old }
         ensures err { OnErr result (handles.new.table ≡ handles.old.table) }
     {
@@ -205,20 +221,27 @@ impl EventService {
         requires made { self.old.made < 2 ^ 63 }
         ensures answer { IfOk result (λ b. b ≡ can_start self.old name.now) }
         ensures service { OnOk result (self.new ≡ started self.old name.now kind initial) }
+        ensures memory { OnErr result (can_start self.old name.now ≡ true) }
         ensures err { OnErr result (self.new ≡ self.old) }
     {
         names_fold();
         numbers_are_kept::<EventRow>();
-        let number = self.made + 1;
+        puts_are_found::<EventRow>();
+        puts_keep_rows::<EventRow>();
+        if !self.can_start(name) {
+            return Ok(false);
+        }
+        let alloc = *self.names.allocator();
+        let key = fold_name(alloc, name)?;
+        let kept = Wide::from_units(alloc, key.as_units())?;
+        self.names.reserve(1)?;
         let row = EventRow {
-            number,
+            number: self.made() + 1,
             kind,
             initial,
         };
-        if !self.rows.insert_new(name, row)? {
-            return Ok(false);
-        }
-        self.made = number;
+        self.rows.add(name, key, row)?;
+        self.names.push_reserved(kept);
         Ok(true)
     }
 }

@@ -13,7 +13,7 @@ pub enum EventKind {
 
 impl EventKind {
     /// The kind of a number: 0 is a notification event, and any other number a synchronization event.
-    pub fn from_number(number: u64) -> EventKind
+    pub fn of(number: u64) -> EventKind
         ensures { result ≡ kind_from number }
     {
         if number == 0 {

@@ -19,7 +19,7 @@ pub fn events_are_found_where_made()
     puts_are_found::<EventRow>();
 }
 
-/// Events stay under their names, and the same: what stands under a key stands there after each call that makes or opens one.
+/// Events keep their names and stay the same: each row is there after each call that makes or opens an event.
 #[tactic(auto, using(crate::proofs::EventLaws::creates_keep_events))]
 pub fn events_stay()
     ensures { CreatesKeepEvents }

@@ -9,17 +9,17 @@ use Rattle.std.specs.List.Sorted.{IsStrictlySortedBy}
 use Rattle.std.specs.Ordering.{nat_cmp}
 use Rattle.std.specs.declared.cmp.Ordering.TheVariants.{Less}
 use Rattle.sb_call.specs.Statuses.{success}
-use Rattle.sb_handles.specs.Agreements.{is_file, file_share, file_share_by}
+use Rattle.sb_handles.specs.Agreements.{AgreesOnFiles, is_file, file_share, file_share_by}
 use Rattle.sb_handles.specs.Effects.{Effect}
-use Rattle.sb_handles.specs.Laws.{ClosesKeepFiles as ClosesKeepShares, GrantsLeaveFiles as GrantsLeaveShares}
-use Rattle.sb_handles.specs.Shares.{Shares, left, share_on}
+use Rattle.sb_handles.specs.Laws.{ClosesKeepFiles as ClosesKeepShares, GrantsKeepFiles as GrantsKeepShares, GrantsLeaveFiles as GrantsLeaveShares}
+use Rattle.sb_handles.specs.Shares.{Shares, left, opened, share_on}
 use Rattle.sb_handles.specs.Tables.{Table, is_of, with_handle, without_handle}
 use Rattle.sb_handles.specs.declared.objects.Held.{Held}
 use Rattle.sb_handles.specs.declared.objects.OpenHandle.{OpenHandle}
 use Rattle.sb_handles.specs.declared.objects.Share.{Share}
-use Rattle.sb_file.specs.Creation.{object_asked, on_file}
-use Rattle.sb_file.specs.Files.{Files, object_of, with_attributes}
-use Rattle.sb_file.specs.Laws.{CreatesGrantFiles, CreatesMakeOne, RefusalsChangeNothing, ClosesKeepFiles, ClosesLeaveFiles, GrantsLeaveFiles}
+use Rattle.sb_file.specs.Creation.{object_asked, on_file, share_of}
+use Rattle.sb_file.specs.Files.{Agrees, Files, object_of, with_attributes}
+use Rattle.sb_file.specs.Laws.{CreatesGrantFiles, CreatesKeepFiles, CreatesMakeOne, RefusalsChangeNothing, ClosesKeepFiles, ClosesLeaveFiles, GrantsLeaveFiles}
 use Rattle.sb_file.proofs.CreationCases.{by_create}
 
 abbrev IsPlain : Files → Table → Effect Files → Type 0
@@ -48,6 +48,14 @@ creates_make_one files handles target name request =
   where
     same : (number : ℕ) → length (with_attributes files number request.attributes).objects ≤ length files.objects + 1
     same number = omega (arith, length-set files.objects (number - 1) (record (object_of files number) { attributes = request.attributes }))
+
+pub creates_keep_files : GrantsKeepShares → CreatesKeepFiles
+creates_keep_files grants files handles target name request table agree =
+    by_create (λ effect. Agrees effect.service effect.handles) files handles target name request (λ status n. agree)
+    (λ f. granted (length files.objects + 1)) (λ number f. granted number) (λ number f. granted number) (λ number f. granted number)
+  where
+    granted : (number : ℕ) → AgreesOnFiles (opened files.shares number (handles.granted + 1) (share_of request)) (with_handle handles target (on_file number request))
+    granted number = grants files.shares handles target (on_file number request) table agree refl
 
 -- how a handle is open once another was left
 share_left : (object number handle : ℕ) (shares : Shares)

@@ -1,12 +1,15 @@
 -- What a file.create does, by its cases.
-use Rattle.std.proofs.Common.{◌≡◌, ◌+◌, ℕ, refl, arith, List, length, ◌==◌}
+use Rattle.std.proofs.Common.{◌≡◌, ◌+◌, ℕ, refl, arith, List, length}
 use Rattle.std.specs.Prelude.{Option, None, Some, not, ◌&&◌, ◌||◌}
-use Rattle.sb_call.specs.Statuses.{success, invalid_parameter, path_not_found, name_not_found, name_collision, not_a_directory, file_is_a_directory, sharing_violation}
+use Rattle.sb_call.specs.Statuses.{success, path_not_found, name_not_found, name_collision, not_a_directory, file_is_a_directory, sharing_violation}
 use Rattle.sb_handles.specs.Effects.{Effect, refused}
 use Rattle.sb_handles.specs.Tables.{Table}
 use Rattle.sb_names.specs.Maps.{found}
-use Rattle.sb_file.specs.Creation.{create, create_by, create_new, is_invalid, object_asked, open_by, open_existing, open_or_create, opens, overwrite, replaces, supersede, wants_directory, wants_file, was_created, was_opened, was_overwritten, was_superseded}
+use Rattle.sb_file.specs.Creation.{create, create_by, object_asked, open_by, opens, replaced_as, was_created, was_opened, was_overwritten, was_superseded}
 use Rattle.sb_file.specs.Files.{Files, has_parent, is_directory, is_shared_out, object_of, with_attributes, with_object}
+use Rattle.sb_file.specs.Requests.{needs_free_name, needs_object, replaces, wants_directory, wants_file}
+use Rattle.sb_file.specs.declared.requests.Disposition.{Disposition}
+use Rattle.sb_file.specs.declared.requests.Disposition.TheVariants as disposition
 use Rattle.sb_file.specs.declared.requests.FileRequest.{FileRequest}
 use Rattle.sb_file.proofs.RenameLaws.{chosen}
 
@@ -22,24 +25,31 @@ pub by_create : (P : Effect Files → Type 0) (files : Files) (handles : Table) 
     → P (opens (with_attributes files number request.attributes) handles target number request was_overwritten))
     → P (create files handles target name request)
 by_create P files handles target name request refuses makes takes supersedes overwrites =
-    chosen P (is_invalid request) (refused files handles invalid_parameter) _ (refuses invalid_parameter (λ h. absurd (omega (arith, h))))
-    (chosen P (not (has_parent files name)) (refused files handles path_not_found)
+    chosen P (not (has_parent files name)) (refused files handles path_not_found)
     (create_by (found files.names name) files handles target name request)
-    (refuses path_not_found (λ h. absurd (omega (arith, h)))) (by (found files.names name) refl))
+    (refuses path_not_found (λ h. absurd (omega (arith, h)))) (by (found files.names name) refl)
   where
+    replaced : (d : Disposition) (number : ℕ) → found files.names name ≡ Some number
+        → P (opens (with_attributes files number request.attributes) handles target number request (replaced_as d))
+    replaced disposition.Supersede number f = supersedes number f
+    replaced disposition.Open number f = overwrites number f
+    replaced disposition.Create number f = overwrites number f
+    replaced disposition.OpenOrCreate number f = overwrites number f
+    replaced disposition.Overwrite number f = overwrites number f
+    replaced disposition.OverwriteOrCreate number f = overwrites number f
+
     opened : (number : ℕ) → found files.names name ≡ Some number → P (open_by files handles target number request)
     opened number f =
-        chosen P (request.disposition == open_existing || request.disposition == open_or_create) (opens files handles target number request was_opened) _
-        (takes number f)
-        (chosen P (request.disposition == supersede) (opens (with_attributes files number request.attributes) handles target number request was_superseded)
-        (opens (with_attributes files number request.attributes) handles target number request was_overwritten) (supersedes number f) (overwrites number f))
+        chosen P (replaces request.disposition)
+        (opens (with_attributes files number request.attributes) handles target number request (replaced_as request.disposition))
+        (opens files handles target number request was_opened) (replaced request.disposition number f) (takes number f)
 
     by : (o : Option ℕ) → found files.names name ≡ o → P (create_by o files handles target name request)
     by None f =
-        chosen P (request.disposition == open_existing || request.disposition == overwrite) (refused files handles name_not_found) _
+        chosen P (needs_object request.disposition) (refused files handles name_not_found) _
         (refuses name_not_found (λ h. absurd (omega (arith, h)))) (makes f)
     by (Some number) f =
-        chosen P (request.disposition == create_new) (refused files handles name_collision) _ (refuses name_collision (λ h. absurd (omega (arith, h))))
+        chosen P (needs_free_name request.disposition) (refused files handles name_collision) _ (refuses name_collision (λ h. absurd (omega (arith, h))))
         (chosen P (not (is_directory (object_of files number).kind) && wants_directory request) (refused files handles not_a_directory) _
         (refuses not_a_directory (λ h. absurd (omega (arith, h))))
         (chosen P (is_directory (object_of files number).kind && (wants_file request || replaces request.disposition))

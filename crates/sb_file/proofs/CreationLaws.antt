@@ -8,15 +8,16 @@ use Rattle.std.specs.Prelude.{Option, None, Some, not, option_map, slice_index_o
 use Rattle.std.specs.Cmp.Lexicographic.{bytes_decides}
 use Rattle.std.specs.List.{AllByRecursion, IsDistinct}
 use Rattle.std.specs.Map.{lookup}
-use Rattle.sb_call.specs.Statuses.{success, invalid_parameter, path_not_found, not_a_directory, file_is_a_directory, sharing_violation}
+use Rattle.sb_call.specs.Statuses.{success, name_collision, path_not_found, not_a_directory, file_is_a_directory, sharing_violation}
 use Rattle.sb_handles.specs.Effects.{Effect, refused}
 use Rattle.sb_handles.specs.Tables.{with_handle}
 use Rattle.sb_names.specs.Keys.{key_of}
 use Rattle.sb_names.specs.Laws.{PutsAreFound, PutsKeepRows}
 use Rattle.sb_names.specs.Maps.{Rows, found, is_key}
-use Rattle.sb_file.specs.Creation.{create_by, is_invalid, object_asked, on_file, open_existing, open_request, opens, replaces, wants_directory, wants_file, was_opened}
+use Rattle.sb_file.specs.Creation.{create_by, object_asked, on_file, open_by, opens, replaced_as, was_opened}
 use Rattle.sb_file.specs.Files.{Files, has_parent, is_directory, is_shared_out, object_found, object_of, with_attributes, with_object}
 use Rattle.sb_file.specs.Laws.{CreatesAreFound, CreatesGiveAttributes, CreatesGrantTheirFile, CreatesKeepNames, CreatesLeaveOthers, OpensLeaveNames, says_made, says_replaced, with_asked}
+use Rattle.sb_file.specs.Requests.{needs_free_name, replaces, wants_directory, wants_file}
 use Rattle.sb_file.specs.declared.objects.FileKind.TheVariants as kind
 use Rattle.sb_file.specs.declared.objects.FileObject.{FileObject}
 use Rattle.sb_file.proofs.CreationCases.{by_create}
@@ -43,23 +44,25 @@ creates_keep_names keep files handles target name key request old there =
     P effect = lookup (is_key key) effect.service.names ≡ Some old
 
 pub opens_leave_names : OpensLeaveNames
-opens_leave_names files handles target name access sharing options =
-    chosen P (is_invalid (open_request access sharing options)) (refused files handles invalid_parameter) _ refl
-    (chosen P (not (has_parent files name)) (refused files handles path_not_found)
-    (create_by (found files.names name) files handles target name (open_request access sharing options)) refl (by (found files.names name)))
+opens_leave_names files handles target name request needs =
+    chosen P (not (has_parent files name)) (refused files handles path_not_found)
+    (create_by (found files.names name) files handles target name request) refl (by (found files.names name))
   where
     P : Effect Files → Type 0
     P effect = effect.service.names ≡ files.names
 
-    by : (o : Option ℕ) → P (create_by o files handles target name (open_request access sharing options))
-    by None = refl
+    by : (o : Option ℕ) → P (create_by o files handles target name request)
+    by None = rw needs refl
     by (Some number) =
-        chosen P (not (is_directory (object_of files number).kind) && wants_directory (open_request access sharing options))
-        (refused files handles not_a_directory) _ refl
-        (chosen P (is_directory (object_of files number).kind && (wants_file (open_request access sharing options) || replaces open_existing))
+        chosen P (needs_free_name request.disposition) (refused files handles name_collision) _ refl
+        (chosen P (not (is_directory (object_of files number).kind) && wants_directory request) (refused files handles not_a_directory) _ refl
+        (chosen P (is_directory (object_of files number).kind && (wants_file request || replaces request.disposition))
         (refused files handles file_is_a_directory) _ refl
-        (chosen P (is_shared_out files number access sharing) (refused files handles sharing_violation)
-        (opens files handles target number (open_request access sharing options) was_opened) refl refl))
+        (chosen P (is_shared_out files number request.access.0 request.sharing.0) (refused files handles sharing_violation)
+        (open_by files handles target number request) refl
+        (chosen P (replaces request.disposition)
+        (opens (with_attributes files number request.attributes) handles target number request (replaced_as request.disposition))
+        (opens files handles target number request was_opened) refl refl))))
 
 own_key : (key : List ℕ) → is_key key key ≡ true
 own_key [] = refl

@@ -3,25 +3,23 @@ use Rattle.std.proofs.Common.{◌≡◌, ◌≤◌, ◌+◌, ℕ, Bool, true, fa
 use Rattle.std.proofs.lemmas.Bool.{false≢true}
 use Rattle.std.proofs.lemmas.Bool.Decides.{nat_tests}
 use Rattle.std.proofs.lemmas.List.{length-append}
-use Rattle.std.specs.Prelude.{Option, None, Some, IfSome, Result, Ok, Err, is_some, not, option_map, slice_index_or, slice_set}
+use Rattle.std.specs.Prelude.{Option, None, Some, Ok, is_some, not, option_map, slice_index_or, slice_set}
 use Rattle.std.specs.Cmp.Lexicographic.{slice_cmp}
 use Rattle.std.specs.List.{IsDistinct, list_all}
 use Rattle.std.specs.Ordering.{nat_cmp, match_ordering}
 use Rattle.std.specs.declared.cmp.Ordering.{Ordering}
 use Rattle.std.specs.declared.cmp.Ordering.TheVariants.{Less, Equal, Greater}
 use Rattle.sb_wide.specs.Names.{is_name_of}
-use Rattle.sb_handles.specs.Shares.{IsRefusal, Shares, by_object, left, opened}
+use Rattle.sb_handles.specs.Shares.{Shares, by_object, left, opened}
 use Rattle.sb_handles.specs.declared.objects.Held.{Held}
 use Rattle.sb_handles.specs.declared.objects.Share.{Share}
-use Rattle.sb_handles.specs.declared.objects.ShareRefused.{ShareRefused}
-use Rattle.sb_handles.specs.declared.objects.ShareRefused.TheVariants as share_refused
 use Rattle.sb_names.specs.Keys.{key_of, parent_of, is_below}
 use Rattle.sb_names.specs.Maps.{Rows, found, is_there, put}
 use Rattle.sb_names.specs.Numbers.{AreNumbered, PutsKeepNumbers, RenamesKeepNumbers, is_given}
 use Rattle.sb_names.specs.Renames.{renamed_rows, renamed_tree}
 use Rattle.sb_names.specs.Laws.{PutsKeepParents, RenamesKeepParents}
-use Rattle.sb_names.specs.Trees.{AreFolded, IsTree, added, directory_object, is_directory_there as is_name_there, has_parent as has_tree_parent, parent_object}
-use Rattle.sb_file.specs.Creation.{is_violation, on_file, share_of}
+use Rattle.sb_names.specs.Trees.{AreFolded, IsTree, directory_object, is_directory_there as is_name_there, has_parent as has_tree_parent, parent_object}
+use Rattle.sb_file.specs.Creation.{on_file, share_of}
 use Rattle.sb_file.specs.Files.{Files, AreObjects, has_parent, is_directory, is_directory_there, is_directory_by, object_of}
 use Rattle.sb_file.specs.declared.objects.FileKind.TheVariants as kind
 use Rattle.sb_file.specs.declared.objects.FileObject.{FileObject}
@@ -137,11 +135,6 @@ pub files_opened_by : (files : Files) (shares : Shares) (number handle : ℕ) (r
 files_opened_by files shares number handle request held h e low high are =
     files_opened files shares number handle (share_of request)
     (e ∙ ap (λ held. opened files.shares held.object.number handle (record { access = held.access; sharing = held.sharing })) h) low high are
-
--- why an object was not opened is a conflict
-pub shared_out : (conflict : Option ℕ) (why : ShareRefused) → IsRefusal conflict why → is_violation why ≡ true → is_some conflict ≡ true
-shared_out conflict (share_refused.Conflict handle) r v = ap is_some r
-shared_out conflict share_refused.NoMemory r v = absurd (false≢true v)
 
 -- files that were renamed
 pub files_renamed : RenamesKeepNumbers → RenamesKeepParents → (files : Files) (more : Rows ℕ) (from to : List ℕ) (number : ℕ)

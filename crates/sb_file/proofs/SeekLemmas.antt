@@ -1,7 +1,6 @@
 -- What the object of a parent says of it.
-use Rattle.std.proofs.Common.{◌≡◌, ℕ, Bool, true, false, refl, sym, ◌∙◌, ap, List}
+use Rattle.std.proofs.Common.{◌≡◌, ℕ, false, sym, List}
 use Rattle.std.specs.Prelude.{Option, None, Some}
-use Rattle.sb_handles.specs.Shares.{Shares}
 use Rattle.sb_names.specs.Nodes.{Nodes, rows_of}
 use Rattle.sb_names.specs.Trees.{parent_object}
 use Rattle.sb_file.specs.Seeks.{ParentIs, admits}

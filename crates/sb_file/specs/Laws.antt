@@ -10,8 +10,9 @@ use Rattle.sb_handles.specs.declared.objects.Held.{Held}
 use Rattle.sb_names.specs.Keys.{key_of, is_below}
 use Rattle.sb_names.specs.Maps.{found, is_key, is_there}
 use Rattle.sb_names.specs.Renames.{renamed_key}
-use Rattle.sb_file.specs.Creation.{create, object_asked, on_file, open_by_name, was_created, was_overwritten, was_superseded}
+use Rattle.sb_file.specs.Creation.{create, object_asked, on_file, was_created, was_overwritten, was_superseded}
 use Rattle.sb_file.specs.Files.{Files, AreFiles, AreObjects, Agrees, object_found, rename, closed}
+use Rattle.sb_file.specs.Requests.{needs_object}
 use Rattle.sb_file.specs.declared.objects.FileObject.{FileObject}
 use Rattle.sb_file.specs.declared.requests.FileRequest.{FileRequest}
 
@@ -87,10 +88,10 @@ CreatesLeaveOthers = (files : Files) (handles : Table) (target : ℕ) (name othe
     → is_key (key_of other) (key_of name) ≡ false
     → object_found (create files handles target name request).service other ≡ object_found files other
 
--- a file.open makes nothing
+-- one that needs what is there, as each file.open does, makes nothing
 abbrev pub OpensLeaveNames : Type 0
-OpensLeaveNames = (files : Files) (handles : Table) (target : ℕ) (name : List ℕ) (access sharing options : ℕ)
-    → (open_by_name files handles target name access sharing options).service.names ≡ files.names
+OpensLeaveNames = (files : Files) (handles : Table) (target : ℕ) (name : List ℕ) (request : FileRequest) → needs_object request.disposition ≡ true
+    → (create files handles target name request).service.names ≡ files.names
 
 -- a rename leaves all objects and open handles
 abbrev pub RenamesKeepObjects : Type 0
@@ -122,6 +123,11 @@ abbrev pub RenamesAddNothing : Type 0
 RenamesAddNothing = (files : Files) (name to other : List ℕ) → (rename files name to).1.status ≡ success
     → is_there (rename files name to).0.names other ≡ true
     → (key : List ℕ) × (is_some (lookup (is_key key) files.names) ≡ true) × (renamed_key (key_of name) (key_of to) key ≡ key_of other)
+
+-- a file.create keeps the agreement
+abbrev pub CreatesKeepFiles : Type 0
+CreatesKeepFiles = (files : Files) (handles : Table) (target : ℕ) (name : List ℕ) (request : FileRequest) → IsTable handles → Agrees files handles
+    → Agrees (create files handles target name request).service (create files handles target name request).handles
 
 -- after a handle was closed, `closed` makes files and handles agree again
 abbrev pub ClosesKeepFiles : Type 0

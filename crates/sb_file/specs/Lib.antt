@@ -1,4 +1,5 @@
 pub mod Creation
 pub mod Files
 pub mod Laws
+pub mod Requests
 pub mod Seeks

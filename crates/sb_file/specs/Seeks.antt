@@ -6,7 +6,7 @@ use Rattle.sb_names.specs.Maps.{found}
 use Rattle.sb_names.specs.Nodes.{Nodes, IsAt, number_of, rows_of}
 use Rattle.sb_names.specs.declared.seeking.Seek.{Seek}
 use Rattle.sb_names.specs.declared.seeking.Seek.TheVariants as seek
-use Rattle.sb_file.specs.Files.{Files, has_parent, is_directory, object_at}
+use Rattle.sb_file.specs.Files.{has_parent, is_directory, object_at}
 use Rattle.sb_file.specs.declared.objects.FileObject.{FileObject}
 
 -- names may stand in a directory of this object, and in the root, which has none

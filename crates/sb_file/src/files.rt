@@ -1,10 +1,12 @@
 // The files and directories, and what each call but file.create does.
 ghost use Rattle.std.specs.Prelude.{◌≡◌, ◌<◌, ◌≤◌, ◌+◌, ◌-◌, ◌^◌, ◌++◌, ◌∷◌, [], true, None, IfOk, IfSome, OnOk, OnErr, length, slice_set};
 ghost use Rattle.sb_wide.specs.Names.{is_name_of};
+ghost use Rattle.sb_call.specs.Statuses.{success};
 ghost use Rattle.sb_handles.specs.Laws.{IsOn};
 ghost use Rattle.sb_names.specs.Maps.{found, put};
 ghost use Rattle.sb_names.specs.Keys.{key_of, parent_of};
 ghost use Rattle.sb_names.specs.Nodes.{IsAt, number_of, rows_of};
+ghost use Rattle.sb_names.specs.Objects.{IsNameOf};
 ghost use Rattle.sb_file.specs.Seeks.{IsSought, admits};
 ghost use Rattle.sb_file.specs.Files.{AreFiles, no_files, object_at, query, rename, can_start, started, closed};
 
@@ -18,22 +20,23 @@ use sb_items::NoMemory;
 use sb_names::{
     NameTree, NodeId, Seek, is_below, numbers_are_kept, parents_are_kept, renames_keep_numbers,
 };
+use sb_wide::Wide;
 use std::alloc::Global;
 use std::marker::Model;
 
-// The access that a rename needs of the object itself: delete.
+// The access that a rename needs to the object itself: delete.
 const RENAME_ACCESS: Access = Access::DELETE;
 
-// The sharing that a rename leaves: read, write and delete.
+// What a rename leaves to others: read, write and delete.
 const RENAME_SHARING: Sharing = Sharing::ALL;
 
 /// The files and directories: a tree of names, each object that was ever made, and the open handles on them.
 ///
-/// Names are compared folded. A name stands in the directory that its parent names; the root is there always.
+/// Names are compared folded. Each is in the directory of its parent; the root is always there.
 pub struct FileService {
     // The number of the object under each name.
     pub(crate) names: NameTree,
-    // The object of number n stands at place n - 1.
+    // The object of number n is at place n - 1.
     pub(crate) objects: Vec<FileObject>,
     // The open handles.
     pub(crate) shares: ShareTable,
@@ -107,7 +110,7 @@ pub(crate) fn add_object(
     Ok(number)
 }
 
-// Whether names may stand in a directory, by its object: it is no file. They may in the root, which has none.
+// Whether there may be names in a directory, by its object: it is no file. The root has no object and admits names.
 fn admits(objects: &[FileObject], parent: Option<u64>) -> bool
     ensures { result ≡ admits objects.now parent }
 {
@@ -117,9 +120,9 @@ fn admits(objects: &[FileObject], parent: Option<u64>) -> bool
     }
 }
 
-// Where the path of a name leads, if no file stands in its way.
+// Where the path of a name leads; it leads nowhere through a file.
 #[tactic(auto, using(crate::proofs::SeekLemmas::parent_gone, crate::proofs::SeekLemmas::parent_admits))]
-pub(crate) fn sought(names: &NameTree, objects: &[FileObject], name: &[u16]) -> Seek
+pub(crate) fn seek_in(names: &NameTree, objects: &[FileObject], name: &[u16]) -> Seek
     requires { is_name_of name.now ≡ true }
     ensures { IsSought names.now.nodes objects.now name.now result }
 {
@@ -155,22 +158,32 @@ impl FileService {
         self.objects.len() as u64
     }
 
-    /// Each name leads to an object that was made, no two to one, and stands in a directory or in the root; each open handle is
-    /// on an object that was made; and the names are kept folded and in rising order. It changes nothing.
-    pub fn files_are_made(&self)
+    /// Establishes for a proof that each name is that of an object that was made, no two of one, and is in a directory or in
+    /// the root; that each open handle is on an object that was made; and that names are folded and rise. It does nothing.
+    pub fn establish_files(&self)
         ensures { AreFiles self.now }
     {
         self.names.establish_tree();
     }
 
-    /// Shows the attributes and the kind of what stands under a name. Statuses, the first that applies: path not found
+    /// The folded name of the file or directory of a number, or None exactly if no name leads to it.
+    ///
+    /// # Errors
+    /// `NoMemory` if there was none for the name.
+    pub fn name_of(&self, number: u64) -> Result<Option<Wide>, NoMemory>
+        ensures { IfOk result (λ name. IsNameOf self.now.names number name) }
+    {
+        self.names.name_of(number)
+    }
+
+    /// Shows the attributes and the kind of the file or directory of a name. Statuses, the first that applies: path not found
     /// if the parent of the name is not there or is a file; name not found; success, with the attributes and 0 for a
     /// file or 1 for a directory as the extended words.
     pub fn query(&self, name: &[u16]) -> Answer
         requires name { is_name_of name.now ≡ true }
         ensures { result ≡ query self.now name.now }
     {
-        match sought(&self.names, &self.objects, name) {
+        match seek_in(&self.names, &self.objects, name) {
             Seek::NoDirectory => Answer::refusal(PATH_NOT_FOUND),
             Seek::Absent { .. } => Answer::refusal(NAME_NOT_FOUND),
             Seek::There { object, .. } => {
@@ -180,26 +193,27 @@ impl FileService {
         }
     }
 
-    /// Gives a file or directory, and all below it, a new name: each name begins with `to` in the place of `name`. The
-    /// handles stay with their objects. Statuses, the first that applies: path not found if the parent of `name` is not
+    /// Gives a file or directory, and all below it, a new name: each name begins with `to` in place of `name`. The handles
+    /// stay with their objects. Statuses, the first that applies: path not found if the parent of `name` is not
     /// there or is a file; name not found; invalid parameter if `to` lies below `name`; path not found if the parent
     /// of `to` is not there or is a file; name collision if `to` is there, also as `name` itself; sharing violation
     /// if deleting the object conflicts with an open handle on it; success.
     ///
     /// # Errors
-    /// `NoMemory` if there was none for the new names; then all is as before.
+    /// `NoMemory` if the call would succeed and there was none for the new names; then all is as before.
     pub fn rename(&mut self, name: &[u16], to: &[u16]) -> Result<Answer, NoMemory>
         requires name { is_name_of name.now ≡ true }
         requires to { is_name_of to.now ≡ true }
         ensures answer { IfOk result (λ a. a ≡ (rename self.old name.now to.now).1) }
         ensures service { OnOk result (self.new ≡ (rename self.old name.now to.now).0) }
+        ensures memory { OnErr result ((rename self.old name.now to.now).1.status ≡ success) }
         ensures shares { self.new.shares ≡ self.old.shares }
         ensures err { OnErr result (self.new ≡ self.old) }
     {
         renames_keep_numbers();
         parents_are_kept();
         self.names.establish_tree();
-        let (node, number) = match sought(&self.names, &self.objects, name) {
+        let (node, number) = match seek_in(&self.names, &self.objects, name) {
             Seek::NoDirectory => return Ok(Answer::refusal(PATH_NOT_FOUND)),
             Seek::Absent { .. } => return Ok(Answer::refusal(NAME_NOT_FOUND)),
             Seek::There { node, object, .. } => (node, object),
@@ -207,7 +221,7 @@ impl FileService {
         if is_below(name, to) {
             return Ok(Answer::refusal(INVALID_PARAMETER));
         }
-        let directory = match sought(&self.names, &self.objects, to) {
+        let directory = match seek_in(&self.names, &self.objects, to) {
             Seek::NoDirectory => return Ok(Answer::refusal(PATH_NOT_FOUND)),
             Seek::There { .. } => return Ok(Answer::refusal(NAME_COLLISION)),
             Seek::Absent { directory, .. } => directory,
@@ -228,28 +242,29 @@ impl FileService {
         requires name { is_name_of name.now ≡ true }
         ensures { result ≡ can_start self.now name.now }
     {
-        match sought(&self.names, &self.objects, name) {
+        match seek_in(&self.names, &self.objects, name) {
             Seek::Absent { .. } => true,
             _ => false,
         }
     }
 
-    /// Places a directory or a file of the opening namespace. It answers false, and changes nothing, exactly if the
-    /// parent of the name is not there or is a file, or the name is there.
+    /// Places a directory or a file of the opening namespace. Returns false, and changes nothing, exactly if the parent of the
+    /// name is not there or is a file, or the name is there.
     ///
     /// # Errors
-    /// `NoMemory` if there was none for it; then nothing is changed.
+    /// `NoMemory` if it can be placed and there was none for it; then nothing is changed.
     pub fn start(&mut self, name: &[u16], dir: bool, attributes: u64) -> Result<bool, NoMemory>
         requires name { is_name_of name.now ≡ true }
         requires made { length self.old.objects < 2 ^ 63 }
         ensures answer { IfOk result (λ b. b ≡ can_start self.old name.now) }
         ensures service { OnOk result (self.new ≡ started self.old name.now dir attributes) }
+        ensures memory { OnErr result (can_start self.old name.now ≡ true) }
         ensures shares { self.new.shares ≡ self.old.shares }
         ensures err { OnErr result (self.new ≡ self.old) }
     {
         numbers_are_kept::<u64>();
         parents_are_kept();
-        let Seek::Absent { directory, .. } = sought(&self.names, &self.objects, name) else {
+        let Seek::Absent { directory, .. } = seek_in(&self.names, &self.objects, name) else {
             return Ok(false);
         };
         let object = FileObject {
@@ -260,14 +275,14 @@ impl FileService {
         Ok(true)
     }
 
-    /// Takes a handle out that was held on the file or directory of a number, and is open on no other, once the handle table
-    /// has closed it. It takes part in sharing no more.
-    pub fn closed(&mut self, number: u64, handle: u64)
+    /// Ends the sharing of a handle on the file or directory of a number, once the handle table has closed it. The handle must
+    /// be open on no other object.
+    pub fn close(&mut self, number: u64, handle: u64)
         requires { IsOn self.old.shares number handle }
         ensures { self.new ≡ closed self.old handle }
     {
         handles_are_on_one_object();
-        self.shares.shares_rise();
+        self.shares.establish_order();
         self.shares.leave(number, handle);
     }
 }

@@ -1,5 +1,5 @@
 // Laws of files and directories. None of these functions changes anything: each contract is a law.
-ghost use Rattle.sb_file.specs.Laws.{CreatesAreFound, CreatesGiveAttributes, CreatesGrantFiles, CreatesGrantTheirFile, CreatesKeepNames, CreatesLeaveOthers, CreatesMakeOne, OpensLeaveNames, RefusalsChangeNothing, RefusedRenamesChangeNothing, RenamesAddNothing, RenamesKeepObjects, RenamesMove, RenamesLeaveNothing, RenamesLeaveOthers, ClosesKeepFiles, ClosesLeaveFiles, GrantsLeaveFiles};
+ghost use Rattle.sb_file.specs.Laws.{CreatesAreFound, CreatesGiveAttributes, CreatesGrantFiles, CreatesGrantTheirFile, CreatesKeepFiles, CreatesKeepNames, CreatesLeaveOthers, CreatesMakeOne, OpensLeaveNames, RefusalsChangeNothing, RefusedRenamesChangeNothing, RenamesAddNothing, RenamesKeepObjects, RenamesMove, RenamesLeaveNothing, RenamesLeaveOthers, ClosesKeepFiles, ClosesLeaveFiles, GrantsLeaveFiles};
 
 use sb_handles::agreement_is_kept as shares_are_kept;
 use sb_names::{puts_are_found, puts_keep_rows, renames_are_found};
@@ -66,10 +66,11 @@ pub fn renames_move_names()
     renames_are_found();
 }
 
-/// Files that agree with a handle table agree after a handle was closed in both, and after one on any other object was
-/// granted or closed.
-#[tactic(auto, using(crate::proofs::AgreementLaws::closes_keep_files, crate::proofs::AgreementLaws::closes_leave_files, crate::proofs::AgreementLaws::grants_leave_files))]
+/// Files that agree with a handle table agree after each file.create, after a handle was closed in both, and after one on any
+/// other object was granted or closed.
+#[tactic(auto, using(crate::proofs::AgreementLaws::creates_keep_files, crate::proofs::AgreementLaws::closes_keep_files, crate::proofs::AgreementLaws::closes_leave_files, crate::proofs::AgreementLaws::grants_leave_files))]
 pub fn agreement_is_kept()
+    ensures creates { CreatesKeepFiles }
     ensures closes { ClosesKeepFiles }
     ensures other_closes { ClosesLeaveFiles }
     ensures other_grants { GrantsLeaveFiles }

@@ -1,4 +1,4 @@
-// Files and directories: a tree of names, the objects that they lead to, and who has them open with what sharing.
+// Files and directories: a tree of names, their objects, and which handles have them open with what sharing.
 // Dispositions, options and statuses are those of NtCreateFile and NtSetInformationFile in their documentation.
 #![tactic(auto)]
 
@@ -14,4 +14,4 @@ pub use laws::{
     files_are_found_where_made, files_stay, refusals_change_nothing, renames_move_names,
 };
 pub use objects::{FileKind, FileObject};
-pub use requests::FileRequest;
+pub use requests::{Disposition, FileOptions, FileRequest};

@@ -1,4 +1,4 @@
-// What is kept of a file or directory.
+// A file or directory, apart from its name.
 ghost use Rattle.std.specs.Prelude.{◌≡◌};
 ghost use Rattle.sb_file.specs.Files.{is_directory, kind_of, kind_number};
 

@@ -6,7 +6,7 @@ use Rattle.std.specs.Prelude.{Option, None, Some, is_some, not, ◌&&◌, ◌||�
 use Rattle.std.specs.BTreeMap.{get, is_at}
 use Rattle.sb_call.specs.Statuses.{meets}
 use Rattle.sb_handles.specs.Shares.{by_object, conflicts, exceeds, takes_part, read_bits, write_bits, delete_bits, share_read, share_write, share_delete}
-use Rattle.sb_handles.specs.Sets.{HasShare, HasShares, conflicts_by, is_exceeding, is_met, is_unshared}
+use Rattle.sb_handles.specs.Sets.{HasShare, HasShares, conflicts_by, is_exceeding, is_unshared}
 use Rattle.sb_handles.specs.declared.objects.Share.{Share}
 use Rattle.sb_handles.specs.declared.sets.Sets.{Sets}
 use Rattle.sb_handles.proofs.IndexLemmas.{same_pair}
@@ -134,11 +134,3 @@ module _ (shares : ℕ × ℕ → Option Share) (sets sets' : Sets) (object hand
       words_by : (q : ℕ × ℕ) (s : Bool) → is_some (cond s None (shares q)) ≡ true → q.1 < 2 ^ 64
       words_by q true e = absurd (false≢true e)
       words_by q false e = has.words q e
-
-  -- one that could not be opened
-  pub listed_same : (shares' : ℕ × ℕ → Option Share) → ((q : ℕ × ℕ) → shares' q ≡ shares q)
-      → ((q : ℕ × ℕ) (other : Share) → HasShare sets q other → HasShare sets' q other) → HasShares shares' sets'
-  listed_same shares' same kept = record {
-    listed = λ q other e. kept q other (has.listed q other (sym (same q) ∙ e));
-    words = λ q e. has.words q (ap is_some (sym (same q)) ∙ e);
-  }

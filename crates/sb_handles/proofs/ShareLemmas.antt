@@ -1,17 +1,15 @@
 -- Shares of one object, and of one handle.
-use Rattle.std.proofs.Common.{◌≡◌, ◌<◌, ◌-◌, ◌^◌, ℕ, Bool, true, false, cond, refl, sym, ◌∙◌, ap, arith, ◌==◌, nat_le, if◌then◌else◌, List, [], ◌∷◌, get_or}
+use Rattle.std.proofs.Common.{◌≡◌, ◌-◌, ◌^◌, ℕ, Bool, true, false, cond, refl, sym, ◌∙◌, ap, arith, ◌==◌, nat_le, if◌then◌else◌, List, [], ◌∷◌}
 use Rattle.std.proofs.lemmas.Bool.{false≢true, and_parts}
 use Rattle.std.proofs.lemmas.Bool.Decides.{nat_tests}
-use Rattle.std.proofs.lemmas.List.Sums.{list_all-from_AllPass}
-use Rattle.std.proofs.lemmas.Map.Views.{All-found}
-use Rattle.std.specs.Prelude.{Option, None, Some, is_some, option_map, not, ◌&&◌, ◌||◌}
-use Rattle.std.specs.BTreeMap.{BTreeMap, IsOrdered, get, is_at}
-use Rattle.std.specs.BTreeMap.Range.{range_contains, entries_between}
+use Rattle.std.specs.Prelude.{Option, None, Some, not, ◌&&◌, ◌||◌}
+use Rattle.std.specs.BTreeMap.{is_at}
+use Rattle.std.specs.BTreeMap.Range.{range_contains}
 use Rattle.std.specs.Cmp.{IsTotalOrder, nat_cmp_total, on_total, then_total}
 use Rattle.std.specs.declared.ops.Bound.TheVariants.{Included}
 use Rattle.std.specs.List.{filter, find, list_all}
 use Rattle.std.specs.Map.{remove_entry}
-use Rattle.sb_handles.specs.Shares.{by_object, is_conflict, conflicts, conflict_of, left}
+use Rattle.sb_handles.specs.Shares.{by_object, left}
 use Rattle.sb_handles.specs.declared.objects.Share.{Share}
 use Rattle.sb_handles.proofs.IndexLemmas.{same_pair}
 

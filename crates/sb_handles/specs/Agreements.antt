@@ -16,7 +16,7 @@ abbrev pub is_pipe : Service → Bool
 is_pipe service.Pipe = true
 is_pipe _ = false
 
--- how a handle stands to others of this file or directory, if it is one on it
+-- access and sharing of a handle, if it is open on this file or directory
 abbrev pub file_share_by : ℕ → Option OpenHandle → Option Share
 file_share_by object None = None
 file_share_by object (Some handle) =
@@ -24,7 +24,7 @@ file_share_by object (Some handle) =
     then Some (record { access = handle.held.access; sharing = handle.held.sharing })
     else None
 
--- how the handle of a number is open on a file or directory
+-- access and sharing with which the handle of a number is open on a file or directory
 abbrev pub file_share : Table → ℕ → ℕ → Option Share
 file_share table object number = file_share_by object (find (λ handle. handle.number == number) table.handles)
 

@@ -1,9 +1,13 @@
 -- What a call of a service does.
-use Rattle.std.specs.Prelude.{◌≡◌, ◌+◌, ℕ, List}
-use Rattle.sb_call.specs.Statuses.{refusal, granting}
+use Rattle.std.specs.Prelude.{◌≡◌, ◌+◌, ◌||◌, ◌==◌, ℕ, Bool, List}
+use Rattle.sb_call.specs.Statuses.{granting, name_exists, refusal, success}
 use Rattle.sb_call.specs.declared.replies.Answer.{Answer}
 use Rattle.sb_handles.specs.Tables.{Table, with_handle}
 use Rattle.sb_handles.specs.declared.objects.Held.{Held}
+
+-- the status says that a call was done and not refused; that the name exists is how event.create opens an event
+abbrev pub is_done : ℕ → Bool
+is_done status = status == success || status == name_exists
 
 -- the service and the handles after the call, and its answer
 pub record Effect (S : Type 0) : Type 0 where

@@ -1,5 +1,5 @@
--- Which accesses to one object may stand beside one another.
-use Rattle.std.specs.Prelude.{◌≡◌, ℕ, Bool, ◌&&◌, ◌||◌, not, ◌==◌, List, Option, Some, option_map, ⊤}
+-- Which accesses to one object may be open at the same time.
+use Rattle.std.specs.Prelude.{ℕ, Bool, ◌&&◌, ◌||◌, not, ◌==◌, List, Option, option_map}
 use Rattle.std.specs.BTreeMap.{insert_entry, is_at}
 use Rattle.std.specs.declared.cmp.Ordering.{Ordering}
 use Rattle.std.specs.List.{filter, find}
@@ -8,8 +8,6 @@ use Rattle.std.specs.Map.{keys_of, lookup, remove_entry}
 use Rattle.std.specs.Ordering.{nat_cmp, ordering_then}
 use Rattle.sb_call.specs.Statuses.{meets}
 use Rattle.sb_handles.specs.declared.objects.Share.{Share}
-use Rattle.sb_handles.specs.declared.objects.ShareRefused.{ShareRefused}
-use Rattle.sb_handles.specs.declared.objects.ShareRefused.TheVariants as refused
 
 -- reads data or executes, by itself or by a generic right
 abbrev pub read_bits : ℕ
@@ -48,7 +46,7 @@ abbrev pub conflicts : ℕ → ℕ → Share → Bool
 conflicts access sharing share =
     takes_part access && takes_part share.access.0 && (exceeds access share.sharing.0 || exceeds share.access.0 sharing)
 
--- how each open handle stands to others of its object: by object and handle, in strictly rising order
+-- access and sharing of each open handle: by object and handle, in strictly rising order
 abbrev pub Shares : Type 0
 Shares = List ((ℕ × ℕ) × Share)
 
@@ -83,8 +81,3 @@ left_on shares object handle = remove_entry (is_at (by_object (object, handle)))
 -- how a handle is open on an object
 abbrev pub share_on : Shares → ℕ → ℕ → Option Share
 share_on shares object handle = lookup (λ key. key.0 == object && key.1 == handle) shares
-
--- a refusal that an answer may have: the lowest conflict, or that memory ran out
-abbrev pub IsRefusal : Option ℕ → ShareRefused → Type 0
-IsRefusal conflict (refused.Conflict handle) = conflict ≡ Some handle
-IsRefusal conflict refused.NoMemory = ⊤

@@ -29,7 +29,7 @@ pub fn agreement_is_kept()
     ensures closes { ClosesKeepFiles }
 {}
 
-/// What is opened under the number of the next handle, and left again, leaves the shares as they were.
+/// An object that is opened under the number of the next handle, and left again, leaves the shares as they were.
 #[tactic(auto, using(crate::proofs::TableLaws::opens_come_back))]
 pub fn opens_come_back()
     ensures { OpensComeBack }

@@ -1,4 +1,4 @@
-// Handles: who holds which on what object, and which accesses to one object may stand beside one another.
+// Handles: which target holds which handle on what object, and which accesses to one object may be open at the same time.
 // Accesses and sharing are those of CreateFile and NtCreateFile (the tables of share modes in their documentation).
 #![tactic(auto)]
 
@@ -15,6 +15,6 @@ pub use laws::{
     pipe_handles_are_counted,
 };
 pub use masks::{Access, Sharing};
-pub use objects::{Held, NotHeld, Object, OpenHandle, Service, Share, ShareRefused};
+pub use objects::{Held, NotHeld, Object, OpenHandle, Service, Share};
 pub use shares::ShareTable;
 pub use tables::HandleTable;

@@ -42,7 +42,8 @@ impl Flags for Access {
     }
 }
 
-/// What may be done beside an open handle (`ShareAccess`). All bits are kept; those that have no name share nothing.
+/// What others may do to an object while a handle is open (`ShareAccess`). All bits are kept; those that have no name share
+/// nothing.
 #[derive(Clone, Copy)]
 pub struct Sharing(u32);
 

@@ -1,4 +1,4 @@
-// What a handle is held on, and how.
+// What a handle is open on, with which access and sharing.
 
 use crate::masks::{Access, Sharing};
 use thiserror::Error;
@@ -30,9 +30,9 @@ pub struct Object {
 pub struct Held {
     /// The object.
     pub object: Object,
-    /// The access that was asked for; 0 if the call has none.
+    /// The access with which it was opened; 0 if the call has none.
     pub access: Access,
-    /// What may be done beside it; 0 if the call has none.
+    /// What others may do to the object while it is open; 0 if the call has none.
     pub sharing: Sharing,
 }
 
@@ -47,12 +47,12 @@ pub struct OpenHandle {
     pub held: Held,
 }
 
-/// How an open handle stands to others of its object.
+/// The access of an open handle, and what it shares with others of its object.
 #[derive(Clone, Copy)]
 pub struct Share {
     /// The access of the handle.
     pub access: Access,
-    /// What may be done beside it.
+    /// What others may do to the object while it is open.
     pub sharing: Sharing,
 }
 
@@ -60,17 +60,3 @@ pub struct Share {
 #[derive(Clone, Copy, Debug, Error)]
 #[error("handle not held")]
 pub struct NotHeld;
-
-/// Why an object was not opened.
-#[derive(Clone, Copy, Debug, Error)]
-pub enum ShareRefused {
-    /// An open handle conflicts.
-    #[error("conflict with handle {handle}")]
-    Conflict {
-        /// The lowest such handle.
-        handle: u64,
-    },
-    /// There was no memory.
-    #[error("out of memory")]
-    NoMemory,
-}

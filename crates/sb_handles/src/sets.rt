@@ -66,18 +66,18 @@ fn note(set: &mut BTreeMap<(u64, u64), ()>, key: (u64, u64), belongs: bool) -> R
     Ok(())
 }
 
-// The lowest handle of an object in a set with which a new access conflicts, if such a set is to be asked.
+// The lowest handle of an object in a set with which a new access conflicts. None if the set is not to be searched.
 fn first_in(
-    asked: bool,
+    is_searched: bool,
     set: &BTreeMap<(u64, u64), ()>,
     shares: &BTreeMap<(u64, u64), Share>,
     object: u64,
     access: Access,
     sharing: Sharing,
 ) -> Option<u64>
-    ensures { IsLowest (λ handle. is_met asked (get by_object set.now (object, handle)) (conflicts_by access.0 sharing.0 (get by_object shares.now (object, handle)))) result }
+    ensures { IsLowest (λ handle. is_met is_searched (get by_object set.now (object, handle)) (conflicts_by access.0 sharing.0 (get by_object shares.now (object, handle)))) result }
 {
-    if !asked {
+    if !is_searched {
         return None;
     }
     for ((_, handle), _) in set.range((object, 0)..=(object, u64::MAX)) {
@@ -100,7 +100,7 @@ fn lower(a: Option<u64>, b: Option<u64>) -> Option<u64>
 }
 
 // The handles that take part in sharing, each by its object: in the sets of those that read, write and delete, and of those
-// that do not share reading, writing and deleting. A set may have more than these; who asks looks at the share.
+// that do not share reading, writing and deleting. A set may have more handles than these: a caller looks at the share.
 pub(crate) struct Sets {
     reading: BTreeMap<(u64, u64), ()>,
     writing: BTreeMap<(u64, u64), ()>,

@@ -1,19 +1,20 @@
-// Which accesses to one object may stand beside one another.
-ghost use Rattle.std.specs.Prelude.{◌≡◌, None, [], IfErr, OnOk, OnErr};
-ghost use Rattle.sb_handles.specs.Shares.{SharesRise, conflict_of, opened, left_on, IsRefusal};
+// Which accesses to one object may be open at the same time.
+ghost use Rattle.std.specs.Prelude.{◌≡◌, [], OnOk, OnErr};
+ghost use Rattle.sb_handles.specs.Shares.{SharesRise, conflict_of, opened, left_on};
 
 use crate::masks::{Access, Sharing};
-use crate::objects::{Share, ShareRefused};
+use crate::objects::Share;
 use crate::sets::Sets;
+use sb_items::NoMemory;
 use std::alloc::Global;
 use std::collections::BTreeMap;
 use std::marker::Model;
 
-/// How the open handles of each object stand to one another.
+/// The access and the sharing of each open handle of each object.
 ///
-/// An access reads, writes or deletes, each also by a generic right; any other takes no part. A new access conflicts with
-/// an open handle of the same object if it does what the handle does not share, or the handle does what the new one does
-/// not share.
+/// An access that reads, writes or deletes, also by a generic right, takes part in sharing; any other does not. A new access
+/// conflicts with an open handle of the same object if it does what the handle does not share, or the handle does what the
+/// new one does not share.
 pub struct ShareTable {
     // By object and handle.
     shares: BTreeMap<(u64, u64), Share>,
@@ -51,8 +52,8 @@ impl ShareTable {
         }
     }
 
-    /// The lowest open handle of an object that a new access with its sharing conflicts with. It takes the time of a few
-    /// look-ups, however many handles are open.
+    /// The lowest open handle of an object with which a new access and its sharing conflict. It looks for it in ordered
+    /// sets of the handles that do, or do not share, what the new access excludes, and not at all handles of the object.
     pub fn check(&self, object: u64, access: Access, sharing: Sharing) -> Option<u64>
         ensures { result ≡ conflict_of self.now object access.0 sharing.0 }
     {
@@ -61,35 +62,25 @@ impl ShareTable {
             .lowest_conflict(&self.shares, object, access, sharing)
     }
 
-    /// Opens an object with an access and its sharing, under a handle. A share that the handle had of the object goes.
+    /// Opens an object with an access and its sharing, under a handle, whether or not it conflicts: `check` says so. A share
+    /// that the handle had of the object is replaced.
     ///
     /// # Errors
-    /// `Conflict` exactly if an open handle of the object conflicts, with the lowest, and else `NoMemory` if there was
-    /// none; then nothing is changed.
-    pub fn try_open(
+    /// `NoMemory` if there was none for the share; then nothing is changed.
+    pub fn open(
         &mut self,
         object: u64,
         handle: u64,
         access: Access,
         sharing: Sharing,
-    ) -> Result<(), ShareRefused>
-        ensures free { OnOk result (conflict_of self.old object access.0 sharing.0 ≡ None) }
+    ) -> Result<(), NoMemory>
         ensures ok { OnOk result (self.new ≡ opened self.old object handle (record { access = access; sharing = sharing })) }
-        ensures refused { IfErr result (λ refused. IsRefusal (conflict_of self.old object access.0 sharing.0) refused) }
         ensures err { OnErr result (self.new ≡ self.old) }
     {
-        if let Some(handle) = self.check(object, access, sharing) {
-            return Err(ShareRefused::Conflict { handle });
-        }
         let share = Share { access, sharing };
-        match self.sets.note((object, handle), share) {
-            Ok(()) => {}
-            Err(_) => return Err(ShareRefused::NoMemory),
-        }
-        match self.shares.insert((object, handle), share) {
-            Ok(_) => Ok(()),
-            Err(_) => Err(ShareRefused::NoMemory),
-        }
+        self.sets.note((object, handle), share)?;
+        self.shares.insert((object, handle), share)?;
+        Ok(())
     }
 
     /// Takes out the share that a handle has of an object, if it has one.
@@ -100,8 +91,8 @@ impl ShareTable {
         self.sets.forget((object, handle));
     }
 
-    /// The shares rise strictly, by object and then by handle. It changes nothing.
-    pub fn shares_rise(&self)
+    /// Establishes for a proof that the shares rise strictly, by object and then by handle. It does nothing.
+    pub fn establish_order(&self)
         ensures { SharesRise self.now }
     {
         let _count = self.shares.len();

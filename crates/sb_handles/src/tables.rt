@@ -15,9 +15,9 @@ pub(crate) struct Slot {
     held: Held,
 }
 
-/// The handles that targets hold, in the order of their granting, and how many were ever granted.
+/// The handles that targets hold, in the order in which they were granted, and how many were ever granted.
 ///
-/// A handle has the number that it was granted as, from 1, over all targets. No number is granted twice.
+/// Handles are numbered from 1 as they are granted, over all targets. No number is granted twice.
 pub struct HandleTable {
     // The handle of number n stands at place n - 1, and is gone once it is closed.
     slots: Vec<Option<Slot>>,
@@ -119,8 +119,8 @@ impl HandleTable {
         Ok(self.grant_reserved(target, held))
     }
 
+    /// What a target holds under a number, or None if it holds no handle of that number.
     #[tactic(auto, using(crate::proofs::SlotLemmas::found_slot))]
-    /// What a target holds under a number, or nothing if it holds no handle of that number.
     pub fn lookup(&self, target: u32, number: u64) -> Option<Held>
         ensures { result ≡ held_by self.now.table target number }
     {
@@ -132,11 +132,11 @@ impl HandleTable {
         }
     }
 
-    #[tactic(auto, using(crate::proofs::SlotLemmas::found_slot, crate::proofs::SlotLemmas::emptied))]
-    /// Closes a handle that a target holds, and gives what it was open on.
+    /// Closes a handle that a target holds, and returns what it was open on.
     ///
     /// # Errors
     /// `NotHeld` exactly if the target holds no handle of that number; then nothing is changed.
+    #[tactic(auto, using(crate::proofs::SlotLemmas::found_slot, crate::proofs::SlotLemmas::emptied))]
     pub fn close(&mut self, target: u32, number: u64) -> Result<Held, NotHeld>
         ensures held { IfOk result (λ held. held_by self.old.table target number ≡ Some held) }
         ensures ok { OnOk result (self.new.table ≡ without_handle self.old.table target number) }
@@ -152,9 +152,10 @@ impl HandleTable {
         }
     }
 
+    /// Establishes for a proof that the numbers of open handles rise strictly, from 1 to the count of handles ever granted. It
+    /// does nothing.
     #[tactic(auto, using(crate::proofs::SlotLemmas::slots_rise))]
-    /// The numbers of open handles rise strictly, from 1 to the count of handles ever granted. It changes nothing.
-    pub fn numbers_rise(&self)
+    pub fn establish_numbers(&self)
         ensures { IsTable self.now.table }
     {
         let _count = self.slots.len();

@@ -3,7 +3,6 @@ use Rattle.std.proofs.Common.{◌≡◌, ℕ, ap, refl, false, Some}
 use Rattle.sb_handles.specs.Agreements.{is_file, is_pipe}
 use Rattle.sb_handles.specs.Tables.{Table, IsTable, held_by, without_handle}
 use Rattle.sb_handles.specs.declared.objects.Held.{Held}
-use Rattle.sb_handles.specs.declared.objects.Service.{Service}
 use Rattle.sb_handles.specs.declared.objects.Service.TheVariants as service
 use Rattle.sb_file.specs.Files as files
 use Rattle.sb_file.specs.Laws.{ClosesKeepFiles, ClosesLeaveFiles}

@@ -1,6 +1,8 @@
+pub mod Arguments
 pub mod Closing
 pub mod Holding
 pub mod Kept
+pub mod Performing
 pub mod Placing
 pub mod Refusals
 pub mod Shortness

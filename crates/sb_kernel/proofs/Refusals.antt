@@ -1,20 +1,21 @@
 -- Calls that are refused change nothing.
-use Rattle.std.proofs.Common.{◌≡◌, ℕ, Bool, true, false, ◌||◌, List, [], ◌∷◌, Option, None, Some, refl, sym, subst, ap}
+use Rattle.std.proofs.Common.{◌≡◌, ℕ, Bool, true, false, ◌||◌, Option, None, Some, refl, sym, subst, ap}
 use Rattle.std.proofs.lemmas.Bool.{false≢true}
 use Rattle.sb_call.specs.Statuses.{success}
 use Rattle.sb_event.specs.Events as events
 use Rattle.sb_event.specs.Laws as event_laws
 use Rattle.sb_file.specs.Files as files
 use Rattle.sb_file.specs.Laws as file_laws
+use Rattle.sb_handles.specs.Effects.{is_done}
 use Rattle.sb_handles.specs.Tables.{Table, held_by}
 use Rattle.sb_handles.specs.declared.objects.Held.{Held}
 use Rattle.sb_key.specs.Laws as key_laws
 use Rattle.sb_key.specs.Registry as registry
 use Rattle.sb_pipe.specs.Laws as pipe_laws
 use Rattle.sb_pipe.specs.Pipes as pipes
-use Rattle.sb_kernel.specs.Laws.{is_done, RefusedCallsChangeNothing, UnheldClosesChangeNothing}
-use Rattle.sb_kernel.specs.Namespaces.{Space, close_by, done, perform_by}
-use Rattle.sb_kernel.specs.Requests.{Request, asked}
+use Rattle.sb_kernel.specs.Laws.{RefusedCallsChangeNothing, UnheldClosesChangeNothing}
+use Rattle.sb_kernel.specs.Namespaces.{Space, close_by, perform_by, perform_request}
+use Rattle.sb_kernel.specs.Requests.{Request, request_of}
 use Rattle.sb_kernel.specs.Requests as request
 
 -- neither of two tests holds if their `or` does not
@@ -57,22 +58,22 @@ module _ (files_refused : file_laws.RefusalsChangeNothing) (renames_refused : fi
     (pipes_refused : pipe_laws.RefusalsChangeNothing)
     (key_creates_refused : key_laws.RefusedCreatesChangeNothing) (key_opens_refused : key_laws.RefusedOpensChangeNothing)
     (event_creates_refused : event_laws.RefusedCreatesChangeNothing) (event_opens_refused : event_laws.RefusedOpensChangeNothing) where
-  done_same : (ns : Space) (target : ℕ) (r : Request) → is_done (done ns target r).answer.status ≡ false → (done ns target r).space ≡ ns
-  done_same ns target (request.Ping cookie text) h = refl
-  done_same ns target (request.FileCreate name wanted) h = files_same ns _ _ (files_refused ns.files ns.handles target name wanted (not_success _ h))
-  done_same ns target (request.FileQuery name) h = refl
-  done_same ns target (request.FileRename name to) h = renamed_same ns _ (renames_refused ns.files name to (not_success _ h))
-  done_same ns target (request.PipeCreate name mode form instances) h =
+  request_same : (ns : Space) (target : ℕ) (r : Request) → is_done (perform_request ns target r).answer.status ≡ false → (perform_request ns target r).space ≡ ns
+  request_same ns target (request.Ping cookie text) h = refl
+  request_same ns target (request.FileCreate name wanted) h = files_same ns _ _ (files_refused ns.files ns.handles target name wanted (not_success _ h))
+  request_same ns target (request.FileQuery name) h = refl
+  request_same ns target (request.FileRename name to) h = renamed_same ns _ (renames_refused ns.files name to (not_success _ h))
+  request_same ns target (request.PipeCreate name mode form instances) h =
       pipes_same ns _ _ (pipes_refused ns.pipes ns.handles target name mode form instances (not_success _ h))
-  done_same ns target (request.KeyCreate name access) h = keys_same ns _ _ (key_creates_refused ns.keys ns.handles target name access.0 (or_left _ _ h))
-  done_same ns target (request.KeyOpen name access) h = keys_same ns _ _ (key_opens_refused ns.keys ns.handles target name access.0 (or_left _ _ h))
-  done_same ns target (request.EventCreate name kind initial) h = events_same ns _ _ (event_creates_refused ns.events ns.handles target name kind initial h)
-  done_same ns target (request.EventOpen name access) h = events_same ns _ _ (event_opens_refused ns.events ns.handles target name access.0 h)
-  done_same ns target (request.HandleClose handle) h = close_same (held_by ns.handles target handle) ns target handle h
+  request_same ns target (request.KeyCreate name access) h = keys_same ns _ _ (key_creates_refused ns.keys ns.handles target name access.0 (or_left _ _ h))
+  request_same ns target (request.KeyOpen name access) h = keys_same ns _ _ (key_opens_refused ns.keys ns.handles target name access.0 (or_left _ _ h))
+  request_same ns target (request.EventCreate name kind initial) h = events_same ns _ _ (event_creates_refused ns.events ns.handles target name kind initial h)
+  request_same ns target (request.EventOpen name access) h = events_same ns _ _ (event_opens_refused ns.events ns.handles target name access.0 h)
+  request_same ns target (request.HandleClose handle) h = close_same (held_by ns.handles target handle) ns target handle h
 
   pub refused_calls_change_nothing : RefusedCallsChangeNothing
-  refused_calls_change_nothing ns target tag args h = by (asked tag args) h
+  refused_calls_change_nothing ns target tag args h = by (request_of tag args) h
     where
       by : (o : Option Request) → is_done (perform_by o ns target).answer.status ≡ false → (perform_by o ns target).space ≡ ns
       by None h = refl
-      by (Some r) h = done_same ns target r h
+      by (Some r) h = request_same ns target r h

@@ -1,5 +1,5 @@
 -- An answer has at most seven extended words.
-use Rattle.std.proofs.Common.{◌≤◌, ℕ, Bool, true, false, not, ◌||◌, ◌==◌, if◌then◌else◌, List, [], ◌∷◌, length, Option, None, Some, lit≤, arith}
+use Rattle.std.proofs.Common.{◌≤◌, ℕ, Bool, true, false, not, if◌then◌else◌, List, length, Option, None, Some, lit≤, arith}
 use Rattle.sb_call.specs.Statuses.{refusal, path_not_found}
 use Rattle.sb_call.specs.declared.replies.Answer.{Answer}
 use Rattle.sb_event.specs.Events as events
@@ -8,8 +8,8 @@ use Rattle.sb_pipe.specs.declared.modes.PipeForm.{PipeForm}
 use Rattle.sb_pipe.specs.declared.modes.PipeMode.{PipeMode}
 use Rattle.sb_event.specs.declared.rows.EventRow.{EventRow}
 use Rattle.sb_file.specs.Creation as creation
-use Rattle.sb_file.specs.Creation.{open_existing}
 use Rattle.sb_file.specs.Files as files
+use Rattle.sb_file.specs.Requests.{replaces}
 use Rattle.sb_file.specs.declared.requests.FileRequest.{FileRequest}
 use Rattle.sb_handles.specs.Effects.{Effect}
 use Rattle.sb_handles.specs.Tables.{Table, held_by}
@@ -19,8 +19,8 @@ use Rattle.sb_names.specs.Maps.{found}
 use Rattle.sb_pipe.specs.Pipes as pipes
 use Rattle.sb_pipe.specs.declared.rows.PipeRow.{PipeRow}
 use Rattle.sb_kernel.specs.Laws.{AnswersAreShort}
-use Rattle.sb_kernel.specs.Namespaces.{Space, close_by, done, perform_by}
-use Rattle.sb_kernel.specs.Requests.{Request, asked}
+use Rattle.sb_kernel.specs.Namespaces.{Space, close_by, perform_by, perform_request}
+use Rattle.sb_kernel.specs.Requests.{Request, request_of}
 use Rattle.sb_kernel.specs.Requests as request
 
 -- an answer with at most seven extended words
@@ -43,11 +43,9 @@ either_renamed false x y e f = f
 -- files
 short_open_by : (fs : files.Files) (handles : Table) (target number : ℕ) (request : FileRequest) → IsShort (creation.open_by fs handles target number request).answer
 short_open_by fs handles target number request =
-    either (request.disposition == open_existing || request.disposition == creation.open_or_create) (creation.opens fs handles target number request creation.was_opened)
-    (if request.disposition == creation.supersede then creation.opens (files.with_attributes fs number request.attributes) handles target number request creation.was_superseded
-    else creation.opens (files.with_attributes fs number request.attributes) handles target number request creation.was_overwritten) (lit≤ tt)
-    (either (request.disposition == creation.supersede) (creation.opens (files.with_attributes fs number request.attributes) handles target number request creation.was_superseded)
-    (creation.opens (files.with_attributes fs number request.attributes) handles target number request creation.was_overwritten) (lit≤ tt) (lit≤ tt))
+    either (replaces request.disposition)
+    (creation.opens (files.with_attributes fs number request.attributes) handles target number request (creation.replaced_as request.disposition))
+    (creation.opens fs handles target number request creation.was_opened) (lit≤ tt) (lit≤ tt)
 
 short_create_by : (o : Option ℕ) (fs : files.Files) (handles : Table) (target : ℕ) (name : List ℕ) (request : FileRequest)
     → IsShort (creation.create_by o fs handles target name request).answer
@@ -115,21 +113,21 @@ short_close : (o : Option Held) (ns : Space) (target handle : ℕ) → IsShort (
 short_close None ns target handle = lit≤ tt
 short_close (Some held) ns target handle = lit≤ tt
 
-short_done : (ns : Space) (target : ℕ) (r : Request) → IsShort (done ns target r).answer
-short_done ns target (request.Ping cookie text) = lit≤ tt
-short_done ns target (request.FileCreate name wanted) = short_file ns.files ns.handles target name wanted
-short_done ns target (request.FileQuery name) = short_query ns.files name
-short_done ns target (request.FileRename name to) = short_rename ns.files name to
-short_done ns target (request.PipeCreate name mode form instances) = short_pipe ns.pipes ns.handles target name mode form instances
-short_done ns target (request.KeyCreate name access) = short_key ns.keys ns.handles target name access.0
-short_done ns target (request.KeyOpen name access) = short_key_open ns.keys ns.handles target name access.0
-short_done ns target (request.EventCreate name kind initial) = short_event ns.events ns.handles target name kind initial
-short_done ns target (request.EventOpen name access) = short_event_open (found ns.events.rows name) ns.events ns.handles target access.0
-short_done ns target (request.HandleClose handle) = short_close (held_by ns.handles target handle) ns target handle
+short_request : (ns : Space) (target : ℕ) (r : Request) → IsShort (perform_request ns target r).answer
+short_request ns target (request.Ping cookie text) = lit≤ tt
+short_request ns target (request.FileCreate name wanted) = short_file ns.files ns.handles target name wanted
+short_request ns target (request.FileQuery name) = short_query ns.files name
+short_request ns target (request.FileRename name to) = short_rename ns.files name to
+short_request ns target (request.PipeCreate name mode form instances) = short_pipe ns.pipes ns.handles target name mode form instances
+short_request ns target (request.KeyCreate name access) = short_key ns.keys ns.handles target name access.0
+short_request ns target (request.KeyOpen name access) = short_key_open ns.keys ns.handles target name access.0
+short_request ns target (request.EventCreate name kind initial) = short_event ns.events ns.handles target name kind initial
+short_request ns target (request.EventOpen name access) = short_event_open (found ns.events.rows name) ns.events ns.handles target access.0
+short_request ns target (request.HandleClose handle) = short_close (held_by ns.handles target handle) ns target handle
 
 pub answers_are_short : AnswersAreShort
-answers_are_short ns target tag args = by (asked tag args)
+answers_are_short ns target tag args = by (request_of tag args)
   where
     by : (o : Option Request) → IsShort (perform_by o ns target).answer
     by None = lit≤ tt
-    by (Some r) = short_done ns target r
+    by (Some r) = short_request ns target r

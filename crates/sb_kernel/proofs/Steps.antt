@@ -10,6 +10,7 @@ use Rattle.sb_names.specs.Maps.{found}
 use Rattle.sb_names.specs.Trees.{has_parent}
 use Rattle.sb_file.specs.Creation as creation
 use Rattle.sb_file.specs.Files as files
+use Rattle.sb_file.specs.Requests.{needs_free_name, needs_object, replaces, wants_directory, wants_file}
 use Rattle.sb_file.specs.declared.requests.FileRequest.{FileRequest}
 use Rattle.sb_pipe.specs.Pipes as pipes
 use Rattle.sb_pipe.specs.declared.rows.PipeRow.{PipeRow}
@@ -61,32 +62,29 @@ same_count f number attributes = rw (length-set f.objects _ _) (omega arith)
 open_by_step : (f : files.Files) (handles : Table) (target number : ℕ) (request : FileRequest)
     → IsStepOf made_files service.File f handles (creation.open_by f handles target number request)
 open_by_step f handles target number request =
-    step_if made_files service.File f handles (request.disposition == creation.open_existing || request.disposition == creation.open_or_create) _ _
+    step_if made_files service.File f handles (replaces request.disposition) _ _
+    (opens_step f (files.with_attributes f number request.attributes) handles target number request (creation.replaced_as request.disposition) (same_count f number request.attributes))
     (opens_step f f handles target number request creation.was_opened (omega arith))
-    (step_if made_files service.File f handles (request.disposition == creation.supersede) _ _
-    (opens_step f (files.with_attributes f number request.attributes) handles target number request creation.was_superseded (same_count f number request.attributes))
-    (opens_step f (files.with_attributes f number request.attributes) handles target number request creation.was_overwritten (same_count f number request.attributes)))
 
 create_by_step : (o : Option ℕ) (f : files.Files) (handles : Table) (target : ℕ) (name : List ℕ) (request : FileRequest)
     → IsStepOf made_files service.File f handles (creation.create_by o f handles target name request)
 create_by_step None f handles target name request =
-    step_if made_files service.File f handles (request.disposition == creation.open_existing || request.disposition == creation.overwrite) _ _
+    step_if made_files service.File f handles (needs_object request.disposition) _ _
     (inl (refl, refl))
     (opens_step f (files.with_object f name (creation.object_asked request)) handles target (length f.objects + 1) request creation.was_created
     (rw (length-append f.objects (creation.object_asked request ∷ [])) (omega arith)))
 create_by_step (Some number) f handles target name request =
-    step_if made_files service.File f handles (request.disposition == creation.create_new) _ _ (inl (refl, refl))
-    (step_if made_files service.File f handles (not (files.is_directory (files.object_of f number).kind) && creation.wants_directory request) _ _ (inl (refl, refl))
-    (step_if made_files service.File f handles (files.is_directory (files.object_of f number).kind && (creation.wants_file request || creation.replaces request.disposition)) _ _ (inl (refl, refl))
+    step_if made_files service.File f handles (needs_free_name request.disposition) _ _ (inl (refl, refl))
+    (step_if made_files service.File f handles (not (files.is_directory (files.object_of f number).kind) && wants_directory request) _ _ (inl (refl, refl))
+    (step_if made_files service.File f handles (files.is_directory (files.object_of f number).kind && (wants_file request || replaces request.disposition)) _ _ (inl (refl, refl))
     (step_if made_files service.File f handles (files.is_shared_out f number request.access.0 request.sharing.0) _ _ (inl (refl, refl))
     (open_by_step f handles target number request))))
 
 pub file_step : (f : files.Files) (handles : Table) (target : ℕ) (name : List ℕ) (request : FileRequest)
     → IsStepOf made_files service.File f handles (creation.create f handles target name request)
 file_step f handles target name request =
-    step_if made_files service.File f handles (creation.is_invalid request) _ _ (inl (refl, refl))
-    (step_if made_files service.File f handles (not (files.has_parent f name)) _ _ (inl (refl, refl))
-    (create_by_step (found f.names name) f handles target name request))
+    step_if made_files service.File f handles (not (files.has_parent f name)) _ _ (inl (refl, refl))
+    (create_by_step (found f.names name) f handles target name request)
 
 -- pipes
 

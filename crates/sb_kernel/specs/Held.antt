@@ -1,12 +1,14 @@
 -- What a kernel keeps of the handles that targets hold.
-use Rattle.std.specs.Prelude.{◌≡◌, ℕ, ◌^◌, ◌≤◌, ◌&&◌, Bool, true, nat_lt, List, Some, ⊤}
+use Rattle.std.specs.Prelude.{◌≡◌, ℕ, ◌^◌, ◌≤◌, ◌&&◌, Bool, true, nat_lt, List, Option, None, Some, ⊤}
 use Rattle.std.specs.List.{AllByRecursion, list_all}
 use Rattle.std.specs.Map.{lookup}
 use Rattle.sb_handles.specs.declared.objects.Held.{Held}
 use Rattle.sb_handles.specs.declared.objects.OpenHandle.{OpenHandle}
 use Rattle.sb_handles.specs.declared.objects.Service.{Service}
 use Rattle.sb_handles.specs.declared.objects.Service.TheVariants as service
+use Rattle.sb_handles.specs.declared.objects.Object.{Object}
 use Rattle.sb_names.specs.Maps.{Rows, is_key}
+use Rattle.sb_names.specs.Objects.{IsNameBy, IsNameOf}
 use Rattle.sb_event.specs.Events as events
 use Rattle.sb_kernel.specs.Namespaces.{Space}
 
@@ -42,3 +44,14 @@ pub record AreHeld (ns : Space) : Type 0 where
   pub rows : HaveRows ns ns.handles.handles
   pub narrow : AreNarrow ns.handles.handles
   pub pipes_come : ns.pipes.made ≤ ns.handles.granted
+
+-- the folded name of an object of a service: that of the row of a file, a key or an event, and none of a pipe
+abbrev pub IsNameIn : Service → Space → ℕ → Option (List ℕ) → Type 0
+IsNameIn service.File ns number name = IsNameOf ns.files.names number name
+IsNameIn service.Pipe ns number name = name ≡ None
+IsNameIn service.Key ns number name = IsNameOf ns.keys.names number name
+IsNameIn service.Event ns number name = IsNameBy events.number_of ns.events.rows number name
+
+-- the folded name of an object
+abbrev pub IsObjectName : Space → Object → Option (List ℕ) → Type 0
+IsObjectName ns object name = IsNameIn object.service ns object.number name

@@ -1,10 +1,11 @@
 -- The namespace, and what a call does to it.
-use Rattle.std.specs.Prelude.{ℕ, List, [], ◌∷◌, length, Option, None, Some}
+use Rattle.std.specs.Prelude.{ℕ, Bool, true, false, ◌&&◌, List, [], ◌∷◌, length, Option, None, Some}
 use Rattle.sb_call.specs.Statuses.{invalid_handle, invalid_parameter, refusal, showing}
 use Rattle.sb_call.specs.declared.tags.CallTag.{CallTag}
 use Rattle.sb_call.specs.declared.arguments.Arg.{Arg}
 use Rattle.sb_call.specs.declared.replies.Answer.{Answer}
 use Rattle.sb_handles.specs.Effects as effects
+use Rattle.sb_handles.specs.Effects.{is_done}
 use Rattle.sb_handles.specs.Tables.{Table, no_handles, held_by, without_handle}
 use Rattle.sb_handles.specs.declared.objects.Held.{Held}
 use Rattle.sb_handles.specs.declared.objects.Service.{Service}
@@ -14,7 +15,7 @@ use Rattle.sb_file.specs.Files as files
 use Rattle.sb_pipe.specs.Pipes as pipes
 use Rattle.sb_key.specs.Registry as registry
 use Rattle.sb_event.specs.Events as events
-use Rattle.sb_kernel.specs.Requests.{Request, asked}
+use Rattle.sb_kernel.specs.Requests.{Request, request_of}
 use Rattle.sb_kernel.specs.Requests as request
 
 -- the files, pipes, keys and events with their counts of objects ever made, and the handles with their count ever granted
@@ -69,24 +70,39 @@ close_by (Some held) ns target handle =
     answered_with (left_by held.object.service (record ns { handles = without_handle ns.handles target handle }) held.object.number handle) (showing [])
 
 -- what a request of a target does. A ping answers its cookie, and how many units its text has
-abbrev pub done : Space → ℕ → Request → Effect
-done ns target (request.Ping cookie text) = answered_with ns (showing (cookie ∷ length text ∷ []))
-done ns target (request.FileCreate name wanted) = on_files ns (creation.create ns.files ns.handles target name wanted)
-done ns target (request.FileQuery name) = answered_with ns (files.query ns.files name)
-done ns target (request.FileRename name to) = renames ns (files.rename ns.files name to)
-done ns target (request.PipeCreate name mode form instances) =
+abbrev pub perform_request : Space → ℕ → Request → Effect
+perform_request ns target (request.Ping cookie text) = answered_with ns (showing (cookie ∷ length text ∷ []))
+perform_request ns target (request.FileCreate name wanted) = on_files ns (creation.create ns.files ns.handles target name wanted)
+perform_request ns target (request.FileQuery name) = answered_with ns (files.query ns.files name)
+perform_request ns target (request.FileRename name to) = renames ns (files.rename ns.files name to)
+perform_request ns target (request.PipeCreate name mode form instances) =
     on_pipes ns (pipes.create ns.pipes ns.handles target name mode form instances)
-done ns target (request.KeyCreate name access) = on_keys ns (registry.create ns.keys ns.handles target name access.0)
-done ns target (request.KeyOpen name access) = on_keys ns (registry.open_by_name ns.keys ns.handles target name access.0)
-done ns target (request.EventCreate name kind initial) = on_events ns (events.create ns.events ns.handles target name kind initial)
-done ns target (request.EventOpen name access) = on_events ns (events.open_by_name ns.events ns.handles target name access.0)
-done ns target (request.HandleClose handle) = close_by (held_by ns.handles target handle) ns target handle
+perform_request ns target (request.KeyCreate name access) = on_keys ns (registry.create ns.keys ns.handles target name access.0)
+perform_request ns target (request.KeyOpen name access) = on_keys ns (registry.open_by_name ns.keys ns.handles target name access.0)
+perform_request ns target (request.EventCreate name kind initial) = on_events ns (events.create ns.events ns.handles target name kind initial)
+perform_request ns target (request.EventOpen name access) = on_events ns (events.open_by_name ns.events ns.handles target name access.0)
+perform_request ns target (request.HandleClose handle) = close_by (held_by ns.handles target handle) ns target handle
 
--- a call that asks for nothing is refused
+-- a call without a valid request is refused
 abbrev pub perform_by : Option Request → Space → ℕ → Effect
 perform_by None ns target = answered_with ns (refusal invalid_parameter)
-perform_by (Some request) ns target = done ns target request
+perform_by (Some request) ns target = perform_request ns target request
 
 -- what a call of a target does
 abbrev pub perform : Space → ℕ → CallTag → List Arg → Effect
-perform ns target tag args = perform_by (asked tag args) ns target
+perform ns target tag args = perform_by (request_of tag args) ns target
+
+-- what is asked for may need memory: a handle is granted, maybe on a new object, or names are moved
+abbrev pub may_allocate : Request → Bool
+may_allocate (request.Ping cookie text) = false
+may_allocate (request.FileQuery name) = false
+may_allocate (request.HandleClose handle) = false
+may_allocate _ = true
+
+abbrev pub takes_memory_by : Option Request → Space → ℕ → Bool
+takes_memory_by None ns target = false
+takes_memory_by (Some request) ns target = may_allocate request && is_done (perform_request ns target request).answer.status
+
+-- a call takes memory: it grants a handle or moves names, and is not refused
+abbrev pub takes_memory : Space → ℕ → CallTag → List Arg → Bool
+takes_memory ns target tag args = takes_memory_by (request_of tag args) ns target

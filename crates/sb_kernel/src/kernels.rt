@@ -1,31 +1,29 @@
 // The kernel, and what each call does.
-ghost use Rattle.std.specs.Prelude.{◌≡◌, ◌<◌, ◌^◌, length, nat_lt, true, is_some, unwrap_or, IfOk, OnOk, OnErr};
+ghost use Rattle.std.specs.Prelude.{◌≡◌, ◌<◌, ◌^◌, ◌&&◌, length, true, is_some, unwrap_or, IfOk, OnOk, OnErr};
 ghost use Rattle.sb_call.specs.Arguments.{fits};
 ghost use Rattle.sb_pipe.specs.Pipes as pipes;
+ghost use Rattle.sb_handles.specs.Effects.{is_done};
 ghost use Rattle.sb_handles.specs.Laws.{HeldOnOne};
 ghost use Rattle.sb_handles.specs.Tables.{IsTable, held_by};
-ghost use Rattle.sb_kernel.specs.Namespaces.{empty_space, perform, done, close_by};
-ghost use Rattle.sb_kernel.specs.Requests.{is_narrow, is_proper, meant};
-ghost use Rattle.sb_kernel.specs.Requests as requests;
-ghost use Rattle.sb_wide.specs.Names.{is_name_of};
+ghost use Rattle.sb_kernel.specs.Namespaces.{close_by, empty_space, may_allocate, perform, perform_request, takes_memory};
+ghost use Rattle.sb_kernel.specs.Requests.{is_proper, meant};
 ghost use Rattle.sb_kernel.specs.Openings.{placed, is_named};
-ghost use Rattle.sb_file.specs.Laws.{GrantsLeaveFiles, ClosesKeepFiles, ClosesLeaveFiles};
-ghost use Rattle.sb_pipe.specs.Laws.{GrantsLeavePipes, ClosesKeepPipes, ClosesLeavePipes};
+ghost use Rattle.sb_file.specs.Laws.{ClosesKeepFiles, ClosesLeaveFiles};
+ghost use Rattle.sb_pipe.specs.Laws.{ClosesKeepPipes, ClosesLeavePipes};
+ghost use Rattle.sb_kernel.specs.Held.{IsObjectName};
 ghost use Rattle.sb_kernel.specs.Kept.{IsSound, MadeAtMost};
 
-use crate::requests::{Request, asked};
-use crate::services::{
-    events_are_granted, files_are_granted, files_are_renamed, keys_are_granted, names_stay,
-    pipes_are_granted,
-};
+use crate::requests::{Request, request_of};
+use crate::services::{names_stay, requests_are_kept};
 use sb_call::{Answer, Arg, CallTag, INVALID_HANDLE, INVALID_PARAMETER, SUCCESS};
 use sb_event::{EventKind, EventService};
-use sb_file::{FileRequest, FileService, agreement_is_kept as files_stay_agreed};
-use sb_handles::{Access, HandleTable, Object, Service, handles_are_on_one_object};
+use sb_file::{FileService, agreement_is_kept as files_stay_agreed};
+use sb_handles::{HandleTable, Object, Service, handles_are_on_one_object};
 use sb_items::NoMemory;
 use sb_key::KeyService;
-use sb_pipe::{PipeForm, PipeMode, PipeService, agreement_is_kept as pipes_stay_agreed};
+use sb_pipe::{PipeService, agreement_is_kept as pipes_stay_agreed};
 use sb_statements::StartLine;
+use sb_wide::Wide;
 use std::alloc::Global;
 use std::marker::Model;
 
@@ -85,210 +83,119 @@ impl Kernel {
         &self.handles
     }
 
-    /// Performs a call of a target, and answers it. The arguments must fit the call. A call that is refused changes nothing.
+    /// The folded name of an object: that which leads to a file, a key or an event, or None exactly if none does. None for a pipe.
     ///
     /// # Errors
-    /// `NoMemory` if there was none for what the call makes; then nothing is changed.
+    /// `NoMemory` if there was none for the name.
+    pub fn object_name(&self, object: Object) -> Result<Option<Wide>, NoMemory>
+        ensures { IfOk result (λ name. IsObjectName self.now object name) }
+    {
+        match object.service {
+            Service::File => self.files.name_of(object.number),
+            Service::Pipe => Ok(None),
+            Service::Key => self.keys.name_of(object.number),
+            Service::Event => self.events.name_of(object.number),
+        }
+    }
+
+    /// Performs a call of a target, and returns the answer. The arguments must fit the call. A call that is refused changes
+    /// nothing.
+    ///
+    /// # Errors
+    /// `NoMemory` if the call would grant a handle or rename, and there was none for it; then nothing is changed. A call that
+    /// is refused, a query, a ping and a close allocate nothing.
     pub fn perform(&mut self, target: u32, tag: CallTag, args: &[Arg]) -> Result<Answer, NoMemory>
         requires fits { fits tag args.now ≡ true }
         ensures answer { IfOk result (λ a. a ≡ (perform self.old target tag args.now).answer) }
         ensures ok { OnOk result (self.new ≡ (perform self.old target tag args.now).space) }
+        ensures memory { OnErr result (takes_memory self.old target tag args.now ≡ true) }
         ensures err { OnErr result (self.new ≡ self.old) }
     {
-        match asked(tag, args) {
-            Some(request) => self.done(target, request),
+        match request_of(tag, args) {
+            Some(request) => self.perform_request(target, request),
             None => Ok(Answer::refusal(INVALID_PARAMETER)),
         }
     }
 
-    /// Files and pipes agree with the handles on them; each handle of a file, key or event has its row, with access and sharing
-    /// below 2^32; each name is one; and numbers are distinct within each service. It changes nothing.
+    /// Establishes for a proof that files and pipes agree with the handles on them; that each handle of a file, key or event has
+    /// its row, with access and sharing below 2^32; that each name is a name; and that numbers are distinct within each
+    /// service. It does nothing.
     pub fn establish_sound(&self)
         ensures { IsSound self.now }
     {
-        self.files.files_are_made();
-        self.pipes.pipes_are_made();
-        self.keys.keys_are_made();
-        self.events.events_are_made();
-        self.handles.numbers_rise();
+        self.files.establish_files();
+        self.pipes.establish_pipes();
+        self.keys.establish_keys();
+        self.events.establish_events();
+        self.handles.establish_numbers();
     }
 
-    // What each call rests on: fewer than 2^63 handles were granted, and as many objects made in each service, and a handle
-    // granted on an object of another service leaves the agreement of files and pipes with the handles.
-    fn bounds(&self)
-        ensures granted { self.now.handles.granted < 2 ^ 63 }
+    // Establishes what each call rests on: what a kernel keeps, and that fewer than 2^63 objects were made in each service.
+    fn establish_bounds(&self)
+        ensures sound { IsSound self.now }
         ensures files { length self.now.files.objects < 2 ^ 63 }
         ensures pipes { self.now.pipes.made < 2 ^ 63 }
         ensures keys { self.now.keys.made < 2 ^ 63 }
         ensures events { self.now.events.made < 2 ^ 63 }
-        ensures table { IsTable self.now.handles }
-        ensures other_files { GrantsLeaveFiles }
-        ensures other_pipes { GrantsLeavePipes }
     {
-        files_stay_agreed();
-        pipes_stay_agreed();
-        self.handles.numbers_rise();
+        self.establish_sound();
         let _granted = self.handles.granted();
     }
 
-    // Does what a target asked for.
-    fn done(&mut self, target: u32, request: Request<'_>) -> Result<Answer, NoMemory>
+    // Performs what a target asks for.
+    fn perform_request(&mut self, target: u32, request: Request<'_>) -> Result<Answer, NoMemory>
         requires proper { is_proper (meant request) ≡ true }
-        ensures answer { IfOk result (λ a. a ≡ (done self.old target (meant request.entry)).answer) }
-        ensures ok { OnOk result (self.new ≡ (done self.old target (meant request.entry)).space) }
+        ensures answer { IfOk result (λ a. a ≡ (perform_request self.old target (meant request.entry)).answer) }
+        ensures ok { OnOk result (self.new ≡ (perform_request self.old target (meant request.entry)).space) }
+        ensures memory { OnErr result ((may_allocate (meant request.entry) && is_done (perform_request self.old target (meant request.entry)).answer.status) ≡ true) }
         ensures err { OnErr result (self.new ≡ self.old) }
     {
+        self.establish_bounds();
+        requests_are_kept();
         match request {
             Request::Ping { cookie, text } => {
                 Ok(Answer::with_words(SUCCESS, 0, cookie, text.len() as u64))
             }
-            Request::FileCreate { name, request } => self.create_file(target, name, request),
+            Request::FileCreate { name, request } => {
+                Ok(self.files.create(&mut self.handles, target, name, request)?)
+            }
             Request::FileQuery { name } => Ok(self.files.query(name)),
-            Request::FileRename { name, to } => self.rename_file(name, to),
+            Request::FileRename { name, to } => Ok(self.files.rename(name, to)?),
             Request::PipeCreate {
                 name,
                 mode,
                 form,
                 instances,
-            } => self.create_pipe(target, name, mode, form, instances),
-            Request::KeyCreate { name, access } => self.create_key(target, name, access),
-            Request::KeyOpen { name, access } => self.open_key(target, name, access),
+            } => {
+                let pipes = &mut self.pipes;
+                Ok(pipes.create(&mut self.handles, target, name, mode, form, instances)?)
+            }
+            Request::KeyCreate { name, access } => {
+                Ok(self.keys.create(&mut self.handles, target, name, access)?)
+            }
+            Request::KeyOpen { name, access } => {
+                let keys = &mut self.keys;
+                Ok(keys.open_by_name(&mut self.handles, target, name, access)?)
+            }
             Request::EventCreate {
                 name,
                 kind,
                 initial,
-            } => self.create_event(target, name, kind, initial),
-            Request::EventOpen { name, access } => self.open_event(target, name, access),
+            } => {
+                let events = &mut self.events;
+                Ok(events.create(&mut self.handles, target, name, kind, initial)?)
+            }
+            Request::EventOpen { name, access } => {
+                let events = &mut self.events;
+                Ok(events.open_by_name(&mut self.handles, target, name, access)?)
+            }
             Request::HandleClose { handle } => Ok(self.close(target, handle)),
         }
     }
 
-    // Makes or opens a file or directory.
-    fn create_file(
-        &mut self,
-        target: u32,
-        name: &[u16],
-        request: FileRequest,
-    ) -> Result<Answer, NoMemory>
-        requires name { is_name_of name.now ≡ true }
-        requires narrow { is_narrow request ≡ true }
-        ensures answer { IfOk result (λ a. a ≡ (done self.old target (requests.FileCreate name.now request)).answer) }
-        ensures ok { OnOk result (self.new ≡ (done self.old target (requests.FileCreate name.now request)).space) }
-        ensures err { OnErr result (self.new ≡ self.old) }
-    {
-        self.bounds();
-        files_are_granted();
-        let answer = self.files.create(&mut self.handles, target, name, request)?;
-        Ok(answer)
-    }
-
-    // Gives a file or directory a new name.
-    fn rename_file(&mut self, name: &[u16], to: &[u16]) -> Result<Answer, NoMemory>
-        requires name { is_name_of name.now ≡ true }
-        requires to { is_name_of to.now ≡ true }
-        ensures answer { IfOk result (λ a. a ≡ (done self.old 0 (requests.FileRename name.now to.now)).answer) }
-        ensures ok { OnOk result (self.new ≡ (done self.old 0 (requests.FileRename name.now to.now)).space) }
-        ensures err { OnErr result (self.new ≡ self.old) }
-    {
-        self.bounds();
-        files_are_renamed();
-        self.files.files_are_made();
-        let answer = self.files.rename(name, to)?;
-        Ok(answer)
-    }
-
-    // Makes a pipe, or adds a handle on one.
-    fn create_pipe(
-        &mut self,
-        target: u32,
-        name: &[u16],
-        mode: PipeMode,
-        form: PipeForm,
-        instances: u64,
-    ) -> Result<Answer, NoMemory>
-        requires name { is_name_of name.now ≡ true }
-        ensures answer { IfOk result (λ a. a ≡ (done self.old target (requests.PipeCreate name.now mode form instances)).answer) }
-        ensures ok { OnOk result (self.new ≡ (done self.old target (requests.PipeCreate name.now mode form instances)).space) }
-        ensures err { OnErr result (self.new ≡ self.old) }
-    {
-        self.bounds();
-        pipes_are_granted();
-        let answer = self
-            .pipes
-            .create(&mut self.handles, target, name, mode, form, instances)?;
-        Ok(answer)
-    }
-
-    // Makes or opens a key.
-    fn create_key(&mut self, target: u32, name: &[u16], access: Access) -> Result<Answer, NoMemory>
-        requires name { is_name_of name.now ≡ true }
-        requires access { nat_lt access.0 (2 ^ 32) ≡ true }
-        ensures answer { IfOk result (λ a. a ≡ (done self.old target (requests.KeyCreate name.now access)).answer) }
-        ensures ok { OnOk result (self.new ≡ (done self.old target (requests.KeyCreate name.now access)).space) }
-        ensures err { OnErr result (self.new ≡ self.old) }
-    {
-        self.bounds();
-        keys_are_granted();
-        let answer = self.keys.create(&mut self.handles, target, name, access)?;
-        Ok(answer)
-    }
-
-    // Opens a key that is there.
-    fn open_key(&mut self, target: u32, name: &[u16], access: Access) -> Result<Answer, NoMemory>
-        requires name { is_name_of name.now ≡ true }
-        requires access { nat_lt access.0 (2 ^ 32) ≡ true }
-        ensures answer { IfOk result (λ a. a ≡ (done self.old target (requests.KeyOpen name.now access)).answer) }
-        ensures ok { OnOk result (self.new ≡ (done self.old target (requests.KeyOpen name.now access)).space) }
-        ensures err { OnErr result (self.new ≡ self.old) }
-    {
-        self.bounds();
-        keys_are_granted();
-        let answer = self
-            .keys
-            .open_by_name(&mut self.handles, target, name, access)?;
-        Ok(answer)
-    }
-
-    // Makes or opens an event.
-    fn create_event(
-        &mut self,
-        target: u32,
-        name: &[u16],
-        kind: EventKind,
-        initial: bool,
-    ) -> Result<Answer, NoMemory>
-        requires name { is_name_of name.now ≡ true }
-        ensures answer { IfOk result (λ a. a ≡ (done self.old target (requests.EventCreate name.now kind initial)).answer) }
-        ensures ok { OnOk result (self.new ≡ (done self.old target (requests.EventCreate name.now kind initial)).space) }
-        ensures err { OnErr result (self.new ≡ self.old) }
-    {
-        self.bounds();
-        events_are_granted();
-        let answer = self
-            .events
-            .create(&mut self.handles, target, name, kind, initial)?;
-        Ok(answer)
-    }
-
-    // Opens an event that is there.
-    fn open_event(&mut self, target: u32, name: &[u16], access: Access) -> Result<Answer, NoMemory>
-        requires name { is_name_of name.now ≡ true }
-        requires access { nat_lt access.0 (2 ^ 32) ≡ true }
-        ensures answer { IfOk result (λ a. a ≡ (done self.old target (requests.EventOpen name.now access)).answer) }
-        ensures ok { OnOk result (self.new ≡ (done self.old target (requests.EventOpen name.now access)).space) }
-        ensures err { OnErr result (self.new ≡ self.old) }
-    {
-        self.bounds();
-        events_are_granted();
-        let answer = self
-            .events
-            .open_by_name(&mut self.handles, target, name, access)?;
-        Ok(answer)
-    }
-
-    // What a close rests on: a handle that was closed, also in the service of its object, leaves files and pipes in agreement
-    // with the handles.
-    fn closing(&self)
+    // Establishes what a close rests on: a handle that was closed, also in the service of its object, leaves files and pipes in
+    // agreement with the handles.
+    fn establish_closing(&self)
         ensures table { IsTable self.now.handles }
         ensures pipes { pipes.ArePipes self.now.pipes }
         ensures files_closed { ClosesKeepFiles }
@@ -300,8 +207,8 @@ impl Kernel {
         handles_are_on_one_object();
         files_stay_agreed();
         pipes_stay_agreed();
-        self.handles.numbers_rise();
-        self.pipes.pipes_are_made();
+        self.handles.establish_numbers();
+        self.pipes.establish_pipes();
     }
 
     // Closes a handle, and leaves its object.
@@ -309,14 +216,14 @@ impl Kernel {
         ensures answer { result ≡ (close_by (held_by self.old.handles target handle) self.old target handle).answer }
         ensures space { self.new ≡ (close_by (held_by self.old.handles target handle) self.old target handle).space }
     {
-        self.closing();
+        self.establish_closing();
         let Ok(held) = self.handles.close(target, handle) else {
             return Answer::refusal(INVALID_HANDLE);
         };
         let Object { service, number } = held.object;
         match service {
-            Service::File => self.files.closed(number, handle),
-            Service::Pipe => self.pipes.closed(number),
+            Service::File => self.files.close(number, handle),
+            Service::Pipe => self.pipes.close(number),
             Service::Key | Service::Event => {}
         }
         Answer::refusal(SUCCESS)
@@ -342,12 +249,13 @@ impl Kernel {
     /// service; then nothing is changed.
     ///
     /// # Errors
-    /// `NoMemory` if there was none for the object; then nothing is changed.
+    /// `NoMemory` if it can be placed and there was none for the object; then nothing is changed.
     pub fn place(&mut self, line: &StartLine) -> Result<bool, NoMemory>
         requires name { is_named line.now ≡ true }
         requires few { MadeAtMost 4095 self.old }
         ensures answer { IfOk result (λ b. b ≡ is_some (placed self.old line.now)) }
         ensures ok { OnOk result (self.new ≡ unwrap_or (placed self.old line.now) self.old) }
+        ensures memory { OnErr result (is_some (placed self.old line.now) ≡ true) }
         ensures err { OnErr result (self.new ≡ self.old) }
     {
         names_stay();
@@ -361,11 +269,9 @@ impl Kernel {
                 name,
                 kind,
                 initial,
-            } => self.events.start(
-                name.as_units(),
-                EventKind::from_number(*kind),
-                *initial != 0,
-            ),
+            } => self
+                .events
+                .start(name.as_units(), EventKind::of(*kind), *initial != 0),
         }
     }
 }

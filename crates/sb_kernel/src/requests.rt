@@ -1,13 +1,14 @@
 // What a call asks for, made once from arguments that fit.
-ghost use Rattle.std.specs.Prelude.{◌≡◌, ◌<◌, ◌^◌, true, option_map, IfSome};
+ghost use Rattle.std.specs.Prelude.{◌≡◌, ◌<◌, ◌^◌, true, nat_lt, option_map, Some, IfSome};
 ghost use Rattle.sb_wide.specs.Names.{is_name_of};
-ghost use Rattle.sb_call.specs.Arguments.{fits};
-ghost use Rattle.sb_handles.specs.Masks.{access_of, sharing_of};
+ghost use Rattle.sb_call.specs.Arguments.{fits, kind_at};
 ghost use Rattle.sb_call.specs.declared.tags.CallTag.TheVariants as tag;
-ghost use Rattle.sb_kernel.specs.Requests.{asked, is_proper, meant, pipe_create};
+ghost use Rattle.sb_call.specs.declared.tags.ParamKind.TheVariants as kind;
+ghost use Rattle.sb_handles.specs.Masks.{access_of, sharing_of};
+ghost use Rattle.sb_kernel.specs.Requests.{is_proper, meant, number_at, pipe_create, request_of, units_at};
 
 use bitflags::Flags;
-use sb_call::{Arg, CallTag};
+use sb_call::{Arg, CallTag, fitting_args};
 use sb_event::EventKind;
 use sb_file::FileRequest;
 use sb_handles::{Access, Sharing};
@@ -61,119 +62,131 @@ pub(crate) enum Request<'a> {
     },
 }
 
-// The access of a number below 2^32.
-fn access(bits: u64) -> Access
-    requires { bits < 2 ^ 32 }
-    ensures { result ≡ access_of bits }
+// The number at a place of the arguments; 0 if none is there.
+fn number_at(args: &[Arg], place: usize) -> u64
+    ensures { result ≡ number_at args.now place }
 {
-    Access::from_bits_retain(bits as u32)
+    match args.get(place) {
+        Some(Arg::Num(number)) => *number,
+        _ => 0,
+    }
 }
 
-// The sharing of a number below 2^32.
-fn sharing(bits: u64) -> Sharing
-    requires { bits < 2 ^ 32 }
-    ensures { result ≡ sharing_of bits }
+// The string at a place of the arguments; empty if none is there.
+fn units_at(args: &[Arg], place: usize) -> &[u16]
+    ensures { result.now ≡ units_at args.now place }
 {
-    Sharing::from_bits_retain(bits as u32)
+    match args.get(place) {
+        Some(Arg::Str(text)) => text.as_units(),
+        _ => &[],
+    }
+}
+
+// The name at a place of the arguments of a call that has one there.
+#[tactic(auto, using(crate::proofs::Arguments::fitting_name))]
+fn name_at(tag: CallTag, args: &[Arg], place: usize) -> &[u16]
+    requires fits { fits tag args.now ≡ true }
+    requires kind { kind_at tag place ≡ kind.Name }
+    ensures units { result.now ≡ units_at args.now place }
+    ensures name { is_name_of result.now ≡ true }
+{
+    fitting_args();
+    units_at(args, place)
+}
+
+// The number at a place of the arguments of a call that has one below 2^32 there.
+#[tactic(auto, using(crate::proofs::Arguments::fitting_number, crate::proofs::Arguments::fitting_bits))]
+fn bits_at(tag: CallTag, args: &[Arg], place: usize) -> u32
+    requires fits { fits tag args.now ≡ true }
+    requires kind { kind_at tag place ≡ kind.Num }
+    ensures number { result ≡ number_at args.now place }
+    ensures small { nat_lt (number_at args.now place) (2 ^ 32) ≡ true }
+{
+    fitting_args();
+    number_at(args, place) as u32
+}
+
+// The access at a place of the arguments of a call that has one there.
+fn access_at(tag: CallTag, args: &[Arg], place: usize) -> Access
+    requires fits { fits tag args.now ≡ true }
+    requires kind { kind_at tag place ≡ kind.Num }
+    ensures access { result ≡ access_of (number_at args.now place) }
+    ensures narrow { nat_lt result.0 (2 ^ 32) ≡ true }
+{
+    Access::from_bits_retain(bits_at(tag, args, place))
+}
+
+// The sharing at a place of the arguments of a call that has one there.
+fn sharing_at(tag: CallTag, args: &[Arg], place: usize) -> Sharing
+    requires fits { fits tag args.now ≡ true }
+    requires kind { kind_at tag place ≡ kind.Num }
+    ensures sharing { result ≡ sharing_of (number_at args.now place) }
+    ensures narrow { nat_lt result.0 (2 ^ 32) ≡ true }
+{
+    Sharing::from_bits_retain(bits_at(tag, args, place))
 }
 
 // What a file.create asks for.
 fn file_create(args: &[Arg]) -> Option<Request<'_>>
     requires { fits tag.FileCreate args.now ≡ true }
-    ensures asked { option_map meant result ≡ asked tag.FileCreate args.now }
+    ensures request { option_map meant result ≡ request_of tag.FileCreate args.now }
     ensures proper { IfSome result (λ request. is_proper (meant request) ≡ true) }
 {
-    match args {
-        [
-            Arg::Str(name),
-            Arg::Num(attributes),
-            Arg::Num(bits),
-            Arg::Num(shared),
-            Arg::Num(disposition),
-            Arg::Num(options),
-        ] => Some(Request::FileCreate {
-            name: name.as_units(),
-            request: FileRequest {
-                attributes: *attributes,
-                access: access(*bits),
-                sharing: sharing(*shared),
-                disposition: *disposition,
-                options: *options,
-            },
-        }),
-        _ => None,
-    }
+    let name = name_at(CallTag::FileCreate, args, 0);
+    let access = access_at(CallTag::FileCreate, args, 2);
+    let sharing = sharing_at(CallTag::FileCreate, args, 3);
+    let (attributes, disposition) = (number_at(args, 1), number_at(args, 4));
+    let options = number_at(args, 5);
+    let request = FileRequest::to_create(attributes, access, sharing, disposition, options)?;
+    Some(Request::FileCreate { name, request })
 }
 
 // What a file.open asks for.
 fn file_open(args: &[Arg]) -> Option<Request<'_>>
     requires { fits tag.FileOpen args.now ≡ true }
-    ensures asked { option_map meant result ≡ asked tag.FileOpen args.now }
+    ensures request { option_map meant result ≡ request_of tag.FileOpen args.now }
     ensures proper { IfSome result (λ request. is_proper (meant request) ≡ true) }
 {
-    match args {
-        [
-            Arg::Str(name),
-            Arg::Num(bits),
-            Arg::Num(shared),
-            Arg::Num(options),
-        ] => Some(Request::FileCreate {
-            name: name.as_units(),
-            request: FileRequest::to_open(access(*bits), sharing(*shared), *options),
-        }),
-        _ => None,
-    }
+    let name = name_at(CallTag::FileOpen, args, 0);
+    let access = access_at(CallTag::FileOpen, args, 1);
+    let sharing = sharing_at(CallTag::FileOpen, args, 2);
+    let request = FileRequest::to_open(access, sharing, number_at(args, 3))?;
+    Some(Request::FileCreate { name, request })
 }
 
 // What a file.query asks for.
-fn file_query(args: &[Arg]) -> Option<Request<'_>>
+fn file_query(args: &[Arg]) -> Request<'_>
     requires { fits tag.FileQuery args.now ≡ true }
-    ensures asked { option_map meant result ≡ asked tag.FileQuery args.now }
-    ensures proper { IfSome result (λ request. is_proper (meant request) ≡ true) }
+    ensures request { Some (meant result) ≡ request_of tag.FileQuery args.now }
+    ensures proper { is_proper (meant result) ≡ true }
 {
-    match args {
-        [Arg::Str(name)] => Some(Request::FileQuery {
-            name: name.as_units(),
-        }),
-        _ => None,
+    Request::FileQuery {
+        name: name_at(CallTag::FileQuery, args, 0),
     }
 }
 
 // What a file.rename asks for.
-fn file_rename(args: &[Arg]) -> Option<Request<'_>>
+fn file_rename(args: &[Arg]) -> Request<'_>
     requires { fits tag.FileRename args.now ≡ true }
-    ensures asked { option_map meant result ≡ asked tag.FileRename args.now }
-    ensures proper { IfSome result (λ request. is_proper (meant request) ≡ true) }
+    ensures request { Some (meant result) ≡ request_of tag.FileRename args.now }
+    ensures proper { is_proper (meant result) ≡ true }
 {
-    match args {
-        [Arg::Str(name), Arg::Str(to)] => Some(Request::FileRename {
-            name: name.as_units(),
-            to: to.as_units(),
-        }),
-        _ => None,
+    Request::FileRename {
+        name: name_at(CallTag::FileRename, args, 0),
+        to: name_at(CallTag::FileRename, args, 1),
     }
 }
 
 // What a pipe.create asks for.
 fn pipe_create(args: &[Arg]) -> Option<Request<'_>>
     requires { fits tag.PipeCreate args.now ≡ true }
-    ensures asked { option_map meant result ≡ asked tag.PipeCreate args.now }
+    ensures request { option_map meant result ≡ request_of tag.PipeCreate args.now }
     ensures proper { IfSome result (λ request. is_proper (meant request) ≡ true) }
 {
-    match args {
-        [
-            Arg::Str(name),
-            Arg::Num(mode),
-            Arg::Num(form),
-            Arg::Num(instances),
-        ] => pipe_of(
-            name.as_units(),
-            PipeMode::of(*mode),
-            PipeForm::of(*form),
-            *instances,
-        ),
-        _ => None,
-    }
+    let name = name_at(CallTag::PipeCreate, args, 0);
+    let mode = PipeMode::of(number_at(args, 1));
+    let form = PipeForm::of(number_at(args, 2));
+    pipe_of(name, mode, form, number_at(args, 3))
 }
 
 // A pipe.create, if its mode and form are there.
@@ -184,7 +197,7 @@ fn pipe_of(
     instances: u64,
 ) -> Option<Request<'_>>
     requires { is_name_of name.now ≡ true }
-    ensures asked { option_map meant result ≡ pipe_create name.now mode form instances }
+    ensures request { option_map meant result ≡ pipe_create name.now mode form instances }
     ensures proper { IfSome result (λ request. is_proper (meant request) ≡ true) }
 {
     match (mode, form) {
@@ -200,113 +213,81 @@ fn pipe_of(
 }
 
 // What a key.create asks for.
-fn key_create(args: &[Arg]) -> Option<Request<'_>>
+fn key_create(args: &[Arg]) -> Request<'_>
     requires { fits tag.KeyCreate args.now ≡ true }
-    ensures asked { option_map meant result ≡ asked tag.KeyCreate args.now }
-    ensures proper { IfSome result (λ request. is_proper (meant request) ≡ true) }
+    ensures request { Some (meant result) ≡ request_of tag.KeyCreate args.now }
+    ensures proper { is_proper (meant result) ≡ true }
 {
-    match args {
-        [Arg::Str(name), Arg::Num(bits)] => Some(Request::KeyCreate {
-            name: name.as_units(),
-            access: access(*bits),
-        }),
-        _ => None,
+    Request::KeyCreate {
+        name: name_at(CallTag::KeyCreate, args, 0),
+        access: access_at(CallTag::KeyCreate, args, 1),
     }
 }
 
 // What a key.open asks for.
-fn key_open(args: &[Arg]) -> Option<Request<'_>>
+fn key_open(args: &[Arg]) -> Request<'_>
     requires { fits tag.KeyOpen args.now ≡ true }
-    ensures asked { option_map meant result ≡ asked tag.KeyOpen args.now }
-    ensures proper { IfSome result (λ request. is_proper (meant request) ≡ true) }
+    ensures request { Some (meant result) ≡ request_of tag.KeyOpen args.now }
+    ensures proper { is_proper (meant result) ≡ true }
 {
-    match args {
-        [Arg::Str(name), Arg::Num(bits)] => Some(Request::KeyOpen {
-            name: name.as_units(),
-            access: access(*bits),
-        }),
-        _ => None,
+    Request::KeyOpen {
+        name: name_at(CallTag::KeyOpen, args, 0),
+        access: access_at(CallTag::KeyOpen, args, 1),
     }
 }
 
-// What an event.create asks for.
+// What a event.open asks for.
+fn event_open(args: &[Arg]) -> Request<'_>
+    requires { fits tag.EventOpen args.now ≡ true }
+    ensures request { Some (meant result) ≡ request_of tag.EventOpen args.now }
+    ensures proper { is_proper (meant result) ≡ true }
+{
+    Request::EventOpen {
+        name: name_at(CallTag::EventOpen, args, 0),
+        access: access_at(CallTag::EventOpen, args, 1),
+    }
+}
+
+// What a event.create asks for.
 fn event_create(args: &[Arg]) -> Option<Request<'_>>
     requires { fits tag.EventCreate args.now ≡ true }
-    ensures asked { option_map meant result ≡ asked tag.EventCreate args.now }
+    ensures request { option_map meant result ≡ request_of tag.EventCreate args.now }
     ensures proper { IfSome result (λ request. is_proper (meant request) ≡ true) }
 {
-    match args {
-        [Arg::Str(name), Arg::Num(kind), Arg::Num(initial)] => {
-            if *kind > 1 || *initial > 1 {
-                return None;
-            }
-            Some(Request::EventCreate {
-                name: name.as_units(),
-                kind: EventKind::from_number(*kind),
-                initial: *initial != 0,
-            })
-        }
-        _ => None,
+    let name = name_at(CallTag::EventCreate, args, 0);
+    let (kind, initial) = (number_at(args, 1), number_at(args, 2));
+    if kind > 1 || initial > 1 {
+        return None;
     }
+    Some(Request::EventCreate {
+        name,
+        kind: EventKind::of(kind),
+        initial: initial != 0,
+    })
 }
 
-// What an event.open asks for.
-fn event_open(args: &[Arg]) -> Option<Request<'_>>
-    requires { fits tag.EventOpen args.now ≡ true }
-    ensures asked { option_map meant result ≡ asked tag.EventOpen args.now }
-    ensures proper { IfSome result (λ request. is_proper (meant request) ≡ true) }
-{
-    match args {
-        [Arg::Str(name), Arg::Num(bits)] => Some(Request::EventOpen {
-            name: name.as_units(),
-            access: access(*bits),
-        }),
-        _ => None,
-    }
-}
-
-// What a handle.close asks for.
-fn handle_close(args: &[Arg]) -> Option<Request<'_>>
-    ensures asked { option_map meant result ≡ asked tag.HandleClose args.now }
-    ensures proper { IfSome result (λ request. is_proper (meant request) ≡ true) }
-{
-    match args {
-        [Arg::Num(handle)] => Some(Request::HandleClose { handle: *handle }),
-        _ => None,
-    }
-}
-
-// What a ping asks for.
-fn ping(args: &[Arg]) -> Option<Request<'_>>
-    ensures asked { option_map meant result ≡ asked tag.Ping args.now }
-    ensures proper { IfSome result (λ request. is_proper (meant request) ≡ true) }
-{
-    match args {
-        [Arg::Num(cookie), Arg::Str(text)] => Some(Request::Ping {
-            cookie: *cookie,
-            text: text.as_units(),
-        }),
-        _ => None,
-    }
-}
-
-// What a call asks for. None if a mode, a form, a kind or a state is out of range.
-pub(crate) fn asked(tag: CallTag, args: &[Arg]) -> Option<Request<'_>>
+// What a call asks for. None if some argument is out of range, or some exclude each other.
+pub(crate) fn request_of(tag: CallTag, args: &[Arg]) -> Option<Request<'_>>
     requires { fits tag args.now ≡ true }
-    ensures asked { option_map meant result ≡ asked tag args.now }
+    ensures request { option_map meant result ≡ request_of tag args.now }
     ensures proper { IfSome result (λ request. is_proper (meant request) ≡ true) }
 {
     match tag {
-        CallTag::Ping => ping(args),
+        CallTag::Ping => Some(Request::Ping {
+            cookie: number_at(args, 0),
+            text: units_at(args, 1),
+        }),
         CallTag::FileCreate => file_create(args),
         CallTag::FileOpen => file_open(args),
-        CallTag::FileQuery => file_query(args),
-        CallTag::FileRename => file_rename(args),
+        CallTag::FileQuery => Some(file_query(args)),
+        CallTag::FileRename => Some(file_rename(args)),
         CallTag::PipeCreate => pipe_create(args),
-        CallTag::KeyCreate => key_create(args),
-        CallTag::KeyOpen => key_open(args),
+        CallTag::KeyCreate => Some(key_create(args)),
+        CallTag::KeyOpen => Some(key_open(args)),
         CallTag::EventCreate => event_create(args),
-        CallTag::EventOpen => event_open(args),
-        CallTag::HandleClose => handle_close(args),
+        CallTag::EventOpen => Some(event_open(args)),
+        CallTag::HandleClose => Some(Request::HandleClose {
+            handle: number_at(args, 0),
+        }),
     }
 }

@@ -1,6 +1,7 @@
 // What the kernel rests on of each service: laws of what its calls leave of objects and handles.
 ghost use Rattle.sb_event.specs.Laws as event_laws;
 ghost use Rattle.sb_file.specs.Laws as file_laws;
+ghost use Rattle.sb_kernel.specs.Laws.{RequestsAreKept};
 ghost use Rattle.sb_key.specs.Laws as key_laws;
 ghost use Rattle.sb_names.specs.Laws.{PutsKeepRows};
 ghost use Rattle.sb_pipe.specs.Laws as pipe_laws;
@@ -11,7 +12,7 @@ use sb_event::EventRow;
 use sb_names::puts_keep_rows;
 
 // Each file.create grants its handle on what is found under the name, or changes nothing; what was there stays.
-pub(crate) fn files_are_granted()
+fn files_are_granted()
     ensures grants { file_laws.CreatesGrantTheirFile }
     ensures refused { file_laws.RefusalsChangeNothing }
     ensures stay { file_laws.CreatesKeepNames }
@@ -22,7 +23,7 @@ pub(crate) fn files_are_granted()
 }
 
 // A file.rename moves what was there, or changes nothing, and leaves objects and shares.
-pub(crate) fn files_are_renamed()
+fn files_are_renamed()
     ensures moved { file_laws.RenamesMove }
     ensures objects { file_laws.RenamesKeepObjects }
     ensures refused { file_laws.RefusedRenamesChangeNothing }
@@ -32,7 +33,7 @@ pub(crate) fn files_are_renamed()
 }
 
 // Each pipe.create grants its handle on the pipe of the name, or changes nothing; no more pipes are made than handles granted.
-pub(crate) fn pipes_are_granted()
+fn pipes_are_granted()
     ensures grants { pipe_laws.CallsGrantTheirPipe }
     ensures refused { pipe_laws.RefusalsChangeNothing }
     ensures counts { pipe_laws.CallsKeepCounts }
@@ -43,7 +44,7 @@ pub(crate) fn pipes_are_granted()
 }
 
 // Each call on keys grants its handle on the key of the name, or changes nothing; what was there stays.
-pub(crate) fn keys_are_granted()
+fn keys_are_granted()
     ensures creates { key_laws.CreatesGrantTheirKey }
     ensures refused_creates { key_laws.RefusedCreatesChangeNothing }
     ensures stay { key_laws.CreatesKeepKeys }
@@ -58,7 +59,7 @@ pub(crate) fn keys_are_granted()
 }
 
 // Each call on events grants its handle on the event of the name, or changes nothing; what was there stays.
-pub(crate) fn events_are_granted()
+fn events_are_granted()
     ensures creates { event_laws.CreatesGrantTheirEvent }
     ensures refused_creates { event_laws.RefusedCreatesChangeNothing }
     ensures stay { event_laws.CreatesKeepEvents }
@@ -79,4 +80,17 @@ pub(crate) fn names_stay()
 {
     puts_keep_rows::<u64>();
     puts_keep_rows::<EventRow>();
+}
+
+// What a kernel keeps of its namespace is kept by each request.
+pub(crate) fn requests_are_kept()
+    ensures { RequestsAreKept }
+{
+    files_are_granted();
+    files_are_renamed();
+    pipes_are_granted();
+    keys_are_granted();
+    events_are_granted();
+    sb_file::agreement_is_kept();
+    sb_pipe::agreement_is_kept();
 }

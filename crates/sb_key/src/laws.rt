@@ -18,7 +18,7 @@ pub fn keys_are_found_where_made()
     puts_are_found::<u64>();
 }
 
-/// Keys stay under their names: what stands under a name stands there after each call that makes or opens a key.
+/// Keys keep their names: each row is there after each call that makes or opens a key.
 #[tactic(auto, using(crate::proofs::KeyLaws::creates_keep_keys))]
 pub fn keys_stay()
     ensures { CreatesKeepKeys }
@@ -26,7 +26,7 @@ pub fn keys_stay()
     puts_keep_rows::<u64>();
 }
 
-/// If each key stands below one that is there, or below the root, each does so after a call that makes a key.
+/// If each key is below one that is there, or below the root, each is so after a call that makes a key.
 #[tactic(auto, using(crate::proofs::KeyLaws::creates_keep_trees))]
 pub fn keys_stand_below_keys()
     ensures { CreatesKeepTrees }

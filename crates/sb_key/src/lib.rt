@@ -1,4 +1,4 @@
-// Keys of the registry: a tree in which each key stands below one that is there, or below the root. Keys stay.
+// Keys of the registry: a tree in which each key is below one that is there, or below the root. Keys stay.
 // The calls are modelled on NtCreateKey and NtOpenKey in their documentation.
 #![tactic(auto)]
 

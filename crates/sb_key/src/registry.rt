@@ -1,7 +1,9 @@
 // The keys by their names, and the calls on them.
 ghost use Rattle.std.specs.Prelude.{◌≡◌, ◌<◌, ◌^◌, true, IfOk, OnOk, OnErr};
 ghost use Rattle.sb_wide.specs.Names.{is_name_of};
+ghost use Rattle.sb_call.specs.Statuses.{success};
 ghost use Rattle.sb_handles.specs.Effects.{IsDone};
+ghost use Rattle.sb_names.specs.Objects.{IsNameOf};
 ghost use Rattle.sb_key.specs.Registry.{AreKeys, no_keys, on_key, create, open_by_name, can_start, started};
 
 use bitflags::Flags;
@@ -9,6 +11,7 @@ use sb_call::{Answer, Extended, NAME_NOT_FOUND, PATH_NOT_FOUND, SUCCESS};
 use sb_handles::{Access, HandleTable, Held, Object, Service, Sharing};
 use sb_items::NoMemory;
 use sb_names::{NameTree, Seek, numbers_are_kept};
+use sb_wide::Wide;
 use std::alloc::Global;
 use std::marker::Model;
 
@@ -18,8 +21,8 @@ const CREATED_NEW_KEY: u64 = 1;
 // The extended word of a key that was there.
 const OPENED_EXISTING_KEY: u64 = 2;
 
-/// The keys that were ever made, each under its name. Names are compared folded; a key of one component stands below the
-/// root, which is always there and is no key.
+/// The keys that were ever made, each under its name. Names are compared folded; a key of one component is below the root,
+/// which is always there and is no key.
 pub struct KeyService {
     names: NameTree,
     made: u64,
@@ -74,12 +77,23 @@ impl KeyService {
         self.made
     }
 
-    /// Each name leads to a key that was made, no two to one, and stands below a key that is there or below the root; the
-    /// names are kept folded and in rising order. It changes nothing.
-    pub fn keys_are_made(&self)
+    /// Establishes for a proof that each name leads to a key that was made, no two to one, and is below a key that is there or
+    /// below the root, and that names are folded and in rising order. It does nothing.
+    pub fn establish_keys(&self)
         ensures { AreKeys self.now }
     {
         self.names.establish_tree();
+    }
+
+    /// The folded name of the key of this number, or None if no key of this number was made. It takes the time of the name,
+    /// however many keys there are.
+    ///
+    /// # Errors
+    /// `NoMemory` if there was none for the name.
+    pub fn name_of(&self, number: u64) -> Result<Option<Wide>, NoMemory>
+        ensures { IfOk result (λ name. IsNameOf self.now.names number name) }
+    {
+        self.names.name_of(number)
     }
 
     /// Makes a key, or opens the one that is there, and grants the target a handle on it with this access. The first of
@@ -100,6 +114,7 @@ impl KeyService {
         requires name { is_name_of name.now ≡ true }
         requires made { self.old.made < 2 ^ 63 }
         ensures effect { IfOk result (λ a. IsDone (create self.old handles.old.table target name.now access.0) self.new handles.new.table a) }
+        ensures memory { OnErr result ((create self.old handles.old.table target name.now access.0).answer.status ≡ success) }
         ensures err { OnErr result ((self.new ≡ self.old) × (handles.new.table ≡ handles.old.table)) }
     {
         numbers_are_kept::<u64>();
@@ -137,6 +152,7 @@ impl KeyService {
     ) -> Result<Answer, NoMemory>
         requires name { is_name_of name.now ≡ true }
         ensures effect { IfOk result (λ a. IsDone (open_by_name self.old handles.old.table target name.now access.0) self.new handles.new.table a) }
+        ensures memory { OnErr result ((open_by_name self.old handles.old.table target name.now access.0).answer.status ≡ success) }
         ensures service { self.new ≡ self.old }
         ensures err { OnErr result (handles.new.table ≡ handles.old.table) }
     {
@@ -175,6 +191,7 @@ impl KeyService {
         requires made { self.old.made < 2 ^ 63 }
         ensures answer { IfOk result (λ b. b ≡ can_start self.old name.now) }
         ensures service { OnOk result (self.new ≡ started self.old name.now) }
+        ensures memory { OnErr result (can_start self.old name.now ≡ true) }
         ensures err { OnErr result (self.new ≡ self.old) }
     {
         numbers_are_kept::<u64>();

@@ -1,21 +1,18 @@
--- What an added name meets: its directory is missing, it is there, or it is new.
-use Rattle.std.proofs.Common.{◌≡◌, ℕ, true, false, refl, sym, ◌∙◌, ap, List, [], ◌∷◌, ◌++◌}
+-- A name by its directory and its component: its key, whether its directory is there, and whether it is there itself.
+use Rattle.std.proofs.Common.{◌≡◌, ℕ, true, false, refl, sym, ◌∙◌, ap, List, ◌∷◌, ◌++◌}
 use Rattle.std.proofs.lemmas.Bool.{false≢true}
-use Rattle.std.specs.Prelude.{Option, Some, None, is_some, Ok, Err}
-use Rattle.std.specs.BTreeMap.{insert_entry}
+use Rattle.std.specs.Prelude.{Option, Some, None, is_some}
 use Rattle.std.specs.Map.{lookup}
 use Rattle.sb_arena.specs.Forests.{IsShallow, HasLiveLinks, value_at}
 use Rattle.sb_wide.specs.Names.{is_component}
 use Rattle.sb_names.specs.Keys.{key_of, parent_of}
-use Rattle.sb_names.specs.Maps.{Rows, is_key, is_there}
+use Rattle.sb_names.specs.Maps.{is_key, is_there}
 use Rattle.sb_names.specs.Nodes.{Nodes, HasNames, HasNoChild, IsAt, IsChild, IsThere, IsUnnamed, name_of, rows_of}
-use Rattle.sb_names.specs.Trees.{added, has_parent, is_directory_there}
-use Rattle.sb_names.specs.declared.faults.TreeFault.TheVariants as fault
+use Rattle.sb_names.specs.Trees.{has_parent, is_directory_there}
 use Rattle.sb_names.specs.declared.nodes.NameNode.{NameNode}
 use Rattle.sb_names.proofs.NameLemmas.{component_plain, folded_join}
 use Rattle.sb_names.proofs.NodeLemmas.{child_name, found_node, found_none, is_the_child, name_root}
-use Rattle.sb_names.proofs.PathLemmas.{directory_gone, directory_there}
-use Rattle.sb_names.proofs.RisingLemmas.{by_unit}
+use Rattle.sb_names.proofs.PathLemmas.{directory_there}
 
 pub name_key : (name path part : List ℕ) → name ≡ path ++ 92 ∷ part → key_of name ≡ key_of path ++ 92 ∷ key_of part
 name_key name path part e = ap key_of e ∙ folded_join path (92 ∷ part)

@@ -83,6 +83,14 @@ module _ {V : Type 0} where
       by None = refl
       by (Some p) = refl
 
+  -- a name without a value has no place
+  pub no_place : (es : Entries V) (name : List ℕ) → found (rows_in es) name ≡ None → place_of (key_of name) es ≡ None
+  no_place es name none = by (place_of (key_of name) es) (sym (found_by_place es name) ∙ none)
+    where
+      by : (o : Option (ℕ × V)) → value_by o ≡ None → o ≡ None
+      by None e = refl
+      by (Some p) e = absurd (cc)
+
   pub not_there : (es : Entries V) (key : List ℕ) → is_some (place_of key es) ≡ false → place_of key es ≡ None
   not_there es key e = none_of (place_of key es) e
 
@@ -160,7 +168,7 @@ module _ {V : Type 0} where
           ap (λ b. is_some (cond b (Some x.1) (lookup (is_at (by_pair q)) es))) (ap (is_at (by_pair q)) same ∙ own_place q)
       by false e again = kept_on (is_at (by_pair q) x.0) x.1 (lookup (is_at (by_pair q)) es) (again e)
 
-  -- the first of entries that are apart is at another place than one behind it
+  -- the first of entries that are apart is at another place than one after it
   other_place : (p : Entry V → Bool) (q : ℕ × ℕ) (old : List ℕ × V) (x : Entry V) (es : Entries V) → lookup (is_at (by_pair x.0)) es ≡ None
       → find p es ≡ Some (q, old) → is_at (by_pair q) x.0 ≡ false
   other_place p q old x es none e = by (is_at (by_pair q) x.0) refl

@@ -1,5 +1,5 @@
 -- Names that are folded in their place, and rows that are chosen one after the other.
-use Rattle.std.proofs.Common.{◌≡◌, ◌<◌, ◌≤◌, ◌+◌, ℕ, zero, suc, refl, ap, arith, List, [], ◌∷◌, ◌++◌, length, take, drop, get_or, set, map}
+use Rattle.std.proofs.Common.{◌≡◌, ◌<◌, ◌≤◌, ℕ, zero, suc, refl, ap, arith, List, [], ◌∷◌, ◌++◌, length, take, drop, get_or, set, map}
 use Rattle.sb_wide.specs.Wide.{folded}
 
 -- with the first this many units folded

@@ -1,5 +1,5 @@
 -- A node that is added is hung in its directory.
-use Rattle.std.proofs.Common.{◌≡◌, ◌≢◌, ◌<◌, ℕ, false, sym, ◌∙◌, ap, subst, length, if◌then◌else◌}
+use Rattle.std.proofs.Common.{◌≡◌, ◌≢◌, ◌<◌, ℕ, sym, ◌∙◌, ap, subst, length, if◌then◌else◌}
 use Rattle.std.proofs.lemmas.Bool.{false≢true}
 use Rattle.std.specs.Prelude.{Option, Some, None, is_some}
 use Rattle.sb_arena.specs.Forests.{HasLiveLinks, IsLive, IsSound, node_number, parent_of as node_parent, value_at, with_node}

@@ -48,7 +48,7 @@ module _ {X : Type 0} (hash n : ℕ) (fits : n < 2 ^ 64) (p : ℕ → Bool) (pas
   abbrev kept : List ((ℕ × ℕ) × X) → List ((ℕ × ℕ) × X)
   kept es = filter (λ e. with_hash hash e.0) es
 
-  met : (es : List ((ℕ × ℕ) × X)) → is_some (lookup (is_at (by_pair (hash, n))) es) ≡ true
+  pub met : (es : List ((ℕ × ℕ) × X)) → is_some (lookup (is_at (by_pair (hash, n))) es) ≡ true
       → find row_passes (filter (λ e. with_hash hash e.0) es) ≡ None → ⊥
   met [] there none = false≢true there
   met (((h, m), x) ∷ es) there none = by (is_at (by_pair (hash, n)) (h, m)) (same_pair hash n h m) there (with_hash hash (h, m)) refl none (met es)

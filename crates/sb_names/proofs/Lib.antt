@@ -13,6 +13,7 @@ pub mod NameLemmas
 pub mod Named
 pub mod NodeLemmas
 pub mod NumberLaws
+pub mod ObjectLemmas
 pub mod PathLemmas
 pub mod PutLemmas
 pub mod Removals

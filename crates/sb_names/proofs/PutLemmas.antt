@@ -1,8 +1,7 @@
 -- A node that is added: components stay different, the index has it, and its row is among the rows.
 use Rattle.std.proofs.Common.{◌≡◌, ◌≢◌, ◌<◌, ◌^◌, ◌==◌, ℕ, Bool, true, false, cond, refl, sym, ◌∙◌, ap, subst, arith, List, [], ◌∷◌, ◌++◌}
-use Rattle.std.proofs.lemmas.Bool.{false≢true}
 use Rattle.std.proofs.lemmas.Bool.Decides.{nat_tests}
-use Rattle.std.specs.Prelude.{Option, Some, None, is_some, not, ◌&&◌, ◌||◌}
+use Rattle.std.specs.Prelude.{Option, Some, None, is_some, ◌&&◌}
 use Rattle.std.specs.BTreeMap.{insert_entry, is_at}
 use Rattle.sb_arena.specs.Forests.{HasLiveLinks, IsShallow, value_at}
 use Rattle.sb_wide.specs.Names.{is_component}

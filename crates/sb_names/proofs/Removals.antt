@@ -1,22 +1,17 @@
 -- What the removal of a node does to the rows, and when names stand below one.
-use Rattle.std.proofs.Common.{◌≡◌, ◌≢◌, ◌+◌, ◌==◌, ℕ, Bool, true, false, cond, refl, sym, ◌∙◌, ap, subst, arith, zero, suc, List, [], ◌∷◌, length, if◌then◌else◌}
-use Rattle.std.proofs.lemmas.Bool.{false≢true}
-use Rattle.std.proofs.lemmas.List.Sums.{sum_by-cons}
+use Rattle.std.proofs.Common.{◌≡◌, ℕ, cond, refl, sym, ◌∙◌, ap, subst, zero, suc, List, length, if◌then◌else◌}
 use Rattle.std.proofs.lemmas.Map.{lookup-remove_entry}
 use Rattle.std.proofs.lemmas.Map.Keys.{IsDistinct-from_sorted}
 use Rattle.std.specs.Prelude.{Option, Some, None, is_some}
 use Rattle.std.specs.Cmp.Lexicographic.{nat_list_eq_equiv}
-use Rattle.std.specs.List.{AllByRecursion, IsDistinct, count_by}
+use Rattle.std.specs.List.{AllByRecursion, IsDistinct}
 use Rattle.std.specs.Map.{keys_of, lookup, remove_entry}
-use Rattle.sb_arena.specs.Forests.{IsLive, value_at, parent_of as node_parent, IsShallow, HasLiveLinks}
-use Rattle.sb_names.specs.Keys.{key_of, parent_of}
+use Rattle.sb_arena.specs.Forests.{IsLive, value_at, IsShallow, HasLiveLinks}
 use Rattle.sb_names.specs.Maps.{Rows, Rises, is_key}
-use Rattle.sb_names.specs.Nodes.{Nodes, HasNames, IsChanged, IsUnnamed, name_of, rows_below, rows_of, with_row}
+use Rattle.sb_names.specs.Nodes.{Nodes, HasNames, name_of, rows_below, rows_of, with_row}
 use Rattle.sb_names.specs.declared.nodes.NameNode.{NameNode}
-use Rattle.sb_names.proofs.Changes.{not_above, rows_match, same_of, other_of, value_here, value_other, name_apart}
-use Rattle.sb_names.proofs.MapLaws.{own_test, is_key_eq}
-use Rattle.sb_names.proofs.NodeLemmas.{found_node, found_none, name_root, not_root, one_node, parent_name, rows_rise}
-use Rattle.sb_names.proofs.RisingLemmas.{by_unit, key_test, rises_out, all_put}
+use Rattle.sb_names.proofs.MapLaws.{is_key_eq}
+use Rattle.sb_names.proofs.RisingLemmas.{by_unit, key_test, all_put}
 
 -- without the row of a key, that key is not found, and every other as before
 pub is_out : {V : Type 0} (key other : List ℕ) (rows : Rows V) → Rises rows

@@ -1,24 +1,20 @@
 -- What the renaming and the removal of a name leave of a tree of rows.
-use Rattle.std.proofs.Common.{◌⊎◌, inl, inr, ◌≡◌, ◌≢◌, ◌≤◌, ◌+◌, ◌==◌, ℕ, Bool, true, false, cond, refl, sym, ◌∙◌, ap, subst, arith, zero, suc, List, [], ◌∷◌, ◌++◌, length, drop, map, if◌then◌else◌}
+use Rattle.std.proofs.Common.{◌⊎◌, inl, inr, ◌≡◌, ◌≤◌, ◌==◌, ℕ, Bool, true, false, cond, refl, sym, ◌∙◌, ap, subst, arith, zero, suc, List, [], ◌∷◌, ◌++◌, length, drop, map, if◌then◌else◌}
 use Rattle.std.proofs.lemmas.Bool.{false≢true, and_parts}
 use Rattle.std.proofs.lemmas.Bool.Decides.{nat_tests}
 use Rattle.std.proofs.lemmas.List.{append-nil, append_cancel_left}
-use Rattle.std.proofs.lemmas.List.Sums.{sum_by-cons}
 use Rattle.std.specs.Prelude.{Option, Some, None, Result, Ok, Err, is_some, not, ◌&&◌, ◌||◌}
-use Rattle.std.specs.List.{AllByRecursion, count_by, list_all, list_any}
-use Rattle.std.specs.Map.{keys_of, lookup, remove_entry}
+use Rattle.std.specs.List.{AllByRecursion, list_all, list_any}
+use Rattle.std.specs.Map.{keys_of, lookup}
 use Rattle.sb_wide.specs.Names.{is_name_of}
 use Rattle.sb_names.specs.Keys.{key_of, parent_of, is_backslash, is_below}
 use Rattle.sb_names.specs.Laws.{RenamesAddNothing, RenamesAreFound, RenamesKeepTrees, RenamesLeaveNothing}
 use Rattle.sb_names.specs.Maps.{Rows, is_key, is_there}
 use Rattle.sb_names.specs.Nodes.{is_path}
-use Rattle.sb_names.specs.Renames.{collected, is_at_or_below, renamed_key, renamed_rows, renamed_tree}
+use Rattle.sb_names.specs.Renames.{collected, RenameRefusal, absent, exists, into_itself, is_at_or_below, no_parent, renamed_key, renamed_rows, renamed_tree}
 use Rattle.sb_names.specs.Trees.{AreFolded, IsTree, has_parent, is_directory_there}
-use Rattle.sb_names.specs.declared.faults.TreeFault.{TreeFault}
-use Rattle.sb_names.specs.declared.faults.TreeFault.TheVariants as fault
 use Rattle.sb_names.proofs.MapLaws.{is_found, is_key_eq, own_test}
 use Rattle.sb_names.proofs.NameLemmas.{folded_join, nothing_before, parent_is_path, parent_path}
-use Rattle.sb_names.proofs.Removals.{is_out}
 use Rattle.sb_names.proofs.RenameLemmas.{below_more, found_under, has_path, with_path, within_more}
 use Rattle.sb_names.proofs.RisingLemmas.{all_put}
 use Rattle.sb_names.proofs.TreeLaws.{keys_again, parent_folded}
@@ -277,27 +273,22 @@ module _ (rows : Rows ℕ) (tree : IsTree rows) (are_folded : AreFolded rows) wh
             by true t = inside (drop (length old) key) (has_path old key t).0 (has_path old key t).1
 
 -- what an accepted rename says of the rows
-abbrev is_ok : Result (Rows ℕ) TreeFault → Bool
+abbrev is_ok : Result (Rows ℕ) RenameRefusal → Bool
 is_ok (Ok rows) = true
 is_ok (Err e) = false
 
-abbrev rows_by : Result (Rows ℕ) TreeFault → Rows ℕ
+abbrev rows_by : Result (Rows ℕ) RenameRefusal → Rows ℕ
 rows_by (Ok rows) = rows
 rows_by (Err e) = []
 
 rename_parts : (a b c d : Bool) (r r' : Rows ℕ)
-    → (if not a then Err fault.Absent else (if b then Err fault.IntoItself else (if not c then Err fault.NoParent else (if d then Err fault.Exists else Ok r)))) ≡ Ok r'
+    → (if not a then Err absent else (if b then Err into_itself else (if not c then Err no_parent else (if d then Err exists else Ok r)))) ≡ Ok r'
     → (a ≡ true) × (b ≡ false) × (c ≡ true) × (d ≡ false) × (r ≡ r')
 rename_parts true false true false r r' e = (refl, refl, refl, refl, ap rows_by e)
 rename_parts false b c d r r' e = absurd (false≢true (ap is_ok e))
 rename_parts true true c d r r' e = absurd (false≢true (ap is_ok e))
 rename_parts true false false d r r' e = absurd (false≢true (ap is_ok e))
 rename_parts true false true true r r' e = absurd (false≢true (ap is_ok e))
-
-remove_parts : (a b : Bool) (r r' : Rows ℕ) → (if not a then Err fault.Absent else (if not b then Err fault.HasChildren else Ok r)) ≡ Ok r' → (b ≡ true) × (r ≡ r')
-remove_parts true true r r' e = (refl, ap rows_by e)
-remove_parts false b r r' e = absurd (false≢true (ap is_ok e))
-remove_parts true false r r' e = absurd (false≢true (ap is_ok e))
 
 pub some_name : (us : List ℕ) → is_name_of us ≡ true → key_of us ≡ [] → ⊥
 some_name [] h e = false≢true h

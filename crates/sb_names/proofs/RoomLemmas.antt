@@ -1,19 +1,21 @@
 -- What a free node more leaves as it was, and what a name that is added by it does.
-use Rattle.std.proofs.Common.{◌≡◌, ◌≢◌, ◌<◌, ◌^◌, ◌==◌, ℕ, Bool, true, false, cond, refl, sym, ◌∙◌, ap, subst, arith, List, ◌∷◌, ◌++◌, length, if◌then◌else◌}
+use Rattle.std.proofs.Common.{◌≡◌, ◌<◌, ◌^◌, ◌==◌, ℕ, Bool, true, false, cond, refl, sym, ◌∙◌, ap, subst, arith, List, ◌∷◌, ◌++◌, length, if◌then◌else◌}
 use Rattle.std.proofs.lemmas.Bool.{false≢true}
 use Rattle.std.specs.Prelude.{Option, Some, None, is_some, ◌&&◌}
 use Rattle.std.specs.BTreeMap.{is_at}
 use Rattle.std.specs.Map.{lookup}
 use Rattle.sb_arena.specs.Forests.{HasLiveLinks, IsLive, IsShallow, IsSound, node_number, parent_of as node_parent, value_at, with_vacancy}
-use Rattle.sb_arena.specs.Laws.{NumbersAreFree, VacanciesLeaveNodes}
+use Rattle.sb_arena.specs.Laws.{NumbersAreFree, VacanciesKeepNumbers, VacanciesLeaveNodes}
+use Rattle.sb_wide.specs.Names.{is_component}
 use Rattle.sb_names.specs.Hashes.{hash_of}
-use Rattle.sb_names.specs.Keys.{key_of, parent_of}
+use Rattle.sb_names.specs.Keys.{key_of}
 use Rattle.sb_names.specs.Maps.{is_key}
-use Rattle.sb_names.specs.Nodes.{Nodes, HasNames, HasNoChild, IsAt, IsChanged, IsChild, IsIndexed, IsThere, IsUnnamed, KeepsNodes, is_entry, key_by, name_of, rows_of}
+use Rattle.sb_names.specs.Nodes.{Nodes, HasNames, HasNoChild, IsChanged, IsIndexed, IsThere, IsUnnamed, KeepsNodes, key_by, name_of, number_of, rows_of}
 use Rattle.sb_names.specs.Orders.{by_pair}
+use Rattle.sb_names.specs.Rooms.{HasRoomFor}
+use Rattle.sb_names.specs.declared.rooms.NewName.{NewName}
 use Rattle.sb_names.specs.declared.nodes.NameNode.{NameNode}
-use Rattle.sb_names.proofs.AddLemmas.{whole_key}
-use Rattle.sb_names.proofs.Changes.{indexed_changed, name_kept, names_changed, rows_match, same_of}
+use Rattle.sb_names.proofs.Changes.{indexed_changed, name_kept, rows_match, same_of}
 use Rattle.sb_names.proofs.NodeLemmas.{child_name, found_node, found_none, live_below, name_root, rows_rise}
 use Rattle.sb_names.proofs.PutLemmas.{same_place}
 
@@ -120,3 +122,19 @@ pub added_index : {V : Type 0} (f f' : Nodes) (w : NameNode) (d : Option ℕ) �
 added_index f f' w d changed index indexed entry even small =
     indexed_changed f f' (node_number f) (Some w) d changed index index indexed (λ q ne there. there) (λ some. entry)
     (λ live. omega (arith, live_below f' (node_number f) live, even, small))
+
+-- the room for a name, after a node was made free
+pub has_room : VacanciesLeaveNodes NameNode → VacanciesKeepNumbers NameNode → (f g : Nodes) → g ≡ with_vacancy f → (new : NewName)
+    → (index objects : List ((ℕ × ℕ) × Unit {0})) → IsThere f (number_of new.directory) → is_component new.part ≡ true
+    → is_some (lookup (is_at (by_pair (hash_of (number_of new.directory) (key_of new.part), node_number f))) index) ≡ true
+    → is_some (lookup (is_at (by_pair (new.object, node_number f))) objects) ≡ true
+    → HasRoomFor (record { nodes = g; index = index; objects = objects }) new
+has_room leaves keeps f g grown new index objects there part entry holder =
+    let next : node_number (with_vacancy f) ≡ node_number f = (keeps f).1 in
+    subst (λ g. HasRoomFor (record { nodes = g; index = index; objects = objects }) new) (sym grown) (record {
+      there = vacancy_there leaves f (number_of new.directory) there;
+      part = part;
+      vacant = (keeps f).0;
+      entry = subst (λ n. is_some (lookup (is_at (by_pair (hash_of (number_of new.directory) (key_of new.part), n))) index) ≡ true) (sym next) entry;
+      holder = subst (λ n. is_some (lookup (is_at (by_pair (new.object, n))) objects) ≡ true) (sym next) holder;
+    })

@@ -1,5 +1,5 @@
 -- Where the path of a name leads.
-use Rattle.std.proofs.Common.{◌≡◌, ℕ, true, false, refl, sym, ◌∙◌, ap, subst, List, [], ◌∷◌, ◌++◌}
+use Rattle.std.proofs.Common.{◌≡◌, ℕ, true, false, refl, sym, ◌∙◌, ap, List, [], ◌∷◌, ◌++◌}
 use Rattle.std.proofs.lemmas.Bool.{false≢true}
 use Rattle.std.specs.Prelude.{Option, Some, None, is_some, option_map, OnOk, Result, Ok, Err}
 use Rattle.std.specs.BTreeMap.{insert_entry}
@@ -7,7 +7,7 @@ use Rattle.std.specs.Map.{lookup}
 use Rattle.sb_arena.specs.Forests.{IsShallow, HasLiveLinks, value_at}
 use Rattle.sb_wide.specs.Names.{is_component}
 use Rattle.sb_names.specs.Keys.{key_of, parent_of}
-use Rattle.sb_names.specs.Maps.{Rows, found, is_key, is_there, put}
+use Rattle.sb_names.specs.Maps.{Rows, found, is_key, put}
 use Rattle.sb_names.specs.Nodes.{Nodes, HasNames, HasNoChild, IsAt, IsChild, IsUnnamed, name_of, rows_of}
 use Rattle.sb_names.specs.Seeks.{object_by}
 use Rattle.sb_names.specs.Trees.{has_parent, is_directory_there, parent_object}

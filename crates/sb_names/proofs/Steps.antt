@@ -1,9 +1,8 @@
 -- What the calls on an arena change: one node alone.
-use Rattle.std.proofs.Common.{◌≡◌, ◌≢◌, ◌<◌, ◌==◌, ℕ, Bool, true, false, refl, sym, ◌∙◌, ap, subst, zero, suc, List, [], ◌∷◌, length, if◌then◌else◌}
-use Rattle.std.proofs.lemmas.Bool.{false≢true}
+use Rattle.std.proofs.Common.{◌≡◌, ◌<◌, ◌==◌, ℕ, Bool, true, false, refl, sym, ◌∙◌, ap, subst, zero, suc, length, if◌then◌else◌}
 use Rattle.std.specs.Prelude.{Option, Some, None, is_some}
-use Rattle.sb_arena.specs.Forests.{Agrees, HasLiveLinks, IsAbove, IsLive, ancestor, children_of, first_of, has, parent_of as node_parent, value_at, with_value, without_node, without_parent}
-use Rattle.sb_arena.specs.Laws.{FreesClearValues, SetsSetValues, UnlinksClearParents}
+use Rattle.sb_arena.specs.Forests.{HasLiveLinks, IsAbove, IsLive, ancestor, parent_of as node_parent, value_at, with_value, without_parent}
+use Rattle.sb_arena.specs.Laws.{SetsSetValues, UnlinksClearParents}
 use Rattle.sb_names.specs.Nodes.{Nodes, IsApart, IsChanged, IsThere}
 use Rattle.sb_names.specs.declared.nodes.NameNode.{NameNode}
 use Rattle.sb_names.proofs.Changes.{is_same, same_of}

@@ -5,6 +5,7 @@ pub mod Laws
 pub mod Maps
 pub mod Nodes
 pub mod Numbers
+pub mod Objects
 pub mod Orders
 pub mod Renames
 pub mod Rooms

@@ -6,8 +6,6 @@ use Rattle.std.specs.Ordering.{nat_cmp}
 use Rattle.sb_names.specs.Keys.{key_of, is_below}
 use Rattle.sb_names.specs.Maps.{Rows, is_key, is_there}
 use Rattle.sb_names.specs.Trees.{has_parent}
-use Rattle.sb_names.specs.declared.faults.TreeFault.{TreeFault}
-use Rattle.sb_names.specs.declared.faults.TreeFault.TheVariants as fault
 
 -- the second key is the first, or lies below it
 abbrev pub is_at_or_below : List ℕ → List ℕ → Bool
@@ -26,11 +24,18 @@ collected (row ∷ rows) = insert_entry (slice_cmp nat_cmp) (collected rows) row
 abbrev pub renamed_rows : Rows ℕ → List ℕ → List ℕ → Rows ℕ
 renamed_rows rows from to = collected (map (λ row. (renamed_key (key_of from) (key_of to) row.0, row.1)) rows)
 
--- the rows with FROM and all below it renamed to TO, or why they stay
-abbrev pub renamed_tree : Rows ℕ → List ℕ → List ℕ → Result (Rows ℕ) TreeFault
+-- why a name is not renamed: it is not there, the new name is below it, the directory of the new name is not there, or the new name is there
+pub data RenameRefusal : Type 0 where
+  absent : RenameRefusal
+  into_itself : RenameRefusal
+  no_parent : RenameRefusal
+  exists : RenameRefusal
+
+-- the rows with FROM and all below it renamed to TO, or why they stay: the first case that applies
+abbrev pub renamed_tree : Rows ℕ → List ℕ → List ℕ → Result (Rows ℕ) RenameRefusal
 renamed_tree rows from to =
-    if not (is_there rows from) then Err fault.Absent
-    else (if is_below (key_of from) (key_of to) then Err fault.IntoItself
-    else (if not (has_parent rows to) then Err fault.NoParent
-    else (if is_there rows to then Err fault.Exists
+    if not (is_there rows from) then Err absent
+    else (if is_below (key_of from) (key_of to) then Err into_itself
+    else (if not (has_parent rows to) then Err no_parent
+    else (if is_there rows to then Err exists
     else Ok (renamed_rows rows from to))))

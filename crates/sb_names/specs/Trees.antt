@@ -1,11 +1,9 @@
 -- A tree of names: a map in which each name stands in a directory that is there, and what may be asked of it.
-use Rattle.std.specs.Prelude.{◌≡◌, ℕ, Bool, true, false, not, List, [], ◌∷◌, Option, None, Some, option_map, Result, Ok, Err, ⊤, if◌then◌else◌}
+use Rattle.std.specs.Prelude.{◌≡◌, ℕ, Bool, true, false, List, [], ◌∷◌, Option, None, Some, option_map}
 use Rattle.std.specs.List.{list_all}
 use Rattle.sb_wide.specs.Names.{is_name_of}
 use Rattle.sb_names.specs.Keys.{key_of, parent_of}
-use Rattle.sb_names.specs.Maps.{Rows, found, is_key, is_there, put}
-use Rattle.sb_names.specs.declared.faults.TreeFault.{TreeFault}
-use Rattle.sb_names.specs.declared.faults.TreeFault.TheVariants as fault
+use Rattle.sb_names.specs.Maps.{Rows, found, is_key, is_there}
 
 -- the directory of this name is there; the root always is
 abbrev pub is_directory_there : Rows ℕ → List ℕ → Bool
@@ -54,15 +52,3 @@ HasParents test rows = list_all (λ row. has_parent_with test rows row.0) rows �
 -- each name stands in a directory that is there
 abbrev pub IsTree : Rows ℕ → Type 0
 IsTree rows = list_all (λ row. has_parent rows row.0) rows ≡ true
-
--- the rows with one more, or why there is none: the first case that applies
-abbrev pub added : Rows ℕ → List ℕ → ℕ → Result (Rows ℕ) TreeFault
-added rows name object =
-    if not (has_parent rows name) then Err fault.NoParent
-    else (if is_there rows name then Err fault.Exists
-    else Ok (put rows name object))
-
--- a fault that an answer may have: the one that is wanted, or that memory ran out
-abbrev pub IsFault : Result (Rows ℕ) TreeFault → TreeFault → Type 0
-IsFault wanted fault.NoMemory = ⊤
-IsFault wanted other = wanted ≡ Err other

@@ -29,7 +29,7 @@ pub(crate) fn is_key(key: &[u16], name: &[u16]) -> bool
     }
 }
 
-// How many units stand before the last `\`.
+// How many units are before the last `\`.
 #[tactic(auto, using(crate::proofs::KeyLemmas::last_later))]
 pub(crate) fn parent_len(name: &[u16]) -> usize
     ensures { result ≡ length (parent_of name.now) }
@@ -47,9 +47,9 @@ pub(crate) fn parent_len(name: &[u16]) -> usize
     last
 }
 
+/// The name of the directory of a name: what is before its last `\`. It is empty for a name of one component, whose
+/// directory is the root.
 #[tactic(auto, using(crate::proofs::KeyLemmas::parent_start, crate::proofs::KeyLemmas::parent_short))]
-/// The name of the directory in which a name stands: what stands before its last `\`. It is empty for a name of one
-/// component, which stands in the root.
 pub fn parent(name: &[u16]) -> &[u16]
     ensures { result.now ≡ parent_of name.now }
 {
@@ -57,7 +57,7 @@ pub fn parent(name: &[u16]) -> &[u16]
     before
 }
 
-/// Whether a name lies below another: it is the other, a `\`, and more.
+/// Whether the second name is below the first: it is the first, a `\`, and more.
 pub fn is_below(name: &[u16], lower: &[u16]) -> bool
     ensures { result ≡ is_below (key_of name.now) (key_of lower.now) }
 {

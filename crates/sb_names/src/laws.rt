@@ -10,7 +10,7 @@ pub fn puts_are_found<V>()
     ensures { PutsAreFound V }
 {}
 
-/// What stands under a key stands there still after something is put under a name that is not there.
+/// A row is there still after a value is put under a name that has none.
 #[tactic(auto, using(crate::proofs::MapLaws::puts_keep_rows))]
 pub fn puts_keep_rows<V>()
     ensures { PutsKeepRows V }

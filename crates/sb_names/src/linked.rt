@@ -21,11 +21,15 @@ const BACKSLASH: u16 = 92;
 
 /// The names of objects, each in a directory that is there; the root is there always, and is no name of its own.
 ///
-/// Names are compared folded. Each call walks the components of a name from the root, and finds each by an index.
+/// Names are compared folded. Each call walks the components of a name from the root, and finds each by an index: a hash of
+/// 64 bits that anybody can compute. Components that were made to have one hash in their directory are compared one after the
+/// other, so that k of them take time in the square of k.
 pub struct NameTree {
     pub(crate) nodes: Arena<NameNode>,
     // Each node under the hash of its directory and component.
     pub(crate) index: BTreeMap<(u64, u64), ()>,
+    // Each node under its object.
+    pub(crate) objects: BTreeMap<(u64, u64), ()>,
     pub(crate) alloc: Global,
 }
 
@@ -34,6 +38,7 @@ impl Drop for NameTree {
         let NameTree {
             nodes: _,
             index: _,
+            objects: _,
             alloc: _,
         } = self;
     }
@@ -42,14 +47,15 @@ impl Drop for NameTree {
 impl Model for NameTree {
     ghost use Rattle.std.specs.BTreeMap.{get};
     ghost use Rattle.sb_names.specs.Nodes.{HasNames, IsIndexed};
+    ghost use Rattle.sb_names.specs.Objects.{HasObjects};
     ghost use Rattle.sb_names.specs.Orders.{by_pair};
     ghost use Rattle.sb_names.specs.Rooms.{Tree};
 
     ghost Value = { Tree };
 
-    ghost view = { λ t. record { nodes = t.nodes; index = t.index.entries } };
+    ghost view = { λ t. record { nodes = t.nodes; index = t.index.entries; objects = t.objects.entries } };
 
-    ghost invariant = { λ t. HasNames t.nodes × IsIndexed (get by_pair t.index) t.nodes };
+    ghost invariant = { λ t. HasNames t.nodes × IsIndexed (get by_pair t.index) t.nodes × HasObjects (get by_pair t.objects) t.nodes };
 }
 
 // Whether two directories are the same.
@@ -76,7 +82,7 @@ fn is_child(nodes: &Arena<NameNode>, directory: Option<NodeId>, part: &[u16], no
     eq_ignore_ascii_case(nodes.value(node).part.as_units(), part)
 }
 
-// How many units stand before the first `\`.
+// How many units are before the first `\`.
 fn component_len(units: &[u16]) -> usize
     ensures len { result ≡ prefix_len (λ u. not (is_backslash u)) units.now }
     ensures short { result ≤ length units.now }
@@ -88,8 +94,8 @@ fn component_len(units: &[u16]) -> usize
     len
 }
 
-#[tactic(auto, using(crate::proofs::NameLemmas::first_part, crate::proofs::NameLemmas::first_rest, crate::proofs::NameLemmas::parts_join))]
 // The first component, and the path that follows.
+#[tactic(auto, using(crate::proofs::NameLemmas::first_part, crate::proofs::NameLemmas::first_rest, crate::proofs::NameLemmas::parts_join))]
 fn first_component(units: &[u16]) -> (&[u16], &[u16])
     ensures whole { units.now ≡ result.0.now ++ result.1.now }
     ensures part { list_any is_backslash result.0.now ≡ false }
@@ -98,8 +104,8 @@ fn first_component(units: &[u16]) -> (&[u16], &[u16])
     units.split_at(component_len(units))
 }
 
-#[tactic(auto, using(crate::proofs::PathLemmas::last_cut, crate::proofs::PathLemmas::last_parent, crate::proofs::KeyLemmas::parent_start, crate::proofs::KeyLemmas::parent_short))]
 // The directory of a name, and its last component.
+#[tactic(auto, using(crate::proofs::PathLemmas::last_cut, crate::proofs::PathLemmas::last_parent, crate::proofs::KeyLemmas::parent_start, crate::proofs::KeyLemmas::parent_short))]
 pub(crate) fn last_component(name: &[u16]) -> (&[u16], &[u16])
     requires { is_name_of name.now ≡ true }
     ensures directory { result.0.now ≡ parent_of name.now }
@@ -116,8 +122,8 @@ pub(crate) fn last_component(name: &[u16]) -> (&[u16], &[u16])
 }
 
 impl NameTree {
-    #[tactic(auto, using(crate::proofs::NodeLemmas::no_names))]
     /// No name is there.
+    #[tactic(auto, using(crate::proofs::NodeLemmas::no_names))]
     pub fn new(alloc: Global) -> NameTree
         ensures nodes { result.nodes ≡ no_nodes }
         ensures rows { rows_of result.nodes ≡ [] }
@@ -125,15 +131,9 @@ impl NameTree {
         NameTree {
             nodes: Arena::new(alloc),
             index: BTreeMap::new(alloc),
+            objects: BTreeMap::new(alloc),
             alloc,
         }
-    }
-
-    /// The nodes, for readers.
-    pub fn arena(&self) -> &Arena<NameNode>
-        ensures { result.now ≡ self.now.nodes }
-    {
-        &self.nodes
     }
 
     /// Establishes for a proof what holds of every tree. It does nothing.
@@ -150,9 +150,9 @@ impl NameTree {
         self.nodes.establish_forest();
     }
 
-    #[tactic(auto, using(crate::proofs::TreeLemmas::rows_are_tree, crate::proofs::TreeLemmas::rows_are_folded, crate::proofs::Named::rows_are_named, crate::proofs::NodeLemmas::one_node, crate::proofs::NodeLemmas::rows_rise))]
-    /// Establishes for a proof what holds of the names of every tree: each is a name and stands in a directory that is there,
+    /// Establishes for a proof what holds of the names of every tree: each is a name in a directory that is there,
     /// they are folded and rise, and no two nodes have one name. It does nothing.
+    #[tactic(auto, using(crate::proofs::TreeLemmas::rows_are_tree, crate::proofs::TreeLemmas::rows_are_folded, crate::proofs::Named::rows_are_named, crate::proofs::NodeLemmas::one_node, crate::proofs::NodeLemmas::rows_rise))]
     pub fn establish_tree(&self)
         ensures tree { IsTree (rows_of self.now.nodes) }
         ensures named { AreNamed (rows_of self.now.nodes) }
@@ -179,8 +179,8 @@ impl NameTree {
         None
     }
 
-    #[tactic(auto, using(crate::proofs::NodeLemmas::walked_on, crate::proofs::NodeLemmas::walk_ends))]
     // The directory of this name, the root of an empty one: None if it is not there.
+    #[tactic(auto, using(crate::proofs::NodeLemmas::walked_on, crate::proofs::NodeLemmas::walk_ends))]
     pub(crate) fn directory(&self, path: &[u16]) -> Option<Option<NodeId>>
         requires { is_path path.now ≡ true }
         ensures found { IfSome result (λ d. IsAt self.now.nodes (number_of d) (key_of path.now)) }
@@ -199,36 +199,5 @@ impl NameTree {
             rest = after;
         }
         Some(here)
-    }
-
-    #[tactic(auto, using(crate::proofs::TreeLemmas::node_object, crate::proofs::TreeLemmas::node_directory, crate::proofs::TreeLemmas::node_part, crate::proofs::NodeLemmas::found_none))]
-    /// The node of a name, or None if the name is not there. Its value has the object of the name and its last component,
-    /// and its parent is the node of the directory in which the name stands: none if that is the root.
-    pub fn node(&self, name: &[u16]) -> Option<NodeId>
-        requires { is_name_of name.now ≡ true }
-        ensures found { IfSome result (λ node. IsAt self.now.nodes (Some node.0) (key_of name.now)) }
-        ensures object { IfSome result (λ node. object_at self.now.nodes node.0 ≡ found (rows_of self.now.nodes) name.now) }
-        ensures part { IfSome result (λ node. key_of name.now ≡ key_of (parent_of name.now) ++ 92 ∷ key_at self.now.nodes node.0) }
-        ensures parent { IfSome result (λ node. IsAt self.now.nodes (node_parent self.now.nodes node.0) (key_of (parent_of name.now))) }
-        ensures absent { IfNone result (IsUnnamed self.now.nodes (key_of name.now)) }
-        ensures row { IfNone result (found (rows_of self.now.nodes) name.now ≡ None) }
-    {
-        self.establish_names();
-        match self.directory(name) {
-            Some(Some(node)) => Some(node),
-            _ => None,
-        }
-    }
-
-    /// The object of a name.
-    pub fn find(&self, name: &[u16]) -> Option<u64>
-        requires { is_name_of name.now ≡ true }
-        ensures { result ≡ found (rows_of self.now.nodes) name.now }
-    {
-        self.establish_names();
-        match self.node(name) {
-            Some(node) => Some(self.nodes.value(node).object),
-            None => None,
-        }
     }
 }

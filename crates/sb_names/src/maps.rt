@@ -1,4 +1,4 @@
-// A map from names, compared folded, to what stands under each.
+// A map from names, compared folded, to values.
 ghost use Rattle.std.specs.Prelude.{◌≡◌, not, [], None, IfOk, IfSome, OnOk, OnErr};
 ghost use Rattle.std.specs.BTreeMap.{IsUnchanged, get};
 ghost use Rattle.sb_names.specs.Entries.{AreHashed, IsKept, place_of, rows_in, value_by};
@@ -7,7 +7,7 @@ ghost use Rattle.sb_names.specs.Keys.{key_of};
 ghost use Rattle.sb_names.specs.Maps.{Rises, found, is_there, put, put_new, replaced, without};
 ghost use Rattle.sb_names.specs.Orders.{by_pair};
 
-use crate::folding::refolded;
+use crate::folding::fold_name;
 use crate::hashes::hash_of;
 use crate::keys::is_key;
 use sb_items::NoMemory;
@@ -18,6 +18,9 @@ use std::marker::Model;
 
 /// A map from names to values. Names are compared folded, and no spelling is kept. Each call finds a name by an index, so that
 /// its time does not depend on the order in which names came.
+///
+/// The index has a hash of 64 bits that anybody can compute. Names that were made to have one hash are compared one after the
+/// other, so that a call takes time in the number of these, and k of them take time in the square of k.
 pub struct NameMap<V> {
     // Each folded name with its value, under its hash and a number among the names with that hash.
     index: BTreeMap<(u64, u64), (Wide, V)>,
@@ -41,13 +44,6 @@ impl<V> Model for NameMap<V> {
     ghost invariant = { λ m. IsKept m.index.entries };
 }
 
-// A name folded.
-fn folded(alloc: Global, name: &[u16]) -> Result<Wide, NoMemory>
-    ensures { IfOk result (λ key. key ≡ key_of name.now) }
-{
-    Ok(refolded(Wide::from_units(alloc, name)?))
-}
-
 // The number of a name among those with its hash, and its value.
 fn place<V: Copy>(
     index: &BTreeMap<(u64, u64), (Wide, V)>,
@@ -66,11 +62,12 @@ fn place<V: Copy>(
     None
 }
 
-// A number that no name with this hash has, or None if each number is taken.
+// A number that no name with this hash has, or None if each is taken from the count of names on. While no name was removed,
+// the count itself is free, since each number is below the count that it was given at.
 fn free_number<V>(index: &BTreeMap<(u64, u64), (Wide, V)>, hash: u64) -> Option<u64>
     ensures { IfSome result (λ number. get by_pair index.now (hash, number) ≡ None) }
 {
-    let mut number = 0;
+    let mut number = index.len() as u64;
     while index.contains_key(&(hash, number)) {
         if number == u64::MAX {
             return None;
@@ -83,19 +80,19 @@ fn free_number<V>(index: &BTreeMap<(u64, u64), (Wide, V)>, hash: u64) -> Option<
 // Puts a value under a name that is not there.
 fn add_row<V: Copy>(
     index: &mut BTreeMap<(u64, u64), (Wide, V)>,
-    alloc: Global,
     hash: u64,
     name: &[u16],
+    key: Wide,
     value: V,
 ) -> Result<(), NoMemory>
     requires kept { IsKept index.old.entries }
     requires hash { hash ≡ hash_of None (key_of name.now) }
+    requires key { key ≡ key_of name.now }
     requires absent { place_of (key_of name.now) index.old.entries ≡ None }
     ensures kept { OnOk result (IsKept index.new.entries) }
     ensures rows { OnOk result (rows_in index.new.entries ≡ put (rows_in index.old.entries) name.now value) }
     ensures err { OnErr result (IsUnchanged index.old index.new) }
 {
-    let key = folded(alloc, name)?;
     let Some(number) = free_number(index, hash) else {
         return Err(NoMemory);
     };
@@ -118,7 +115,7 @@ fn set_row<V: Copy>(index: &mut BTreeMap<(u64, u64), (Wide, V)>, hash: u64, name
     }
 }
 
-// Takes the row of a name out, and returns its value.
+// Removes the row of a name, and returns its value.
 fn take_row<V: Copy>(
     index: &mut BTreeMap<(u64, u64), (Wide, V)>,
     hash: u64,
@@ -136,7 +133,7 @@ fn take_row<V: Copy>(
 }
 
 impl<V: Copy> NameMap<V> {
-    /// Nothing stands under any name.
+    /// A map without names.
     pub fn new(alloc: Global) -> NameMap<V>
         ensures { result ≡ [] }
     {
@@ -146,7 +143,7 @@ impl<V: Copy> NameMap<V> {
         }
     }
 
-    /// What stands under a name.
+    /// The value of a name.
     #[tactic(auto, using(crate::proofs::EntryLemmas::found_by_place))]
     pub fn find(&self, name: &[u16]) -> Option<V>
         ensures { result ≡ found self.now name.now }
@@ -157,7 +154,7 @@ impl<V: Copy> NameMap<V> {
         }
     }
 
-    /// Puts a value under a name, in the place of what stood there.
+    /// Puts a value under a name; it replaces the value that was there.
     ///
     /// # Errors
     /// `NoMemory` if there is none for the row; then nothing is changed.
@@ -168,13 +165,14 @@ impl<V: Copy> NameMap<V> {
     {
         let hash = hash_of(None, name);
         if place(&self.index, hash, name).is_none() {
-            return add_row(&mut self.index, self.alloc, hash, name, value);
+            let key = fold_name(self.alloc, name)?;
+            return add_row(&mut self.index, hash, name, key, value);
         }
         set_row(&mut self.index, hash, name, value);
         Ok(())
     }
 
-    /// Puts a value under a name where nothing stands. Returns false, and changes nothing, if something does.
+    /// Puts a value under a name that has none. Returns false, and changes nothing, if it has one.
     ///
     /// # Errors
     /// `NoMemory` if there is none for the row; then nothing is changed.
@@ -188,8 +186,23 @@ impl<V: Copy> NameMap<V> {
         if place(&self.index, hash, name).is_some() {
             return Ok(false);
         }
-        add_row(&mut self.index, self.alloc, hash, name, value)?;
+        let key = fold_name(self.alloc, name)?;
+        add_row(&mut self.index, hash, name, key, value)?;
         Ok(true)
+    }
+
+    /// Puts a value under a name that has none, with the name folded by the caller.
+    ///
+    /// # Errors
+    /// `NoMemory` if there is none for the row; then nothing is changed.
+    #[tactic(auto, using(crate::proofs::EntryLemmas::no_place))]
+    pub fn add(&mut self, name: &[u16], key: Wide, value: V) -> Result<(), NoMemory>
+        requires key { key ≡ key_of name.now }
+        requires absent { found self.old name.now ≡ None }
+        ensures ok { OnOk result (self.new ≡ put self.old name.now value) }
+        ensures err { OnErr result (self.new ≡ self.old) }
+    {
+        add_row(&mut self.index, hash_of(None, name), name, key, value)
     }
 
     /// Gives the row of a name another value. If there is no such row nothing is changed.
@@ -199,7 +212,7 @@ impl<V: Copy> NameMap<V> {
         set_row(&mut self.index, hash_of(None, name), name, value);
     }
 
-    /// Takes the row of a name out, and returns what stood there.
+    /// Removes the row of a name, and returns its value.
     #[tactic(auto, using(crate::proofs::EntryLemmas::found_by_place))]
     pub fn remove(&mut self, name: &[u16]) -> Option<V>
         ensures value { result ≡ found self.old name.now }
@@ -208,9 +221,9 @@ impl<V: Copy> NameMap<V> {
         take_row(&mut self.index, hash_of(None, name), name)
     }
 
-    /// The rows rise strictly, so that equal maps are equal lists. It changes nothing.
+    /// Establishes for a proof that the rows rise strictly, so that equal maps are equal lists. It does nothing.
     #[tactic(auto, using(crate::proofs::EntryLemmas::rows_in_rise))]
-    pub fn rows_rise(&self)
+    pub fn establish_order(&self)
         ensures { Rises self.now }
     {
         let _count = self.index.len();

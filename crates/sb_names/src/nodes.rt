@@ -2,12 +2,12 @@
 
 use sb_wide::Wide;
 
-/// A name in its directory.
-pub struct NameNode {
-    /// The last component of the name, as it was spelled when the node was added or renamed.
-    pub part: Wide,
-    /// The object that the name leads to.
-    pub object: u64,
+// A name in its directory.
+pub(crate) struct NameNode {
+    // The last component of the name, as it was spelled when the node was added or renamed.
+    pub(crate) part: Wide,
+    // The object that the name leads to.
+    pub(crate) object: u64,
 }
 
 impl Drop for NameNode {

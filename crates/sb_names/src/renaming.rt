@@ -7,15 +7,12 @@ ghost use Rattle.sb_names.specs.Keys.{is_below, key_of, parent_of};
 ghost use Rattle.sb_names.specs.Maps.{found};
 ghost use Rattle.sb_names.specs.Orders.{by_pair};
 ghost use Rattle.sb_names.specs.Renames.{collected, renamed_key, renamed_rows, renamed_tree};
-ghost use Rattle.sb_names.specs.Trees.{IsFault};
 ghost use Rattle.sb_names.specs.Nodes.{HasNoChild, IsApart, IsAt, IsChanged, IsThere, KeepsAllBut, KeepsEntries, KeepsOtherNodes, KeepsRows, name_of, number_of, rows_of};
 
-use crate::adding::hang;
-use crate::faults::TreeFault;
 use crate::hashes::{hash_at, hash_of};
-use crate::keys::is_below;
 use crate::linked::{NameTree, last_component};
 use crate::nodes::NameNode;
+use crate::placing::hang;
 use sb_arena::{Arena, NodeId, calls_change_one_value, links_change_one_parent};
 use sb_items::NoMemory;
 use sb_wide::Wide;
@@ -87,12 +84,12 @@ impl NameTree {
         Ok(())
     }
 
-    #[tactic(auto, using(crate::proofs::AddLemmas::at_there))]
     /// Gives a name and all below it a new name, which is not there and does not lie below the old one, in its directory: with
     /// the node of the old name and the directory of the new one, as `seek` gave them. Objects and nodes stay.
     ///
     /// # Errors
     /// `NoMemory` if there is none for the new component; then nothing is changed.
+    #[tactic(auto, using(crate::proofs::AddLemmas::at_there))]
     pub fn rename_at(
         &mut self,
         node: NodeId,
@@ -113,42 +110,5 @@ impl NameTree {
         self.establish_names();
         let (_, part) = last_component(to);
         self.put_elsewhere(node, directory, part)
-    }
-
-    #[tactic(auto, using(crate::proofs::RenameCases::rename_absent, crate::proofs::RenameCases::rename_inside, crate::proofs::AddLemmas::at_there))]
-    /// Gives a name and all below it a new name: each begins with `to` in the place of `from`, and keeps its object and its
-    /// node. Memory apart, it is refused with the first of these that applies.
-    ///
-    /// # Errors
-    /// `Absent` if `from` is not there, `IntoItself` if `to` lies below `from`, `NoParent` if the directory in
-    /// which `to` would stand is not there, `Exists` if `to` is there, also as `from` itself in other letters, and
-    /// `NoMemory` if there was none for the new component; then nothing is changed.
-    pub fn rename(&mut self, from: &[u16], to: &[u16]) -> Result<(), TreeFault>
-        requires from { is_name_of from.now ≡ true }
-        requires to { is_name_of to.now ≡ true }
-        ensures ok { OnOk result (renamed_tree (rows_of self.old.nodes) from.now to.now ≡ Ok (rows_of self.new.nodes)) }
-        ensures kept { OnOk result (KeepsRows self.old.nodes self.new.nodes (key_of from.now) (key_of to.now)) }
-        ensures others { OnOk result (KeepsAllBut self.old.nodes self.new.nodes (key_of from.now)) }
-        ensures fault { IfErr result (λ fault. IsFault (renamed_tree (rows_of self.old.nodes) from.now to.now) fault) }
-        ensures err { OnErr result (self.new.nodes ≡ self.old.nodes) }
-    {
-        self.establish_names();
-        let Some(node) = self.node(from) else {
-            return Err(TreeFault::Absent);
-        };
-        if is_below(from, to) {
-            return Err(TreeFault::IntoItself);
-        }
-        let (path, part) = last_component(to);
-        let Some(directory) = self.directory(path) else {
-            return Err(TreeFault::NoParent);
-        };
-        if self.child(directory, part).is_some() {
-            return Err(TreeFault::Exists);
-        }
-        match self.put_elsewhere(node, directory, part) {
-            Ok(()) => Ok(()),
-            Err(_) => Err(TreeFault::NoMemory),
-        }
     }
 }

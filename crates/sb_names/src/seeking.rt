@@ -14,7 +14,7 @@ use sb_items::NoMemory;
 /// Where the path of a name leads.
 #[derive(Clone, Copy)]
 pub enum Seek {
-    /// The directory in which the name would stand is not there.
+    /// The directory of the name is not there.
     NoDirectory,
     /// The directory is there, and the name is not.
     Absent {
@@ -25,7 +25,7 @@ pub enum Seek {
     },
     /// The name is there.
     There {
-        /// The object of the directory in which it stands, or None for the root.
+        /// The object of its directory, or None for the root.
         parent: Option<u64>,
         /// Its node.
         node: NodeId,
@@ -46,8 +46,8 @@ impl NameTree {
         }
     }
 
-    #[tactic(auto, using(crate::proofs::AddLemmas::at_there))]
     /// Walks the path of a name from the root, once, and tells where it leads.
+    #[tactic(auto, using(crate::proofs::AddLemmas::at_there))]
     pub fn seek(&self, name: &[u16]) -> Seek
         requires { is_name_of name.now ≡ true }
         ensures sought { IsSought self.now.nodes name.now result }
@@ -86,8 +86,8 @@ impl NameTree {
         ensures nodes { OnOk result (KeepsNodes self.old.nodes self.new.nodes) }
         ensures err { OnErr result (self.new.nodes ≡ self.old.nodes) }
     {
-        let new = self.reserve_at(directory, name)?;
-        self.add_reserved(new, object);
+        let new = self.reserve_at(directory, name, object)?;
+        self.add_reserved(new);
         Ok(())
     }
 }

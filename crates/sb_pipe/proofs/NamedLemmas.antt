@@ -2,11 +2,11 @@
 use Rattle.std.proofs.Common.{◌≡◌, ◌<◌, ◌≤◌, ◌+◌, ◌-◌, ℕ, zero, suc, Bool, true, false, refl, sym, ◌∙◌, ap, arith, List, [], ◌∷◌, ◌++◌, ◌==◌, nat_eq, nat_le, length}
 use Rattle.std.proofs.lemmas.Bool.{false≢true}
 use Rattle.std.proofs.lemmas.Bool.Decides.{nat_tests}
-use Rattle.std.specs.Prelude.{Option, None, Some, is_some, not, ◌||◌, if◌then◌else◌}
-use Rattle.std.specs.List.{find, list_all, slice_get}
+use Rattle.std.specs.Prelude.{Option, None, Some, not, ◌||◌}
+use Rattle.std.specs.List.{list_all, slice_get}
 use Rattle.sb_names.specs.Keys.{key_of}
 use Rattle.sb_names.specs.Maps.{Rows, is_key, found, put, replaced}
-use Rattle.sb_pipe.specs.Keeping.{in_slot, name_at, is_key_of, is_numbered, AreNamed, StandsUnder}
+use Rattle.sb_pipe.specs.Keeping.{in_slot, name_at, is_key_of, AreNamed, StandsUnder}
 use Rattle.sb_pipe.specs.Pipes.{fewer, is_made}
 use Rattle.sb_pipe.specs.declared.rows.PipeRow.{PipeRow}
 use Rattle.sb_pipe.proofs.KeptLemmas.{all_put, all_replaced, all_fewer, all_with, first_of, others_of, widened}
@@ -81,19 +81,6 @@ stands_under names rows number name kept are = widened (named names) (λ row. no
 
     here : (row : List ℕ × PipeRow) → named names row ≡ true → (not (row.1.number == number) || is_key (key_of name) row.0) ≡ true
     here row h = by row (row.1.number == number) refl h
-
--- if no name is kept for a number, no pipe of that number is there
-pub none_numbered : (names : List (Option (List ℕ))) (rows : Rows PipeRow) (number : ℕ) → name_at names number ≡ None → AreNamed names rows → is_numbered rows number ≡ false
-none_numbered names [] number kept are = refl
-none_numbered names (row ∷ rows) number kept are =
-    by (row.1.number == number) refl (first_of (named names) row rows are) (none_numbered names rows number kept (others_of (named names) row rows are))
-  where
-    by : (s : Bool) → (row.1.number == number) ≡ s → named names row ≡ true → is_numbered rows number ≡ false
-        → is_some (if s then Some row else find (λ row. row.1.number == number) rows) ≡ false
-    by true e h i =
-        let same : row.1.number ≡ number = grind (arith, nat_tests, e) in
-        absurd (false≢true (sym (ap (λ n. is_key_of (name_at names n) row.0) same ∙ ap (λ found. is_key_of found row.0) kept) ∙ h))
-    by false e h i = i
 
 -- if no name is kept for a number, no pipe has it
 pub no_name : (names : List (Option (List ℕ))) (rows : Rows PipeRow) (number : ℕ) → name_at names number ≡ None → AreNamed names rows → fewer rows number ≡ rows

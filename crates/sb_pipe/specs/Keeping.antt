@@ -44,7 +44,3 @@ IsKept names rows = ArePipes (record { rows = rows; made = length names }) × Ar
 -- the pipe of this number, if there is one, stands under this name
 abbrev pub StandsUnder : List ℕ → ℕ → Rows PipeRow → Type 0
 StandsUnder name number rows = list_all (λ row. not (row.1.number == number) || is_key (key_of name) row.0) rows ≡ true
-
--- the pipe of this number is there, under this name
-abbrev pub IsNamed : Rows PipeRow → ℕ → List ℕ → Type 0
-IsNamed rows number name = (is_numbered rows number ≡ true) × StandsUnder name number rows

@@ -14,7 +14,7 @@ pub enum PipeMode {
 }
 
 impl PipeMode {
-    /// The mode of a number from 1 to 3, and no mode of any other.
+    /// The mode of a number from 1 to 3, and None for any other.
     pub fn of(number: u64) -> Option<PipeMode>
         ensures { result ≡ mode_of number }
     {
@@ -48,7 +48,7 @@ pub enum PipeForm {
 }
 
 impl PipeForm {
-    /// The form of the number 0 or 1, and no form of any other.
+    /// The form of the number 0 or 1, and None for any other.
     pub fn of(number: u64) -> Option<PipeForm>
         ensures { result ≡ form_of number }
     {

@@ -1,10 +1,11 @@
 // The pipes of the namespace.
 ghost use Rattle.std.specs.Prelude.{◌≡◌, ◌<◌, ◌≤◌, ◌+◌, ◌-◌, ◌^◌, true, false, None, Some, IfOk, OnOk, OnErr, MatchOption, is_some, length, slice_set, if◌then◌else◌};
 ghost use Rattle.sb_wide.specs.Names.{is_name_of};
+ghost use Rattle.sb_call.specs.Statuses.{success};
 ghost use Rattle.sb_handles.specs.Effects.{IsDone};
 ghost use Rattle.sb_handles.specs.Tables.{with_handle};
 ghost use Rattle.sb_names.specs.Maps.{found, put};
-ghost use Rattle.sb_pipe.specs.Keeping.{AreNames, IsNamed, is_numbered, name_at, StandsUnder};
+ghost use Rattle.sb_pipe.specs.Keeping.{AreNames, is_numbered, name_at, StandsUnder};
 ghost use Rattle.sb_pipe.specs.Pipes.{Agrees, ArePipes, no_pipes, on_pipe, is_invalid, is_alike, create, fewer, closed, with_pipe, with_instance};
 
 use crate::modes::{PipeForm, PipeMode};
@@ -24,7 +25,7 @@ use std::marker::Model;
 pub struct PipeService {
     // The pipes that are there.
     rows: NameMap<PipeRow>,
-    // The name under which each pipe was made: that of pipe n at place n - 1, until it is gone.
+    // The name of each pipe as it was made: that of pipe n at place n - 1, until the pipe is gone.
     names: Vec<Option<Wide>>,
 }
 
@@ -76,7 +77,7 @@ fn is_alike(row: PipeRow, mode: PipeMode, form: PipeForm, instances: u64) -> boo
         && row.instances == instances
 }
 
-// The name under which the pipe of a number was made, while it is there.
+// The name with which the pipe of a number was made, while it is there.
 fn name_of(names: &[Option<Wide>], number: u64) -> Option<&[u16]>
     ensures { MatchOption result (name_at names.now number ≡ None) (λ name. name_at names.now number ≡ Some name.now) }
 {
@@ -96,7 +97,7 @@ fn forget(names: &mut Vec<Option<Wide>>, number: u64)
     names[(number - 1) as usize] = None;
 }
 
-// Puts a new pipe under its name, and grants a handle on it.
+// Adds a new pipe under its name, and grants a handle on it.
 fn put_pipe(
     rows: &mut NameMap<PipeRow>,
     handles: &mut HandleTable,
@@ -114,13 +115,13 @@ fn put_pipe(
     Ok(handles.grant_reserved(target, on_pipe(row.number)))
 }
 
+// Takes one handle from the pipe of this number, which has this name if it is there.
 #[tactic(auto, using(crate::proofs::DropLemmas::dropped_nowhere, crate::proofs::DropLemmas::dropped_for_another, crate::proofs::DropLemmas::dropped_one, crate::proofs::DropLemmas::dropped_last))]
-// Takes one handle from the pipe of this number, which stands under this name if it is there.
 fn drop_handle(rows: &mut NameMap<PipeRow>, name: &[u16], number: u64)
     requires { StandsUnder name.now number rows.old }
     ensures { rows.new ≡ fewer rows.old number }
 {
-    rows.rows_rise();
+    rows.establish_order();
     let Some(row) = rows.find(name) else {
         return;
     };
@@ -141,13 +142,13 @@ fn drop_handle(rows: &mut NameMap<PipeRow>, name: &[u16], number: u64)
     }
 }
 
+// Whether the pipe of this number is there, which then has this name.
 #[tactic(auto, using(crate::proofs::NumberedLemmas::numbered_nowhere, crate::proofs::NumberedLemmas::numbered_there))]
-// Whether the pipe of this number is there, which then stands under this name.
 fn is_there(rows: &NameMap<PipeRow>, name: &[u16], number: u64) -> bool
     requires { StandsUnder name.now number rows.now }
     ensures { result ≡ is_numbered rows.now number }
 {
-    rows.rows_rise();
+    rows.establish_order();
     match rows.find(name) {
         Some(row) => row.number == number,
         None => false,
@@ -172,7 +173,7 @@ impl PipeService {
         self.names.len() as u64
     }
 
-    // One handle more on a pipe that is there.
+    // Grants one more handle on a pipe that is there.
     fn add_instance(
         &mut self,
         handles: &mut HandleTable,
@@ -199,7 +200,7 @@ impl PipeService {
         Ok(handle)
     }
 
-    // A pipe more, with one handle.
+    // Makes a pipe, and grants its first handle.
     fn add_pipe(
         &mut self,
         handles: &mut HandleTable,
@@ -230,20 +231,20 @@ impl PipeService {
             handles: 1,
         };
         let handle = put_pipe(&mut self.rows, handles, target, name, row)?;
-        let _ = self.names.push(Some(kept));
+        self.names.push_reserved(Some(kept));
         Ok(handle)
     }
 
-    /// Makes a pipe of this name and grants a handle on it, or grants one handle more on the pipe that is there. The statuses
+    /// Makes a pipe of this name and grants a handle on it, or grants one more handle on the pipe that is there. The statuses
     /// are those of Windows' `NtCreateNamedPipeFile`.
     ///
     /// The instances are 1 to 255: the pipe may have this many handles. Statuses, the first that applies: invalid parameter
     /// if the instances are out of range; access denied if the pipe was made with
-    /// others; instance not available if it has as many handles as it may have; success, with the number of its handles
+    /// another mode, form or number of instances; instance not available if it has as many handles as it may have; success, with the number of its handles
     /// now as the extended word.
     ///
     /// # Errors
-    /// `NoMemory` if there was none for the pipe or the handle; then pipes and handles are as before.
+    /// `NoMemory` if the call would succeed and there was none for the pipe or the handle; then pipes and handles are as before.
     pub fn create(
         &mut self,
         handles: &mut HandleTable,
@@ -257,13 +258,14 @@ impl PipeService {
         requires made { self.old.made < 2 ^ 63 }
         requires agree { Agrees self.old handles.old.table }
         ensures effect { IfOk result (λ a. IsDone (create self.old handles.old.table target name.now mode form instances) self.new handles.new.table a) }
+        ensures memory { OnErr result ((create self.old handles.old.table target name.now mode form instances).answer.status ≡ success) }
         ensures agree { Agrees self.new handles.new.table }
         ensures err { OnErr result ((self.new ≡ self.old) × (handles.new.table ≡ handles.old.table)) }
     {
         if is_invalid(instances) {
             return Ok(Answer::refusal(INVALID_PARAMETER));
         }
-        self.pipes_are_made();
+        self.establish_pipes();
         pipe_handles_are_counted();
         match self.rows.find(name) {
             Some(row) => {
@@ -283,10 +285,10 @@ impl PipeService {
         }
     }
 
-    #[tactic(auto, using(crate::proofs::NamedLemmas::kept_low, crate::proofs::NamedLemmas::kept_high))]
     /// Takes one handle from the pipe of a number, once the handle table has closed it. A pipe whose last handle is closed
     /// is gone; if no pipe has that number nothing is changed.
-    pub fn closed(&mut self, number: u64)
+    #[tactic(auto, using(crate::proofs::NamedLemmas::kept_low, crate::proofs::NamedLemmas::kept_high))]
+    pub fn close(&mut self, number: u64)
         ensures { self.new ≡ closed self.old number }
     {
         if let Some(name) = name_of(&self.names, number) {
@@ -297,18 +299,9 @@ impl PipeService {
         }
     }
 
-    #[tactic(auto, using(crate::proofs::NamedLemmas::stands_under, crate::proofs::NamedLemmas::none_numbered))]
-    /// The name under which the pipe of a number was made, or nothing if that pipe is not there. It takes the same time
-    /// however many pipes are there.
-    pub fn name_of(&self, number: u64) -> Option<&[u16]>
-        ensures { MatchOption result (is_numbered self.now.rows number ≡ false) (λ name. IsNamed self.now.rows number name.now) }
-    {
-        name_of(&self.names, number)
-    }
-
-    /// No two pipes have one number, each number is one of those ever made, and each pipe has 1 handle to as many as it may
-    /// have; and each name is one. It changes nothing.
-    pub fn pipes_are_made(&self)
+    /// Establishes for a proof that no two pipes have one number, that each number is one of those ever made, that each pipe
+    /// has 1 handle to as many as it may have, and that each name is a name. It does nothing.
+    pub fn establish_pipes(&self)
         ensures made { ArePipes self.now }
         ensures named { AreNames self.now.rows }
     {

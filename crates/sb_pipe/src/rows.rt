@@ -1,4 +1,4 @@
-// What is kept of a pipe.
+// A pipe, apart from its name.
 
 use crate::modes::{PipeForm, PipeMode};
 

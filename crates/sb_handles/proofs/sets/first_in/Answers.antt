@@ -18,7 +18,7 @@ returns-then-conflicts_at c =
     ∙ (λ k. entries_between by_object (Included (c.new.ensures.start k)) (Included (c.new.ensures.end k)) c.args.set.now.entries) in
     let found : find (λ row. p row.0.1) c.loop-handle.handle-iterator ≡ Some (c.in-Some.field-0-0.now, c.in-Some.field-0-1.now) =
     first_passes (λ row. p row.0.1) c.loop-handle.handle-iterator c.next.new.self (c.in-Some.field-0-0.now, c.in-Some.field-0-1.now) c.in-Some.ensures.steps (search rules) in
-    let yes : c.args.asked ≡ true = search rules in
+    let yes : c.args.is_searched ≡ true = search rules in
     let fits : c.in-Some.field-0-0.now.1 < 2 ^ 64 = search rules in
     subst (λ a. IsLowest (λ n. is_met a (get by_object c.args.set.now (c.args.object, n)) (p n)) (Some c.in-Some.field-0-0.now.1)) (sym yes)
     (first_some c.args.object p c.args.set.now c.loop-handle.handle-iterator c.range-handle-items.result c.range-handle-items.ensures.ordered between
@@ -32,7 +32,7 @@ returns c =
     ∙ (λ k. entries_between by_object (Included (c.new.ensures.start k)) (Included (c.new.ensures.end k)) c.args.set.now.entries) in
     let found : find (λ row. p row.0.1) c.loop-handle.handle-iterator ≡ None =
     none_passes (λ row. p row.0.1) c.loop-handle.handle-iterator (c.in-None.ensures.steps.0) in
-    let yes : c.args.asked ≡ true = search rules in
+    let yes : c.args.is_searched ≡ true = search rules in
     subst (λ a. IsLowest (λ n. is_met a (get by_object c.args.set.now (c.args.object, n)) (p n)) None) (sym yes)
     (first_none c.args.object p c.args.set.now c.loop-handle.handle-iterator c.range-handle-items.result c.range-handle-items.ensures.ordered between
     (c.loop-handle.invariant ∙ search rules) found)

@@ -1,4 +1,4 @@
-use Rattle.std.proofs.Common.{sym, ◌∙◌, ap}
+use Rattle.std.proofs.Common.{◌∙◌, ap}
 use Rattle.std.specs.Prelude.{is_some}
 use Rattle.sb_handles.proofs.Covering.{kept_on}
 use Rattle.sb_handles.proofs.sets.note.Goals as goal

@@ -9,7 +9,7 @@ pub returns-then-row-number : goal.returns-then-row-number
 returns-then-row-number c =
     let f : found c.args.rows.now c.args.name.now ≡ Some c.in-Some.row = search rules in
     let n : (c.in-Some.row.number == c.args.number) ≡ false = grind (arith, nat_tests, c.if-row-number.true) in
-    sym (dropped_for_another c.args.rows.now c.args.name.now c.args.number c.in-Some.row f n c.rows_rise.ensures c.requires)
+    sym (dropped_for_another c.args.rows.now c.args.name.now c.args.number c.in-Some.row f n c.establish_order.ensures c.requires)
 
 -- src/pipes.rt:105:1
 pub returns-else-row-gt1 : goal.returns-else-row-gt1

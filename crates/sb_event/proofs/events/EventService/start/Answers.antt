@@ -1,14 +1,19 @@
-use Rattle.std.proofs.Common.{rules, ◌≡◌, ◌+◌, false, refl}
-use Rattle.sb_names.specs.Maps.{is_there}
-use Rattle.sb_event.specs.Events.{Events}
+use Rattle.std.proofs.Common.{rules, ◌≡◌, ◌+◌, ◌++◌, ◌∷◌, [], length}
+use Rattle.std.specs.Prelude.{None}
+use Rattle.sb_names.specs.Keys.{key_of}
+use Rattle.sb_names.specs.Maps.{found}
 use Rattle.sb_event.specs.declared.rows.EventRow.{EventRow}
-use Rattle.sb_event.proofs.Numbering.{one_more_if_free}
+use Rattle.sb_event.proofs.KeptNames.{kept_more}
 use Rattle.sb_event.proofs.events.EventService.start.Goals as goal
 
-pub invariant_of-self-2 : goal.invariant_of-self-2
-invariant_of-self-2 c =
-    let inside : Events = record { rows = c.self.inside.rows; made = c.self.inside.made } in
-    let row : EventRow = record { number = c.self.inside.made + 1; kind = c.args.kind; initial = c.args.initial } in
-    let free : is_there c.self.inside.rows c.args.name.now ≡ false = search rules in
-    one_more_if_free c.numbers_are_kept.ensures.puts c.names_fold.ensures inside c.insert_new.new.self c.args.name.now row (c.self.inside.made + 1) refl refl
-    free c.in_ok-insert_new.ensures.ok c.requires.name c.self.invariant
+pub invariant_of-self-3 : goal.invariant_of-self-3
+invariant_of-self-3 c =
+    let rows = c.self.inside.rows in
+    let names = c.self.inside.names.items in
+    let name = c.args.name.now in
+    let row : EventRow = record { number = c.made.result + 1; kind = c.args.kind; initial = c.args.initial } in
+    let own : c.made.result + 1 ≡ length names + 1 = search rules in
+    let free : found rows name ≡ None = search rules in
+    let after : c.push_reserved.new.self.items ≡ names ++ key_of name ∷ [] = search rules in
+    kept_more c.puts_are_found.ensures c.puts_keep_rows.ensures c.numbers_are_kept.ensures.puts c.names_fold.ensures rows c.add.new.self names
+    c.push_reserved.new.self.items name row c.in_ok-add.ensures.ok after own free c.requires.name c.self.invariant

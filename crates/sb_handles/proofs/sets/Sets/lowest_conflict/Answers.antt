@@ -1,4 +1,4 @@
-use Rattle.std.proofs.Common.{rules, ◌≡◌, ℕ, Bool, false, sym, subst}
+use Rattle.std.proofs.Common.{ℕ, Bool, sym, subst}
 use Rattle.std.specs.BTreeMap.{get}
 use Rattle.sb_handles.specs.Shares.{by_object}
 use Rattle.sb_handles.specs.Sets.{IsLowest, conflicts_by, is_unshared, is_exceeding}

@@ -1,4 +1,4 @@
-use Rattle.std.proofs.Common.{◌≡◌, ℕ, Bool, sym, subst, ◌∙◌, ap}
+use Rattle.std.proofs.Common.{ℕ, Bool, sym, subst, ◌∙◌, ap}
 use Rattle.std.specs.Prelude.{not}
 use Rattle.std.specs.BTreeMap.{get}
 use Rattle.sb_handles.specs.Shares.{by_object}

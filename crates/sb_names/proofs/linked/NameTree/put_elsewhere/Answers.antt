@@ -7,12 +7,13 @@ use Rattle.sb_names.specs.Nodes.{HasNoChild, IsApart, KeepsRows, name_of, number
 use Rattle.sb_names.specs.Orders.{by_pair}
 use Rattle.sb_names.specs.Renames.{collected, renamed_key}
 use Rattle.sb_names.proofs.Moving.{move_index, move_keeps, move_rows, same_index}
+use Rattle.sb_names.proofs.ObjectLemmas.{changed_objects, own_object}
 use Rattle.sb_names.proofs.PutLemmas.{put_names}
 use Rattle.sb_names.proofs.linked.NameTree.put_elsewhere.Goals as goal
 
 pub invariant_of-self : goal.invariant_of-self
 invariant_of-self c =
-    (c.self.invariant.0, same_index c.self.inside.nodes c.self.inside.index c.reindex.new.index c.in_err-reindex.ensures.err c.self.invariant.1)
+    (c.self.invariant.0, same_index c.self.inside.nodes c.self.inside.index c.reindex.new.index c.in_err-reindex.ensures.err c.self.invariant.1, c.self.invariant.2)
 
 pub invariant_of-self-2 : goal.invariant_of-self-2
 invariant_of-self-2 c =
@@ -25,6 +26,8 @@ invariant_of-self-2 c =
       move_index f c.move_node.new.nodes a _ d c.args.part.now c.move_node.ensures c.in_ok-from_units.ensures live (get by_pair c.self.inside.index)
           (get by_pair c.reindex.new.index) c.hash_of-hash.result c.self.invariant.1 c.hash_of-hash.ensures c.in_ok-reindex.ensures.here
           c.in_ok-reindex.ensures.others,
+      changed_objects f c.move_node.new.nodes a _ d c.move_node.ensures (get by_pair c.self.inside.objects) c.self.invariant.2
+          (own_object f (get by_pair c.self.inside.objects) a c.value.result.now.object c.value.result.now c.self.invariant.2 c.value.ensures refl),
     )
 
 pub returns-clause-rows : goal.returns-clause-rows

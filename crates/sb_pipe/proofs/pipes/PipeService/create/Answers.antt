@@ -10,14 +10,14 @@ use Rattle.sb_pipe.proofs.pipes.PipeService.create.Goals as goal
 pub add_instance-requires-clause-room : goal.add_instance-requires-clause-room
 add_instance-requires-clause-room c =
     let f : found c.args.self.now.rows c.args.name.now ≡ Some c.in-Some.row = search rules in
-    let room = has_room c.args.self.now c.args.name.now c.in-Some.row f c.pipes_are_made.ensures.made in
+    let room = has_room c.args.self.now c.args.name.now c.in-Some.row f c.establish_pipes.ensures.made in
     grind (arith, nat_tests, room, c.if-row.false)
 
 -- src/pipes.rt:235:55
 pub overflow_add-row : goal.overflow_add-row
 overflow_add-row c =
     let f : found c.args.self.now.rows c.args.name.now ≡ Some c.in-Some.row = search rules in
-    let room = has_room c.args.self.now c.args.name.now c.in-Some.row f c.pipes_are_made.ensures.made in
+    let room = has_room c.args.self.now c.args.name.now c.in-Some.row f c.establish_pipes.ensures.made in
     grind (arith, room)
 
 -- src/pipes.rt:204:5
@@ -27,7 +27,7 @@ returns-in_ok-handle-in-Some-clause-agree c =
     subst (λ pipes. Agrees pipes c.add_instance.new.handles.table) (sym c.in_ok-handle-in-Some.ensures.service)
     (subst (Agrees (with_instance c.args.self.now c.args.name.now c.in-Some.row)) (sym c.in_ok-handle-in-Some.ensures.handles)
     (instance_agrees c.pipe_handles_are_counted.ensures.grants c.args.self.now c.args.handles.now.table c.args.target c.args.name.now c.in-Some.row
-    c.pipes_are_made.ensures.made c.requires.agree f))
+    c.establish_pipes.ensures.made c.requires.agree f))
 
 -- src/pipes.rt:204:5
 pub returns-in_ok-handle-in-None-clause-agree : goal.returns-in_ok-handle-in-None-clause-agree
@@ -36,4 +36,4 @@ returns-in_ok-handle-in-None-clause-agree c =
     subst (λ pipes. Agrees pipes c.add_pipe.new.handles.table) (sym c.in_ok-handle-in-None.ensures.service)
     (subst (Agrees (with_pipe c.args.self.now c.args.name.now c.args.mode c.args.form c.args.instances)) (sym c.in_ok-handle-in-None.ensures.handles)
     (pipe_agrees c.pipe_handles_are_counted.ensures.grants c.args.self.now c.args.handles.now.table c.args.target c.args.name.now c.args.mode c.args.form c.args.instances
-    c.pipes_are_made.ensures.made c.requires.agree f))
+    c.establish_pipes.ensures.made c.requires.agree f))
