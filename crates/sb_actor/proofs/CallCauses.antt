@@ -1,15 +1,15 @@
 -- A call ends for the cause that its steps found.
-use Rattle.std.proofs.Common.{◌≡◌, ◌≢◌, ◌⊎◌, inl, inr, ◌∙◌, refl, sym, subst, ap, ℕ, ◌+◌, ◌<◌, ◌≤◌, Bool, true, false, not, cond, eqb, ◌&&◌, List, [], ◌∷◌, ◌++◌, length, get_or, Option, None, Some, arith, append_assoc, eq-eqb}
+use Rattle.std.proofs.Common.{◌≡◌, ◌⊎◌, inl, inr, ◌∙◌, refl, sym, subst, ap, ℕ, ◌+◌, ◌<◌, Bool, true, false, not, cond, eqb, ◌&&◌, List, [], ◌∷◌, ◌++◌, length, get_or, None, Some, arith, append_assoc, eq-eqb}
 use Rattle.std.proofs.lemmas.Bool.{and_from, eqb-true, not_from_false}
 use Rattle.std.proofs.lemmas.Bool.Decides.{nat_tests}
 use Rattle.std.proofs.lemmas.List.{append-nil}
 use Rattle.std.specs.List.{list_all}
-use Rattle.sb_actor.specs.Causes.{Ends, BeginsCall, CauseOf, CallsEndForCause, Tried, NoneFree, Filled, Waited, Fetched, joined, is_taken, is_abandoned, is_waiting, is_round}
+use Rattle.sb_actor.specs.Causes.{Ends, BeginsCall, CauseOf, CallsEndForCause, Tried, NoneFree, Filled, Waited, Fetched, is_taken, is_abandoned, is_waiting, is_round}
 use Rattle.sb_actor.specs.Places.{mark_at}
 use Rattle.sb_actor.specs.ThreadStages.{ThreadStage, ThreadAt}
 use Rattle.sb_actor.specs.ThreadStages as stage
-use Rattle.sb_actor.specs.ThreadTable.{ThreadNext, thread_row, thread_after, goes_on, ends, after_try, after_round, after_fill, after_send, after_wait, after_fetch, reply_by, has_clean}
-use Rattle.sb_actor.specs.declared.acts.Observed.TheVariants.{Value}
+use Rattle.sb_actor.specs.ThreadTable.{ThreadNext, thread_after, goes_on, ends, after_try, after_fill, after_send, after_wait, after_fetch, reply_by, has_clean}
+use Rattle.sb_actor.specs.Observations.{Value}
 use Rattle.sb_actor.proofs.CauseLists.{all_snoc, all_more, length_snoc, snoc_behind, snoc_part, snoc_round}
 use Rattle.sb_block.specs.Replies.{read_reply}
 use Rattle.sb_statements.specs.declared.results.CallResult.{CallResult}

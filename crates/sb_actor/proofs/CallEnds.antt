@@ -1,16 +1,15 @@
 -- If the cause of a call's result is there, the call ends with it.
-use Rattle.std.proofs.Common.{◌≡◌, ◌≢◌, ◌⊎◌, inl, inr, ◌∙◌, refl, sym, subst, ap, ℕ, ◌+◌, ◌<◌, ◌≤◌, Bool, true, false, not, cond, eqb, ◌&&◌, List, [], ◌∷◌, ◌++◌, length, get_or, Option, None, Some, arith, append_assoc, eq-eqb}
+use Rattle.std.proofs.Common.{◌≡◌, ◌⊎◌, inl, inr, ◌∙◌, refl, sym, subst, ap, ℕ, ◌+◌, ◌<◌, Bool, true, false, not, cond, eqb, ◌&&◌, List, [], ◌∷◌, ◌++◌, length, get_or, None, Some, arith, append_assoc, eq-eqb}
 use Rattle.std.proofs.Math.Bool.{and_assoc, and-true}
 use Rattle.std.proofs.lemmas.Bool.{and_parts, eqb-true, not-true}
 use Rattle.std.proofs.lemmas.Bool.Decides.{nat_tests}
-use Rattle.std.proofs.lemmas.List.{append-nil}
 use Rattle.std.specs.List.{list_all}
-use Rattle.sb_actor.specs.Causes.{Ends, BeginsCall, CausesEndCalls, Tried, NoneFree, Filled, Waited, Fetched, joined, is_taken, is_abandoned, is_waiting, is_round}
+use Rattle.sb_actor.specs.Causes.{Ends, CausesEndCalls, Tried, NoneFree, Filled, Waited, Fetched, joined, is_taken, is_abandoned, is_waiting, is_round}
 use Rattle.sb_actor.specs.Places.{mark_at}
 use Rattle.sb_actor.specs.ThreadStages.{ThreadStage, ThreadAt}
 use Rattle.sb_actor.specs.ThreadStages as stage
-use Rattle.sb_actor.specs.ThreadTable.{ThreadNext, thread_row, thread_after, goes_on, ends, after_try, after_round, after_fill, after_send, after_wait, after_fetch, reply_by, has_clean}
-use Rattle.sb_actor.specs.declared.acts.Observed.TheVariants.{Value}
+use Rattle.sb_actor.specs.ThreadTable.{ThreadNext, thread_after, goes_on, ends, reply_by, has_clean}
+use Rattle.sb_actor.specs.Observations.{Value}
 use Rattle.sb_actor.proofs.CallCauses.{Cause, same_stage}
 use Rattle.sb_actor.proofs.CauseLists.{all_snoc, length_snoc}
 use Rattle.sb_block.specs.Replies.{read_reply}

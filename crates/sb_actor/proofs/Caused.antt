@@ -7,7 +7,7 @@ use Rattle.sb_actor.specs.Places.{begins, block_of, clean_channels, first_stage,
 use Rattle.sb_actor.specs.ThreadStages.{ThreadStage, ThreadAt}
 use Rattle.sb_actor.specs.ThreadStages as stage
 use Rattle.sb_actor.specs.ThreadTable.{ThreadNext, ends, stray_row, thread_after}
-use Rattle.sb_actor.specs.declared.acts.Observed.TheVariants.{Value}
+use Rattle.sb_actor.specs.Observations.{Value}
 use Rattle.sb_actor.proofs.Begins.{calls_begin, waits_begin}
 use Rattle.sb_actor.proofs.CallCauses.{calls_end, same_stage}
 use Rattle.sb_actor.proofs.Finding.{results_have_steps}
@@ -84,6 +84,7 @@ results_have_causes targets statements script t k values i r sound h =
       later = s.later;
       is = s.is;
       earlier = s.earlier;
+      latest = s.latest;
       begun = begun;
       its_statement = its.0;
       listed = its.1;

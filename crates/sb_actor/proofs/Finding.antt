@@ -1,17 +1,18 @@
 -- Each result has its own steps among those of its thread.
 use Rattle.std.proofs.Common.{◌≡◌, ◌⊎◌, inl, inr, ◌∙◌, refl, sym, subst, ap, ℕ, zero, suc, ◌+◌, Bool, true, false, cond, eqb, ◌&&◌, List, [], ◌∷◌, ◌++◌, length, Option, None, Some, arith, append_assoc}
+use Rattle.std.proofs.lemmas.List.{append-nil}
 use Rattle.std.proofs.lemmas.Option.{same_Some}
 use Rattle.std.specs.Option.{option_to_list}
 use Rattle.std.specs.Prelude.{slice_get}
 use Rattle.sb_actor.specs.Acts.{value_in}
 use Rattle.sb_actor.specs.Causes.{Ends}
-use Rattle.sb_actor.specs.Findings.{HasSteps, ResultsHaveSteps, ValuesTell, results_of_values, after_values}
+use Rattle.sb_actor.specs.Findings.{EndsAtResult, HasSteps, ResultsHaveSteps, ValuesTell, results_of_values, after_values}
 use Rattle.sb_actor.specs.Places.{begins, mark_at, statement_at}
 use Rattle.sb_actor.specs.ThreadStages.{ThreadStage, ThreadAt}
 use Rattle.sb_actor.specs.ThreadStages as stage
 use Rattle.sb_actor.specs.ThreadTable.{ThreadNext, thread_row, thread_after, stray_row, goes_on, ends, after_round, after_fill, after_wait, after_fetch, reply_by, has_clean}
-use Rattle.sb_actor.specs.declared.acts.Observed.{Observed}
-use Rattle.sb_actor.specs.declared.acts.Observed.TheVariants.{Value}
+use Rattle.sb_actor.specs.Observations.{Observation}
+use Rattle.sb_actor.specs.Observations.{Value}
 use Rattle.sb_block.specs.Replies.{read_reply}
 use Rattle.sb_statements.specs.declared.results.CallResult.TheVariants as result
 use Rattle.sb_statements.specs.declared.results.StmtResult.{StmtResult}
@@ -21,7 +22,7 @@ use Rattle.sb_statements.specs.declared.statements.Statement.{Statement}
 use Rattle.sb_statements.specs.declared.statements.Statement.TheVariants as statement
 
 -- the value alone matters
-by_statement : (script : Script) (x : ThreadAt) (loads most : ℕ) (o : Option Statement) (seen : Observed)
+by_statement : (script : Script) (x : ThreadAt) (loads most : ℕ) (o : Option Statement) (seen : Observation)
     → (stray_row script x loads most o).next seen ≡ (stray_row script x loads most o).next (Value (value_in seen))
 by_statement script x loads most (Some (statement.Call tag args)) seen = refl
 by_statement script x loads most (Some (statement.Store t w y)) seen = refl
@@ -30,7 +31,7 @@ by_statement script x loads most (Some (statement.Load t w)) seen = refl
 by_statement script x loads most (Some (statement.Wait t w y k)) seen = refl
 by_statement script x loads most None seen = refl
 
-by_stage : (script : Script) (x : ThreadAt) (s : ThreadStage) (seen : Observed) → (thread_row script x s).next seen ≡ (thread_row script x s).next (Value (value_in seen))
+by_stage : (script : Script) (x : ThreadAt) (s : ThreadStage) (seen : Observation) → (thread_row script x s).next seen ≡ (thread_row script x s).next (Value (value_in seen))
 by_stage script x (stage.Try c rounds all_abandoned) seen = refl
 by_stage script x (stage.Fill c i) seen = refl
 by_stage script x (stage.Send c) seen = refl
@@ -152,6 +153,30 @@ first script (n ∷ values) x r rest e = by_next (thread_after script x (Value n
           others = h.others;
         }
 
+-- no result comes before the step that ends a statement
+none_yet : (script : Script) (x : ThreadAt) (found : List ℕ) (last : ℕ) (r : StmtResult) → Ends script x found last r → results_of_values script x found ≡ []
+none_yet script x [] last r h = refl
+none_yet script x (n ∷ found) last r h =
+    ap (λ (o : Option StmtResult). option_to_list o ++ results_of_values script (thread_after script x (Value n)).thread found) h.0
+    ∙ none_yet script (thread_after script x (Value n)).thread found last r h.1
+
+-- values that end at a result still do after those of a first statement
+latest_more : (script : Script) (values : List ℕ) (x : ThreadAt) (r : StmtResult) (rest : List StmtResult) (i : ℕ) (before : List ℕ) → (f : First script x values r rest)
+    → EndsAtResult script (begins script x (x.place + 1)) i before → EndsAtResult script x (suc i) ((f.found ++ f.last ∷ []) ++ before)
+latest_more script values x r rest zero before f e =
+    (f.found, f.last, ap (λ (l : List ℕ). (f.found ++ f.last ∷ []) ++ l) e ∙ append-nil (f.found ++ f.last ∷ []), ap length (none_yet script x f.found f.last r f.ends_so))
+latest_more script values x r rest (suc i) before f (front, n, e, many) =
+    let results_step =
+    results_on script x (f.found ++ f.last ∷ []) front
+    ∙ (ap (λ (l : List StmtResult). l ++ results_of_values script (after_values script x (f.found ++ f.last ∷ [])) front) f.one
+    ∙ ap (λ (z : ThreadAt). r ∷ results_of_values script z front) f.after) in
+    let size = ap length results_step in (
+      (f.found ++ f.last ∷ []) ++ front,
+      n,
+      ap (λ (l : List ℕ). (f.found ++ f.last ∷ []) ++ l) e ∙ sym (append_assoc (f.found ++ f.last ∷ []) front (n ∷ [])),
+      omega (arith, size, many),
+    )
+
 -- the place of a statement after others
 placed : (script : Script) (x : ThreadAt) (i j : ℕ) → i ≡ j → begins script x i ≡ begins script x j
 placed script x i j e = ap (begins script x) e
@@ -169,6 +194,7 @@ results_split script x values zero r b (q ∷ results) e h =
       later = f.later;
       is = f.is;
       earlier = refl;
+      latest = refl;
       begun = b ∙ placed script x x.place (x.place + 0) (omega arith);
       ends = subst (Ends script x f.found f.last) same f.ends_so;
     }
@@ -193,6 +219,7 @@ results_split script x values (suc i) r b (q ∷ results) e h =
           ∙ (sym (append_assoc f.found (f.last ∷ []) (k.before ++ (k.found ++ k.last ∷ k.later)))
           ∙ sym (append_assoc (f.found ++ f.last ∷ []) k.before (k.found ++ k.last ∷ k.later))));
       earlier = omega (arith, size, earlier);
+      latest = latest_more script values x q results i k.before f k.latest;
       begun = step ∙ (k.begun ∙ placed script x (x.place + 1 + i) (x.place + suc i) (omega arith));
       ends = subst (λ (z : ThreadAt). Ends script z k.found k.last r) (sym step) k.ends;
     }

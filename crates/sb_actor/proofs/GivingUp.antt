@@ -6,7 +6,7 @@ use Rattle.sb_actor.specs.ThreadFollowing.{GivesUp, GivingUpIsKept}
 use Rattle.sb_actor.specs.ThreadStages.{ThreadStage, ThreadAt}
 use Rattle.sb_actor.specs.ThreadStages as stage
 use Rattle.sb_actor.specs.ThreadTable.{ThreadNext, thread_row, stray_row, goes_on, ends, after_round, after_fill, after_wait, after_fetch, is_clean_at, has_clean}
-use Rattle.sb_actor.specs.declared.acts.Observed.{Observed}
+use Rattle.sb_actor.specs.Observations.{Observation}
 use Rattle.sb_statements.specs.declared.results.CallResult.TheVariants as result
 use Rattle.sb_statements.specs.declared.results.StmtResult.{StmtResult}
 use Rattle.sb_statements.specs.declared.results.StmtResult.TheVariants as ended
@@ -68,7 +68,7 @@ module _ (script : Script) (x : ThreadAt) where
       by_test true = tt
       by_test false = tt
 
-  stray : (loads most : ℕ) (o : Option Statement) (seen : Observed) → GivesUp x.clean x.stage → Kept ((stray_row script x loads most o).next seen)
+  stray : (loads most : ℕ) (o : Option Statement) (seen : Observation) → GivesUp x.clean x.stage → Kept ((stray_row script x loads most o).next seen)
   stray loads most (Some (statement.Call tag args)) seen h = h
   stray loads most (Some (statement.Store t w y)) seen h = over ended.Stored
   stray loads most (Some (statement.Exchange t w from to)) seen h = over (ended.Found (value_in seen))
@@ -78,7 +78,7 @@ module _ (script : Script) (x : ThreadAt) where
       (either (eqb (loads + 1) most) (ends script x (ended.Unmet most)) (goes_on x (stage.Stray (loads + 1) most)) (over (ended.Unmet most)) tt)
   stray loads most None seen h = h
 
-  kept : (s : ThreadStage) (seen : Observed) → GivesUp x.clean x.stage → Kept ((thread_row script x s).next seen)
+  kept : (s : ThreadStage) (seen : Observation) → GivesUp x.clean x.stage → Kept ((thread_row script x s).next seen)
   kept (stage.Try c rounds all_abandoned) seen h =
       either (eqb (value_in seen) 1) (goes_on x (stage.Fill c 0)) _ tt
       (either (eqb (c + 1) (length x.clean)) (after_round script x rounds (all_abandoned && eqb (value_in seen) 5)) (goes_on x (stage.Try (c + 1) rounds (all_abandoned && eqb (value_in seen) 5)))

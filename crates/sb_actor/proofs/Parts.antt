@@ -1,5 +1,5 @@
 -- What stays of the rule when one channel and one view change.
-use Rattle.std.proofs.Common.{◌≡◌, ◌≢◌, ◌⊎◌, ℕ, ◌+◌, Bool, true, false, true≢false, cond, List, [], ◌++◌, map, sym, refl, ap, ◌∙◌, subst, inl, inr}
+use Rattle.std.proofs.Common.{◌≡◌, ◌≢◌, ◌⊎◌, ℕ, Bool, true, false, true≢false, cond, List, [], ◌++◌, map, sym, refl, ap, ◌∙◌, subst, inl, inr}
 use mathlib.Core.Option.{Option, none, some, some-injective, some-ne-none}
 use native.Mathlib.Decide.{ℕ_discrete}
 use Rattle.sb_actor.specs.Views.{Served, ThreadPlace, Try, Fill, Wait, Fetch, ThreadView}

@@ -11,7 +11,7 @@ use Rattle.sb_actor.specs.ThreadStages.{ThreadStage, ThreadAt}
 use Rattle.sb_actor.specs.ThreadStages as stage
 use Rattle.sb_actor.specs.ThreadTable.{ThreadNext, thread_row, goes_on, ends, after_round, after_try, after_fill, after_send, after_wait, after_fetch, reply_by, is_clean_at, has_clean}
 use Rattle.sb_actor.specs.Ties.{thread_place_of, thread_deed, HoldsThread}
-use Rattle.sb_actor.specs.declared.acts.Observed.{Observed}
+use Rattle.sb_actor.specs.Observations.{Observation}
 use Rattle.sb_actor.specs.Views.{ThreadPlace, Try, Fill, Wait, Fetch, ThreadView}
 use Rattle.sb_statements.specs.declared.results.CallResult.TheVariants as result
 use Rattle.sb_statements.specs.declared.results.StmtResult.{StmtResult}
@@ -31,7 +31,7 @@ outside block (Some (statement.Load t w)) = refl
 outside block (Some (statement.Wait t w x most)) = refl
 outside block None = refl
 
-module _ (script : Script) (v : ThreadView) (x : ThreadAt) (number : v.number ≡ x.thread) (marks : v.clean ≡ x.clean) (n : ℕ) (seen : Observed) where
+module _ (script : Script) (v : ThreadView) (x : ThreadAt) (number : v.number ≡ x.thread) (marks : v.clean ≡ x.clean) (n : ℕ) (seen : Observation) where
   -- the view holds where a thread stands, by its place alone
   held : (d : Deed) (p : ThreadPlace) (s : ThreadStage) → v.place ≡ p → thread_place v.clean p d (met d n) n ≡ thread_place_of x.block s
       → HoldsThread (thread_view v d n) (goes_on x s).thread

@@ -11,7 +11,7 @@ use Rattle.sb_actor.specs.Ties.{worker_place_of, worker_deed, HoldsWorker}
 use Rattle.sb_actor.specs.WorkerStages.{WorkerStage, WorkerAt}
 use Rattle.sb_actor.specs.WorkerStages as stage
 use Rattle.sb_actor.specs.WorkerTable.{worker_plan, after_look, after_count, after_end, after_copy, after_reply, at_stage, look_next}
-use Rattle.sb_actor.specs.declared.acts.Observed.{Observed}
+use Rattle.sb_actor.specs.Observations.{Observation}
 use Rattle.sb_actor.specs.Views.{WorkerPlace, Look, Count, End, Copy, Whole, Reply, WorkerView}
 use Rattle.sb_actor.proofs.Lists.{take_snoc}
 
@@ -42,7 +42,7 @@ take_length [] (suc n) l = absurd (omega arith)
 take_length (x ∷ r) (suc n) l = ap suc (take_length r n (omega arith))
 
 -- a worker at a stage, and a view that holds where it stands
-module _ (v : WorkerView) (t k ch : ℕ) (l : length v.clean ≡ k) (c : v.channel ≡ ch) (i : ch < k) (n : ℕ) (seen : Observed) where
+module _ (v : WorkerView) (t k ch : ℕ) (l : length v.clean ≡ k) (c : v.channel ≡ ch) (i : ch < k) (n : ℕ) (seen : Observation) where
   abbrev W : WorkerStage → WorkerAt
   W s = record { target = t; channels = k; channel = ch; stage = s }
 

@@ -1,15 +1,14 @@
 -- A wait ends for the cause that its loads found.
-use Rattle.std.proofs.Common.{◌≡◌, ◌≢◌, ◌∙◌, refl, sym, subst, ap, ℕ, ◌+◌, ◌<◌, ◌≤◌, Bool, true, false, cond, eqb, ◌&&◌, List, [], ◌∷◌, length, None, Some, arith, eq-eqb}
+use Rattle.std.proofs.Common.{◌≡◌, ◌≢◌, ◌∙◌, refl, sym, subst, ap, ℕ, ◌+◌, ◌<◌, ◌≤◌, Bool, true, false, cond, eqb, List, [], ◌∷◌, length, None, Some, arith, eq-eqb}
 use Rattle.std.proofs.lemmas.Bool.{and_parts, and_from, eqb-true, not-true, not_from_false}
 use Rattle.std.proofs.lemmas.Bool.Decides.{nat_tests}
 use Rattle.std.specs.List.{list_all}
-use Rattle.sb_actor.specs.Acts.{value_in}
-use Rattle.sb_actor.specs.Causes.{Ends, BeginsWait, CauseOfWait, WaitsEndForCause, CausesEndWaits, is_not}
+use Rattle.sb_actor.specs.Causes.{Ends, CauseOfWait, WaitsEndForCause, CausesEndWaits, is_not}
 use Rattle.sb_actor.specs.Places.{statement_at}
 use Rattle.sb_actor.specs.ThreadStages.{ThreadStage, ThreadAt}
 use Rattle.sb_actor.specs.ThreadStages as stage
-use Rattle.sb_actor.specs.ThreadTable.{ThreadNext, thread_row, thread_after, stray_row, goes_on, ends, after_stray_load}
-use Rattle.sb_actor.specs.declared.acts.Observed.TheVariants.{Value}
+use Rattle.sb_actor.specs.ThreadTable.{ThreadNext, thread_after, stray_row, goes_on, ends}
+use Rattle.sb_actor.specs.Observations.{Value}
 use Rattle.sb_statements.specs.declared.results.StmtResult.{StmtResult}
 use Rattle.sb_statements.specs.declared.results.StmtResult.TheVariants as ended
 use Rattle.sb_statements.specs.declared.scripts.Script.{Script}

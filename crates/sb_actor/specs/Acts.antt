@@ -2,18 +2,26 @@
 use Rattle.std.specs.Prelude.{ℕ, ◌+◌, Bool, false, []}
 use Rattle.sb_call.specs.declared.replies.Reply.{Reply}
 use Rattle.sb_actor.specs.declared.acts.Observed.{Observed}
-use Rattle.sb_actor.specs.declared.acts.Observed.TheVariants as seen
+use Rattle.sb_actor.specs.declared.acts.Observed.TheVariants as observed
+use Rattle.sb_actor.specs.Observations.{Observation}
+use Rattle.sb_actor.specs.Observations as seen
 use Rattle.sb_statements.specs.declared.statements.Word.{Word}
 
+-- what a step found that was not at Answer
+abbrev pub observation : Observed → Observation
+observation (observed.Value n) = seen.Value n
+observation observed.Done = seen.Done
+observation (observed.Turn got) = seen.Turn got
+
 -- the value that a step found
-abbrev pub value_in : Observed → ℕ
+abbrev pub value_in : Observation → ℕ
 value_in (seen.Value n) = n
 value_in seen.Done = 0
 value_in (seen.Turn got) = 0
 value_in (seen.Answered reply) = 0
 
 -- whether a step took the turn
-abbrev pub turn_in : Observed → Bool
+abbrev pub turn_in : Observation → Bool
 turn_in (seen.Turn got) = got
 turn_in (seen.Value n) = false
 turn_in seen.Done = false
@@ -23,7 +31,7 @@ abbrev pub no_reply : Reply
 no_reply = record { mark = 0; outcome = 0; status = 0; handle = 0; ext = [] }
 
 -- the reply that the book gave
-abbrev pub reply_in : Observed → Reply
+abbrev pub reply_in : Observation → Reply
 reply_in (seen.Answered reply) = reply
 reply_in (seen.Value n) = no_reply
 reply_in seen.Done = no_reply

@@ -7,7 +7,7 @@ use Rattle.sb_actor.specs.Fitting.{IsUncleanAt}
 use Rattle.sb_actor.specs.Places.{begins, clean_channels, mark_at, statement_at}
 use Rattle.sb_actor.specs.ThreadStages.{ThreadAt, Try, Stray}
 use Rattle.sb_actor.specs.ThreadTable.{has_clean, thread_after}
-use Rattle.sb_actor.specs.declared.acts.Observed.TheVariants.{Value}
+use Rattle.sb_actor.specs.Observations.{Value}
 use Rattle.sb_call.specs.declared.arguments.Arg.{Arg}
 use Rattle.sb_call.specs.declared.tags.CallTag.{CallTag}
 use Rattle.sb_statements.specs.Soundness.{is_sound}

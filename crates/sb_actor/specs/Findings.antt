@@ -1,13 +1,13 @@
 -- What a thread comes to by the values that its steps found, over all its statements.
-use Rattle.std.specs.Prelude.{◌≡◌, ℕ, ◌+◌, true, List, [], ◌∷◌, ◌++◌, length, slice_get, Some}
+use Rattle.std.specs.Prelude.{◌≡◌, ℕ, zero, suc, ◌+◌, true, List, [], ◌∷◌, ◌++◌, length, slice_get, Some}
 use Rattle.std.specs.Option.{option_to_list}
 use Rattle.sb_actor.specs.Acts.{value_in}
 use Rattle.sb_actor.specs.Causes.{CauseOf, CauseOfWait, Ends}
 use Rattle.sb_actor.specs.Places.{begins, clean_channels, mark_at, statement_at, thread_start}
 use Rattle.sb_actor.specs.ThreadStages.{ThreadAt}
 use Rattle.sb_actor.specs.ThreadTable.{thread_after}
-use Rattle.sb_actor.specs.declared.acts.Observed.{Observed}
-use Rattle.sb_actor.specs.declared.acts.Observed.TheVariants.{Value}
+use Rattle.sb_actor.specs.Observations.{Observation}
+use Rattle.sb_actor.specs.Observations.{Value}
 use Rattle.sb_block.specs.Blocks.{block}
 use Rattle.sb_statements.specs.Soundness.{is_sound}
 use Rattle.sb_statements.specs.declared.results.CallResult.{CallResult}
@@ -29,10 +29,15 @@ results_of_values script x (n ∷ values) = option_to_list (thread_after script 
 
 -- of what a step found its value alone matters
 abbrev pub ValuesTell : Type 0
-ValuesTell = (script : Script) (x : ThreadAt) (seen : Observed) → thread_after script x seen ≡ thread_after script x (Value (value_in seen))
+ValuesTell = (script : Script) (x : ThreadAt) (seen : Observation) → thread_after script x seen ≡ thread_after script x (Value (value_in seen))
 
--- Among these steps, from the beginning of a statement, result i has its own: after as many results as that the thread began the statement at that place,
--- and the steps that followed found values and a last one, which ended it so
+-- These values end with the one that brought the latest of i results: there are none before the first result, and otherwise fewer results without the last value
+abbrev pub EndsAtResult : Script → ThreadAt → ℕ → List ℕ → Type 0
+EndsAtResult script x zero before = before ≡ []
+EndsAtResult script x (suc i) before = (front : List ℕ) × (n : ℕ) × (before ≡ front ++ n ∷ []) × (length (results_of_values script x front) ≡ i)
+
+-- Among these steps, from the beginning of a statement, result i has its own: after as many results as that, and just then, the thread began the statement at
+-- that place, and the steps that followed found values and a last one, which ended it so
 pub record HasSteps (script : Script) (x : ThreadAt) (values : List ℕ) (i : ℕ) (r : StmtResult) : Type 0 where
   pub before : List ℕ
   pub found : List ℕ
@@ -40,6 +45,7 @@ pub record HasSteps (script : Script) (x : ThreadAt) (values : List ℕ) (i : �
   pub later : List ℕ
   pub is : values ≡ before ++ (found ++ last ∷ later)
   pub earlier : length (results_of_values script x before) ≡ i
+  pub latest : EndsAtResult script x i before
   pub begun : after_values script x before ≡ begins script x (x.place + i)
   pub ends : Ends script (after_values script x before) found last r
 
@@ -57,8 +63,8 @@ HasCause script t k i found last (statement.Exchange u word from to) r = (found 
 HasCause script t k i found last (statement.Load u word) r = (found ≡ []) × (r ≡ result.Found last)
 HasCause script t k i found last (statement.Wait u word value most) r = CauseOfWait value most found last r
 
--- Of the values that the steps of thread k of target t found from its start, some are those of its statement at place i: before them i statements ended, and
--- the thread began that one; and it ended with this result for the cause in them
+-- Of the values that the steps of thread k of target t found from its start, some are those of its statement at place i, from its beginning to its end: before
+-- them i statements ended, the latest with the value just before them, and the thread began that one; and it ended with this result for the cause in them
 pub record IsCaused (script : Script) (t k : ℕ) (values : List ℕ) (i : ℕ) (r : StmtResult) : Type 0 where
   pub before : List ℕ
   pub found : List ℕ
@@ -66,6 +72,7 @@ pub record IsCaused (script : Script) (t k : ℕ) (values : List ℕ) (i : ℕ) 
   pub later : List ℕ
   pub is : values ≡ before ++ (found ++ last ∷ later)
   pub earlier : length (results_of_values script (thread_start script t k) before) ≡ i
+  pub latest : EndsAtResult script (thread_start script t k) i before
   pub begun : after_values script (thread_start script t k) before ≡ begins script (thread_start script t k) i
   pub its_statement : Statement
   pub listed : statement_at script t k i ≡ Some its_statement

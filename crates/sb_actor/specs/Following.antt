@@ -8,7 +8,7 @@ use Rattle.sb_actor.specs.WorkerStages.{WorkerAt}
 use Rattle.sb_actor.specs.WorkerTable.{worker_plan, worker_after}
 use Rattle.sb_actor.specs.declared.acts.Act.{Act}
 use Rattle.sb_actor.specs.declared.acts.Act.TheVariants as act
-use Rattle.sb_actor.specs.declared.acts.Observed.{Observed}
+use Rattle.sb_actor.specs.Observations.{Observation}
 use Rattle.sb_actor.specs.Views.{WorkerView}
 
 -- the word of a step on one, over all channels of the target
@@ -32,7 +32,7 @@ act_wrote act.Give n = n
 act_wrote act.Idle n = n
 
 -- a load and an exchange tell what they found
-abbrev pub Tells : Act → ℕ → Observed → Type 0
+abbrev pub Tells : Act → ℕ → Observation → Type 0
 Tells (act.Load t word) n seen = value_in seen ≡ n
 Tells (act.Store t word value) n seen = Unit {0}
 Tells (act.Exchange t word from to) n seen = value_in seen ≡ n
@@ -43,11 +43,11 @@ Tells act.Idle n seen = Unit {0}
 
 -- a step that is of a kind and found n: the worker may make it, the word is written as that kind writes it, and the view after it holds
 -- where the worker then stands
-pub record Follows (v : WorkerView) (w : WorkerAt) (d : Deed) (n : ℕ) (seen : Observed) : Type 0 where
+pub record Follows (v : WorkerView) (w : WorkerAt) (d : Deed) (n : ℕ) (seen : Observation) : Type 0 where
   pub may : WorkerMay v v.place (act_word (worker_plan w)) d
   pub writes : act_wrote (worker_plan w) n ≡ wrote d (met d n) n
   pub holds : HoldsWorker (worker_view v d n) (worker_after w seen)
 
 abbrev pub WorkerFollows : Type 0
-WorkerFollows = (v : WorkerView) (w : WorkerAt) (d : Deed) (n : ℕ) (seen : Observed) → HoldsWorker v w → w.channel < w.channels → IsSoundStage w.stage
+WorkerFollows = (v : WorkerView) (w : WorkerAt) (d : Deed) (n : ℕ) (seen : Observation) → HoldsWorker v w → w.channel < w.channels → IsSoundStage w.stage
     → worker_deed w.stage ≡ Some d → Tells (worker_plan w) n seen → Follows v w d n seen

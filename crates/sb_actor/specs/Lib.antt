@@ -1,10 +1,12 @@
 pub mod Acts
 pub mod Causes
+pub mod Endings
 pub mod Findings
 pub mod Fitting
 pub mod Following
 pub mod Laws
 pub mod Moves
+pub mod Observations
 pub mod Places
 pub mod Ranges
 pub mod Rule

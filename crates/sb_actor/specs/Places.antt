@@ -8,6 +8,7 @@ use Rattle.sb_statements.specs.declared.scripts.TargetScript.{TargetScript}
 use Rattle.sb_statements.specs.declared.statements.Statement.{Statement}
 use Rattle.sb_statements.specs.declared.statements.Statement.TheVariants.{Call, Store, Exchange, Load, Wait}
 use Rattle.sb_actor.specs.ThreadStages.{ThreadStage, Try, Stray, Over, ThreadAt}
+use Rattle.sb_actor.specs.ThreadStages as stage
 
 -- the threads of a target; one that is not there has none
 abbrev pub threads_of : Option TargetScript → List (List Statement)
@@ -89,3 +90,18 @@ is_call (Some (Exchange target word from to)) = false
 is_call (Some (Load target word)) = false
 is_call (Some (Wait target word value most)) = false
 is_call None = false
+
+-- the statement that a thread makes by a step on a word that the statement names; in a call, and after the last statement, none
+abbrev pub direct_of : ThreadStage → Option Statement → Option Statement
+direct_of (stage.Stray loads most) statement = statement
+direct_of (stage.Try c rounds all_abandoned) statement = None
+direct_of (stage.Fill c i) statement = None
+direct_of (stage.Send c) statement = None
+direct_of (stage.Wait c loads) statement = None
+direct_of (stage.Fetch c words) statement = None
+direct_of (stage.Free c words) statement = None
+direct_of (stage.Abandon c) statement = None
+direct_of stage.Over statement = None
+
+abbrev pub direct_at : Script → ThreadAt → Option Statement
+direct_at script x = direct_of x.stage (statement_at script x.target x.thread x.place)

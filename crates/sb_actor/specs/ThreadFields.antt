@@ -1,5 +1,5 @@
 -- How the fields of a thread are read.
-use Rattle.std.specs.Prelude.{ℕ, Bool, true, ◌&&◌, ◌==◌, nat_lt, List, length, take}
+use Rattle.std.specs.Prelude.{ℕ, Bool, true, false, ◌&&◌, ◌==◌, nat_lt, List, length, take}
 use Rattle.sb_statements.specs.Limits.{most_statements}
 use Rattle.sb_actor.specs.ThreadStages.{ThreadStage, Try, Fill, Send, Wait, Fetch, Free, Abandon, Stray, Over}
 use Rattle.sb_actor.specs.declared.phases.ThreadPhase.{ThreadPhase}
@@ -39,3 +39,15 @@ is_placed phase.Fetch place = nat_lt place most_statements
 is_placed phase.Free place = nat_lt place most_statements
 is_placed phase.Abandon place = nat_lt place most_statements
 is_placed phase.Stray place = nat_lt place most_statements
+
+-- the thread frees its channel
+abbrev pub is_free : ThreadStage → Bool
+is_free (Free c words) = true
+is_free (Try c rounds all_abandoned) = false
+is_free (Fill c i) = false
+is_free (Send c) = false
+is_free (Wait c loads) = false
+is_free (Fetch c words) = false
+is_free (Abandon c) = false
+is_free (Stray loads most) = false
+is_free Over = false

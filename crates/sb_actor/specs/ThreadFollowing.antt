@@ -7,7 +7,7 @@ use Rattle.sb_actor.specs.Ranges.{IsSoundThreadStage}
 use Rattle.sb_actor.specs.Ties.{thread_deed, HoldsThread}
 use Rattle.sb_actor.specs.ThreadStages.{ThreadStage, Try, Fill, Send, Wait, Fetch, Free, Abandon, Stray, Over, ThreadAt}
 use Rattle.sb_actor.specs.ThreadTable.{thread_plan, thread_after}
-use Rattle.sb_actor.specs.declared.acts.Observed.{Observed}
+use Rattle.sb_actor.specs.Observations.{Observation}
 use Rattle.sb_actor.specs.Views.{ThreadView}
 use Rattle.sb_statements.specs.declared.scripts.Script.{Script}
 
@@ -24,13 +24,13 @@ GivesUp clean (Stray loads most) = Unit {0}
 GivesUp clean Over = Unit {0}
 
 -- a step of a kind that found n, as for the worker
-pub record ThreadGoes (script : Script) (v : ThreadView) (x : ThreadAt) (d : Deed) (n : ℕ) (seen : Observed) : Type 0 where
+pub record ThreadGoes (script : Script) (v : ThreadView) (x : ThreadAt) (d : Deed) (n : ℕ) (seen : Observation) : Type 0 where
   pub may : ThreadMay v v.place (act_word (thread_plan script x)) d
   pub writes : act_wrote (thread_plan script x) n ≡ wrote d (met d n) n
   pub holds : HoldsThread (thread_view v d n) (thread_after script x seen).thread
 
 abbrev pub ThreadFollows : Type 0
-ThreadFollows = (script : Script) (v : ThreadView) (x : ThreadAt) (d : Deed) (n : ℕ) (seen : Observed) → HoldsThread v x
+ThreadFollows = (script : Script) (v : ThreadView) (x : ThreadAt) (d : Deed) (n : ℕ) (seen : Observation) → HoldsThread v x
     → IsSoundThreadStage (length x.clean) x.patience x.block x.stage → IsBlock x.thread x.block → GivesUp x.clean x.stage
     → thread_deed x.block x.stage ≡ Some d → Tells (thread_plan script x) n seen → ThreadGoes script v x d n seen
 
@@ -38,4 +38,4 @@ ThreadFollows = (script : Script) (v : ThreadView) (x : ThreadAt) (d : Deed) (n 
 abbrev pub GivingUpIsKept : Type 0
 GivingUpIsKept =
     ((script : Script) (target number : ℕ) → GivesUp (thread_start script target number).clean (thread_start script target number).stage)
-    × ((script : Script) (x : ThreadAt) (seen : Observed) → GivesUp x.clean x.stage → GivesUp (thread_after script x seen).thread.clean (thread_after script x seen).thread.stage)
+    × ((script : Script) (x : ThreadAt) (seen : Observation) → GivesUp x.clean x.stage → GivesUp (thread_after script x seen).thread.clean (thread_after script x seen).thread.stage)

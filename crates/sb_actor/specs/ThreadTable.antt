@@ -9,7 +9,7 @@ use Rattle.sb_actor.specs.Places.{statement_at, mark_at, begins}
 use Rattle.sb_actor.specs.ThreadStages.{ThreadStage, Try, Fill, Send, Wait, Fetch, Free, Abandon, Stray, Over, ThreadAt}
 use Rattle.sb_actor.specs.declared.acts.Act.{Act}
 use Rattle.sb_actor.specs.declared.acts.Act.TheVariants as act
-use Rattle.sb_actor.specs.declared.acts.Observed.{Observed}
+use Rattle.sb_actor.specs.Observations.{Observation}
 use Rattle.sb_statements.specs.declared.results.CallResult.{CallResult}
 use Rattle.sb_statements.specs.declared.results.CallResult.TheVariants as result
 use Rattle.sb_statements.specs.declared.results.StmtResult.{StmtResult}
@@ -26,9 +26,9 @@ pub record ThreadNext : Type 0 where
 -- a row: the step, and what it leads to, by what it found
 pub record ThreadRow : Type 0 where
   pub step : Act
-  pub next : Observed → ThreadNext
+  pub next : Observation → ThreadNext
 
-abbrev pub row : Act → (Observed → ThreadNext) → ThreadRow
+abbrev pub row : Act → (Observation → ThreadNext) → ThreadRow
 row step next = record { step = step; next = next }
 
 -- steps on the words of a channel of the thread's target
@@ -141,5 +141,5 @@ abbrev pub thread_plan : Script → ThreadAt → Act
 thread_plan script x = (thread_row script x x.stage).step
 
 -- what a step that found this leads to
-abbrev pub thread_after : Script → ThreadAt → Observed → ThreadNext
+abbrev pub thread_after : Script → ThreadAt → Observation → ThreadNext
 thread_after script x seen = (thread_row script x x.stage).next seen

@@ -1,7 +1,5 @@
 -- How a view shows where an actor stands, and which kind of step its plan is.
 use Rattle.std.specs.Prelude.{◌≡◌, ℕ, ◌==◌, List, length, slice_index, take, Option, None, Some, if◌then◌else◌}
-use Rattle.sb_statements.specs.declared.statements.Statement.{Statement}
-use Rattle.sb_statements.specs.declared.statements.Statement.TheVariants as statement
 use Rattle.sb_actor.specs.WorkerStages.{WorkerStage, WorkerAt}
 use Rattle.sb_actor.specs.WorkerStages as worker
 use Rattle.sb_actor.specs.ThreadStages.{ThreadStage, ThreadAt}

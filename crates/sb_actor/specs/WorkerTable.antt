@@ -7,14 +7,14 @@ use Rattle.sb_actor.specs.Acts.{value_in, turn_in, reply_in, state_word, block_w
 use Rattle.sb_actor.specs.WorkerStages.{WorkerStage, Look, Count, End, Copy, Take, Answer, Give, Reply, Ack, WorkerAt}
 use Rattle.sb_actor.specs.declared.acts.Act.{Act}
 use Rattle.sb_actor.specs.declared.acts.Act.TheVariants as act
-use Rattle.sb_actor.specs.declared.acts.Observed.{Observed}
+use Rattle.sb_actor.specs.Observations.{Observation}
 
 -- a row: the step, and the worker after it, by what the step found
 pub record WorkerRow : Type 0 where
   pub step : Act
-  pub next : Observed → WorkerAt
+  pub next : Observation → WorkerAt
 
-abbrev pub row : Act → (Observed → WorkerAt) → WorkerRow
+abbrev pub row : Act → (Observation → WorkerAt) → WorkerRow
 row step next = record { step = step; next = next }
 
 -- steps on the words of the worker's channel
@@ -80,11 +80,11 @@ abbrev pub worker_plan : WorkerAt → Act
 worker_plan w = (worker_row w w.stage).step
 
 -- the worker after a step that found this
-abbrev pub worker_after : WorkerAt → Observed → WorkerAt
+abbrev pub worker_after : WorkerAt → Observation → WorkerAt
 worker_after w seen = (worker_row w w.stage).next seen
 
 -- at Answer the book's reply bears the mark of the copy
-abbrev pub IsAnswer : WorkerStage → Observed → Type 0
+abbrev pub IsAnswer : WorkerStage → Observation → Type 0
 IsAnswer (Answer taken) seen = (reply_in seen).mark ≡ mark_of taken
 IsAnswer _ seen = Unit {0}
 

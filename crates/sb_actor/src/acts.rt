@@ -1,9 +1,8 @@
 // What an actor does in one step, and what it finds there.
 ghost use Rattle.std.specs.Prelude.{◌≡◌, ◌<◌};
 ghost use Rattle.sb_actor.specs.declared.acts.Act.TheVariants.{Load, Store, Exchange};
-ghost use Rattle.sb_actor.specs.Acts.{value_in, turn_in, reply_in, state_word, block_word};
+ghost use Rattle.sb_actor.specs.Acts.{observation, value_in, turn_in, state_word, block_word};
 
-use sb_call::{Extended, Reply};
 use sb_statements::Word;
 
 /// The state of a channel that nobody uses.
@@ -48,8 +47,8 @@ pub enum Act {
     Idle,
 }
 
-/// What a step found.
-#[derive(Drop)]
+/// What a step on a word or on the turn found. What the book replied is handed on beside it (`WorkerState::accept_reply`).
+#[derive(Clone, Copy)]
 pub enum Observed {
     /// The value that a load or an exchange found.
     Value(u64),
@@ -57,52 +56,31 @@ pub enum Observed {
     Done,
     /// Whether the turn was taken.
     Turn(bool),
-    /// What the book replied.
-    Answered(Reply),
 }
 
 impl Observed {
     /// The value that was found, 0 if the step found none.
-    #[inline(always)]
-    pub(crate) fn value(&self) -> u64
-        ensures { result ≡ value_in self.now }
+    pub(crate) fn value(self) -> u64
+        ensures { result ≡ value_in (observation self) }
     {
         match self {
-            Observed::Value(value) => *value,
-            _ => 0,
+            Observed::Value(value) => value,
+            Observed::Done | Observed::Turn(_) => 0,
         }
     }
 
     /// Whether the turn was taken.
-    #[inline(always)]
-    pub(crate) fn turn(&self) -> bool
-        ensures { result ≡ turn_in self.now }
+    pub(crate) fn turn(self) -> bool
+        ensures { result ≡ turn_in (observation self) }
     {
         match self {
-            Observed::Turn(got) => *got,
-            _ => false,
-        }
-    }
-
-    /// What was replied, a reply of zeros if nothing was.
-    pub(crate) fn into_reply(self) -> Reply
-        ensures { result ≡ reply_in self }
-    {
-        match self {
-            Observed::Answered(reply) => reply,
-            _ => Reply {
-                mark: 0,
-                outcome: 0,
-                status: 0,
-                handle: 0,
-                ext: Extended::empty(),
-            },
+            Observed::Turn(got) => got,
+            Observed::Value(_) | Observed::Done => false,
         }
     }
 }
 
 /// The state of a channel.
-#[inline(always)]
 pub(crate) fn state_word(channel: u32) -> Word
     ensures { result ≡ state_word channel }
 {
@@ -110,7 +88,6 @@ pub(crate) fn state_word(channel: u32) -> Word
 }
 
 /// Word `at` of a channel's block, from 0 to 63.
-#[inline(always)]
 pub(crate) fn block_word(channel: u32, at: u32) -> Word
     requires { at < 64 }
     ensures { result ≡ block_word channel at }
@@ -122,7 +99,6 @@ pub(crate) fn block_word(channel: u32, at: u32) -> Word
 }
 
 /// A load.
-#[inline(always)]
 pub(crate) fn load(target: u32, word: Word) -> Act
     ensures { result ≡ Load target word }
 {
@@ -130,7 +106,6 @@ pub(crate) fn load(target: u32, word: Word) -> Act
 }
 
 /// A store.
-#[inline(always)]
 pub(crate) fn store(target: u32, word: Word, value: u64) -> Act
     ensures { result ≡ Store target word value }
 {
@@ -142,7 +117,6 @@ pub(crate) fn store(target: u32, word: Word, value: u64) -> Act
 }
 
 /// An exchange.
-#[inline(always)]
 pub(crate) fn exchange(target: u32, word: Word, from: u64, to: u64) -> Act
     ensures { result ≡ Exchange target word from to }
 {

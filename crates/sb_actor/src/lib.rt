@@ -11,6 +11,7 @@
 #![tactic(auto)]
 
 mod acts;
+mod endings;
 mod laws;
 mod phases;
 mod places;

@@ -19,7 +19,6 @@ pub fn mark_at(thread: u32, place: u32) -> u64
 }
 
 /// The statements of a thread, none if it is not there.
-#[inline(always)]
 pub(crate) fn statements_of(script: &SoundScript, target: u32, thread: u32) -> &[Statement]
     ensures { result.now ≡ statements_of script.now target thread }
 {
@@ -33,7 +32,6 @@ pub(crate) fn statements_of(script: &SoundScript, target: u32, thread: u32) -> &
 }
 
 /// The statement at a place.
-#[inline(always)]
 pub(crate) fn statement_at(
     script: &SoundScript,
     target: u32,

@@ -1,18 +1,24 @@
 // A thread of a target.
-ghost use Rattle.std.specs.Prelude.{◌≡◌, ◌+◌, ◌<◌, ◌≤◌, ℕ, [], length, true, Bool, slice_get, slice_index_or, Some, None, option_map};
+ghost use Rattle.std.specs.Prelude.{◌≡◌, ◌+◌, ◌<◌, ◌≤◌, ◌++◌, ℕ, [], length, true, false, Bool, slice_get, slice_index_or, vec_capacity, Some, None, option_map, is_some, IfSome};
 ghost use Rattle.std.specs.List.{list_any};
+ghost use Rattle.std.specs.Option.{option_to_list};
 ghost use Rattle.sb_statements.specs.Limits.{most_statements};
 ghost use Rattle.sb_statements.specs.Soundness.{channels_of};
 ghost use Rattle.sb_statements.specs.declared.scripts.Script.{Script};
 ghost use Rattle.sb_actor.specs.ThreadStages.{ThreadAt, Try};
 ghost use Rattle.sb_statements.specs.CleanTables.{IsCleanTable};
-ghost use Rattle.sb_actor.specs.Places.{statement_at, begins, thread_start, is_finished};
-ghost use Rattle.sb_actor.specs.ThreadTable.{thread_plan, thread_after, stray_row, after_round, after_try, after_send, after_stray_load, reply_by, goes_on, ends, has_clean};
+ghost use Rattle.sb_actor.specs.Acts.{observation};
+ghost use Rattle.sb_actor.specs.Endings.{result_of};
+ghost use Rattle.sb_actor.specs.Places.{statement_at, begins, direct_at, thread_start, is_finished};
+ghost use Rattle.sb_actor.specs.Observations.{Done};
+ghost use Rattle.sb_actor.specs.ThreadFields.{is_free};
+ghost use Rattle.sb_actor.specs.ThreadTable.{thread_plan, thread_after, stray_row, after_round, after_try, after_fill, after_send, after_wait, after_stray_load, reply_by, goes_on, ends, has_clean};
 
 use crate::acts::{
     ABANDONED, ACKNOWLEDGED, Act, BUSY, FREE, Observed, READY, block_word, exchange, load,
     state_word, store,
 };
+use crate::endings::Ending;
 use crate::phases::ThreadPhase;
 use crate::places::{
     block_of, clean_upto, mark_at, sound_statement_at, statement_at, statements_of,
@@ -96,7 +102,6 @@ fn patience_of(script: &SoundScript) -> u32
 }
 
 // The step of a store, an exchange, a load or a wait statement.
-#[inline(always)]
 fn stray_plan(statement: Option<&Statement>) -> Act
     ensures { (script : Script) (x : ThreadAt) (loads most : ℕ) → result ≡ (stray_row script x loads most (option_map (λ s. s.now) statement.entry)).step }
 {
@@ -124,7 +129,6 @@ fn stray_plan(statement: Option<&Statement>) -> Act
 }
 
 // Whether one of these channels is clean.
-#[inline(always)]
 fn is_clean(clean: &[bool], channel: u32) -> bool
     requires { channel < length clean.now }
     ensures { result ≡ slice_index_or clean.now channel true }
@@ -133,7 +137,6 @@ fn is_clean(clean: &[bool], channel: u32) -> bool
 }
 
 // What a fetched reply makes of the call with this mark.
-#[inline(always)]
 fn reply_by(channel: u32, mark: u64, reply: Reply) -> CallResult
     ensures { result ≡ reply_by channel mark reply }
 {
@@ -221,32 +224,56 @@ impl ThreadState {
         }
     }
 
-    // The statement ends with this result.
-    #[inline(always)]
-    fn end(&mut self, script: &SoundScript, ended: StmtResult) -> Option<StmtResult>
+    // The statement ends, and the next one begins.
+    fn end(&mut self, script: &SoundScript, results: &mut Vec<StmtResult>, ending: Ending) -> bool
         requires place { self.old.place < most_statements }
-        ensures thread { self.new ≡ (ends script.now self.old ended).thread }
-        ensures ended { result ≡ Some ended }
+        requires room { length results.old.items < vec_capacity results.old }
+        ensures thread { self.new ≡ (ends script.now self.old (result_of ending)).thread }
+        ensures results { results.new.items ≡ results.old.items ++ option_to_list (ends script.now self.old (result_of ending)).ended }
+        ensures room { vec_capacity results.new ≡ vec_capacity results.old }
+        ensures ended { result ≡ is_some (ends script.now self.old (result_of ending)).ended }
     {
+        results.push_reserved(ending.result());
         self.begin(script, self.place + 1);
-        Some(ended)
+        true
+    }
+
+    // After the channel was freed the call ends by the reply that was fetched.
+    #[tactic(auto, using(crate::proofs::Replies::whole_reply))]
+    fn after_free(&mut self, script: &SoundScript, results: &mut Vec<StmtResult>) -> bool
+        requires free { is_free self.old.stage ≡ true }
+        requires room { length results.old.items < vec_capacity results.old }
+        ensures thread { self.new ≡ (thread_after script.now self.old Done).thread }
+        ensures results { results.new.items ≡ results.old.items ++ option_to_list (thread_after script.now self.old Done).ended }
+        ensures room { vec_capacity results.new ≡ vec_capacity results.old }
+        ensures ended { result ≡ is_some (thread_after script.now self.old Done).ended }
+    {
+        match self.phase {
+            ThreadPhase::Free => {
+                let reply = read_reply(&self.reply);
+                let result_ = reply_by(self.channel, mark_at(self.thread, self.place), reply);
+                results.push_reserved(StmtResult::Call(result_));
+                self.begin(script, self.place + 1);
+                true
+            }
+            _ => unreachable!(),
+        }
     }
 
     // It tries to take this channel next.
-    #[inline(always)]
-    fn try_at(&mut self, channel: u32, rounds: u32, all_abandoned: bool) -> Option<StmtResult>
+    fn try_at(&mut self, channel: u32, rounds: u32, all_abandoned: bool) -> bool
         requires channel { channel < length self.old.clean }
         requires rounds { rounds < self.old.patience }
         requires block { 0 < length self.old.block }
         requires place { self.old.place < most_statements }
         ensures thread { self.new ≡ (goes_on self.old (Try channel rounds all_abandoned)).thread }
-        ensures ended { result ≡ None }
+        ensures ended { result ≡ false }
     {
         self.channel = channel;
         self.count = rounds;
         self.all_abandoned = all_abandoned;
         self.phase = ThreadPhase::Try;
-        None
+        false
     }
 
     // After the last channel.
@@ -254,23 +281,27 @@ impl ThreadState {
     fn after_round(
         &mut self,
         script: &SoundScript,
+        results: &mut Vec<StmtResult>,
         rounds: u32,
         all_abandoned: bool,
-    ) -> Option<StmtResult>
+    ) -> bool
         requires rounds { rounds < self.old.patience }
         requires block { 0 < length self.old.block }
         requires place { self.old.place < most_statements }
+        requires room { IfSome (after_round script.now self.old rounds all_abandoned).ended (λ r. length results.old.items < vec_capacity results.old) }
         ensures thread { self.new ≡ (after_round script.now self.old rounds all_abandoned).thread }
-        ensures ended { result ≡ (after_round script.now self.old rounds all_abandoned).ended }
+        ensures results { results.new.items ≡ results.old.items ++ option_to_list (after_round script.now self.old rounds all_abandoned).ended }
+        ensures room { vec_capacity results.new ≡ vec_capacity results.old }
+        ensures ended { result ≡ is_some (after_round script.now self.old rounds all_abandoned).ended }
     {
         if all_abandoned {
-            return self.end(script, StmtResult::Call(CallResult::NoChannel));
+            return self.end(script, results, Ending::NoChannel);
         }
         if has_clean(self.clean.as_slice()) {
             return self.try_at(0, rounds, true);
         }
         if rounds + 1 == self.patience {
-            return self.end(script, StmtResult::Call(CallResult::NoChannel));
+            return self.end(script, results, Ending::NoChannel);
         }
         self.try_at(0, rounds + 1, true)
     }
@@ -280,49 +311,100 @@ impl ThreadState {
     fn after_try(
         &mut self,
         script: &SoundScript,
+        results: &mut Vec<StmtResult>,
         channel: u32,
         rounds: u32,
         all_abandoned: bool,
         found: u64,
-    ) -> Option<StmtResult>
+    ) -> bool
         requires channel { channel < length self.old.clean }
         requires rounds { rounds < self.old.patience }
         requires block { 0 < length self.old.block }
         requires place { self.old.place < most_statements }
+        requires room { IfSome (after_try script.now self.old channel rounds all_abandoned found).ended (λ r. length results.old.items < vec_capacity results.old) }
         ensures thread { self.new ≡ (after_try script.now self.old channel rounds all_abandoned found).thread }
-        ensures ended { result ≡ (after_try script.now self.old channel rounds all_abandoned found).ended }
+        ensures results { results.new.items ≡ results.old.items ++ option_to_list (after_try script.now self.old channel rounds all_abandoned found).ended }
+        ensures room { vec_capacity results.new ≡ vec_capacity results.old }
+        ensures ended { result ≡ is_some (after_try script.now self.old channel rounds all_abandoned found).ended }
     {
         if found == FREE {
             self.channel = channel;
             self.at = 0;
             self.phase = ThreadPhase::Fill;
-            return None;
+            return false;
         }
         let all_abandoned = all_abandoned && found == ABANDONED;
         if channel as usize + 1 == self.clean.len() {
-            return self.after_round(script, rounds, all_abandoned);
+            return self.after_round(script, results, rounds, all_abandoned);
         }
         self.try_at(channel + 1, rounds, all_abandoned)
     }
 
+    // After the block's word at this place was stored.
+    fn after_fill(&mut self, channel: u32, at: u32) -> bool
+        requires channel { channel < length self.old.clean }
+        requires at { at < length self.old.block }
+        requires place { self.old.place < most_statements }
+        ensures thread { self.new ≡ (goes_on self.old (after_fill self.old channel at)).thread }
+        ensures ended { result ≡ false }
+    {
+        self.channel = channel;
+        self.at = at + 1;
+        if self.at as usize == self.block.len() {
+            self.phase = ThreadPhase::Send;
+        } else {
+            self.phase = ThreadPhase::Fill;
+        }
+        false
+    }
+
     // By what the exchange from busy to ready found.
-    #[inline(always)]
-    fn after_send(&mut self, script: &SoundScript, channel: u32, found: u64) -> Option<StmtResult>
+    fn after_send(
+        &mut self,
+        script: &SoundScript,
+        results: &mut Vec<StmtResult>,
+        channel: u32,
+        found: u64,
+    ) -> bool
         requires channel { channel < length self.old.clean }
         requires place { self.old.place < most_statements }
+        requires room { IfSome (after_send script.now self.old channel found).ended (λ r. length results.old.items < vec_capacity results.old) }
         ensures thread { self.new ≡ (after_send script.now self.old channel found).thread }
-        ensures ended { result ≡ (after_send script.now self.old channel found).ended }
+        ensures results { results.new.items ≡ results.old.items ++ option_to_list (after_send script.now self.old channel found).ended }
+        ensures room { vec_capacity results.new ≡ vec_capacity results.old }
+        ensures ended { result ≡ is_some (after_send script.now self.old channel found).ended }
     {
         if found != BUSY {
-            return self.end(
-                script,
-                StmtResult::Call(CallResult::SendLost { channel, found }),
-            );
+            return self.end(script, results, Ending::SendLost { channel, found });
         }
         self.channel = channel;
         self.count = 0;
         self.phase = ThreadPhase::Wait;
-        None
+        false
+    }
+
+    // By the state that a load found after that many loads.
+    fn after_wait(&mut self, channel: u32, loads: u32, state: u64) -> bool
+        requires channel { channel < length self.old.clean }
+        requires loads { loads < self.old.patience }
+        requires place { self.old.place < most_statements }
+        ensures thread { self.new ≡ (goes_on self.old (after_wait self.old channel loads state)).thread }
+        ensures ended { result ≡ false }
+    {
+        self.channel = channel;
+        self.count = loads;
+        if state == ACKNOWLEDGED {
+            self.at = 0;
+            self.phase = ThreadPhase::Fetch;
+        } else if is_clean(self.clean.as_slice(), channel) {
+            self.phase = ThreadPhase::Wait;
+        } else if loads + 1 == self.patience {
+            self.phase = ThreadPhase::Abandon;
+        } else {
+            self.count = loads + 1;
+            self.phase = ThreadPhase::Wait;
+        }
+        false
     }
 
     // By whether the load of a wait statement met the value.
@@ -330,26 +412,30 @@ impl ThreadState {
     fn after_stray_load(
         &mut self,
         script: &SoundScript,
+        results: &mut Vec<StmtResult>,
         loads: u32,
         most: u32,
         met: bool,
-    ) -> Option<StmtResult>
+    ) -> bool
         requires loads { loads < most }
         requires place { self.old.place < most_statements }
+        requires room { IfSome (after_stray_load script.now self.old loads most met).ended (λ r. length results.old.items < vec_capacity results.old) }
         ensures thread { self.new ≡ (after_stray_load script.now self.old loads most met).thread }
-        ensures ended { result ≡ (after_stray_load script.now self.old loads most met).ended }
+        ensures results { results.new.items ≡ results.old.items ++ option_to_list (after_stray_load script.now self.old loads most met).ended }
+        ensures room { vec_capacity results.new ≡ vec_capacity results.old }
+        ensures ended { result ≡ is_some (after_stray_load script.now self.old loads most met).ended }
     {
         let loads = loads + 1;
         if met {
-            return self.end(script, StmtResult::Met { loads });
+            return self.end(script, results, Ending::Met { loads });
         }
         if loads == most {
-            return self.end(script, StmtResult::Unmet { loads: most });
+            return self.end(script, results, Ending::Unmet { loads: most });
         }
         self.count = loads;
         self.most = most;
         self.phase = ThreadPhase::Stray;
-        None
+        false
     }
 
     // By what a direct store, exchange or load found.
@@ -357,31 +443,47 @@ impl ThreadState {
     fn after_stray(
         &mut self,
         script: &SoundScript,
+        results: &mut Vec<StmtResult>,
+        direct: Option<&Statement>,
         loads: u32,
         most: u32,
-        seen: &Observed,
-    ) -> Option<StmtResult>
+        observed: Observed,
+    ) -> bool
         requires loads { loads < most }
         requires place { self.old.place < most_statements }
-        ensures thread { self.new ≡ ((stray_row script.now self.old loads most (statement_at script.now self.old.target self.old.thread self.old.place)).next seen.now).thread }
-        ensures ended { result ≡ ((stray_row script.now self.old loads most (statement_at script.now self.old.target self.old.thread self.old.place)).next seen.now).ended }
+        requires room { IfSome ((stray_row script.now self.old loads most (option_map (λ s. s.now) direct)).next (observation observed)).ended (λ r. length results.old.items < vec_capacity results.old) }
+        ensures thread { self.new ≡ ((stray_row script.now self.old loads most (option_map (λ s. s.now) direct.entry)).next (observation observed)).thread }
+        ensures results { results.new.items ≡ results.old.items ++ option_to_list ((stray_row script.now self.old loads most (option_map (λ s. s.now) direct.entry)).next (observation observed)).ended }
+        ensures room { vec_capacity results.new ≡ vec_capacity results.old }
+        ensures ended { result ≡ is_some ((stray_row script.now self.old loads most (option_map (λ s. s.now) direct.entry)).next (observation observed)).ended }
     {
-        match statement_at(script, self.target, self.thread, self.place) {
-            Some(Statement::Store { .. }) => self.end(script, StmtResult::Stored),
+        match direct {
+            Some(Statement::Store { .. }) => self.end(script, results, Ending::Stored),
             Some(Statement::Exchange { .. }) | Some(Statement::Load { .. }) => {
-                self.end(script, StmtResult::Found(seen.value()))
+                self.end(script, results, Ending::Found(observed.value()))
             }
             Some(Statement::Wait { value, .. }) => {
-                self.after_stray_load(script, loads, most, seen.value() == *value)
+                self.after_stray_load(script, results, loads, most, observed.value() == *value)
             }
-            Some(Statement::Call { .. }) | None => None,
+            Some(Statement::Call { .. }) | None => false,
         }
     }
 
-    /// Its one next step. The script is that of `new`.
+    /// The statement that the thread makes by a step on a word which the statement names: a store, an exchange, a load or a wait. None in
+    /// a call, and after the last statement. The script is that of `new`.
+    pub fn direct_statement<'s>(&self, script: &'s SoundScript) -> Option<&'s Statement>
+        ensures { option_map (λ s. s.now) result ≡ direct_at script.now self.now }
+    {
+        match self.phase {
+            ThreadPhase::Stray => statement_at(script, self.target, self.thread, self.place),
+            _ => None,
+        }
+    }
+
+    /// Its one next step, of which `direct` is the `direct_statement`.
     #[inline(always)]
-    pub fn plan(&self, script: &SoundScript) -> Act
-        ensures plan { result ≡ thread_plan script.now self.now }
+    pub fn plan(&self, direct: Option<&Statement>) -> Act
+        ensures plan { (script : Script) → option_map (λ s. s.now) direct.entry ≡ direct_at script self.now → result ≡ thread_plan script self.now }
     {
         let target = self.target;
         let state = state_word(self.channel);
@@ -396,69 +498,58 @@ impl ThreadState {
             ThreadPhase::Fetch => load(target, block_word(self.channel, 3 + self.at)),
             ThreadPhase::Free => store(target, state, FREE),
             ThreadPhase::Abandon => store(target, state, ABANDONED),
-            ThreadPhase::Stray => {
-                stray_plan(statement_at(script, self.target, self.thread, self.place))
-            }
+            ThreadPhase::Stray => stray_plan(direct),
             ThreadPhase::Over => Act::Idle,
         }
     }
 
-    /// Goes on by what the step found, and gives the result if it ended a statement. The script is that of `new`.
+    /// Goes on by what the step found. If that ends a statement its result is put after `results`, which must have room for it, and the
+    /// answer is true. The script is that of `new`, and `direct` the `direct_statement` of the step.
     #[inline(always)]
     #[tactic(auto, using(crate::proofs::Replies::whole_reply))]
-    pub fn after(&mut self, script: &SoundScript, seen: Observed) -> Option<StmtResult>
-        ensures thread { self.new ≡ (thread_after script.now self.old seen).thread }
-        ensures ended { result ≡ (thread_after script.now self.old seen).ended }
+    pub fn after(
+        &mut self,
+        script: &SoundScript,
+        direct: Option<&Statement>,
+        observed: Observed,
+        results: &mut Vec<StmtResult>,
+    ) -> bool
+        requires direct { option_map (λ s. s.now) direct ≡ direct_at script.now self.old }
+        requires room { IfSome (thread_after script.now self.old (observation observed)).ended (λ r. length results.old.items < vec_capacity results.old) }
+        ensures thread { self.new ≡ (thread_after script.now self.old (observation observed)).thread }
+        ensures results { results.new.items ≡ results.old.items ++ option_to_list (thread_after script.now self.old (observation observed)).ended }
+        ensures room { vec_capacity results.new ≡ vec_capacity results.old }
+        ensures ended { result ≡ is_some (thread_after script.now self.old (observation observed)).ended }
     {
         let channel = self.channel;
+        let count = self.count;
         match self.phase {
             ThreadPhase::Try => {
-                self.after_try(
-                    script,
-                    channel,
-                    self.count,
-                    self.all_abandoned,
-                    seen.value(),
-                )
+                let all_abandoned = self.all_abandoned;
+                let found = observed.value();
+                self.after_try(script, results, channel, count, all_abandoned, found)
             }
             ThreadPhase::Fill => {
-                self.at += 1;
-                if self.at as usize == self.block.len() {
-                    self.phase = ThreadPhase::Send;
-                }
-                None
+                let at = self.at;
+                self.after_fill(channel, at)
             }
-            ThreadPhase::Send => self.after_send(script, channel, seen.value()),
-            ThreadPhase::Wait => {
-                if seen.value() == ACKNOWLEDGED {
-                    self.at = 0;
-                    self.phase = ThreadPhase::Fetch;
-                } else if !is_clean(self.clean.as_slice(), channel) {
-                    self.count += 1;
-                    if self.count == self.patience {
-                        self.phase = ThreadPhase::Abandon;
-                    }
-                }
-                None
-            }
+            ThreadPhase::Send => self.after_send(script, results, channel, observed.value()),
+            ThreadPhase::Wait => self.after_wait(channel, count, observed.value()),
             ThreadPhase::Fetch => {
-                self.reply[self.at as usize] = seen.value();
+                self.reply[self.at as usize] = observed.value();
                 self.at += 1;
                 if self.at == 12 {
                     self.phase = ThreadPhase::Free;
                 }
-                None
+                false
             }
-            ThreadPhase::Free => {
-                let reply = read_reply(&self.reply);
-                let result_ = reply_by(channel, mark_at(self.thread, self.place), reply);
-                self.end(script, StmtResult::Call(result_))
+            ThreadPhase::Free => self.after_free(script, results),
+            ThreadPhase::Abandon => { self.end(script, results, Ending::TimedOut { channel }) }
+            ThreadPhase::Stray => {
+                let most = self.most;
+                self.after_stray(script, results, direct, count, most, observed)
             }
-            ThreadPhase::Abandon => {
-                self.end(script, StmtResult::Call(CallResult::TimedOut { channel }))
-            }
-            ThreadPhase::Stray => self.after_stray(script, self.count, self.most, &seen),
-            ThreadPhase::Over => None,
+            ThreadPhase::Over => false,
         }
     }
 

@@ -3,13 +3,17 @@ ghost use Rattle.std.specs.Prelude.{◌≡◌, ◌+◌, ◌%◌, ◌<◌, ◌≤
 ghost use Rattle.sb_block.specs.Copies.{copied, is_copy};
 ghost use Rattle.sb_actor.specs.Ranges.{IsSoundStage};
 ghost use Rattle.sb_actor.specs.WorkerStages.{Look};
-ghost use Rattle.sb_actor.specs.WorkerTable.{worker_plan, worker_after, IsAnswer, taken_in, is_looking};
+ghost use Rattle.sb_actor.specs.Acts.{observation};
+ghost use Rattle.sb_actor.specs.Observations.{Answered};
+ghost use Rattle.sb_actor.specs.WorkerTable.{worker_plan, worker_after, after_look, after_count, after_end, look_next, at_stage, IsAnswer, taken_in, is_looking};
+ghost use Rattle.sb_actor.specs.declared.acts.Act.TheVariants.{Answer};
 
 use crate::acts::{
     ACKNOWLEDGED, Act, Observed, READY, block_word, exchange, load, state_word, store,
 };
 use crate::phases::WorkerPhase;
-use sb_block::{BlockCopy, Words, reply_words};
+use sb_block::{BlockCopy, MOST_PARAMETERS, Words, reply_words};
+use sb_call::Reply;
 use std::marker::Model;
 use std::mem;
 
@@ -48,7 +52,6 @@ impl Model for WorkerState {
 }
 
 // The channel after this one, in turn.
-#[inline(always)]
 pub(crate) fn next_channel(channel: u32, channels: u32) -> u32
     requires within { channel < channels }
     requires few { channels ≤ 8 }
@@ -119,43 +122,69 @@ impl WorkerState {
         }
     }
 
-    /// Goes on by what the step found. At Answer it is a reply that bears the mark of the copy.
+    // It looks at the next channel, after the last at channel 0.
+    fn look_next(&mut self)
+        ensures { self.new ≡ look_next self.old }
+    {
+        self.channel = next_channel(self.channel, self.channels);
+        self.phase = WorkerPhase::Look;
+    }
+
+    // By the state of its channel.
+    fn after_look(&mut self, state: u64)
+        ensures { self.new ≡ after_look self.old state }
+    {
+        if state == READY {
+            self.phase = WorkerPhase::Count;
+        } else {
+            self.look_next();
+        }
+    }
+
+    // By the count of parameters. A count that no block has ends the copy before its first word.
+    fn after_count(&mut self, count: u64)
+        ensures { self.new ≡ at_stage self.old (after_count count) }
+    {
+        if count > MOST_PARAMETERS {
+            self.taken = no_words(count, 0);
+            self.phase = WorkerPhase::Take;
+        } else {
+            self.count = count;
+            self.phase = WorkerPhase::End;
+        }
+    }
+
+    // By the end of a block with this many parameters. So does an end that no such block has.
+    fn after_end(&mut self, count: u64, end: u64)
+        requires few { count ≤ 9 }
+        ensures { self.new ≡ at_stage self.old (after_end count end) }
+    {
+        if end < 16 + count || end > 64 {
+            self.taken = no_words(count, end);
+            self.phase = WorkerPhase::Take;
+        } else {
+            self.count = count;
+            self.end = end;
+            self.words = Words::empty();
+            self.phase = WorkerPhase::Copy;
+        }
+    }
+
+    /// Goes on by what a step that was not at Answer found. At Answer it goes on by the reply (`accept_reply`).
     #[inline(always)]
-    pub fn after(&mut self, seen: Observed)
-        requires answer { IsAnswer self.old.stage seen }
-        ensures { self.new ≡ worker_after self.old seen }
+    pub fn after(&mut self, observed: Observed)
+        requires answer { IsAnswer self.old.stage (observation observed) }
+        ensures { self.new ≡ worker_after self.old (observation observed) }
     {
         match self.phase {
-            WorkerPhase::Look => {
-                if seen.value() == READY {
-                    self.phase = WorkerPhase::Count;
-                } else {
-                    self.channel = next_channel(self.channel, self.channels);
-                }
-            }
-            WorkerPhase::Count => {
-                let count = seen.value();
-                if count > 9 {
-                    self.taken = no_words(count, 0);
-                    self.phase = WorkerPhase::Take;
-                } else {
-                    self.count = count;
-                    self.phase = WorkerPhase::End;
-                }
-            }
+            WorkerPhase::Look => self.after_look(observed.value()),
+            WorkerPhase::Count => self.after_count(observed.value()),
             WorkerPhase::End => {
-                let end = (seen.value() >> 16) & 0xffff;
-                if end < 16 + self.count || end > 64 {
-                    self.taken = no_words(self.count, end);
-                    self.phase = WorkerPhase::Take;
-                } else {
-                    self.end = end;
-                    self.words = Words::empty();
-                    self.phase = WorkerPhase::Copy;
-                }
+                let count = self.count;
+                self.after_end(count, (observed.value() >> 16) & 0xffff);
             }
             WorkerPhase::Copy => {
-                self.words.push(seen.value());
+                self.words.push(observed.value());
                 if self.words.len() as u64 == self.end {
                     let words = mem::replace(&mut self.words, Words::empty());
                     self.taken = taken_of(self.count, self.end, words);
@@ -163,12 +192,12 @@ impl WorkerState {
                 }
             }
             WorkerPhase::Take => {
-                if seen.turn() {
+                if observed.turn() {
                     self.phase = WorkerPhase::Answer;
                 }
             }
             WorkerPhase::Answer => {
-                self.reply = reply_words(&seen.into_reply());
+                self.reply = [0; 12];
                 self.phase = WorkerPhase::Give;
             }
             WorkerPhase::Give => {
@@ -182,11 +211,18 @@ impl WorkerState {
                     self.at += 1;
                 }
             }
-            WorkerPhase::Ack => {
-                self.channel = next_channel(self.channel, self.channels);
-                self.phase = WorkerPhase::Look;
-            }
+            WorkerPhase::Ack => self.look_next(),
         }
+    }
+
+    /// Goes on from Answer by what the book replied, which bears the mark of the copy.
+    pub fn accept_reply(&mut self, reply: &Reply)
+        requires plan { worker_plan self.old ≡ Answer }
+        requires answer { IsAnswer self.old.stage (Answered reply.now) }
+        ensures { self.new ≡ worker_after self.old (Answered reply.now) }
+    {
+        self.reply = reply_words(reply);
+        self.phase = WorkerPhase::Give;
     }
 
     /// The copy, exactly from its end until the turn is given back.

@@ -1,6 +1,8 @@
 -- Entries that are stored: what a row cuts stays when words are appended, and what is appended is a new row's.
 use Rattle.std.proofs.Common.{◌≡◌, ◌∙◌, ℕ, ◌+◌, ◌<◌, ◌≤◌, true, List, [], ◌∷◌, ◌++◌, length, map, take, drop, refl, sym, ap, subst, zero, suc, arith, append_assoc, get_or}
-use Rattle.std.specs.Prelude.{⊤, slice_get, option_map}
+use Rattle.std.proofs.lemmas.Bool.{and_parts}
+use Rattle.std.proofs.lemmas.Bool.Decides.{nat_tests}
+use Rattle.std.specs.Prelude.{⊤, nat_le, nat_lt, slice_get, option_map}
 use Rattle.std.specs.List.{All}
 use Rattle.std.proofs.lemmas.List.{length-append, length-drop, take-append-le, drop-append-le, take_all, length-map, map-append, take-map}
 use Rattle.std.proofs.lemmas.List.Elements.{All-take}
@@ -9,7 +11,7 @@ use Rattle.std.proofs.Math.Seq.{drop-append_seam, take-append_seam}
 use Rattle.sb_call.specs.declared.replies.Reply.{Reply}
 use Rattle.sb_block.specs.Copies.{Copied, copied, is_copy}
 use Rattle.sb_block.specs.Layout.{most_words}
-use Rattle.sb_book.specs.Stores.{IsCut, copy_words, entry_with, ext_words, row_entry, stored_entry}
+use Rattle.sb_book.specs.Stores.{IsCut, copy_words, entry_with, ext_words, is_room, row_entry, stored_entry}
 use Rattle.sb_book.specs.declared.decisions.Decision.{Decision}
 use Rattle.sb_book.specs.declared.entries.Entry.{Entry}
 use Rattle.sb_book.specs.declared.stores.EntryRow.{EntryRow}
@@ -145,3 +147,17 @@ front_stored xs n rows = sym (take-map (stored_entry xs) n rows)
 
 pub front_is_all : (n : ℕ) (rows : List EntryRow) → length rows ≤ n → rows ≡ take n rows
 front_is_all n rows h = sym (take_all n rows h)
+
+-- room that was made, and what it has room for
+pub room_made : (rows rows_capacity words words_capacity : ℕ) → rows < rows_capacity → words + 71 ≤ words_capacity → is_room rows rows_capacity words words_capacity ≡ true
+room_made rows rows_capacity words words_capacity row more = grind (arith, nat_tests, row, more)
+
+pub room_for_row : (rows rows_capacity words words_capacity : ℕ) → is_room rows rows_capacity words words_capacity ≡ true → rows < rows_capacity
+room_for_row rows rows_capacity words words_capacity h =
+    let one = (and_parts (nat_lt rows rows_capacity) (nat_le (words + 71) words_capacity) h).0 in
+    grind (arith, nat_tests, one)
+
+pub room_for_words : (rows rows_capacity words words_capacity : ℕ) → is_room rows rows_capacity words words_capacity ≡ true → words + 71 ≤ words_capacity
+room_for_words rows rows_capacity words words_capacity h =
+    let two = (and_parts (nat_lt rows rows_capacity) (nat_le (words + 71) words_capacity) h).1 in
+    grind (arith, nat_tests, two)

@@ -1,13 +1,11 @@
 -- Entries as they are stored: a row for each, and one buffer with the words of all copies and replies, which the rows cut.
-use Rattle.std.specs.Prelude.{◌≡◌, ℕ, ◌+◌, ◌<◌, ◌≤◌, true, List, map, length, take, drop, vec_len, vec_capacity}
-use Rattle.std.specs.List.{All}
+use Rattle.std.specs.Prelude.{◌≡◌, ℕ, ◌+◌, ◌≤◌, Bool, true, ◌&&◌, nat_lt, nat_le, List, length, take, drop}
 use Rattle.sb_call.specs.declared.replies.Reply.{Reply}
 use Rattle.sb_block.specs.Copies.{Copied, copied, is_copy}
 use Rattle.sb_block.specs.Layout.{most_words}
 use Rattle.sb_book.specs.declared.decisions.Decision.{Decision}
 use Rattle.sb_book.specs.declared.entries.Entry.{Entry}
 use Rattle.sb_book.specs.declared.stores.EntryRow.{EntryRow}
-use Rattle.sb_book.specs.declared.stores.EntryStore.{EntryStore}
 
 -- an entry of its parts
 abbrev pub entry_with : ℕ → ℕ → Copied → Decision → Reply → Entry
@@ -35,22 +33,25 @@ ext_words words r = take r.ext_len (drop r.len (drop r.first words))
 abbrev pub stored_entry : List ℕ → EntryRow → Entry
 stored_entry words r = row_entry r (copy_words words r) (ext_words words r)
 
--- the entries that are stored
-abbrev pub entries_of : EntryStore → List Entry
-entries_of s = map (stored_entry s.words.items) s.rows.items
+-- an entry has at most the words of a copy, and the extended words of a reply
+abbrev pub most_ext_words : ℕ
+most_ext_words = 7
+
+abbrev pub most_entry_words : ℕ
+most_entry_words = 71
 
 -- a row cuts a copy and at most seven extended words out of the words
 pub record IsCut (words : List ℕ) (r : EntryRow) : Type 0 where
   pub within : r.first + (r.len + r.ext_len) ≤ length words
   pub most : r.len ≤ most_words
-  pub few : r.ext_len ≤ 7
+  pub few : r.ext_len ≤ most_ext_words
   pub rule : is_copy (copied r.count_seen r.end_seen (copy_words words r)) ≡ true
 
--- each row cuts what is stored
-abbrev pub IsStore : EntryStore → Type 0
-IsStore s = All (IsCut s.words.items) s.rows.items
+-- rows and words of these lengths have room for one entry more
+abbrev pub is_room : ℕ → ℕ → ℕ → ℕ → Bool
+is_room rows rows_capacity words words_capacity = nat_lt rows rows_capacity && nat_le (words + most_entry_words) words_capacity
 
--- there is room for one more entry, with 64 words of a copy and 7 of a reply
-pub record HasRoom (s : EntryStore) : Type 0 where
-  pub row : vec_len s.rows < vec_capacity s.rows
-  pub words : vec_len s.words + 71 ≤ vec_capacity s.words
+-- stored entries, and whether there is room for one more
+pub record StoreAt : Type 0 where
+  pub entries : List Entry
+  pub room : Bool

@@ -1,14 +1,13 @@
 // The book: every entry of a run so far, and the namespace that they led to.
 ghost use Rattle.std.specs.Prelude.{◌≡◌, ◌≤◌, ◌<◌, ◌∷◌, [], true, length, is_ok, slice_index, OnOk, OnErr, IfOk};
-ghost use Rattle.sb_block.specs.Copies.{mark_of};
-ghost use Rattle.sb_kernel.specs.Openings.{opening};
+ghost use Rattle.sb_block.specs.Copies.{is_copy, mark_of};
 ghost use Rattle.sb_rule.specs.Verdicts.{policy_at};
 ghost use Rattle.sb_book.specs.Decisions.{decision_of, is_fitting};
 ghost use Rattle.sb_book.specs.Histories.{History, IsHistory, new_history, setting_of, fault_words, performed_reply, reply_of, space_after, answered};
 
 use crate::decisions::Decision;
 use crate::entries::Entries;
-use crate::ready_scripts::ReadyScript;
+use crate::run_starts::RunStart;
 use crate::slices::EntrySlice;
 use crate::stores::EntryStore;
 use sb_block::{BlockCopy, BlockFault, faultless_copies_fit};
@@ -46,15 +45,22 @@ impl Drop for Book {
 
 impl Model for Book {
     ghost use Rattle.sb_book.specs.Histories.{History, IsHistory, setting_of};
-    ghost use Rattle.sb_book.specs.Stores.{IsStore, entries_of};
 
     ghost Value = { History };
 
-    ghost view = { λ b. record { setting = setting_of b.policies.value.list b.script.value; space = b.kernel; entries = entries_of b.store } };
+    ghost view = { λ b. record { setting = setting_of b.policies.value.list b.script.value; space = b.kernel; entries = b.store.entries } };
 
-    ghost invariant = { λ b. IsHistory (record { setting = setting_of b.policies.value.list b.script.value; space = b.kernel; entries = entries_of b.store })
-        × IsStore b.store };
+    ghost invariant = { λ b. IsHistory (record { setting = setting_of b.policies.value.list b.script.value; space = b.kernel; entries = b.store.entries }) };
 }
+
+// The outcome of a reply: to a call that was performed, to a block that was refused, to a call that was denied, and to one that was faked.
+const PERFORMED: u64 = 0;
+
+const REFUSED: u64 = 1;
+
+const DENIED: u64 = 2;
+
+const FAKED: u64 = 3;
 
 // A fault's number alone.
 fn one_word(number: u64) -> Extended
@@ -112,11 +118,18 @@ fn performed_reply(mark: u64, answer: Answer) -> Reply
     } = answer;
     Reply {
         mark,
-        outcome: 0,
+        outcome: PERFORMED,
         status: u64::from(status),
         handle,
         ext,
     }
+}
+
+// A copy keeps the rule of a copy. It does nothing.
+fn establish_whole(taken: &BlockCopy)
+    ensures { is_copy taken.now ≡ true }
+{
+    let _words = taken.words();
 }
 
 // Performs what is decided, and gives the reply. After an error nothing is changed.
@@ -134,21 +147,21 @@ fn carry_out(
     match decision {
         Decision::Refused(fault) => Ok(Reply {
             mark,
-            outcome: 1,
+            outcome: REFUSED,
             status: u64::from(INVALID_PARAMETER),
             handle: 0,
             ext: fault_words(*fault),
         }),
         Decision::Denied { .. } => Ok(Reply {
             mark,
-            outcome: 2,
+            outcome: DENIED,
             status: u64::from(ACCESS_DENIED),
             handle: 0,
             ext: Extended::empty(),
         }),
         Decision::Faked { .. } => Ok(Reply {
             mark,
-            outcome: 3,
+            outcome: FAKED,
             status: u64::from(SUCCESS),
             handle: 0,
             ext: Extended::empty(),
@@ -161,25 +174,25 @@ fn carry_out(
 }
 
 impl Book {
-    /// The book of a ready script: no entries, and the namespace that the script opens with. Does not allocate.
-    pub fn new(alloc: Global, ready: &ReadyScript, kernel: Kernel) -> Book
-        requires opens { kernel ≡ opening ready.now.script.start }
-        ensures { result ≡ new_history (setting_of ready.now.policies ready.now.script) }
+    /// The book of a run that begins: no entries, and the namespace that the script opens with. Does not allocate.
+    pub fn new(alloc: Global, start: RunStart<'_>) -> Book
+        ensures { result ≡ new_history (setting_of start.entry.policies start.entry.script) }
     {
+        let ready = start.ready();
         Book {
-            kernel,
+            kernel: start.into_kernel(),
             store: EntryStore::new(alloc),
             policies: Snapshot::of(ready.policies().policies()),
             script: Snapshot::of(ready.script().script()),
         }
     }
 
-    #[tactic(auto, using(crate::proofs::Fitting::decided_fits, crate::proofs::Legal::answered_is_legal))]
     /// Appends the entry of a copy and its decision, performs what is decided, and gives the entry's reply. The target and
     /// the channel are there, and the decision is that of the target's policy on the copy.
     ///
     /// # Errors
     /// `NoMemory` if there was none for the entry or for what the call makes; then the book is as it was.
+    #[tactic(auto, using(crate::proofs::Fitting::decided_fits, crate::proofs::Legal::answered_is_legal))]
     pub fn answer(
         &mut self,
         target: u32,
@@ -195,7 +208,7 @@ impl Book {
         ensures err { OnErr result (self.new ≡ self.old) }
     {
         faultless_copies_fit();
-        let _words = taken.words();
+        establish_whole(taken);
         self.store.reserve()?;
         let reply = carry_out(&mut self.kernel, target, taken.mark(), &decision)?;
         self.store
@@ -210,13 +223,6 @@ impl Book {
         self.store.as_slice()
     }
 
-    /// The namespace.
-    pub fn kernel(&self) -> &Kernel
-        ensures { result.now ≡ self.now.space }
-    {
-        &self.kernel
-    }
-
     /// The entries and the namespace, taken out.
     pub fn into_parts(self) -> (Entries, Kernel)
         ensures entries { result.0 ≡ self.entries }
@@ -229,13 +235,5 @@ impl Book {
             script: _,
         } = self;
         (Entries::of(store), kernel)
-    }
-
-    /// The entries are a legal history of the book's setting, and the namespace is the one that they led to. It changes
-    /// nothing.
-    pub fn is_legal(&self)
-        ensures { IsHistory self.now }
-    {
-        let _count = self.store.rows.len();
     }
 }

@@ -14,7 +14,7 @@ use std::alloc::Global;
 /// What the broker decides of the copy of a parameter block.
 #[derive(PartialEq)]
 pub enum Decision {
-    /// The block has a fault, the first that stands in the copy.
+    /// The block has a fault, the first of the copy.
     Refused(BlockFault),
     /// No rule matched, or the first that matched says deny or alarm.
     Denied {

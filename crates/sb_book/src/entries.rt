@@ -1,6 +1,5 @@
 // The entries of the history.
-ghost use Rattle.std.specs.Prelude.{◌≡◌, ◌<◌, ◌^◌, ◌++◌, ◌∷◌, [], length, OnOk, OnErr};
-ghost use Rattle.sb_book.specs.Stores.{HasRoom, IsStore, entries_of};
+ghost use Rattle.std.specs.Prelude.{◌≡◌, ◌<◌, ◌^◌, ◌++◌, ◌∷◌, [], true, length, OnOk, OnErr};
 
 use crate::decisions::Decision;
 use crate::slices::EntrySlice;
@@ -40,10 +39,8 @@ impl Drop for Entry {
 impl Entry {
     // Appends the entry to a store that has room for it.
     fn put_into(self, store: &mut EntryStore)
-        requires store { IsStore store.old }
-        requires room { HasRoom store.old }
-        ensures store { IsStore store.new }
-        ensures entries { entries_of store.new ≡ entries_of store.old ++ self ∷ [] }
+        requires room { store.old.room ≡ true }
+        ensures entries { store.new.entries ≡ store.old.entries ++ self ∷ [] }
     {
         let Entry {
             target,
@@ -70,14 +67,11 @@ impl Drop for Entries {
 
 impl Model for Entries {
     ghost use Rattle.std.specs.Prelude.{List};
-    ghost use Rattle.sb_book.specs.Stores.{IsStore, entries_of};
     ghost use Rattle.sb_book.specs.declared.entries.Entry.{Entry};
 
     ghost Value = { List Entry };
 
-    ghost view = { λ e. entries_of e.store };
-
-    ghost invariant = { λ e. IsStore e.store };
+    ghost view = { λ e. e.store.entries };
 }
 
 impl Entries {
@@ -92,19 +86,17 @@ impl Entries {
 
     /// The entries that are stored there. Does not allocate.
     pub(crate) fn of(store: EntryStore) -> Entries
-        requires { IsStore store }
-        ensures { result ≡ entries_of store }
+        ensures { result ≡ store.entries }
     {
         Entries { store }
     }
 
     /// How many entries there are, fewer than 2^63.
-    #[tactic(auto, using(crate::proofs::Storing::as_many))]
     pub fn len(&self) -> usize
         ensures len { result ≡ length self.now }
         ensures most { result < 2 ^ 63 }
     {
-        self.store.rows.as_slice().len()
+        self.store.len()
     }
 
     /// The entries, in order.

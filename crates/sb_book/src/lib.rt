@@ -1,6 +1,6 @@
 // What the broker decided: decisions, the namespace that they lead to, and the book that keeps both as one history.
-// It stands where the dispatchers of Chromium's Windows sandbox stand (top_level_dispatcher.cc and those
-// of the services).
+// Its place is that of the dispatchers of Chromium's Windows sandbox (top_level_dispatcher.cc and those of
+// the services).
 #![tactic(auto)]
 
 mod books;
@@ -9,6 +9,7 @@ mod entries;
 mod laws;
 mod ready_scripts;
 mod reports;
+mod run_starts;
 mod slices;
 mod stores;
 mod views;
@@ -22,5 +23,6 @@ pub use laws::{
 };
 pub use ready_scripts::{OpenedScript, ReadyScript};
 pub use reports::{AllWords, Report, Results, TargetResults, ThreadResults, WordList};
+pub use run_starts::RunStart;
 pub use slices::EntrySlice;
 pub use views::EntryView;

@@ -4,12 +4,11 @@ ghost use Rattle.std.specs.List.{list_all};
 ghost use Rattle.sb_kernel.specs.Openings.{is_named, opened, opening};
 ghost use Rattle.sb_rule.specs.WellMade.{are_well_made};
 ghost use Rattle.sb_statements.specs.Limits.{most_start_lines};
-ghost use Rattle.sb_statements.specs.SoundScripts.{has_short_names};
 ghost use Rattle.sb_statements.specs.Soundness.{is_sound};
-ghost use Rattle.sb_statements.specs.Units.{script_has_units};
-ghost use Rattle.sb_book.specs.Readiness.{is_judged, is_ready};
+ghost use Rattle.sb_book.specs.Readiness.{IsReady, is_judged, is_ready};
 ghost use Rattle.sb_book.specs.ReadyScripts.{Ready};
 
+use crate::run_starts::RunStart;
 use sb_items::NoMemory;
 use sb_kernel::{Kernel, StartRefused};
 use sb_rule::WellMadePolicies;
@@ -45,20 +44,6 @@ impl Model for ReadyScript {
     ghost invariant = { λ r. is_ready r.policies.list r.script ≡ true };
 }
 
-// The kernel at the start, if all objects can be placed.
-fn kernel_of(alloc: Global, start: &[StartLine]) -> Result<Kernel, NoMemory>
-    requires few { length start.now ≤ most_start_lines }
-    requires names { list_all is_named start.now ≡ true }
-    requires placed { is_ok (opened start.now) ≡ true }
-    ensures { IfOk result (λ kernel. kernel ≡ opening start.now) }
-{
-    match Kernel::start(alloc, start) {
-        Ok(kernel) => Ok(kernel),
-        Err(StartRefused::BadStart { .. }) => unreachable!(),
-        Err(StartRefused::NoMemory) => Err(NoMemory),
-    }
-}
-
 impl ReadyScript {
     /// Policies, and a script that is known to be ready for them.
     pub fn of(policies: WellMadePolicies, script: SoundScript) -> ReadyScript
@@ -84,23 +69,25 @@ impl ReadyScript {
         &self.script
     }
 
-    /// The namespace that the script opens with: its opening lines, placed in turn. A script that was read comes with it.
+    /// What a run of the script begins with: its opening lines are placed in turn. A script that was read comes with them placed.
     ///
     /// # Errors
     /// `NoMemory` if there was none for the namespace.
     #[tactic(auto, using(crate::proofs::Ready::named_starts))]
-    pub fn open(&self, alloc: Global) -> Result<Kernel, NoMemory>
-        ensures { IfOk result (λ kernel. kernel ≡ opening self.now.script.start) }
+    pub fn start(&self, alloc: Global) -> Result<RunStart<'_>, NoMemory>
+        ensures { IfOk result (λ start. start ≡ self.now) }
     {
         self.establish_ready();
-        kernel_of(alloc, self.script.start.as_slice())
+        // Each line can be placed, so the one refusal is that memory ran out.
+        let Ok(kernel) = Kernel::start(alloc, &self.script.start) else {
+            return Err(NoMemory);
+        };
+        Ok(RunStart::of(self, kernel))
     }
 
     /// What holds of every ready script. It does nothing.
     pub fn establish_ready(&self)
-        ensures ready { is_ready self.now.policies self.now.script ≡ true }
-        ensures units { script_has_units self.now.script ≡ true }
-        ensures short { has_short_names self.now.script ≡ true }
+        ensures { IsReady self.now.policies self.now.script }
     {
         self.script.establish_sound();
     }

@@ -1,6 +1,6 @@
 // How entries are stored: a row for each, and one buffer for the words of all copies and replies, which the rows cut.
-ghost use Rattle.std.specs.Prelude.{◌≡◌, ◌++◌, ◌∷◌, [], OnOk};
-ghost use Rattle.sb_book.specs.Stores.{IsStore, HasRoom, entries_of, entry_with};
+ghost use Rattle.std.specs.Prelude.{◌≡◌, ◌<◌, ◌++◌, ◌∷◌, ◌^◌, [], true, length, OnOk};
+ghost use Rattle.sb_book.specs.Stores.{entry_with};
 
 use crate::decisions::Decision;
 use crate::slices::EntrySlice;
@@ -8,6 +8,7 @@ use sb_block::BlockCopy;
 use sb_call::Reply;
 use sb_items::NoMemory;
 use std::alloc::Global;
+use std::marker::Model;
 
 /// The most words of an entry: 64 of a copy and 7 extended words of a reply.
 const MOST_ENTRY_WORDS: usize = 71;
@@ -50,7 +51,8 @@ impl Drop for EntryRow {
     }
 }
 
-/// Stored entries. What an entry needs is a row and the words that its copy and its reply have.
+/// Stored entries. What an entry needs is a row and the words that its copy and its reply have. Contracts see the entries, and whether there is
+/// room for one more.
 pub(crate) struct EntryStore {
     pub(crate) rows: Vec<EntryRow>,
     pub(crate) words: Vec<u64>,
@@ -62,11 +64,25 @@ impl Drop for EntryStore {
     }
 }
 
+impl Model for EntryStore {
+    ghost use Rattle.std.specs.Prelude.{map, vec_len, vec_capacity};
+    ghost use Rattle.std.specs.List.{All};
+    ghost use Rattle.sb_book.specs.Stores.{IsCut, StoreAt, is_room, stored_entry};
+
+    ghost Value = { StoreAt };
+
+    ghost view = { λ s. record {
+      entries = map (stored_entry s.words.items) s.rows.items;
+      room = is_room (vec_len s.rows) (vec_capacity s.rows) (vec_len s.words) (vec_capacity s.words);
+    } };
+
+    ghost invariant = { λ s. All (IsCut s.words.items) s.rows.items };
+}
+
 impl EntryStore {
     /// No entries. Does not allocate.
     pub(crate) fn new(alloc: Global) -> EntryStore
-        ensures entries { entries_of result ≡ [] }
-        ensures store { IsStore result }
+        ensures { result.entries ≡ [] }
     {
         EntryStore {
             rows: Vec::new(alloc),
@@ -78,10 +94,10 @@ impl EntryStore {
     ///
     /// # Errors
     /// `NoMemory` if there is none for an entry.
+    #[tactic(auto, using(crate::proofs::Storing::room_made))]
     pub(crate) fn reserve(&mut self) -> Result<(), NoMemory>
-        ensures rows { self.new.rows.items ≡ self.old.rows.items }
-        ensures words { self.new.words.items ≡ self.old.words.items }
-        ensures room { OnOk result (HasRoom self.new) }
+        ensures entries { self.new.entries ≡ self.old.entries }
+        ensures room { OnOk result (self.new.room ≡ true) }
     {
         self.rows.reserve(1)?;
         self.words.reserve(MOST_ENTRY_WORDS)?;
@@ -89,7 +105,7 @@ impl EntryStore {
     }
 
     /// Appends an entry, for which there must be room. Does not allocate.
-    #[tactic(auto, using(crate::proofs::Storing::stored_with, crate::proofs::Storing::cut_more))]
+    #[tactic(auto, using(crate::proofs::Storing::room_for_row, crate::proofs::Storing::room_for_words, crate::proofs::Storing::stored_with, crate::proofs::Storing::cut_more))]
     pub(crate) fn push_reserved(
         &mut self,
         target: u32,
@@ -98,10 +114,8 @@ impl EntryStore {
         decision: Decision,
         reply: &Reply,
     )
-        requires store { IsStore self.old }
-        requires room { HasRoom self.old }
-        ensures store { IsStore self.new }
-        ensures entries { entries_of self.new ≡ entries_of self.old ++ entry_with target channel taken.now decision reply.now ∷ [] }
+        requires room { self.old.room ≡ true }
+        ensures entries { self.new.entries ≡ self.old.entries ++ entry_with target channel taken.now decision reply.now ∷ [] }
     {
         let copy = taken.words();
         let ext = reply.ext.as_slice();
@@ -124,10 +138,18 @@ impl EntryStore {
         self.rows.push_reserved(row);
     }
 
+    /// How many entries there are, fewer than 2^63.
+    #[tactic(auto, using(crate::proofs::Storing::as_many))]
+    pub(crate) fn len(&self) -> usize
+        ensures len { result ≡ length self.now.entries }
+        ensures most { result < 2 ^ 63 }
+    {
+        self.rows.as_slice().len()
+    }
+
     /// The entries, in order.
     pub(crate) fn as_slice(&self) -> EntrySlice<'_>
-        requires { IsStore self.now }
-        ensures { result ≡ entries_of self.now }
+        ensures { result ≡ self.now.entries }
     {
         EntrySlice {
             rows: &self.rows,

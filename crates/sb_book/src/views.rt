@@ -57,14 +57,14 @@ impl<'a> EntryView<'a> {
         self.row.channel
     }
 
-    /// The number of parameters that was fetched before the copy.
+    /// The number of parameters that was loaded before the copy.
     pub fn count_seen(&self) -> u64
         ensures { result ≡ self.now.taken.count_seen }
     {
         self.row.count_seen
     }
 
-    /// The end, in words, that was fetched before the copy, or 0 if it was not fetched.
+    /// The end, in words, that was loaded before the copy, or 0 if it was not loaded.
     pub fn end_seen(&self) -> u64
         ensures { result ≡ self.now.taken.end_seen }
     {

@@ -5,7 +5,7 @@ use native.Mathlib.Decide.{ℕ_discrete}
 use Rattle.sb_statements.specs.Soundness.{SoundStatements}
 use Rattle.sb_statements.specs.declared.scripts.Script.{Script}
 use Rattle.sb_core.specs.Drains.{IsBeginning, drained, is_settled, one_pass, pass_below, after_passes}
-use Rattle.sb_core.specs.Kept.{IsReached, IsRunning, IsWorld}
+use Rattle.sb_core.specs.Kept.{IsRunning, IsWorld}
 use Rattle.sb_core.specs.OfScripts.{IsOfScript}
 use Rattle.sb_core.specs.Worlds.{WorldAt}
 use Rattle.sb_core.proofs.Belonging.{of_more}
@@ -76,13 +76,11 @@ leads_beginning script w v kept runs b =
 pub record IsLeft (script : Script) (w v : WorldAt) : Type 0 where
   pub running : IsRunning script v
   pub of_script : IsOfScript script w → IsOfScript script v
-  pub reached : IsReached script w v
 
 left : SoundStatements → (script : Script) (w v : WorldAt) → IsWorld w → IsRunning script w → Leads script w v → IsLeft script w v
 left law script w v kept runs leads = record {
   running = (kept_along script (λ z. IsWorld z × IsRunning script z) (λ z actor both e. step_keeps law script z actor both.0 both.1 e) w v leads (kept, runs)).1;
   of_script = of_more script w v leads;
-  reached = (leads.actors, leads.reached);
 }
 
 -- the drained world, and that of a beginning of the drain

@@ -2,14 +2,27 @@
 use Rattle.std.proofs.Common.{◌≡◌, refl, sym, subst, ◌<◌, ◌≤◌, ℕ, zero, suc, List, [], ◌∷◌, Bool, true, ◌&&◌, length, lit≤, arith}
 use Rattle.std.proofs.lemmas.Bool.{and_parts}
 use Rattle.std.proofs.lemmas.Bool.Decides.{nat_tests}
-use Rattle.std.specs.Prelude.{nat_le, Option, None, Some, slice_get}
+use Rattle.std.specs.Prelude.{is_ok, nat_le, Option, None, Some, slice_get}
 use Rattle.std.specs.List.{list_all}
+use Rattle.sb_book.specs.Readiness.{IsReady, is_judged}
+use Rattle.sb_kernel.specs.Openings.{opened}
+use Rattle.sb_rule.specs.WellMade.{are_well_made}
+use Rattle.sb_rule.specs.declared.policies.Policy.{Policy}
 use Rattle.sb_actor.specs.Places.{or_none, statements_of, threads_of}
 use Rattle.sb_statements.specs.Soundness.{is_patience, is_statement, is_start, is_thread, is_target, are_targets, names_differ, is_sound, channels_of, SoundTargets}
 use Rattle.sb_statements.specs.declared.scripts.Script.{Script}
 use Rattle.sb_statements.specs.declared.scripts.TargetScript.{TargetScript}
 use Rattle.sb_statements.specs.declared.statements.Statement.{Statement}
 use Rattle.sb_statements.specs.Actors.{thread_count}
+
+-- a script that is ready for policies is sound
+pub ready_sound : (policies : List Policy) (script : Script) → IsReady policies script → is_sound script ≡ true
+ready_sound policies script h =
+    let made = are_well_made policies in
+    let judged = list_all (is_judged (length policies)) script.targets in
+    let all = and_parts (is_sound script && made && judged) (is_ok (opened script.start)) h.ready in
+    let some = and_parts (is_sound script && made) judged all.0 in
+    (and_parts (is_sound script) made some.0).0
 
 pub few_targets : (script : Script) → is_sound script ≡ true → length script.targets ≤ 8
 few_targets script h =

@@ -18,7 +18,8 @@ use Rattle.sb_core.proofs.Folding.{steps_append}
 use Rattle.sb_core.proofs.Passing.{rounds_are_steps, turns_there}
 use Rattle.sb_core.proofs.RunLaws.{no_run_past, none_of, results_at}
 use Rattle.sb_core.proofs.Running.{step_keeps}
-use Rattle.sb_core.proofs.Starting.{ready_sound, start_run, starts_keep}
+use Rattle.sb_core.proofs.Bounds.{ready_sound}
+use Rattle.sb_core.proofs.Starting.{start_run, starts_keep}
 use Rattle.sb_core.proofs.Stepping.{all_append, kept_along, leads_by, rounds_there, scheduled_there}
 use Rattle.sb_core.proofs.Telling.{threads_follow}
 

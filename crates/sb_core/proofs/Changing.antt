@@ -19,7 +19,8 @@ use Rattle.sb_core.specs.Changes.{IsOneMore, is_mark, moves_turn, writes}
 use Rattle.sb_core.specs.Laws.{StepsChangeLittle}
 use Rattle.sb_core.specs.Shared.{IsActThere, SharedAt, on_word, on_worker}
 use Rattle.sb_core.specs.Threads.{RunAt, no_run}
-use Rattle.sb_core.specs.Words.{exchanged, loaded, place_of, stored, words_of}
+use Rattle.sb_core.specs.Words.{exchanged, loaded, stored, words_of}
+use Rattle.sb_statements.specs.Words.{place_of}
 use Rattle.sb_core.specs.Worlds.{WorldAt, no_worker, run_at, threads_at, worker_at}
 use Rattle.sb_core.proofs.Running.{thread_is_there, worker_is_there}
 use Rattle.sb_core.proofs.There.{listed, thread_there, worker_there}

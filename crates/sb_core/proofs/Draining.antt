@@ -12,7 +12,7 @@ use Rattle.sb_core.specs.Reports.{results_of}
 use Rattle.sb_core.specs.Runs.{most_results}
 use Rattle.sb_core.specs.Threads.{RunAt, no_run}
 use Rattle.sb_core.specs.Worlds.{WorldAt, run_at, threads_at}
-use Rattle.sb_core.proofs.Bounds.{few_statements, few_targets, few_threads}
+use Rattle.sb_core.proofs.Bounds.{few_statements, few_targets, few_threads, ready_sound}
 use Rattle.sb_core.proofs.Running.{step_keeps}
 use Rattle.sb_core.proofs.Stepping.{kept_along, leads_drain}
 
@@ -68,7 +68,7 @@ lists_sum (runs ∷ threads) each =
 -- at most 8 targets of 4 threads of 4,096 results
 pub few_results : SoundTargets → (script : Script) (w : WorldAt) → IsWorld w → IsRunning script w → result_count (results_of w.threads) ≤ most_results
 few_results law script w kept runs =
-    let targets = few_targets script runs.sound in
+    let targets = few_targets script (ready_sound runs.policies script runs.ready) in
     let lists = runs.targets in
     let all = lists_sum w.threads each in
     omega (arith, targets, lists, all)
@@ -77,13 +77,13 @@ few_results law script w kept runs =
     one t k l =
         let counted = (kept.threads t k l).counted in
         let place = (runs.stands t k l).place in
-        let long = few_statements law script runs.sound (run_at w t k).thread.target (run_at w t k).thread.thread in
+        let long = few_statements law script (ready_sound runs.policies script runs.ready) (run_at w t k).thread.target (run_at w t k).thread.thread in
         omega (arith, counted, place, long)
 
     each : (t : ℕ) → t < length w.threads → results_in (map (λ x. x.results) (threads_at w t)) ≤ 16384
     each t l =
         let lists = runs.targets in
-        let few = few_threads law script t runs.sound (omega (arith, lists, l)) in
+        let few = few_threads law script t (ready_sound runs.policies script runs.ready) (omega (arith, lists, l)) in
         let count = runs.threads t in
         let sum = runs_sum (threads_at w t) (one t) in
         omega (arith, few, count, sum)

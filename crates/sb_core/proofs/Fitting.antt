@@ -41,9 +41,10 @@ use Rattle.sb_core.specs.Results.{AreAllResults}
 use Rattle.sb_core.specs.Runs.{CanRun, ended, played}
 use Rattle.sb_core.specs.Threads.{RunAt, first_unfinished, no_run}
 use Rattle.sb_book.specs.Targets.{is_of_target}
-use Rattle.sb_core.specs.Views.{AreViews, HasUnits, OwnCall, TargetViews, as_call, as_own, calls_at, in_work, own_calls}
+use Rattle.sb_core.specs.Views.{AreViews, OwnCall, TargetViews, as_call, as_own, calls_at, in_work, own_calls}
 use Rattle.sb_core.specs.Words.{some_ready, words_of}
 use Rattle.sb_core.specs.Worlds.{WorldAt, no_worker, run_at, threads_at, worker_at}
+use Rattle.sb_core.proofs.PlacedUnits.{units_are_placed}
 use Rattle.sb_core.proofs.Draining.{drained_threads}
 use Rattle.sb_core.proofs.Judging.{none_behind, over_is}
 use Rattle.sb_core.proofs.Belonging.{of_end, of_run}
@@ -182,7 +183,7 @@ module _ (script : Script) (t : ℕ) (words : List ℕ) (entries : List Entry) (
 
 -- the world at the end of a run without an unfinished thread
 module _ (laws : RuleLaws) (targets : SoundTargets) (statements : SoundStatements) (answers : AnswersKeepHistories) (settles : DrainsSettle) (come : RepliesComeBack) (answered : AnswersAreShort) (policies : List Policy) (script : Script)
-    (schedule : Schedule) (can : CanRun policies script schedule) (units : HasUnits script) (finished : first_unfinished script (played policies script schedule).threads ≡ None) where
+    (schedule : Schedule) (can : CanRun policies script schedule) (finished : first_unfinished script (played policies script schedule).threads ≡ None) where
   abbrev before : WorldAt
   before = played policies script schedule
 
@@ -190,10 +191,10 @@ module _ (laws : RuleLaws) (targets : SoundTargets) (statements : SoundStatement
   w = drained before
 
   was : Ruled script before
-  was = ruled_of laws targets statements script units before (of_run policies script schedule can)
+  was = ruled_of laws targets statements script (units_are_placed script can.ready.units) before (of_run policies script schedule can)
 
   is : Ruled script w
-  is = ruled_of laws targets statements script units w (of_end targets statements policies script schedule can)
+  is = ruled_of laws targets statements script (units_are_placed script can.ready.units) w (of_end targets statements policies script schedule can)
 
   same_threads : w.threads ≡ before.threads
   same_threads = drained_threads before
@@ -293,7 +294,7 @@ module _ (laws : RuleLaws) (targets : SoundTargets) (statements : SoundStatement
       (λ j q. (is.kept.threads t j q).its_number) (λ j q. each_over t j q) c cl
 
 pub runs_fit : RuleLaws → SoundTargets → SoundStatements → AnswersKeepHistories → DrainsSettle → RepliesComeBack → AnswersAreShort → RunsFit
-runs_fit laws targets statements answers settles come answered policies script schedule can units all_ended =
+runs_fit laws targets statements answers settles come answered policies script schedule can all_ended =
     by_finish (first_unfinished script (played policies script schedule).threads) refl all_ended
     (finished_runs_are_whole targets statements answers settles policies script schedule can all_ended) (runs_are_legal targets statements answers policies script schedule can)
     (runs_keep_words targets statements answers policies script schedule can)
@@ -306,12 +307,12 @@ runs_fit laws targets statements answers settles come answered policies script s
     by_finish None e u whole legal sizes = record {
       history = legal;
       whole_results = whole.0;
-      own_replies = own_replies laws targets statements answers settles come answered policies script schedule can units e;
-      suit = suit laws targets statements answers settles come answered policies script schedule can units e;
+      own_replies = own_replies laws targets statements answers settles come answered policies script schedule can e;
+      suit = suit laws targets statements answers settles come answered policies script schedule can e;
       final_words = record {
         sizes = sizes;
         served = whole.1;
-        freed = freed_channels laws targets statements answers settles come answered policies script schedule can units e;
+        freed = freed_channels laws targets statements answers settles come answered policies script schedule can e;
       };
     }
     by_finish (Some thread) e u whole legal sizes = absurd (cc)

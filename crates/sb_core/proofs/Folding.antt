@@ -6,7 +6,6 @@ use Rattle.sb_statements.specs.declared.schedules.Actor.TheVariants.{Worker}
 use Rattle.sb_statements.specs.declared.scripts.Script.{Script}
 use Rattle.sb_core.specs.Actors.{round_actors, scheduled}
 use Rattle.sb_core.specs.Drains.{is_settled, pass_below, one_pass, drained_by}
-use Rattle.sb_core.specs.Kept.{IsReached}
 use Rattle.sb_core.specs.Laws.{OrdersAreSchedules, StepsAreFolds}
 use Rattle.sb_core.specs.Worlds.{WorldAt, all_finished, round, rounds, step, steps, worker_step}
 
@@ -46,34 +45,6 @@ pass_next n w = refl
 
 pub pass_more : (n : ℕ) (w : WorldAt) → pass_below (n + 1) w ≡ worker_step (pass_below n w) n
 pass_more n w = simp unary_clauses (pass_next n w)
-
--- a world is reached from itself, and over another
-pub reached_self : (script : Script) (w : WorldAt) → IsReached script w w
-reached_self script w = ([], refl)
-
-pub reached_on : (script : Script) (u v w : WorldAt) → IsReached script u v → IsReached script v w → IsReached script u w
-reached_on script u v w (first, e) (later, f) = (first ++ later, f ∙ (ap (steps script later) e ∙ sym (steps_append script first later u)))
-
-pub reached_below : (script : Script) (n : ℕ) (w : WorldAt) → IsReached script w (pass_below n w)
-reached_below script zero w = reached_self script w
-reached_below script (suc n) w = reached_on script w (pass_below n w) (pass_below (suc n) w) (reached_below script n w) (Worker n ∷ [], refl)
-
--- a choice between worlds that are reached
-chosen : (script : Script) (b : Bool) (u v w : WorldAt) → IsReached script u v → IsReached script u w → IsReached script u (elim b [ true ↦ v | false ↦ w ])
-chosen script true u v w x y = x
-chosen script false u v w x y = y
-
-rounds_reached : (n : ℕ) (script : Script) (w : WorldAt) → IsReached script w (rounds n script w)
-rounds_reached zero script w = reached_self script w
-rounds_reached (suc n) script w =
-    chosen script (all_finished script w) w w (rounds n script (round script w)) (reached_self script w)
-    (reached_on script w (round script w) (rounds n script (round script w)) (round_actors script.targets, refl) (rounds_reached n script (round script w)))
-
-drained_reached : (n : ℕ) (script : Script) (w : WorldAt) → IsReached script w (drained_by n w)
-drained_reached zero script w = reached_self script w
-drained_reached (suc n) script w =
-    chosen script (is_settled w) w w (drained_by n (one_pass w)) (reached_self script w)
-    (reached_on script w (one_pass w) (drained_by n (one_pass w)) (reached_below script (length w.workers) w) (drained_reached n script (one_pass w)))
 
 -- what is left after one pass gives the same
 pub drained_next : (n : ℕ) (w v : WorldAt) → 0 < n → is_settled w ≡ false → v ≡ one_pass w → drained_by (n - 1) v ≡ drained_by n w

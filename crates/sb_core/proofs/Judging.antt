@@ -9,7 +9,7 @@ use Rattle.sb_actor.specs.ThreadStages.{ThreadStage, Try, Fill, Send, Wait, Fetc
 use Rattle.sb_actor.specs.WorkerStages.{WorkerStage, WorkerAt}
 use Rattle.sb_actor.specs.WorkerStages as worker
 use Rattle.sb_actor.specs.WorkerTable.{worker_after, worker_plan}
-use Rattle.sb_actor.specs.declared.acts.Observed.{Observed}
+use Rattle.sb_actor.specs.Observations.{Observation}
 use Rattle.sb_block.specs.Copies.{Copied}
 use Rattle.sb_book.specs.Histories.{answered}
 use Rattle.sb_statements.specs.declared.scripts.Script.{Script}
@@ -26,7 +26,7 @@ one_copy : (b : Bool) (x y : WorkerStage) (taken : Copied) → copy_in x ≡ Som
 one_copy true x y taken e f = e
 one_copy false x y taken e f = f
 
-judged : (t channels c : ℕ) (stage : WorkerStage) (seen : Observed) (taken : Copied) → copy_in stage ≡ Some taken
+judged : (t channels c : ℕ) (stage : WorkerStage) (seen : Observation) (taken : Copied) → copy_in stage ≡ Some taken
     → (is_load (worker_plan (record { target = t; channels = channels; channel = c; stage = stage })) ≡ false)
     × ((copy_in (worker_after (record { target = t; channels = channels; channel = c; stage = stage }) seen).stage ≡ Some taken)
     ⊎ ((worker_after (record { target = t; channels = channels; channel = c; stage = stage }) seen).stage ≡ worker.Look))

@@ -7,7 +7,7 @@ use native.Mathlib.Decide.{ℕ_discrete}
 use Rattle.sb_actor.specs.Acts.{ready}
 use Rattle.sb_actor.specs.Ranges.{IsReplyTo, IsSoundStage}
 use Rattle.sb_actor.specs.WorkerStages.{WorkerStage, WorkerAt, Look, Count, End, Copy, Take, Answer, Give, Reply, Ack}
-use Rattle.sb_actor.specs.declared.acts.Observed.{Observed}
+use Rattle.sb_actor.specs.Observations.{Observation}
 use Rattle.sb_actor.specs.WorkerTable.{worker_plan, worker_after, look_next, after_reply}
 use Rattle.sb_block.specs.Copies.{Copied, copied, is_copy, is_end, mark_of}
 use Rattle.sb_block.specs.Packing.{offset_of}
@@ -18,7 +18,8 @@ use Rattle.sb_kernel.specs.Namespaces.{Space}
 use Rattle.sb_statements.specs.declared.statements.Word.{Word}
 use Rattle.sb_core.specs.Kept.{IsRunOf, IsWorkerOf, IsWorld, channels_at, has_turn, is_holder}
 use Rattle.sb_core.specs.Shared.{SharedAt, decided, on_worker}
-use Rattle.sb_core.specs.Words.{exchanged, loaded, place_of, stored, words_of}
+use Rattle.sb_core.specs.Words.{exchanged, loaded, stored, words_of}
+use Rattle.sb_statements.specs.Words.{place_of}
 use Rattle.sb_core.specs.Worlds.{WorldAt, no_worker, run_at, threads_at, worker_at, worker_goes, worker_step}
 use Rattle.sb_core.proofs.Sets.{sizes_set}
 use Rattle.sb_core.proofs.There.{words_listed}
@@ -381,7 +382,7 @@ worker_setting w t kept there =
         (sym e) (step_moves w t channels channel kept there k.its_channels k.within k.few k.sized stage k.sound k.turn).setting
 
 -- what a step of a worker left, by the worker that was found
-pub worker_left : (w : WorldAt) (t : ℕ) (x y z : WorkerAt) (seen : Observed) (s : SharedAt) → x ≡ worker_at w t → y ≡ worker_at w t
+pub worker_left : (w : WorldAt) (t : ℕ) (x y z : WorkerAt) (seen : Observation) (s : SharedAt) → x ≡ worker_at w t → y ≡ worker_at w t
     → seen ≡ (on_worker w.shared t x (worker_plan x)).seen → s ≡ (on_worker w.shared t x (worker_plan x)).shared → z ≡ worker_after y seen
     → record w { shared = s; workers = set w.workers t z } ≡ worker_step w t
 worker_left w t x y z seen s e f g h i =

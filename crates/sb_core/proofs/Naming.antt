@@ -7,7 +7,8 @@ use Rattle.sb_actor.specs.Following.{Tells, act_word, act_wrote}
 use Rattle.sb_actor.specs.declared.acts.Act.{Act}
 use Rattle.sb_actor.specs.declared.acts.Act.TheVariants as act
 use Rattle.sb_core.specs.Shared.{IsActThere, SharedAt, on_word}
-use Rattle.sb_core.specs.Words.{exchanged, loaded, place_of, stored, words_of}
+use Rattle.sb_core.specs.Words.{exchanged, loaded, stored, words_of}
+use Rattle.sb_statements.specs.Words.{place_of}
 
 -- the step is on a word of this target
 abbrev pub names : Act → ℕ → Bool

@@ -34,6 +34,7 @@ use Rattle.sb_core.specs.Threads.{RunAt, no_run}
 use Rattle.sb_core.specs.Views.{AreViews, OwnCall, TargetViews, as_own, calls_at, in_work, own_calls}
 use Rattle.sb_core.specs.Words.{words_of}
 use Rattle.sb_core.specs.Worlds.{WorldAt, start_world, steps, threads_at, worker_at}
+use Rattle.sb_core.proofs.PlacedUnits.{units_are_placed}
 use Rattle.sb_core.proofs.Fitting.{had_results, read, served_entries}
 use Rattle.sb_core.proofs.Belonging.{leads_of, of_end, of_run}
 use Rattle.sb_core.proofs.Reaching.{Good, good_on}
@@ -337,19 +338,19 @@ short_in answered script setting w good =
     legal_short answered w.shared.book.setting (opening w.shared.book.setting.start) w.shared.book.entries good.history.legal
 
 pub reply_own_of : RuleLaws → SoundTargets → SoundStatements → AnswersKeepHistories → RepliesComeBack → AnswersAreShort → WorldsOfScriptsReplyOwn
-reply_own_of laws targets statements answers come answered script w o units =
-    own_in_world script w (ruled_of laws targets statements script units w o) come
+reply_own_of laws targets statements answers come answered script w o =
+    own_in_world script w (ruled_of laws targets statements script (units_are_placed script o.ready.units) w o) come
     (short_in answered script (setting_of o.policies script) w
     (good_on statements answers script (setting_of o.policies script) (start_world o.policies script) w (leads_of script w o) (good_start targets statements o.policies script o.ready)))
 
 pub replies_are_own : RuleLaws → SoundTargets → SoundStatements → AnswersKeepHistories → RepliesComeBack → AnswersAreShort → RepliesAreOwn
-replies_are_own laws targets statements answers come answered policies script actors prepared units there =
+replies_are_own laws targets statements answers come answered policies script actors prepared there =
     reply_own_of laws targets statements answers come answered script (steps script actors (start_world policies script))
-    (record { policies = policies; actors = actors; ready = prepared; there = there; reached = refl }) units
+    (record { policies = policies; actors = actors; ready = prepared; there = there; reached = refl })
 
 pub runs_reply_own : RuleLaws → SoundTargets → SoundStatements → AnswersKeepHistories → RepliesComeBack → AnswersAreShort → RunsReplyOwn
-runs_reply_own laws targets statements answers come answered policies script schedule can units t k l =
+runs_reply_own laws targets statements answers come answered policies script schedule can t k l =
     let w = played policies script schedule in (
-      reply_own_of laws targets statements answers come answered script w (of_run policies script schedule can) units t k l,
-      reply_own_of laws targets statements answers come answered script (drained w) (of_end targets statements policies script schedule can) units t k l,
+      reply_own_of laws targets statements answers come answered script w (of_run policies script schedule can) t k l,
+      reply_own_of laws targets statements answers come answered script (drained w) (of_end targets statements policies script schedule can) t k l,
     )

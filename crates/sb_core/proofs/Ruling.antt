@@ -6,7 +6,7 @@ use Rattle.sb_actor.specs.Fitting.{Suits}
 use Rattle.sb_actor.specs.Places.{thread_start, clean_channels, mark_at, statement_at}
 use Rattle.sb_actor.specs.ThreadFollowing.{GivesUp}
 use Rattle.sb_actor.specs.ThreadTable.{thread_after, thread_plan}
-use Rattle.sb_book.specs.Readiness.{is_ready}
+use Rattle.sb_book.specs.Readiness.{IsReady}
 use Rattle.sb_rule.specs.declared.policies.Policy.{Policy}
 use Rattle.sb_statements.specs.Actors.{is_there, thread_count}
 use Rattle.sb_statements.specs.Soundness.{SoundStatements, SoundTargets, channels_of}
@@ -21,10 +21,11 @@ use Rattle.sb_core.specs.Rules.{AreInRule, RuleHolds, RunsKeepRule, WorldsOfScri
 use Rattle.sb_core.specs.Runs.{played}
 use Rattle.sb_core.specs.Shared.{on_word}
 use Rattle.sb_core.specs.Threads.{RunAt, no_run}
-use Rattle.sb_core.specs.Views.{AreViews, HasUnits, InRule}
+use Rattle.sb_core.specs.Views.{AreViews, InRule}
 use Rattle.sb_core.specs.Words.{free_channels}
 use Rattle.sb_core.specs.Worlds.{WorldAt, first_runs, first_worker, first_workers, no_worker, run_at, start_world, step, steps, threads_at, worker_at, worker_step}
 use Rattle.sb_core.specs.OfScripts.{IsOfScript}
+use Rattle.sb_core.proofs.PlacedUnits.{HasUnits, units_are_placed}
 use Rattle.sb_core.proofs.Belonging.{leads_of, of_end, of_run}
 use Rattle.sb_core.proofs.Keeping.{worker_keeps}
 use Rattle.sb_core.proofs.Opening.{opening_views}
@@ -54,7 +55,7 @@ pub record Ruled (script : Script) (w : WorldAt) : Type 0 where
 
 module _ (laws : RuleLaws) (targets : SoundTargets) (statements : SoundStatements) (script : Script) where
   -- at the start
-  pub ruled_start : (policies : List Policy) → is_ready policies script ≡ true → Ruled script (start_world policies script)
+  pub ruled_start : (policies : List Policy) → IsReady policies script → Ruled script (start_world policies script)
   ruled_start policies h = record {
     kept = kept;
     runs = runs;
@@ -159,15 +160,15 @@ module _ (laws : RuleLaws) (targets : SoundTargets) (statements : SoundStatement
 
 -- each target of each world of a script
 pub rules_of : RuleLaws → SoundTargets → SoundStatements → WorldsOfScriptsKeepRule
-rules_of laws targets statements script w o units = rule_of laws targets statements script w (ruled_of laws targets statements script units w o)
+rules_of laws targets statements script w o = rule_of laws targets statements script w (ruled_of laws targets statements script (units_are_placed script o.ready.units) w o)
 
 pub rule_holds : RuleLaws → SoundTargets → SoundStatements → RuleHolds
-rule_holds laws targets statements policies script actors ready units there =
+rule_holds laws targets statements policies script actors ready there =
     rules_of laws targets statements script (steps script actors (start_world policies script))
-    (record { policies = policies; actors = actors; ready = ready; there = there; reached = refl }) units
+    (record { policies = policies; actors = actors; ready = ready; there = there; reached = refl })
 
 pub runs_keep_rule : RuleLaws → SoundTargets → SoundStatements → RunsKeepRule
-runs_keep_rule laws targets statements policies script schedule can units = (
-  rules_of laws targets statements script (played policies script schedule) (of_run policies script schedule can) units,
-  rules_of laws targets statements script (drained (played policies script schedule)) (of_end targets statements policies script schedule can) units,
+runs_keep_rule laws targets statements policies script schedule can = (
+  rules_of laws targets statements script (played policies script schedule) (of_run policies script schedule can),
+  rules_of laws targets statements script (drained (played policies script schedule)) (of_end targets statements policies script schedule can),
 )

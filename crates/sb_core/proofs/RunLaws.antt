@@ -8,7 +8,7 @@ use Rattle.sb_actor.specs.Places.{is_finished, or_none, statement_at, statements
 use Rattle.sb_actor.specs.WorkerTable.{is_looking}
 use Rattle.sb_book.specs.Histories.{IsHistory, setting_of}
 use Rattle.sb_book.specs.Laws.{AnswersKeepHistories}
-use Rattle.sb_book.specs.Readiness.{is_ready}
+use Rattle.sb_book.specs.Readiness.{IsReady}
 use Rattle.sb_rule.specs.declared.policies.Policy.{Policy}
 use Rattle.sb_statements.specs.Soundness.{SoundStatements, SoundTargets, channels_of}
 use Rattle.sb_statements.specs.declared.results.StmtResult.{StmtResult}
@@ -36,7 +36,7 @@ use Rattle.sb_core.proofs.There.{as_many, targets_there}
 pub none_of : (i : ℕ) (r : StmtResult) → ◌≡◌ {A = Option StmtResult} (slice_get [] i) (Some r) → ⊥
 none_of i r e = cc
 
-module _ (targets_law : SoundTargets) (statements_law : SoundStatements) (policies : List Policy) (script : Script) (prepared : is_ready policies script ≡ true) where
+module _ (targets_law : SoundTargets) (statements_law : SoundStatements) (policies : List Policy) (script : Script) (prepared : IsReady policies script) where
   pub good_start : Good script (setting_of policies script) (start_world policies script)
   good_start = record {
     kept = starts_world targets_law statements_law policies script prepared;

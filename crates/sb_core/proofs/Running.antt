@@ -35,7 +35,8 @@ plans_are_there law script w (Thread t k) kept runs e = thread_there script w ke
 -- a step of a worker leaves the threads and the setting
 pub worker_runs : (script : Script) (w : WorldAt) (t : ℕ) → IsWorld w → IsRunning script w → t < length w.workers → IsRunning script (worker_step w t)
 worker_runs script w t kept runs there = record {
-  sound = runs.sound;
+  policies = runs.policies;
+  ready = runs.ready;
   channels = ap (λ setting. setting.channels) (worker_setting w t kept there) ∙ runs.channels;
   targets = runs.targets;
   threads = runs.threads;

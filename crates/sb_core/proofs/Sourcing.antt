@@ -13,7 +13,8 @@ use Rattle.sb_statements.specs.declared.scripts.Script.{Script}
 use Rattle.sb_statements.specs.declared.statements.Word.{Word}
 use Rattle.sb_core.specs.Origins.{AreSourcedCopies, AreSourcedWords, HasBlockSource, HasSource, HasStateSource, IsSourcedCopy, IsSourcedReply}
 use Rattle.sb_core.specs.Shared.{IsActThere, SharedAt, on_word}
-use Rattle.sb_core.specs.Words.{loaded, place_of, stored, words_of}
+use Rattle.sb_core.specs.Words.{loaded, stored, words_of}
+use Rattle.sb_statements.specs.Words.{place_of}
 
 -- an element of a front
 pub in_front : {X : Type 0} (xs : List X) (y : X) (n : ℕ) (x : X) → slice_get xs n ≡ Some x → slice_get (xs ++ y ∷ []) n ≡ Some x

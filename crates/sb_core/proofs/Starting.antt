@@ -8,10 +8,8 @@ use Rattle.std.specs.List.{list_all}
 use Rattle.std.specs.Prelude.{is_ok}
 use native.Mathlib.Decide.{ℕ_discrete}
 use Rattle.sb_actor.specs.Places.{thread_start, clean_channels, clean_upto, mark_at, statement_at, statements_of}
-use Rattle.sb_book.specs.Readiness.{is_judged, is_ready}
-use Rattle.sb_kernel.specs.Openings.{opened}
+use Rattle.sb_book.specs.Readiness.{IsReady}
 use Rattle.sb_rule.specs.Verdicts.{policy_at}
-use Rattle.sb_rule.specs.WellMade.{are_well_made}
 use Rattle.sb_rule.specs.declared.policies.Policy.{Policy}
 use Rattle.sb_statements.specs.Scripts.{is_clean}
 use Rattle.sb_statements.specs.Soundness.{SoundStatements, SoundTargets, channels_of, is_sound}
@@ -23,18 +21,9 @@ use Rattle.sb_core.specs.Laws.{StartsKeep}
 use Rattle.sb_core.specs.Threads.{RunAt, no_run}
 use Rattle.sb_core.specs.Words.{free_channel, free_channels, words_of}
 use Rattle.sb_core.specs.Worlds.{WorldAt, first_run, first_runs, first_words, first_worker, first_workers, no_worker, run_at, start_threads, start_world, threads_at}
-use Rattle.sb_core.proofs.Bounds.{few_targets, some_channels, some_patience}
+use Rattle.sb_core.proofs.Bounds.{few_targets, ready_sound, some_channels, some_patience}
 use Rattle.sb_core.proofs.There.{channels_from, listed, sound_at}
 use Rattle.sb_core.proofs.ThreadKeeping.{first_calling, first_over, first_short, first_sound}
-
--- a script that is ready is sound
-pub ready_sound : (policies : List Policy) (script : Script) → is_ready policies script ≡ true → is_sound script ≡ true
-ready_sound policies script h =
-    let made = are_well_made policies in
-    let judged = list_all (is_judged (length policies)) script.targets in
-    let all = and_parts (is_sound script && made && judged) (is_ok (opened script.start)) h in
-    let some = and_parts (is_sound script && made) judged all.0 in
-    (and_parts (is_sound script) made some.0).0
 
 -- lists of the first this many
 module _ {X : Type 0} (f : ℕ → X) (g : ℕ → List X) (none : g zero ≡ []) (more : (n : ℕ) → g (suc n) ≡ g n ++ f n ∷ []) where
@@ -89,7 +78,7 @@ clean_length script target n = so_many (is_clean script target) (clean_upto scri
 pub clean_in_list : (script : Script) (target c : ℕ) → c < channels_of (slice_get script.targets target) → get_or (clean_channels script target) c false ≡ is_clean script target c
 clean_in_list script target c l = each_is (is_clean script target) (clean_upto script target) refl (λ n. refl) (channels_of (slice_get script.targets target)) c false l
 
-module _ (targets_law : SoundTargets) (statements_law : SoundStatements) (policies : List Policy) (script : Script) (h : is_ready policies script ≡ true) where
+module _ (targets_law : SoundTargets) (statements_law : SoundStatements) (policies : List Policy) (script : Script) (h : IsReady policies script) where
   sound : is_sound script ≡ true
   sound = ready_sound policies script h
 
@@ -211,7 +200,8 @@ module _ (targets_law : SoundTargets) (statements_law : SoundStatements) (polici
 
   pub starts_running : IsRunning script start
   starts_running = record {
-    sound = sound;
+    policies = policies;
+    ready = h;
     channels = refl;
     targets = lists_count;
     threads = counts;

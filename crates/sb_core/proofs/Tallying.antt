@@ -15,7 +15,7 @@ use Rattle.sb_actor.specs.WorkerTable.{worker_plan}
 use Rattle.sb_actor.specs.declared.acts.Act.{Act}
 use Rattle.sb_actor.specs.declared.acts.Act.TheVariants as act
 use Rattle.sb_book.specs.Histories.{entry_of}
-use Rattle.sb_book.specs.Readiness.{is_ready}
+use Rattle.sb_book.specs.Readiness.{IsReady}
 use Rattle.sb_book.specs.declared.entries.Entry.{Entry}
 use Rattle.sb_rule.specs.declared.policies.Policy.{Policy}
 use Rattle.sb_statements.specs.Actors.{is_there}
@@ -32,8 +32,10 @@ use Rattle.sb_core.specs.Runs.{CanRun, ended, played}
 use Rattle.sb_core.specs.Shared.{IsActThere, SharedAt, decided, on_word, on_worker}
 use Rattle.sb_core.specs.Tallies.{WorldsAreFew, has_sent, tally_all, tally_row, tally_so_far, EntriesAreFew, entries_on, is_state, one_if, tally_from, tally_targets, tally_threads}
 use Rattle.sb_core.specs.Threads.{RunAt, first_unfinished, no_run}
-use Rattle.sb_core.specs.Words.{free_channels, loaded, place_of, stored, words_of}
+use Rattle.sb_core.specs.Words.{free_channels, loaded, stored, words_of}
+use Rattle.sb_statements.specs.Words.{place_of}
 use Rattle.sb_core.specs.Worlds.{WorldAt, first_worker, first_workers, no_worker, run_at, start_world, step, threads_at, worker_at, worker_goes, worker_step}
+use Rattle.sb_core.proofs.Bounds.{ready_sound}
 use Rattle.sb_core.proofs.Draining.{drained_threads}
 use Rattle.sb_core.proofs.Judging.{none_behind, over_is}
 use Rattle.sb_core.proofs.Keeping.{step_moves, worker_keeps}
@@ -260,7 +262,7 @@ module _ (targets : SoundTargets) (statements : SoundStatements) (script : Scrip
           let act_there = thread_there script w r.kept r.runs t k there statements in
           let sizes = (word_keeps w.shared plan act_there).sizes u in
           let inside : at c 0 < length (words_of w.shared.words u) = subst (λ n. at c 0 < n) sizes m in
-          let good = sound_at script y.target y.thread y.place r.runs.sound statements in
+          let good = sound_at script y.target y.thread y.place (ready_sound r.runs.policies script r.runs.ready) statements in
           let seen = (on_word w.shared plan).seen in
           let next = thread_after script y seen in
           let z : RunAt = record { thread = next.thread; results = x.results ++ option_to_list next.ended } in
@@ -296,7 +298,7 @@ module _ (targets : SoundTargets) (statements : SoundStatements) (script : Scrip
       let one : slice_index (free_channels n) (at c 0) ≡ 1 = opened n (at c 0) l ∙ ap (λ z. if z == 0 then 1 else 0) whole in
       ap (λ z. one_if (z == 3)) one
 
-  tallied_start : (policies : List Policy) → is_ready policies script ≡ true → Tallied script (start_world policies script)
+  tallied_start : (policies : List Policy) → IsReady policies script → Tallied script (start_world policies script)
   tallied_start policies h = record {
     kept = kept;
     runs = runs;

@@ -20,6 +20,7 @@ use Rattle.sb_core.specs.Kept.{IsRunning, IsWorld, channels_at}
 use Rattle.sb_core.specs.Laws.{HasTarget}
 use Rattle.sb_core.specs.Shared.{IsActThere}
 use Rattle.sb_core.specs.Words.{IsWordThere, words_of}
+use Rattle.sb_core.proofs.Bounds.{ready_sound}
 use Rattle.sb_core.specs.Worlds.{WorldAt, run_at, threads_at, worker_at}
 
 inside : (c channels j n : ℕ) → c < channels → j ≤ 64 → n ≡ channels * 65 → c * 65 + j < n
@@ -190,4 +191,4 @@ module _ (script : Script) (w : WorldAt) (kept : IsWorld w) (runs : IsRunning sc
       let same : (worker_at w t).channels ≡ length x.clean = worker.its_channels ∙ sym y.its_channels in
       let mine : length (words_of w.shared.words x.target) ≡ length x.clean * 65 =
       subst (λ z. length (words_of w.shared.words z) ≡ length x.clean * 65) (sym y.its_target) (worker.sized ∙ ap (λ z. z * 65) same) in
-      thread_act script w x targets_there low (subst (λ z. z ≤ 8) same worker.few) here mine y.short (sound_at script x.target x.thread x.place runs.sound law) x.stage y.sound
+      thread_act script w x targets_there low (subst (λ z. z ≤ 8) same worker.few) here mine y.short (sound_at script x.target x.thread x.place (ready_sound runs.policies script runs.ready) law) x.stage y.sound

@@ -10,7 +10,7 @@ use Rattle.sb_actor.specs.ThreadStages.{ThreadStage, ThreadAt}
 use Rattle.sb_actor.specs.ThreadTable.{ThreadNext, ends, goes_on, thread_after, thread_plan}
 use Rattle.sb_actor.specs.declared.acts.Act.{Act}
 use Rattle.sb_actor.specs.declared.acts.Act.TheVariants as act
-use Rattle.sb_actor.specs.declared.acts.Observed.{Observed}
+use Rattle.sb_actor.specs.Observations.{Observation}
 use Rattle.sb_block.specs.Blocks.{block}
 use Rattle.sb_call.specs.Arguments.{fits}
 use Rattle.sb_statements.specs.Limits.{most_statements}
@@ -24,9 +24,10 @@ use Rattle.sb_statements.specs.declared.statements.Statement.TheVariants as stat
 use Rattle.sb_core.specs.Kept.{IsAtStatement, IsRunOf, IsRunning, IsWorkerOf, IsWorld, channels_at, is_calling, is_holder, is_over}
 use Rattle.sb_core.specs.Shared.{IsActThere, SharedAt, on_word}
 use Rattle.sb_core.specs.Threads.{HasRoom, RunAt, no_run, thread_step}
-use Rattle.sb_core.specs.Words.{exchanged, loaded, place_of, stored, words_of}
+use Rattle.sb_core.specs.Words.{exchanged, loaded, stored, words_of}
+use Rattle.sb_statements.specs.Words.{place_of}
 use Rattle.sb_core.specs.Worlds.{WorldAt, run_at, step, threads_at, worker_at}
-use Rattle.sb_core.proofs.Bounds.{few_statements, some_patience}
+use Rattle.sb_core.proofs.Bounds.{few_statements, ready_sound, some_patience}
 use Rattle.sb_core.proofs.Sets.{each_set, lengths_set, sizes_set}
 use Rattle.sb_core.proofs.There.{listed, sound_at, thread_there}
 use Rattle.sb_core.proofs.ThreadRows.{IsOwnResult, row_leads}
@@ -143,7 +144,7 @@ module _ (script : Script) (x : ThreadAt) (sound : is_sound script ≡ true) (la
         own = own;
       }
 
-  pub leads : (stage : ThreadStage) → stage ≡ x.stage → IsSoundThreadStage (length x.clean) x.patience x.block x.stage → (seen : Observed)
+  pub leads : (stage : ThreadStage) → stage ≡ x.stage → IsSoundThreadStage (length x.clean) x.patience x.block x.stage → (seen : Observation)
       → Leads script x (thread_after script x seen)
   leads stage e s seen =
       row_leads script x (Leads script x) waits x.stage s at.calling at.over goes_leads ends_leads
@@ -220,11 +221,11 @@ module _ (script : Script) (w : WorldAt) (t k : ℕ) (kept : IsWorld w) (runs : 
       omega (arith, inside, same)
 
   waits : 0 < mine.thread.patience
-  waits = subst (λ z. 0 < z) (sym (runs.stands t k there).patience) (some_patience script runs.sound)
+  waits = subst (λ z. 0 < z) (sym (runs.stands t k there).patience) (some_patience script (ready_sound runs.policies script runs.ready))
 
   pub facts : Leads script mine.thread n
   facts =
-      leads script mine.thread runs.sound law some_clean waits (kept.threads t k there).short (runs.stands t k there) mine.thread.stage refl
+      leads script mine.thread (ready_sound runs.policies script runs.ready) law some_clean waits (kept.threads t k there).short (runs.stands t k there) mine.thread.stage refl
       (kept.threads t k there).sound (on_word w.shared (thread_plan script mine.thread)).seen
 
   channels_stay : (u : ℕ) → channels_at after u ≡ channels_at w u
@@ -282,7 +283,8 @@ module _ (script : Script) (w : WorldAt) (t k : ℕ) (kept : IsWorld w) (runs : 
 
   pub thread_runs : IsRunning script after
   thread_runs = record {
-    sound = runs.sound;
+    policies = runs.policies;
+    ready = runs.ready;
     channels = ap (λ book. book.setting.channels) keeps.book ∙ runs.channels;
     targets = length-set w.threads t (set (threads_at w t) k y) ∙ runs.targets;
     threads = λ u. lengths_set (λ u j x. Unit {0}) no_run w.threads t k y listed_here there u ∙ runs.threads u;
@@ -297,7 +299,7 @@ module _ (script : Script) (w : WorldAt) (t k : ℕ) (kept : IsWorld w) (runs : 
       by_ended None h = tt
       by_ended (Some r) h =
           let inside = within (statements_of script mine.thread.target mine.thread.thread) mine.thread.place h.0 h.1 in
-          let few = few_statements targets script runs.sound mine.thread.target mine.thread.thread in
+          let few = few_statements targets script (ready_sound runs.policies script runs.ready) mine.thread.target mine.thread.thread in
           let counted = (kept.threads t k there).counted in
           omega (arith, inside, few, counted)
 

@@ -8,7 +8,7 @@ use Rattle.sb_actor.specs.Places.{is_call, mark_at, statement_at}
 use Rattle.sb_actor.specs.Ranges.{IsSoundThreadStage}
 use Rattle.sb_actor.specs.ThreadStages.{ThreadStage, ThreadAt, Try, Fill, Send, Wait, Fetch, Free, Abandon, Stray, Over}
 use Rattle.sb_actor.specs.ThreadTable.{ThreadNext, after_round, after_try, ends, goes_on, has_clean, is_clean_at, reply_by, stays, stray_row, thread_row}
-use Rattle.sb_actor.specs.declared.acts.Observed.{Observed}
+use Rattle.sb_actor.specs.Observations.{Observation}
 use Rattle.sb_block.specs.Replies.{read_reply}
 use Rattle.sb_statements.specs.declared.results.CallResult.TheVariants as call
 use Rattle.sb_statements.specs.declared.results.CallResult.{CallResult}
@@ -78,7 +78,7 @@ module _ (script : Script) (x : ThreadAt) (P : ThreadNext → Type 0) (some_pati
         (λ f. let ne = not_same (c + 1) (length x.clean) f in
         goes (Try (c + 1) rounds (all_abandoned && found == abandoned)) (omega (arith, ne, within), low, block) refl refl))
 
-    call_row : (stage : ThreadStage) → IsSoundThreadStage (length x.clean) x.patience x.block stage → is_calling stage ≡ true → (seen : Observed)
+    call_row : (stage : ThreadStage) → IsSoundThreadStage (length x.clean) x.patience x.block stage → is_calling stage ≡ true → (seen : Observation)
         → P ((thread_row script x stage).next seen)
     call_row (Try c rounds all_abandoned) s h seen = try_row c rounds all_abandoned (value_in seen) s.0 s.1 s.2
     call_row (Fill c i) s h seen =
@@ -116,7 +116,7 @@ module _ (script : Script) (x : ThreadAt) (P : ThreadNext → Type 0) (some_pati
   module _ (goes : (loads most : ℕ) → loads < most → P (goes_on x (Stray loads most)))
       (over : (r : StmtResult) → IsOwnResult script x r → P (ends script x r)) where
     by_statement : (o : Option Statement) → statement_at script x.target x.thread x.place ≡ o → is_call o ≡ false → is_none o ≡ false
-        → (loads most : ℕ) → loads < most → (seen : Observed) → P ((stray_row script x loads most o).next seen)
+        → (loads most : ℕ) → loads < most → (seen : Observation) → P ((stray_row script x loads most o).next seen)
     by_statement (Some (statement.Call tag args)) e h n loads most low seen = absurd (cc)
     by_statement (Some (statement.Store t word value)) e h n loads most low seen = over result.Stored (statement.Store t word value, e, refl)
     by_statement (Some (statement.Exchange t word from to)) e h n loads most low seen =
@@ -136,7 +136,7 @@ pub row_leads : (script : Script) (x : ThreadAt) (P : ThreadNext → Type 0) →
     → IsSoundThreadStage (length x.clean) x.patience x.block stage
     → is_calling stage ≡ is_call (statement_at script x.target x.thread x.place) → is_over stage ≡ is_none (statement_at script x.target x.thread x.place)
     → ((s : ThreadStage) → IsSoundThreadStage (length x.clean) x.patience x.block s → is_calling s ≡ is_calling stage → is_over s ≡ is_over stage → P (goes_on x s))
-    → ((r : StmtResult) → IsOwnResult script x r → P (ends script x r)) → P (stays x) → (seen : Observed) → P ((thread_row script x stage).next seen)
+    → ((r : StmtResult) → IsOwnResult script x r → P (ends script x r)) → P (stays x) → (seen : Observation) → P ((thread_row script x stage).next seen)
 row_leads script x P some (Try c rounds all_abandoned) s calls none goes over still seen =
     call_row script x P some (sym calls) (λ u v a b. goes u v a b) over (Try c rounds all_abandoned) s refl seen
 row_leads script x P some (Fill c i) s calls none goes over still seen =

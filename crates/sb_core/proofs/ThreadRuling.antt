@@ -16,7 +16,7 @@ use Rattle.sb_actor.specs.ThreadStages as thread
 use Rattle.sb_actor.specs.ThreadTable.{ThreadNext, ends, goes_on, stray_row, thread_after, thread_plan}
 use Rattle.sb_actor.specs.Ties.{thread_deed, thread_place_of}
 use Rattle.sb_actor.specs.declared.acts.Act.{Act}
-use Rattle.sb_actor.specs.declared.acts.Observed.{Observed}
+use Rattle.sb_actor.specs.Observations.{Observation}
 use Rattle.sb_actor.specs.Views.{Served}
 use Rattle.sb_block.specs.Blocks.{block}
 use Rattle.sb_block.specs.Layout.{mark_in}
@@ -30,11 +30,12 @@ use Rattle.sb_statements.specs.declared.statements.Statement.TheVariants as stat
 use Rattle.sb_core.specs.Kept.{IsRunning, IsWorld, is_calling}
 use Rattle.sb_core.specs.Shared.{IsActThere, SharedAt, on_word}
 use Rattle.sb_core.specs.Threads.{RunAt}
-use Rattle.sb_core.specs.Views.{AreViews, HasUnits, InRule, OwnCall, TargetViews, calls_at, own_calls, own_from, own_of}
+use Rattle.sb_core.specs.Views.{AreViews, InRule, OwnCall, TargetViews, calls_at, own_calls, own_from, own_of}
 use Rattle.sb_core.specs.Words.{words_of}
 use Rattle.sb_core.specs.Worlds.{WorldAt, run_at, step, threads_at, worker_at}
-use Rattle.sb_core.proofs.ByHand.{by_hand}
-use Rattle.sb_core.proofs.Bounds.{few_statements}
+use Rattle.sb_core.proofs.PlacedUnits.{HasUnits}
+use Rattle.sb_core.proofs.DirectStores.{by_hand}
+use Rattle.sb_core.proofs.Bounds.{few_statements, ready_sound}
 use Rattle.sb_core.proofs.Learning.{learned}
 use Rattle.sb_core.proofs.Naming.{named_words, names, other_words, tells}
 use Rattle.sb_core.proofs.Opening.{first_place}
@@ -84,7 +85,7 @@ call_deed block (thread.Stray loads most) e = absurd (cc)
 call_deed block thread.Over e = absurd (cc)
 
 -- what was learned is of the value that the step found
-learned_here : (script : Script) (x : ThreadAt) (stage : ThreadStage) (n : ℕ) (seen : Observed) → (is_calling stage ≡ true → Tells (thread_plan script (record x { stage = stage })) n seen)
+learned_here : (script : Script) (x : ThreadAt) (stage : ThreadStage) (n : ℕ) (seen : Observation) → (is_calling stage ≡ true → Tells (thread_plan script (record x { stage = stage })) n seen)
     → Learns script x stage n → Learns script x stage (value_in seen)
 learned_here script x (thread.Try c rounds all_abandoned) n seen t l = subst (λ z. Learns script x (thread.Try c rounds all_abandoned) z) (sym (t refl)) l
 learned_here script x (thread.Fill c i) n seen t l = l
@@ -114,7 +115,7 @@ pick_place false x y e f = f
 ends_place : (script : Script) (x : ThreadAt) (r : StmtResult) → thread_place_of (ends script x r).thread.block (ends script x r).thread.stage ≡ no_call
 ends_place script x r = first_place (mark_at x.thread (x.place + 1)) (statement_at script x.target x.thread (x.place + 1))
 
-stray_place : (script : Script) (x : ThreadAt) (loads most : ℕ) (o : Option Statement) (seen : Observed) → thread_place_of x.block x.stage ≡ no_call
+stray_place : (script : Script) (x : ThreadAt) (loads most : ℕ) (o : Option Statement) (seen : Observation) → thread_place_of x.block x.stage ≡ no_call
     → thread_place_of ((stray_row script x loads most o).next seen).thread.block ((stray_row script x loads most o).next seen).thread.stage ≡ no_call
 stray_place script x loads most (Some (statement.Store t word value)) seen e = ends_place script x result.Stored
 stray_place script x loads most (Some (statement.Exchange t word from to)) seen e = ends_place script x (result.Found (value_in seen))
@@ -137,7 +138,7 @@ quiet_before block (thread.Abandon c) e = absurd (cc)
 quiet_before block (thread.Stray loads most) e = refl
 quiet_before block thread.Over e = refl
 
-quiet_after : (script : Script) (x : ThreadAt) (stage : ThreadStage) → is_calling stage ≡ false → (seen : Observed)
+quiet_after : (script : Script) (x : ThreadAt) (stage : ThreadStage) → is_calling stage ≡ false → (seen : Observation)
     → thread_place_of (thread_after script (record x { stage = stage }) seen).thread.block (thread_after script (record x { stage = stage }) seen).thread.stage ≡ no_call
 quiet_after script x (thread.Try c rounds all_abandoned) e seen = absurd (cc)
 quiet_after script x (thread.Fill c i) e seen = absurd (cc)
@@ -176,7 +177,7 @@ module _ (laws : RuleLaws) (law : SoundStatements) (bounds : SoundTargets) (scri
   abbrev s : SharedAt
   s = (on_word w.shared plan).shared
 
-  abbrev seen : Observed
+  abbrev seen : Observation
   seen = (on_word w.shared plan).seen
 
   abbrev n : ThreadNext
@@ -212,9 +213,9 @@ module _ (laws : RuleLaws) (law : SoundStatements) (bounds : SoundTargets) (scri
   whole_block : (o : Option Statement) → here ≡ o → is_call o ≡ true → IsBlock y.thread (block_of (mark_at y.thread y.place) o)
   whole_block (Some (statement.Call tag args)) e h =
       let good : is_statement script.targets (statement.Call tag args) ≡ true = subst (λ (o : Option Statement). IfSome o (λ s. is_statement script.targets s ≡ true)) e
-      (sound_at script y.target y.thread y.place runs.sound law) in
+      (sound_at script y.target y.thread y.place (ready_sound runs.policies script runs.ready) law) in
       let low = within (statements_of script y.target y.thread) y.place (statement.Call tag args) e in
-      let few = few_statements bounds script runs.sound y.target y.thread in
+      let few = few_statements bounds script (ready_sound runs.policies script runs.ready) y.target y.thread in
       laws.blocks tag args y.thread y.place good (units y.target y.thread y.place tag args e) (omega (arith, low, few))
   whole_block (Some (statement.Store u word value)) e h = absurd (cc)
   whole_block (Some (statement.Exchange u word from to)) e h = absurd (cc)
@@ -290,7 +291,7 @@ module _ (laws : RuleLaws) (law : SoundStatements) (bounds : SoundTargets) (scri
       by_stage (thread.Free c words) q f g = absurd (cc)
       by_stage (thread.Abandon c) q f g = absurd (cc)
       by_stage (thread.Stray loads most) q f g =
-          by_hand script (record y { stage = thread.Stray loads most }) loads most here refl (sound_at script y.target y.thread y.place runs.sound law) u g
+          by_hand script (record y { stage = thread.Stray loads most }) loads most here refl (sound_at script y.target y.thread y.place (ready_sound runs.policies script runs.ready) law) u g
       by_stage thread.Over q f g = absurd (cc)
 
       by_name : (b : Bool) → names plan u ≡ b → (views : TargetViews) × AreViews script u (words_of s.words u) (calls_at u w.shared.book.entries) (worker_at w u) (threads_at w u) views

@@ -9,7 +9,7 @@ use Rattle.sb_actor.specs.Places.{block_of, first_stage, is_call, mark_at, state
 use Rattle.sb_actor.specs.Ranges.{IsSoundThreadStage}
 use Rattle.sb_actor.specs.ThreadStages.{ThreadStage, ThreadAt, Try, Fill, Send, Wait, Fetch, Free, Abandon, Stray, Over}
 use Rattle.sb_actor.specs.ThreadTable.{ThreadNext, after_round, ends, goes_on, has_clean, is_clean_at, stray_row, thread_plan, thread_row}
-use Rattle.sb_actor.specs.declared.acts.Observed.{Observed}
+use Rattle.sb_actor.specs.Observations.{Observation}
 use Rattle.sb_block.specs.Replies.{read_reply}
 use Rattle.sb_book.specs.declared.entries.Entry.{Entry}
 use Rattle.sb_statements.specs.Soundness.{channels_of, is_statement, has_word}
@@ -159,7 +159,7 @@ module _ (script : Script) (es : List Entry) (x : ThreadAt) where
     reply_shown c words n h true = sourced_reply script es x.target c words n h
     reply_shown c words n h false = h 0 (omega (arith, n))
 
-    call_traces : (stage : ThreadStage) → IsSoundThreadStage (length x.clean) x.patience x.block stage → is_calling stage ≡ true → IsTracedThread script es x.target stage → (seen : Observed)
+    call_traces : (stage : ThreadStage) → IsSoundThreadStage (length x.clean) x.patience x.block stage → is_calling stage ≡ true → IsTracedThread script es x.target stage → (seen : Observation)
         → Finds script es x stage (value_in seen) → Traces script es x ((thread_row script x stage).next seen)
     call_traces (Try c rounds all_abandoned) s h w seen l =
         let found = value_in seen in
@@ -187,7 +187,7 @@ module _ (script : Script) (es : List Entry) (x : ThreadAt) where
     call_traces (Stray loads most) s h w seen l = absurd (cc)
     call_traces Over s h w seen l = absurd (cc)
 
-  stray_traces : (loads most : ℕ) (o : Option Statement) → here ≡ o → is_call o ≡ false → is_none o ≡ false → (seen : Observed) → FindsAt script es o (value_in seen)
+  stray_traces : (loads most : ℕ) (o : Option Statement) → here ≡ o → is_call o ≡ false → is_none o ≡ false → (seen : Observation) → FindsAt script es o (value_in seen)
       → Traces script es x ((stray_row script x loads most o).next seen)
   stray_traces loads most (Some (statement.Call tag args)) e h n seen l = absurd (cc)
   stray_traces loads most (Some (statement.Store t word value)) e h n seen l = over result.Stored (statement.Store t word value, e, tt)
@@ -203,7 +203,7 @@ module _ (script : Script) (es : List Entry) (x : ThreadAt) where
 
   -- each row
   pub row_traces : (stage : ThreadStage) → x.stage ≡ stage → IsSoundThreadStage (length x.clean) x.patience x.block stage → is_calling stage ≡ is_call here → is_over stage ≡ is_none here
-      → IsTracedThread script es x.target stage → (seen : Observed) → Finds script es x stage (value_in seen) → Traces script es x ((thread_row script x stage).next seen)
+      → IsTracedThread script es x.target stage → (seen : Observation) → Finds script es x stage (value_in seen) → Traces script es x ((thread_row script x stage).next seen)
   row_traces (Try c rounds all_abandoned) at s calls none w seen l = call_traces (sym calls) (Try c rounds all_abandoned) s refl w seen l
   row_traces (Fill c i) at s calls none w seen l = call_traces (sym calls) (Fill c i) s refl w seen l
   row_traces (Send c) at s calls none w seen l = call_traces (sym calls) (Send c) s refl w seen l

@@ -8,7 +8,7 @@ use Rattle.sb_actor.specs.ThreadStages.{ThreadStage, ThreadAt, Try, Fill, Send, 
 use Rattle.sb_actor.specs.ThreadTable.{ThreadNext, ends, goes_on, is_clean_at, stray_row, thread_plan, thread_row}
 use Rattle.sb_actor.specs.declared.acts.Act.{Act}
 use Rattle.sb_actor.specs.declared.acts.Act.TheVariants as act
-use Rattle.sb_actor.specs.declared.acts.Observed.{Observed}
+use Rattle.sb_actor.specs.Observations.{Observation}
 use Rattle.sb_block.specs.Replies.{read_reply}
 use Rattle.sb_statements.specs.declared.results.CallResult.TheVariants as call
 use Rattle.sb_statements.specs.declared.results.StmtResult.{StmtResult}
@@ -110,7 +110,7 @@ module _ (script : Script) (t c : ℕ) (x : ThreadAt) where
   reply_ends d false words = refl
 
   -- each row of a call
-  call_counted : (stage : ThreadStage) → is_calling stage ≡ true → (seen : Observed)
+  call_counted : (stage : ThreadStage) → is_calling stage ≡ true → (seen : Observation)
       → IsCounted script t c x stage (one_if (readies t c (thread_plan script (record x { stage = stage })) (value_in seen))) ((thread_row script x stage).next seen)
   call_counted (Try d rounds all_abandoned) h seen =
       any (Try d rounds all_abandoned) _ ((thread_row script x (Try d rounds all_abandoned)).next seen) refl (state_none mine (d == c) (value_in seen == 1 && false) (and_none (value_in seen == 1)))
@@ -146,7 +146,7 @@ module _ (script : Script) (t c : ℕ) (x : ThreadAt) where
   call_counted Over h seen = absurd (cc)
 
   -- a statement that names a word
-  stray_counted : (y : ThreadAt) (loads most : ℕ) (o : Option Statement) → here ≡ o → (seen : Observed) → has_sent c y.stage ≡ false
+  stray_counted : (y : ThreadAt) (loads most : ℕ) (o : Option Statement) → here ≡ o → (seen : Observation) → has_sent c y.stage ≡ false
       → one_if (x.target == t && has_sent c (Stray loads most)) + one_if (readies t c (stray_row script y loads most o).step (value_in seen))
       ≤ one_if (x.target == t && has_sent c ((stray_row script x loads most o).next seen).thread.stage) + tally_in t c x.target o ((stray_row script x loads most o).next seen).ended
   stray_counted y loads most (Some (statement.Call tag args)) e seen f = let zero_sent = none_sent mine in omega (arith, zero_sent)
@@ -157,7 +157,7 @@ module _ (script : Script) (t c : ℕ) (x : ThreadAt) where
   stray_counted y loads most None e seen f = let zero_sent = none_sent mine in omega (arith, zero_sent)
 
   -- each row
-  pub row_counted : (stage : ThreadStage) → (seen : Observed)
+  pub row_counted : (stage : ThreadStage) → (seen : Observation)
       → IsCounted script t c x stage (one_if (readies t c (thread_plan script (record x { stage = stage })) (value_in seen))) ((thread_row script x stage).next seen)
   row_counted (Try d rounds all_abandoned) seen = call_counted (Try d rounds all_abandoned) refl seen
   row_counted (Fill d i) seen = call_counted (Fill d i) refl seen

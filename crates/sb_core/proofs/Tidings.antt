@@ -12,7 +12,7 @@ use Rattle.sb_actor.specs.Ranges.{IsSoundThreadStage}
 use Rattle.sb_actor.specs.ThreadStages.{ThreadStage, ThreadAt, Try, Fill, Send, Wait, Fetch, Free, Abandon, Stray, Over}
 use Rattle.sb_actor.specs.ThreadTable.{ThreadNext, after_round, ends, goes_on, has_clean, is_clean_at, stray_row, thread_row}
 use Rattle.sb_actor.specs.Ties.{thread_deed, thread_place_of}
-use Rattle.sb_actor.specs.declared.acts.Observed.{Observed}
+use Rattle.sb_actor.specs.Observations.{Observation}
 use Rattle.sb_block.specs.Layout.{mark_in}
 use Rattle.sb_block.specs.Replies.{read_reply}
 use Rattle.sb_statements.specs.declared.results.CallResult.TheVariants as call
@@ -212,7 +212,7 @@ module _ (script : Script) (x : ThreadAt) where
         on_ends (Free c words) (call.Foreign c (slice_index words 0)) (unclean_at x.clean c within unclean, ne)
         (sym (ap (λ b. own_if b (record { channel = c; block = x.block; reply = read_reply words })) unclean))
 
-    call_tells : (stage : ThreadStage) → IsSoundThreadStage (length x.clean) x.patience x.block stage → is_calling stage ≡ true → (seen : Observed)
+    call_tells : (stage : ThreadStage) → IsSoundThreadStage (length x.clean) x.patience x.block stage → is_calling stage ≡ true → (seen : Observation)
         → Learns script x stage (value_in seen) → Tidings script x stage ((thread_row script x stage).next seen)
     call_tells (Try c rounds all_abandoned) s h seen l =
         let found = value_in seen in
@@ -253,7 +253,7 @@ module _ (script : Script) (x : ThreadAt) where
   stray_ends loads most r s own = record { suits = s; own = own; waits = next_waits r }
 
   pub stray_tells : (loads most : ℕ) (o : Option Statement) → here ≡ o → is_call o ≡ false → is_none o ≡ false → loads < most
-      → ((t : ℕ) (w : Word) (value limit : ℕ) → here ≡ Some (statement.Wait t w value limit) → most ≡ limit) → (seen : Observed)
+      → ((t : ℕ) (w : Word) (value limit : ℕ) → here ≡ Some (statement.Wait t w value limit) → most ≡ limit) → (seen : Observation)
       → Tidings script x (Stray loads most) ((stray_row script x loads most o).next seen)
   stray_tells loads most (Some (statement.Call tag args)) e h n low l seen = absurd (cc)
   stray_tells loads most (Some (statement.Store t word value)) e h n low l seen = stray_ends loads most result.Stored (statement.Store t word value, e, tt) refl
@@ -274,7 +274,7 @@ module _ (script : Script) (x : ThreadAt) where
 pub row_tells : (script : Script) (x : ThreadAt) (stage : ThreadStage) → x.stage ≡ stage → (is_call (statement_at script x.target x.thread x.place) ≡ true → mark_in x.block ≡ mark_at x.thread x.place)
     → IsSoundThreadStage (length x.clean) x.patience x.block stage
     → is_calling stage ≡ is_call (statement_at script x.target x.thread x.place) → is_over stage ≡ is_none (statement_at script x.target x.thread x.place)
-    → (seen : Observed) → Learns script x stage (value_in seen) → Tidings script x stage ((thread_row script x stage).next seen)
+    → (seen : Observation) → Learns script x stage (value_in seen) → Tidings script x stage ((thread_row script x stage).next seen)
 row_tells script x (Try c rounds all_abandoned) at marked s calls none seen l = call_tells script x (sym calls) (marked (sym calls)) (Try c rounds all_abandoned) s refl seen l
 row_tells script x (Fill c i) at marked s calls none seen l = call_tells script x (sym calls) (marked (sym calls)) (Fill c i) s refl seen l
 row_tells script x (Send c) at marked s calls none seen l = call_tells script x (sym calls) (marked (sym calls)) (Send c) s refl seen l

@@ -16,7 +16,7 @@ use Rattle.sb_actor.specs.ThreadTable.{stray_row, thread_after, thread_plan}
 use Rattle.sb_actor.specs.WorkerStages.{WorkerStage, WorkerAt, Look, Count, End, Copy, Take, Answer, Give, Reply, Ack}
 use Rattle.sb_actor.specs.WorkerTable.{worker_after, worker_plan}
 use Rattle.sb_book.specs.Histories.{entry_of}
-use Rattle.sb_book.specs.Readiness.{is_ready}
+use Rattle.sb_book.specs.Readiness.{IsReady}
 use Rattle.sb_book.specs.declared.entries.Entry.{Entry}
 use Rattle.sb_rule.specs.declared.policies.Policy.{Policy}
 use Rattle.sb_statements.specs.Actors.{is_there}
@@ -41,6 +41,7 @@ use Rattle.sb_core.specs.Shared.{Effect, IsActThere, decided, on_word, on_worker
 use Rattle.sb_core.specs.Threads.{RunAt, first_unfinished, no_run}
 use Rattle.sb_core.specs.Words.{free_channels}
 use Rattle.sb_core.specs.Worlds.{WorldAt, first_worker, first_workers, no_worker, rounds, run_at, start_world, step, threads_at, worker_at, worker_step}
+use Rattle.sb_core.proofs.Bounds.{ready_sound}
 use Rattle.sb_core.proofs.Draining.{drained_threads}
 use Rattle.sb_core.proofs.Keeping.{worker_keeps}
 use Rattle.sb_core.proofs.Opening.{opened}
@@ -245,7 +246,7 @@ module _ (targets : SoundTargets) (statements : SoundStatements) (script : Scrip
       let at = r.runs.stands t k there in
       let es = w.shared.book.entries in
       let y = (run_at w t k).thread in
-      let good = sound_at script y.target y.thread y.place r.runs.sound statements in
+      let good = sound_at script y.target y.thread y.place (ready_sound r.runs.policies script r.runs.ready) statements in
       let inside = thread_there script w r.kept r.runs t k there statements in
       let seen = (on_word w.shared (thread_plan script y)).seen in
       let next = thread_after script y seen in
@@ -292,7 +293,7 @@ module _ (targets : SoundTargets) (statements : SoundStatements) (script : Scrip
           apart : (i : ℕ) → (1 + i == 0) ≡ false
           apart i = grind (arith, nat_tests)
 
-  traced_start : (policies : List Policy) → is_ready policies script ≡ true → Traced script (start_world policies script)
+  traced_start : (policies : List Policy) → IsReady policies script → Traced script (start_world policies script)
   traced_start policies h = record {
     kept = kept;
     runs = runs;

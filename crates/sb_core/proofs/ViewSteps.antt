@@ -15,7 +15,7 @@ use Rattle.sb_actor.specs.ThreadTable.{thread_after, thread_plan}
 use Rattle.sb_actor.specs.Ties.{thread_deed, thread_place_of, worker_deed, worker_place_of}
 use Rattle.sb_actor.specs.WorkerStages.{WorkerAt}
 use Rattle.sb_actor.specs.WorkerTable.{worker_after, worker_plan}
-use Rattle.sb_actor.specs.declared.acts.Observed.{Observed}
+use Rattle.sb_actor.specs.Observations.{Observation}
 use Rattle.sb_actor.specs.Views.{Had, Served, ThreadPlace, WorkerPlace, ThreadView, WorkerView}
 use Rattle.sb_statements.specs.declared.results.StmtResult.{StmtResult}
 use Rattle.sb_statements.specs.declared.scripts.Script.{Script}
@@ -86,7 +86,7 @@ module _ (script : Script) (t : ℕ) (words : List ℕ) (calls : List Served) (x
       }
 
   -- a step of the worker on a word
-  pub worker_moves : RuleLaws → (d : Deed) (seen : Observed) → x.channel < x.channels → IsSoundStage x.stage → worker_deed x.stage ≡ Some d
+  pub worker_moves : RuleLaws → (d : Deed) (seen : Observation) → x.channel < x.channels → IsSoundStage x.stage → worker_deed x.stage ≡ Some d
       → Tells (worker_plan x) (slice_index words (act_word (worker_plan x))) seen
       → ((served : List Served) → calls ≡ served ++ in_work x.channel x.stage
       → calls ≡ (served ++ served_by x.channel (worker_place_of x.stage) d) ++ in_work (worker_after x seen).channel (worker_after x seen).stage)
@@ -115,7 +115,7 @@ module _ (script : Script) (t : ℕ) (words : List ℕ) (calls : List Served) (x
       )
 
   -- a step of a thread within a call
-  pub thread_moves : RuleLaws → (k : ℕ) (d : Deed) (seen : Observed) (results : List StmtResult) → k < length runs
+  pub thread_moves : RuleLaws → (k : ℕ) (d : Deed) (seen : Observation) (results : List StmtResult) → k < length runs
       → IsSoundThreadStage (length (get_or runs k no_run).thread.clean) (get_or runs k no_run).thread.patience (get_or runs k no_run).thread.block (get_or runs k no_run).thread.stage
       → IsBlock (get_or runs k no_run).thread.thread (get_or runs k no_run).thread.block
       → GivesUp (get_or runs k no_run).thread.clean (get_or runs k no_run).thread.stage

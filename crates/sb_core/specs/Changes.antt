@@ -10,7 +10,8 @@ use Rattle.sb_statements.specs.declared.results.StmtResult.{StmtResult}
 use Rattle.sb_statements.specs.declared.schedules.Actor.{Actor}
 use Rattle.sb_statements.specs.declared.schedules.Actor.TheVariants.{Worker, Thread}
 use Rattle.sb_statements.specs.declared.scripts.Script.{Script}
-use Rattle.sb_core.specs.Words.{place_of, words_of}
+use Rattle.sb_core.specs.Words.{words_of}
+use Rattle.sb_statements.specs.Words.{place_of}
 use Rattle.sb_core.specs.Worlds.{WorldAt, worker_at, run_at}
 
 -- the next step of an actor

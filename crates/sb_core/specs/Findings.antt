@@ -3,7 +3,7 @@ use Rattle.std.specs.Prelude.{◌≡◌, ◌<◌, ◌≤◌, ℕ, ◌==◌, ◌&
 use Rattle.sb_actor.specs.Acts.{value_in}
 use Rattle.sb_actor.specs.Findings.{IsCaused, results_of_values, after_values}
 use Rattle.sb_actor.specs.ThreadTable.{thread_plan}
-use Rattle.sb_book.specs.Readiness.{is_ready}
+use Rattle.sb_book.specs.Readiness.{IsReady}
 use Rattle.sb_rule.specs.declared.policies.Policy.{Policy}
 use Rattle.sb_statements.specs.declared.results.StmtResult.{StmtResult}
 use Rattle.sb_statements.specs.declared.schedules.Actor.{Actor}
@@ -28,7 +28,7 @@ abbrev pub found_by : Script → ℕ → ℕ → List Actor → WorldAt → List
 found_by script t k [] w = []
 found_by script t k (actor ∷ more) w = found_in script t k actor w ++ found_by script t k more (step script w actor)
 
--- where a thread stands after these steps, and its results there, are those that its values tell from where it stood
+-- where a thread is after these steps, and its results there, are those that its values tell from where it was
 abbrev pub ThreadsFollowTheirValues : Type 0
 ThreadsFollowTheirValues = (script : Script) (actors : List Actor) (w : WorldAt) (t k : ℕ) → IsWorld w → IsRunning script w → are_there script.targets actors ≡ true
     → k < length (threads_at w t)
@@ -42,7 +42,7 @@ AreCaused policies script actors results = (t k i : ℕ) (r : StmtResult) → re
 
 -- so it is of the results so far, after any steps of actors that are there
 abbrev pub WorldsAreCaused : Type 0
-WorldsAreCaused = (policies : List Policy) (script : Script) (actors : List Actor) → is_ready policies script ≡ true → are_there script.targets actors ≡ true
+WorldsAreCaused = (policies : List Policy) (script : Script) (actors : List Actor) → IsReady policies script → are_there script.targets actors ≡ true
     → AreCaused policies script actors (results_of (steps script actors (start_world policies script)).threads)
 
 -- who makes the steps of a run: the actors of its schedule, and then those of n rounds

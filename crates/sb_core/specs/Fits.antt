@@ -8,7 +8,7 @@ use Rattle.sb_actor.specs.Places.{clean_channels, mark_at, statement_at}
 use Rattle.sb_actor.specs.Rule.{is_of}
 use Rattle.sb_block.specs.Copies.{Copied, mark_of, whole}
 use Rattle.sb_book.specs.Histories.{IsHistory, setting_of}
-use Rattle.sb_book.specs.Readiness.{is_ready}
+use Rattle.sb_book.specs.Readiness.{IsReady}
 use Rattle.sb_book.specs.declared.entries.Entry.{Entry}
 use Rattle.sb_book.specs.declared.reports.Report.{Report}
 use Rattle.sb_call.specs.declared.replies.Reply.{Reply}
@@ -26,7 +26,7 @@ use Rattle.sb_core.specs.Kept.{channel_in, is_calling}
 use Rattle.sb_core.specs.OfScripts.{IsOfScript}
 use Rattle.sb_core.specs.Runs.{CanRun, played, ran}
 use Rattle.sb_core.specs.Threads.{RunAt}
-use Rattle.sb_core.specs.Views.{HasUnits, OwnCall, as_call, own_calls}
+use Rattle.sb_core.specs.Views.{OwnCall, as_call, own_calls}
 use Rattle.sb_core.specs.Words.{some_ready, words_of}
 use Rattle.sb_core.specs.Worlds.{WorldAt, run_at, start_world, steps}
 
@@ -85,7 +85,7 @@ pub record Fits (policies : List Policy) (script : Script) (report : Report) : T
 
 -- the report of a run without an unfinished thread fits
 abbrev pub RunsFit : Type 0
-RunsFit = (policies : List Policy) (script : Script) (schedule : Schedule) → CanRun policies script schedule → HasUnits script
+RunsFit = (policies : List Policy) (script : Script) (schedule : Schedule) → CanRun policies script schedule
     → (ran policies script schedule).unfinished ≡ None → Fits policies script (ran policies script schedule).report
 
 -- what a thread has beside its results: nothing, or the entry of its present call, which is on the channel if the thread is, and whose
@@ -104,16 +104,16 @@ IsOwnSoFar script w t k =
 
 -- so it is after any list of steps, in the world that a schedule leads to, and after the drain of that
 abbrev pub RepliesAreOwn : Type 0
-RepliesAreOwn = (policies : List Policy) (script : Script) (actors : List Actor) → is_ready policies script ≡ true → HasUnits script
+RepliesAreOwn = (policies : List Policy) (script : Script) (actors : List Actor) → IsReady policies script
     → are_there script.targets actors ≡ true → (t k : ℕ) → k < thread_count (slice_get script.targets t)
     → IsOwnSoFar script (steps script actors (start_world policies script)) t k
 
 abbrev pub RunsReplyOwn : Type 0
-RunsReplyOwn = (policies : List Policy) (script : Script) (schedule : Schedule) → CanRun policies script schedule → HasUnits script
+RunsReplyOwn = (policies : List Policy) (script : Script) (schedule : Schedule) → CanRun policies script schedule
     → (t k : ℕ) → k < thread_count (slice_get script.targets t)
     → IsOwnSoFar script (played policies script schedule) t k × IsOwnSoFar script (drained (played policies script schedule)) t k
 
 -- and so it is in each world of a script, whichever steps led there
 abbrev pub WorldsOfScriptsReplyOwn : Type 0
-WorldsOfScriptsReplyOwn = (script : Script) (w : WorldAt) → IsOfScript script w → HasUnits script
+WorldsOfScriptsReplyOwn = (script : Script) (w : WorldAt) → IsOfScript script w
     → (t k : ℕ) → k < thread_count (slice_get script.targets t) → IsOwnSoFar script w t k

@@ -6,7 +6,8 @@ use Rattle.sb_actor.specs.Ranges.{IsSoundStage, IsSoundThreadStage}
 use Rattle.sb_actor.specs.ThreadStages.{ThreadStage, Try, Fill, Send, Wait, Fetch, Free, Abandon, Stray, Over, ThreadAt}
 use Rattle.sb_actor.specs.WorkerStages.{WorkerStage, WorkerAt}
 use Rattle.sb_actor.specs.WorkerStages as worker
-use Rattle.sb_statements.specs.Soundness.{is_sound}
+use Rattle.sb_book.specs.Readiness.{IsReady}
+use Rattle.sb_rule.specs.declared.policies.Policy.{Policy}
 use Rattle.sb_statements.specs.declared.schedules.Actor.{Actor}
 use Rattle.sb_statements.specs.declared.scripts.Script.{Script}
 use Rattle.sb_statements.specs.Actors.{thread_count}
@@ -35,7 +36,7 @@ is_holder (Some holder) target = holder == target
 abbrev pub channels_at : WorldAt → ℕ → ℕ
 channels_at w t = slice_index w.shared.book.setting.channels t
 
--- The worker of a target stands at one of its 1 to 8 channels, and the numbers of its stage are in their ranges. The target has 65 words
+-- The worker of a target is at one of its 1 to 8 channels, and the numbers of its stage are in their ranges. The target has 65 words
 -- for each channel. The turn is with this worker exactly if it is in Answer or Give
 pub record IsWorkerOf (w : WorldAt) (t : ℕ) (x : WorkerAt) : Type 0 where
   pub its_target : x.target ≡ t
@@ -67,10 +68,6 @@ pub record IsWorld (w : WorldAt) : Type 0 where
   pub workers : (t : ℕ) → t < length w.workers → IsWorkerOf w t (worker_at w t)
   pub lists : length w.threads ≤ length w.workers
   pub threads : (t k : ℕ) → k < length (threads_at w t) → IsRunOf w t k (run_at w t k)
-
--- a world that some steps lead to from another
-abbrev pub IsReached : Script → WorldAt → WorldAt → Type 0
-IsReached script w v = (actors : List Actor) × (v ≡ steps script actors w)
 
 -- the stage is one of a call
 abbrev pub is_calling : ThreadStage → Bool
@@ -108,7 +105,7 @@ is_over (Abandon c) = false
 is_over (Stray loads most) = false
 is_over Over = true
 
--- A thread stands at a statement of its script, in a stage of that kind of statement, with the block of it if it is a call, or
+-- A thread is at a statement of its script, in a stage of that kind of statement, with the block of it if it is a call, or
 -- after the last one. It has the script's patience and its target's clean channels
 pub record IsAtStatement (script : Script) (x : ThreadAt) : Type 0 where
   pub place : x.place ≤ length (statements_of script x.target x.thread)
@@ -118,10 +115,11 @@ pub record IsAtStatement (script : Script) (x : ThreadAt) : Type 0 where
   pub patience : x.patience ≡ script.patience
   pub clean : x.clean ≡ clean_channels script x.target
 
--- a world runs a sound script: it has the script's targets, each with its channels and its threads, and each thread stands at one of its
+-- a world runs a script that is ready for some policies: it has the script's targets, each with its channels and its threads, and each thread is at one of its
 -- statements or after the last
 pub record IsRunning (script : Script) (w : WorldAt) : Type 0 where
-  pub sound : is_sound script ≡ true
+  pub policies : List Policy
+  pub ready : IsReady policies script
   pub channels : w.shared.book.setting.channels ≡ map (λ target. target.channels) script.targets
   pub targets : length w.threads ≡ length script.targets
   pub threads : (t : ℕ) → length (threads_at w t) ≡ thread_count (slice_get script.targets t)

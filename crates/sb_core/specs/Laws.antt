@@ -3,10 +3,10 @@ use Rattle.std.specs.Prelude.{◌≡◌, ◌⊎◌, ◌<◌, ◌≤◌, ℕ, ◌
 use Rattle.sb_actor.specs.Places.{is_finished}
 use Rattle.sb_actor.specs.WorkerStages.{WorkerStage, WorkerAt, Look, Count, End, Copy, Take, Answer, Give, Reply, Ack}
 use Rattle.sb_actor.specs.WorkerTable.{worker_plan, worker_after}
-use Rattle.sb_actor.specs.declared.acts.Observed.{Observed}
+use Rattle.sb_actor.specs.Observations.{Observation}
 use Rattle.sb_block.specs.Copies.{Copied}
 use Rattle.sb_book.specs.Histories.{IsHistory, answered, setting_of}
-use Rattle.sb_book.specs.Readiness.{is_ready}
+use Rattle.sb_book.specs.Readiness.{IsReady}
 use Rattle.sb_rule.specs.declared.policies.Policy.{Policy}
 use Rattle.sb_statements.specs.declared.schedules.Actor.{Actor}
 use Rattle.sb_statements.specs.declared.schedules.Actor.TheVariants.{Worker, Thread}
@@ -47,7 +47,7 @@ PlansAreThere = (script : Script) (w : WorldAt) (actor : Actor) → IsWorld w �
 
 -- the world of a script that is ready for policies runs the script, and keeps what every world keeps
 abbrev pub StartsKeep : Type 0
-StartsKeep = (policies : List Policy) (script : Script) → is_ready policies script ≡ true
+StartsKeep = (policies : List Policy) (script : Script) → IsReady policies script
     → IsWorld (start_world policies script) × IsRunning script (start_world policies script)
 
 -- so does the world after a step of an actor that is there
@@ -92,7 +92,7 @@ copy_in (Ack taken reply) = Some taken
 
 -- a worker judges what it copied: from the end of the copy until the reply is acknowledged it loads nothing, and after each step it keeps the copy or looks on
 abbrev pub CopiesAreJudged : Type 0
-CopiesAreJudged = (w : WorkerAt) (seen : Observed) (taken : Copied) → copy_in w.stage ≡ Some taken
+CopiesAreJudged = (w : WorkerAt) (seen : Observation) (taken : Copied) → copy_in w.stage ≡ Some taken
     → (is_load (worker_plan w) ≡ false) × ((copy_in (worker_after w seen).stage ≡ Some taken) ⊎ ((worker_after w seen).stage ≡ Look))
 
 -- a step of a finished thread does nothing
@@ -177,13 +177,13 @@ pub record IsEndOfRun (policies : List Policy) (script : Script) (actors : List 
   pub drains : report_of (drained w).shared (results_of w.threads) ≡ (ran policies script (schedule_of actors)).report
 
 abbrev pub EndsAreRuns : Type 0
-EndsAreRuns = (policies : List Policy) (script : Script) (actors : List Actor) (w : WorldAt) → is_ready policies script ≡ true → are_there script.targets actors ≡ true
+EndsAreRuns = (policies : List Policy) (script : Script) (actors : List Actor) (w : WorldAt) → IsReady policies script → are_there script.targets actors ≡ true
     → w ≡ steps script actors (start_world policies script) → first_unfinished script w.threads ≡ None → w.shared.turn ≡ None
     → IsEndOfRun policies script actors w
 
 -- if each worker looks, nobody has the turn, and `finish` can be called
 abbrev pub EndsCanFinish : Type 0
-EndsCanFinish = (policies : List Policy) (script : Script) (actors : List Actor) (w : WorldAt) → is_ready policies script ≡ true → are_there script.targets actors ≡ true
+EndsCanFinish = (policies : List Policy) (script : Script) (actors : List Actor) (w : WorldAt) → IsReady policies script → are_there script.targets actors ≡ true
     → w ≡ steps script actors (start_world policies script) → first_unfinished script w.threads ≡ None
     → ((t : ℕ) → t < length script.targets → (worker_at w t).stage ≡ Look)
     → (w.shared.turn ≡ None) × CanFinish script w.shared.words w.workers w.shared.book (results_of w.threads)

@@ -16,5 +16,4 @@ pub mod Findings
 pub mod Fits
 pub mod Origins
 pub mod Tallies
-pub mod Units
 pub mod OfScripts

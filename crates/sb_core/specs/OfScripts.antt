@@ -1,6 +1,6 @@
 -- The worlds of a script: those that steps of its actors lead to from its start.
 use Rattle.std.specs.Prelude.{◌≡◌, true, List}
-use Rattle.sb_book.specs.Readiness.{is_ready}
+use Rattle.sb_book.specs.Readiness.{IsReady}
 use Rattle.sb_rule.specs.declared.policies.Policy.{Policy}
 use Rattle.sb_statements.specs.Actors.{is_there}
 use Rattle.sb_statements.specs.declared.schedules.Actor.{Actor}
@@ -15,13 +15,13 @@ use Rattle.sb_core.specs.Worlds.{WorldAt, start_world, step, steps}
 pub record IsOfScript (script : Script) (w : WorldAt) : Type 0 where
   pub policies : List Policy
   pub actors : List Actor
-  pub ready : is_ready policies script ≡ true
+  pub ready : IsReady policies script
   pub there : are_there script.targets actors ≡ true
   pub reached : w ≡ steps script actors (start_world policies script)
 
 -- the start is one
 abbrev pub StartsAreOfScripts : Type 0
-StartsAreOfScripts = (policies : List Policy) (script : Script) → is_ready policies script ≡ true → IsOfScript script (start_world policies script)
+StartsAreOfScripts = (policies : List Policy) (script : Script) → IsReady policies script → IsOfScript script (start_world policies script)
 
 -- so is the world after a step of an actor that is there
 abbrev pub StepsAreOfScripts : Type 0

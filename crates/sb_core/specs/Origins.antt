@@ -36,12 +36,12 @@ StoresThere t c j x (statement.Wait u word value most) = ⊥
 StoresThere t c j x (statement.Call tag args) = ⊥
 
 -- some thread has such a statement
-abbrev pub IsByHand : Script → ℕ → ℕ → ℕ → ℕ → Type 0
-IsByHand script t c j x = (u k i : ℕ) × (s : Statement) × (statement_at script u k i ≡ Some s) × StoresThere t c j x s
+abbrev pub IsStoredDirectly : Script → ℕ → ℕ → ℕ → ℕ → Type 0
+IsStoredDirectly script t c j x = (u k i : ℕ) × (s : Statement) × (statement_at script u k i ≡ Some s) × StoresThere t c j x s
 
 -- a value has a source at a state word: it is one of the states 1 to 5, or a statement stores it there directly
 abbrev pub HasStateSource : Script → ℕ → ℕ → ℕ → Type 0
-HasStateSource script t c x = ((1 ≤ x) × (x ≤ 5)) ⊎ IsByHand script t c 0 x
+HasStateSource script t c x = ((1 ≤ x) × (x ≤ 5)) ⊎ IsStoredDirectly script t c 0 x
 
 -- it is word i of the block of a call of a thread of the target
 abbrev pub IsOfCall : Script → ℕ → ℕ → ℕ → Type 0
@@ -49,14 +49,14 @@ IsOfCall script t i x =
     (k place : ℕ) × (tag : CallTag) × (args : List Arg) × (statement_at script t k place ≡ Some (statement.Call tag args))
     × (i < length (block tag args (mark_at k place))) × (x ≡ slice_index (block tag args (mark_at k place)) i)
 
--- it is the word of a reply on that channel that stands at block word i: reply word j at block word 3 + j
+-- it is the word of a reply on that channel that is at block word i: reply word j at block word 3 + j
 abbrev pub IsOfReply : List Entry → ℕ → ℕ → ℕ → ℕ → Type 0
 IsOfReply entries t c i x =
     (n : ℕ) × (e : Entry) × (j : ℕ) × (slice_get entries n ≡ Some e) × (e.target ≡ t) × (e.channel ≡ c) × (j < 12) × (i ≡ 3 + j) × (x ≡ slice_index (reply_words e.reply) j)
 
 -- a value has a source at block word i of a channel: it is 0, of a call's block, of a statement that stores it there directly, or of a reply
 abbrev pub HasBlockSource : Script → List Entry → ℕ → ℕ → ℕ → ℕ → Type 0
-HasBlockSource script entries t c i x = (x ≡ 0) ⊎ (IsOfCall script t i x ⊎ (IsByHand script t c (1 + i) x ⊎ IsOfReply entries t c i x))
+HasBlockSource script entries t c i x = (x ≡ 0) ⊎ (IsOfCall script t i x ⊎ (IsStoredDirectly script t c (1 + i) x ⊎ IsOfReply entries t c i x))
 
 -- at word j of a channel, where word 0 is the state and 1 + i block word i
 pub record HasSource (script : Script) (entries : List Entry) (t c j x : ℕ) : Type 0 where

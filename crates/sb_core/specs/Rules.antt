@@ -1,6 +1,6 @@
--- Rule S holds in every world of a script whose strings are made of units.
+-- Rule S holds in every world of a script.
 use Rattle.std.specs.Prelude.{◌≡◌, ◌<◌, ℕ, true, List, length}
-use Rattle.sb_book.specs.Readiness.{is_ready}
+use Rattle.sb_book.specs.Readiness.{IsReady}
 use Rattle.sb_rule.specs.declared.policies.Policy.{Policy}
 use Rattle.sb_statements.specs.declared.schedules.Actor.{Actor}
 use Rattle.sb_statements.specs.declared.schedules.Schedule.{Schedule}
@@ -9,23 +9,23 @@ use Rattle.sb_core.specs.Actors.{are_there}
 use Rattle.sb_core.specs.Drains.{drained}
 use Rattle.sb_core.specs.OfScripts.{IsOfScript}
 use Rattle.sb_core.specs.Runs.{CanRun, played}
-use Rattle.sb_core.specs.Views.{HasUnits, InRule}
+use Rattle.sb_core.specs.Views.{InRule}
 use Rattle.sb_core.specs.Worlds.{WorldAt, start_world, steps}
 
 -- each target of a world keeps the rule
 abbrev pub AreInRule : Script → WorldAt → Type 0
 AreInRule script w = (t : ℕ) → t < length script.targets → InRule script w t
 
--- The rule holds after any list of steps of actors that are there, in the world that a schedule leads to, and after the drain of that. The script is
--- ready for the policies, and the strings of its calls are made of units
+-- The rule holds after any list of steps of actors that are there, in the world that a schedule leads to, and after the drain of that, of a
+-- script that is ready for the policies
 abbrev pub RuleHolds : Type 0
-RuleHolds = (policies : List Policy) (script : Script) (actors : List Actor) → is_ready policies script ≡ true → HasUnits script
+RuleHolds = (policies : List Policy) (script : Script) (actors : List Actor) → IsReady policies script
     → are_there script.targets actors ≡ true → AreInRule script (steps script actors (start_world policies script))
 
 abbrev pub RunsKeepRule : Type 0
-RunsKeepRule = (policies : List Policy) (script : Script) (schedule : Schedule) → CanRun policies script schedule → HasUnits script
+RunsKeepRule = (policies : List Policy) (script : Script) (schedule : Schedule) → CanRun policies script schedule
     → AreInRule script (played policies script schedule) × AreInRule script (drained (played policies script schedule))
 
 -- so it holds in each world of a script, whichever steps led there
 abbrev pub WorldsOfScriptsKeepRule : Type 0
-WorldsOfScriptsKeepRule = (script : Script) (w : WorldAt) → IsOfScript script w → HasUnits script → AreInRule script w
+WorldsOfScriptsKeepRule = (script : Script) (w : WorldAt) → IsOfScript script w → AreInRule script w

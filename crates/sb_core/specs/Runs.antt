@@ -3,7 +3,7 @@ use Rattle.std.specs.Prelude.{◌≡◌, ◌<◌, ℕ, ◌*◌, true, List, [], 
 use Rattle.std.specs.List.{list_all}
 use Rattle.sb_actor.specs.WorkerStages.{WorkerAt, Look}
 use Rattle.sb_book.specs.Histories.{History}
-use Rattle.sb_book.specs.Readiness.{is_ready}
+use Rattle.sb_book.specs.Readiness.{IsReady}
 use Rattle.sb_rule.specs.declared.policies.Policy.{Policy}
 use Rattle.sb_statements.specs.Limits.{most_targets, most_threads, most_statements}
 use Rattle.sb_statements.specs.Soundness.{channels_of}
@@ -23,7 +23,7 @@ use Rattle.sb_core.specs.declared.runs.Ran.{Ran}
 
 -- the script is ready for the policies, and it has each actor of the schedule
 pub record CanRun (policies : List Policy) (script : Script) (schedule : Schedule) : Type 0 where
-  pub ready : is_ready policies script ≡ true
+  pub ready : IsReady policies script
   pub there : list_all (is_step_there script.targets) schedule.steps ≡ true
 
 -- a worker that looks, of the target with this number

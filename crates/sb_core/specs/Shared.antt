@@ -1,11 +1,11 @@
 -- What all actors share: the channel words of each target, the holder of the turn, and the book. And what a step finds and leaves there.
-use Rattle.std.specs.Prelude.{ℕ, List, slice_set, Option, None, Some, is_none}
+use Rattle.std.specs.Prelude.{ℕ, Bool, true, false, List, slice_set, Option, None, Some, is_none}
 use Rattle.sb_actor.specs.WorkerStages.{WorkerAt}
 use Rattle.sb_actor.specs.WorkerTable.{taken_in}
 use Rattle.sb_actor.specs.declared.acts.Act.{Act}
 use Rattle.sb_actor.specs.declared.acts.Act.TheVariants as act
-use Rattle.sb_actor.specs.declared.acts.Observed.{Observed}
-use Rattle.sb_actor.specs.declared.acts.Observed.TheVariants as seen
+use Rattle.sb_actor.specs.Observations.{Observation}
+use Rattle.sb_actor.specs.Observations as seen
 use Rattle.sb_block.specs.Copies.{Copied, mark_of}
 use Rattle.sb_book.specs.Decisions.{decision_of}
 use Rattle.sb_book.specs.Histories.{History, answered, reply_of}
@@ -21,10 +21,10 @@ pub record SharedAt : Type 0 where
 
 -- what a step finds, and what all share after it
 pub record Effect : Type 0 where
-  pub seen : Observed
+  pub seen : Observation
   pub shared : SharedAt
 
-abbrev pub finds : Observed → SharedAt → Effect
+abbrev pub finds : Observation → SharedAt → Effect
 finds seen shared = record { seen = seen; shared = shared }
 
 -- the words of a target changed
@@ -68,6 +68,16 @@ on_worker s target w (act.Load t word) = on_word s (act.Load t word)
 on_worker s target w (act.Store t word value) = on_word s (act.Store t word value)
 on_worker s target w (act.Exchange t word from to) = on_word s (act.Exchange t word from to)
 on_worker s target w act.Idle = on_word s act.Idle
+
+-- the step of a worker whose copy the book answers
+abbrev pub is_answer : Act → Bool
+is_answer act.Answer = true
+is_answer act.Take = false
+is_answer act.Give = false
+is_answer (act.Load t word) = false
+is_answer (act.Store t word value) = false
+is_answer (act.Exchange t word from to) = false
+is_answer act.Idle = false
 
 -- a step on a word is on one that is there
 abbrev pub IsActThere : List (List ℕ) → Act → Type 0

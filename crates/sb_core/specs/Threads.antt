@@ -9,7 +9,7 @@ use Rattle.sb_statements.specs.declared.results.StmtResult.{StmtResult}
 use Rattle.sb_statements.specs.declared.scripts.Script.{Script}
 use Rattle.sb_core.specs.Shared.{SharedAt, Effect, on_word}
 
--- where a thread stands, and the results of its statements that ended, by place
+-- where a thread is, and the results of its statements that ended, by place
 pub record RunAt : Type 0 where
   pub thread : ThreadAt
   pub results : List StmtResult

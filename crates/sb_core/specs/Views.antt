@@ -1,7 +1,6 @@
 -- What is known of a target's actors in a world, and rule S over it: between any two steps the channel words of each target fit what its worker
 -- and its threads know.
 use Rattle.std.specs.Prelude.{◌≡◌, ◌<◌, ℕ, ◌+◌, Bool, true, List, [], ◌∷◌, ◌++◌, length, map, slice_index_or, Some, if◌then◌else◌}
-use Rattle.std.specs.List.{list_all}
 use mathlib.Core.Option.{some}
 use lib.ListN.{get_elem?}
 use Rattle.sb_actor.specs.Moves.{is_clean}
@@ -11,26 +10,18 @@ use Rattle.sb_actor.specs.ThreadStages.{ThreadAt}
 use Rattle.sb_actor.specs.Ties.{HoldsThread, HoldsWorker}
 use Rattle.sb_actor.specs.WorkerStages.{WorkerStage, WorkerAt, Look, Count, End, Copy, Take, Answer, Give, Reply, Ack}
 use Rattle.sb_actor.specs.Views.{Had, Served, ThreadView, WorkerView}
-use Rattle.sb_block.specs.Blocks.{has_units}
 use Rattle.sb_block.specs.Replies.{read_reply, reply_words}
 use Rattle.sb_book.specs.Targets.{of_target}
 use Rattle.sb_book.specs.declared.entries.Entry.{Entry}
-use Rattle.sb_call.specs.declared.arguments.Arg.{Arg}
 use Rattle.sb_call.specs.declared.replies.Reply.{Reply as ReplyOf}
-use Rattle.sb_call.specs.declared.tags.CallTag.{CallTag}
 use Rattle.sb_statements.specs.declared.results.CallResult.{CallResult}
 use Rattle.sb_statements.specs.declared.results.CallResult.TheVariants as call
 use Rattle.sb_statements.specs.declared.results.StmtResult.{StmtResult}
 use Rattle.sb_statements.specs.declared.results.StmtResult.TheVariants as result
 use Rattle.sb_statements.specs.declared.scripts.Script.{Script}
-use Rattle.sb_statements.specs.declared.statements.Statement.TheVariants.{Call}
 use Rattle.sb_core.specs.Threads.{RunAt, no_run}
 use Rattle.sb_core.specs.Words.{words_of}
 use Rattle.sb_core.specs.Worlds.{WorldAt, threads_at, worker_at}
-
--- the strings of each call of a script are made of units, as those of every script in memory are
-abbrev pub HasUnits : Script → Type 0
-HasUnits script = (t k i : ℕ) (tag : CallTag) (args : List Arg) → statement_at script t k i ≡ Some (Call tag args) → list_all has_units args ≡ true
 
 -- an entry as the worker served it
 abbrev pub as_call : Entry → Served
@@ -95,12 +86,12 @@ pub record TargetViews : Type 0 where
   pub worker : WorkerView
   pub threads : List ThreadView
 
--- the worker's view stands where the worker stands, and has served the target's entries, without the last while that is in work
+-- the worker's view is where the worker is, and has served the target's entries, without the last while that is in work
 pub record ShowsWorker (calls : List Served) (x : WorkerAt) (v : WorkerView) : Type 0 where
   pub holds : HoldsWorker v x
   pub serves : calls ≡ v.served ++ in_work x.channel x.stage
 
--- a thread's view stands where the thread stands, and has its results Reply on clean channels
+-- a thread's view is where the thread is, and has its results Reply on clean channels
 pub record ShowsThread (calls : List OwnCall) (x : ThreadAt) (v : ThreadView) : Type 0 where
   pub holds : HoldsThread v x
   pub has : map as_own v.had ≡ calls

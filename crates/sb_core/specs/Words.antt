@@ -3,6 +3,7 @@ use Rattle.std.specs.Prelude.{ℕ, zero, suc, ◌/◌, ◌<◌, Bool, false, ◌
 use Rattle.std.specs.List.{list_any}
 use Rattle.sb_actor.specs.Acts.{free, ready}
 use Rattle.sb_actor.specs.Moves.{at}
+use Rattle.sb_statements.specs.Words.{place_of}
 use Rattle.sb_statements.specs.declared.statements.Word.{Word}
 
 -- nobody uses the channel, and each word of its block is 0
@@ -13,10 +14,6 @@ free_channel = free ∷ replicate 64 0
 abbrev pub free_channels : ℕ → List ℕ
 free_channels zero = []
 free_channels (suc n) = free_channels n ++ free_channel
-
--- where a word stands among the words of its target: word j of channel c at c * 65 + j
-abbrev pub place_of : Word → ℕ
-place_of word = at word.channel word.at
 
 -- what a word holds
 abbrev pub loaded : List ℕ → Word → ℕ

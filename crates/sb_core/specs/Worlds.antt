@@ -1,4 +1,4 @@
--- The world: what all actors share, and where each worker and each thread stands, with the results so far. A step is one row of the
+-- The world: what all actors share, and where each worker and each thread is, with the results so far. A step is one row of the
 -- worker's table or of the thread's, applied to the world.
 use Rattle.std.specs.Prelude.{ℕ, zero, suc, Bool, true, false, is_none, List, [], ◌∷◌, ◌++◌, length, map, slice_get, slice_index_or, slice_set, None}
 use Rattle.sb_actor.specs.Places.{thread_start}

@@ -2,7 +2,6 @@
 ghost use Rattle.std.specs.Prelude.{◌≡◌, ◌<◌, ◌++◌, length, true, IfOk, OnOk};
 ghost use Rattle.sb_core.specs.Actors.{first_threads, target_actors, round_actors};
 
-use crate::counts::{target_count, thread_count};
 use sb_items::NoMemory;
 use sb_statements::{Actor, SoundScript};
 use std::alloc::Global;
@@ -23,7 +22,7 @@ fn push_target(actors: &mut Vec<Actor>, script: &SoundScript, target: u32) -> Re
     ensures { OnOk result (actors.new.items ≡ actors.old.items ++ target_actors script.now.targets target) }
 {
     actors.push(Actor::Worker { target })?;
-    push_threads(actors, target, thread_count(script, target))?;
+    push_threads(actors, target, script.thread_count(target))?;
     Ok(())
 }
 
@@ -36,7 +35,7 @@ pub(crate) fn round_actors(alloc: Global, script: &SoundScript) -> Result<Vec<Ac
     ensures { IfOk result (λ actors. actors.items ≡ round_actors script.now.targets) }
 {
     let mut actors = Vec::new(alloc);
-    for target in 0..target_count(script) {
+    for target in 0..script.target_count() {
         push_target(&mut actors, script, target)?;
     }
     Ok(actors)

@@ -11,7 +11,6 @@
 #![tactic(auto)]
 
 mod actors;
-mod counts;
 mod drains;
 mod finishes;
 mod laws;
@@ -22,7 +21,6 @@ mod runs;
 mod shared;
 mod starts;
 mod threads;
-mod units;
 mod words;
 mod worlds;
 
@@ -38,5 +36,4 @@ pub use rules::{
     worlds_of_scripts_keep_rule,
 };
 pub use runs::{Ran, run};
-pub use units::units_are_placed;
 pub use worlds::World;

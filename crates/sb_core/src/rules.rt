@@ -15,9 +15,9 @@ use sb_kernel::answers_are_short;
 use sb_statements::sound_parts;
 
 /// After any list of steps of actors that are there, the channel words of each target keep rule S with what its worker and its threads
-/// know, and so they do in the world that a schedule leads to and after the drain of it. So on a channel that no statement writes by
-/// hand the worker copies the whole block of the one thread that is there, and that thread fetches the whole reply to it. The
-/// script is ready for the policies, and the strings of its calls are made of units, as they are in every script in memory.
+/// know, and so they do in the world that a schedule leads to and after the drain of it. So on a channel that no statement writes
+/// directly the worker copies the whole block of the one thread that is there, and that thread fetches the whole reply to it. The
+/// script is ready for the policies.
 pub fn rule_holds()
     ensures steps { RuleHolds }
     ensures runs { RunsKeepRule }
@@ -35,7 +35,7 @@ pub fn rule_holds()
 
 /// The report of a run in which no thread is unfinished fits its script: its entries are a legal history, there is one result for each
 /// statement, each thread on a clean channel has its own calls' replies, each once, each result suits its statement, and each clean
-/// channel is free at the end. The strings of the script's calls are made of units.
+/// channel is free at the end.
 pub fn runs_fit()
     ensures { RunsFit }
 {
@@ -55,7 +55,7 @@ pub fn runs_fit()
 }
 
 /// At any moment, the entries of a thread on clean channels are its results `Reply` there, in order, each with the whole block of its
-/// statement and the reply, and besides at most the entry of its present call. The strings of the script's calls are made of units.
+/// statement and the reply, and besides at most the entry of its present call.
 pub fn replies_are_own()
     ensures steps { RepliesAreOwn }
     ensures runs { RunsReplyOwn }
@@ -87,8 +87,7 @@ pub fn no_block_is_invented()
 }
 
 /// Whoever holds a world of a script may rely on rule S for each of its targets, over the script's clean channels, and on each thread's own
-/// replies, without knowing which steps led to it. The strings of the script's calls are made of units, as they are in every script
-/// in memory.
+/// replies, without knowing which steps led to it.
 pub fn worlds_of_scripts_keep_rule()
     ensures rule { WorldsOfScriptsKeepRule }
     ensures replies { WorldsOfScriptsReplyOwn }

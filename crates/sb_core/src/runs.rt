@@ -4,7 +4,6 @@ ghost use Rattle.std.specs.List.{list_all};
 ghost use Rattle.sb_book.specs.Histories.{JudgesBy, setting_of};
 ghost use Rattle.sb_book.specs.Reports.{result_count};
 ghost use Rattle.sb_core.specs.Kept.{IsRunning};
-ghost use Rattle.sb_kernel.specs.Openings.{opening};
 ghost use Rattle.sb_statements.specs.Actors.{is_step_there};
 ghost use Rattle.sb_core.specs.Reports.{report_of, results_of};
 ghost use Rattle.sb_core.specs.Runs.{ended_from, ran, most_results};
@@ -14,9 +13,8 @@ use crate::lists::{results_from, words_into};
 use crate::rounds::{make_rounds, make_steps};
 use crate::shared::Shared;
 use crate::worlds::World;
-use sb_book::{ReadyScript, Report, Results};
+use sb_book::{Report, Results, RunStart};
 use sb_items::NoMemory;
-use sb_kernel::Kernel;
 use sb_rule::Judge;
 use sb_statements::{Schedule, SoundScript, sound_parts};
 use std::alloc::Global;
@@ -61,8 +59,18 @@ fn world_report(alloc: Global, world: World) -> Result<Report, NoMemory>
     report_of(alloc, shared, results)
 }
 
+// A world has as many results as its script has statements at most. It does nothing.
+fn establish_few(script: &SoundScript, world: &World)
+    requires running { IsRunning script.now world.now }
+    ensures { result_count (results_of world.now.threads) ≤ most_results }
+{
+    sound_parts();
+    let _script = script;
+    world.establish_kept();
+}
+
 // Drains the world if every thread is finished, and reports.
-#[tactic(auto, using(crate::proofs::Draining::drained_threads, crate::proofs::Draining::few_results))]
+#[tactic(auto, using(crate::proofs::Draining::drained_threads))]
 fn ended<J: Judge>(
     alloc: Global,
     judge: &J,
@@ -74,15 +82,15 @@ fn ended<J: Judge>(
     ensures value { IfOk result (λ r. r ≡ ended_from script.now world) }
     ensures few { IfOk result (λ r. result_count r.report.results ≤ most_results) }
 {
-    sound_parts();
     let mut world = world;
+    establish_few(script, &world);
     if let Some(thread) = world.unfinished(script) {
         return Ok(Ran {
             report: world_report(alloc, world)?,
             unfinished: Some(thread),
         });
     }
-    world.drain(alloc, judge, script)?;
+    world.drain(alloc, judge)?;
     Ok(Ran {
         report: world_report(alloc, world)?,
         unfinished: None,
@@ -98,18 +106,16 @@ fn ended<J: Judge>(
 pub fn run<J: Judge>(
     alloc: Global,
     judge: &J,
-    ready: &ReadyScript,
-    kernel: Kernel,
+    start: RunStart<'_>,
     schedule: &Schedule,
 ) -> Result<Ran, NoMemory>
-    requires opens { kernel ≡ opening ready.now.script.start }
-    requires there { list_all (is_step_there ready.now.script.targets) schedule.now.steps ≡ true }
-    requires judge { J.policies judge.now ≡ (setting_of ready.now.policies ready.now.script).policies }
-    ensures value { IfOk result (λ r. r ≡ ran ready.now.policies ready.now.script schedule.now) }
+    requires there { list_all (is_step_there start.script.targets) schedule.now.steps ≡ true }
+    requires judge { J.policies judge.now ≡ (setting_of start.policies start.script).policies }
+    ensures value { IfOk result (λ r. r ≡ ran start.entry.policies start.entry.script schedule.now) }
     ensures few { IfOk result (λ r. result_count r.report.results ≤ most_results) }
 {
-    let script = ready.script();
-    let mut world = World::start(alloc, ready, kernel)?;
+    let script = start.ready().script();
+    let mut world = World::start(alloc, start)?;
     let actors = round_actors(alloc, script)?;
     make_steps(alloc, judge, script, &mut world, schedule.steps.as_slice())?;
     make_rounds(alloc, judge, script, &mut world, &actors, schedule.rounds)?;

@@ -1,15 +1,18 @@
 // What all actors share, and one step there.
-ghost use Rattle.std.specs.Prelude.{◌≡◌, ◌<◌, length, slice_index, is_none, None, IfOk, OnOk, OnErr};
+ghost use Rattle.std.specs.Prelude.{◌≡◌, ◌<◌, true, false, length, slice_index, is_none, is_some, None, IfOk, IfSome, OnOk, OnErr};
 ghost use Rattle.sb_actor.specs.declared.acts.Act.TheVariants.{Answer};
-ghost use Rattle.sb_actor.specs.declared.acts.Observed.TheVariants.{Value, Done, Turn};
-ghost use Rattle.sb_actor.specs.WorkerTable.{worker_plan, taken_in, IsAnswer};
+ghost use Rattle.sb_actor.specs.Acts.{observation};
+ghost use Rattle.sb_actor.specs.Observations.{Answered, Value, Done, Turn};
+ghost use Rattle.sb_actor.specs.WorkerStages.{WorkerAt};
+ghost use Rattle.sb_actor.specs.WorkerTable.{taken_in, IsAnswer};
 ghost use Rattle.sb_book.specs.Histories.{JudgesBy};
-ghost use Rattle.sb_core.specs.Shared.{on_word, on_worker, on_answer, turn_taken, with_words, IsActThere};
+ghost use Rattle.sb_core.specs.Shared.{is_answer, on_word, on_worker, on_answer, turn_taken, with_words, IsActThere};
 ghost use Rattle.sb_core.specs.Words.{loaded, stored, exchanged, some_ready, words_of, IsWordThere};
 
 use crate::words::TargetWords;
 use sb_actor::{Act, Observed, WorkerState};
 use sb_book::{Book, decide};
+use sb_call::Reply;
 use sb_items::NoMemory;
 use sb_rule::Judge;
 use sb_statements::Word;
@@ -34,19 +37,17 @@ impl Model for Shared {
 
 impl Shared {
     // A load.
-    #[inline(always)]
     fn load(&self, target: u32, word: Word) -> Observed
         requires { IsWordThere self.now.words target word }
-        ensures { result ≡ Value (loaded (words_of self.now.words target) word) }
+        ensures { observation result ≡ Value (loaded (words_of self.now.words target) word) }
     {
         Observed::Value(self.words[target as usize].load(word))
     }
 
     // A store.
-    #[inline(always)]
     fn store(&mut self, target: u32, word: Word, value: u64) -> Observed
         requires { IsWordThere self.old.words target word }
-        ensures seen { result ≡ Done }
+        ensures seen { observation result ≡ Done }
         ensures shared { self.new ≡ with_words self.old target (stored (words_of self.old.words target) word value) }
     {
         self.words[target as usize].store(word, value);
@@ -54,19 +55,17 @@ impl Shared {
     }
 
     // An exchange.
-    #[inline(always)]
     fn exchange(&mut self, target: u32, word: Word, from: u64, to: u64) -> Observed
         requires { IsWordThere self.old.words target word }
-        ensures seen { result ≡ Value (loaded (words_of self.old.words target) word) }
+        ensures seen { observation result ≡ Value (loaded (words_of self.old.words target) word) }
         ensures shared { self.new ≡ with_words self.old target (exchanged (words_of self.old.words target) word from to) }
     {
         Observed::Value(self.words[target as usize].exchange(word, from, to))
     }
 
     // The worker of a target takes the turn, if nobody has it.
-    #[inline(always)]
     fn take_turn(&mut self, target: u32) -> Observed
-        ensures seen { result ≡ Turn (is_none self.old.turn) }
+        ensures seen { observation result ≡ Turn (is_none self.old.turn) }
         ensures shared { self.new ≡ record self.old { turn = turn_taken target self.old.turn } }
     {
         match self.turn {
@@ -79,45 +78,47 @@ impl Shared {
     }
 
     // The turn is given back.
-    #[inline(always)]
     fn give_turn(&mut self) -> Observed
-        ensures seen { result ≡ Done }
+        ensures seen { observation result ≡ Done }
         ensures shared { self.new ≡ record self.old { turn = None } }
     {
         self.turn = None;
         Observed::Done
     }
 
-    // The book answers the copy of a target's worker.
+    /// The book answers the copy of a target's worker, and gives its reply. After an error nothing is changed.
+    ///
+    /// # Errors
+    /// `NoMemory` if there was none for the call's strings, for the entry, or for what the call makes.
     #[inline(never)]
-    fn answer_copy<J: Judge>(
+    pub(crate) fn answer_copy<J: Judge>(
         &mut self,
         alloc: Global,
         judge: &J,
         target: u32,
         worker: &WorkerState,
-    ) -> Result<Observed, NoMemory>
+    ) -> Result<Reply, NoMemory>
         requires judge { JudgesBy (J.policies judge.now) self.old.book }
         requires target { target < length self.old.book.setting.policies }
         requires channel { worker.now.channel < slice_index self.old.book.setting.channels target }
-        ensures seen { IfOk result (λ s. s ≡ (on_answer self.old target worker.now (taken_in worker.now.stage)).seen) }
+        requires copy { is_some (taken_in worker.now.stage) ≡ true }
+        ensures seen { IfOk result (λ reply. Answered reply ≡ (on_answer self.old target worker.now (taken_in worker.now.stage)).seen) }
         ensures shared { OnOk result (self.new ≡ (on_answer self.old target worker.now (taken_in worker.now.stage)).shared) }
         ensures err { OnErr result (self.new ≡ self.old) }
-        ensures answer { IfOk result (λ s. IsAnswer worker.now.stage s) }
+        ensures answer { IfOk result (λ reply. IsAnswer worker.now.stage (Answered reply)) }
     {
         let Some(taken) = worker.taken() else {
-            return Ok(Observed::Done);
+            unreachable!()
         };
         let decision = decide(alloc, judge, target, taken)?;
         let reply = self.book.answer(target, worker.channel(), taken, decision)?;
-        Ok(Observed::Answered(reply))
+        Ok(reply)
     }
 
     /// Makes the step of a thread, which is on a word, and gives what it found.
-    #[inline(always)]
     pub(crate) fn perform(&mut self, act: Act) -> Observed
         requires { IsActThere self.old.words act }
-        ensures seen { result ≡ (on_word self.old act).seen }
+        ensures seen { observation result ≡ (on_word self.old act).seen }
         ensures shared { self.new ≡ (on_word self.old act).shared }
     {
         match act {
@@ -137,45 +138,20 @@ impl Shared {
         }
     }
 
-    /// Makes the step of the worker of a target, and gives what it found. After an error nothing is changed.
-    ///
-    /// # Errors
-    /// `NoMemory` if the step is at Answer and there was none for the call's strings, for the entry, or for what the call makes.
-    #[inline(always)]
-    pub(crate) fn work<J: Judge>(
-        &mut self,
-        alloc: Global,
-        judge: &J,
-        target: u32,
-        worker: &WorkerState,
-    ) -> Result<Observed, NoMemory>
-        requires judge { JudgesBy (J.policies judge.now) self.old.book }
-        requires target { target < length self.old.book.setting.policies }
-        requires channel { worker.now.channel < slice_index self.old.book.setting.channels target }
-        requires there { IsActThere self.old.words (worker_plan worker.now) }
-        ensures seen { IfOk result (λ s. s ≡ (on_worker self.old target worker.now (worker_plan worker.now)).seen) }
-        ensures shared { OnOk result (self.new ≡ (on_worker self.old target worker.now (worker_plan worker.now)).shared) }
-        ensures err { OnErr result (self.new ≡ self.old) }
-        ensures cause { OnErr result (worker_plan worker.now ≡ Answer) }
-        ensures answer { IfOk result (λ s. IsAnswer worker.now.stage s) }
+    /// Makes the step of the worker of a target, and gives what it found. None at Answer, which is a step of the book (`answer_copy`).
+    pub(crate) fn work(&mut self, target: u32, act: Act) -> Option<Observed>
+        requires there { IsActThere self.old.words act }
+        ensures answer { is_none result ≡ true → (act ≡ Answer) × (self.new ≡ self.old) }
+        ensures seen { (worker : WorkerAt) → IfSome result (λ observed. (is_answer act ≡ false) × (observation observed ≡ (on_worker self.old target worker act).seen)) }
+        ensures shared { (worker : WorkerAt) → IfSome result (λ observed. self.new ≡ (on_worker self.old target worker act).shared) }
     {
-        match worker.plan() {
-            Act::Load { target, word } => Ok(self.load(target, word)),
-            Act::Store {
-                target,
-                word,
-                value,
-            } => Ok(self.store(target, word, value)),
-            Act::Exchange {
-                target,
-                word,
-                from,
-                to,
-            } => Ok(self.exchange(target, word, from, to)),
-            Act::Take => Ok(self.take_turn(target)),
-            Act::Answer => Ok(self.answer_copy(alloc, judge, target, worker)?),
-            Act::Give => Ok(self.give_turn()),
-            Act::Idle => Ok(Observed::Done),
+        match act {
+            Act::Take => Some(self.take_turn(target)),
+            Act::Answer => None,
+            Act::Give => Some(self.give_turn()),
+            Act::Load { .. } | Act::Store { .. } | Act::Exchange { .. } | Act::Idle => {
+                Some(self.perform(act))
+            }
         }
     }
 

@@ -2,7 +2,6 @@
 ghost use Rattle.std.specs.Prelude.{◌≡◌, length, true, IfOk};
 ghost use Rattle.sb_core.specs.Worlds.{first_words, first_workers, start_threads};
 
-use crate::counts::{channel_count, target_count};
 use crate::threads::TargetThreads;
 use crate::words::TargetWords;
 use sb_actor::WorkerState;
@@ -39,8 +38,8 @@ pub(crate) fn first_workers(
     ensures { IfOk result (λ workers. workers.items ≡ first_workers script.now.targets (length script.now.targets)) }
 {
     let mut workers = Vec::new(alloc);
-    for target in 0..target_count(script) {
-        workers.push(WorkerState::new(target, channel_count(script, target)))?;
+    for target in 0..script.target_count() {
+        workers.push(WorkerState::new(target, script.channel_count(target)))?;
     }
     Ok(workers)
 }
@@ -58,7 +57,7 @@ pub(crate) fn first_threads(
 {
     let table = clean_table(script);
     let mut threads = Vec::new(alloc);
-    for target in 0..target_count(script) {
+    for target in 0..script.target_count() {
         threads.push(TargetThreads::new(alloc, script, &table, target)?)?;
     }
     Ok(threads)

@@ -7,7 +7,6 @@ ghost use Rattle.sb_core.specs.Shared.{IsActThere};
 ghost use Rattle.sb_core.specs.Threads.{HasRoom, no_run, thread_step, unfinished_of};
 ghost use Rattle.sb_core.specs.Worlds.{first_run, first_runs};
 
-use crate::counts::thread_count;
 use crate::shared::Shared;
 use sb_actor::ThreadState;
 use sb_book::{TargetResults, ThreadResults};
@@ -59,19 +58,20 @@ impl ThreadRun {
 
     /// One step. Does not allocate.
     #[inline(always)]
+    #[tactic(auto, using(crate::proofs::Answering::room_in))]
     pub(crate) fn step(&mut self, script: &SoundScript, shared: &mut Shared)
         requires there { IsActThere shared.old.words (thread_plan script.now self.old.thread) }
         requires room { HasRoom script.now shared.old self.old }
         ensures run { self.new ≡ (thread_step script.now shared.old self.old).run }
         ensures shared { shared.new ≡ (thread_step script.now shared.old self.old).shared }
     {
-        let seen = shared.perform(self.state.plan(script));
-        if let Some(ended) = self.state.after(script, seen) {
-            self.results.push_reserved(ended);
-        }
+        let direct = self.state.direct_statement(script);
+        let observed = shared.perform(self.state.plan(direct));
+        self.state
+            .after(script, direct, observed, &mut self.results);
     }
 
-    /// Where the thread stands.
+    /// Where the thread is.
     pub(crate) fn state(&self) -> &ThreadState
         ensures { result.now ≡ self.now.thread }
     {
@@ -118,7 +118,7 @@ impl TargetThreads {
         ensures { IfOk result (λ t. t ≡ first_runs script.now target (thread_count (slice_get script.now.targets target))) }
     {
         let mut runs = Vec::new(alloc);
-        for thread in 0..thread_count(script, target) {
+        for thread in 0..script.thread_count(target) {
             runs.push(ThreadRun::new(alloc, script, table, target, thread)?)?;
         }
         Ok(TargetThreads { runs })

@@ -1,19 +1,17 @@
 // The channel words of a target.
 ghost use Rattle.std.specs.Prelude.{◌≡◌, ◌<◌, length, IfOk};
-ghost use Rattle.sb_core.specs.Words.{free_channel, free_channels, place_of, loaded, stored, exchanged, has_ready};
+ghost use Rattle.sb_core.specs.Words.{free_channel, free_channels, loaded, stored, exchanged, has_ready};
+ghost use Rattle.sb_statements.specs.Words.{place_of};
 
 use sb_actor::{FREE, READY};
 use sb_items::{Items, NoMemory};
-use sb_statements::Word;
+use sb_statements::{WORDS_OF_CHANNEL, Word};
 use std::alloc::Global;
 use std::marker::Model;
 
-// A channel has its state and 64 words of a block.
-const CHANNEL: usize = 65;
-
-/// The words of a target's channels: word j of channel c stands at `c * 65 + j`. Contracts see them as a list.
+/// The words of a target's channels: word j of channel c is at `c * 65 + j`. Contracts see them as a list.
 ///
-/// Each load, store and exchange stands for one atomic step of the actor that makes it. Actors here take turns, step by step.
+/// Each load, store and exchange is one atomic step of the actor that makes it. Actors here take turns, step by step.
 #[derive(Drop)]
 pub(crate) struct TargetWords {
     words: Vec<u64>,
@@ -34,16 +32,6 @@ fn free_channel() -> [u64; 65]
     let mut words = [0; 65];
     words[0] = FREE;
     words
-}
-
-// Where a word stands.
-#[inline(always)]
-fn place_of(word: Word, len: usize) -> usize
-    requires { place_of word < len }
-    ensures { result ≡ place_of word }
-{
-    let _len = len;
-    word.channel as usize * CHANNEL + word.at as usize
 }
 
 impl TargetWords {
@@ -80,32 +68,29 @@ impl TargetWords {
     }
 
     /// What a word holds.
-    #[inline(always)]
     pub(crate) fn load(&self, word: Word) -> u64
         requires { place_of word < length self.now }
         ensures { result ≡ loaded self.now word }
     {
-        self.words[place_of(word, self.words.len())]
+        self.words[word.place()]
     }
 
     /// Stores a value into a word.
-    #[inline(always)]
     pub(crate) fn store(&mut self, word: Word, value: u64)
         requires { place_of word < length self.old }
         ensures { self.new ≡ stored self.old word value }
     {
-        let at = place_of(word, self.words.len());
+        let at = word.place();
         self.words[at] = value;
     }
 
     /// Stores `to` into a word that holds `from`, and gives what it held.
-    #[inline(always)]
     pub(crate) fn exchange(&mut self, word: Word, from: u64, to: u64) -> u64
         requires { place_of word < length self.old }
         ensures found { result ≡ loaded self.old word }
         ensures after { self.new ≡ exchanged self.old word from to }
     {
-        let at = place_of(word, self.words.len());
+        let at = word.place();
         let found = self.words[at];
         if found == from {
             self.words[at] = to;
@@ -117,10 +102,10 @@ impl TargetWords {
     pub(crate) fn has_ready(&self) -> bool
         ensures { result ≡ has_ready self.now }
     {
-        let mut left = self.words.len() / CHANNEL;
+        let mut left = self.words.len() / WORDS_OF_CHANNEL;
         while left > 0 {
             left -= 1;
-            if self.words[left * CHANNEL] == READY {
+            if self.words[left * WORDS_OF_CHANNEL] == READY {
                 return true;
             }
         }

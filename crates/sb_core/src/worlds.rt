@@ -3,12 +3,12 @@ ghost use Rattle.std.specs.Prelude.{◌≡◌, ◌<◌, ◌≤◌, length, true,
 ghost use Rattle.sb_actor.specs.WorkerTable.{worker_plan};
 ghost use Rattle.sb_actor.specs.declared.acts.Act.TheVariants.{Answer};
 ghost use Rattle.sb_book.specs.Histories.{JudgesBy};
-ghost use Rattle.sb_kernel.specs.Openings.{opening};
 ghost use Rattle.sb_statements.specs.declared.schedules.Actor.TheVariants.{Thread};
+ghost use Rattle.sb_statements.specs.declared.scripts.Script.{Script};
 ghost use Rattle.sb_statements.specs.Actors.{is_there};
 ghost use Rattle.sb_core.specs.Changes.{plan_of};
 ghost use Rattle.sb_core.specs.Drains.{IsBeginning, drained};
-ghost use Rattle.sb_core.specs.Kept.{IsReached, IsRunning, IsWorld};
+ghost use Rattle.sb_core.specs.Kept.{IsRunning, IsWorld};
 ghost use Rattle.sb_core.specs.OfScripts.{IsOfScript};
 ghost use Rattle.sb_core.specs.Threads.{first_unfinished};
 ghost use Rattle.sb_core.specs.Worlds.{start_world, worker_at, worker_step, step, all_finished};
@@ -18,9 +18,8 @@ use crate::shared::Shared;
 use crate::starts::{first_threads, first_words, first_workers};
 use crate::threads::TargetThreads;
 use sb_actor::WorkerState;
-use sb_book::{Book, ReadyScript};
+use sb_book::{Book, RunStart};
 use sb_items::NoMemory;
-use sb_kernel::Kernel;
 use sb_rule::Judge;
 use sb_statements::{Actor, SoundScript, sound_parts};
 use std::alloc::Global;
@@ -29,7 +28,7 @@ use std::marker::Model;
 /// The channel words, the holder of the turn and the book, which all actors share; the worker of each target; and its threads with
 /// their results. Every number in it is in its range, each thread has one result for each statement that ended, and the turn is with a
 /// worker exactly while that is at Answer or Give. A world that was started with a script stays one of it under its steps and drains, and
-/// so keeps rule S for each target if the strings of the script's calls are made of units (`worlds_of_scripts_keep_rule`).
+/// so keeps rule S for each target (`worlds_of_scripts_keep_rule`).
 #[derive(Drop)]
 pub struct World {
     pub(crate) shared: Shared,
@@ -55,19 +54,19 @@ impl World {
     /// # Errors
     /// `NoMemory` if there was none for the words, the actors or the results.
     #[tactic(auto, using(crate::proofs::Starting::starts_world, crate::proofs::Starting::starts_running, crate::proofs::Belonging::of_start))]
-    pub fn start(alloc: Global, ready: &ReadyScript, kernel: Kernel) -> Result<World, NoMemory>
-        requires opens { kernel ≡ opening ready.now.script.start }
-        ensures value { IfOk result (λ world. world ≡ start_world ready.now.policies ready.now.script) }
-        ensures running { IfOk result (λ world. IsRunning ready.now.script world) }
-        ensures of_script { IfOk result (λ world. IsOfScript ready.now.script world) }
+    pub fn start(alloc: Global, start: RunStart<'_>) -> Result<World, NoMemory>
+        ensures value { IfOk result (λ world. world ≡ start_world start.entry.policies start.entry.script) }
+        ensures running { IfOk result (λ world. IsRunning start.entry.script world) }
+        ensures of_script { IfOk result (λ world. IsOfScript start.entry.script world) }
     {
         sound_parts();
+        let ready = start.ready();
         ready.establish_ready();
         let script = ready.script();
         let shared = Shared {
             words: first_words(alloc, script.targets.as_slice())?,
             turn: None,
-            book: Book::new(alloc, ready, kernel),
+            book: Book::new(alloc, start),
         };
         Ok(World {
             shared,
@@ -84,9 +83,33 @@ impl World {
         let _count = self.workers.len();
     }
 
+    // The step of the worker of a target that is at Answer.
+    #[tactic(auto, using(crate::proofs::There::worker_channel, crate::proofs::There::worker_policy, crate::proofs::Answering::has_copy, crate::proofs::Keeping::worker_keeps, crate::proofs::Keeping::worker_setting))]
+    fn answer_step<J: Judge>(
+        &mut self,
+        alloc: Global,
+        judge: &J,
+        target: u32,
+    ) -> Result<(), NoMemory>
+        requires judge { JudgesBy (J.policies judge.now) self.old.shared.book }
+        requires target { target < length self.old.workers }
+        requires plan { worker_plan (worker_at self.old target) ≡ Answer }
+        ensures ok { OnOk result (self.new ≡ worker_step self.old target) }
+        ensures err { OnErr result (self.new ≡ self.old) }
+        ensures setting { self.new.shared.book.setting ≡ self.old.shared.book.setting }
+        ensures workers { length self.new.workers ≡ length self.old.workers }
+    {
+        let at = target as usize;
+        let reply = self
+            .shared
+            .answer_copy(alloc, judge, target, &self.workers[at])?;
+        self.workers[at].accept_reply(&reply);
+        Ok(())
+    }
+
     // One step of the worker of a target.
     #[inline(always)]
-    #[tactic(auto, using(crate::proofs::There::worker_there, crate::proofs::There::worker_channel, crate::proofs::There::worker_policy, crate::proofs::Keeping::worker_keeps, crate::proofs::Keeping::worker_setting))]
+    #[tactic(auto, using(crate::proofs::Keeping::worker_setting))]
     pub(crate) fn worker_step<J: Judge>(
         &mut self,
         alloc: Global,
@@ -102,8 +125,10 @@ impl World {
         ensures workers { length self.new.workers ≡ length self.old.workers }
     {
         let at = target as usize;
-        let seen = self.shared.work(alloc, judge, target, &self.workers[at])?;
-        self.workers[at].after(seen);
+        let Some(observed) = self.shared.work(target, self.workers[at].plan()) else {
+            return self.answer_step(alloc, judge, target);
+        };
+        self.workers[at].after(observed);
         Ok(())
     }
 
@@ -182,29 +207,20 @@ impl World {
         self.workers.len() as u32
     }
 
-    /// One step of each worker in target order, again and again, until each is looking and no state word is 3. The script is the one
-    /// with which the world was started, and the judge judges its targets by their policies. After an error the world is that of a
-    /// beginning of the drain.
+    /// One step of each worker in target order, again and again, until each is looking and no state word is 3. The judge judges the
+    /// targets by their policies. After an error the world is that of a beginning of the drain.
     ///
     /// # Errors
     /// `NoMemory` if there was none for a step.
-    pub fn drain<J: Judge>(
-        &mut self,
-        alloc: Global,
-        judge: &J,
-        script: &SoundScript,
-    ) -> Result<(), NoMemory>
+    pub fn drain<J: Judge>(&mut self, alloc: Global, judge: &J) -> Result<(), NoMemory>
         requires judge { JudgesBy (J.policies judge.now) self.old.shared.book }
-        requires running { IsRunning script.now self.old }
         ensures ok { OnOk result (self.new ≡ drained self.old) }
         ensures err { OnErr result (IsBeginning self.old self.new) }
-        ensures running { IsRunning script.now self.new }
-        ensures of_script { IsOfScript script.now self.old → IsOfScript script.now self.new }
-        ensures reached { IsReached script.now self.old self.new }
+        ensures running { (script : Script) → IsRunning script self.old → IsRunning script self.new }
+        ensures of_script { (script : Script) → IsOfScript script self.old → IsOfScript script self.new }
         ensures setting { self.new.shared.book.setting ≡ self.old.shared.book.setting }
     {
         sound_parts();
-        let _script = script;
         self.establish_kept();
         settle(alloc, judge, self)?;
         Ok(())

@@ -7,7 +7,7 @@ ghost use Rattle.sb_gen.specs.Scripts.{script_of};
 
 use crate::policies::policies;
 use crate::scripts::script;
-use sb_book::{OpenedScript, ReadyScript};
+use sb_book::OpenedScript;
 use sb_items::NoMemory;
 use sb_statements::SoundScript;
 use std::alloc::Global;
@@ -29,7 +29,7 @@ pub fn make(alloc: Global, seed: u64, targets: u32, calls: u32) -> Result<Opened
     let policies = policies(alloc)?;
     let _well_made = policies.policies();
     let script = script(alloc, seed, targets, calls)?;
-    let ready = ReadyScript::of(policies, SoundScript::of(script));
-    let kernel = ready.open(alloc)?;
-    Ok(OpenedScript::of(ready, kernel))
+    let opened = OpenedScript::new(alloc, policies, SoundScript::of(script))?;
+    // What is made is ready.
+    Ok(opened.unwrap())
 }

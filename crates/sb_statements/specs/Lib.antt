@@ -5,3 +5,4 @@ pub mod Scripts
 pub mod SoundScripts
 pub mod Soundness
 pub mod Units
+pub mod Words

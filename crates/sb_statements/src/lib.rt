@@ -4,6 +4,7 @@
 
 mod actors;
 mod clean_tables;
+mod counts;
 mod laws;
 mod limits;
 mod results;
@@ -25,4 +26,4 @@ pub use schedules::{Actor, Schedule, Steps};
 pub use scripts::{Script, StartLine, StartLines, TargetScript, Targets, clean};
 pub use sound_scripts::SoundScript;
 pub use soundness::sound;
-pub use statements::{Statement, Statements, Threads, Word};
+pub use statements::{Statement, Statements, Threads, WORDS_OF_CHANNEL, Word};

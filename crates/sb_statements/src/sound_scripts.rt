@@ -69,7 +69,7 @@ fn statement_has_units(statement: &Statement) -> bool
     ensures { result ≡ statement_has_units statement.now }
 {
     match statement {
-        Statement::Call { args, .. } => args_have_units(args.as_slice()),
+        Statement::Call { args, .. } => args_have_units(args),
         Statement::Store { .. }
         | Statement::Exchange { .. }
         | Statement::Load { .. }
@@ -80,19 +80,19 @@ fn statement_has_units(statement: &Statement) -> bool
 fn thread_has_units(statements: &Statements) -> bool
     ensures { result ≡ thread_has_units statements.now }
 {
-    statements.as_slice().iter().all(statement_has_units)
+    statements.iter().all(statement_has_units)
 }
 
 fn target_has_units(target: &TargetScript) -> bool
     ensures { result ≡ target_has_units target.now }
 {
-    target.threads.as_slice().iter().all(thread_has_units)
+    target.threads.iter().all(thread_has_units)
 }
 
 fn script_has_units(script: &Script) -> bool
     ensures { result ≡ script_has_units script.now }
 {
-    script.targets.as_slice().iter().all(target_has_units)
+    script.targets.iter().all(target_has_units)
 }
 
 fn has_short_name(target: &TargetScript) -> bool
@@ -104,7 +104,7 @@ fn has_short_name(target: &TargetScript) -> bool
 fn has_short_names(script: &Script) -> bool
     ensures { result ≡ has_short_names script.now }
 {
-    script.targets.as_slice().iter().all(has_short_name)
+    script.targets.iter().all(has_short_name)
 }
 
 impl SoundScript {
@@ -140,14 +140,6 @@ impl SoundScript {
         ensures { result.now ≡ self.now }
     {
         &self.script
-    }
-
-    /// The script, taken out.
-    pub fn into_script(self) -> Script
-        ensures { result ≡ self }
-    {
-        let SoundScript { script } = self;
-        script
     }
 
     /// What holds of every sound script. It does nothing.

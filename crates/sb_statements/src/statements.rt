@@ -1,9 +1,13 @@
 // What the threads of a target do.
 ghost use Rattle.std.specs.Prelude.{◌≡◌};
 ghost use Rattle.sb_statements.specs.Scripts.{writes_channel};
+ghost use Rattle.sb_statements.specs.Words.{place_of};
 
 use sb_call::{Args, CallTag};
 use sb_items::Items;
+
+/// How many words a channel has: its state, and the 64 words of a block.
+pub const WORDS_OF_CHANNEL: usize = 65;
 
 /// A word of a target's channels.
 #[derive(Clone, Copy, PartialEq, Eq)]
@@ -12,6 +16,16 @@ pub struct Word {
     pub channel: u32,
     /// The place in the channel: 0 is the state, and 1 + i is block word i, for i from 0 to 63.
     pub at: u32,
+}
+
+impl Word {
+    /// Where the word is among the words of its target: word j of channel c is at `c * 65 + j`.
+    #[inline(always)]
+    pub fn place(self) -> usize
+        ensures { result ≡ place_of self }
+    {
+        self.channel as usize * WORDS_OF_CHANNEL + self.at as usize
+    }
 }
 
 /// What a thread does. Targets are numbered from 0.

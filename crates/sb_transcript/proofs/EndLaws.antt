@@ -38,7 +38,8 @@ use Rattle.sb_transcript.specs.EntryLines.{fault_text, argument_text, denial_wor
 use Rattle.sb_transcript.specs.ResultLines.{call_result_text, result_text, result_line}
 use Rattle.sb_transcript.specs.Totals.{counted, decisions_text, totals_line, count_of, is_performed, is_faked, is_denied, is_refused}
 use Rattle.sb_transcript.specs.Transcripts.{entry_lines, thread_lines, target_lines, result_lines, transcript_lines}
-use Rattle.sb_transcript.specs.Laws.{is_no_lf, is_one_line, has_short_name, HasShortNames, cut_behind_lf, LinesEndOnce, TranscriptsTellTheirLines}
+use Rattle.sb_transcript.specs.Laws.{is_no_lf, is_one_line, cut_after_lf, LinesEndOnce, TranscriptsTellTheirLines}
+use Rattle.sb_statements.specs.SoundScripts.{has_short_name, has_short_names}
 use Rattle.sb_outside.specs.Outside.{joined}
 
 -- bytes without an LF
@@ -214,14 +215,14 @@ result_no_lf (Unmet loads) = decimal_no_lf loads
 
 -- lines
 
-entry_ends : (script : Script) → HasShortNames script → (n : ℕ) (e : Entry) → is_one_line (entry_line script n e) ≡ true
+entry_ends : (script : Script) → has_short_names script ≡ true → (n : ℕ) (e : Entry) → is_one_line (entry_line script n e) ≡ true
 entry_ends script short n e =
     let name = name_by_no_lf script.targets e.target short in
     let front = codes "entry " ++ decimal n ++ codes " " ++ target_name script e.target ++ codes " " ++ decimal e.channel ++ codes " mark " ++ decimal (mark_of e.taken) ++ codes " " ++ decision_text e.decision ++ codes " reply " in
     let fronts : has_no_lf front ≡ true = simp (list_all-append, decimal_no_lf, name, decision_no_lf) refl in
     ended (front ++ reply_text e.reply) (joined_no_lf front (reply_text e.reply) fronts (reply_no_lf e.reply))
 
-result_ends : (script : Script) → HasShortNames script → (target thread place : ℕ) (r : StmtResult) → is_one_line (result_line script target thread place r) ≡ true
+result_ends : (script : Script) → has_short_names script ≡ true → (target thread place : ℕ) (r : StmtResult) → is_one_line (result_line script target thread place r) ≡ true
 result_ends script short target thread place r =
     let name = name_by_no_lf script.targets target short in
     ended
@@ -255,27 +256,28 @@ each_ends lines = list_all is_one_line lines
 joined_ends : (a b : List (List ℕ)) → each_ends a ≡ true → each_ends b ≡ true → each_ends (a ++ b) ≡ true
 joined_ends a b ha hb = rw (list_all-append is_one_line a b, ha, hb) refl
 
-entries_end : (script : Script) → HasShortNames script → (n : ℕ) (es : List Entry) → each_ends (entry_lines script n es) ≡ true
+entries_end : (script : Script) → has_short_names script ≡ true → (n : ℕ) (es : List Entry) → each_ends (entry_lines script n es) ≡ true
 entries_end script short n [] = refl
 entries_end script short n (e ∷ es) = rw (entry_ends script short n e, entries_end script short (n + 1) es) refl
 
-thread_ends : (script : Script) → HasShortNames script → (target thread place : ℕ) (rs : List StmtResult) → each_ends (thread_lines script target thread place rs) ≡ true
+thread_ends : (script : Script) → has_short_names script ≡ true → (target thread place : ℕ) (rs : List StmtResult) → each_ends (thread_lines script target thread place rs) ≡ true
 thread_ends script short target thread place [] = refl
 thread_ends script short target thread place (r ∷ rs) =
     rw (result_ends script short target thread place r, thread_ends script short target thread (place + 1) rs) refl
 
-target_ends : (script : Script) → HasShortNames script → (target thread : ℕ) (threads : List (List StmtResult)) → each_ends (target_lines script target thread threads) ≡ true
+target_ends : (script : Script) → has_short_names script ≡ true → (target thread : ℕ) (threads : List (List StmtResult)) → each_ends (target_lines script target thread threads) ≡ true
 target_ends script short target thread [] = refl
 target_ends script short target thread (rs ∷ more) =
     joined_ends (thread_lines script target thread 0 rs) (target_lines script target (thread + 1) more) (thread_ends script short target thread 0 rs) (target_ends script short target (thread + 1) more)
 
-results_end : (script : Script) → HasShortNames script → (target : ℕ) (targets : List (List (List StmtResult))) → each_ends (result_lines script target targets) ≡ true
+results_end : (script : Script) → has_short_names script ≡ true → (target : ℕ) (targets : List (List (List StmtResult))) → each_ends (result_lines script target targets) ≡ true
 results_end script short target [] = refl
 results_end script short target (threads ∷ more) =
     joined_ends (target_lines script target 0 threads) (result_lines script (target + 1) more) (target_ends script short target 0 threads) (results_end script short (target + 1) more)
 
 pub lines_end_once : LinesEndOnce
-lines_end_once script report short =
+lines_end_once policies script report ready =
+    let short = ready.short in
     joined_ends (entry_lines script 0 report.entries ++ result_lines script 0 report.results) (totals_line report ∷ [])
     (joined_ends (entry_lines script 0 report.entries) (result_lines script 0 report.results) (entries_end script short 0 report.entries) (results_end script short 0 report.results))
     (rw (totals_end_once report) refl)
@@ -285,20 +287,20 @@ not_true true h = absurd (false≢true h)
 not_true false h = refl
 
 -- a line that ends once is cut off as it is
-cut_line : (line rest : List ℕ) → is_one_line line ≡ true → cut_behind_lf (line ++ rest) ≡ line ∷ cut_behind_lf rest
+cut_line : (line rest : List ℕ) → is_one_line line ≡ true → cut_after_lf (line ++ rest) ≡ line ∷ cut_after_lf rest
 cut_line [] rest h = absurd (false≢true h)
 cut_line (b ∷ []) rest h = rw h refl
 cut_line (b ∷ c ∷ bs) rest h =
     let p = and_parts (is_no_lf b) (is_one_line (c ∷ bs)) h in
     let other : eqb b 10 ≡ false = not_true (eqb b 10) p.0 in
-    let later : cut_behind_lf (c ∷ (bs ++ rest)) ≡ (c ∷ bs) ∷ cut_behind_lf rest = cut_line (c ∷ bs) rest p.1 in
-    ap (λ t. cond t ((b ∷ []) ∷ cut_behind_lf (c ∷ (bs ++ rest))) (onto_first b (cut_behind_lf (c ∷ (bs ++ rest))))) other ∙ ap (onto_first b) later
+    let later : cut_after_lf (c ∷ (bs ++ rest)) ≡ (c ∷ bs) ∷ cut_after_lf rest = cut_line (c ∷ bs) rest p.1 in
+    ap (λ t. cond t ((b ∷ []) ∷ cut_after_lf (c ∷ (bs ++ rest))) (onto_first b (cut_after_lf (c ∷ (bs ++ rest))))) other ∙ ap (onto_first b) later
 
-cut_lines : (lines : List (List ℕ)) → each_ends lines ≡ true → cut_behind_lf (joined lines) ≡ lines
+cut_lines : (lines : List (List ℕ)) → each_ends lines ≡ true → cut_after_lf (joined lines) ≡ lines
 cut_lines [] h = refl
 cut_lines (line ∷ lines) h =
     let p = and_parts (is_one_line line) (each_ends lines) h in
     cut_line line (joined lines) p.0 ∙ ap (λ more. line ∷ more) (cut_lines lines p.1)
 
 pub transcripts_tell_their_lines : TranscriptsTellTheirLines
-transcripts_tell_their_lines script report short = cut_lines (transcript_lines script report) (lines_end_once script report short)
+transcripts_tell_their_lines policies script report ready = cut_lines (transcript_lines script report) (lines_end_once policies script report ready)

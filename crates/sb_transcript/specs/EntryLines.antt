@@ -40,7 +40,7 @@ abbrev pub argument_text : Arg → List ℕ
 argument_text (Num n) = codes " 0x" ++ hexadecimal n
 argument_text (Str units) = codes " " ++ quoted units
 
--- what stands before the line of a rule that denies
+-- what comes before the line of a rule that denies
 abbrev pub denial_word : Action → List ℕ
 denial_word Alarm = codes " alarm "
 denial_word Allow = codes " rule "
@@ -48,7 +48,7 @@ denial_word Deny = codes " rule "
 denial_word Fake = codes " rule "
 denial_word ReadOnly = codes " rule "
 
--- what stands before the line of a rule that grants
+-- what comes before the line of a rule that grants
 abbrev pub grant_word : Action → List ℕ
 grant_word ReadOnly = codes " readonly "
 grant_word Allow = codes " rule "

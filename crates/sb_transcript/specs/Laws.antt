@@ -1,10 +1,10 @@
 -- Laws of the transcript: its lines are those of the entries, then those of the results, then the totals, each once and in order.
 use Rattle.std.specs.Prelude.{◌≡◌, ℕ, ◌+◌, ◌<◌, ◌⊎◌, Bool, true, false, not, ◌&&◌, ◌==◌, List, [], ◌∷◌, length, Some, IsSome, slice_get, if◌then◌else◌}
 use Rattle.std.specs.List.{list_all, onto_first}
-use Rattle.sb_call.specs.ShortNames.{is_short_name}
+use Rattle.sb_rule.specs.declared.policies.Policy.{Policy}
 use Rattle.sb_statements.specs.declared.results.StmtResult.{StmtResult}
 use Rattle.sb_statements.specs.declared.scripts.Script.{Script}
-use Rattle.sb_statements.specs.declared.scripts.TargetScript.{TargetScript}
+use Rattle.sb_book.specs.Readiness.{IsReady}
 use Rattle.sb_book.specs.Reports.{result_count}
 use Rattle.sb_book.specs.declared.entries.Entry.{Entry}
 use Rattle.sb_book.specs.declared.reports.Report.{Report}
@@ -59,24 +59,17 @@ is_one_line [] = false
 is_one_line (b ∷ []) = b == 10
 is_one_line (b ∷ c ∷ bs) = is_no_lf b && is_one_line (c ∷ bs)
 
--- the name of a target is a short name
-abbrev pub has_short_name : TargetScript → Bool
-has_short_name target = is_short_name target.name
-
--- so is each of a script's
-abbrev pub HasShortNames : Script → Type 0
-HasShortNames script = list_all has_short_name script.targets ≡ true
-
 -- each line ends with LF and holds no other
 abbrev pub LinesEndOnce : Type 0
-LinesEndOnce = (script : Script) (report : Report) → HasShortNames script → list_all is_one_line (transcript_lines script report) ≡ true
+LinesEndOnce = (policies : List Policy) (script : Script) (report : Report) → IsReady policies script
+    → list_all is_one_line (transcript_lines script report) ≡ true
 
 -- bytes, cut after each LF
-abbrev pub cut_behind_lf : List ℕ → List (List ℕ)
-cut_behind_lf [] = []
-cut_behind_lf (b ∷ bs) = if b == 10 then (b ∷ []) ∷ cut_behind_lf bs else onto_first b (cut_behind_lf bs)
+abbrev pub cut_after_lf : List ℕ → List (List ℕ)
+cut_after_lf [] = []
+cut_after_lf (b ∷ bs) = if b == 10 then (b ∷ []) ∷ cut_after_lf bs else onto_first b (cut_after_lf bs)
 
 -- a transcript that is cut after each LF falls into its lines
 abbrev pub TranscriptsTellTheirLines : Type 0
-TranscriptsTellTheirLines = (script : Script) (report : Report) → HasShortNames script
-    → cut_behind_lf (transcript script report) ≡ transcript_lines script report
+TranscriptsTellTheirLines = (policies : List Policy) (script : Script) (report : Report) → IsReady policies script
+    → cut_after_lf (transcript script report) ≡ transcript_lines script report

@@ -1,4 +1,4 @@
--- Where a result stands among all.
+-- Where a result is among all.
 use Rattle.std.specs.Prelude.{ℕ, ◌+◌, List, [], take, Option, slice_get, slice_index_or}
 use Rattle.sb_statements.specs.declared.results.StmtResult.{StmtResult}
 use Rattle.sb_book.specs.Reports.{result_count, thread_count}

@@ -15,6 +15,9 @@ use sb_wide::{put_decimal, put_eight_digits, put_hexadecimal, quote_into};
 use std::alloc::Global;
 
 /// Appends a name and a number in decimal.
+///
+/// # Errors
+/// `NoMemory` if there was none for it; then a part may have been appended.
 pub fn put_named(line: &mut Vec<u8>, name: &[u8], value: u64) -> Result<(), NoMemory>
     ensures { OnOk result (line.new.items ≡ line.old.items ++ (name.now ++ decimal value)) }
 {
@@ -135,6 +138,9 @@ fn put_decision(line: &mut Vec<u8>, decision: &Decision) -> Result<(), NoMemory>
 }
 
 /// Appends a reply: its outcome, status, handle and extended words.
+///
+/// # Errors
+/// `NoMemory` if there was none for it; then a part may have been appended.
 pub fn put_reply(line: &mut Vec<u8>, reply: &Reply) -> Result<(), NoMemory>
     ensures { OnOk result (line.new.items ≡ line.old.items ++ reply_text reply.now) }
 {
@@ -150,6 +156,9 @@ pub fn put_reply(line: &mut Vec<u8>, reply: &Reply) -> Result<(), NoMemory>
 }
 
 /// Appends the name of a target, and nothing if there is no such target.
+///
+/// # Errors
+/// `NoMemory` if there was none for it; then a part may have been appended.
 pub fn put_target(line: &mut Vec<u8>, script: &Script, target: usize) -> Result<(), NoMemory>
     ensures { OnOk result (line.new.items ≡ line.old.items ++ target_name script.now target) }
 {
@@ -187,6 +196,9 @@ fn put_parts(
 }
 
 /// Appends the line of entry `n` of a history, counted from 0, with its LF.
+///
+/// # Errors
+/// `NoMemory` if there was none for it; then a part may have been appended.
 pub fn put_entry_line(
     line: &mut Vec<u8>,
     script: &Script,

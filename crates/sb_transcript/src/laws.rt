@@ -27,13 +27,13 @@ pub fn numbers_are_results()
     ensures { NumbersAreResults }
 {}
 
-/// More results come before the later of two, by target, thread and place. So the lines of results stand in this order, and
+/// More results come before the later of two, by target, thread and place. So the lines of results are in this order, and
 /// no two results share a line.
 pub fn results_are_in_order()
     ensures { ResultsAreInOrder }
 {}
 
-/// If the names of a script's targets are short names, each line ends with LF and holds no other.
+/// Each line of the transcript of a ready script ends with LF and holds no other.
 pub fn lines_end_once()
     ensures { LinesEndOnce }
 {}

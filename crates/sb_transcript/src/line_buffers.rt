@@ -46,12 +46,12 @@ fn put_pieces<S: Sink>(bytes: &[u8], lengths: &[usize], sink: &mut S) -> Result<
     let mut rest = bytes;
     let mut lengths = lengths;
     while let Some((count, later)) = lengths.split_first() {
-        let (line, behind) = rest.split_at(*count);
+        let (line, others) = rest.split_at(*count);
         match sink.put(line) {
             Ok(()) => {}
             Err(fault) => return Err(fault),
         }
-        rest = behind;
+        rest = others;
         lengths = later;
     }
     sink.finish()

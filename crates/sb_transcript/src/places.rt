@@ -1,4 +1,4 @@
-// Where a result stands among all.
+// Where a result is among all.
 ghost use Rattle.std.specs.Prelude.{◌≡◌, ◌≤◌, ◌<◌, ◌+◌, ◌^◌, [], Some, IfNone, IfSome, slice_get, slice_index_or, take};
 ghost use Rattle.sb_book.specs.Reports.{result_count, thread_count};
 ghost use Rattle.sb_transcript.specs.Places.{result_at, results_before};
@@ -7,7 +7,7 @@ use crate::counts::thread_count;
 use sb_book::{Results, ThreadResults};
 use sb_statements::StmtResult;
 
-/// A result, and where it stands: its target, its thread and its place there, each numbered from 0.
+/// A result, and where it is: its target, its thread and its place there, each numbered from 0.
 #[derive(Clone, Copy)]
 pub struct Place<'a> {
     /// The number of the target.

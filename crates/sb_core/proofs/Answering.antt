@@ -1,0 +1,59 @@
+-- The step of a worker at Answer, and room for the result of a statement.
+use Rattle.std.proofs.Common.{◌≡◌, refl, ◌<◌, ◌≤◌, ℕ, Bool, true, false, sym, ap, set, ◌∙◌, arith}
+use Rattle.std.specs.Prelude.{Option, None, Some, IfSome, is_some}
+use Rattle.sb_actor.specs.Observations.{Observation}
+use Rattle.sb_actor.specs.WorkerStages.{WorkerStage, WorkerAt, Look, Count, End, Copy, Take, Answer, Give, Reply, Ack}
+use Rattle.sb_actor.specs.WorkerTable.{worker_plan, worker_row, taken_in, IsAnswer}
+use Rattle.sb_actor.specs.declared.acts.Act.{Act}
+use Rattle.sb_actor.specs.declared.acts.Act.TheVariants as act
+use Rattle.sb_statements.specs.declared.results.StmtResult.{StmtResult}
+use Rattle.sb_call.specs.declared.replies.Reply.{Reply as CallReply}
+use Rattle.sb_actor.specs.Observations.{Answered}
+use Rattle.sb_actor.specs.WorkerTable.{worker_after}
+use Rattle.sb_core.specs.Shared.{SharedAt, is_answer, on_answer, on_worker}
+use Rattle.sb_core.specs.Worlds.{WorldAt, worker_at, worker_step}
+use Rattle.sb_core.proofs.Keeping.{worker_left}
+
+-- a worker at Answer has a copy
+pub has_copy : (w : WorkerAt) → worker_plan w ≡ act.Answer → is_some (taken_in w.stage) ≡ true
+has_copy w e = by_stage w.stage (ap is_answer e)
+  where
+    by_stage : (stage : WorkerStage) → is_answer (worker_row w stage).step ≡ true → is_some (taken_in stage) ≡ true
+    by_stage Look h = absurd cc
+    by_stage Count h = absurd cc
+    by_stage (End count) h = absurd cc
+    by_stage (Copy count end words) h = absurd cc
+    by_stage (Take taken) h = refl
+    by_stage (Answer taken) h = refl
+    by_stage (Give taken reply) h = refl
+    by_stage (Reply taken reply at) h = absurd cc
+    by_stage (Ack taken reply) h = absurd cc
+
+-- and only there does the book reply
+pub no_answer : (w : WorkerAt) (a : Act) (seen : Observation) → a ≡ worker_plan w → is_answer a ≡ false → IsAnswer w.stage seen
+no_answer w a seen e h = by_stage w.stage (sym (ap is_answer e) ∙ h)
+  where
+    by_stage : (stage : WorkerStage) → is_answer (worker_row w stage).step ≡ false → IsAnswer stage seen
+    by_stage Look h = tt
+    by_stage Count h = tt
+    by_stage (End count) h = tt
+    by_stage (Copy count end words) h = tt
+    by_stage (Take taken) h = tt
+    by_stage (Answer taken) h = absurd cc
+    by_stage (Give taken reply) h = tt
+    by_stage (Reply taken reply at) h = tt
+    by_stage (Ack taken reply) h = tt
+
+-- a list with room for most results has room for one of fewer
+pub room_in : (ended : Option StmtResult) (made most room : ℕ) → IfSome ended (λ r. made < most) → most ≤ room → IfSome ended (λ r. made < room)
+room_in None made most room h l = tt
+room_in (Some r) made most room h l = omega arith
+
+-- what the step of a worker at Answer left, by the worker that was found
+pub answer_left : (w : WorldAt) (t : ℕ) (x y z : WorkerAt) (reply : CallReply) (s : SharedAt) → x ≡ worker_at w t → y ≡ worker_at w t
+    → worker_plan (worker_at w t) ≡ act.Answer → Answered reply ≡ (on_answer w.shared t x (taken_in x.stage)).seen
+    → s ≡ (on_answer w.shared t x (taken_in x.stage)).shared → z ≡ worker_after y (Answered reply)
+    → record w { shared = s; workers = set w.workers t z } ≡ worker_step w t
+answer_left w t x y z reply s e f p g h i =
+    let plan : worker_plan x ≡ act.Answer = ap (λ v. worker_plan v) e ∙ p in
+    worker_left w t x y z (Answered reply) s e f (g ∙ ap (λ a. (on_worker w.shared t x a).seen) (sym plan)) (h ∙ ap (λ a. (on_worker w.shared t x a).shared) (sym plan)) i
