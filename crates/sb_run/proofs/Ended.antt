@@ -6,7 +6,7 @@ use Rattle.atomic_table.specs.Seated.{TableId}
 use Rattle.sb_actor.specs.Places.{is_finished}
 use Rattle.sb_actor.specs.WorkerStages.{WorkerAt, WorkerStage, Look, Count, End, Copy, Take, Answer, Give, Reply, Ack}
 use Rattle.sb_actor.specs.WorkerTable.{is_looking}
-use Rattle.sb_book.specs.Readiness.{is_ready}
+use Rattle.sb_book.specs.Readiness.{IsReady}
 use Rattle.sb_shared.specs.Closing.{AreFinished, AreWorkers, IsClosed, IsThreadSeat, IsWorkerSeat}
 use Rattle.sb_shared.specs.Opening.{target_places}
 use Rattle.sb_core.specs.Runs.{IsSomeRun, finished}
@@ -109,7 +109,7 @@ are_workers world seats homes kept = record {
 }
 
 pub has_closed : ClosedRunsAreRuns → (key : Origin) (threads : List ThreadSeatValue) (seats : List WorkerSeatValue) (run : ClosedRun)
-    → is_ready key.policies.value.list key.script.value ≡ true → IsClosed key threads run → run.workers.items ≡ map (λ (s : WorkerSeatValue). s.state) seats → AreFinished key threads → All IsWork seats
+    → IsReady key.policies.value.list key.script.value → IsClosed key threads run → run.workers.items ≡ map (λ (s : WorkerSeatValue). s.state) seats → AreFinished key threads → All IsWork seats
     → HasClosed key run
 has_closed law key threads seats run ready closed states finished kept = record {
   runs = law key threads run ready closed (subst AreLooking (sym states) (workers_look seats kept)) finished;

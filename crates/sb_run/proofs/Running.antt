@@ -2,7 +2,7 @@
 use Rattle.std.proofs.Common.{◌≡◌, refl, sym, subst, ap, ◌∙◌, ℕ, zero, suc, ◌<◌, true, List, [], length, map, None, arith}
 use Rattle.std.specs.List.{All, AllZip}
 use Rattle.sb_book.specs.Histories.{setting_of}
-use Rattle.sb_book.specs.Readiness.{is_ready}
+use Rattle.sb_book.specs.Readiness.{IsReady}
 use Rattle.sb_core.specs.Runs.{CanRun, IsSomeRun, ended, ran}
 use Rattle.sb_core.specs.Threads.{first_unfinished}
 use Rattle.sb_core.specs.Worlds.{start_threads, start_world}
@@ -78,7 +78,7 @@ none_unfinished script (suc n) e = absurd (omega (arith, e))
 abbrev pub no_steps : Schedule
 no_steps = record { steps = []; rounds = 0 }
 
-module _ (policies : List Policy) (script : Script) (ready : is_ready policies script ≡ true) where
+module _ (policies : List Policy) (script : Script) (ready : IsReady policies script) where
   pub can_run_none : CanRun policies script no_steps
   can_run_none = record { ready = ready; there = refl }
 

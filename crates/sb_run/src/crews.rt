@@ -153,7 +153,7 @@ pub(crate) fn run_crew<J: Judge, G: Gate, R: Threads + Wait + Sync>(
     let flags = make_flags(alloc, threads.len() + servers.len())?;
     let running = AtomicU64::new(0);
     let (judge, gate, script) = (context.judge, context.gate, context.script);
-    let (world, pool) = (context.world, context.pool);
+    let (world, pool, serving) = (context.world, context.pool, context.serving);
     let (all_flags, count) = (flags.as_slice(), &running);
     thread::scope(
         thread::scope_env(),
@@ -168,6 +168,7 @@ pub(crate) fn run_crew<J: Judge, G: Gate, R: Threads + Wait + Sync>(
                 script,
                 world,
                 pool,
+                serving,
             };
             work_or_fail(
                 scope, rt, alloc, &context, all_flags, count, threads, servers, keeper,

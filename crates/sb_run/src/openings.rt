@@ -2,16 +2,14 @@
 ghost use Rattle.std.specs.Prelude.{◌≡◌, ◌<◌, ◌≤◌, ◌++◌, ◌∷◌, [], true, length, map, IfOk};
 ghost use Rattle.std.specs.List.{All};
 ghost use Rattle.sb_actor.specs.WorkerTable.{is_looking};
-ghost use Rattle.sb_kernel.specs.Openings.{opening};
 ghost use Rattle.sb_pool.specs.Pools.{AreNumbered, AreSeats};
 ghost use Rattle.sb_run.specs.Openings.{IsOpened};
 ghost use Rattle.sb_task.specs.Works.{home_of, number_of};
 
-use sb_book::ReadyScript;
+use sb_book::RunStart;
 use sb_items::NoMemory;
-use sb_kernel::Kernel;
 use sb_pool::Pool;
-use sb_shared::{Keeper, SharedParts, SharedWorld, ThreadSeat, WorkerSeat};
+use sb_shared::{Keeper, SharedParts, SharedWorld, ThreadSeat, WorkerSeat, script_of};
 use sb_statements::SoundScript;
 use sb_task::{Server, Work};
 use std::alloc::Global;
@@ -82,31 +80,25 @@ fn server_count(script: &SoundScript, workers: u32) -> u32
     ensures some { 0 < result }
     ensures few { result ≤ 8 }
 {
-    let targets = script.targets.len();
-    if targets < workers as usize {
-        targets as u32
-    } else {
-        workers
-    }
+    script.target_count().min(workers)
 }
 
-/// A run of a ready script before its first step, from the namespace that it opens with, with at most this number of those who serve: 1 to 8.
+/// A run before its first step, with at most this number of those who serve: 1 to 8.
 ///
 /// # Errors
 /// `NoMemory` if there is none for the shared world, the pool or the lists of seats.
 pub(crate) fn open_run<R: Wait>(
     rt: &R,
     alloc: Global,
-    ready: &ReadyScript,
-    kernel: Kernel,
+    start: RunStart<'_>,
     workers: u32,
 ) -> Result<Opened, NoMemory>
     requires workers { (1 ≤ workers) × (workers ≤ 8) }
-    requires opens { kernel ≡ opening ready.now.script.start }
-    requires some { 0 < length ready.now.script.targets }
-    ensures { IfOk result (λ x. IsOpened ready.now.policies ready.now.script x) }
+    requires some { 0 < length start.script.targets }
+    ensures { IfOk result (λ x. IsOpened start.entry.policies start.entry.script x) }
 {
-    let parts = SharedWorld::open(alloc, ready, kernel)?;
+    let script = script_of(&start);
+    let parts = SharedWorld::open(alloc, start)?;
     let SharedParts {
         world,
         keeper,
@@ -114,7 +106,7 @@ pub(crate) fn open_run<R: Wait>(
         threads,
     } = parts;
     let works = works_of(alloc, seats)?;
-    let (pool, servers, last) = open_pool(rt, alloc, works, server_count(ready.script(), workers))?;
+    let (pool, servers, last) = open_pool(rt, alloc, works, server_count(script, workers))?;
     Ok(Opened {
         world,
         keeper,

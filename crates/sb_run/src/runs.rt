@@ -1,18 +1,17 @@
 // A run on real threads, from its start to its report.
 ghost use Rattle.std.specs.Prelude.{◌≡◌, ◌<◌, ◌≤◌, [], true, length, IfOk};
 ghost use Rattle.sb_book.specs.Histories.{setting_of};
-ghost use Rattle.sb_kernel.specs.Openings.{opening};
 ghost use Rattle.sb_core.specs.Runs.{IsSomeRun};
 
 use crate::crews::run_crew;
 use crate::endings::end_run;
 use crate::openings::{Opened, open_run};
-use sb_book::{ReadyScript, Report};
+use sb_book::{Report, RunStart};
 use sb_core::run;
 use sb_items::{Items, NoMemory};
-use sb_kernel::Kernel;
 use sb_outside::Gate;
 use sb_rule::Judge;
+use sb_shared::script_of;
 use sb_statements::Schedule;
 use sb_task::RunContext;
 use std::alloc::Global;
@@ -33,17 +32,15 @@ fn no_steps(alloc: Global) -> Schedule
 fn run_no_target<J: Judge>(
     alloc: Global,
     judge: &J,
-    ready: &ReadyScript,
-    kernel: Kernel,
+    start: RunStart<'_>,
 ) -> Result<Report, NoMemory>
-    requires opens { kernel ≡ opening ready.now.script.start }
-    requires none { length ready.now.script.targets ≡ 0 }
-    requires judge { J.policies judge.now ≡ (setting_of ready.now.policies ready.now.script).policies }
-    ensures run { IfOk result (λ r. IsSomeRun ready.now.policies ready.now.script r) }
+    requires none { length start.script.targets ≡ 0 }
+    requires judge { J.policies judge.now ≡ (setting_of start.policies start.script).policies }
+    ensures run { IfOk result (λ r. IsSomeRun start.entry.policies start.entry.script r) }
 {
-    ready.establish_ready();
+    start.ready().establish_ready();
     let schedule = no_steps(alloc);
-    let ran = run(alloc, judge, ready, kernel, &schedule)?;
+    let ran = run(alloc, judge, start, &schedule)?;
     Ok(ran.report)
 }
 
@@ -52,19 +49,17 @@ fn run_targets<R: Threads + Wait + Sync, J: Judge, G: Gate>(
     rt: &R,
     alloc: Global,
     judge: &J,
-    ready: &ReadyScript,
-    kernel: Kernel,
+    start: RunStart<'_>,
     workers: u32,
     gate: &G,
 ) -> Result<Report, NoMemory>
     requires workers { (1 ≤ workers) × (workers ≤ 8) }
-    requires opens { kernel ≡ opening ready.now.script.start }
-    requires some { 0 < length ready.now.script.targets }
-    requires judge { J.policies judge.now ≡ (setting_of ready.now.policies ready.now.script).policies }
-    ensures run { IfOk result (λ r. IsSomeRun ready.now.policies ready.now.script r) }
+    requires some { 0 < length start.script.targets }
+    requires judge { J.policies judge.now ≡ (setting_of start.policies start.script).policies }
+    ensures run { IfOk result (λ r. IsSomeRun start.entry.policies start.entry.script r) }
 {
-    let script = ready.script();
-    let opened = open_run(rt, alloc, ready, kernel, workers)?;
+    let script = script_of(&start);
+    let opened = open_run(rt, alloc, start, workers)?;
     let Opened {
         world,
         keeper,
@@ -79,6 +74,7 @@ fn run_targets<R: Threads + Wait + Sync, J: Judge, G: Gate>(
         script,
         world: &world,
         pool: &pool,
+        serving: servers.len(),
     };
     let (ended, servers, keeper) = run_crew(rt, alloc, &context, threads, servers, keeper)?;
     end_run(
@@ -87,8 +83,8 @@ fn run_targets<R: Threads + Wait + Sync, J: Judge, G: Gate>(
 }
 
 /// Runs a script on real threads: one for each thread of the script, and `workers` (1 to 8) that serve the targets in turn, but no more than there are
-/// targets. The kernel is the namespace that the script opens with, and the judge judges each target by the policy that it names. The report is that of the core for some
-/// order of steps in which no thread is left unfinished.
+/// targets. The judge judges each target by the policy that it names. The report is that of the core for some order of steps in which no thread is left
+/// unfinished.
 ///
 /// A call that a worker judges passes the gate before the turn is tried; what is still ready once the threads of the script have ended is served
 /// without it. All threads have ended when this returns, since they are of one scope. No clause says this, or which threads there were.
@@ -99,18 +95,16 @@ pub fn run_threads<R: Threads + Wait + Sync, J: Judge, G: Gate>(
     rt: &R,
     alloc: Global,
     judge: &J,
-    ready: &ReadyScript,
-    kernel: Kernel,
+    start: RunStart<'_>,
     workers: u32,
     gate: &G,
 ) -> Result<Report, NoMemory>
     requires workers { (1 ≤ workers) × (workers ≤ 8) }
-    requires opens { kernel ≡ opening ready.now.script.start }
-    requires judge { J.policies judge.now ≡ (setting_of ready.now.policies ready.now.script).policies }
-    ensures run { IfOk result (λ r. IsSomeRun ready.now.policies ready.now.script r) }
+    requires judge { J.policies judge.now ≡ (setting_of start.policies start.script).policies }
+    ensures run { IfOk result (λ r. IsSomeRun start.entry.policies start.entry.script r) }
 {
-    if ready.script().targets.len() == 0 {
-        return run_no_target(alloc, judge, ready, kernel);
+    if script_of(&start).targets.len() == 0 {
+        return run_no_target(alloc, judge, start);
     }
-    run_targets(rt, alloc, judge, ready, kernel, workers, gate)
+    run_targets(rt, alloc, judge, start, workers, gate)
 }

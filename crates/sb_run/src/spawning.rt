@@ -158,7 +158,7 @@ pub(crate) fn start_server<'s, 'e, J: Judge, G: Gate, R: Threads + Wait + Sync>(
         return server_host(first, ServerReturn::Back(server));
     };
     let (judge, gate, script) = (context.judge, context.gate, context.script);
-    let (world, pool) = (context.world, context.pool);
+    let (world, pool, serving) = (context.world, context.pool, context.serving);
     let promise = ServerPromise {
         server: Snapshot::of(&server),
     };
@@ -174,6 +174,7 @@ pub(crate) fn start_server<'s, 'e, J: Judge, G: Gate, R: Threads + Wait + Sync>(
                 script,
                 world,
                 pool,
+                serving,
             };
             attend_or_return(rt, alloc, context, refused, server)
         },

@@ -29,13 +29,13 @@ both : (a b : Bool) → a ≡ true → b ≡ true → (a && b) ≡ true
 both true b e f = f
 both false b e f = e
 
-behind : (q x y : Bool) → (q && x) ≡ true → (x ≡ true → y ≡ true) → (q && y) ≡ true
-behind true x y h f = f h
-behind false x y h f = h
+and_later : (q x y : Bool) → (q && x) ≡ true → (x ≡ true → y ≡ true) → (q && y) ≡ true
+and_later true x y h f = f h
+and_later false x y h f = h
 
 pub there_more : (targets : List TargetScript) (actors : List Actor) (a : Actor) → are_there targets actors ≡ true → is_there targets a ≡ true → are_there targets (actors ++ a ∷ []) ≡ true
 there_more targets [] a h g = both (is_there targets a) true g refl
-there_more targets (b ∷ actors) a h g = behind (is_there targets b) (are_there targets actors) (are_there targets (actors ++ a ∷ [])) h (λ f. there_more targets actors a f g)
+there_more targets (b ∷ actors) a h g = and_later (is_there targets b) (are_there targets actors) (are_there targets (actors ++ a ∷ [])) h (λ f. there_more targets actors a f g)
 
 -- the one element of a list
 pub only_one : {A : Type 0} (l : List A) (p q : A) (n : ℕ) → l ≡ p ∷ [] → get_elem? l n ≡ raw.some q → (n ≡ 0) × (p ≡ q)

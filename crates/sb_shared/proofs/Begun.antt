@@ -7,7 +7,7 @@ use mathlib.Core.Option as raw
 use mathlib.Core.Option.{some-injective, some-ne-none}
 use Rattle.sb_actor.specs.Moves.{at}
 use Rattle.sb_book.specs.Histories.{History, new_history, setting_of}
-use Rattle.sb_book.specs.Readiness.{is_ready}
+use Rattle.sb_book.specs.Readiness.{IsReady}
 use Rattle.sb_rule.specs.declared.policies.Policy.{Policy}
 use Rattle.sb_core.specs.Laws.{StartsKeep}
 use Rattle.sb_statements.specs.Actors.{is_there}
@@ -134,7 +134,7 @@ opens key words book world running few first_are is =
 
 -- the same for the policies and the script with which the table is made
 pub begins : (key : Origin) (policies : List Policy) (script : Script) → key.policies.value.list ≡ policies → key.script.value ≡ script → StartsKeep
-    → is_ready policies script ≡ true → (words : List ℕ) (book : History) → AreFirst script.targets word_count words → book ≡ new_history (setting_of policies script)
+    → IsReady policies script → (words : List ℕ) (book : History) → AreFirst script.targets word_count words → book ≡ new_history (setting_of policies script)
     → (slots : List Slot) → slots ≡ Some book ∷ []
     → Holds key (record { words = words; homes = map (λ x. raw.some x) slots; views = first_view key ∷ [] })
 begins key policies script e f starts ready words book first is slots slots_are =

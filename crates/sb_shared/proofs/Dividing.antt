@@ -12,7 +12,7 @@ use Rattle.sb_actor.specs.Moves.{at}
 use Rattle.sb_core.specs.Words.{words_of}
 use Rattle.sb_statements.specs.declared.schedules.Actor.{Actor}
 use Rattle.sb_statements.specs.declared.schedules.Actor.TheVariants.{Worker, Thread}
-use Rattle.sb_shared.specs.Closing.{Ends, joined_view, left_view, right_view, spent_view, front, behind}
+use Rattle.sb_shared.specs.Closing.{Ends, joined_view, left_view, right_view, spent_view, front, later_parts}
 use Rattle.sb_shared.specs.Parts.{actor_in, is_same}
 use Rattle.sb_shared.specs.Rule.{FitsPart, FitsView, Holds, Slot, slot_of, spot, stop_word}
 use Rattle.sb_shared.specs.declared.views.Origin.{Origin}
@@ -67,8 +67,8 @@ module _ (key : Origin) (id : ℕ) (v : View) (p : Part) (ps : List Part) (parts
       let owner_after : Actor → ℕ = λ a. cond (is_same a (actor_in p)) late (owner a) in
       let kept : (j : ℕ) (u : View) (q : Part) → actor_in q ≢ actor_in p → FitsPart key w owner j u q → FitsPart key w owner_after j u q =
       λ j u q n g. record { key_is = g.key_is; is = g.is; there = g.there; owned = ap (λ (b : Bool). cond b late (owner (actor_in q))) (differ (actor_in q) (actor_in p) n) ∙ g.owned } in
-      let left_at : (n : ℕ) (q : Part) → get_elem? (behind v.parts) n ≡ raw.some q → get_elem? v.parts (suc n) ≡ raw.some q =
-      λ n q e. ap (λ (l : List Part). get_elem? l (suc n)) parts ∙ ap (λ (l : List Part). get_elem? (behind l) n) (sym parts) ∙ e in
+      let left_at : (n : ℕ) (q : Part) → get_elem? (later_parts v.parts) n ≡ raw.some q → get_elem? v.parts (suc n) ≡ raw.some q =
+      λ n q e. ap (λ (l : List Part). get_elem? l (suc n)) parts ∙ ap (λ (l : List Part). get_elem? (later_parts l) n) (sym parts) ∙ e in
       let right_is : front v.parts ≡ p ∷ [] = ap front parts in
       let left : FitsView key w owner_after id (left_view v) = record {
         parts = λ n q e.

@@ -9,7 +9,7 @@ use Rattle.sb_statements.specs.Soundness.{SoundStatements, SoundTargets}
 use Rattle.sb_statements.specs.declared.schedules.Actor.{Actor}
 use Rattle.sb_statements.specs.declared.schedules.Actor.TheVariants.{Worker, Thread}
 use Rattle.sb_statements.specs.declared.scripts.Script.{Script}
-use Rattle.sb_book.specs.Readiness.{is_ready}
+use Rattle.sb_book.specs.Readiness.{IsReady}
 use Rattle.sb_core.specs.Kept.{IsRunning, IsWorld}
 use Rattle.sb_core.specs.Laws.{StartsKeep}
 use Rattle.sb_core.specs.Worlds.{first_run, first_worker, first_workers, no_worker, run_at, threads_at, worker_at}
@@ -36,10 +36,10 @@ seat_with s = record { key = s.key; parts = front s.parts; steps = 0; found = 0;
 
 -- a run that is opened with a ready script
 pub opened_with : SoundTargets → SoundStatements → StartsKeep → (key : Origin) (policies : List Policy) (script : Script) → key.policies.value.list ≡ policies
-    → key.script.value ≡ script → is_ready policies script ≡ true → IsOpenedWith key script
+    → key.script.value ≡ script → IsReady policies script → IsOpenedWith key script
 opened_with targets statements starts key policies script e f ready =
     let back : (policies, script) ≡ (key.policies.value.list, key.script.value) = λ i. (sym e i, sym f i) in
-    let its : is_ready key.policies.value.list key.script.value ≡ true = subst (λ (z : List Policy × Script). is_ready z.0 z.1 ≡ true) back ready in
+    let its : IsReady key.policies.value.list key.script.value = subst (λ (z : List Policy × Script). IsReady z.0 z.1) back ready in
     let kept = starts key.policies.value.list key.script.value its in
     record {
       script_is = f;

@@ -5,7 +5,7 @@ use Rattle.sb_actor.specs.WorkerStages.{WorkerAt, WorkerStage, Look, Count, End,
 use Rattle.sb_actor.specs.WorkerTable.{after_take, worker_plan, worker_row, worker_after, taken_in}
 use Rattle.sb_actor.specs.declared.acts.Act.{Act}
 use Rattle.sb_actor.specs.declared.acts.Act.TheVariants as act
-use Rattle.sb_actor.specs.declared.acts.Observed.TheVariants as seen
+use Rattle.sb_actor.specs.Observations as seen
 use Rattle.sb_block.specs.Copies.{Copied}
 use Rattle.sb_book.specs.Histories.{History}
 use Rattle.sb_book.specs.declared.decisions.Decision.{Decision}

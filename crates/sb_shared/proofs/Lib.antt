@@ -18,3 +18,4 @@ pub mod Standing
 pub mod StopSteps
 pub mod Stopping
 pub mod Turning
+pub mod ResultPlaces

@@ -7,7 +7,7 @@ use Rattle.sb_actor.specs.WorkerStages.{WorkerAt}
 use Rattle.sb_actor.specs.WorkerTable.{worker_plan, worker_after}
 use Rattle.sb_actor.specs.declared.acts.Act.{Act}
 use Rattle.sb_actor.specs.declared.acts.Act.TheVariants as act
-use Rattle.sb_actor.specs.declared.acts.Observed.{Observed}
+use Rattle.sb_actor.specs.Observations.{Observation}
 use Rattle.sb_statements.specs.Actors.{is_there}
 use Rattle.sb_statements.specs.declared.schedules.Actor.{Actor}
 use Rattle.sb_statements.specs.declared.schedules.Actor.TheVariants.{Worker, Thread}
@@ -125,7 +125,7 @@ module _ (script : Script) (w : WorldAt) (kept : IsWorld w) (runs : IsRunning sc
   part_moved (Thread t k) n there on seen =
       let x = run_at w t k in
       let run = thread_moved t k there in
-      let after = λ (s : Observed). thread_after script x.thread s in
+      let after = λ (s : Observation). thread_after script x.thread s in
       (λ i. part.Thread t k (run i).thread (run i).results)
       ∙ (λ i. part.Thread t k (after (seen i)).thread (x.results ++ option_to_list (after (seen i)).ended))
 
@@ -164,7 +164,7 @@ module _ (key : Origin) (w : WorldAt) (kept : IsWorld w) (runs : IsRunning key.s
   thread_stands t k there =
       let l = thread_listed key.script.value w kept runs t k there in
       let x = kept.threads t k l in
-      record { sound = runs.sound; its_target = x.its_target; its_number = x.its_number; stands = runs.stands t k l; counted = x.counted }
+      record { its_target = x.its_target; its_number = x.its_number; stands = runs.stands t k l; counted = x.counted }
 
   pub stands_there : (a : Actor) → is_there key.script.value.targets a ≡ true → Stands key (part_of w a)
   stands_there (Worker t) there = worker_stands t there

@@ -12,7 +12,7 @@ use Rattle.sb_actor.specs.WorkerStages.{WorkerAt}
 use Rattle.sb_actor.specs.WorkerTable.{worker_plan, worker_after, taken_in}
 use Rattle.sb_actor.specs.declared.acts.Act.{Act}
 use Rattle.sb_actor.specs.declared.acts.Act.TheVariants as act
-use Rattle.sb_actor.specs.declared.acts.Observed.TheVariants as seen
+use Rattle.sb_actor.specs.Observations as seen
 use Rattle.sb_block.specs.Copies.{Copied, mark_of}
 use Rattle.sb_book.specs.Histories.{History, answered, reply_of}
 use Rattle.sb_statements.specs.declared.schedules.Actor.{Actor}

@@ -28,13 +28,13 @@ abbrev pub front : List Part → List Part
 front [] = []
 front (p ∷ ps) = p ∷ []
 
-abbrev pub behind : List Part → List Part
-behind [] = []
-behind (p ∷ ps) = ps
+abbrev pub later_parts : List Part → List Part
+later_parts [] = []
+later_parts (p ∷ ps) = ps
 
 -- the seat that is made has the first part
 abbrev pub left_view : View → View
-left_view v = record v { parts = behind v.parts }
+left_view v = record v { parts = later_parts v.parts }
 
 abbrev pub right_view : View → View
 right_view v = record v { parts = front v.parts; steps = 0; found = 0; stop = 0; seen = 0 }
@@ -88,7 +88,7 @@ pub record AreThreads (world : SharedValue) (seats : List ThreadSeatValue) : Typ
   pub each : All (IsThreadSeat world) seats
   pub places : map (λ s. (s.target, s.thread)) seats ≡ thread_places world.key.script.value.targets
 
--- where the actor of a seat stands
+-- where the actor of a seat is
 abbrev pub part_of_worker : WorkerSeatValue → Part
 part_of_worker s = part.Worker s.target s.state None
 

@@ -12,3 +12,4 @@ pub mod Runs
 pub mod Seats
 pub mod Standing
 pub mod Stops
+pub mod Waiting

@@ -14,7 +14,7 @@ use Rattle.sb_shared.specs.declared.views.Origin.{Origin}
 abbrev pub keeper_of : TableId → Origin → List Actor → KeeperValue
 keeper_of table key actors = record (fresh_keeper table key) { parts = map (part_of (start_of key)) actors }
 
--- the run was opened with this script: its first world keeps what every world keeps, and runs the script, and each thread stands there
+-- the run was opened with this script: its first world keeps what every world keeps, and runs the script, and each thread is there
 -- before its first statement
 pub record IsOpenedWith (key : Origin) (script : Script) : Type 0 where
   pub script_is : key.script.value ≡ script

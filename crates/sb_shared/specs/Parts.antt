@@ -1,12 +1,12 @@
--- The parts of a world that seats hold: each is where one actor stands. And what a step on a word does to a part.
+-- The parts of a world that seats hold: each is where one actor is. And what a step on a word does to a part.
 use Rattle.std.specs.Prelude.{ℕ, ◌+◌, max, Bool, true, false, ◌==◌, ◌&&◌, List, [], ◌++◌, map, Option, None, Some, if◌then◌else◌}
 use Rattle.std.specs.Option.{option_to_list}
 use Rattle.sb_actor.specs.ThreadTable.{thread_plan, thread_after}
 use Rattle.sb_actor.specs.WorkerTable.{worker_plan, worker_after, taken_in}
 use Rattle.sb_actor.specs.declared.acts.Act.{Act}
 use Rattle.sb_actor.specs.declared.acts.Act.TheVariants as act
-use Rattle.sb_actor.specs.declared.acts.Observed.{Observed}
-use Rattle.sb_actor.specs.declared.acts.Observed.TheVariants as seen
+use Rattle.sb_actor.specs.Observations.{Observation}
+use Rattle.sb_actor.specs.Observations as seen
 use Rattle.sb_actor.specs.WorkerStages.{WorkerAt}
 use Rattle.sb_book.specs.Histories.{History}
 use Rattle.sb_statements.specs.declared.schedules.Actor.{Actor}
@@ -28,7 +28,7 @@ abbrev pub held_by : Option ℕ → History → ℕ → Option History
 held_by None book target = None
 held_by (Some holder) book target = if holder == target then Some book else None
 
--- where an actor stands in a world
+-- where an actor is in a world
 abbrev pub part_of : WorldAt → Actor → Part
 part_of w (Worker target) = part.Worker target (worker_at w target) (held_by w.shared.turn w.shared.book target)
 part_of w (Thread target thread) = part.Thread target thread (run_at w target thread).thread (run_at w target thread).results
@@ -39,7 +39,7 @@ plan_in script (part.Worker target state book) = worker_plan state
 plan_in script (part.Thread target thread state results) = thread_plan script state
 
 -- what the actor sees of a step that found n in its word
-abbrev pub seen_of : Act → ℕ → Observed
+abbrev pub seen_of : Act → ℕ → Observation
 seen_of (act.Load t word) n = seen.Value n
 seen_of (act.Store t word value) n = seen.Done
 seen_of (act.Exchange t word from to) n = seen.Value n
@@ -64,7 +64,7 @@ abbrev pub word_view : View → ℕ → View
 word_view v n = moved_view v (map (λ p. part_after v.key.script.value p n) v.parts) n
 
 -- the part of a worker after a step that showed it this, with the book that it has then
-abbrev pub shown_part : Observed → Option History → Part → Part
+abbrev pub shown_part : Observation → Option History → Part → Part
 shown_part seen book (part.Worker target state held) = part.Worker target (worker_after state seen) book
 shown_part seen book (part.Thread target thread state results) = part.Thread target thread state results
 

@@ -2,7 +2,7 @@
 use Rattle.std.specs.Prelude.{◌≡◌, true, List, None}
 use Rattle.std.specs.List.{All}
 use Rattle.sb_actor.specs.WorkerStages.{WorkerAt, Look}
-use Rattle.sb_book.specs.Readiness.{is_ready}
+use Rattle.sb_book.specs.Readiness.{IsReady}
 use Rattle.sb_statements.specs.declared.schedules.Schedule.{Schedule}
 use Rattle.sb_core.specs.Runs.{CanFinish, CanRun, finished, ran}
 use Rattle.sb_shared.specs.Closing.{AreFinished, IsClosed}
@@ -26,5 +26,5 @@ pub record IsRun (key : Origin) (run : ClosedRun) : Type 0 where
 
 -- a closed run in which each thread has ended and each worker is looking is a run of the script by some schedule
 abbrev pub ClosedRunsAreRuns : Type 0
-ClosedRunsAreRuns = (key : Origin) (seats : List ThreadSeatValue) (run : ClosedRun) → is_ready key.policies.value.list key.script.value ≡ true
+ClosedRunsAreRuns = (key : Origin) (seats : List ThreadSeatValue) (run : ClosedRun) → IsReady key.policies.value.list key.script.value
     → IsClosed key seats run → AreLooking run.workers.items → AreFinished key seats → IsRun key run

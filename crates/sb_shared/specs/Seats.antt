@@ -1,11 +1,12 @@
 -- Seats, as contracts see them.
-use Rattle.std.specs.Prelude.{◌≡◌, ℕ, ◌+◌, ◌++◌, max, List, [], ◌∷◌, Option, None, Some}
+use Rattle.std.specs.Prelude.{◌≡◌, ℕ, ◌+◌, ◌++◌, max, Bool, false, List, [], ◌∷◌, Option, None, Some, is_some}
 use Rattle.atomic_table.specs.Seated.{TableId}
 use Rattle.std.specs.Option.{option_to_list}
 use Rattle.sb_actor.specs.ThreadTable.{thread_plan, thread_after}
-use Rattle.sb_actor.specs.WorkerTable.{worker_plan, worker_after}
+use Rattle.sb_actor.specs.WorkerTable.{taken_in, worker_plan, worker_after}
 use Rattle.sb_actor.specs.WorkerStages.{WorkerAt}
-use Rattle.sb_actor.specs.declared.acts.Observed.{Observed}
+use Rattle.sb_actor.specs.Observations.{Observation}
+use Rattle.sb_block.specs.Copies.{Copied, mark_of}
 use Rattle.sb_book.specs.Histories.{History}
 use Rattle.sb_core.specs.Threads.{RunAt, no_run}
 use Rattle.sb_core.specs.Worlds.{no_worker, run_at, worker_at}
@@ -15,6 +16,7 @@ use Rattle.sb_shared.specs.Parts.{seen_of, answer_to}
 use Rattle.sb_shared.specs.Rule.{Slot}
 use Rattle.sb_shared.specs.Standing.{AllStand}
 use Rattle.sb_shared.specs.Stops.{stop_number}
+use Rattle.sb_shared.specs.Waiting.{waits_after}
 use Rattle.sb_shared.specs.declared.stops.Stop.{Stop}
 use Rattle.sb_shared.specs.declared.views.Origin.{Origin}
 use Rattle.sb_shared.specs.declared.views.Part.{Part}
@@ -26,7 +28,7 @@ pub record SharedValue : Type 0 where
   pub table : TableId
   pub key : Origin
 
--- the one thread of a seat, and where it stands
+-- the one thread of a seat, and where it is
 pub record ThreadIn : Type 0 where
   pub target : ℕ
   pub thread : ℕ
@@ -45,7 +47,7 @@ pub record IsThread (v : View) : Type 0 where
   pub one : v.parts ≡ thread_part (thread_in v.parts) ∷ []
   pub stands : AllStand v.key v.parts
 
--- the one worker of a seat, and where it stands
+-- the one worker of a seat, and where it is
 pub record WorkerIn : Type 0 where
   pub target : ℕ
   pub state : WorkerAt
@@ -69,8 +71,8 @@ abbrev pub Lies : Option History → List (ℕ × Slot) → Type 0
 Lies None slots = slots ≡ []
 Lies (Some book) slots = slots ≡ (0, None) ∷ []
 
--- a seat of a thread: its table and the run's policies and script, where the thread stands, the number of its steps, what the last one found, and the
--- greatest stop that the seat has set and seen
+-- a seat of a thread: its table and the run's policies and script, where the thread is, the number of its steps, what the last one found, whether
+-- it found nothing to go on with, and the greatest stop that the seat has set and seen
 pub record ThreadSeatValue : Type 0 where
   pub table : TableId
   pub key : Origin
@@ -79,11 +81,12 @@ pub record ThreadSeatValue : Type 0 where
   pub run : RunAt
   pub steps : ℕ
   pub found : ℕ
+  pub waiting : Bool
   pub stop : ℕ
   pub seen : ℕ
 
-abbrev pub thread_seat : TableId → View → ThreadSeatValue
-thread_seat table v = record {
+abbrev pub thread_seat : TableId → View → Bool → ThreadSeatValue
+thread_seat table v waiting = record {
   table = table;
   key = v.key;
   target = (thread_in v.parts).target;
@@ -91,29 +94,32 @@ thread_seat table v = record {
   run = (thread_in v.parts).run;
   steps = v.steps;
   found = v.found;
+  waiting = waiting;
   stop = v.stop;
   seen = v.seen;
 }
 
--- a seat of a worker, with the book while it has the turn
+-- a seat of a worker, with the book while it has the turn, and whether the worker's copy is decided
 pub record WorkerSeatValue : Type 0 where
   pub table : TableId
   pub key : Origin
   pub target : ℕ
   pub state : WorkerAt
   pub book : Option History
+  pub decided : Bool
   pub steps : ℕ
   pub found : ℕ
   pub stop : ℕ
   pub seen : ℕ
 
-abbrev pub worker_seat : TableId → View → WorkerSeatValue
-worker_seat table v = record {
+abbrev pub worker_seat : TableId → View → Bool → WorkerSeatValue
+worker_seat table v decided = record {
   table = table;
   key = v.key;
   target = (worker_in v.parts).target;
   state = (worker_in v.parts).state;
   book = (worker_in v.parts).book;
+  decided = decided;
   steps = v.steps;
   found = v.found;
   stop = v.stop;
@@ -128,19 +134,33 @@ run_after script x n = record {
 }
 
 abbrev pub thread_stepped : ThreadSeatValue → ℕ → ThreadSeatValue
-thread_stepped s n = record s { run = run_after s.key.script.value s.run n; steps = s.steps + 1; found = n }
+thread_stepped s n =
+    record s { run = run_after s.key.script.value s.run n; steps = s.steps + 1; found = n; waiting = waits_after s.key.script.value s.run.thread n }
+
+-- the mark of a worker's copy, 0 if it has none
+abbrev pub mark_held : Option Copied → ℕ
+mark_held None = 0
+mark_held (Some taken) = mark_of taken
 
 -- a worker goes on by a step on a word that found n
 abbrev pub worker_stepped : WorkerSeatValue → ℕ → WorkerSeatValue
 worker_stepped s n = record s { state = worker_after s.state (seen_of (worker_plan s.state) n); steps = s.steps + 1; found = n }
 
 -- a worker goes on by a step that showed it this, with the book that it has then
-abbrev pub worker_shown : WorkerSeatValue → Observed → Option History → ℕ → WorkerSeatValue
+abbrev pub worker_shown : WorkerSeatValue → Observation → Option History → ℕ → WorkerSeatValue
 worker_shown s seen book n = record s { state = worker_after s.state seen; book = book; steps = s.steps + 1; found = n }
 
 -- a worker goes on by what the book that it has answers
 abbrev pub worker_marked : WorkerSeatValue → History → ℕ → WorkerSeatValue
 worker_marked s book n = worker_shown s (answer_to book s.target s.state).seen (Some (answer_to book s.target s.state).shared.book) n
+
+-- the worker's copy, if there is one, is decided
+abbrev pub worker_decided : WorkerSeatValue → WorkerSeatValue
+worker_decided s = record s { decided = is_some (taken_in s.state.stage) }
+
+-- a decision that was made is dropped
+abbrev pub worker_undecided : WorkerSeatValue → WorkerSeatValue
+worker_undecided s = record s { decided = false }
 
 -- a look at the stop word that saw this
 abbrev pub thread_looked : ThreadSeatValue → Option Stop → ThreadSeatValue
@@ -173,12 +193,12 @@ keeper_stopped s stop = record s { stop = max s.stop (stop_number (Some stop)) }
 -- a seat of a thread before its first step
 abbrev pub fresh_thread : TableId → Origin → ℕ × ℕ → ThreadSeatValue
 fresh_thread table key place =
-    record { table = table; key = key; target = place.0; thread = place.1; run = run_at (start_of key) place.0 place.1; steps = 0; found = 0; stop = 0; seen = 0 }
+    record { table = table; key = key; target = place.0; thread = place.1; run = run_at (start_of key) place.0 place.1; steps = 0; found = 0; waiting = false; stop = 0; seen = 0 }
 
 -- a seat of a worker before its first step
 abbrev pub fresh_worker : TableId → Origin → ℕ → WorkerSeatValue
 fresh_worker table key t =
-    record { table = table; key = key; target = t; state = worker_at (start_of key) t; book = None; steps = 0; found = 0; stop = 0; seen = 0 }
+    record { table = table; key = key; target = t; state = worker_at (start_of key) t; book = None; decided = false; steps = 0; found = 0; stop = 0; seen = 0 }
 
 -- the seat that takes in all others, before the first step
 abbrev pub fresh_keeper : TableId → Origin → KeeperValue

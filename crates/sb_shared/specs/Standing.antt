@@ -1,8 +1,7 @@
--- What holds of an actor of a run wherever it stands.
+-- What holds of an actor of a run wherever it is.
 use Rattle.std.specs.Prelude.{◌≡◌, ◌<◌, ℕ, true, List, [], ◌∷◌, length, slice_index, Option, IfSome, is_some}
 use Rattle.sb_actor.specs.WorkerStages.{WorkerAt}
 use Rattle.sb_book.specs.Histories.{History}
-use Rattle.sb_statements.specs.Soundness.{is_sound}
 use Rattle.sb_core.specs.Kept.{IsAtStatement, has_turn}
 use Rattle.sb_core.specs.Threads.{RunAt}
 use Rattle.sb_shared.specs.Origins.{setting_in}
@@ -18,15 +17,14 @@ pub record IsWorkerHere (key : Origin) (t : ℕ) (x : WorkerAt) (book : Option H
   pub turn : has_turn x.stage ≡ is_some book
   pub setting : IfSome book (λ b. b.setting ≡ setting_in key)
 
--- Thread k of target t stands at one of its statements, or after the last, and has one result for each statement that ended
+-- Thread k of target t is at one of its statements, or after the last, and has one result for each statement that ended
 pub record IsThreadHere (key : Origin) (t k : ℕ) (x : RunAt) : Type 0 where
-  pub sound : is_sound key.script.value ≡ true
   pub its_target : x.thread.target ≡ t
   pub its_number : x.thread.thread ≡ k
   pub stands : IsAtStatement key.script.value x.thread
   pub counted : length x.results ≡ x.thread.place
 
--- an actor of the run stands there
+-- an actor of the run is there
 abbrev pub Stands : Origin → Part → Type 0
 Stands key (part.Worker target state book) = IsWorkerHere key target state book
 Stands key (part.Thread target thread state results) = IsThreadHere key target thread (record { thread = state; results = results })

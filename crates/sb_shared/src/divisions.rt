@@ -1,7 +1,7 @@
 // Seats are made of the keeper's seat, and taken in by it.
 ghost use Rattle.std.specs.Prelude.{◌≡◌, ◌∷◌, ◌++◌, [], List, max};
 ghost use Rattle.sb_shared.specs.Rule.{word_count};
-ghost use Rattle.sb_shared.specs.Closing.{front, behind};
+ghost use Rattle.sb_shared.specs.Closing.{front, later_parts};
 ghost use Rattle.sb_shared.specs.declared.views.Part.{Part};
 
 use crate::keepers::Keeper;
@@ -16,7 +16,7 @@ impl Keeper {
         requires own { (self.old.table ≡ words.now.table_id) × (words.now.table_id.words ≡ word_count) }
         requires key { self.old.key ≡ words.now.key }
         requires first { (p : Part) × (more : List Part) × (self.old.parts ≡ p ∷ more) }
-        ensures same { self.new ≡ record self.old { parts = behind self.old.parts } }
+        ensures same { self.new ≡ record self.old { parts = later_parts self.old.parts } }
         ensures seat { (result.table_id ≡ self.old.table) × (result.me ≡ (record { key = self.old.key; parts = front self.old.parts; steps = 0; found = 0; stop = 0; seen = 0 }, [])) }
     {
         words.split_seat::<Parts>(&mut self.seat)

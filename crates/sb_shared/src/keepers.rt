@@ -34,7 +34,7 @@ impl Model for Keeper {
 }
 
 impl Keeper {
-    /// Stops the run, since all threads have ended. If an actor ran out of memory before, that stands.
+    /// Stops the run, since all threads have ended. If an actor ran out of memory before, the stop word keeps saying so.
     pub fn stop(&mut self, world: &SharedWorld)
         requires own { self.old.table ≡ world.now.table }
         ensures stopped { self.new ≡ keeper_stopped self.old Finished }

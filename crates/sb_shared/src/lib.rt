@@ -8,10 +8,11 @@
 
 mod books;
 mod closings;
-mod counts;
 mod divisions;
 mod keepers;
 mod laws;
+mod layout;
+mod listings;
 mod moves;
 mod openings;
 mod protocol;
@@ -25,7 +26,7 @@ mod worlds;
 pub use closings::ClosedRun;
 pub use keepers::Keeper;
 pub use laws::closed_runs_are_runs;
-pub use openings::SharedParts;
+pub use openings::{SharedParts, script_of};
 pub use stops::Stop;
 pub use threads::ThreadSeat;
 pub use views::{Origin, Part, View};

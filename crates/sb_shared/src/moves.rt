@@ -1,50 +1,23 @@
 // One atomic step of a seat of any kind: on a word of a channel, or on the stop word.
-ghost use Rattle.std.specs.Prelude.{◌≡◌, ◌<◌, ◌≤◌, ℕ, true, false, MatchOption, Some};
+ghost use Rattle.std.specs.Prelude.{◌≡◌, ℕ, true, false, MatchOption, Some};
 ghost use Rattle.atomic_table.specs.Table.{Allows, step};
 ghost use mathlib.Core.Option as raw;
 ghost use prog.Atomic.{either};
+ghost use Rattle.sb_actor.specs.Acts.{observation};
 ghost use Rattle.sb_shared.specs.Parts.{is_on_word, looked_view, seen_of, stopped_view, word_view};
-ghost use Rattle.sb_shared.specs.Plays.{IsSpot, MayStep, Stand};
-ghost use Rattle.sb_shared.specs.Rule.{stop_word, turn_word, word_count};
+ghost use Rattle.sb_shared.specs.Plays.{MayStep, Stand};
+ghost use Rattle.sb_shared.specs.Rule.{stop_word, word_count};
 ghost use Rattle.sb_shared.specs.Stops.{stop_number};
 
+use crate::layout::{STOP, index_of};
 use crate::protocol::{Ends, Fails, Looks, Slot, Steps, World};
 use crate::stops::Stop;
 use crate::views::{Origin, View};
 use atomic_table::{Seat, Shared};
 use sb_actor::{Act, Observed};
-use sb_statements::Word;
-
-// The turn word: 0, or one more than the target of the worker that has the turn.
-pub(crate) const TURN: usize = 5120;
-
-// The stop word: 0, 1 once all threads have ended, and 2 once an actor ran out of memory.
-pub(crate) const STOP: usize = 5136;
 
 // The words of a world and the place of its book, as seats share them.
 pub(crate) type Words = Shared<Slot, View, Origin, World>;
-
-// The lesser of two numbers.
-#[inline(always)]
-fn at_most(number: u32, most: u32) -> usize
-    ensures small { result ≤ most }
-    ensures same { number ≤ most → result ≡ number }
-{
-    if number > most {
-        most as usize
-    } else {
-        number as usize
-    }
-}
-
-// The place of a word among those of all targets.
-#[inline(always)]
-fn index_of(target: u32, word: Word) -> usize
-    ensures inside { result < turn_word }
-    ensures spot { IsSpot target word result }
-{
-    at_most(target, 7) * 640 + at_most(word.channel, 7) * 80 + at_most(word.at, 64)
-}
 
 // One step by an actor's plan, and what it sees. A plan that is not on a word makes none.
 #[inline(always)]
@@ -53,7 +26,7 @@ pub(crate) fn perform(words: &Words, seat: &mut Seat<Slot, View>, act: Act) -> O
     requires count { words.now.table_id.words ≡ word_count }
     requires may { MayStep words.now.key words.now.table_id.slots seat.old.id seat.old.me act }
     ensures own { (seat.new.table_id ≡ seat.old.table_id) × (seat.new.id ≡ seat.old.id) }
-    ensures moved { MatchOption result ((is_on_word act ≡ false) × (seat.new.me ≡ seat.old.me)) (λ seen. (is_on_word act ≡ true) × Stand seat.new.me × ((n : ℕ) × (seat.new.me ≡ (word_view seat.old.me.0 n, seat.old.me.1)) × (seen ≡ seen_of act n))) }
+    ensures moved { MatchOption result ((is_on_word act ≡ false) × (seat.new.me ≡ seat.old.me)) (λ seen. (is_on_word act ≡ true) × Stand seat.new.me × ((n : ℕ) × (seat.new.me ≡ (word_view seat.old.me.0 n, seat.old.me.1)) × (observation seen ≡ seen_of act n))) }
 {
     match act {
         Act::Load { target, word } => {

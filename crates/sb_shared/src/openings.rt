@@ -1,19 +1,20 @@
 // A shared world is opened.
 ghost use Rattle.std.specs.Prelude.{◌≡◌, ◌<◌, ◌∷◌, List, length, map, slice_get, true, IfOk, OnOk};
 ghost use Rattle.sb_actor.specs.Places.{statements_of};
-ghost use Rattle.sb_kernel.specs.Openings.{opening};
+ghost use Rattle.sb_book.specs.Readiness.{IsReady};
 ghost use Rattle.sb_statements.specs.Actors.{thread_count};
 ghost use Rattle.sb_statements.specs.declared.schedules.Actor.{Actor};
 ghost use Rattle.sb_statements.specs.declared.schedules.Actor.TheVariants.{Worker, Thread};
-ghost use Rattle.sb_shared.specs.Closing.{behind};
+ghost use Rattle.sb_shared.specs.Closing.{later_parts};
 ghost use Rattle.sb_shared.specs.Making.{IsOpenedWith, keeper_of};
 ghost use Rattle.sb_shared.specs.Opening.{AreFirst, all_actors, first_word, target_places, thread_of, thread_places};
 ghost use Rattle.sb_shared.specs.Rule.{word_count};
 ghost use Rattle.sb_shared.specs.Seats.{fresh_keeper, fresh_thread, fresh_worker};
 
 use crate::books::BoxedBook;
-use crate::counts::{channel_count, target_count, thread_places};
 use crate::keepers::Keeper;
+use crate::layout::{CHANNEL_STRIDE, TARGET_STRIDE, WORD_COUNT};
+use crate::listings::thread_places;
 use crate::moves::Words;
 use crate::rooms::make_rooms;
 use crate::threads::ThreadSeat;
@@ -22,10 +23,9 @@ use crate::workers::{WorkerBody, WorkerSeat};
 use crate::worlds::SharedWorld;
 use atomic_table::{Refused, Table};
 use sb_actor::{ThreadState, WorkerState};
-use sb_book::{Book, ReadyScript};
+use sb_book::{Book, RunStart};
 use sb_core::worlds_keep;
 use sb_items::NoMemory;
-use sb_kernel::Kernel;
 use sb_statements::{SoundScript, sound_parts};
 use std::alloc::Global;
 use std::snapshot::Snapshot;
@@ -34,9 +34,10 @@ use std::snapshot::Snapshot;
 fn first_word(script: &SoundScript, place: usize) -> u64
     ensures { result ≡ first_word script.now.targets place }
 {
-    match script.targets.as_slice().get(place / 640) {
+    match script.targets.get(place / TARGET_STRIDE) {
         Some(target) => {
-            if place % 640 / 80 < target.channels as usize && place % 80 == 0 {
+            let channel = place % TARGET_STRIDE / CHANNEL_STRIDE;
+            if channel < target.channels as usize && place % CHANNEL_STRIDE == 0 {
                 1
             } else {
                 0
@@ -51,37 +52,44 @@ fn first_words(alloc: Global, script: &SoundScript) -> Result<Vec<u64>, NoMemory
     ensures { IfOk result (λ words. AreFirst script.now.targets word_count words.items) }
 {
     let mut words = Vec::new(alloc);
-    for place in 0..5152 {
+    for place in 0..WORD_COUNT {
         words.push(first_word(script, place))?;
     }
     Ok(words)
 }
 
+/// The script of a run that begins. It is ready.
+pub fn script_of<'a>(start: &RunStart<'a>) -> &'a SoundScript
+    ensures same { result.now ≡ start.now.script }
+    ensures ready { IsReady start.now.policies start.now.script }
+{
+    let ready = start.ready();
+    ready.establish_ready();
+    ready.script()
+}
+
 // A table, and the seat from which all others are made.
 fn begin(
     alloc: Global,
-    ready: &ReadyScript,
-    kernel: Kernel,
+    start: RunStart<'_>,
     threads: usize,
 ) -> Result<(SharedWorld, Keeper), NoMemory>
-    requires opens { kernel ≡ opening ready.now.script.start }
-    requires threads { threads ≡ length (thread_places ready.now.script.targets) }
-    ensures policies { IfOk result (λ made. made.0.key.policies.value.list ≡ ready.now.policies) }
-    ensures script { IfOk result (λ made. made.0.key.script.value ≡ ready.now.script) }
-    ensures keeper { IfOk result (λ made. made.1 ≡ keeper_of made.0.table made.0.key (all_actors ready.now.script.targets)) }
+    requires threads { threads ≡ length (thread_places start.script.targets) }
+    ensures policies { IfOk result (λ made. made.0.key.policies.value.list ≡ start.entry.policies) }
+    ensures script { IfOk result (λ made. made.0.key.script.value ≡ start.entry.script) }
+    ensures keeper { IfOk result (λ made. made.1 ≡ keeper_of made.0.table made.0.key (all_actors start.entry.script.targets)) }
 {
     worlds_keep();
     sound_parts();
-    ready.establish_ready();
-    let policies = ready.policies();
-    let script = ready.script();
+    let script = script_of(&start);
+    let policies = start.ready().policies();
     let key = Origin {
         policies: Snapshot::of(policies.policies()),
         script: Snapshot::of(script.script()),
     };
     let words = first_words(alloc, script)?;
     let rooms = make_rooms(alloc, script, threads)?;
-    let book = BoxedBook::new(alloc, Book::new(alloc, ready, kernel))?;
+    let book = BoxedBook::new(alloc, Book::new(alloc, start))?;
     let mut slots = Vec::with_capacity(alloc, 1)?;
     slots.push_reserved(Some(book));
     match Table::new(alloc, words.as_slice(), slots, &key) {
@@ -102,13 +110,13 @@ fn worker_seat(
     requires opened { IsOpenedWith words.now.key script.now }
     requires there { target < length script.now.targets }
     requires first { (more : List Actor) × (keeper.old ≡ keeper_of words.now.table_id words.now.key (Worker target ∷ more)) }
-    ensures keeper { keeper.new ≡ record keeper.old { parts = behind keeper.old.parts } }
+    ensures keeper { keeper.new ≡ record keeper.old { parts = later_parts keeper.old.parts } }
     ensures seat { IfOk result (λ s. s ≡ fresh_worker words.now.table_id words.now.key target) }
 {
     let seat = keeper.split(words);
     let body = WorkerBody {
         seat,
-        state: WorkerState::new(target, channel_count(script, target)),
+        state: WorkerState::new(target, script.channel_count(target)),
         book: None,
         decision: None,
     };
@@ -131,7 +139,7 @@ fn worker_seats(
     ensures seats { IfOk result (λ seats. seats.items ≡ map (fresh_worker words.now.table_id words.now.key) (target_places script.now.targets)) }
 {
     let mut seats = Vec::new(alloc);
-    for target in 0..target_count(script) {
+    for target in 0..script.target_count() {
         seats.push(worker_seat(alloc, words, keeper, script, target)?)?;
     }
     Ok(seats)
@@ -141,8 +149,8 @@ fn worker_seats(
 fn statement_count(script: &SoundScript, target: u32, thread: u32) -> usize
     ensures { result ≡ length (statements_of script.now target thread) }
 {
-    match script.targets.as_slice().get(target as usize) {
-        Some(target) => match target.threads.as_slice().get(thread as usize) {
+    match script.targets.get(target as usize) {
+        Some(target) => match target.threads.get(thread as usize) {
             Some(statements) => statements.len(),
             None => 0,
         },
@@ -163,7 +171,7 @@ fn thread_seat(
     requires opened { IsOpenedWith words.now.key script.now }
     requires there { thread < thread_count (slice_get script.now.targets target) }
     requires first { (more : List Actor) × (keeper.old ≡ keeper_of words.now.table_id words.now.key (Thread target thread ∷ more)) }
-    ensures keeper { OnOk result (keeper.new ≡ record keeper.old { parts = behind keeper.old.parts }) }
+    ensures keeper { OnOk result (keeper.new ≡ record keeper.old { parts = later_parts keeper.old.parts }) }
     ensures seat { IfOk result (λ s. s ≡ fresh_thread words.now.table_id words.now.key (target, thread)) }
 {
     let results = Vec::with_capacity(alloc, statement_count(script, target, thread))?;
@@ -213,25 +221,23 @@ pub struct SharedParts {
 }
 
 impl SharedWorld {
-    /// The shared world of a ready script before its first step, with one seat for each actor, and one that takes them in again. Besides the
+    /// The shared world of a run before its first step, with one seat for each actor, and one that takes them in again. Besides the
     /// book's answers and decisions this is the only call that allocates.
     ///
     /// # Errors
     /// `NoMemory` if there is not enough.
-    pub fn open(alloc: Global, ready: &ReadyScript, kernel: Kernel) -> Result<SharedParts, NoMemory>
-        requires opens { kernel ≡ opening ready.now.script.start }
-        ensures policies { IfOk result (λ made. made.world.key.policies.value.list ≡ ready.now.policies) }
-        ensures script { IfOk result (λ made. made.world.key.script.value ≡ ready.now.script) }
+    pub fn open(alloc: Global, start: RunStart<'_>) -> Result<SharedParts, NoMemory>
+        ensures policies { IfOk result (λ made. made.world.key.policies.value.list ≡ start.entry.policies) }
+        ensures script { IfOk result (λ made. made.world.key.script.value ≡ start.entry.script) }
         ensures keeper { IfOk result (λ made. made.keeper ≡ fresh_keeper made.world.table made.world.key) }
-        ensures workers { IfOk result (λ made. made.workers.items ≡ map (fresh_worker made.world.table made.world.key) (target_places ready.now.script.targets)) }
-        ensures threads { IfOk result (λ made. made.threads.items ≡ map (fresh_thread made.world.table made.world.key) (thread_places ready.now.script.targets)) }
+        ensures workers { IfOk result (λ made. made.workers.items ≡ map (fresh_worker made.world.table made.world.key) (target_places start.entry.script.targets)) }
+        ensures threads { IfOk result (λ made. made.threads.items ≡ map (fresh_thread made.world.table made.world.key) (thread_places start.entry.script.targets)) }
     {
         worlds_keep();
         sound_parts();
-        ready.establish_ready();
-        let script = ready.script();
+        let script = script_of(&start);
         let places = thread_places(alloc, script)?;
-        let (world, mut keeper) = begin(alloc, ready, kernel, places.len())?;
+        let (world, mut keeper) = begin(alloc, start, places.len())?;
         let words = &world.table.shared;
         let workers = worker_seats(alloc, words, &mut keeper, script)?;
         let threads = thread_seats(alloc, words, &mut keeper, script, places.as_slice())?;

@@ -6,13 +6,13 @@ ghost use Rattle.sb_shared.specs.Opening.{thread_places};
 ghost use Rattle.sb_shared.specs.Rooms.{AreRooms, channel_counts, thread_counts, words_from};
 ghost use Rattle.sb_shared.specs.Rule.{word_count};
 
-use crate::counts::{channel_count, target_count, thread_count};
+use crate::layout::{CHANNEL_STRIDE, TARGET_STRIDE};
 use crate::protocol::Slot;
 use atomic_table::Closed;
 use sb_actor::WorkerState;
 use sb_book::{TargetResults, ThreadResults, WordList};
 use sb_items::NoMemory;
-use sb_statements::SoundScript;
+use sb_statements::{SoundScript, WORDS_OF_CHANNEL};
 use std::alloc::Global;
 use std::marker::Model;
 use std::vec::IntoIter;
@@ -51,7 +51,7 @@ impl WordRoom {
         let channels = channels as usize;
         Ok(WordRoom {
             channels,
-            words: Vec::with_capacity(alloc, channels * 65)?,
+            words: Vec::with_capacity(alloc, channels * WORDS_OF_CHANNEL)?,
         })
     }
 
@@ -66,8 +66,11 @@ impl WordRoom {
             channels,
             mut words,
         } = self;
-        for place in 0..channels * 65 {
-            words.push_reserved(closed.word(target * 640 + place / 65 * 80 + place % 65));
+        for place in 0..channels * WORDS_OF_CHANNEL {
+            let (channel, at) = (place / WORDS_OF_CHANNEL, place % WORDS_OF_CHANNEL);
+            words.push_reserved(closed.word(
+                target * TARGET_STRIDE + channel * CHANNEL_STRIDE + at,
+            ));
         }
         WordList::new(words)
     }
@@ -149,8 +152,8 @@ fn word_rooms(alloc: Global, script: &SoundScript) -> Result<Vec<WordRoom>, NoMe
     ensures { IfOk result (λ rooms. rooms.items ≡ channel_counts script.now.targets) }
 {
     let mut rooms = Vec::new(alloc);
-    for target in 0..target_count(script) {
-        rooms.push(WordRoom::new(alloc, channel_count(script, target))?)?;
+    for target in 0..script.target_count() {
+        rooms.push(WordRoom::new(alloc, script.channel_count(target))?)?;
     }
     Ok(rooms)
 }
@@ -160,8 +163,8 @@ fn result_rooms(alloc: Global, script: &SoundScript) -> Result<Vec<ResultRoom>, 
     ensures { IfOk result (λ rooms. rooms.items ≡ thread_counts script.now.targets) }
 {
     let mut rooms = Vec::new(alloc);
-    for target in 0..target_count(script) {
-        rooms.push(ResultRoom::new(alloc, thread_count(script, target))?)?;
+    for target in 0..script.target_count() {
+        rooms.push(ResultRoom::new(alloc, script.thread_count(target))?)?;
     }
     Ok(rooms)
 }
@@ -178,7 +181,7 @@ pub(crate) fn make_rooms(
     requires threads { threads ≡ length (thread_places script.now.targets) }
     ensures { IfOk result (λ rooms. AreRooms script.now.targets rooms) }
 {
-    let targets = target_count(script) as usize;
+    let targets = script.target_count() as usize;
     Ok(Rooms {
         words: word_rooms(alloc, script)?,
         all_words: Vec::with_capacity(alloc, targets)?,

@@ -1,7 +1,9 @@
 // The seat of a thread.
 ghost use Rattle.std.specs.Prelude.{◌≡◌, ◌∷◌, [], true, false};
 ghost use Rattle.sb_actor.specs.Places.{is_finished};
+ghost use Rattle.sb_actor.specs.ThreadTable.{thread_plan};
 ghost use Rattle.sb_shared.specs.Seats.{thread_looked, thread_stepped};
+ghost use Rattle.sb_shared.specs.Waiting.{is_again, repeats};
 ghost use Rattle.sb_shared.specs.declared.views.Part.TheVariants as part;
 
 use crate::laws::core_laws;
@@ -15,7 +17,7 @@ use sb_actor::{Act, ThreadState};
 use sb_statements::{SoundScript, StmtResult, Word};
 use std::marker::Model;
 
-/// The seat of a thread: the thread makes its steps with it, and keeps its results there. Contracts see where the thread stands in the
+/// The seat of a thread: the thread makes its steps with it, and keeps its results there. Contracts see where the thread is in the
 /// world, with its results so far.
 pub struct ThreadSeat {
     pub(crate) seat: Seat<Slot, View>,
@@ -43,15 +45,17 @@ impl Model for ThreadSeat {
 
     ghost Value = { ThreadSeatValue };
 
-    ghost view = { λ s. thread_seat s.seat.table_id s.seat.me.0 };
+    ghost view = { λ s. thread_seat s.seat.table_id s.seat.me.0 s.waiting };
 
     ghost invariant = { λ s. IsThread s.seat.me.0 × (s.seat.me.1 ≡ []) × (s.state ≡ (thread_in s.seat.me.0.parts).run.thread)
         × (s.results.items ≡ (thread_in s.seat.me.0.parts).run.results)
         × (length (statements_of s.seat.me.0.key.script.value (thread_in s.seat.me.0.parts).target (thread_in s.seat.me.0.parts).thread) ≤ vec_capacity s.results) };
 }
 
-// Whether a plan is on the word of the last step, or on one of an earlier channel: then the last step found nothing to go on with.
-fn repeats(last: Word, next: Act) -> bool {
+// Whether a step is a load of this word, or an exchange on it or on the same word of an earlier channel.
+fn is_again(last: Word, next: Act) -> bool
+    ensures { result ≡ is_again last next }
+{
     match next {
         Act::Load { word, .. } => word.channel == last.channel && word.at == last.at,
         Act::Exchange { word, .. } => word.channel <= last.channel && word.at == last.at,
@@ -59,9 +63,20 @@ fn repeats(last: Word, next: Act) -> bool {
     }
 }
 
+// Whether a load or an exchange is to be made again: of the same word, or in another round of channels.
+fn repeats(last: Act, next: Act) -> bool
+    ensures { result ≡ repeats last next }
+{
+    match last {
+        Act::Load { word, .. } | Act::Exchange { word, .. } => is_again(word, next),
+        Act::Store { .. } | Act::Take | Act::Answer | Act::Give | Act::Idle => false,
+    }
+}
+
 impl ThreadSeat {
-    /// Makes the thread's next step, as one atomic step on a word. The thread then stands where that step of the world leaves it. The
+    /// Makes the thread's next step, as one atomic step on a word. The thread is then where that step of the world leaves it. The
     /// step of a finished thread does nothing. It waits for nobody and allocates nothing.
+    #[tactic(auto, using(crate::proofs::ResultPlaces::room_for))]
     pub fn step(&mut self, world: &SharedWorld, script: &SoundScript)
         requires own { self.old.table ≡ world.now.table }
         requires script { self.old.key.script.value ≡ script.now }
@@ -69,33 +84,33 @@ impl ThreadSeat {
         ensures finished { is_finished script.now self.old.run.thread ≡ true → self.new ≡ self.old }
     {
         core_laws();
-        let act = self.state.plan(script);
-        let Some(seen) = perform(&world.table.shared, &mut self.seat, act) else {
+        let direct = self.state.direct_statement(script);
+        let act = self.state.plan(direct);
+        let Some(observed) = perform(&world.table.shared, &mut self.seat, act) else {
             return;
         };
-        match self.state.after(script, seen) {
-            Some(ended) => {
-                self.results.push_reserved(ended);
-                self.waiting = false;
-            }
-            None => self.note_wait(script, act),
+        if self
+            .state
+            .after(script, direct, observed, &mut self.results)
+        {
+            self.waiting = false;
+        } else {
+            self.note_wait(script, act);
         }
     }
 
-    // Notes whether a step that ended no statement found nothing to go on with.
+    // Notes whether a step that ended no statement is to be made again.
     fn note_wait(&mut self, script: &SoundScript, act: Act)
-        ensures { self.new ≡ self.old }
+        ensures { self.new ≡ record self.old { waiting = repeats act (thread_plan script.now self.old.run.thread) } }
     {
-        self.waiting = match act {
-            Act::Load { word, .. } | Act::Exchange { word, .. } => {
-                repeats(word, self.state.plan(script))
-            }
-            Act::Store { .. } | Act::Take | Act::Answer | Act::Give | Act::Idle => false,
-        };
+        let direct = self.state.direct_statement(script);
+        self.waiting = repeats(act, self.state.plan(direct));
     }
 
     /// Whether the last step found nothing to go on with: a word that is to be loaded again, or a round of channels of which none was free.
-    pub fn is_waiting(&self) -> bool {
+    pub fn is_waiting(&self) -> bool
+        ensures { result ≡ self.now.waiting }
+    {
         self.waiting
     }
 

@@ -7,7 +7,7 @@ use sb_statements::{Script, StmtResult};
 use std::collections::LinkedList;
 use std::snapshot::Snapshot;
 
-/// Where one actor stands in the world.
+/// Where one actor is in the world.
 pub enum Part {
     /// The worker of a target, and the book while it has the turn.
     Worker {

@@ -2,20 +2,21 @@
 ghost use Rattle.std.specs.Prelude.{◌≡◌, ◌≢◌, ◌<◌, ◌∷◌, [], true, false, length, slice_index, is_some, IfOk, IfSome, OnOk, OnErr, Some, None};
 ghost use Rattle.sb_actor.specs.WorkerTable.{is_looking, taken_in, worker_plan};
 ghost use Rattle.sb_actor.specs.declared.acts.Act.TheVariants.{Take, Answer, Give};
-ghost use Rattle.sb_actor.specs.declared.acts.Observed.TheVariants.{Answered, Turn, Done};
+ghost use Rattle.sb_actor.specs.Observations.{Answered, Turn, Done};
 ghost use Rattle.sb_block.specs.Copies.{mark_of};
 ghost use Rattle.sb_book.specs.Histories.{History};
 ghost use Rattle.sb_core.specs.Kept.{has_turn};
 ghost use Rattle.sb_shared.specs.Keeping.{IsDecided, decision_on};
 ghost use Rattle.sb_shared.specs.Origins.{setting_in};
 ghost use Rattle.sb_shared.specs.Parts.{answer_to, is_on_word};
-ghost use Rattle.sb_shared.specs.Seats.{worker_stepped, worker_shown, worker_marked, worker_looked, worker_stopped};
+ghost use Rattle.sb_shared.specs.Seats.{mark_held, worker_decided, worker_undecided, worker_stepped, worker_shown, worker_marked, worker_looked, worker_stopped};
 ghost use Rattle.sb_shared.specs.declared.stops.Stop.TheVariants.{OutOfMemory};
 ghost use Rattle.sb_shared.specs.declared.views.Part.TheVariants as part;
 
 use crate::books::BoxedBook;
 use crate::laws::core_laws;
-use crate::moves::{TURN, look, perform, set_stop};
+use crate::layout::TURN;
+use crate::moves::{look, perform, set_stop};
 use crate::protocol::{Gives, Marks, Slot, Tries};
 use crate::stops::Stop;
 use crate::views::View;
@@ -67,7 +68,7 @@ impl WorkerBody {
 }
 
 /// The seat of a worker: the worker makes its steps with it, and keeps the book there while it has the turn. Contracts see where the worker
-/// stands in the world, with the book while it has the turn. A seat is one pointer.
+/// is in the world, with the book while it has the turn. A seat is one pointer.
 pub struct WorkerSeat {
     pub(crate) body: Box<WorkerBody>,
 }
@@ -79,13 +80,14 @@ impl Drop for WorkerSeat {
 }
 
 impl Model for WorkerSeat {
+    ghost use Rattle.std.specs.Prelude.{is_some};
     ghost use Rattle.sb_core.specs.Kept.{has_turn};
     ghost use Rattle.sb_shared.specs.Keeping.{IsBody};
     ghost use Rattle.sb_shared.specs.Seats.{WorkerSeatValue, worker_seat};
 
     ghost Value = { WorkerSeatValue };
 
-    ghost view = { λ s. worker_seat s.body.value.seat.table_id s.body.value.seat.me.0 };
+    ghost view = { λ s. worker_seat s.body.value.seat.table_id s.body.value.seat.me.0 (is_some s.body.value.decision) };
 
     ghost invariant = { λ s. IsBody s.body.value.seat.me s.body.value.state s.body.value.book s.body.value.decision };
 }
@@ -101,6 +103,7 @@ fn decide_once<J: Judge>(
     requires before { IsDecided (J.policies judge.now) worker.now.target (taken_in worker.now.stage) decision.old }
     ensures ok { OnOk result (decision.new ≡ decision_on (J.policies judge.now) worker.now.target (taken_in worker.now.stage)) }
     ensures err { OnErr result (decision.new ≡ decision.old) }
+    ensures none { OnErr result (decision.old ≡ None) }
 {
     if decision.is_some() {
         return Ok(());
@@ -173,14 +176,16 @@ impl WorkerSeat {
     }
 
     /// The mark of the worker's copy, 0 if it has none.
-    pub fn mark(&self) -> u64 {
+    pub fn mark(&self) -> u64
+        ensures { result ≡ mark_held (taken_in self.now.state.stage) }
+    {
         match self.body.state.taken() {
             Some(taken) => taken.mark(),
             None => 0,
         }
     }
 
-    /// Makes the worker's next step if that is on a word, as one atomic step. The worker then stands where that step of the world leaves
+    /// Makes the worker's next step if that is on a word, as one atomic step. The worker is then where that step of the world leaves
     /// it. A worker whose next step is on the turn stays as it is. It waits for nobody and allocates nothing.
     pub fn step(&mut self, world: &SharedWorld)
         requires own { self.old.table ≡ world.now.table }
@@ -190,25 +195,28 @@ impl WorkerSeat {
         core_laws();
         let body = &mut *self.body;
         let act = body.state.plan();
-        if let Some(seen) = perform(&world.table.shared, &mut body.seat, act) {
-            body.state.after(seen);
+        if let Some(observed) = perform(&world.table.shared, &mut body.seat, act) {
+            body.state.after(observed);
         }
     }
 
-    /// Decides on the worker's copy by the policy of its target, unless that was done. Nothing that contracts see changes.
+    /// Decides on the worker's copy by the policy of its target, unless that was done. Without a copy there is nothing to decide.
     ///
     /// # Errors
     /// `NoMemory` if there is none for the strings of the call.
     pub fn decide<J: Judge>(&mut self, alloc: Global, judge: &J) -> Result<(), NoMemory>
         requires judge { J.policies judge.now ≡ (setting_in self.old.key).policies }
-        ensures same { self.new ≡ self.old }
+        ensures ok { OnOk result (self.new ≡ worker_decided self.old) }
+        ensures err { OnErr result (self.new ≡ self.old) }
     {
         let body = &mut *self.body;
         decide_once(alloc, judge, &body.state, &mut body.decision)
     }
 
     /// Whether the worker's copy is decided.
-    pub fn has_decided(&self) -> bool {
+    pub fn has_decided(&self) -> bool
+        ensures { result ≡ self.now.decided }
+    {
         self.body.decision.is_some()
     }
 
@@ -236,7 +244,8 @@ impl WorkerSeat {
     /// The book answers the worker's copy, as one atomic step, by the decision of the target's policy.
     ///
     /// # Errors
-    /// `NoMemory` if there is none for the decision, for the entry or for what the call makes. Then the worker stays as it is, with the turn.
+    /// `NoMemory` if there is none for the decision, for the entry or for what the call makes. Then the worker stays as it is, with the turn, and its copy
+    /// is not decided.
     pub fn answer<J: Judge>(
         &mut self,
         alloc: Global,
@@ -246,8 +255,8 @@ impl WorkerSeat {
         requires own { self.old.table ≡ world.now.table }
         requires plan { worker_plan self.old.state ≡ Answer }
         requires judge { J.policies judge.now ≡ (setting_in self.old.key).policies }
-        ensures marked { OnOk result ((book : History) × (self.old.book ≡ Some book) × (self.new ≡ worker_marked self.old book self.new.found)) }
-        ensures err { OnErr result (self.new ≡ self.old) }
+        ensures marked { OnOk result ((book : History) × (self.old.book ≡ Some book) × (self.new ≡ worker_undecided (worker_marked self.old book self.new.found))) }
+        ensures err { OnErr result (self.new ≡ worker_undecided self.old) }
     {
         core_laws();
         let body = &mut *self.body;
@@ -257,7 +266,7 @@ impl WorkerSeat {
         };
         let reply = answer_copy(book, &body.state, body.decision.take())?;
         world.table.shared.load::<Marks>(&mut body.seat, TURN);
-        body.state.after(Observed::Answered(reply));
+        body.state.accept_reply(&reply);
         Ok(())
     }
 
@@ -265,7 +274,7 @@ impl WorkerSeat {
     pub fn give_back(&mut self, world: &SharedWorld)
         requires own { self.old.table ≡ world.now.table }
         requires plan { worker_plan self.old.state ≡ Give }
-        ensures given { self.new ≡ worker_shown self.old Done None 0 }
+        ensures given { self.new ≡ worker_undecided (worker_shown self.old Done None 0) }
     {
         core_laws();
         let words = &world.table.shared;

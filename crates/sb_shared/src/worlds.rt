@@ -1,10 +1,10 @@
 // The world that all actors of a run share.
 ghost use Rattle.std.specs.Prelude.{◌≡◌, true};
-ghost use Rattle.sb_book.specs.Readiness.{is_ready};
+ghost use Rattle.sb_book.specs.Readiness.{IsReady};
 ghost use Rattle.sb_shared.specs.Rooms.{AreRooms};
 ghost use Rattle.sb_shared.specs.Rule.{word_count};
 
-use crate::moves::STOP;
+use crate::layout::STOP;
 use crate::protocol::{Slot, World};
 use crate::rooms::Rooms;
 use crate::views::{Origin, View};
@@ -30,7 +30,7 @@ impl Drop for SharedWorld {
 
 impl Model for SharedWorld {
     ghost use Rattle.std.specs.Prelude.{◌≡◌, true};
-    ghost use Rattle.sb_book.specs.Readiness.{is_ready};
+    ghost use Rattle.sb_book.specs.Readiness.{IsReady};
     ghost use Rattle.sb_shared.specs.Rooms.{AreRooms};
     ghost use Rattle.sb_shared.specs.Rule.{word_count};
     ghost use Rattle.sb_shared.specs.Seats.{SharedValue};
@@ -39,14 +39,14 @@ impl Model for SharedWorld {
 
     ghost view = { λ s. record { table = s.table.shared.table_id; key = s.table.shared.key } };
 
-    ghost invariant = { λ s. (s.table.shared.table_id.words ≡ word_count) × (s.table.shared.table_id.slots ≡ 1) × (is_ready s.table.shared.key.policies.value.list s.table.shared.key.script.value ≡ true)
+    ghost invariant = { λ s. (s.table.shared.table_id.words ≡ word_count) × (s.table.shared.table_id.slots ≡ 1) × IsReady s.table.shared.key.policies.value.list s.table.shared.key.script.value
         × AreRooms s.table.shared.key.script.value.targets s.rooms };
 }
 
 impl SharedWorld {
     /// The script of the run is ready for its policies. It does nothing.
     pub fn establish_ready(&self)
-        ensures { is_ready self.now.key.policies.value.list self.now.key.script.value ≡ true }
+        ensures { IsReady self.now.key.policies.value.list self.now.key.script.value }
     {
         let _words = &self.rooms.words;
     }

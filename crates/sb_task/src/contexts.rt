@@ -9,7 +9,7 @@ use sb_shared::SharedWorld;
 use sb_statements::SoundScript;
 use std::marker::Model;
 
-/// The judge, the gate, the script, the shared world, and the pool that deals the seats of the workers. The world was opened with this script,
+/// The judge, the gate, the script, the shared world, and the pool that deals the seats of the workers to those who serve. The world was opened with this script,
 /// and the judge judges its targets by their policies.
 #[derive(Drop)]
 pub struct RunContext<'a, J: Judge, G: Gate> {
@@ -18,6 +18,8 @@ pub struct RunContext<'a, J: Judge, G: Gate> {
     pub script: &'a SoundScript,
     pub world: &'a SharedWorld,
     pub pool: &'a Pool<Work>,
+    /// How many threads serve targets.
+    pub serving: usize,
 }
 
 impl<'a, J: Judge, G: Gate> Model for RunContext<'a, J, G> {

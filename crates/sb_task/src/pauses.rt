@@ -1,68 +1,84 @@
-// How a thread waits for others.
+// How a thread that serves targets waits for calls.
 
-use crossbeam_utils::Backoff;
 use sb_shared::SharedWorld;
+use std::hint;
 use std::sync::Wait;
 use std::thread::yield_now;
 use std::time::Duration;
 
+// A wait spins at first, this many times, each time for twice as long: the caller of a served call may run on another processor.
+const SPINS: u32 = 3;
+
+// It then yields, this many times: the next caller may wait for this processor.
+const YIELDS: u32 = 4;
+
 // The first sleep is short beside a thread's share of a processor, and long beside a call.
 const FIRST_SLEEP_MICROSECONDS: u64 = 50;
-
-// A wait follows this many passes that found no call. With one alone, a thread that serves many targets sleeps while others of them have calls.
-const PASSES: usize = 2;
 
 // Each sleep is twice as long as the one before it, up to this.
 const LONGEST_SLEEP_MICROSECONDS: u64 = 800;
 
-/// Waits a little for another actor's step: it spins at first, and yields once it has waited for some time.
-pub(crate) fn pause(backoff: &Backoff) {
-    if backoff.is_completed() {
-        yield_now();
-    } else {
-        backoff.snooze();
+// A wait follows at least this many passes that found no call. With one alone a thread sleeps soon after each call.
+const LEAST_PASSES: usize = 2;
+
+// How many passes without a call come before a wait: as many as targets fall to each thread that serves. With fewer a thread waits while others of its
+// targets have calls.
+fn passes_of(targets: usize, serving: usize) -> usize {
+    match targets.checked_div(serving) {
+        Some(passes) => passes.max(LEAST_PASSES),
+        None => LEAST_PASSES,
     }
 }
 
-/// How a thread that serves targets waits for calls: after each few passes that found none it spins at first, then yields, and then sleeps, each time for
+/// How a thread that serves targets waits for calls: after each few passes that found none it spins, later yields, and at last sleeps, each time for
 /// twice as long.
 #[derive(Drop)]
 pub(crate) struct IdleWait {
-    backoff: Backoff,
+    passes: usize,
     // How many passes since the last wait found no call.
     idle: usize,
+    // How many waits since the last call did not sleep.
+    waits: u32,
     sleep: u64,
 }
 
 impl IdleWait {
-    /// Before the first pass.
-    pub(crate) fn new() -> IdleWait {
+    /// Before the first pass of one of these threads, which serve this number of targets together.
+    pub(crate) fn new(targets: usize, serving: usize) -> IdleWait {
         IdleWait {
-            backoff: Backoff::new(),
+            passes: passes_of(targets, serving),
             idle: 0,
+            waits: 0,
             sleep: FIRST_SLEEP_MICROSECONDS,
         }
     }
 
     /// Begins anew, since there was a call to serve.
     pub(crate) fn reset(&mut self) {
-        self.backoff.reset();
         self.idle = 0;
+        self.waits = 0;
         self.sleep = FIRST_SLEEP_MICROSECONDS;
     }
 
     /// A pass found no call: waits a little if it is the last of a few. A sleep ends when the run stops.
     pub(crate) fn pass<R: Wait>(&mut self, rt: &R, world: &SharedWorld) {
         self.idle = self.idle.saturating_add(1);
-        if self.idle < PASSES {
+        if self.idle < self.passes {
             return;
         }
         self.idle = 0;
-        if self.backoff.is_completed() {
+        if self.waits >= SPINS + YIELDS {
             world.doze(rt, Duration::from_micros(self.sleep));
             self.sleep = self.sleep.saturating_mul(2).min(LONGEST_SLEEP_MICROSECONDS);
-        } else {
-            self.backoff.snooze();
+            return;
         }
+        if self.waits < SPINS {
+            for _ in 0..1u32 << self.waits {
+                hint::spin_loop();
+            }
+        } else {
+            yield_now();
+        }
+        self.waits += 1;
     }
 }

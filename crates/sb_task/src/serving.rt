@@ -1,8 +1,9 @@
 // What a thread does that serves targets: it draws the seat of a worker, serves its target for a while, and hands it back.
-ghost use Rattle.std.specs.Prelude.{◌≡◌, IfOk, OnOk};
+ghost use Rattle.std.specs.Prelude.{◌≡◌, ◌<◌, IfOk, OnOk};
 ghost use Rattle.sb_task.specs.Contexts.{IsWorkerOf};
 ghost use Rattle.sb_task.specs.Servers.{IsSameServer, IsServer};
 ghost use Rattle.sb_task.specs.Works.{home_of};
+ghost use Rattle.sb_task.specs.declared.serving.Attendance.TheVariants.{Stopped};
 
 use crate::contexts::RunContext;
 use crate::pauses::IdleWait;
@@ -25,11 +26,11 @@ pub enum Attendance {
     Served,
     /// There was nothing to serve, or another thread had it.
     Idle,
-    /// The stop word was set.
+    /// The stop word is set.
     Stopped,
 }
 
-// Serves the target of a work for a while, unless the stop word is set.
+// Serves the target of a work for a while, unless the stop word is set: then the seat of its worker has seen a stop.
 fn serve<J: Judge, G: Gate, R: Wait>(
     rt: &R,
     alloc: Global,
@@ -38,6 +39,7 @@ fn serve<J: Judge, G: Gate, R: Wait>(
 ) -> Result<(Work, Attendance), NoMemory>
     requires own { IsWorkerOf context.now.world work }
     ensures home { IfOk result (λ served. home_of served.0 ≡ home_of work) }
+    ensures stopped { IfOk result (λ served. served.1 ≡ Stopped → 0 < served.0.seen) }
 {
     let mut seat = work.into_seat();
     if seat.stopped(context.world).is_some() {
@@ -85,7 +87,7 @@ pub fn attend<J: Judge, G: Gate, R: Wait>(
     ensures server { OnOk result (IsServer context.now server.new) }
     ensures same { OnOk result (IsSameServer server.old server.new) }
 {
-    let mut wait = IdleWait::new();
+    let mut wait = IdleWait::new(context.script.targets.len(), context.serving);
     for _ in rt.forever() {
         match attend_once(rt, alloc, context, server)? {
             Attendance::Served => wait.reset(),

@@ -3,15 +3,14 @@ ghost use Rattle.std.specs.Prelude.{◌≡◌, IfOk};
 ghost use Rattle.sb_shared.specs.Closing.{IsThreadSeat};
 ghost use Rattle.sb_task.specs.Threads.{HasEnded};
 
-use crate::pauses::pause;
-use crossbeam_utils::Backoff;
 use sb_items::NoMemory;
 use sb_shared::{SharedWorld, ThreadSeat};
 use sb_statements::SoundScript;
 use std::sync::Wait;
+use std::thread::yield_now;
 
-/// Makes the steps of a thread until each of its statements has ended. After a step that found nothing to go on with, it looks at the stop word and waits a
-/// little.
+/// Makes the steps of a thread until each of its statements has ended. After a step that found nothing to go on with, it looks at the stop word and yields
+/// the processor.
 ///
 /// # Errors
 /// `NoMemory` if it found the stop word set. The seat is then dropped.
@@ -26,18 +25,16 @@ pub fn run_thread<R: Wait>(
     ensures { IfOk result (λ s. HasEnded seat s) }
 {
     let mut current = seat;
-    let backoff = Backoff::new();
     for _ in rt.forever() {
         if current.is_finished(script) {
             break;
         }
         current.step(world, script);
-        if !current.is_waiting() {
-            backoff.reset();
-        } else if current.stopped(world).is_some() {
-            return Err(NoMemory);
-        } else {
-            pause(&backoff);
+        if current.is_waiting() {
+            if current.stopped(world).is_some() {
+                return Err(NoMemory);
+            }
+            yield_now();
         }
     }
     Ok(current)

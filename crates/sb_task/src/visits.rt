@@ -6,8 +6,6 @@ ghost use Rattle.sb_task.specs.Contexts.{IsWorkerOf};
 ghost use Rattle.sb_task.specs.Works.{IsSameWorker, IsWork};
 
 use crate::contexts::RunContext;
-use crate::pauses::pause;
-use crossbeam_utils::Backoff;
 use sb_actor::Act;
 use sb_items::NoMemory;
 use sb_outside::Gate;
@@ -15,17 +13,18 @@ use sb_rule::Judge;
 use sb_shared::{Stop, WorkerSeat};
 use std::alloc::Global;
 use std::sync::Wait;
+use std::thread::yield_now;
 
 // After this many calls others may draw the seat.
 const MOST_CALLS: u32 = 64;
 
-// A try to take the turn, after the decision on the copy and the gate. If the turn is held, it looks at the stop word and waits a little.
+// A try to take the turn, after the decision on the copy and the gate. If the turn is held, it looks at the stop word and yields the
+// processor.
 fn try_turn<J: Judge, G: Gate, R: Wait>(
     rt: &R,
     alloc: Global,
     context: &RunContext<'_, J, G>,
     seat: &mut WorkerSeat,
-    backoff: &Backoff,
 ) -> Result<(), NoMemory>
     requires own { IsWorkerOf context.now.world seat.old }
     requires plan { worker_plan seat.old.state ≡ Take }
@@ -37,13 +36,12 @@ fn try_turn<J: Judge, G: Gate, R: Wait>(
         context.gate.pass(rt, seat.target(), seat.mark());
     }
     if seat.try_take(context.world) {
-        backoff.reset();
         return Ok(());
     }
     if let Some(Stop::OutOfMemory) = seat.stopped(context.world) {
         return Err(NoMemory);
     }
-    pause(backoff);
+    yield_now();
     Ok(())
 }
 
@@ -53,14 +51,13 @@ fn advance<J: Judge, G: Gate, R: Wait>(
     alloc: Global,
     context: &RunContext<'_, J, G>,
     seat: &mut WorkerSeat,
-    backoff: &Backoff,
 ) -> Result<(), NoMemory>
     requires own { IsWorkerOf context.now.world seat.old }
     ensures same { IsSameWorker seat.old seat.new }
 {
     context.establish_kept();
     match seat.plan() {
-        Act::Take => try_turn(rt, alloc, context, seat, backoff)?,
+        Act::Take => try_turn(rt, alloc, context, seat)?,
         Act::Answer => seat.answer(alloc, context.world, context.judge)?,
         Act::Give => seat.give_back(context.world),
         Act::Load { .. } | Act::Store { .. } | Act::Exchange { .. } | Act::Idle => {
@@ -74,7 +71,7 @@ fn advance<J: Judge, G: Gate, R: Wait>(
 ///
 /// # Errors
 /// `NoMemory` if there is none for a decision or an answer, or another worker ran out of memory while this one tried to take the turn. Then the stop word is
-/// set, and the worker stands where it did, with the turn if it had it.
+/// set, and the worker is where it was, with the turn if it had it.
 pub(crate) fn visit<J: Judge, G: Gate, R: Wait>(
     rt: &R,
     alloc: Global,
@@ -87,12 +84,11 @@ pub(crate) fn visit<J: Judge, G: Gate, R: Wait>(
     ensures looking { OnOk result (is_looking seat.new.state.stage ≡ true) }
 {
     let channels = seat.channels();
-    let backoff = Backoff::new();
     let mut left = channels;
     let mut calls = 0;
     for _ in rt.forever() {
         let looked = seat.is_looking();
-        if advance(rt, alloc, context, seat, &backoff).is_err() {
+        if advance(rt, alloc, context, seat).is_err() {
             seat.fail(context.world);
             return Err(NoMemory);
         }

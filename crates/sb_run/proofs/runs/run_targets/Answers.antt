@@ -12,48 +12,48 @@ pub invariant_of-context : goal.invariant_of-context
 invariant_of-context g c =
     let s = c.opened.inside in
     let x : OpenedAt = record { world = s.world; keeper = s.keeper; threads = s.threads.items; pool = s.pool; servers = s.servers.items; last = s.last } in
-    let is = subst (λ (z : Script). IsOpened c.args.ready.now.policies z x) (sym c.script-script.ensures) (subst (IsOpened c.args.ready.now.policies c.args.ready.now.script) (sym c.opened.view_is) c.in_ok-opened.ensures) in
-    is_context c.args.ready.now.policies c.script-script.result.now (g.J.Judge.policies c.args.judge.now) x is (c.requires.judge ∙ ap (λ (z : Script). (setting_of c.args.ready.now.policies z).policies) (sym c.script-script.ensures))
+    let is = subst (λ (z : Script). IsOpened c.args.start.policies z x) (sym c.script_of-script.ensures.same) (subst (IsOpened c.args.start.policies c.args.start.script) (sym c.opened.view_is) c.in_ok-opened.ensures) in
+    is_context c.args.start.policies c.script_of-script.result.now (g.J.Judge.policies c.args.judge.now) x is (c.requires.judge ∙ ap (λ (z : Script). (setting_of c.args.start.policies z).policies) (sym c.script_of-script.ensures.same))
 
 pub run_crew-requires-clause-threads : goal.run_crew-requires-clause-threads
 run_crew-requires-clause-threads g c κs within =
     let s = c.opened.inside in
     let x : OpenedAt = record { world = s.world; keeper = s.keeper; threads = s.threads.items; pool = s.pool; servers = s.servers.items; last = s.last } in
-    let is = subst (λ (z : Script). IsOpened c.args.ready.now.policies z x) (sym c.script-script.ensures) (subst (IsOpened c.args.ready.now.policies c.args.ready.now.script) (sym c.opened.view_is) c.in_ok-opened.ensures) in
-    threads_ready c.args.ready.now.policies c.script-script.result.now (g.J.Judge.policies c.args.judge.now) x is
+    let is = subst (λ (z : Script). IsOpened c.args.start.policies z x) (sym c.script_of-script.ensures.same) (subst (IsOpened c.args.start.policies c.args.start.script) (sym c.opened.view_is) c.in_ok-opened.ensures) in
+    threads_ready c.args.start.policies c.script_of-script.result.now (g.J.Judge.policies c.args.judge.now) x is
 
 pub run_crew-requires-clause-servers : goal.run_crew-requires-clause-servers
 run_crew-requires-clause-servers g c κs within =
     let s = c.opened.inside in
     let x : OpenedAt = record { world = s.world; keeper = s.keeper; threads = s.threads.items; pool = s.pool; servers = s.servers.items; last = s.last } in
-    let is = subst (λ (z : Script). IsOpened c.args.ready.now.policies z x) (sym c.script-script.ensures) (subst (IsOpened c.args.ready.now.policies c.args.ready.now.script) (sym c.opened.view_is) c.in_ok-opened.ensures) in
-    all_servers_ready c.args.ready.now.policies c.script-script.result.now (g.J.Judge.policies c.args.judge.now) x is
+    let is = subst (λ (z : Script). IsOpened c.args.start.policies z x) (sym c.script_of-script.ensures.same) (subst (IsOpened c.args.start.policies c.args.start.script) (sym c.opened.view_is) c.in_ok-opened.ensures) in
+    all_servers_ready c.args.start.policies c.script_of-script.result.now (g.J.Judge.policies c.args.judge.now) x is
 
 pub run_crew-requires-clause-keeper : goal.run_crew-requires-clause-keeper
 run_crew-requires-clause-keeper g c κs within =
     let s = c.opened.inside in
     let x : OpenedAt = record { world = s.world; keeper = s.keeper; threads = s.threads.items; pool = s.pool; servers = s.servers.items; last = s.last } in
-    let is = subst (λ (z : Script). IsOpened c.args.ready.now.policies z x) (sym c.script-script.ensures) (subst (IsOpened c.args.ready.now.policies c.args.ready.now.script) (sym c.opened.view_is) c.in_ok-opened.ensures) in
-    keeper_ready c.args.ready.now.policies c.script-script.result.now (g.J.Judge.policies c.args.judge.now) x is
+    let is = subst (λ (z : Script). IsOpened c.args.start.policies z x) (sym c.script_of-script.ensures.same) (subst (IsOpened c.args.start.policies c.args.start.script) (sym c.opened.view_is) c.in_ok-opened.ensures) in
+    keeper_ready c.args.start.policies c.script_of-script.result.now (g.J.Judge.policies c.args.judge.now) x is
 
 pub end_run-requires-clause-ended : goal.end_run-requires-clause-ended
 end_run-requires-clause-ended g c κs within =
     let s = c.opened.inside in
     let x : OpenedAt = record { world = s.world; keeper = s.keeper; threads = s.threads.items; pool = s.pool; servers = s.servers.items; last = s.last } in
-    let is = subst (λ (z : Script). IsOpened c.args.ready.now.policies z x) (sym c.script-script.ensures) (subst (IsOpened c.args.ready.now.policies c.args.ready.now.script) (sym c.opened.view_is) c.in_ok-opened.ensures) in
+    let is = subst (λ (z : Script). IsOpened c.args.start.policies z x) (sym c.script_of-script.ensures.same) (subst (IsOpened c.args.start.policies c.args.start.script) (sym c.opened.view_is) c.in_ok-opened.ensures) in
     let e = c.in_ok-ended in
-    can_end c.args.ready.now.policies c.script-script.result.now (g.J.Judge.policies c.args.judge.now) x is e.ended.items e.servers.items e.keeper e.ensures.ended e.ensures.served e.ensures.keeper
+    can_end c.args.start.policies c.script_of-script.result.now (g.J.Judge.policies c.args.judge.now) x is e.ended.items e.servers.items e.keeper e.ensures.ended e.ensures.served e.ensures.keeper
 
 pub end_run-requires-clause-judge : goal.end_run-requires-clause-judge
 end_run-requires-clause-judge g c κs within =
     let s = c.opened.inside in
     let x : OpenedAt = record { world = s.world; keeper = s.keeper; threads = s.threads.items; pool = s.pool; servers = s.servers.items; last = s.last } in
-    let is = subst (λ (z : Script). IsOpened c.args.ready.now.policies z x) (sym c.script-script.ensures) (subst (IsOpened c.args.ready.now.policies c.args.ready.now.script) (sym c.opened.view_is) c.in_ok-opened.ensures) in
-    judges_are c.args.ready.now.policies c.script-script.result.now (g.J.Judge.policies c.args.judge.now) x is (c.requires.judge ∙ ap (λ (z : Script). (setting_of c.args.ready.now.policies z).policies) (sym c.script-script.ensures))
+    let is = subst (λ (z : Script). IsOpened c.args.start.policies z x) (sym c.script_of-script.ensures.same) (subst (IsOpened c.args.start.policies c.args.start.script) (sym c.opened.view_is) c.in_ok-opened.ensures) in
+    judges_are c.args.start.policies c.script_of-script.result.now (g.J.Judge.policies c.args.judge.now) x is (c.requires.judge ∙ ap (λ (z : Script). (setting_of c.args.start.policies z).policies) (sym c.script_of-script.ensures.same))
 
 pub returns : goal.returns
 returns g c =
     let s = c.opened.inside in
     let x : OpenedAt = record { world = s.world; keeper = s.keeper; threads = s.threads.items; pool = s.pool; servers = s.servers.items; last = s.last } in
-    let is = subst (λ (z : Script). IsOpened c.args.ready.now.policies z x) (sym c.script-script.ensures) (subst (IsOpened c.args.ready.now.policies c.args.ready.now.script) (sym c.opened.view_is) c.in_ok-opened.ensures) in
-    record { run = IfOk-weaker c.end_run.result _ _ (λ r h. subst (λ (z : List Policy × Script). IsSomeRun z.0 z.1 r) (λ k. (is.policies_are k, (is.script_is ∙ c.script-script.ensures) k)) h) c.end_run.ensures.run }
+    let is = subst (λ (z : Script). IsOpened c.args.start.policies z x) (sym c.script_of-script.ensures.same) (subst (IsOpened c.args.start.policies c.args.start.script) (sym c.opened.view_is) c.in_ok-opened.ensures) in
+    record { run = IfOk-weaker c.end_run.result _ _ (λ r h. subst (λ (z : List Policy × Script). IsSomeRun z.0 z.1 r) (λ k. (is.policies_are k, (is.script_is ∙ c.script_of-script.ensures.same) k)) h) c.end_run.ensures.run }

@@ -1,7 +1,7 @@
 use Rattle.std.proofs.Common.{◌≡◌, ◌∙◌, ◌<◌, ◌+◌, ◌-◌, ◌++◌, suc, ap, length, map, rules, arith}
 use Rattle.std.specs.List.{range_with_len}
 use Rattle.sb_statements.specs.declared.schedules.Actor.TheVariants.{Worker}
-use Rattle.sb_shared.specs.Closing.{behind}
+use Rattle.sb_shared.specs.Closing.{later_parts}
 use Rattle.sb_shared.specs.Making.{keeper_of}
 use Rattle.sb_shared.specs.Opening.{thread_of, thread_places}
 use Rattle.sb_shared.specs.Seats.{KeeperValue, fresh_worker}
@@ -28,6 +28,6 @@ loop-target-preserved c =
     let here : t < n = search rules in
     let next : n - t ≡ suc (n - (t + 1)) = omega (arith, here) in
     let first = c.loop-target.invariant.0 ∙ ap (λ m. keeper_of words.table_id words.key (map Worker (range_with_len t m) ++ map thread_of (thread_places targets))) next in (
-      c.worker_seat.ensures.keeper ∙ ap (λ (k : KeeperValue). record k { parts = behind k.parts }) first,
+      c.worker_seat.ensures.keeper ∙ ap (λ (k : KeeperValue). record k { parts = later_parts k.parts }) first,
       range_more (fresh_worker words.table_id words.key) t c.loop-target.seats.items c.push.new.self.items c.in_ok-worker_seat.field-0 c.loop-target.invariant.1 c.in_ok-worker_seat.ensures.seat c.in_ok-push.ensures.items,
     )

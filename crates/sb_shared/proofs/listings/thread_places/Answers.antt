@@ -1,7 +1,7 @@
 use Rattle.std.proofs.Common.{◌<◌, length, rules}
 use Rattle.sb_shared.specs.Opening.{thread_places}
 use Rattle.sb_shared.proofs.Ranges.{places_more}
-use Rattle.sb_shared.proofs.counts.thread_places.Goals as goal
+use Rattle.sb_shared.proofs.listings.thread_places.Goals as goal
 
 pub loop-target-preserved : goal.loop-target-preserved
 loop-target-preserved c =

@@ -1,6 +1,6 @@
 use Rattle.std.proofs.Common.{refl}
 use Rattle.sb_shared.proofs.Ranges.{range_more_after}
-use Rattle.sb_shared.proofs.counts.push_places.Goals as goal
+use Rattle.sb_shared.proofs.listings.push_places.Goals as goal
 
 pub loop-thread-preserved : goal.loop-thread-preserved
 loop-thread-preserved c =
