@@ -1,17 +1,15 @@
 -- Arguments that the top call takes for no command.
 use Rattle.std.proofs.Common.{◌≡◌, Option, None, Some, refl}
-use Rattle.sb_outside.specs.Outside.{Held}
 use Rattle.sb_commands.specs.Commands.{Command}
-use Rattle.sb_top.specs.Top.{EndsWith}
-use Rattle.sb_top.specs.declared.outcomes.Status.{Status}
+use Rattle.sb_top.specs.Effects.{Effect}
+use Rattle.sb_top.specs.Endings.{IsEnding}
+use Rattle.sb_top.specs.Laws.{StatusesAreOfCommands}
+use Rattle.sb_top.specs.Top.{files_for, meant}
+use Rattle.sb_top.specs.declared.outcomes.Outcome.{Outcome}
 use Rattle.sb_top.specs.declared.outcomes.Status.TheVariants.{Usage}
 
 -- they alone end with Usage
-pub usage_is_faulty : (command : Option Command) (held : Option Held) (reads puts : Type 0) (s : Status) → EndsWith command held reads puts s → s ≡ Usage → command ≡ None
-usage_is_faulty None held reads puts s end e = refl
-usage_is_faulty (Some command) held reads puts s end e = absurd (end.0 e)
-
--- and they end so
-pub faulty_is_usage : (command : Option Command) (held : Option Held) (reads puts : Type 0) (s : Status) → EndsWith command held reads puts s → command ≡ None → s ≡ Usage
-faulty_is_usage None held reads puts s end e = end
-faulty_is_usage (Some command) held reads puts s end e = cc
+pub usage_is_faulty : (G S : Type 0) → StatusesAreOfCommands G S → (command : Option Command) (e : Effect G S) (o : Outcome)
+    → IsEnding (meant command) (files_for command) e o → o.status ≡ Usage → command ≡ None
+usage_is_faulty G S law None e o ends is = refl
+usage_is_faulty G S law (Some command) e o ends is = absurd ((law command e o ends).0 is)

@@ -3,21 +3,16 @@ use Rattle.std.specs.Prelude.{◌≡◌, ◌⊎◌, ◌<◌, ◌++◌, ℕ, List
 use Rattle.sb_commands.specs.Commands.{Command}
 use Rattle.sb_outside.specs.Outside.{GrowsBy, Rose}
 use Rattle.sb_top.specs.Effects.{Effect, IsOrderly}
-use Rattle.sb_top.specs.Top.{IsEndOf, IsReportFor, IsToldFor, IsUnreadBy, IsWrittenFor}
+use Rattle.sb_top.specs.Endings.{IsEnding}
+use Rattle.sb_top.specs.Top.{files_for, meant}
 use Rattle.sb_top.specs.declared.outcomes.Outcome.{Outcome}
 use Rattle.sb_top.specs.declared.outcomes.Status.{Status}
 use Rattle.sb_top.specs.declared.outcomes.Status.TheVariants.{Done, WriteFault}
 
--- the status and the effect are those of an outcome with which the top call may end
-pub record IsAnswer {G S : Type 0} (command : Option Command) (e : Effect G S) (s : Status) : Type 0 where
-  pub outcome : Outcome
-  pub its_status : outcome.status ≡ s
-  pub orderly : IsOrderly e outcome
-  pub ends : IsEndOf command e outcome.status
-  pub unread : IsUnreadBy command (e.files' ≡ e.files)
-  pub report : IsReportFor command e.held outcome
-  pub written : IsWrittenFor command e outcome
-  pub told : IsToldFor command e outcome
+-- the outcome and the effect are those with which the top call may end
+pub record IsAnswer {G S : Type 0} (command : Option Command) (e : Effect G S) (o : Outcome) : Type 0 where
+  pub orderly : IsOrderly (files_for command) e o
+  pub ends : IsEnding (meant command) (files_for command) e o
 
 -- the output grew by what was pending and then a text, and nothing is pending
 pub record IsPut {G S : Type 0} (e : Effect G S) : Type 0 where

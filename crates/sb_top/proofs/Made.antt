@@ -1,8 +1,7 @@
 -- The reports of generated scripts, and their totals.
 use Rattle.std.proofs.Common.{◌≡◌, ◌∙◌, ℕ, zero, suc, ◌+◌, ◌==◌, Bool, true, false, if◌then◌else◌, ◌++◌, ap, sym, refl, subst, List}
 use Rattle.std.specs.List.{list_all}
-use Rattle.std.specs.Prelude.{IfOk, Result, Ok, Err}
-use Rattle.sb_book.specs.Readiness.{is_ready}
+use Rattle.std.specs.Prelude.{IfOk, Result, Ok, Err, Some}
 use Rattle.sb_book.specs.declared.reports.Report.{Report}
 use Rattle.sb_core.specs.Runs.{IsSomeRun}
 use Rattle.sb_gen.specs.Calls.{call_of, statement_of, statements_of}
@@ -10,11 +9,11 @@ use Rattle.sb_gen.specs.Generator.{after, kind_of, next, number_of}
 use Rattle.sb_gen.specs.Policies.{AreMade}
 use Rattle.sb_gen.specs.Scripts.{script_of, target_of, targets_of, threads_of}
 use Rattle.sb_rule.specs.declared.policies.Policy.{Policy}
-use Rattle.sb_statements.specs.Units.{script_has_units}
 use Rattle.sb_statements.specs.declared.scripts.Script.{Script}
 use Rattle.sb_statements.specs.declared.statements.Statement.{Statement}
 use Rattle.sb_transcript.specs.Totals.{totals_line}
-use Rattle.sb_top.specs.Make.{IsMadeReport, made_line, made_policies, made_text, policies_or_none}
+use Rattle.sb_top.specs.Make.{IsMadeEnd, IsMadeReport, made_line, made_policies, made_text, policies_or_none}
+use Rattle.sb_top.specs.Replay.{whole_run}
 use Rattle.sb_top.specs.Sound.{RunsAreSound}
 use Rattle.sb_top.specs.Totals.{AllClean, TotalsAreOfVerdicts, are_calls, is_call, totals_by}
 use Rattle.sb_top.proofs.Sound.{some_run_fits}
@@ -59,35 +58,43 @@ script_is_calls seed targets calls = targets_are_calls 0 targets calls seed
 -- ---- the report of a run of a generated script
 
 pub made_report : (seed targets calls : ℕ) (policies : List Policy) (script : Script) (report : Report) → AreMade policies → script ≡ script_of seed targets calls
-    → script_has_units script ≡ true → IsSomeRun policies script report → IsMadeReport seed targets calls report
-made_report seed targets calls policies script report made same units some = record {
-  policies = subst AreMade (are_made policies made) made;
-  units = subst (λ s. script_has_units s ≡ true) same units;
-  run = subst (λ p. IsSomeRun p (script_of seed targets calls) report) (are_made policies made) (subst (λ s. IsSomeRun policies s report) same some);
-}
+    → IsSomeRun policies script report → IsMadeReport seed targets calls report
+made_report seed targets calls policies script report made same some =
+    subst (λ p. IsSomeRun p (script_of seed targets calls) report) (are_made policies made) (subst (λ s. IsSomeRun policies s report) same some)
 
 pub made_totals : TotalsAreOfVerdicts → RunsAreSound → (seed targets calls : ℕ) (policies : List Policy) (script : Script) (report : Report)
-    → AreMade policies → script ≡ script_of seed targets calls → is_ready policies script ≡ true → script_has_units script ≡ true
-    → AllClean script → IsSomeRun policies script report
+    → AreMade policies → script ≡ script_of seed targets calls → AllClean script → IsSomeRun policies script report
     → made_line targets calls ++ totals_line report ≡ made_text seed targets calls
 unfolding made_text
-made_totals law sound seed targets calls policies script report made same ready units clean some =
+made_totals law sound seed targets calls policies script report made same clean some =
     let all : are_calls script ≡ true = subst (λ s. are_calls s ≡ true) (sym same) (script_is_calls seed targets calls) in
-    let totals = law policies script report ready units all clean (some_run_fits sound policies script report units some) in
+    let totals = law policies script report some.can.ready all clean (some_run_fits sound policies script report some) in
     ap (λ line. made_line targets calls ++ line)
     (totals ∙ (ap (λ p. totals_by p script) (are_made policies made) ∙ ap (λ s. totals_by made_policies s) same))
 
 -- ---- the same of what a run gives that may run out of memory
 
 pub made_reports : {E : Type 0} (seed targets calls : ℕ) (policies : List Policy) (script : Script) (result : Result Report E) → AreMade policies
-    → script ≡ script_of seed targets calls → script_has_units script ≡ true → IfOk result (λ r. IsSomeRun policies script r)
+    → script ≡ script_of seed targets calls → IfOk result (λ r. IsSomeRun policies script r)
     → IfOk result (λ r. IsMadeReport seed targets calls r)
-made_reports seed targets calls policies script (Ok report) made same units some = made_report seed targets calls policies script report made same units some
-made_reports seed targets calls policies script (Err error) made same units some = some
+made_reports seed targets calls policies script (Ok report) made same some = made_report seed targets calls policies script report made same some
+made_reports seed targets calls policies script (Err error) made same some = some
 
 pub made_lines : {E : Type 0} → TotalsAreOfVerdicts → RunsAreSound → (seed targets calls : ℕ) (policies : List Policy) (script : Script) (result : Result Report E)
-    → AreMade policies → script ≡ script_of seed targets calls → is_ready policies script ≡ true → script_has_units script ≡ true → AllClean script
+    → AreMade policies → script ≡ script_of seed targets calls → AllClean script
     → IfOk result (λ r. IsSomeRun policies script r) → IfOk result (λ r. made_line targets calls ++ totals_line r ≡ made_text seed targets calls)
-made_lines law sound seed targets calls policies script (Ok report) made same ready units clean some =
-    made_totals law sound seed targets calls policies script report made same ready units clean some
-made_lines law sound seed targets calls policies script (Err error) made same ready units clean some = some
+made_lines law sound seed targets calls policies script (Ok report) made same clean some =
+    made_totals law sound seed targets calls policies script report made same clean some
+made_lines law sound seed targets calls policies script (Err error) made same clean some = some
+
+-- ---- the end of the command
+
+-- the two lines of a report that was made are those of its order of steps
+pub made_end_of : (seed targets calls : ℕ) (report : Report) (text : List ℕ) → text ≡ made_text seed targets calls → IsMadeReport seed targets calls report
+    → IsMadeEnd seed targets calls (record { text = Ok text; report = Some report })
+unfolding whole_run
+made_end_of seed targets calls report text same some = record {
+  order = some.schedule;
+  is_order = record { can = some.can; no_rounds = some.no_rounds; finished = some.finished };
+  is = λ i. record { text = Ok (same i); report = Some (some.is i) };
+}

@@ -26,10 +26,12 @@ use Rattle.sb_statements.specs.declared.scripts.Script.{Script}
 use Rattle.sb_statements.specs.declared.scripts.TargetScript.{TargetScript}
 use Rattle.sb_text.specs.Steps.{◌>>=◌}
 use Rattle.sb_top.specs.Orders.{OrdersAreReplayed, ThreadedRunsAreReplayed, order_text}
-use Rattle.sb_top.specs.Reading.{most_bytes, schedule_by, text_in}
-use Rattle.sb_top.specs.Replay.{wanted_schedule, wanted_script, whole_run}
-use Rattle.sb_top.specs.Works.{Runs}
-use Rattle.sb_top.specs.declared.outcomes.Status.{Status}
+use Rattle.sb_top.specs.Contents.{Content, Refusal, most_bytes, policies_in, schedule_by, schedule_in, script_in}
+use Rattle.sb_top.specs.Replay.{ended_by, replay_end, run_end, whole_run}
+use Rattle.sb_ruletext.specs.Laws.{ReadPoliciesAreWellMade}
+use Rattle.sb_scripttext.specs.Readiness.{ReadScriptsAreReady}
+use Rattle.sb_top.proofs.ReadFiles.{short_text}
+use Rattle.sb_top.proofs.Sound.{script_known}
 
 -- a script that is ready is sound
 ready_sound : (policies : List Policy) (script : Script) → is_ready policies script ≡ true → is_sound script ≡ true
@@ -109,44 +111,48 @@ scheduled_there targets (entry ∷ entries) e =
     let parts = and_parts (is_step_there targets entry) (list_all (is_step_there targets) entries) e in
     all_append (is_there targets) (replicate entry.1 entry.0) (scheduled entries) (replicated targets entry.0 entry.1 parts.0) (scheduled_there targets entries parts.1)
 
--- a short text is read
-short_text : (text : List ℕ) → length text ≤ most_bytes → text_in 3 (Some text) ≡ Ok text
-short_text text l = let e : nat_le (length text) most_bytes ≡ true = grind (arith, nat_tests, l) in rw e refl
-
-module _ (read : OrdersAreRead) (short : OrdersAreShort) (orders : OrdersAreSchedules) (targets : SoundTargets) where
+module _ (read : OrdersAreRead) (short : OrdersAreShort) (orders : OrdersAreSchedules) (targets : SoundTargets) (made : ReadPoliciesAreWellMade) (known : ReadScriptsAreReady) where
   -- the run by an order
   order_run : (policies : List Policy) (script : Script) (actors : List Actor)
       → whole_run policies script (in_order actors 0) ≡ ended_from script (steps script actors (start_world policies script))
   unfolding whole_run
   order_run policies script actors = ap (λ (l : List Actor). ended_from script (steps script l (start_world policies script))) (orders actors)
 
+  -- what a replay comes to whose files are read
+  replayed : (policy file : Content) (policies : List Policy) (script : Script) (order : List ℕ) (schedule : Schedule) → policies_in policy ≡ Ok policies
+      → script_in policies file ≡ Ok script → schedule_in script (Some order) ≡ Ok schedule
+      → replay_end (policy ∷ file ∷ Some order ∷ []) ≡ Ok (run_end policies script schedule)
+  replayed policy file policies script order schedule hp hs ho =
+      ap (λ (r : Result (List Policy) Refusal). r >>= λ (ps : List Policy). script_in ps file >>= λ (s : Script). schedule_in s (Some order) >>= λ (o : Schedule). Ok (run_end ps s o)) hp
+      ∙ (ap (λ (r : Result Script Refusal). r >>= λ (s : Script). schedule_in s (Some order) >>= λ (o : Schedule). Ok (run_end policies s o)) hs
+      ∙ ap (λ (r : Result Schedule Refusal). r >>= λ (o : Schedule). Ok (run_end policies script o)) ho)
+
   pub orders_are_replayed : OrdersAreReplayed
-  orders_are_replayed policy name order held policies script actors hp hs ho ready there few =
-      let values = actors_small targets script (ready_sound policies script ready) actors there in
+  orders_are_replayed policy file policies script actors hp hs there few =
+      let ready = script_known made known policy file policies script hp hs in
+      let values = actors_small targets script (ready_sound policies script ready.ready) actors there in
       let size : length (order_text actors) ≤ most_bytes = short actors 0 values few (omega arith) in
       let is = read script.targets actors 0 there values few (omega arith) in
+      let scheduled : schedule_in script (Some (order_text actors)) ≡ Ok (in_order actors 0) =
+      ap (λ (r : Result (List ℕ) Refusal). r >>= λ (text : List ℕ). schedule_by text (schedules.reading script.targets text)) (short_text 3 (order_text actors) size)
+      ∙ ap (λ r. schedule_by (order_text actors) r) is in
       record {
         short = size;
-        wanted = ap (λ (r : Result (List Policy) Status). r >>= λ (policies : List Policy). wanted_script name (Some order) policies held) hp
-            ∙ (ap (λ (r : Result Script Status). r >>= λ (script : Script). wanted_schedule policies (Some order) script held) hs
-            ∙ (ap (λ (o : Option (List ℕ)). (text_in 3 o >>= λ (text : List ℕ). schedule_by (schedules.reading script.targets text)) >>= λ (schedule : Schedule). Ok (Runs policies script schedule)) ho
-            ∙ (ap (λ (r : Result (List ℕ) Status). (r >>= λ (text : List ℕ). schedule_by (schedules.reading script.targets text)) >>= λ (schedule : Schedule). Ok (Runs policies script schedule)) (short_text (order_text actors) size)
-            ∙ ap (λ r. schedule_by r >>= λ (schedule : Schedule). Ok (Runs policies script schedule)) is)));
+        meant = replayed policy file policies script (order_text actors) (in_order actors 0) hp hs scheduled;
         can = record { ready = ready; there = entries_there script.targets actors there };
         is = order_run policies script actors;
       }
 
   -- the run by a schedule without rounds is that by its order
   same_run : (policies : List Policy) (script : Script) (schedule : Schedule) → schedule.rounds ≡ 0
-      → ran policies script schedule ≡ whole_run policies script (in_order (scheduled schedule.steps) 0)
+      → whole_run policies script (in_order (scheduled schedule.steps) 0) ≡ whole_run policies script schedule
+  unfolding whole_run
   same_run policies script schedule e =
-      ap (λ (n : ℕ). ended_from script (rounds n script (steps script (scheduled schedule.steps) (start_world policies script)))) e
-      ∙ sym (order_run policies script (scheduled schedule.steps))
+      order_run policies script (scheduled schedule.steps)
+      ∙ sym (ap (λ (n : ℕ). ended_from script (rounds n script (steps script (scheduled schedule.steps) (start_world policies script)))) e)
 
   pub threaded_runs_are_replayed : ThreadedRunsAreReplayed
-  threaded_runs_are_replayed policy name order held policies script report some hp hs ho few =
-      let same = same_run policies script some.schedule some.no_rounds in (
-        orders_are_replayed policy name order held policies script (scheduled some.schedule.steps) hp hs ho some.can.ready (scheduled_there script.targets some.schedule.steps some.can.there) few,
-        some.is ∙ ap (λ (r : Ran). r.report) same,
-        sym (ap (λ (r : Ran). r.unfinished) same) ∙ some.finished,
-      )
+  threaded_runs_are_replayed policy file policies script order hp hs is few = (
+    orders_are_replayed policy file policies script (scheduled order.steps) hp hs (scheduled_there script.targets order.steps is.can.there) few,
+    ap (ended_by policies script) (same_run policies script order is.no_rounds),
+  )

@@ -24,8 +24,7 @@ use Rattle.sb_call.specs.declared.tags.CallTag.{CallTag}
 use Rattle.sb_core.specs.Fits.{Answered, Fits, by_entry, by_result, is_entry_of, results_at}
 use Rattle.sb_core.specs.Results.{AreAllResults}
 use Rattle.sb_core.specs.Runs.{most_results}
-use Rattle.sb_core.specs.Units.{UnitsArePlaced}
-use Rattle.sb_core.specs.Views.{HasUnits, own_calls}
+use Rattle.sb_core.specs.Views.{own_calls}
 use Rattle.sb_kernel.specs.Namespaces.{Space}
 use Rattle.sb_kernel.specs.Openings.{opened, opening}
 use Rattle.sb_rule.specs.Verdicts.{policy_at, verdict_of}
@@ -36,7 +35,7 @@ use Rattle.sb_rule.specs.declared.verdicts.Verdict.{Verdict}
 use Rattle.sb_rule.specs.declared.verdicts.Verdict.TheVariants as verdict
 use Rattle.sb_statements.specs.Actors.{thread_count}
 use Rattle.sb_statements.specs.Soundness.{SoundStatements, SoundTargets, are_targets, channels_of, is_patience, is_sound, is_start, is_statement, is_target, is_thread, names_differ}
-use Rattle.sb_statements.specs.Units.{script_has_units}
+use Rattle.sb_statements.specs.Units.{script_has_units, statement_has_units, target_has_units, thread_has_units}
 use Rattle.sb_statements.specs.declared.results.StmtResult.{StmtResult}
 use Rattle.sb_statements.specs.declared.scripts.Script.{Script}
 use Rattle.sb_statements.specs.declared.scripts.TargetScript.{TargetScript}
@@ -206,7 +205,7 @@ copies is_such p policy (e ∷ es) h = by (p e) refl (copies is_such p policy es
 
 -- a script of calls with clean channels, and a report that fits it
 module _ (come : BlocksComeBack) (targets_law : SoundTargets) (statements_law : SoundStatements) (policies : List Policy) (script : Script) (report : Report)
-    (ready : is_ready policies script ≡ true) (units : HasUnits script) (calls : are_calls script ≡ true) (clean : AllClean script) (fits : Fits policies script report) where
+    (ready : is_ready policies script ≡ true) (units : script_has_units script ≡ true) (calls : are_calls script ≡ true) (clean : AllClean script) (fits : Fits policies script report) where
   sound : is_sound script ≡ true
   sound = ready_sound policies script ready
 
@@ -214,12 +213,12 @@ module _ (come : BlocksComeBack) (targets_law : SoundTargets) (statements_law : 
   calls_all : (t k i : ℕ) (s : Statement) → statement_at script t k i ≡ Some s → IsCall s
   calls_all t k i s e = by_target (slice_get script.targets t) refl e
     where
-      as_call : (z : Statement) → s ≡ z → is_statement script.targets z ≡ true → is_call z ≡ true → IsCall z
-      as_call (Call tag args) same encodes call = (encodes, units t k i tag args (e ∙ ap Some same))
-      as_call (Store target word value) same encodes call = absurd (true≢false (sym call))
-      as_call (Exchange target word from to) same encodes call = absurd (true≢false (sym call))
-      as_call (Load target word) same encodes call = absurd (true≢false (sym call))
-      as_call (Wait target word value most) same encodes call = absurd (true≢false (sym call))
+      as_call : (z : Statement) → is_statement script.targets z ≡ true → is_call z ≡ true → statement_has_units z ≡ true → IsCall z
+      as_call (Call tag args) encodes call made = (encodes, made)
+      as_call (Store target word value) encodes call made = absurd (true≢false (sym call))
+      as_call (Exchange target word from to) encodes call made = absurd (true≢false (sym call))
+      as_call (Load target word) encodes call made = absurd (true≢false (sym call))
+      as_call (Wait target word value most) encodes call made = absurd (true≢false (sym call))
 
       by_thread : (target : TargetScript) → slice_get script.targets t ≡ Some target → (o : Option (List Statement)) → slice_get target.threads k ≡ o
           → slice_get (or_none o) i ≡ Some s → IsCall s
@@ -227,7 +226,10 @@ module _ (come : BlocksComeBack) (targets_law : SoundTargets) (statements_law : 
       by_thread target f (Some statements) g h =
           let its_threads = one_of_all (λ target. list_all (λ statements. list_all is_call statements) target.threads) script.targets t target calls f in
           let its_statements = one_of_all (λ statements. list_all is_call statements) target.threads k statements its_threads g in
-          as_call s refl (statements_law script t k i target statements s sound f g h) (one_of_all is_call statements i s its_statements h)
+          let target_units = one_of_all target_has_units script.targets t target units f in
+          let thread_units = one_of_all thread_has_units target.threads k statements target_units g in
+          as_call s (statements_law script t k i target statements s sound f g h) (one_of_all is_call statements i s its_statements h)
+          (one_of_all statement_has_units statements i s thread_units h)
 
       by_target : (o : Option TargetScript) → slice_get script.targets t ≡ o → slice_get (or_none (slice_get (threads_of o) k)) i ≡ Some s → IsCall s
       by_target None f h = absurd (cc)
@@ -393,9 +395,9 @@ none_refused policies script =
     (λ statements. sum_none (λ s. tally (is_decided is_refused (policy_at policies target.policy) s)) statements
     (λ s. ap (λ b. tally b) (not_decided (policy_at policies target.policy) s))))
 
-pub totals_are_of_verdicts : BlocksComeBack → SoundTargets → SoundStatements → UnitsArePlaced → TotalsAreOfVerdicts
-totals_are_of_verdicts come targets_law statements_law placed_law policies script report ready units calls clean fits =
-    let by = counted_by come targets_law statements_law policies script report ready (placed_law script units) calls clean fits in
+pub totals_are_of_verdicts : BlocksComeBack → SoundTargets → SoundStatements → TotalsAreOfVerdicts
+totals_are_of_verdicts come targets_law statements_law policies script report known calls clean fits =
+    let by = counted_by come targets_law statements_law policies script report known.ready known.units calls clean fits in
     let entries : length report.entries ≡ statement_count script = sym (count_all report.entries) ∙ (by always ∙ targets_decided policies script.targets calls) in
     let performed = by is_performed in
     let faked = by is_faked in

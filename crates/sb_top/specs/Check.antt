@@ -1,18 +1,14 @@
--- What `check POLICY` comes to, and what it writes.
-use Rattle.std.specs.Prelude.{ℕ, List, ◌++◌, Ok}
+-- What `check POLICY` means.
+use Rattle.std.specs.Prelude.{ℕ, List, [], ◌∷◌, ◌++◌, None, Result, Ok, Err}
 use Rattle.std.specs.List.{flat_map}
 use Rattle.sb_compile.specs.Compiling.{program_of}
 use Rattle.sb_compile.specs.Listing.{listing_of}
-use Rattle.sb_outside.specs.Outside.{Held}
 use Rattle.sb_rule.specs.declared.policies.Policy.{Policy}
 use Rattle.sb_ruleprint.specs.Printing.{printed}
 use Rattle.sb_text.specs.Steps.{◌>>=◌}
-use Rattle.sb_top.specs.Reading.{policies_in}
-use Rattle.sb_top.specs.Works.{Wanted, Prints}
-
--- a check reads policies, and prints them
-abbrev pub wanted_check : List ℕ → Held → Wanted
-wanted_check policy held = policies_in policy held >>= λ policies. Ok (Prints policies)
+use Rattle.sb_top.specs.Contents.{Refusal, policies_in, refused}
+use Rattle.sb_top.specs.Ends.{Contents, End}
+use Rattle.sb_top.specs.declared.outcomes.Status.TheVariants.{Missing}
 
 -- the listings of the programs of policies, one after another
 abbrev pub listings : List Policy → List ℕ
@@ -21,3 +17,11 @@ listings policies = flat_map (λ policy. listing_of (program_of policy)) policie
 -- what is printed of policies: they as a text, and then the listings of their programs
 unfoldable pub checked : List Policy → List ℕ
 checked policies = printed policies ++ listings policies
+
+abbrev pub printed_end : List Policy → End
+printed_end policies = record { text = Ok (checked policies); run = None }
+
+-- the policies of its file are printed
+abbrev pub check_end : Contents → Result End Refusal
+check_end (policy ∷ []) = policies_in policy >>= λ policies. Ok (printed_end policies)
+check_end _ = Err (refused (Missing 1))

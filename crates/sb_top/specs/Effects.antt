@@ -3,7 +3,7 @@ use Rattle.std.specs.Prelude.{◌≡◌, ℕ, ◌≤◌, List, [], Option, IsSom
 use Rattle.sb_outside.specs.Outside.{Held}
 use Rattle.sb_top.specs.Outcomes.{IsSilent}
 use Rattle.sb_top.specs.declared.outcomes.Outcome.{Outcome}
-use Rattle.sb_top.specs.declared.outcomes.Status.TheVariants.{Done, Usage}
+use Rattle.sb_top.specs.declared.outcomes.Status.TheVariants.{Done}
 
 -- files and an output before and after: they themselves, what the files hold and what was written, if this is known, what is pending, and the
 -- counts of faults
@@ -43,8 +43,8 @@ effect held reads written pending puts files files' out out' = record {
 }
 
 -- What is common to all commands. What the files hold stays, and no count falls. With Done neither count rose and nothing is pending, and with a report the files'
--- count did not rise. With Usage the files are as they were, and with any status but Done and WriteFault the output is
-pub record IsOrderly {G S : Type 0} (e : Effect G S) (o : Outcome) : Type 0 where
+-- count did not rise. If no files are named they are as they were, and with any status but Done and WriteFault the output is
+pub record IsOrderly {G S : Type 0} (names : List (List ℕ)) (e : Effect G S) (o : Outcome) : Type 0 where
   pub kept : e.held' ≡ e.held
   pub counted_files : e.reads ≤ e.reads'
   pub counted_sink : e.puts ≤ e.puts'
@@ -52,5 +52,5 @@ pub record IsOrderly {G S : Type 0} (e : Effect G S) (o : Outcome) : Type 0 wher
   pub done_sink : o.status ≡ Done → e.puts' ≡ e.puts
   pub finished : o.status ≡ Done → e.pending' ≡ []
   pub run_files : IsSome o.report → e.reads' ≡ e.reads
-  pub unread : o.status ≡ Usage → e.files' ≡ e.files
+  pub unread : names ≡ [] → e.files' ≡ e.files
   pub silent : IsSilent o.status → e.out' ≡ e.out

@@ -1,5 +1,10 @@
 -- How the program ends.
-use Rattle.std.specs.Prelude.{ℕ, List, ◌++◌, codes, decimal}
+use Rattle.std.specs.Prelude.{ℕ, ◌-◌, ◌==◌, List, [], ◌∷◌, ◌++◌, Option, None, Some, codes, decimal, if◌then◌else◌}
+use Rattle.sb_message.specs.EndMessages.{end_message}
+use Rattle.sb_message.specs.PolicyMessages.{policy_message}
+use Rattle.sb_message.specs.ScheduleMessages.{schedule_message}
+use Rattle.sb_message.specs.ScriptMessages.{script_message}
+use Rattle.sb_message.specs.declared.end_messages.EndFault.TheVariants as end
 use Rattle.sb_ruletext.specs.Kinds.{kind_number}
 use Rattle.sb_scripttext.specs.Kinds as script
 use Rattle.sb_scheduletext.specs.Kinds as schedule
@@ -37,3 +42,30 @@ text_of NoMemory = codes "no memory"
 -- the line of a status on standard error, except for its end
 abbrev pub line_of : Status → List ℕ
 line_of status = codes "sandbox: " ++ text_of status
+
+-- ---- messages
+
+-- nothing, if there is none
+abbrev pub or_empty : Option (List ℕ) → List ℕ
+or_empty None = []
+or_empty (Some bytes) = bytes
+
+-- the name of file n, from 1; nothing, if there is no such file
+abbrev pub name_at : ℕ → List (List ℕ) → List ℕ
+name_at n [] = []
+name_at n (name ∷ names) = if n == 1 then name else name_at (n - 1) names
+
+-- What is written on standard error for a status of a command with files of these names, where this line of a text is shown: what was wrong, and if it is the fault of
+-- a text, the place and the line
+abbrev pub message_of : List (List ℕ) → Status → Option (List ℕ) → List ℕ
+message_of names Done shown = []
+message_of names Usage shown = line_of Usage ++ codes "\n"
+message_of names (PolicyRefused fault) shown = policy_message (name_at 1 names) fault (or_empty shown)
+message_of names (ScriptRefused fault) shown = script_message (name_at 2 names) fault (or_empty shown)
+message_of names (ScheduleRefused fault) shown = schedule_message (name_at 3 names) fault (or_empty shown)
+message_of names (Missing n) shown = end_message (end.Missing n) (name_at n names)
+message_of names (TooLong n) shown = end_message (end.TooLong n) (name_at n names)
+message_of names (ReadFault n) shown = end_message (end.ReadFault n) (name_at n names)
+message_of names WriteFault shown = end_message end.WriteFault []
+message_of names (Unfinished target thread) shown = end_message (end.Unfinished target thread) []
+message_of names NoMemory shown = end_message end.NoMemory []

@@ -1,22 +1,34 @@
--- Laws of how a command ends over files whose contents are known.
-use Rattle.std.specs.Prelude.{◌≡◌, ◌≢◌, ◌⊎◌, ℕ, List, Some, Ok, Err}
+-- Laws of how commands end over files whose contents are known.
+use Rattle.std.specs.Prelude.{◌≡◌, ◌≢◌, ◌⊎◌, ℕ, ◌≤◌, List, length, map, Some, IfSome, Result}
+use Rattle.sb_commands.specs.Commands.{Command}
 use Rattle.sb_outside.specs.Outside.{Held, Rose}
-use Rattle.sb_commands.specs.Commands.{command_of}
-use Rattle.sb_top.specs.Ends.{end_of}
+use Rattle.sb_top.specs.Contents.{Refusal, refused}
+use Rattle.sb_top.specs.Effects.{Effect}
+use Rattle.sb_top.specs.Endings.{IsEnding, IsMeant, IsPlainEnding, IsRefused}
+use Rattle.sb_top.specs.Ends.{Contents, End}
 use Rattle.sb_top.specs.Outcomes.{file_of}
-use Rattle.sb_top.specs.Top.{EndsWith, wanted_of}
-use Rattle.sb_top.specs.Works.{Work}
-use Rattle.sb_top.specs.declared.outcomes.Status.{Status}
-use Rattle.sb_top.specs.declared.outcomes.Status.TheVariants.{ReadFault, NoMemory}
+use Rattle.sb_top.specs.Top.{files_of, meaning_of}
+use Rattle.sb_top.specs.declared.outcomes.Outcome.{Outcome}
+use Rattle.sb_top.specs.declared.outcomes.Status.TheVariants.{NoMemory, ReadFault, Usage}
 
--- if arguments and files come to work, and neither count of faults rose, the work comes to its end, if there was memory
-abbrev pub WorkComesToItsEnd : Type 0
-WorkComesToItsEnd = (words : List (List ℕ)) (held : Held) (work : Work) (reads reads' puts puts' : ℕ) (status : Status)
-    → EndsWith (command_of words) (Some held) (Rose reads reads') (Rose puts puts') status → wanted_of words held ≡ Ok work
-    → (Rose reads reads' → ⊥) → (Rose puts puts' → ⊥) → (status ≡ end_of work) ⊎ (status ≡ NoMemory)
+-- the contents of the files of these names, by what is held
+abbrev pub contents_of : Held → List (List ℕ) → Contents
+contents_of held names = map held names
 
--- a status that names a file, except that it was not read, is what arguments and files come to
-abbrev pub RefusalsAreTold : Type 0
-RefusalsAreTold = (words : List (List ℕ)) (held : Held) (n reads reads' puts puts' : ℕ) (status : Status)
-    → EndsWith (command_of words) (Some held) (Rose reads reads') (Rose puts puts') status → file_of status ≡ Some n
-    → ((m : ℕ) → status ≢ ReadFault m) → wanted_of words held ≡ Err status
+module _ (G S : Type 0) where
+  -- if neither count of faults rose, a command ends as it means over what is held, if there was memory
+  abbrev pub WorkComesToItsEnd : Type 0
+  WorkComesToItsEnd = (meaning : Contents → Result End Refusal) (names : List (List ℕ)) (held : Held) (e : Effect G S) (o : Outcome)
+      → IsPlainEnding meaning names e o → e.held ≡ Some held → (Rose e.reads e.reads' → ⊥) → (Rose e.puts e.puts' → ⊥)
+      → IsMeant (meaning (contents_of held names)) e o ⊎ IsRefused (refused NoMemory) e o
+
+  -- a status that names a file, except that it was not read, is that of the refusal, or the end, which the command means over what is held
+  abbrev pub RefusalsAreMeant : Type 0
+  RefusalsAreMeant = (meaning : Contents → Result End Refusal) (names : List (List ℕ)) (held : Held) (e : Effect G S) (o : Outcome) (n : ℕ)
+      → IsPlainEnding meaning names e o → e.held ≡ Some held → file_of o.status ≡ Some n → ((m : ℕ) → o.status ≢ ReadFault m)
+      → IsMeant (meaning (contents_of held names)) e o
+
+  -- Usage comes of no command, and a status that names a file names one of the command
+  abbrev pub StatusesAreOfCommands : Type 0
+  StatusesAreOfCommands = (command : Command) (e : Effect G S) (o : Outcome) → IsEnding (meaning_of command) (files_of command) e o
+      → (o.status ≢ Usage) × IfSome (file_of o.status) (λ n. (1 ≤ n) × (n ≤ length (files_of command)))

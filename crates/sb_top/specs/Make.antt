@@ -1,14 +1,19 @@
--- What `make SEED TARGETS CALLS` reports, and the two lines that it writes.
-use Rattle.std.specs.Prelude.{◌≡◌, ℕ, ◌*◌, true, List, [], ◌++◌, codes, Result, Ok, Err}
+-- What `make SEED TARGETS CALLS` means.
+use Rattle.std.specs.Prelude.{◌≡◌, ℕ, ◌*◌, List, [], ◌++◌, Some, codes, Result, Ok, Err}
 use Rattle.std.specs.Fmt.{decimal}
 use Rattle.sb_book.specs.declared.reports.Report.{Report}
 use Rattle.sb_core.specs.Runs.{IsSomeRun}
-use Rattle.sb_gen.specs.Policies.{AreMade, policy_text}
+use Rattle.sb_gen.specs.Policies.{policy_text}
 use Rattle.sb_gen.specs.Scripts.{script_of}
 use Rattle.sb_rule.specs.declared.policies.Policy.{Policy}
 use Rattle.sb_ruletext.specs.PolicyTexts.{PolicyFault, reading}
-use Rattle.sb_statements.specs.Units.{script_has_units}
+use Rattle.sb_statements.specs.declared.schedules.Schedule.{Schedule}
+use Rattle.sb_top.specs.Coming.{ReportedEnd, reported}
+use Rattle.sb_top.specs.Contents.{Refusal, refused}
+use Rattle.sb_top.specs.Ends.{Contents, End, IsOrderOf, ScriptRun}
+use Rattle.sb_top.specs.Replay.{whole_run}
 use Rattle.sb_top.specs.Totals.{totals_by}
+use Rattle.sb_top.specs.declared.outcomes.Status.TheVariants.{Missing}
 
 -- the policies of a text without a fault
 abbrev pub policies_or_none : Result (List Policy) PolicyFault → List Policy
@@ -28,8 +33,29 @@ made_line targets calls =
 unfoldable pub made_text : ℕ → ℕ → ℕ → List ℕ
 made_text seed targets calls = made_line targets calls ++ totals_by made_policies (script_of seed targets calls)
 
--- the text has no fault, the strings of the generated script are made of units, and the report is that of a run of it under the policies of the text
-pub record IsMadeReport (seed targets calls : ℕ) (report : Report) : Type 0 where
-  pub policies : AreMade made_policies
-  pub units : script_has_units (script_of seed targets calls) ≡ true
-  pub run : IsSomeRun made_policies (script_of seed targets calls) report
+-- the report is that of a run of the script that is made, by some order of steps
+abbrev pub IsMadeReport : ℕ → ℕ → ℕ → Report → Type 0
+IsMadeReport seed targets calls report = IsSomeRun made_policies (script_of seed targets calls) report
+
+-- the run of the script that is made, by this order of steps
+abbrev pub made_run : ℕ → ℕ → ℕ → Schedule → ScriptRun
+made_run seed targets calls order = record {
+  policies = made_policies;
+  script = script_of seed targets calls;
+  ran = whole_run made_policies (script_of seed targets calls) order;
+}
+
+-- the two lines are written
+abbrev pub made_end : ℕ → ℕ → ℕ → Schedule → End
+made_end seed targets calls order = record { text = Ok (made_text seed targets calls); run = Some (made_run seed targets calls order) }
+
+-- this is the end of a run of the script that is made, by some order of steps
+pub record IsMadeEnd (seed targets calls : ℕ) (end : ReportedEnd) : Type 0 where
+  pub order : Schedule
+  pub is_order : IsOrderOf order (made_end seed targets calls order)
+  pub is : end ≡ reported (made_end seed targets calls order)
+
+-- a script is made and run by this order of steps
+abbrev pub make_end : ℕ → ℕ → ℕ → Schedule → Contents → Result End Refusal
+make_end seed targets calls order [] = Ok (made_end seed targets calls order)
+make_end seed targets calls order _ = Err (refused (Missing 1))

@@ -1,8 +1,7 @@
--- What a status tells. A status that is added has one line in `file_of` if it names a file, and one in `MayCome` if texts and runs alone
--- cannot lead to it.
+-- What a status tells. A status that is added has one line in `file_of` if it names a file.
 use Rattle.std.specs.Prelude.{ℕ, Option, None, Some, ⊤}
 use Rattle.sb_top.specs.declared.outcomes.Status.{Status}
-use Rattle.sb_top.specs.declared.outcomes.Status.TheVariants.{Done, Unfinished, Usage, PolicyRefused, ScriptRefused, ScheduleRefused, Missing, TooLong, ReadFault, WriteFault, NoMemory}
+use Rattle.sb_top.specs.declared.outcomes.Status.TheVariants.{Done, Unfinished, PolicyRefused, ScriptRefused, ScheduleRefused, Missing, TooLong, ReadFault, WriteFault}
 
 -- the file that a status names, by its place in the command
 abbrev pub file_of : Status → Option ℕ
@@ -20,21 +19,9 @@ IsSilent Done = ⊥
 IsSilent WriteFault = ⊥
 IsSilent s = ⊤
 
--- a status that comes after the arguments were read and before the work begins
+-- a status of a command that is not carried out
 abbrev pub IsRefusal : Status → Type 0
 IsRefusal Done = ⊥
 IsRefusal (Unfinished target thread) = ⊥
 IsRefusal WriteFault = ⊥
-IsRefusal Usage = ⊥
 IsRefusal s = ⊤
-
--- Whether files whose contents are not known can lead to a status. That a file is missing or too long comes only if their count of faults
--- rose. Faulty arguments, a failed read, a failed write and a lack of memory are no matter of contents
-abbrev pub MayCome : Type 0 → Status → Type 0
-MayCome rose (Missing n) = rose
-MayCome rose (TooLong n) = rose
-MayCome rose (ReadFault n) = ⊥
-MayCome rose WriteFault = ⊥
-MayCome rose NoMemory = ⊥
-MayCome rose Usage = ⊥
-MayCome rose s = ⊤

@@ -1,44 +1,49 @@
--- What `replay POLICY SCRIPT [SCHEDULE]` comes to, and how its run ends.
-use Rattle.std.specs.Prelude.{ℕ, List, Option, None, Some, Ok}
-use Rattle.sb_book.specs.ReadyScripts.{Ready}
+-- What `replay POLICY SCRIPT [SCHEDULE]` means.
+use Rattle.std.specs.Prelude.{ℕ, List, [], ◌∷◌, Option, None, Some, Result, Ok, Err}
 use Rattle.sb_core.specs.Runs.{ran}
 use Rattle.sb_core.specs.declared.runs.Ran.{Ran}
-use Rattle.sb_outside.specs.Outside.{Held}
 use Rattle.sb_rule.specs.declared.policies.Policy.{Policy}
 use Rattle.sb_statements.specs.declared.schedules.Schedule.{Schedule}
 use Rattle.sb_statements.specs.declared.scripts.Script.{Script}
 use Rattle.sb_text.specs.Steps.{◌>>=◌}
-use Rattle.sb_top.specs.Reading.{policies_in, schedule_of, script_in}
-use Rattle.sb_top.specs.Works.{Wanted, Work, Runs}
+use Rattle.sb_transcript.specs.Transcripts.{transcript}
+use Rattle.sb_top.specs.Contents.{Refusal, no_schedule, policies_in, refused, schedule_in, script_in}
+use Rattle.sb_top.specs.Ends.{Contents, End}
 use Rattle.sb_top.specs.declared.outcomes.Status.{Status}
-use Rattle.sb_top.specs.declared.outcomes.Status.TheVariants.{Done, Unfinished}
-use Rattle.sb_top.specs.declared.prepared.Prepared.{Prepared}
-
--- the run of a script that was read, by its schedule
-abbrev pub wanted_schedule : List Policy → Option (List ℕ) → Script → Held → Wanted
-wanted_schedule policies schedule script held = schedule_of script schedule held >>= λ schedule. Ok (Runs policies script schedule)
-
--- a replay under policies that were read: it reads a script, and then the schedule
-abbrev pub wanted_script : List ℕ → Option (List ℕ) → List Policy → Held → Wanted
-wanted_script script schedule policies held = script_in policies script held >>= λ script. wanted_schedule policies schedule script held
-
--- a replay reads policies, then a script, then the schedule if one is named, and runs the script by it
-abbrev pub wanted_replay : List ℕ → List ℕ → Option (List ℕ) → Held → Wanted
-wanted_replay policy script schedule held = policies_in policy held >>= λ policies. wanted_script script schedule policies held
-
--- the run of a script by a schedule
-abbrev pub work_by : Ready → Schedule → Work
-work_by ready schedule = Runs ready.policies ready.script schedule
-
--- the run for which all was read
-abbrev pub work_of : Prepared → Work
-work_of prepared = work_by prepared.opened prepared.schedule
+use Rattle.sb_top.specs.declared.outcomes.Status.TheVariants.{Missing, Unfinished}
 
 -- the run of a script under policies by a schedule
 unfoldable pub whole_run : List Policy → Script → Schedule → Ran
 whole_run policies script schedule = ran policies script schedule
 
--- the status with which a run ends, by the thread that it leaves unfinished
-abbrev pub run_end : Option (ℕ × ℕ) → Status
-run_end None = Done
-run_end (Some thread) = Unfinished thread.0 thread.1
+-- the transcript of a run, or the thread that it leaves unfinished
+abbrev pub run_text : Script → Ran → Option (ℕ × ℕ) → Result (List ℕ) Status
+run_text script r None = Ok (transcript script r.report)
+run_text script r (Some thread) = Err (Unfinished thread.0 thread.1)
+
+-- the end of a run: it writes its transcript if no thread is unfinished
+abbrev pub ended_by : List Policy → Script → Ran → End
+ended_by policies script r = record { text = run_text script r r.unfinished; run = Some (record { policies = policies; script = script; ran = r }) }
+
+-- the end of the run of a script by a schedule
+abbrev pub run_end : List Policy → Script → Schedule → End
+run_end policies script schedule = ended_by policies script (whole_run policies script schedule)
+
+-- the name of a file, if one is given
+abbrev pub listed : Option (List ℕ) → List (List ℕ)
+listed None = []
+listed (Some name) = name ∷ []
+
+-- the schedule of the last file, if there is one
+abbrev pub schedule_of : Script → Contents → Result Schedule Refusal
+schedule_of script [] = Ok no_schedule
+schedule_of script (schedule ∷ []) = schedule_in script schedule
+schedule_of script _ = Err (refused (Missing 3))
+
+-- the script is run by the schedule
+abbrev pub replay_end : Contents → Result End Refusal
+replay_end (policy ∷ script ∷ schedule) =
+    policies_in policy >>= λ policies.
+    script_in policies script >>= λ script.
+    schedule_of script schedule >>= λ schedule. Ok (run_end policies script schedule)
+replay_end _ = Err (refused (Missing 1))

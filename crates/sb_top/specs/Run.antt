@@ -1,20 +1,24 @@
--- What `run POLICY SCRIPT [--workers N]` comes to. How many workers there are is no part of it.
-use Rattle.std.specs.Prelude.{ℕ, List, Ok}
-use Rattle.sb_book.specs.ReadyScripts.{Ready}
-use Rattle.sb_outside.specs.Outside.{Held}
+-- What `run POLICY SCRIPT [--workers N]` means. How many workers there are is no part of it.
+use Rattle.std.specs.Prelude.{◌≡◌, List, [], ◌∷◌, Result, Ok, Err}
 use Rattle.sb_rule.specs.declared.policies.Policy.{Policy}
+use Rattle.sb_statements.specs.declared.scripts.Script.{Script}
+use Rattle.sb_statements.specs.declared.schedules.Schedule.{Schedule}
 use Rattle.sb_text.specs.Steps.{◌>>=◌}
-use Rattle.sb_top.specs.Reading.{policies_in, script_in}
-use Rattle.sb_top.specs.Works.{Wanted, Work, Threads}
+use Rattle.sb_top.specs.Contents.{Refusal, policies_in, refused, script_in}
+use Rattle.sb_top.specs.Coming.{ReportedEnd, reported}
+use Rattle.sb_top.specs.Ends.{Contents, End, IsOrderOf}
+use Rattle.sb_top.specs.Replay.{run_end}
+use Rattle.sb_top.specs.declared.outcomes.Status.TheVariants.{Missing}
 
--- a run under policies that were read: it reads a script
-abbrev pub wanted_threads : List ℕ → List Policy → Held → Wanted
-wanted_threads script policies held = script_in policies script held >>= λ script. Ok (Threads policies script)
+-- the script is run by this order of steps
+abbrev pub threads_end : Schedule → Contents → Result End Refusal
+threads_end order (policy ∷ script ∷ []) =
+    policies_in policy >>= λ policies.
+    script_in policies script >>= λ script. Ok (run_end policies script order)
+threads_end order _ = Err (refused (Missing 1))
 
--- a run reads policies and then a script, and runs it
-abbrev pub wanted_run : List ℕ → List ℕ → Held → Wanted
-wanted_run policy script held = policies_in policy held >>= λ policies. wanted_threads script policies held
-
--- the run for which all was read
-abbrev pub threads_of : Ready → Work
-threads_of ready = Threads ready.policies ready.script
+-- this is the end of a run of the script by some order of steps
+pub record IsThreadsEnd (policies : List Policy) (script : Script) (end : ReportedEnd) : Type 0 where
+  pub order : Schedule
+  pub is_order : IsOrderOf order (run_end policies script order)
+  pub is : end ≡ reported (run_end policies script order)

@@ -1,7 +1,6 @@
 -- What the report of a run says of its script, whatever the order of the steps was.
-use Rattle.std.specs.Prelude.{◌≡◌, ◌*◌, true, length, map, List, Option, None, Some, Ok}
+use Rattle.std.specs.Prelude.{◌≡◌, ◌*◌, true, length, map, List, Option, None, IfSome, Ok}
 use Rattle.sb_book.specs.Histories.{setting_of, IsHistory}
-use Rattle.sb_book.specs.declared.reports.Report.{Report}
 use Rattle.sb_core.specs.Fits.{Fits}
 use Rattle.sb_core.specs.Origins.{IsSourced}
 use Rattle.sb_core.specs.Results.{ResultsFit}
@@ -9,17 +8,12 @@ use Rattle.sb_core.specs.Runs.{CanRun}
 use Rattle.sb_core.specs.Tallies.{AreFew}
 use Rattle.sb_core.specs.declared.runs.Ran.{Ran}
 use Rattle.sb_commands.specs.Commands.{Command}
-use Rattle.sb_gen.specs.Scripts.{script_of}
-use Rattle.sb_outside.specs.Outside.{Held}
 use Rattle.sb_rule.specs.declared.policies.Policy.{Policy}
-use Rattle.sb_statements.specs.Units.{script_has_units}
 use Rattle.sb_statements.specs.declared.schedules.Schedule.{Schedule}
 use Rattle.sb_statements.specs.declared.scripts.Script.{Script}
-use Rattle.sb_top.specs.Ends.{IsReportOf}
-use Rattle.sb_top.specs.Make.{made_policies}
+use Rattle.sb_top.specs.Ends.{Contents, End, IsOrderOf, Meaning, OnThreads, Plain, ScriptRun}
 use Rattle.sb_top.specs.Replay.{whole_run}
-use Rattle.sb_top.specs.Top.{wanted_over}
-use Rattle.sb_top.specs.Works.{Work, Makes, Prints, Runs, Threads}
+use Rattle.sb_top.specs.Top.{meant}
 
 -- What a run reports: its entries are a legal history, which led to its namespace; each result is that of the statement at its place; each
 -- target has 65 words for each channel; and no word of it is invented. If no thread is unfinished the report fits the script: there is one
@@ -33,20 +27,20 @@ pub record IsSoundRun (policies : List Policy) (script : Script) (r : Ran) : Typ
   pub fits : r.unfinished ≡ None → Fits policies script r.report
   pub few : r.unfinished ≡ None → AreFew script r.report
 
--- so is each run of a script whose strings are made of units
+-- so is each run
 abbrev pub RunsAreSound : Type 0
-RunsAreSound = (policies : List Policy) (script : Script) (schedule : Schedule) → CanRun policies script schedule → script_has_units script ≡ true
+RunsAreSound = (policies : List Policy) (script : Script) (schedule : Schedule) → CanRun policies script schedule
     → IsSoundRun policies script (whole_run policies script schedule)
 
--- the same of the report of work: only a run by a schedule may leave a thread unfinished
-abbrev pub IsSoundReport : Report → Work → Type 0
-IsSoundReport report (Prints policies) = ⊥
-IsSoundReport report (Runs policies script schedule) =
-    IsSoundRun policies script (record { report = report; unfinished = (whole_run policies script schedule).unfinished })
-IsSoundReport report (Threads policies script) = IsSoundRun policies script (record { report = report; unfinished = None })
-IsSoundReport report (Makes seed targets calls) = IsSoundRun made_policies (script_of seed targets calls) (record { report = report; unfinished = None })
+-- so is a run that a command made
+abbrev pub IsSound : ScriptRun → Type 0
+IsSound run = IsSoundRun run.policies run.script run.ran
 
--- so is the report of each command that runs a script
+-- the run of each end is sound, for each order of steps
+abbrev pub AreEndsSound : Meaning → Type 0
+AreEndsSound (Plain meaning) = (contents : Contents) (end : End) → meaning contents ≡ Ok end → IfSome end.run IsSound
+AreEndsSound (OnThreads meaning) = (order : Schedule) (contents : Contents) (end : End) → meaning order contents ≡ Ok end → IsOrderOf order end → IfSome end.run IsSound
+
+-- so it is for each command
 abbrev pub ReportsAreSound : Type 0
-ReportsAreSound = (command : Command) (held : Option Held) (work : Work) (report : Report) → wanted_over command held ≡ Some (Ok work)
-    → IsReportOf report work → IsSoundReport report work
+ReportsAreSound = (command : Option Command) → AreEndsSound (meant command)

@@ -2,14 +2,13 @@
 use Rattle.std.specs.Prelude.{◌≡◌, ℕ, Bool, true, false, List, ◌++◌, length, count_by, sum_by, codes}
 use Rattle.std.specs.List.{list_all}
 use Rattle.sb_book.specs.Decisions.{by_verdict}
-use Rattle.sb_book.specs.Readiness.{is_ready}
+use Rattle.sb_book.specs.Readiness.{IsReady}
 use Rattle.sb_book.specs.declared.decisions.Decision.{Decision}
 use Rattle.sb_book.specs.declared.reports.Report.{Report}
 use Rattle.sb_core.specs.Fits.{Fits}
 use Rattle.sb_rule.specs.Verdicts.{policy_at, verdict_of}
 use Rattle.sb_rule.specs.declared.policies.Policy.{Policy}
 use Rattle.sb_statements.specs.Scripts.{is_clean}
-use Rattle.sb_statements.specs.Units.{script_has_units}
 use Rattle.sb_statements.specs.declared.scripts.Script.{Script}
 use Rattle.sb_statements.specs.declared.scripts.TargetScript.{TargetScript}
 use Rattle.sb_statements.specs.declared.statements.Statement.{Statement}
@@ -66,5 +65,5 @@ AllClean script = (target channel : ℕ) → is_clean script target channel ≡ 
 
 -- the totals of every report that fits a script of calls with clean channels are those of the verdicts
 abbrev pub TotalsAreOfVerdicts : Type 0
-TotalsAreOfVerdicts = (policies : List Policy) (script : Script) (report : Report) → is_ready policies script ≡ true → script_has_units script ≡ true
+TotalsAreOfVerdicts = (policies : List Policy) (script : Script) (report : Report) → IsReady policies script
     → are_calls script ≡ true → AllClean script → Fits policies script report → totals_line report ≡ totals_by policies script

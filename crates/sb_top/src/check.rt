@@ -1,21 +1,17 @@
 // The command `check`: policies are read, and printed with the listings of their programs.
-ghost use Rattle.std.specs.Prelude.{◌≡◌, ◌≤◌, [], Some, true, IfOk, Ok};
+ghost use Rattle.std.specs.Prelude.{◌≡◌, ◌≤◌, [], ◌∷◌, true, IfOk, OnOk};
 ghost use Rattle.std.specs.List.{list_all};
 ghost use Rattle.sb_outside.specs.Outside.{Rose, joined};
 ghost use Rattle.sb_rule.specs.WellMade.{is_well_made};
-ghost use Rattle.sb_top.specs.Check.{checked, listings};
-ghost use Rattle.sb_commands.specs.Commands.{Check};
-ghost use Rattle.sb_top.specs.Effects.{IsOrderly, effect};
-ghost use Rattle.sb_top.specs.Ends.{IsReported, IsWorkEnd, IsWritten};
-ghost use Rattle.sb_top.specs.Outcomes.{IsSilent};
-ghost use Rattle.sb_top.specs.Top.{IsEndOf, IsReportFor, IsWrittenFor};
-ghost use Rattle.sb_top.specs.Works.{Prints, Unreported};
+ghost use Rattle.sb_top.specs.Check.{check_end, checked, listings};
+ghost use Rattle.sb_top.specs.Coming.{IsEndCaused, IsFound};
 
-use crate::outcomes::{Outcome, Status};
+use crate::ends::{CommandEnd, Lines};
 use crate::reading::policies_in;
+use crate::refusals::Refused;
 use sb_compile::compile;
-use sb_items::NoMemory;
-use sb_outside::{Bytes, Files, Sink, put_lines};
+use sb_items::{Items, NoMemory};
+use sb_outside::{Bytes, Files};
 use sb_rule::{Policy, WellMadePolicies};
 use sb_ruletext::print_policies;
 use std::alloc::Global;
@@ -37,66 +33,33 @@ fn listings(alloc: Global, policies: &[Policy]) -> Result<Vec<u8>, NoMemory>
 
 // The two texts of a check: the policies, and the listings of their programs.
 #[tactic(auto, using(crate::proofs::Ready::each_made))]
-fn check_texts(alloc: Global, policies: &WellMadePolicies) -> Result<Vec<Bytes>, NoMemory>
-    ensures { IfOk result (λ texts. joined texts.items ≡ checked policies.now.list) }
+fn check_texts(alloc: Global, policies: &WellMadePolicies) -> Result<Items<Bytes>, NoMemory>
+    ensures { IfOk result (λ texts. joined texts ≡ checked policies.now.list) }
 {
     let printed = print_policies(alloc, policies)?;
     let listed = listings(alloc, policies.policies().list.as_slice())?;
-    let mut texts = Vec::new(alloc);
+    let mut texts = Items::empty(alloc);
     texts.push(Bytes::new(printed))?;
     texts.push(Bytes::new(listed))?;
     Ok(texts)
 }
 
-// Prints policies: they as a text in one put, and the listings of their programs in a second, and finishes. Both are made before the first
-// put.
-fn print<K: Sink>(alloc: Global, policies: &WellMadePolicies, out: &mut K) -> Outcome
-    ensures counted { K.faults out.old ≤ K.faults out.new }
-    ensures silent { IsSilent result.status → out.new ≡ out.old }
-    ensures ends { IsWorkEnd (Prints policies.now.list) (Rose (K.faults out.old) (K.faults out.new)) result.status }
-    ensures report { IsReported Unreported (Some (Ok (Prints policies.now.list))) result.report result.status }
-    ensures written { IsWritten (Some (Ok (Prints policies.now.list))) (K.written out.old) (K.pending out.old) (K.written out.new) result.report result.status }
-    ensures done_count { result.status ≡ Status.Done → K.faults out.new ≡ K.faults out.old }
-    ensures finished { result.status ≡ Status.Done → K.pending out.new ≡ [] }
-{
-    let Ok(texts) = check_texts(alloc, policies) else {
-        return Outcome {
-            status: Status::NoMemory,
-            report: None,
-        };
-    };
-    match put_lines(out, &texts) {
-        Ok(()) => Outcome {
-            status: Status::Done,
-            report: None,
-        },
-        Err(_) => Outcome {
-            status: Status::WriteFault,
-            report: None,
-        },
-    }
-}
-
-/// Reads the policies of this file, and prints them.
-#[tactic(auto, using(crate::proofs::Ending::shown_orderly, crate::proofs::Ending::refused_orderly))]
-pub fn check_policy<F: Files, K: Sink>(
+/// Reads the policies of a file, and prints them: they as a text, and then the listings of their programs.
+pub fn check_policy<F: Files>(
     alloc: Global,
-    policy: &str,
     files: &mut F,
-    out: &mut K,
-) -> Outcome
-    ensures orderly { IsOrderly (effect F.held F.faults K.written K.pending K.faults files.old files.new out.old out.new) result }
-    ensures ends { IsEndOf (Some (Check policy.now))
-        (effect F.held F.faults K.written K.pending K.faults files.old files.new out.old out.new) result.status }
-    ensures report { IsReportFor (Some (Check policy.now)) (F.held files.old) result }
-    ensures written { IsWrittenFor (Some (Check policy.now))
-        (effect F.held F.faults K.written K.pending K.faults files.old files.new out.old out.new) result }
+    policy: &str,
+) -> Result<CommandEnd, Refused>
+    ensures kept { F.held files.new ≡ F.held files.old }
+    ensures counted { F.faults files.old ≤ F.faults files.new }
+    ensures ok_count { OnOk result (F.faults files.new ≡ F.faults files.old) }
+    ensures found { IsFound check_end (policy.now ∷ []) (F.held files.old) result }
+    ensures caused { IsEndCaused (F.held files.old) (Rose (F.faults files.old) (F.faults files.new)) result }
 {
-    match policies_in(alloc, files, policy) {
-        Ok(policies) => print(alloc, &policies, out),
-        Err(status) => Outcome {
-            status,
-            report: None,
-        },
-    }
+    let policies = policies_in(alloc, files, policy)?;
+    let texts = check_texts(alloc, &policies)?;
+    Ok(CommandEnd {
+        lines: Ok(Lines::Texts(texts)),
+        report: None,
+    })
 }

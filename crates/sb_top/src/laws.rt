@@ -1,27 +1,31 @@
 // Laws of how a command ends, of reports, and of totals. None of these functions does anything: each contract is a law.
-ghost use Rattle.sb_top.specs.Laws.{RefusalsAreTold, WorkComesToItsEnd};
+ghost use Rattle.sb_top.specs.Laws.{RefusalsAreMeant, StatusesAreOfCommands, WorkComesToItsEnd};
 ghost use Rattle.sb_top.specs.Orders.{OrdersAreReplayed, ThreadedRunsAreReplayed};
 ghost use Rattle.sb_top.specs.Sound.{ReportsAreSound, RunsAreSound};
 ghost use Rattle.sb_top.specs.Totals.{TotalsAreOfVerdicts};
 
 use sb_block::blocks_come_back;
-use sb_core::{
-    no_block_is_invented, runs_are_legal, runs_are_whole, runs_fit, steps_are_folds,
-    units_are_placed,
+use sb_core::{no_block_is_invented, runs_are_legal, runs_are_whole, runs_fit, steps_are_folds};
+use sb_ruletext::read_policies_are_well_made;
+use sb_scheduletext::{
+    read_schedules_are_bounded, written_schedules_are_read, written_schedules_are_short,
 };
-use sb_scheduletext::{written_schedules_are_read, written_schedules_are_short};
-use sb_scripttext::read_scripts_have_units;
+use sb_scripttext::read_scripts_are_ready;
 use sb_statements::sound_parts;
 
-/// If arguments and files come to work, and neither count of faults rose, the work comes to its end, if there was memory.
-pub fn work_comes_to_its_end()
-    ensures { WorkComesToItsEnd }
+/// Over files whose contents are known, and if neither count of faults rose, a command ends as it means, if there was memory.
+pub fn work_comes_to_its_end<G, S>()
+    ensures { WorkComesToItsEnd G S }
 {}
 
-/// If the contents of the files are known, a status that names a file, except that it was not read, is what arguments and files
-/// come to.
-pub fn refusals_are_told()
-    ensures { RefusalsAreTold }
+/// Over files whose contents are known, a status that names a file, except that it was not read, is what the command means.
+pub fn refusals_are_meant<G, S>()
+    ensures { RefusalsAreMeant G S }
+{}
+
+/// Usage comes of arguments that are no command alone, and a status that names a file names one of the command, by its place.
+pub fn statuses_are_of_commands<G, S>()
+    ensures { StatusesAreOfCommands G S }
 {}
 
 /// Each run of a script whose strings are made of units, by whatever schedule, is sound: its entries are a legal history, each result is that
@@ -32,16 +36,17 @@ pub fn runs_are_sound()
     runs_are_legal();
     runs_are_whole();
     runs_fit();
-    units_are_placed();
     no_block_is_invented();
 }
 
-/// So is the report of `replay`, of `run` and of `make`: with Done and WriteFault it fits the script, whatever the order of the steps was.
+/// So is the run of each end of a command: of `replay`, and of `run` and `make` whatever the order of the steps was.
 pub fn reports_are_sound()
     ensures { ReportsAreSound }
 {
     runs_are_sound();
-    read_scripts_have_units();
+    read_policies_are_well_made();
+    read_scripts_are_ready();
+    read_schedules_are_bounded();
 }
 
 /// If each statement of a script is a call and every channel is clean, the totals of each report that fits the script are those that the
@@ -51,7 +56,6 @@ pub fn totals_are_of_verdicts()
 {
     blocks_come_back();
     sound_parts();
-    units_are_placed();
 }
 
 /// Each order of at most 100,000 steps of a script's actors is a replay: its text, in which each of them makes one step, in turn, can be read
@@ -65,4 +69,6 @@ pub fn orders_are_replayed()
     written_schedules_are_short();
     steps_are_folds();
     sound_parts();
+    read_policies_are_well_made();
+    read_scripts_are_ready();
 }

@@ -2,22 +2,24 @@
 #![tactic(auto)]
 
 mod check;
+mod ends;
 mod exits;
 mod laws;
 mod make;
+mod messages;
 mod outcomes;
-mod prepared;
 mod reading;
+mod refusals;
 mod replay;
 mod run;
 mod threads;
 mod top;
-mod writing;
 
 pub use exits::{Complaint, exit_code};
 pub use laws::{
-    orders_are_replayed, refusals_are_told, reports_are_sound, runs_are_sound,
-    totals_are_of_verdicts, work_comes_to_its_end,
+    orders_are_replayed, refusals_are_meant, reports_are_sound, runs_are_sound,
+    statuses_are_of_commands, totals_are_of_verdicts, work_comes_to_its_end,
 };
+pub use messages::message;
 pub use outcomes::{Outcome, Status};
 pub use top::{broker_top, plain_top};

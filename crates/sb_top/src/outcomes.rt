@@ -1,6 +1,7 @@
-// What the top call answers.
+// How a command ends.
 
 use sb_book::Report;
+use sb_outside::Bytes;
 use sb_ruletext::PolicyFault;
 use sb_scheduletext::ScheduleFault;
 use sb_scripttext::ScriptFault;
@@ -32,10 +33,12 @@ pub enum Status {
     NoMemory,
 }
 
-/// The status, and the report of a run with Done, Unfinished and WriteFault.
+/// The status, the line of a text that is shown with it, and the report of a run with Done, Unfinished and WriteFault.
 pub struct Outcome {
     /// How the command ended.
     pub status: Status,
+    /// The line of a refused text that has the fault, without its line end.
+    pub shown: Option<Bytes>,
     /// What its run gave.
     pub report: Option<Report>,
 }
@@ -44,6 +47,7 @@ impl Drop for Outcome {
     fn drop(self) {
         let Outcome {
             status: _,
+            shown: _,
             report: _,
         } = self;
     }

@@ -2,13 +2,11 @@
 ghost use Rattle.std.specs.Prelude.{◌≡◌, ◌≤◌, ◌<◌, ◌^◌, IfOk};
 ghost use Rattle.sb_book.specs.Reports.{result_count};
 ghost use Rattle.sb_core.specs.Runs.{IsSomeRun};
-ghost use Rattle.sb_kernel.specs.Openings.{opening};
 
 use crate::laws::runs_are_sound;
-use sb_book::{ReadyScript, Report};
+use sb_book::{Report, RunStart};
 use sb_compile::Programs;
 use sb_items::NoMemory;
-use sb_kernel::Kernel;
 use sb_outside::Gate;
 use sb_run::run_threads;
 use std::alloc::Global;
@@ -24,18 +22,15 @@ use std::thread::Threads;
 pub fn run_judged<R: Threads + Wait + Sync, G: Gate>(
     rt: &R,
     alloc: Global,
-    ready: &ReadyScript,
-    kernel: Kernel,
+    start: RunStart<'_>,
     workers: u32,
     gate: &G,
 ) -> Result<Report, NoMemory>
     requires workers { (1 ≤ workers) × (workers ≤ 8) }
-    requires opens { kernel ≡ opening ready.now.script.start }
-    ensures report { IfOk result (λ r. IsSomeRun ready.now.policies ready.now.script r) }
+    ensures report { IfOk result (λ r. IsSomeRun start.entry.policies start.entry.script r) }
     ensures few { IfOk result (λ r. result_count r.results < 2 ^ 62) }
 {
     runs_are_sound();
-    ready.establish_ready();
-    let judge = Programs::new(alloc, ready.policies(), ready.script())?;
-    run_threads(rt, alloc, &judge, ready, kernel, workers, gate)
+    let judge = Programs::new(alloc, start.ready().policies(), start.ready().script())?;
+    run_threads(rt, alloc, &judge, start, workers, gate)
 }

@@ -1,20 +1,28 @@
-use Rattle.sb_top.specs.Check.{wanted_check}
-use Rattle.sb_top.specs.Works.{Prints}
-use Rattle.sb_top.proofs.CheckEnds.{check_refused, check_wanted}
-use Rattle.sb_top.proofs.Ending.{known, shown_end, shown_known}
+use Rattle.std.proofs.Common.{◌≡◌, ◌∷◌, [], ap, refl, sym, subst, rules, List, ℕ, None}
+use Rattle.std.specs.Prelude.{Result, Ok, Err}
+use Rattle.sb_top.specs.Check.{check_end, checked, printed_end}
+use Rattle.sb_top.specs.Coming.{IsFound, ReportedEnd, reported}
+use Rattle.sb_top.specs.Ends.{Plain}
+use Rattle.sb_top.specs.Contents.{Refusal, refused}
+use Rattle.sb_top.specs.declared.outcomes.Status.TheVariants.{NoMemory}
+use Rattle.sb_top.proofs.Carrying.{check_done, check_unread, starved}
 use Rattle.sb_top.proofs.check.check_policy.Goals as goal
 
-pub returns-in-Ok-clause-ends : goal.returns-in-Ok-clause-ends
-returns-in-Ok-clause-ends g c =
+pub returns-in_err-policies-clause-found : goal.returns-in_err-policies-clause-found
+returns-in_err-policies-clause-found g c =
     let held = g.F.Files.held c.args.files.now in
-    let work = Prints c.in-Ok.policies.list in (
-      shown_known work _ c.print.result.status c.print.ensures.ends,
-      shown_end 1 (wanted_check c.args.policy.now) work held _ _ c.print.result.status
-          (check_wanted c.args.policy.now c.in-Ok.policies.list held c.in-Ok.ensures.ok) c.print.ensures.ends,
-    )
+    let is : c.from_residual.result ≡ Err c.in_err-policies.field-0.0 = search rules in
+    let P : Result ReportedEnd Refusal → Type 0 = IsFound check_end (c.args.policy.now ∷ []) held in
+    subst P (sym is) (check_unread held c.args.policy.now c.in_err-policies.field-0.0 c.in_err-policies.ensures.read)
 
-pub returns-in-Err-clause-ends : goal.returns-in-Err-clause-ends
-returns-in-Err-clause-ends g c = (
-  known c.in-Err.status c.in-Err.ensures.refusal,
-  check_refused c.args.policy.now (g.F.Files.held c.args.files.now) _ _ c.in-Err.status c.in-Err.ensures.err,
-)
+pub returns-in_err-texts-clause-found : goal.returns-in_err-texts-clause-found
+returns-in_err-texts-clause-found g c =
+    let held = g.F.Files.held c.args.files.now in
+    let is : c.from_residual-in_err-texts.result ≡ Err (refused NoMemory) = search rules in
+    let P : Result ReportedEnd Refusal → Type 0 = IsFound check_end (c.args.policy.now ∷ []) held in
+    subst P (sym is) (starved (Plain check_end) (c.args.policy.now ∷ []) held (refused NoMemory) refl)
+
+pub returns-clause-found : goal.returns-clause-found
+returns-clause-found g c =
+    let held = g.F.Files.held c.args.files.now in
+    check_done held c.args.policy.now c.in_ok-policies.policies.list _ c.in_ok-policies.ensures.read (ap (λ (t : List ℕ). record { text = Ok t; report = None }) c.in_ok-texts.ensures)

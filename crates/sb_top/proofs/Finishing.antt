@@ -1,0 +1,98 @@
+-- How a command ends, by what it comes to and how that is put.
+use Rattle.std.proofs.Common.{◌≡◌, ◌∙◌, refl, sym, ap, subst, ℕ, ◌⊎◌, inl, inr, List, Option, None, Some, true≢false}
+use Rattle.std.specs.Prelude.{IfOk, IsOk, IsOkAnd, IsSome, Result, Ok, Err, ◌++◌}
+use Rattle.sb_book.specs.declared.reports.Report.{Report}
+use Rattle.sb_outside.specs.Outside.{GrowsBy, GrowsByPrefix, Held, Rose}
+use Rattle.sb_statements.specs.declared.schedules.Schedule.{Schedule}
+use Rattle.sb_top.specs.Coming.{IsEndCaused, IsFound, IsFoundBy, IsFoundFor, IsFoundOnThreads, IsTextCaused, IsUnreadFor, ReportedEnd, reported}
+use Rattle.sb_top.specs.Contents.{Refusal, refused}
+use Rattle.sb_top.specs.Effects.{Effect}
+use Rattle.sb_top.specs.Endings.{IsCaused, IsDone, IsEndFor, IsEnding, IsMeant, IsPlainEnding, IsRefused, IsThreadedEnding, IsUnread, IsUnwritten, IsWritten}
+use Rattle.sb_top.specs.Ends.{Contents, End, IsOrderOf, Meaning, OnThreads, Plain, report_of}
+use Rattle.sb_top.specs.Putting.{IsFinished, IsPut}
+use Rattle.sb_top.specs.declared.outcomes.Outcome.{Outcome}
+use Rattle.sb_top.specs.declared.outcomes.Status.{Status}
+use Rattle.sb_top.specs.declared.outcomes.Status.TheVariants.{Done, WriteFault}
+
+module _ {G S : Type 0} (e : Effect G S) (o : Outcome) where
+  abbrev Finished : Result ReportedEnd Refusal → Type 0
+  Finished found = IsFinished found e.written e.pending e.written' (Rose e.puts e.puts') o
+
+  -- an end was put
+  put_end : (end : End) (text : Result (List ℕ) Status) → end.text ≡ text → IsPut text e.written e.pending e.written' (Rose e.puts e.puts') o.status
+      → o.report ≡ report_of end → o.shown ≡ None → IsDone end e o ⊎ IsUnwritten end e o
+  put_end end (Ok text) is (inl p) report shown =
+      inl (record { written = subst (λ t. IsWritten t e o) (sym is) p; report = report; shown = shown })
+  put_end end (Ok text) is (inr p) report shown =
+      inr (record { text = text; due = is; status = p.0; report = report; shown = shown; written = p.1; rose = p.2 })
+  put_end end (Err status) is p report shown =
+      inl (record { written = subst (λ t. IsWritten t e o) (sym is) p; report = report; shown = shown })
+
+  -- a refusal was told
+  told : (refusal : Refusal) → Finished (Err refusal) → IsRefused refusal e o
+  told refusal h = record {
+    status = ap (λ (x : Outcome). x.status) h.0;
+    report = ap (λ (x : Outcome). x.report) h.0;
+    shown = ap (λ (x : Outcome). x.shown) h.0;
+    written = h.1;
+  }
+
+  -- what was meant
+  module _ (meaning : Contents → Result End Refusal) (contents : Contents) where
+    done_for : (meant : Result End Refusal) (end : ReportedEnd) → meaning contents ≡ meant → IsOkAnd meant (λ x. end ≡ reported x) → Finished (Ok end)
+        → IsEndFor meaning contents e o
+    done_for (Err r) end is h f = absurd h
+    done_for (Ok x) end is h f =
+        by (put_end x end.text (sym (ap (λ (y : ReportedEnd). y.text) h)) f.0 (f.1 ∙ ap (λ (y : ReportedEnd). y.report) h) f.2)
+      where
+        by : IsDone x e o ⊎ IsUnwritten x e o → IsEndFor meaning contents e o
+        by (inl k) = inl (subst (λ r. IsMeant r e o) (sym is) k)
+        by (inr k) = inr (inr (inl (subst (λ r. IsOkAnd r (λ y. IsUnwritten y e o)) (sym is) k)))
+
+    refused_for : (refusal : Refusal) → IsFoundFor meaning contents (Err refusal) → Finished (Err refusal) → IsEndFor meaning contents e o
+    refused_for refusal (inl h) f = inl (subst (λ r. IsMeant r e o) (sym h) (told refusal f))
+    refused_for refusal (inr (inl h)) f =
+        inr (inl (record { file = h.0; reached = h.2; is = subst (λ r. IsRefused r e o) h.1 (told refusal f) }))
+    refused_for refusal (inr (inr h)) f = inr (inr (inr (subst (λ r. IsRefused r e o) h (told refusal f))))
+
+    ends_for : (found : Result ReportedEnd Refusal) → IsFoundFor meaning contents found → Finished found → IsEndFor meaning contents e o
+    ends_for (Ok end) h f = done_for (meaning contents) end refl h f
+    ends_for (Err refusal) h f = refused_for refusal h f
+
+  -- its cause
+  text_caused : (rose : Type 0) (text : Result (List ℕ) Status) → IsTextCaused e.held rose text → IsPut text e.written e.pending e.written' (Rose e.puts e.puts') o.status
+      → IsCaused e.held rose o.status
+  text_caused rose (Ok text) c (inl p) = subst (IsCaused e.held rose) (sym p.0) tt
+  text_caused rose (Ok text) c (inr p) = subst (IsCaused e.held rose) (sym p.0) tt
+  text_caused rose (Err status) c p = subst (IsCaused e.held rose) (sym p.0) c
+
+  caused : (rose : Type 0) (found : Result ReportedEnd Refusal) → IsEndCaused e.held rose found → Finished found → IsCaused e.held rose o.status
+  caused rose (Ok end) c f = text_caused rose end.text c f.0
+  caused rose (Err refusal) c f = subst (IsCaused e.held rose) (sym (ap (λ (x : Outcome). x.status) f.0)) c
+
+  no_report : (r : Option Report) → r ≡ None → IsSome r → ⊥
+  no_report None is h = true≢false (sym h)
+  no_report (Some r) is h = cc
+
+  -- with a report the command came to an end
+  has_end : (found : Result ReportedEnd Refusal) → Finished found → IsSome o.report → IsOk found
+  has_end (Ok end) f h = refl
+  has_end (Err refusal) f h = absurd (no_report o.report (ap (λ (x : Outcome). x.report) f.0) h)
+
+  -- how a command of any meaning ends
+  pub ending : (meaning : Meaning) (names : List (List ℕ)) (found : Result ReportedEnd Refusal) → IsFoundBy meaning names e.held found → Finished found
+      → IsEndCaused e.held (Rose e.reads e.reads') found → IsEnding meaning names e o
+  ending (Plain m) names found h f c = record {
+    contents = h.contents;
+    held = h.are;
+    ends = ends_for m h.contents found h.is f;
+    caused = caused (Rose e.reads e.reads') found c f;
+  }
+  ending (OnThreads m) names found h f c = record {
+    order = h.order;
+    contents = h.contents;
+    held = h.are;
+    ordered = λ k. h.ordered (has_end found f k);
+    ends = ends_for (m h.order) h.contents found h.is f;
+    caused = caused (Rose e.reads e.reads') found c f;
+  }
