@@ -1,0 +1,7 @@
+pub mod Bits
+pub mod Bounds
+pub mod Keeping
+pub mod Naming
+pub mod PassLaws
+pub mod Utf8
+pub mod Written

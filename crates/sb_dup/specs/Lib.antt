@@ -1,0 +1,12 @@
+pub mod Chains
+pub mod Kinds
+pub mod Lines
+pub mod MoveLaws
+pub mod MoveLines
+pub mod MovePrinting
+pub mod MoveTexts
+pub mod Names
+pub mod Openings
+pub mod PassLaws
+pub mod Passes
+pub mod Passings

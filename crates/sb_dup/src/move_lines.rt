@@ -1,0 +1,169 @@
+// The lines that tell how moves went.
+ghost use Rattle.std.specs.Prelude.{◌≡◌, ◌++◌, codes, IfOk, OnOk};
+ghost use Rattle.std.specs.Fmt.{decimal};
+ghost use Rattle.std.specs.List.{count_by};
+ghost use Rattle.sb_dup.specs.MoveLines.{action_text, answer_text, giver_text, is_given, lines_of_moves, move_line, move_lines, move_text, target_name, totals_line, verdict_text};
+
+use crate::moves::{Answered, Move, MoveAnswer};
+use sb_items::NoMemory;
+use sb_rule::{Action, Verdict};
+use sb_statements::Script;
+use sb_wide::{put_decimal, put_hexadecimal};
+
+// Appends the name of a target, and nothing if there is no such target.
+fn put_target(line: &mut Vec<u8>, script: &Script, target: u32) -> Result<(), NoMemory>
+    ensures { OnOk result (line.new.items ≡ line.old.items ++ target_name script.now target) }
+{
+    if let Some(target) = script.targets.as_slice().get(target as usize) {
+        line.extend_from_slice(target.name.bytes())?;
+    }
+    Ok(())
+}
+
+// Appends words and a number in decimal.
+fn put_named(line: &mut Vec<u8>, name: &[u8], value: u64) -> Result<(), NoMemory>
+    ensures { OnOk result (line.new.items ≡ line.old.items ++ (name.now ++ decimal value)) }
+{
+    line.extend_from_slice(name)?;
+    put_decimal(line, value)
+}
+
+fn action_text(action: Action) -> &'static [u8]
+    ensures { result.now ≡ action_text action }
+{
+    match action {
+        Action::Alarm => b" alarm ",
+        Action::Fake => b" fake ",
+        Action::Deny | Action::Allow | Action::ReadOnly => b" rule ",
+    }
+}
+
+fn put_verdict(line: &mut Vec<u8>, verdict: Verdict) -> Result<(), NoMemory>
+    ensures { OnOk result (line.new.items ≡ line.old.items ++ verdict_text verdict) }
+{
+    match verdict {
+        Verdict::NoRule => Ok(line.extend_from_slice(b" norule")?),
+        Verdict::Rule {
+            line: number,
+            action,
+        } => put_named(line, action_text(action), u64::from(number)),
+    }
+}
+
+fn put_answer(line: &mut Vec<u8>, script: &Script, answer: MoveAnswer) -> Result<(), NoMemory>
+    ensures { OnOk result (line.new.items ≡ line.old.items ++ answer_text script.now answer) }
+{
+    match answer {
+        MoveAnswer::Given { handle, access } => {
+            put_named(line, b"given ", handle)?;
+            line.extend_from_slice(b" 0x")?;
+            put_hexadecimal(line, u64::from(access))
+        }
+        MoveAnswer::NotHeld => Ok(line.extend_from_slice(b"not-held")?),
+        MoveAnswer::MoreAccess { held } => {
+            line.extend_from_slice(b"more-access 0x")?;
+            put_hexadecimal(line, u64::from(held))
+        }
+        MoveAnswer::NoOpening => Ok(line.extend_from_slice(b"no-opening")?),
+        MoveAnswer::Denied { target, verdict } => {
+            line.extend_from_slice(b"denied ")?;
+            put_target(line, script, target)?;
+            put_verdict(line, verdict)
+        }
+    }
+}
+
+// Appends the giver and its handle.
+fn put_giver(line: &mut Vec<u8>, script: &Script, m: Move) -> Result<(), NoMemory>
+    ensures { OnOk result (line.new.items ≡ line.old.items ++ giver_text script.now m) }
+{
+    put_target(line, script, m.from)?;
+    put_named(line, b" ", m.handle)
+}
+
+// Appends a move, without its answer.
+fn put_move(line: &mut Vec<u8>, script: &Script, n: u64, m: Move) -> Result<(), NoMemory>
+    ensures { OnOk result (line.new.items ≡ line.old.items ++ move_text script.now n m) }
+{
+    put_named(line, b"move ", n)?;
+    line.push(b' ')?;
+    put_giver(line, script, m)?;
+    line.push(b' ')?;
+    put_target(line, script, m.to)
+}
+
+// Appends the line of a move.
+fn put_move_line(
+    line: &mut Vec<u8>,
+    script: &Script,
+    n: u64,
+    m: Move,
+    answer: MoveAnswer,
+) -> Result<(), NoMemory>
+    ensures { OnOk result (line.new.items ≡ line.old.items ++ move_line script.now n m answer) }
+{
+    put_move(line, script, n, m)?;
+    line.push(b' ')?;
+    put_answer(line, script, answer)?;
+    line.push(b'\n')?;
+    Ok(())
+}
+
+// Appends the lines of moves with their answers.
+fn put_move_lines(
+    lines: &mut Vec<u8>,
+    script: &Script,
+    moves: &[(Move, MoveAnswer)],
+) -> Result<(), NoMemory>
+    ensures { OnOk result (lines.new.items ≡ lines.old.items ++ move_lines script.now 0 moves.now) }
+{
+    let mut n = 0;
+    let mut rest = moves;
+    while let Some((m, later)) = rest.split_first() {
+        put_move_line(lines, script, n, m.0, m.1)?;
+        n += 1;
+        rest = later;
+    }
+    Ok(())
+}
+
+// Whether a handle was given.
+fn is_given(m: &(Move, MoveAnswer)) -> bool
+    ensures { result ≡ is_given m.now }
+{
+    match m.1 {
+        MoveAnswer::Given { .. } => true,
+        MoveAnswer::NotHeld
+        | MoveAnswer::MoreAccess { .. }
+        | MoveAnswer::NoOpening
+        | MoveAnswer::Denied { .. } => false,
+    }
+}
+
+// The number of handles that were given.
+fn given_count(moves: &[(Move, MoveAnswer)]) -> usize
+    ensures { result ≡ count_by is_given moves.now }
+{
+    moves.iter().filter(|m| is_given(m)).count()
+}
+
+// Appends the last line: the number of moves and that of the handles given.
+fn put_totals_line(line: &mut Vec<u8>, moves: &Answered) -> Result<(), NoMemory>
+    ensures { OnOk result (line.new.items ≡ line.old.items ++ totals_line moves.now) }
+{
+    put_named(line, b"moves ", moves.len() as u64)?;
+    put_named(line, b" given ", given_count(moves.as_slice()) as u64)?;
+    line.push(b'\n')?;
+    Ok(())
+}
+
+/// Appends a line for each move with its answer, numbered from 0, and the line of the totals.
+///
+/// # Errors
+/// `NoMemory` if there was none for the lines; then a part may have been appended.
+pub fn put_moves(lines: &mut Vec<u8>, script: &Script, moves: &Answered) -> Result<(), NoMemory>
+    ensures { OnOk result (lines.new.items ≡ lines.old.items ++ lines_of_moves script.now moves.now) }
+{
+    put_move_lines(lines, script, moves.as_slice())?;
+    put_totals_line(lines, moves)
+}

@@ -1,0 +1,14 @@
+pub mod Arguments
+pub mod ArgumentsBack
+pub mod Cutting
+pub mod EntriesBack
+pub mod LinesBack
+pub mod NumbersBack
+pub mod Passing
+pub mod RepliesBack
+pub mod PrintedLines
+pub mod Putting
+pub mod ResultsBack
+pub mod Unquoted
+pub mod Unquoting
+pub mod Words

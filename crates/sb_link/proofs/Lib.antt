@@ -1,0 +1,14 @@
+pub mod Adding
+pub mod Under
+pub mod Steps
+pub mod Longest
+pub mod Order
+pub mod Named
+pub mod Alike
+pub mod Cases
+pub mod Written
+pub mod Read
+pub mod Resolved
+pub mod Linking
+pub mod Logs
+pub mod Performed

@@ -1,0 +1,11 @@
+pub mod Links
+pub mod Resolution
+pub mod ResolutionLaws
+pub mod Cases
+pub mod Kinds
+pub mod LinkTexts
+pub mod Writing
+pub mod Answers
+pub mod LinkedHistories
+pub mod LinkedLaws
+pub mod Lines

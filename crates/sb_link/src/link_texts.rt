@@ -1,0 +1,145 @@
+// Reading texts of links.
+ghost use Rattle.std.specs.Prelude.{◌≡◌, ◌<◌, ◌+◌, ◌^◌, [], None, length};
+ghost use Rattle.sb_items.specs.Refusals.{Gives};
+ghost use Rattle.sb_items.specs.declared.refusals.Refused.TheVariants.{Fault};
+ghost use Rattle.sb_text.specs.Spots.{by_tokens};
+ghost use Rattle.sb_text.specs.Steps.{Becomes, Reads};
+ghost use Rattle.sb_text.specs.declared.refusals.WordFault.TheVariants.{NoVersion};
+ghost use Rattle.sb_link.specs.LinkTexts.{grammar, new_link, read_link, reading, string_at};
+ghost use Rattle.sb_link.specs.declared.faults.LinkKind.TheVariants.{UnknownWord};
+
+use crate::faults::{LineRefused, LinkKind, LinksRefused};
+use crate::links::{Link, Links, MOST_LINKS, is_link_name};
+use sb_text::{
+    Layout, Line, Lines, TextGrammar, TokenFault, Tokens, WordFault, end_at, quoted_at, read_text,
+    string_of, version_at, word_at,
+};
+use sb_wide::Wide;
+use std::alloc::Global;
+
+// The faults of a quoted token in place of a word and of a word in place of a quoted token, of a token that breaks the rules, of none,
+// and of an extra one.
+const QUOTED: LinkKind = LinkKind::UnknownWord(WordFault::Quoted);
+
+const UNQUOTED: LinkKind = LinkKind::UnknownWord(WordFault::Unquoted);
+
+const BROKEN: LinkKind = LinkKind::UnknownWord(WordFault::Broken);
+
+const MISSING: LinkKind = LinkKind::UnknownWord(WordFault::Missing);
+
+const EXTRA: LinkKind = LinkKind::UnknownWord(WordFault::Extra);
+
+// A string between quotes.
+#[tactic(auto, unfolding(crate::specs::LinkTexts::string_at))]
+fn string_at(alloc: Global, tokens: &mut Tokens) -> Result<Wide, LineRefused>
+    ensures { Reads (string_at tokens.old) result tokens.new }
+{
+    let quoted = quoted_at(UNQUOTED, BROKEN, MISSING, tokens)?;
+    Ok(string_of(alloc, quoted)?)
+}
+
+// A line: `link "FROM" "TO"`.
+#[tactic(auto, unfolding(crate::specs::LinkTexts::read_link))]
+fn read_link(alloc: Global, tokens: &Tokens) -> Result<Link, LineRefused>
+    ensures { Gives (read_link tokens.now) result }
+{
+    let mut rest = tokens.copy();
+    if word_at(QUOTED, BROKEN, MISSING, &mut rest)? != b"link".as_slice() {
+        return Err(tokens.fail(LinkKind::UnknownWord(WordFault::Unknown)));
+    }
+    let from = string_at(alloc, &mut rest)?;
+    let to = string_at(alloc, &mut rest)?;
+    end_at(EXTRA, BROKEN, &rest)?;
+    Ok(Link { from, to })
+}
+
+// This fault where the given number of tokens of the line is left.
+fn refusal(left: usize, kind: LinkKind) -> LineRefused
+    ensures { result ≡ Fault (record { left = left; unit = None; kind = kind }) }
+{
+    LineRefused::Fault(TokenFault {
+        left,
+        unit: None,
+        kind,
+    })
+}
+
+// Adds the link of a line. After an error the links are as they were.
+fn new_link(links: &mut Links, link: Link) -> Result<(), LineRefused>
+    ensures { Becomes (new_link links.old link) result links.new }
+{
+    if !is_link_name(link.from.as_units()) {
+        return Err(refusal(2, LinkKind::BadName));
+    }
+    if !is_link_name(link.to.as_units()) {
+        return Err(refusal(1, LinkKind::BadName));
+    }
+    if links.has_from(link.from.as_units()) {
+        return Err(refusal(2, LinkKind::SameName));
+    }
+    if links.len() >= MOST_LINKS {
+        return Err(refusal(3, LinkKind::TooMany));
+    }
+    links.push(link)?;
+    Ok(())
+}
+
+// Texts of links.
+#[derive(Drop)]
+struct LinkGrammar {
+    alloc: Global,
+}
+
+impl<'b> TextGrammar<Lines<'b>> for LinkGrammar {
+    type Draft = Links;
+
+    type Kind = LinkKind;
+
+    ghost grammar = { λ texts. grammar };
+
+    fn layout(&self) -> Layout
+        ensures { result ≡ by_tokens }
+    {
+        Layout::Text
+    }
+
+    fn version(&self, line: &Line<'b>) -> Result<u32, LineRefused> {
+        version_at(
+            LinkKind::UnknownWord(WordFault::NoVersion),
+            b"sandbox-links",
+            1,
+            &line.tokens(),
+        )
+    }
+
+    fn no_version(&self) -> LinkKind
+        ensures { result ≡ UnknownWord NoVersion }
+    {
+        LinkKind::UnknownWord(WordFault::NoVersion)
+    }
+
+    fn start(&self) -> Links
+        ensures { result ≡ [] }
+    {
+        Links::empty(self.alloc)
+    }
+
+    fn add(&self, _version: u32, links: &mut Links, line: &Line<'b>) -> Result<(), LineRefused> {
+        let link = read_link(self.alloc, &line.tokens())?;
+        new_link(links, link)
+    }
+}
+
+/// The links of a text, or its first fault. The text has fewer than 2^32 - 1 bytes.
+///
+/// The grammar of these texts is that of this project: the line `sandbox-links 1`, then lines `link "FROM" "TO"`.
+///
+/// # Errors
+/// `Fault` exactly if the text has a fault: that it is not UTF-8 before all others, then the first one by lines from the top, and within a
+/// line by the number of its kind and then from the left, with its line and column. `NoMemory` if there was none for the links.
+pub fn read_links(alloc: Global, text: &[u8]) -> Result<Links, LinksRefused>
+    requires short { length text.now + 1 < 2 ^ 32 }
+    ensures exactly { Gives (reading text.now) result }
+{
+    read_text(&LinkGrammar { alloc }, LinkKind::NotUtf8, text)
+}

@@ -1,0 +1,5 @@
+pub mod Denials
+pub mod Thinning
+pub mod Lines
+pub mod Serial
+pub mod Laws

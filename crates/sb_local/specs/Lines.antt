@@ -1,0 +1,36 @@
+-- The lines of local denials.
+use Rattle.std.specs.Prelude.{ℕ, List, [], ◌++◌, codes, Option, None, Some, slice_get}
+use Rattle.std.specs.Fmt.{decimal}
+use Rattle.std.specs.List.{flat_map}
+use Rattle.sb_call.specs.CallWords.{call_word}
+use Rattle.sb_rule.specs.declared.verdicts.Verdict.{Verdict}
+use Rattle.sb_rule.specs.declared.verdicts.Verdict.TheVariants.{Rule, NoRule}
+use Rattle.sb_statements.specs.declared.scripts.Script.{Script}
+use Rattle.sb_statements.specs.declared.scripts.TargetScript.{TargetScript}
+use Rattle.sb_local.specs.declared.denials.LocalDenial.{LocalDenial}
+
+-- the name of a target; one that is not there has none
+abbrev pub name_by : Option TargetScript → List ℕ
+name_by None = []
+name_by (Some target) = target.name
+
+abbrev pub target_name : Script → ℕ → List ℕ
+target_name script target = name_by (slice_get script.targets target)
+
+-- no rule, or the line of the rule that denied
+abbrev pub verdict_text : Verdict → List ℕ
+verdict_text NoRule = codes " norule"
+verdict_text (Rule line action) = codes " rule " ++ decimal line
+
+-- the thread and the place, between blanks
+abbrev pub place_text : ℕ → ℕ → List ℕ
+place_text thread place = codes " " ++ decimal thread ++ codes " " ++ decimal place ++ codes " "
+
+-- the line of a local denial: target, thread, place and call, and why
+abbrev pub denial_line : Script → LocalDenial → List ℕ
+denial_line script d =
+    codes "local " ++ target_name script d.target ++ place_text d.thread d.place ++ call_word d.tag ++ verdict_text d.verdict ++ codes "\n"
+
+-- the lines of local denials, one after another
+abbrev pub denial_lines : Script → List LocalDenial → List ℕ
+denial_lines script denied = flat_map (denial_line script) denied

@@ -1,0 +1,75 @@
+// The lines of local denials.
+ghost use Rattle.std.specs.Prelude.{◌≡◌, ◌++◌, IfOk, OnOk, codes};
+ghost use Rattle.std.specs.Fmt.{decimal};
+ghost use Rattle.std.specs.List.{flat_map};
+ghost use Rattle.sb_local.specs.Lines.{denial_line, denial_lines, place_text, target_name, verdict_text};
+
+use crate::denials::LocalDenial;
+use sb_call::call_word;
+use sb_items::NoMemory;
+use sb_rule::Verdict;
+use sb_statements::Script;
+use sb_wide::put_decimal;
+use std::alloc::Global;
+
+fn put_target(lines: &mut Vec<u8>, script: &Script, target: usize) -> Result<(), NoMemory>
+    ensures { OnOk result (lines.new.items ≡ lines.old.items ++ target_name script.now target) }
+{
+    if let Some(target) = script.targets.as_slice().get(target) {
+        lines.extend_from_slice(target.name.bytes())?;
+    }
+    Ok(())
+}
+
+fn put_verdict(lines: &mut Vec<u8>, verdict: Verdict) -> Result<(), NoMemory>
+    ensures { OnOk result (lines.new.items ≡ lines.old.items ++ verdict_text verdict) }
+{
+    match verdict {
+        Verdict::NoRule => Ok(lines.extend_from_slice(b" norule")?),
+        Verdict::Rule { line, .. } => {
+            lines.extend_from_slice(b" rule ")?;
+            put_decimal(lines, u64::from(line))
+        }
+    }
+}
+
+fn put_place(lines: &mut Vec<u8>, thread: u32, place: u32) -> Result<(), NoMemory>
+    ensures { OnOk result (lines.new.items ≡ lines.old.items ++ place_text thread place) }
+{
+    lines.push(b' ')?;
+    put_decimal(lines, u64::from(thread))?;
+    lines.push(b' ')?;
+    put_decimal(lines, u64::from(place))?;
+    lines.push(b' ')?;
+    Ok(())
+}
+
+fn put_denial(lines: &mut Vec<u8>, script: &Script, denial: &LocalDenial) -> Result<(), NoMemory>
+    ensures { OnOk result (lines.new.items ≡ lines.old.items ++ denial_line script.now denial.now) }
+{
+    lines.extend_from_slice(b"local ")?;
+    put_target(lines, script, denial.target as usize)?;
+    put_place(lines, denial.thread, denial.place)?;
+    lines.extend_from_slice(call_word(denial.tag))?;
+    put_verdict(lines, denial.verdict)?;
+    lines.push(b'\n')?;
+    Ok(())
+}
+
+/// The lines of local denials, in order, each with its LF. Only the names of the script's targets are used, which thinning keeps.
+///
+/// # Errors
+/// `NoMemory` if there was none for the lines.
+pub fn denial_lines(
+    alloc: Global,
+    script: &Script,
+    denied: &[LocalDenial],
+) -> Result<Vec<u8>, NoMemory>
+    ensures { IfOk result (λ lines. lines.items ≡ denial_lines script.now denied.now) }
+{
+    let mut lines = Vec::new(alloc);
+    for denial in denied {
+        put_denial(&mut lines, script, denial)?;
+    }
+    Ok(lines)
+}
