@@ -63,7 +63,7 @@ def measure_missing_parent(runs):
     """The seconds after which a script is refused whose first name has 4 MB and a parent that is missing."""
     with texts.folder_with(texts.single_policy([]), texts.single_target([['ping 0 ""']], [DEEP])) as folder:
         told = [programs.outcome_of_sandbox(folder, ["replay", "policy", "script"]) for _ in range(runs)]
-    if any(outcome != (4, "", "sandbox: script line 2 fault 14\n") for _, outcome in told):
+    if any(outcome[:2] != (4, "") or not outcome[2].startswith("sandbox: script line 2 fault 14") for _, outcome in told):
         programs.fail("a name of 4 MB whose parent is missing gave %r" % (told[0][1],))
     best = min(seconds for seconds, _ in told)
     print("replay: a name of 4 MB whose parent is missing, %.3f s" % best)

@@ -10,6 +10,7 @@ import resource
 import shutil
 import statistics
 import subprocess
+import sys
 import time
 
 import programs
@@ -47,9 +48,26 @@ def run_measured(folder, words, program=programs.SANDBOX, begin=None):
 
 
 def run(folder, words, program=programs.SANDBOX, begin=None):
-    """The same with the bytes of its peak of memory in place of all that it used."""
-    seconds, usage, status = run_measured(folder, words, program, begin)
-    return seconds, usage.ru_maxrss * 1024, status
+    """The same without what the system says."""
+    seconds, _, status = run_measured(folder, words, program, begin)
+    return seconds, status
+
+
+# Starts the program that its arguments name, with its output thrown away, and puts the peak of its memory in KiB.
+STARTER = """
+import os, sys
+nowhere = [(os.POSIX_SPAWN_OPEN, 1, os.devnull, os.O_WRONLY, 0)]
+child = os.posix_spawn(sys.argv[1], sys.argv[1:], os.environ, file_actions=nowhere)
+_, _, usage = os.wait4(child, 0)
+print(usage.ru_maxrss)
+"""
+
+
+def peak(folder, words):
+    """The bytes of the peak of memory of one more run of these words. A small program starts it, since what the system tells of a program
+    that has ended is at least the peak of the one from which it was started, and this one holds scripts and transcripts."""
+    told = subprocess.run([sys.executable, "-c", STARTER, programs.SANDBOX, *words], cwd=folder, check=True, capture_output=True, text=True)
+    return int(told.stdout) * 1024
 
 
 def run_words(workers):
@@ -57,15 +75,15 @@ def run_words(workers):
 
 
 def measured_runs(runs, folder, words, lines, last):
-    """The seconds of each run of these words, and the greatest peak of memory. Each transcript has `lines` lines, of which `last` is the last."""
+    """The seconds of each run of these words. Each transcript has `lines` lines, of which `last` is the last."""
     measured = []
     for _ in range(runs):
-        seconds, size, status = run(folder, words)
+        seconds, status = run(folder, words)
         if status != 0:
             programs.fail("sandbox %s ended with status %d" % (" ".join(words), status))
         stepping.check_lines(folder, lines, last)
-        measured.append((seconds, size))
-    return [seconds for seconds, _ in measured], max(size for _, size in measured)
+        measured.append(seconds)
+    return measured
 
 
 def check_bounds(name, best, size, most_seconds, most_bytes=None):
@@ -84,7 +102,7 @@ def measure_workers(runs):
     with texts.folder_with(texts.single_policy(["allow ping"]), stepping.pings(8, 1, 1000)) as folder:
         for _ in range(TURNS * runs):
             for workers in WORKERS:
-                measured[workers] += measured_runs(1, folder, run_words(workers), 2 * calls + 1, stepping.totals(calls, calls))[0]
+                measured[workers] += measured_runs(1, folder, run_words(workers), 2 * calls + 1, stepping.totals(calls, calls))
     best = {workers: min(seconds) for workers, seconds in measured.items()}
     for workers, seconds in measured.items():
         print("%d pings by %d workers: %d calls per second, %d by the median"
@@ -100,7 +118,8 @@ def measure_channels(runs):
     """As many calls as a script can have, over as many channels, by two workers."""
     calls = stepping.MOST_STATEMENTS
     with texts.folder_with(texts.single_policy(["allow ping"]), stepping.pings(8, 8, 4096)) as folder:
-        seconds, size = measured_runs(runs, folder, run_words(2), 2 * calls + 1, stepping.totals(calls, calls))
+        seconds = measured_runs(runs, folder, run_words(2), 2 * calls + 1, stepping.totals(calls, calls))
+        size = peak(folder, run_words(2))
     check_bounds("%d pings over 64 channels by 2 workers" % calls, min(seconds), size, 0.52)
 
 
@@ -111,7 +130,7 @@ def measure_made(runs):
     with texts.folder_with([], []) as folder:
         measured = []
         for _ in range(runs):
-            seconds, size, status = run(folder, ["make", "1", "8", "4096"])
+            seconds, status = run(folder, ["make", "1", "8", "4096"])
             with open(os.path.join(folder, "transcript")) as file:
                 lines = file.read().splitlines()
             if status != 0 or len(lines) != 2 or lines[0] != "made targets 8 threads 16 calls %d" % calls:
@@ -119,9 +138,9 @@ def measure_made(runs):
             if wanted not in (None, lines):
                 programs.fail("make 1 8 4096 put %r and %r" % (wanted, lines))
             wanted = lines
-            measured.append((seconds, size))
-    best, size = min(seconds for seconds, _ in measured), max(size for _, size in measured)
-    check_bounds("%d generated calls" % calls, best, size, 0.26, 70 * MIB)
+            measured.append(seconds)
+        size = peak(folder, ["make", "1", "8", "4096"])
+    check_bounds("%d generated calls" % calls, min(measured), size, 0.26, 70 * MIB)
 
 
 def measure_waiting(runs):
@@ -176,7 +195,7 @@ def try_refused_starts():
                 resource.setrlimit(resource.RLIMIT_NPROC, (most, most))
                 os.setuid(user)
 
-            _, _, status = run(folder, run_words(2), program, begin)
+            _, status = run(folder, run_words(2), program, begin)
             if status != 0:
                 programs.fail("a run of which %d threads could be started ended with status %d" % (started, status))
             stepping.check_lines(folder, 2 * calls + 1, stepping.totals(calls, calls))

@@ -3,11 +3,11 @@ ghost use Rattle.std.specs.Prelude.{OnOk};
 ghost use Rattle.sb_bench.specs.Answering.{CanAnswer};
 
 use crate::failures::Failure;
-use crate::inputs::{Inputs, statements_of};
+use crate::inputs::statements_of;
 use crate::outcomes::told_outcomes;
 use crate::steps::{Step, copy_of_call, steps};
 use sb_block::BlockCopy;
-use sb_book::{Book, decide};
+use sb_book::{Book, ReadyScript, decide};
 use sb_call::{Arg, CallTag};
 use sb_compile::Programs;
 use sb_items::NoMemory;
@@ -17,8 +17,8 @@ use std::alloc::Global;
 /// Answers this many copies by a new book: those of the first thread's calls, and of the first of them with one of four
 /// faults, in turn and again from the first. A close of handle 0, which is never granted, stands for one of the handle that
 /// was granted last.
-pub fn answers(alloc: Global, inputs: &Inputs, count: u64) -> Result<String, Failure> {
-    let steps = steps(alloc, statements_of(inputs.ready.script(), 0))?;
+pub fn answers(alloc: Global, inputs: &ReadyScript, count: u64) -> Result<String, Failure> {
+    let steps = steps(alloc, statements_of(inputs.script(), 0))?;
     let book = answered(alloc, inputs, &steps, count)?;
     told_outcomes(alloc, book.entries())
 }
@@ -26,18 +26,18 @@ pub fn answers(alloc: Global, inputs: &Inputs, count: u64) -> Result<String, Fai
 /// A new book after this many copies were answered.
 pub fn answered(
     alloc: Global,
-    inputs: &Inputs,
+    inputs: &ReadyScript,
     steps: &[Step],
     count: u64,
 ) -> Result<Book, Failure> {
-    let [target, ..] = inputs.ready.script().targets.as_slice() else {
+    let [target, ..] = inputs.script().targets.as_slice() else {
         return Err(Failure::BadInput);
     };
     if target.channels == 0 {
         return Err(Failure::BadInput);
     }
-    let judge = Programs::new(alloc, inputs.ready.policies(), inputs.ready.script())?;
-    let mut book = Book::new(alloc, &inputs.ready, inputs.ready.open(alloc)?);
+    let judge = Programs::new(alloc, inputs.policies(), inputs.script())?;
+    let mut book = Book::new(alloc, inputs.start(alloc)?);
     answer_steps(alloc, &judge, &mut book, steps, count)?;
     Ok(book)
 }

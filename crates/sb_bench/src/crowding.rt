@@ -1,9 +1,10 @@
 // A directory with 100,000 names: adding, finding and renaming each of them.
+ghost use Rattle.std.specs.Prelude.{◌≡◌, true};
+ghost use Rattle.sb_wide.specs.Names.{is_name_of};
 
 use crate::failures::Failure;
-use crate::naming::is_made;
 use sb_items::NoMemory;
-use sb_names::NameTree;
+use sb_names::{NameTree, Seek, is_below};
 use sb_wide::{Wide, is_name};
 use std::alloc::Global;
 
@@ -73,7 +74,7 @@ fn directory(alloc: Global) -> Result<NameTree, NoMemory> {
     let mut tree = NameTree::new(alloc);
     let name = [BACKSLASH, DIRECTORY];
     if is_name(&name) {
-        is_made(tree.add(&name, 1))?;
+        add(&mut tree, &name)?;
     }
     Ok(tree)
 }
@@ -103,7 +104,7 @@ fn add_all(tree: &mut NameTree, names: &[Wide]) -> Result<u64, NoMemory> {
     let mut added: u64 = 0;
     for name in names {
         let units = name.as_units();
-        if is_name(units) && is_made(tree.add(units, 1))? {
+        if is_name(units) && add(tree, units)? {
             added = added.saturating_add(1);
         }
     }
@@ -114,7 +115,7 @@ fn found_names(tree: &NameTree, names: &[Wide]) -> u64 {
     let mut found: u64 = 0;
     for name in names {
         let units = name.as_units();
-        if is_name(units) && tree.find(units).is_some() {
+        if is_name(units) && is_there(tree, units) {
             found = found.saturating_add(1);
         }
     }
@@ -125,9 +126,48 @@ fn rename_all(tree: &mut NameTree, old: &[Wide], new: &[Wide]) -> Result<u64, No
     let mut renamed: u64 = 0;
     for pair in old.iter().zip(new.iter()) {
         let (from, to) = (pair.0.as_units(), pair.1.as_units());
-        if is_name(from) && is_name(to) && is_made(tree.rename(from, to))? {
+        if is_name(from) && is_name(to) && rename(tree, from, to)? {
             renamed = renamed.saturating_add(1);
         }
     }
     Ok(renamed)
+}
+
+// Adds a name, if its directory is there and it is not.
+fn add(tree: &mut NameTree, name: &[u16]) -> Result<bool, NoMemory>
+    requires { is_name_of name.now ≡ true }
+{
+    let Seek::Absent { directory, .. } = tree.seek(name) else {
+        return Ok(false);
+    };
+    tree.add_at(directory, name, 1)?;
+    Ok(true)
+}
+
+// Whether a name is there.
+fn is_there(tree: &NameTree, name: &[u16]) -> bool
+    requires { is_name_of name.now ≡ true }
+{
+    match tree.seek(name) {
+        Seek::There { .. } => true,
+        _ => false,
+    }
+}
+
+// Renames a name, if it is there, and the new one is neither there nor below it, and has a directory.
+fn rename(tree: &mut NameTree, from: &[u16], to: &[u16]) -> Result<bool, NoMemory>
+    requires from { is_name_of from.now ≡ true }
+    requires to { is_name_of to.now ≡ true }
+{
+    let Seek::There { node, .. } = tree.seek(from) else {
+        return Ok(false);
+    };
+    if is_below(from, to) {
+        return Ok(false);
+    }
+    let Seek::Absent { directory, .. } = tree.seek(to) else {
+        return Ok(false);
+    };
+    tree.rename_at(node, directory, from, to)?;
+    Ok(true)
 }

@@ -2,20 +2,21 @@
 ghost use Rattle.std.specs.Prelude.{◌≤◌, length};
 
 use crate::failures::Failure;
-use crate::inputs::{Inputs, statements_of};
+use crate::inputs::statements_of;
 use sb_block::{BlockCopy, BlockRefused, Words, decode, encode, fault_of};
+use sb_book::ReadyScript;
 use sb_call::{Arg, CallTag, fits};
 use sb_items::NoMemory;
 use sb_statements::Statement;
 use std::alloc::Global;
 
-// The mark of the first call of a thread.
-const FIRST_MARK: u64 = 65536;
+/// The mark of the first call of a thread.
+pub const FIRST_MARK: u64 = 65536;
 
 /// Looks for the fault of each copy and decodes it, in these rounds. The copies are those of the blocks of the first
 /// thread's calls, of which every second one has one word changed, which makes it faulty.
-pub fn decodings(alloc: Global, inputs: &Inputs, rounds: u64) -> Result<String, Failure> {
-    let copies = copies_of(alloc, statements_of(inputs.ready.script(), 0))?;
+pub fn decodings(alloc: Global, inputs: &ReadyScript, rounds: u64) -> Result<String, Failure> {
+    let copies = copies_of(alloc, statements_of(inputs.script(), 0))?;
     let mut faultless: u64 = 0;
     let mut calls: u64 = 0;
     for _round in 0..rounds {

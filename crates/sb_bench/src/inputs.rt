@@ -14,19 +14,12 @@ use std::rt::Files;
 // As many bytes as the sandbox reads of a policy or a script.
 const MOST_BYTES: usize = 4_194_304;
 
-/// Policies and a script that is ready for them.
-#[derive(Drop)]
-pub struct Inputs {
-    /// Both of them.
-    pub ready: ReadyScript,
-}
-
-/// The policies and the script in the files of these names.
+/// The policies in a file of this name, and a script in another that is ready for them.
 pub fn read_inputs<R: Files + AllocGlobal>(
     rt: &R,
     policy: &str,
     script: &str,
-) -> Result<Inputs, Failure> {
+) -> Result<ReadyScript, Failure> {
     let Ok(policy) = fs::read(rt, policy) else {
         return Err(Failure::ReadFault);
     };
@@ -37,15 +30,13 @@ pub fn read_inputs<R: Files + AllocGlobal>(
 }
 
 // Policies and a script by their texts.
-fn inputs_by(alloc: Global, policy: &[u8], script: &[u8]) -> Result<Inputs, Failure> {
+fn inputs_by(alloc: Global, policy: &[u8], script: &[u8]) -> Result<ReadyScript, Failure> {
     if policy.len() > MOST_BYTES || script.len() > MOST_BYTES {
         return Err(Failure::BadInput);
     }
     let policies = read_policies(alloc, policy)?;
     let opened = read_script(alloc, script, policies)?;
-    Ok(Inputs {
-        ready: opened.into_parts().0,
-    })
+    Ok(opened.into_parts().0)
 }
 
 /// The statements of a thread of the first target, or none if it has no such thread.

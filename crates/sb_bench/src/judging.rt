@@ -3,7 +3,8 @@ ghost use Rattle.std.specs.Prelude.{◌≡◌, true};
 ghost use Rattle.sb_call.specs.Arguments.{fits};
 
 use crate::failures::Failure;
-use crate::inputs::{Inputs, statements_of};
+use crate::inputs::statements_of;
+use sb_book::ReadyScript;
 use sb_call::{Args, CallTag, fits};
 use sb_compile::{Program, compile};
 use sb_rule::{Action, Policy, Verdict, verdict_plain, well_made};
@@ -19,9 +20,13 @@ struct FitCall {
 }
 
 /// Judges the calls of the first thread by the program of the first policy, in these rounds.
-pub fn verdicts_by_code(alloc: Global, inputs: &Inputs, rounds: u64) -> Result<String, Failure> {
-    let calls = calls_of(alloc, statements_of(inputs.ready.script(), 0))?;
-    let [policy, ..] = inputs.ready.policies().policies().list.as_slice() else {
+pub fn verdicts_by_code(
+    alloc: Global,
+    inputs: &ReadyScript,
+    rounds: u64,
+) -> Result<String, Failure> {
+    let calls = calls_of(alloc, statements_of(inputs.script(), 0))?;
+    let [policy, ..] = inputs.policies().policies().list.as_slice() else {
         return Err(Failure::BadInput);
     };
     if !well_made(policy) {
@@ -36,9 +41,13 @@ pub fn verdicts_by_code(alloc: Global, inputs: &Inputs, rounds: u64) -> Result<S
 }
 
 /// Judges the calls of the first thread by the rules of the first policy, in these rounds.
-pub fn verdicts_by_rules(alloc: Global, inputs: &Inputs, rounds: u64) -> Result<String, Failure> {
-    let calls = calls_of(alloc, statements_of(inputs.ready.script(), 0))?;
-    let [policy, ..] = inputs.ready.policies().policies().list.as_slice() else {
+pub fn verdicts_by_rules(
+    alloc: Global,
+    inputs: &ReadyScript,
+    rounds: u64,
+) -> Result<String, Failure> {
+    let calls = calls_of(alloc, statements_of(inputs.script(), 0))?;
+    let [policy, ..] = inputs.policies().policies().list.as_slice() else {
         return Err(Failure::BadInput);
     };
     let mut allowed: u64 = 0;

@@ -10,7 +10,6 @@ mod holding;
 mod inputs;
 mod judging;
 mod matching;
-mod naming;
 mod opening;
 mod outcomes;
 mod steps;

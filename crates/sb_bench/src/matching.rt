@@ -1,16 +1,17 @@
 // Patterns matched with names.
 
 use crate::failures::Failure;
-use crate::inputs::{Inputs, names_of, statements_of};
+use crate::inputs::{names_of, statements_of};
+use sb_book::ReadyScript;
 use sb_items::NoMemory;
 use sb_pattern::Pattern;
 use sb_rule::{Policy, Rule, Test};
 use std::alloc::Global;
 
 /// Matches each pattern of the policies with the name of each call of the first thread, in these rounds.
-pub fn matches(alloc: Global, inputs: &Inputs, rounds: u64) -> Result<String, Failure> {
-    let patterns = patterns_of(alloc, inputs.ready.policies().policies().list.as_slice())?;
-    let names = names_of(alloc, statements_of(inputs.ready.script(), 0))?;
+pub fn matches(alloc: Global, inputs: &ReadyScript, rounds: u64) -> Result<String, Failure> {
+    let patterns = patterns_of(alloc, inputs.policies().policies().list.as_slice())?;
+    let names = names_of(alloc, statements_of(inputs.script(), 0))?;
     let mut matched: u64 = 0;
     for _round in 0..rounds {
         matched = matched.saturating_add(matched_pairs(&patterns, &names));

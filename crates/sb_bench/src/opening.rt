@@ -2,7 +2,7 @@
 
 use crate::failures::Failure;
 use bitflags::Flags;
-use sb_handles::{Access, ShareRefused, ShareTable, Sharing};
+use sb_handles::{Access, ShareTable, Sharing};
 use sb_items::NoMemory;
 use std::alloc::Global;
 
@@ -39,9 +39,10 @@ pub fn closed(alloc: Global, rounds: u64) -> Result<String, Failure> {
 
 // Opens the object under a handle, shared for all that others may do, and gives 1 if no other conflicts.
 fn open(shares: &mut ShareTable, handle: u64) -> Result<u64, NoMemory> {
-    match shares.try_open(1, handle, Access::from_bits_retain(READ), Sharing::ALL) {
-        Ok(()) => Ok(1),
-        Err(ShareRefused::Conflict { .. }) => Ok(0),
-        Err(ShareRefused::NoMemory) => Err(NoMemory),
+    let access = Access::from_bits_retain(READ);
+    if shares.check(1, access, Sharing::ALL).is_some() {
+        return Ok(0);
     }
+    shares.open(1, handle, access, Sharing::ALL)?;
+    Ok(1)
 }

@@ -1,14 +1,11 @@
 // What a book is to answer.
 
-use crate::decoding::{block_of, changed_copy, copy_of};
+use crate::decoding::{FIRST_MARK, block_of, changed_copy, copy_of};
 use crate::failures::Failure;
 use sb_block::BlockCopy;
 use sb_call::{Arg, CallTag};
 use sb_statements::Statement;
 use std::alloc::Global;
-
-// The mark of the first call of a thread.
-const FIRST_MARK: u64 = 65536;
 
 // The changes that make the block of a ping faulty, each by the place of a word and its value: the tag, the count, the
 // type of the first parameter, the end.

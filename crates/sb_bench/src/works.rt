@@ -1,8 +1,8 @@
 // The works by their words.
 
 use crate::failures::Failure;
-use crate::inputs::Inputs;
-use crate::{answering, crowding, decoding, holding, judging, matching, naming, opening, writing};
+use crate::{answering, crowding, decoding, holding, judging, matching, opening, writing};
+use sb_book::ReadyScript;
 use std::alloc::Global;
 
 /// Does a work that needs no policy and no script, in these rounds, and says what came of it.
@@ -21,18 +21,19 @@ pub fn work_alone(alloc: Global, work: &str, rounds: u64) -> Result<String, Fail
 }
 
 /// Does a work on a policy and a script, in these rounds, and says what came of it. A round of `book` is one answer.
-pub fn work_on(alloc: Global, work: &str, rounds: u64, inputs: &Inputs) -> Result<String, Failure> {
+pub fn work_on(
+    alloc: Global,
+    work: &str,
+    rounds: u64,
+    inputs: &ReadyScript,
+) -> Result<String, Failure> {
     match work {
         "pattern" => matching::matches(alloc, inputs, rounds),
         "decode" => decoding::decodings(alloc, inputs, rounds),
         "judge" => judging::verdicts_by_code(alloc, inputs, rounds),
         "judge-plain" => judging::verdicts_by_rules(alloc, inputs, rounds),
-        "names-add" => naming::adds(alloc, inputs, rounds),
-        "names-find" => naming::finds(alloc, inputs, rounds),
-        "names-rename" => naming::renames(alloc, inputs, rounds),
         "book" => answering::answers(alloc, inputs, rounds),
         "transcript" => writing::transcripts(alloc, inputs, rounds),
-        "transcript-apart" => writing::transcripts_apart(alloc, inputs, rounds),
         _ => Err(Failure::Usage),
     }
 }

@@ -1,16 +1,16 @@
-// The transcript of a report of 4,096 calls, made and put into memory: in one buffer, and with a list for each line.
+// The transcript of a report of 4,096 calls, made and put into memory.
 ghost use Rattle.std.specs.Prelude.{◌<◌, ◌^◌, length, IfOk};
 ghost use Rattle.sb_book.specs.Reports.{result_count};
 
 use crate::answering::answered;
 use crate::failures::Failure;
-use crate::inputs::{Inputs, statements_of};
+use crate::inputs::statements_of;
 use crate::steps::steps;
-use sb_book::{AllWords, EntrySlice, Report, Results, TargetResults, ThreadResults};
+use sb_book::{AllWords, EntrySlice, ReadyScript, Report, Results, TargetResults, ThreadResults};
 use sb_items::NoMemory;
-use sb_outside::{Bytes, MemSink, put_lines};
+use sb_outside::MemSink;
 use sb_statements::{CallResult, Script, StmtResult};
-use sb_transcript::{entry_line, result_line, totals, transcript_lines};
+use sb_transcript::transcript_lines;
 use std::alloc::Global;
 
 // How many calls the report has.
@@ -18,30 +18,20 @@ const CALLS: u64 = 4096;
 
 /// Answers the calls by a new book, and then makes and puts the transcript of its report, in these rounds. It says how many lines
 /// the last round put.
-pub fn transcripts(alloc: Global, inputs: &Inputs, rounds: u64) -> Result<String, Failure> {
+pub fn transcripts(alloc: Global, inputs: &ReadyScript, rounds: u64) -> Result<String, Failure> {
     let report = report_of_calls(alloc, inputs)?;
     let mut lines = 0;
     for _round in 0..rounds {
-        lines = put_once(alloc, inputs.ready.script(), &report)?;
-    }
-    Ok(format!(in alloc; "lines {lines}")?)
-}
-
-/// The same with a list of its own for each line.
-pub fn transcripts_apart(alloc: Global, inputs: &Inputs, rounds: u64) -> Result<String, Failure> {
-    let report = report_of_calls(alloc, inputs)?;
-    let mut lines = 0;
-    for _round in 0..rounds {
-        lines = put_apart(alloc, inputs.ready.script(), &report)?;
+        lines = put_once(alloc, inputs.script(), &report)?;
     }
     Ok(format!(in alloc; "lines {lines}")?)
 }
 
 // The report of a thread whose calls a new book answered.
-fn report_of_calls(alloc: Global, inputs: &Inputs) -> Result<Report, Failure>
+fn report_of_calls(alloc: Global, inputs: &ReadyScript) -> Result<Report, Failure>
     ensures { IfOk result (λ report. result_count report.results < 2 ^ 62) }
 {
-    let steps = steps(alloc, statements_of(inputs.ready.script(), 0))?;
+    let steps = steps(alloc, statements_of(inputs.script(), 0))?;
     let book = answered(alloc, inputs, &steps, CALLS)?;
     let (entries, kernel) = book.into_parts();
     let results = results_of(alloc, entries.as_slice())?;
@@ -100,81 +90,4 @@ fn put_once(alloc: Global, script: &Script, report: &Report) -> Result<usize, Fa
 
 fn line_count(bytes: &[u8]) -> usize {
     bytes.iter().filter(|byte| **byte == b'\n').count()
-}
-
-// Makes each line of the transcript apart, and puts them into memory. It gives the number of lines.
-fn put_apart(alloc: Global, script: &Script, report: &Report) -> Result<usize, Failure>
-    requires { result_count report.now.results < 2 ^ 62 }
-{
-    let mut lines = Vec::new(alloc);
-    push_entries(alloc, script, report.entries.as_slice(), &mut lines)?;
-    push_results(alloc, script, report.results.as_slice(), &mut lines)?;
-    lines.push(Bytes::new(totals(alloc, report)?))?;
-    let mut sink = MemSink::with_room(alloc, room_of(&lines), Vec::new(alloc))?;
-    match put_lines(&mut sink, &lines) {
-        Ok(()) => Ok(line_count(sink.written())),
-        Err(_) => Err(Failure::WriteFault),
-    }
-}
-
-fn push_entries(
-    alloc: Global,
-    script: &Script,
-    entries: EntrySlice<'_>,
-    lines: &mut Vec<Bytes>,
-) -> Result<(), NoMemory> {
-    for place in 0..entries.len() {
-        if let Some(entry) = entries.get(place) {
-            let line = entry_line(alloc, script, place as u64, &entry)?;
-            lines.push(Bytes::new(line))?;
-        }
-    }
-    Ok(())
-}
-
-fn push_results(
-    alloc: Global,
-    script: &Script,
-    targets: &[TargetResults],
-    lines: &mut Vec<Bytes>,
-) -> Result<(), NoMemory> {
-    for threads in targets {
-        push_target(alloc, script, threads.as_slice(), lines)?;
-    }
-    Ok(())
-}
-
-fn push_target(
-    alloc: Global,
-    script: &Script,
-    threads: &[ThreadResults],
-    lines: &mut Vec<Bytes>,
-) -> Result<(), NoMemory> {
-    for results in threads {
-        push_thread(alloc, script, results.as_slice(), lines)?;
-    }
-    Ok(())
-}
-
-fn push_thread(
-    alloc: Global,
-    script: &Script,
-    results: &[StmtResult],
-    lines: &mut Vec<Bytes>,
-) -> Result<(), NoMemory> {
-    let mut place = 0u32;
-    for result_ in results {
-        let line = result_line(alloc, script, 0, 0, place, result_)?;
-        lines.push(Bytes::new(line))?;
-        place = place.saturating_add(1);
-    }
-    Ok(())
-}
-
-fn room_of(lines: &[Bytes]) -> u64 {
-    let mut room = 0u64;
-    for line in lines {
-        room = room.saturating_add(line.as_slice().len() as u64);
-    }
-    room
 }

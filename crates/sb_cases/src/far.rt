@@ -2,7 +2,7 @@
 
 use crate::faults::RowFault;
 use crate::pages::Page;
-use sb_ruletext::{PolicyFault, PolicyFaultKind};
+use sb_ruletext::{PolicyFault, PolicyFaultKind, PolicyLimit};
 use sb_scheduletext::{ScheduleFault, ScheduleKind};
 use sb_scripttext::{ScriptFault, ScriptKind};
 use sb_top::{Complaint, Status, exit_code};
@@ -14,14 +14,17 @@ pub fn put_far(alloc: Global, row: &str, page: &mut Page) -> Result<(), RowFault
     let status = match row {
         "far policy" => Status::PolicyRefused(PolicyFault {
             line: u32::MAX,
-            kind: PolicyFaultKind::TooMany,
+            column: u32::MAX,
+            kind: PolicyFaultKind::TooMany(PolicyLimit::Rules),
         }),
         "far script" => Status::ScriptRefused(ScriptFault {
             line: u32::MAX,
+            column: u32::MAX,
             kind: ScriptKind::BadStart,
         }),
         "far schedule" => Status::ScheduleRefused(ScheduleFault {
             line: u32::MAX,
+            column: 0,
             kind: ScheduleKind::NoRounds,
         }),
         "far unfinished" => Status::Unfinished {

@@ -1,45 +1,24 @@
 // Table tests of files and outputs in memory.
 
-use crate::bytes::{put_shown, shown};
+use crate::bytes::put_shown;
 use sb_outside::{
     Bytes, FileFault, FileList, Files, MemFiles, MemSink, Numbers, Sink, SinkFault, StoredFile,
     Text, put_lines, put_text,
 };
-use sb_rows::{RowFault, bytes, debug_text, display_text, number, numbers, put_between};
+use sb_rows::{RowFault, bytes, display_text, number, numbers, put_between};
 use std::alloc::Global;
 
 /// What a function of files and outputs gives.
 pub fn value_of(alloc: Global, name: &str, parts: &[&str]) -> Result<String, RowFault> {
     match parts {
-        [list] => value_of_one(alloc, name, list),
         [first, second] => value_of_two(alloc, name, first, second),
         [first, second, third] => value_of_three(alloc, name, (first, second, third)),
         _ => Err(RowFault::Unknown),
     }
 }
 
-fn value_of_one(alloc: Global, name: &str, list: &str) -> Result<String, RowFault> {
-    match name {
-        "FileList::into_items" => listed(alloc, list),
-        "Bytes::len" => debug_text(alloc, &byte_list(alloc, list)?.len()),
-        "Bytes::into_items" => shown(alloc, &byte_list(alloc, list)?.into_items()),
-        "Text::into_string" => Ok(owned(alloc, list)?.into_string()),
-        "Numbers::into_items" => debug_text(
-            alloc,
-            &Numbers::new(numbers(alloc, list)?).into_items(),
-        ),
-        _ => Err(RowFault::Unknown),
-    }
-}
-
 fn value_of_two(alloc: Global, name: &str, first: &str, second: &str) -> Result<String, RowFault> {
     match name {
-        "FileList::find" => found(alloc, first, second),
-        "Numbers::contains" => {
-            let item = number(second)?;
-            let list = Numbers::new(numbers(alloc, first)?);
-            debug_text(alloc, &list.contains(&item))
-        }
         "message" => message(alloc, first, second),
         _ => Err(RowFault::Unknown),
     }
@@ -133,35 +112,6 @@ pub fn put_content(out: &mut String, content: Result<Vec<u8>, FileFault>) -> Res
         Err(fault) => write!(out, "{fault:?}")?,
     }
     Ok(out.push_str("; ")?)
-}
-
-// The content of the first file of a name.
-fn found(alloc: Global, files: &str, name: &str) -> Result<String, RowFault> {
-    let files = file_list(alloc, files)?;
-    match files
-        .as_slice()
-        .iter()
-        .find(|file| file.name.as_str() == name)
-    {
-        Some(file) => shown(alloc, &file.content),
-        None => Ok(String::from_str(alloc, "None")?),
-    }
-}
-
-fn listed(alloc: Global, files: &str) -> Result<String, RowFault> {
-    let files = file_list(alloc, files)?.into_items();
-    let mut out = String::new(alloc);
-    for file in &files {
-        put_file(&mut out, file)?;
-    }
-    Ok(out)
-}
-
-fn put_file(out: &mut String, file: &StoredFile) -> Result<(), RowFault> {
-    put_between(out, "; ")?;
-    out.push_str(file.name.as_str())?;
-    out.push(' ')?;
-    put_shown(out, &file.content)
 }
 
 // The outcome of each put, or of a finish if its text is `finish`, and all that was written so far.

@@ -2,8 +2,7 @@
 
 use crate::readers_rules::{policies, policy};
 use sb_call::{Arg, CallTag, fits};
-use sb_row_values::action;
-use sb_rows::{RowFault, call, debug_text, put_word, small};
+use sb_rows::{RowFault, call, debug_text, small};
 use sb_rule::{Judge, PlainJudge, all_well_made, verdict_plain, well_made};
 use std::alloc::Global;
 
@@ -11,10 +10,6 @@ use std::alloc::Global;
 pub fn value_of(alloc: Global, name: &str, parts: &[&str]) -> Result<String, RowFault> {
     match name {
         "all_well_made" => debug_text(alloc, &all_well_made(&policies(alloc, parts)?)),
-        "PlainJudge::new" => {
-            let judge = PlainJudge::new(policies(alloc, parts)?.list.clone()?);
-            debug_text(alloc, &judge.is_some())
-        }
         "PlainJudge::judge" => judged(alloc, parts),
         _ => match parts {
             [text] => value_of_one(alloc, name, text),
@@ -26,7 +21,6 @@ pub fn value_of(alloc: Global, name: &str, parts: &[&str]) -> Result<String, Row
 
 fn value_of_one(alloc: Global, name: &str, text: &str) -> Result<String, RowFault> {
     match name {
-        "Action::word" => action_word(alloc, text),
         "well_made" => debug_text(alloc, &well_made(&policy(alloc, text)?)),
         _ => Err(RowFault::Unknown),
     }
@@ -41,12 +35,6 @@ fn value_of_two(alloc: Global, name: &str, first: &str, second: &str) -> Result<
         }
         _ => Err(RowFault::Unknown),
     }
-}
-
-fn action_word(alloc: Global, word: &str) -> Result<String, RowFault> {
-    let mut out = String::new(alloc);
-    put_word(&mut out, action(word)?.word())?;
-    Ok(out)
 }
 
 fn judged(alloc: Global, parts: &[&str]) -> Result<String, RowFault> {

@@ -19,9 +19,9 @@ fn value_of_one(alloc: Global, name: &str, text: &str) -> Result<String, RowFaul
         "to_ascii_uppercase" => debug_text(alloc, &to_ascii_uppercase(unit(text)?)),
         "is_component" => debug_text(alloc, &is_component(wide(alloc, text)?.as_units())),
         "is_name" => debug_text(alloc, &is_name(wide(alloc, text)?.as_units())),
-        "Wide::len" => debug_text(alloc, &wide(alloc, text)?.len()),
         "message" if text == "NoMemory" => display_text(alloc, &NoMemory),
-        _ => listed(alloc, name, text),
+        "Wide::from_str" => units_of(alloc, text),
+        _ => Err(RowFault::Unknown),
     }
 }
 
@@ -45,19 +45,10 @@ fn quoted(alloc: Global, before: &str, text: &str) -> Result<String, RowFault> {
     String::from_utf8(out).map_err(|_| RowFault::BadText)
 }
 
-// The units of a wide string that is made of a text or of units.
-fn listed(alloc: Global, name: &str, text: &str) -> Result<String, RowFault> {
-    let units = made(alloc, name, text)?;
+// The units of a wide string that is made of a text.
+fn units_of(alloc: Global, text: &str) -> Result<String, RowFault> {
+    let units = Wide::from_str(alloc, text)?;
     let mut out = String::new(alloc);
     put_units(&mut out, units.as_units())?;
     Ok(out)
-}
-
-fn made(alloc: Global, name: &str, text: &str) -> Result<Wide, RowFault> {
-    match name {
-        "Wide::from_str" => Ok(Wide::from_str(alloc, text)?),
-        "Wide::from_units" => Ok(Wide::from_units(alloc, wide(alloc, text)?.as_units())?),
-        "Wide::new" => Ok(Wide::new(wide(alloc, text)?.into_units())),
-        _ => Err(RowFault::Unknown),
-    }
 }

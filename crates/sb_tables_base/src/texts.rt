@@ -8,11 +8,14 @@ use sb_text::{
 };
 use std::alloc::Global;
 
+// More bytes than a row has.
+const MOST_BYTES: usize = 1_000_000;
+
 /// What a function of texts gives.
 pub fn value_of(alloc: Global, name: &str, parts: &[&str]) -> Result<String, RowFault> {
     match parts {
         [whole] => value_of_one(alloc, name, whole),
-        ["NotUtf8", line] => message(alloc, name, line),
+        ["NotUtf8", line, column] => message(alloc, name, line, column),
         _ => Err(RowFault::Unknown),
     }
 }
@@ -24,11 +27,11 @@ fn value_of_one(alloc: Global, name: &str, whole: &str) -> Result<String, RowFau
     }
 }
 
-fn message(alloc: Global, name: &str, line: &str) -> Result<String, RowFault> {
+fn message(alloc: Global, name: &str, line: &str, column: &str) -> Result<String, RowFault> {
     match name {
         "message" => {
-            let line = small(line)?;
-            display_text(alloc, &NotUtf8 { line })
+            let (line, column) = (small(line)?, small(column)?);
+            display_text(alloc, &NotUtf8 { line, column })
         }
         _ => Err(RowFault::Unknown),
     }
@@ -85,7 +88,7 @@ fn ended(mut out: String, has_more: bool) -> Result<String, RowFault> {
 }
 
 fn lines(alloc: Global, whole: &str) -> Result<String, RowFault> {
-    if whole.len() as u64 >= 1 << 32 {
+    if whole.len() > MOST_BYTES {
         return Err(RowFault::NotInRange);
     }
     let mut out = String::new(alloc);
@@ -106,7 +109,7 @@ fn put_line(out: &mut String, number: u32, line: &[u8]) -> Result<(), RowFault> 
 }
 
 fn byte_lines(alloc: Global, whole: &[u8]) -> Result<String, RowFault> {
-    if whole.len() as u64 >= 1 << 32 {
+    if whole.len() > MOST_BYTES {
         return Err(RowFault::NotInRange);
     }
     let mut out = String::new(alloc);
@@ -122,7 +125,7 @@ fn byte_lines(alloc: Global, whole: &[u8]) -> Result<String, RowFault> {
 
 // A line without LF is marked `open`.
 fn raw_lines(alloc: Global, whole: &[u8]) -> Result<String, RowFault> {
-    if whole.len() as u64 >= 1 << 32 {
+    if whole.len() > MOST_BYTES {
         return Err(RowFault::NotInRange);
     }
     let mut out = String::new(alloc);
@@ -140,7 +143,7 @@ fn raw_lines(alloc: Global, whole: &[u8]) -> Result<String, RowFault> {
 }
 
 fn count(alloc: Global, whole: &[u8]) -> Result<String, RowFault> {
-    if whole.len() as u64 >= 1 << 32 {
+    if whole.len() > MOST_BYTES {
         return Err(RowFault::NotInRange);
     }
     debug_text(alloc, &line_count(whole))
@@ -177,7 +180,7 @@ fn put_token(out: &mut String, token: Token) -> Result<(), RowFault> {
 
 // The tokens of the first line that is not a blank or comment line.
 fn first_tokens(alloc: Global, whole: &str) -> Result<String, RowFault> {
-    if whole.len() as u64 >= 1 << 32 {
+    if whole.len() > MOST_BYTES {
         return Err(RowFault::NotInRange);
     }
     match Lines::new(whole).next_line() {
@@ -200,7 +203,7 @@ fn words(alloc: Global, mut words: Words) -> Result<String, RowFault> {
 
 // The words of the first line that is not a blank or comment line.
 fn first_words(alloc: Global, whole: &[u8]) -> Result<String, RowFault> {
-    if whole.len() as u64 >= 1 << 32 {
+    if whole.len() > MOST_BYTES {
         return Err(RowFault::NotInRange);
     }
     match ByteLines::new(whole).next_line() {
@@ -210,7 +213,7 @@ fn first_words(alloc: Global, whole: &[u8]) -> Result<String, RowFault> {
 }
 
 fn text_or_line(alloc: Global, whole: &[u8]) -> Result<String, RowFault> {
-    if whole.len() as u64 >= 1 << 32 {
+    if whole.len() > MOST_BYTES {
         return Err(RowFault::NotInRange);
     }
     match text_of(whole) {

@@ -1,10 +1,9 @@
-// Table tests of calls, their arguments, answers, scripts and schedules.
+// Table tests of calls, their arguments and scripts.
 
 use crate::readers_scripts::script;
 use sb_call::{
-    Answer, CallTag, ShortName, call_word, every_tag, fits, number_of, shape, tag_of, tag_of_word,
+    CallTag, ShortName, call_word, every_tag, fits, number_of, shape, tag_of, tag_of_word,
 };
-use sb_row_values::{small_status, told_answer};
 use sb_rows::{RowFault, call, debug_text, number, put_word, small, tag};
 use sb_statements::clean;
 use std::alloc::Global;
@@ -14,7 +13,6 @@ pub fn value_of(alloc: Global, name: &str, parts: &[&str]) -> Result<String, Row
     match parts {
         [text] => told_one(alloc, name, text),
         [a, b, c] => told_three(alloc, name, (a, b, c)),
-        [status, handle, first, second] => answered(alloc, name, (status, handle), (first, second)),
         _ => Err(RowFault::Unknown),
     }
 }
@@ -32,13 +30,11 @@ fn told_one(alloc: Global, name: &str, text: &str) -> Result<String, RowFault> {
             debug_text(alloc, &fits(tag, &args))
         }
         "ShortName::new" => named(alloc, ShortName::new(text.as_bytes())),
-        "StartLines::len" => debug_text(alloc, &script(alloc, text)?.start.len()),
         "status" => {
             let status = status_of(text)?;
             Ok(format!(in alloc; "{status:08x}")?)
         }
         "every_tag" if text.is_empty() => debug_text(alloc, &every_tag()),
-        "Answer::refusal" => told_answer(alloc, &Answer::refusal(small_status(text)?)),
         _ => Err(RowFault::Unknown),
     }
 }
@@ -53,29 +49,8 @@ fn told_three(alloc: Global, name: &str, parts: (&str, &str, &str)) -> Result<St
     let (first, second, third) = parts;
     match name {
         "clean" => is_clean(alloc, first, second, third),
-        "Answer::with_word" => with_word(alloc, first, second, number(third)?),
         _ => Err(RowFault::Unknown),
     }
-}
-
-// Table tests of answers with two words.
-fn answered(
-    alloc: Global,
-    name: &str,
-    answer: (&str, &str),
-    words: (&str, &str),
-) -> Result<String, RowFault> {
-    if name != "Answer::with_words" {
-        return Err(RowFault::Unknown);
-    }
-    let (status, handle) = (small_status(answer.0)?, number(answer.1)?);
-    let (first, second) = (number(words.0)?, number(words.1)?);
-    told_answer(alloc, &Answer::with_words(status, handle, first, second))
-}
-
-fn with_word(alloc: Global, status: &str, handle: &str, word: u64) -> Result<String, RowFault> {
-    let (status, handle) = (small_status(status)?, number(handle)?);
-    told_answer(alloc, &Answer::with_word(status, handle, word))
 }
 
 // The status code of this name.

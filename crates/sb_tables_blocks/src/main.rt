@@ -3,7 +3,6 @@
 // holds the same rows with the values that are right.
 #![tactic(auto)]
 
-mod arena;
 mod blocks;
 mod calls;
 mod readers_blocks;

@@ -1,6 +1,6 @@
 // The value of a row.
 
-use crate::{arena, blocks, calls};
+use crate::{blocks, calls};
 use sb_rows::{RowFault, arguments};
 use std::alloc::Global;
 
@@ -14,11 +14,7 @@ pub fn value_of(alloc: Global, row: &str) -> Result<String, RowFault> {
 
 fn known_value(alloc: Global, name: &str, parts: &[&str]) -> Result<String, RowFault> {
     match calls::value_of(alloc, name, parts) {
-        Err(RowFault::Unknown) => {}
-        value => return value,
-    }
-    match blocks::value_of(alloc, name, parts) {
-        Err(RowFault::Unknown) => arena::value_of(alloc, name, parts),
+        Err(RowFault::Unknown) => blocks::value_of(alloc, name, parts),
         value => value,
     }
 }

@@ -5,7 +5,7 @@ ghost use Rattle.sb_book.specs.Histories.{setting_of};
 use crate::namespace::put_line;
 use crate::readers_namespace::{Called, call, plain, told_line};
 use sb_block::{BlockCopy, Words, encode};
-use sb_book::{Book, OpenedScript, ReadyScript, decide};
+use sb_book::{Book, OpenedScript, ReadyScript, RunStart, decide};
 use sb_call::{ShortName, fits};
 use sb_items::NoMemory;
 use sb_row_values::{action, bare_target};
@@ -178,7 +178,7 @@ impl Answering {
             return Ok(None);
         };
         let (ready, kernel) = opened.into_parts();
-        let book = Book::new(alloc, &ready, kernel);
+        let book = Book::new(alloc, RunStart::of(&ready, kernel));
         Ok(Some(Answering { judge, ready, book }))
     }
 

@@ -7,7 +7,7 @@ use crate::namespace::start_lines;
 use crate::readers_namespace::{Called, call, plain};
 use crate::shares::lookup;
 use bitflags::Flags;
-use sb_call::{Answer, Arg, CallTag};
+use sb_call::{Answer, Arg, CallTag, INVALID_PARAMETER};
 use sb_event::{EventKind, EventService};
 use sb_file::{FileRequest, FileService};
 use sb_handles::{Access, HandleTable, Sharing};
@@ -236,12 +236,11 @@ impl Files {
         if !is_name(name.as_units()) || self.service.made() > MANY {
             return Err(RowFault::NotInRange);
         }
-        let request = FileRequest {
-            attributes: *attributes,
-            access: access_of(*access)?,
-            sharing: Sharing::from_bits_retain(small_of(*sharing)?),
-            disposition: *disposition,
-            options: *options,
+        let access = access_of(*access)?;
+        let sharing = Sharing::from_bits_retain(small_of(*sharing)?);
+        let request = FileRequest::to_create(*attributes, access, sharing, *disposition, *options);
+        let Some(request) = request else {
+            return Ok(Answer::refusal(INVALID_PARAMETER));
         };
         let handles = &mut self.handles;
         Ok(
@@ -320,10 +319,7 @@ impl Events {
         if !is_name(name) || self.service.made() > MANY {
             return Err(RowFault::NotInRange);
         }
-        Ok(
-            self.service
-                .start(name, EventKind::from_number(kind), initial != 0)?,
-        )
+        Ok(self.service.start(name, EventKind::of(kind), initial != 0)?)
     }
 
     fn create(&mut self, target: u32, args: &[Arg]) -> Result<Answer, RowFault> {
@@ -333,7 +329,7 @@ impl Events {
         if !is_name(name.as_units()) || self.service.made() > MANY {
             return Err(RowFault::NotInRange);
         }
-        let kind = EventKind::from_number(*kind);
+        let kind = EventKind::of(*kind);
         let handles = &mut self.handles;
         Ok(
             self.service

@@ -1,6 +1,6 @@
 // Table tests of sharing: which accesses share an object. Each row continues from the one before.
 
-use crate::readers_namespace::{plain, refusal};
+use crate::readers_namespace::plain;
 use bitflags::Flags;
 use sb_handles::{Access, HandleTable, Held, Service, ShareTable, Sharing};
 use sb_rows::{RowFault, debug_text, number, small, words_in};
@@ -112,13 +112,14 @@ fn opened(
     asked: (&str, &str),
 ) -> Result<String, RowFault> {
     match name {
-        "shares.try_open" => {
+        "shares.open" => {
             let (access, sharing) = masks(asked.0, asked.1)?;
             let (object, handle) = (number(place.0)?, number(place.1)?);
-            match shares.try_open(object, handle, access, sharing) {
-                Ok(()) => plain(alloc, "done"),
-                Err(refused) => refusal(alloc, refused),
+            if let Some(other) = shares.check(object, access, sharing) {
+                return Ok(format!(in alloc; "refused: conflict with handle {other}")?);
             }
+            shares.open(object, handle, access, sharing)?;
+            plain(alloc, "done")
         }
         _ => Err(RowFault::Unknown),
     }
@@ -139,10 +140,8 @@ fn are_in_conflict(
     new: (Access, Sharing),
 ) -> Result<String, RowFault> {
     let mut shares = ShareTable::new(alloc);
-    match shares.try_open(1, 5, held.0, held.1) {
-        Ok(()) => debug_text(alloc, &shares.check(1, new.0, new.1).is_some()),
-        Err(refused) => refusal(alloc, refused),
-    }
+    shares.open(1, 5, held.0, held.1)?;
+    debug_text(alloc, &shares.check(1, new.0, new.1).is_some())
 }
 
 fn access_and_sharing(alloc: Global, text: &str) -> Result<(Access, Sharing), RowFault> {

@@ -66,7 +66,7 @@ impl Answering {
             return Err(RowFault::BadPolicy);
         };
         let channels = channels_of(alloc, targets)?;
-        let book = Book::new(alloc, &inputs.ready, inputs.ready.open(alloc)?);
+        let book = Book::new(alloc, inputs.ready.start(alloc)?);
         Ok(Answering {
             judge,
             channels,

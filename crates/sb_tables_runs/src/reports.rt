@@ -29,15 +29,7 @@ pub fn report_by_threads<R: Threads + Wait + Sync, G: Gate>(
         return Err(RowFault::NotInRange);
     }
     let judge = Programs::new(alloc, inputs.ready.policies(), inputs.ready.script())?;
-    match run_threads(
-        rt,
-        alloc,
-        &judge,
-        &inputs.ready,
-        inputs.ready.open(alloc)?,
-        workers,
-        gate,
-    ) {
+    match run_threads(rt, alloc, &judge, inputs.ready.start(alloc)?, workers, gate) {
         Ok(report) => Ok(report),
         Err(_) => Err(RowFault::NoMemory),
     }
@@ -50,13 +42,7 @@ pub fn report_by_rounds(alloc: Global, inputs: &Inputs) -> Result<Report, RowFau
         steps: Steps::new(Vec::new(alloc)),
         rounds: MOST_ROUNDS,
     };
-    match run(
-        alloc,
-        &judge,
-        &inputs.ready,
-        inputs.ready.open(alloc)?,
-        &schedule,
-    ) {
+    match run(alloc, &judge, inputs.ready.start(alloc)?, &schedule) {
         Ok(
             Ran {
                 report,

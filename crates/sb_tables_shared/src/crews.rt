@@ -212,13 +212,7 @@ fn by_rounds(alloc: Global, inputs: &Inputs) -> Result<Report, RowFault> {
         steps: Steps::empty(alloc),
         rounds: MOST_ROUNDS,
     };
-    let ran = run(
-        alloc,
-        &judge,
-        &inputs.ready,
-        inputs.ready.open(alloc)?,
-        &schedule,
-    )?;
+    let ran = run(alloc, &judge, inputs.ready.start(alloc)?, &schedule)?;
     Ok(ran.report)
 }
 

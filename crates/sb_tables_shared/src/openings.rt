@@ -20,7 +20,7 @@ pub fn open(alloc: Global, inputs: &Inputs) -> Result<(SharedWorld, Keeper, Play
         keeper,
         workers,
         threads,
-    } = SharedWorld::open(alloc, &inputs.ready, inputs.ready.open(alloc)?)?;
+    } = SharedWorld::open(alloc, inputs.ready.start(alloc)?)?;
     Ok((world, keeper, Players { workers, threads }))
 }
 

@@ -62,13 +62,7 @@ fn played(
 pub fn told_steps(alloc: Global, inputs: &Inputs, steps: &str) -> Result<String, RowFault> {
     let schedule = schedule_of(alloc, steps, inputs.ready.script())?;
     let judge = Programs::new(alloc, inputs.ready.policies(), inputs.ready.script())?;
-    let core = run(
-        alloc,
-        &judge,
-        &inputs.ready,
-        inputs.ready.open(alloc)?,
-        &schedule,
-    )?;
+    let core = run(alloc, &judge, inputs.ready.start(alloc)?, &schedule)?;
     let core = shown(alloc, inputs.ready.script(), &core.report)?;
     let Some(left) = played(alloc, inputs, schedule.steps.as_slice())? else {
         return Ok(String::from_str(alloc, "a worker has the turn")?);

@@ -5,9 +5,10 @@ use crate::policies::faultless_policies;
 use crate::row_texts::{text_of, told_lines};
 use sb_call::{Arg, CallTag, fits};
 use sb_compile::{Program, Programs, compile};
+use sb_index::{Index, RuleSet};
 use sb_row_values::bare_target;
 use sb_rows::{RowFault, call, small, tag};
-use sb_rule::{Judge, Policy, Verdict, WellMadePolicies, verdict_plain, well_made};
+use sb_rule::{Judge, MOST_RULES, Policy, Verdict, WellMadePolicies, verdict_plain, well_made};
 use sb_statements::{Script, StartLines, Targets};
 use std::alloc::Global;
 
@@ -27,6 +28,7 @@ fn value_for_call(alloc: Global, name: &str, parts: &[&str]) -> Result<String, R
     match name {
         "program_code" => code(alloc, call, &policy_of(alloc, rules)?),
         "judge" => judged(alloc, call, &policy_of(alloc, rules)?),
+        "candidates" => candidates(alloc, call, &policy_of(alloc, rules)?),
         _ => Err(RowFault::Unknown),
     }
 }
@@ -106,6 +108,26 @@ fn verdict_of(
         return Err(RowFault::Differs);
     }
     Ok(verdict)
+}
+
+// The rules that the index of a policy leaves for a call, by their numbers.
+fn candidates(alloc: Global, text: &str, policy: &Policy) -> Result<String, RowFault> {
+    if policy.rules.len() > MOST_RULES {
+        return Err(RowFault::BadPolicy);
+    }
+    let (tag, args) = call(alloc, text)?;
+    let index = Index::new(alloc, &policy.rules, tag)?;
+    told_set(alloc, &index.candidates(&args), policy.rules.len())
+}
+
+fn told_set(alloc: Global, set: &RuleSet, count: usize) -> Result<String, RowFault> {
+    let mut told = String::from_str(alloc, "candidates")?;
+    for number in 0..count {
+        if set.next_from(number) == Some(number) {
+            told = format!(in alloc; "{told} {number}")?;
+        }
+    }
+    Ok(told)
 }
 
 // A script whose targets have these numbers of policies.

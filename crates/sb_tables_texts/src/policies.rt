@@ -61,8 +61,8 @@ fn policies_of(
 }
 
 fn told_fault(alloc: Global, fault: PolicyFault) -> Result<String, RowFault> {
-    let PolicyFault { line, kind } = fault;
-    Ok(format!(in alloc; "line {line} {kind:?}")?)
+    let PolicyFault { line, column, kind } = fault;
+    Ok(format!(in alloc; "line {line} column {column} {kind:?}")?)
 }
 
 fn policies_in(

@@ -58,8 +58,8 @@ fn script_read(
 }
 
 fn told_fault(alloc: Global, fault: ScriptFault) -> Result<String, RowFault> {
-    let ScriptFault { line, kind } = fault;
-    Ok(format!(in alloc; "line {line} {kind:?}")?)
+    let ScriptFault { line, column, kind } = fault;
+    Ok(format!(in alloc; "line {line} column {column} {kind:?}")?)
 }
 
 fn numbered_message(alloc: Global, fault: ScriptFault) -> Result<String, RowFault> {

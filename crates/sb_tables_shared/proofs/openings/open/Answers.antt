@@ -6,6 +6,6 @@ returns-clause-players c =
     let made = c.in_ok-world.field-0 in
     let is = c.in_ok-world.ensures in
     record {
-      workers = fresh_workers made.world c.args.inputs.now.ready.script made.workers.items is.script is.workers;
-      threads = fresh_threads made.world c.args.inputs.now.ready.script made.threads.items is.script is.threads;
+      workers = fresh_workers made.world c.in_ok-start.field-0.script made.workers.items is.script is.workers;
+      threads = fresh_threads made.world c.in_ok-start.field-0.script made.threads.items is.script is.threads;
     }

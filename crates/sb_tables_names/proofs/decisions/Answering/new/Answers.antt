@@ -12,7 +12,7 @@ invariant_of-result c =
     let script = c.args.script in
     let opened : c.in-Some-2.opened ≡ record { policies = policies; script = script } = search rules in
     let setting : c.new-book.result.setting ≡ setting_of policies script =
-    ap (λ (h : History). h.setting) c.new-book.ensures ∙ ap (λ (r : Ready). setting_of r.policies r.script) (c.into_parts-ready.ensures.ready ∙ opened) in
+    ap (λ (h : History). h.setting) c.new-book.ensures ∙ ap (λ (r : Ready). setting_of r.policies r.script) (c.of.ensures ∙ c.into_parts-ready.ensures.ready ∙ opened) in
     let cloned : c.in_ok-clone.field-0 ≡ policies = each_same policies c.in_ok-clone.field-0 c.in_ok-clone.ensures.cases in
     let targets : c.in-Some.judge.targets ≡ policies = c.in-Some.ensures.targets ∙ cloned in
     let policy : (setting_of policies script).policies ≡ policies = search rules in
