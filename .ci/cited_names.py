@@ -11,6 +11,9 @@ which a reader fills in, are passed over.
 An item is a function, a method after its type or trait and `::`, a type or a trait of src/, or a definition of specs/. The clauses of a
 function are those of its `ensures`, those of a trait also its ghost members, and those of a definition the fields of its record. A type
 that contracts see through a `Model` has the clause `invariant`.
+
+What docs/PROMISES.md lists under `Definitions:` has to be declared in one of the files of specs/ that the line names: of the crate that is
+named before the file, or else of the crates of the heading.
 """
 import functools
 import glob
@@ -189,6 +192,40 @@ def missing_names():
                 yield "%s:%d: `%s` is not in %s" % (document, number, span, crate)
 
 
+def definition_lines():
+    """The lines of docs/PROMISES.md that list definitions, each with its number, the crates of its heading, and its whole text."""
+    crates, is_listing, lines = [], False, []
+    for number, line in lines_of("docs/PROMISES.md"):
+        if line.startswith("#"):
+            crates, is_listing = re.findall(r"\bsb_\w+", line.split(":")[0]), False
+        elif re.fullmatch(r"\w+:", line):
+            is_listing = line == "Definitions:"
+        elif is_listing and line.startswith("- "):
+            lines.append([number, crates, line])
+        elif is_listing and line.startswith("  "):
+            lines[-1][2] += " " + line.strip()
+    return lines
+
+
+def declared_in(path):
+    """The names that a file of specs/ declares, also within a module."""
+    return set(re.findall(r"(?m)^ *(?:(?:abbrev|unfoldable|pub|record|data) )*([A-Za-z_][\w'-]*) *[:({]", text_of(path)))
+
+
+def misplaced_definitions():
+    for number, crates, line in definition_lines():
+        names, _, rest = line.partition(": ")
+        declared = set()
+        for crate, file in re.findall(r"(?:\b(sb_\w+) )?`(specs/[\w/]+\.antt)`", rest):
+            paths = ["crates/%s/%s" % (owner, file) for owner in ([crate] if crate else crates)]
+            for path in paths:
+                if path in tree():
+                    declared |= declared_in(path)
+        for name in re.findall(r"`([A-Za-z_][\w'-]*)`", names):
+            if name not in declared:
+                yield "docs/PROMISES.md:%d: `%s` is not declared in the files of its line" % (number, name)
+
+
 def rows_below(text, heading):
     """The numbers and names of the first table below a heading."""
     rows = []
@@ -224,7 +261,7 @@ def different_lists():
 
 
 def main():
-    faults = list(missing_names()) + list(different_lists())
+    faults = list(missing_names()) + list(misplaced_definitions()) + list(different_lists())
     for fault in faults:
         print("cited_names: " + fault, file=sys.stderr)
     sys.exit(1 if faults else 0)

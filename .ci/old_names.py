@@ -11,7 +11,7 @@ import sys
 TOP = os.path.dirname(os.path.dirname(os.path.realpath(__file__)))
 # any declaration
 NAMES = {
-    "wide_of": "Wide::from_units", "TextKind": "PolicyFaultKind", "TextFault": "PolicyFault", "Taken": "BlockCopy",
+    "wide_of": "Wide::from_units", "TextKind": "PolicyFaultKind", "Taken": "BlockCopy",
     "informations": "descriptors", "information": "descriptor", "Seen": "Observed", "Mark": "Answer", "BookSeat": "the worker's seat",
     "fives": "all_abandoned", "Field": "RunContext", "Hand": "Server", "man": "staff", "CleanMarks": "CleanTable", "clean_marks": "clean_table",
 }
