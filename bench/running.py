@@ -111,7 +111,7 @@ def measure_workers(runs):
         if seconds > 0.15:
             programs.miss("%d pings by %d workers take more than 0.15 seconds" % (calls, workers))
     if best[8] > MOST_DIFFERENCE * best[2]:
-        programs.miss("%d pings by 8 workers take more than %.1f times as long as by 2" % (calls, MOST_DIFFERENCE))
+        programs.miss("%d pings by 8 workers take more than %.2f times as long as by 2" % (calls, MOST_DIFFERENCE))
 
 
 def measure_channels(runs):
