@@ -18,7 +18,7 @@ pub fn thread_keeps_rule()
     ensures { ThreadKeeps }
 {}
 
-/// A step that the worker may make keeps the rule: on a clean channel it copies the whole block, and its reply stands before it
+/// A step that the worker may make keeps the rule: on a clean channel it copies the whole block, and its reply is stored before it
 /// acknowledges.
 pub fn worker_keeps_rule()
     ensures { WorkerKeeps }

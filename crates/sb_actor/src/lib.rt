@@ -5,7 +5,7 @@
 //
 // What a worker and a thread do is stated as two tables, one row a line: `specs/WorkerTable.antt` and `specs/ThreadTable.antt`.
 //
-// Beside the machines stand the views (`specs/Views.antt`), which say what is known of an actor, and the rule that the channel words of a
+// Beside the machines are the views (`specs/Views.antt`), which say what is known of an actor, and the rule that the channel words of a
 // target and the views of its actors keep between any two steps (`specs/Rule.antt`). The laws in `laws` say that it holds at the
 // opening, and that each step keeps it.
 #![tactic(auto)]

@@ -14,7 +14,7 @@ pub(crate) enum WorkerPhase {
     Ack,
 }
 
-/// Where a thread stands within its statement, named by its next step.
+/// How far a thread is within its statement, named by its next step.
 #[derive(Clone, Copy)]
 pub(crate) enum ThreadPhase {
     Try,

@@ -235,7 +235,7 @@ impl WorkerState {
         }
     }
 
-    /// What holds of every worker: it stands at one of its 1 to 8 channels, the numbers of its stage are in their ranges, what it has
+    /// What holds of every worker: it is at one of its 1 to 8 channels, the numbers of its stage are in their ranges, what it has
     /// copied keeps the rule of a copy, and its reply has twelve words, the first of which is the mark of its copy. It does nothing:
     /// its contract is the facts.
     pub fn establish_sound(&self)

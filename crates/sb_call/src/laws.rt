@@ -2,7 +2,7 @@
 ghost use Rattle.sb_call.specs.Arguments.{FittingArgsAreAsMany, FittingArgsAreOfTheirKinds};
 ghost use Rattle.sb_call.specs.Tags.{TagsComeBack, NumbersComeBack};
 
-/// Each tag is the tag of its number, and if a number stands for a tag, it is the number of that tag.
+/// Each tag is the tag of its number, and if a number encodes a tag, it is the number of that tag.
 pub fn tags_and_numbers()
     ensures tags { TagsComeBack }
     ensures numbers { NumbersComeBack }

@@ -105,7 +105,7 @@ pub struct Answer {
     pub ext: Extended,
 }
 
-/// What a target is replied to a call. The words are as they stand in the channel, so a reply that
+/// What a target is replied to a call. The words are as they are in the channel, so a reply that
 /// was stored directly may have any.
 #[derive(Drop, PartialEq)]
 pub struct Reply {

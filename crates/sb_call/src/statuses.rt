@@ -28,7 +28,7 @@ pub const NAME_NOT_FOUND: u32 = 0xC000_0034;
 /// There is an object of that name already.
 pub const NAME_COLLISION: u32 = 0xC000_0035;
 
-/// The directory in which the name would stand is not there.
+/// The directory of the name is not there.
 pub const PATH_NOT_FOUND: u32 = 0xC000_003A;
 
 /// An open handle does not share what is asked for, or what is asked for does not share with an open handle.

@@ -3,7 +3,7 @@ ghost use Rattle.std.specs.Prelude.{◌≡◌, slice_get};
 ghost use Rattle.sb_call.specs.Parameters.{is_number_kind};
 ghost use Rattle.sb_call.specs.Tags.{tag_of, number_of, shape_of};
 
-/// A call that a target may forward. Each tag has the number that stands for it in a block.
+/// A call that a target may forward. Each tag has a number, which encodes it in a block.
 #[derive(Clone, Copy, Debug, PartialEq, Eq)]
 pub enum CallTag {
     /// `ping`: answers its cookie and the length of its text.

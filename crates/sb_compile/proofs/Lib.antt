@@ -1,3 +1,4 @@
+pub mod Sharing
 pub mod Seeking
 pub mod Runs
 pub mod Ends

@@ -45,7 +45,7 @@ fn put_seek(out: &mut Vec<u8>, seek: Seek) -> Result<(), NoMemory>
     }
 }
 
-// The text of a cell that stands as a word.
+// The text of a cell that is listed as a word.
 fn push_cell(units: &mut Vec<u16>, word: u64) -> Result<(), NoMemory>
     ensures { OnOk result (units.new.items ≡ units.old.items ++ cell_text (cell_of word)) }
 {

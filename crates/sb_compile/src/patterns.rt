@@ -60,7 +60,7 @@ fn cut_at_star(cells: &[Cell]) -> Option<(&[Cell], &[Cell])>
     Some((run, later))
 }
 
-// Appends the opcode of cells that stand where they are sought.
+// Appends the opcode of cells that are sought.
 fn push_run(
     code: &mut Code,
     group: Group,
@@ -86,7 +86,7 @@ fn questions(cells: &[Cell]) -> usize
     count
 }
 
-// Appends the opcode of cells that stand at the position. The `?` that they begin with are skipped.
+// Appends the opcode of cells that are compared at the position. The `?` that they begin with are skipped.
 fn push_here(
     code: &mut Code,
     group: Group,

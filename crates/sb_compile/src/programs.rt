@@ -61,7 +61,7 @@ fn compile_call(alloc: Global, policy: &Policy, tag: CallTag) -> Result<Option<C
     Ok(Some(CallCode::new(alloc, rules, tag, code)?))
 }
 
-/// The program of a well-made policy. Each condition becomes a group of opcodes; rules for a call stand in their order, each
+/// The program of a well-made policy. Each condition becomes a group of opcodes; rules for a call keep their order, each
 /// ended by its action; a call without rules has no code.
 ///
 /// # Errors

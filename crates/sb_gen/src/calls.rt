@@ -115,7 +115,7 @@ fn call_of(alloc: Global, target: u32, kind: u64, number: u64) -> Result<Stateme
     }
 }
 
-/// The statement that the generator's number stands for, in a thread of this target.
+/// The statement that the generator's number denotes, in a thread of this target.
 ///
 /// # Errors
 /// `NoMemory` if memory runs out.

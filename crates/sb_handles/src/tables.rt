@@ -19,7 +19,7 @@ pub(crate) struct Slot {
 ///
 /// Handles are numbered from 1 as they are granted, over all targets. No number is granted twice.
 pub struct HandleTable {
-    // The handle of number n stands at place n - 1, and is gone once it is closed.
+    // The handle of number n is at place n - 1, until it is closed.
     slots: Vec<Option<Slot>>,
 }
 

@@ -68,7 +68,7 @@ fn fronts_of(test: &Test, skip: usize) -> Option<Values<'_>>
     }
 }
 
-/// The values that a condition admits. None if it says nothing of the feature.
+/// The values that a condition admits. None if it does not restrict the feature.
 #[tactic(auto, using(crate::proofs::ValueLemmas::not_asked))]
 pub fn values_of(feature: Feature, cond: &Cond) -> Option<Values<'_>>
     ensures { AreValues result (λ first last. cond_may_pass (Within feature first last) cond.now) }
@@ -83,7 +83,7 @@ pub fn values_of(feature: Feature, cond: &Cond) -> Option<Values<'_>>
     }
 }
 
-// Whether a condition admits a value from `first` to `last`, or says nothing of the feature.
+// Whether a condition admits a value from `first` to `last`, or does not restrict the feature.
 fn cond_passes(feature: Feature, cond: &Cond, first: u64, last: u64) -> bool
     ensures { result ≡ cond_may_pass (Within feature first last) cond.now }
 {
@@ -93,7 +93,7 @@ fn cond_passes(feature: Feature, cond: &Cond, first: u64, last: u64) -> bool
     }
 }
 
-/// Whether each of some conditions admits a value from `first` to `last`, or says nothing of the feature.
+/// Whether each of some conditions admits a value from `first` to `last`, or does not restrict the feature.
 pub fn conds_pass(feature: Feature, conds: &[Cond], first: u64, last: u64) -> bool
     ensures { result ≡ list_all (cond_may_pass (Within feature first last)) conds.now }
 {

@@ -1,4 +1,4 @@
-// The fields of a line, one after another: a separator stands before each, and one between quotes separates nothing.
+// The fields of a line, one after another: a separator precedes each, and one between quotes separates nothing.
 ghost use Rattle.std.specs.Prelude.{◌≡◌, ◌∷◌, ◌≤◌, [], length, take, drop, MatchOption};
 ghost use Rattle.sb_lineread.specs.Cuts.{is_separator, place_after, cut, fields_after};
 ghost use Rattle.sb_lineread.specs.Steps.{ReadsAs, field_at};

@@ -1,4 +1,4 @@
-// What stands between the quotes of a string, without its escapes.
+// The text between the quotes of a string, without its escapes.
 ghost use Rattle.std.specs.Prelude.{◌≡◌, ◌<◌, ◌++◌, ◌∷◌, [], length, IfOk, OnOk};
 ghost use Rattle.sb_lineread.specs.Strings.{unquoted, unit_of, is_closing, escape_after, with_digit, with_unit};
 

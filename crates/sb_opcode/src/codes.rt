@@ -172,7 +172,7 @@ fn push_words(words: &mut Vec<u64>, cells: &[u64]) -> Result<(), NoMemory>
     Ok(())
 }
 
-// Appends units, each of which stands for itself.
+// Appends units, each of which matches itself.
 fn push_units(words: &mut Vec<u64>, units: &[u16]) -> Result<(), NoMemory>
     ensures ok { OnOk result (words.new.items ≡ words.old.items ++ map cell_word (map Lit units.now)) }
     ensures sized { OnOk result (list_all is_sized_cell (map Lit units.now) ≡ true) }
@@ -316,7 +316,7 @@ impl Code {
     }
 
     #[tactic(auto, using(crate::proofs::PackingLemmas::pushed_opcodes))]
-    /// Appends a text opcode whose fragment is this string and stands at the position. After an error the code is as it was.
+    /// Appends a text opcode whose fragment is this string and is compared at the position. After an error the code is as it was.
     ///
     /// # Errors
     /// `NoMemory` if there was none for the opcode's words.

@@ -31,7 +31,7 @@ fn number_holds(opcode: &Opcode<'_>, value: u64) -> bool
     }
 }
 
-// Whether a string may end with a fragment that stands where it is sought, by their lengths.
+// Whether a string may end with a fragment that is found where it is sought, by their lengths.
 #[inline(always)]
 fn may_end(seek: Seek, cells: &[u64], units: &[u16]) -> bool
     ensures { result ≡ false → (fold : Bool) → at_end (after_seek seek fold (map cell_of cells.now) units.now) ≡ None }

@@ -1,4 +1,4 @@
-// Where a fragment stands in a string. The fragment's cells are packed words, and a position is what is left of the
+// Where a fragment is found in a string. The fragment's cells are packed words, and a position is what is left of the
 // string from there on.
 ghost use Rattle.std.specs.Prelude.{◌≡◌, false, map, option_map, None, Some};
 ghost use Rattle.sb_opcode.specs.Unpacking.{cell_of};
@@ -113,7 +113,7 @@ fn after_end<'a>(folding: bool, cells: &[u64], units: &'a [u16]) -> Option<&'a [
     after_fragment(folding, cells, end)
 }
 
-// What is left after the fragment, where it stands where it is sought.
+// What is left after the fragment, if it is found where it is sought.
 pub(crate) fn after_seek<'a>(
     seek: Seek,
     folding: bool,

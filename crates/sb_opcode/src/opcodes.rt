@@ -28,7 +28,7 @@ pub enum OpKind<'a> {
     Range { lo: u64, hi: u64 },
     /// Holds of the numbers that have a bit of this mask.
     Mask(u64),
-    /// Holds of a string in which the fragment stands where it is sought.
+    /// Holds of a string in which the fragment is found where it is sought.
     Text { cells: &'a [u64], seek: Seek },
     /// Ends a rule: what the rule does, and the line on which it was written.
     Act { action: Action, line: u32 },

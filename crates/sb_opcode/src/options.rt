@@ -9,7 +9,7 @@ pub struct Options(u8);
 
 bitflag_items! {
     impl Options: u8 {
-        /// The result of the group is negated. It stands on the last opcode of a group.
+        /// The result of the group is negated. It is set on the last opcode of a group.
         const NEGATE = 1;
         /// The opcode is the last of its group.
         const CLEAR = 2;

@@ -1,4 +1,4 @@
-// Where the walk over a code stands within a rule, and what an opcode makes of it.
+// Where the walk over a code is within a rule, and what an opcode makes of it.
 ghost use Rattle.std.specs.Prelude.{◌≡◌, true};
 ghost use Rattle.sb_call.specs.Arguments.{arg_at};
 ghost use Rattle.sb_opcode.specs.Groups.{is_last};
@@ -12,7 +12,7 @@ use crate::options::Options;
 use bitflags::Flags;
 use sb_call::Arg;
 
-// Where the walk stands within a rule.
+// Where the walk is within a rule.
 #[derive(Clone, Copy)]
 pub(crate) enum State<'a> {
     // All groups so far hold, and the next one has not begun.

@@ -53,7 +53,7 @@ fn walk(code: &Code, args: &[Arg]) -> Verdict
 ///
 /// A group looks at the argument of its parameter. With OR one of its opcodes is to hold; without it all are, if each
 /// text opcode begins in the string where the one before it ended, and the first at the beginning. NEGATE on the last
-/// opcode negates the group's result. A fragment with `*` stands nowhere.
+/// opcode negates the group's result. A fragment with `*` is found nowhere.
 ///
 /// The words are read once and not tested again, and the string is never copied. Each rule costs time in proportion to its
 /// opcodes and the string, except that seeking forward may look at each place once for each cell of its fragment; of a rule

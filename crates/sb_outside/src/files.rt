@@ -25,7 +25,7 @@ pub enum FileFault {
 /// Files by name.
 ///
 /// What they hold, a content at each name that is there, may be told or not. Their count of faults never falls. A count
-/// that is kept in 64 bits stays at its last value, so one that stands there is taken as one that rose.
+/// that is kept in 64 bits stays at its last value, so one that is there is taken as one that rose.
 pub trait Files {
     ghost held: { Self → Option Held };
 

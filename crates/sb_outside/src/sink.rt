@@ -17,7 +17,7 @@ pub enum SinkFault {
 ///
 /// It has written some bytes, and may hold others back, which are pending: they were put, and will be written after those that were
 /// written. What was written so far may be told or not, and what is pending is always told. Its count of faults never falls. A count
-/// that is kept in 64 bits stays at its last value, so one that stands there is taken as one that rose.
+/// that is kept in 64 bits stays at its last value, so one that is there is taken as one that rose.
 pub trait Sink {
     ghost written: { Self → Option (List ℕ) };
 

@@ -35,7 +35,7 @@ pub struct PoolView<H> {
     pub live: bool,
 }
 
-// Each number stands once.
+// Each number occurs once.
 pub(crate) struct OnceEach<W> {
     of: PhantomData<W>,
 }

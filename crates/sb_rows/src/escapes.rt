@@ -32,7 +32,7 @@ pub fn put_escaped(text: &str, found: &mut Vec<u8>) -> Result<(), RowFault> {
     }
 }
 
-// How far an escape has been read after this byte. What the escape stands for is appended when it ends.
+// How far an escape has been read after this byte. What the escape denotes is appended when it ends.
 fn after(escape: Escape, byte: u8, found: &mut Vec<u8>) -> Result<Escape, RowFault> {
     match (escape, byte) {
         (Escape::Outside, b'\\') => Ok(Escape::Begun),

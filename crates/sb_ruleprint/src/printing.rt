@@ -15,7 +15,7 @@ use sb_wide::put_hexadecimal;
 use std::alloc::Global;
 
 // Each of these appends to the text, and what it has read of the policies is in the ranges of its types. After an error the text
-// is of no use.
+// may end anywhere.
 
 fn put_word(text: &mut Vec<u8>, word: &[u8]) -> Result<(), NoMemory>
     ensures { OnOk result (text.new.items ≡ text.old.items ++ 32 ∷ word.now) }
@@ -224,7 +224,7 @@ fn policies_text(alloc: Global, policies: &[Policy]) -> Result<Vec<u8>, NoMemory
 /// The text of policies.
 ///
 /// The first line is `sandbox-policy 2` if some rule has the action `ReadOnly`, and `sandbox-policy 1` otherwise. Then
-/// each policy has its heading and one line for each rule. One space stands between each two tokens, and an LF after each
+/// each policy has its heading and one line for each rule. One space separates two tokens, and an LF after each
 /// line. Numbers are `0x` and lower-case hexadecimal digits without leading zeros. Strings and patterns are their text, in
 /// UTF-8, between quotes. The text has fewer than 2^32 - 1 bytes. The names that it has are short, and its numbers have 64 bits.
 ///

@@ -67,7 +67,7 @@ fn after_dots(bytes: &[u8]) -> Option<&[u8]>
     }
 }
 
-// What stands before the first `..` of a word, and what stands after it.
+// What precedes the first `..` of a word, and what follows it.
 #[tactic(auto, using(crate::proofs::Dots::passed_one, crate::proofs::Dots::found_here, crate::proofs::Dots::found_nowhere))]
 fn around_dots(word: &[u8]) -> Option<(&[u8], &[u8])>
     ensures { MatchOption result (around_dots word.now ≡ None) (λ ends. around_dots word.now ≡ Some (ends.0.now, ends.1.now)) }
@@ -113,7 +113,7 @@ fn range_at(tokens: &mut Tokens) -> Result<Test, LineRefused>
     at_token(&due, range_of(word))
 }
 
-// What stands between quotes, as a string of a policy, or its fault at the token that was due.
+// What is between quotes, as a string of a policy, or its fault at the token that was due.
 fn string(alloc: Global, due: &Tokens, quoted: &str) -> Result<Wide, LineRefused>
     ensures { Gives (at_token due.now (string quoted.now)) result }
 {
@@ -124,7 +124,7 @@ fn string(alloc: Global, due: &Tokens, quoted: &str) -> Result<Wide, LineRefused
     Ok(text)
 }
 
-// What stands between quotes, as a pattern, or its fault in the token that was due.
+// What is between quotes, as a pattern, or its fault in the token that was due.
 fn cells(alloc: Global, due: &Tokens, quoted: &str) -> Result<Pattern, LineRefused>
     ensures { Gives (cells due.now (reading (string_of quoted.now))) result }
 {

@@ -53,9 +53,9 @@ pub enum PolicyFaultKind {
     #[error("too many")]
     TooMany(PolicyLimit),
     /// An earlier policy has this name.
-    #[error("a policy of this name stands before")]
+    #[error("an earlier policy has this name")]
     SameName,
-    /// A rule or a grant stands before the first heading.
+    /// A rule or a grant precedes the first heading.
     #[error("no heading")]
     NoHeading,
     /// `readonly` of a call other than `file.open`, `key.open` and `event.open`.

@@ -66,7 +66,7 @@ fn call_at(tokens: &mut Tokens) -> Result<CallTag, LineRefused>
     or_fails(&due, UnknownCall, tag_of_word(word))
 }
 
-// The fault of what stands here in place of `when`.
+// The fault of what is here in place of `when`.
 fn end_at_when(tokens: &Tokens) -> Result<Conds, LineRefused>
     ensures { Gives (end_at_when tokens.now) result }
 {
@@ -131,7 +131,7 @@ fn grant(alloc: Global, line: u32, tokens: &mut Tokens) -> Result<Rules, LineRef
     Ok(rules_of(alloc, line, grant, &pattern)?)
 }
 
-// A heading is to stand before the line.
+// A heading has to precede the line.
 fn check_heading(draft: &Draft, line: &Tokens) -> Result<(), LineRefused>
     ensures { Gives (unless_fails line.now NoHeading (is_headed draft.now)) result }
 {

@@ -22,7 +22,7 @@ pub(crate) fn word_or<'a>(
     )
 }
 
-/// What stands between quotes. A word in its place has this fault; a broken token, or none, is `UnknownWord`.
+/// What is between quotes. A word in its place has this fault; a broken token, or none, is `UnknownWord`.
 pub(crate) fn quoted_or<'a>(
     word: PolicyFaultKind,
     tokens: &mut Tokens<'a>,

@@ -13,7 +13,7 @@ fn number_32(word: &[u8]) -> Option<u32>
     u32::try_from(decimal_of(word)?).ok()
 }
 
-// How many bytes stand before the first dot, all if there is none.
+// How many bytes precede the first dot, all if there is none.
 fn dot_at(word: &[u8]) -> usize
     ensures value { result ≡ position_or_len is_dot word.now }
     ensures within { result ≤ length word.now }
@@ -35,7 +35,7 @@ fn after_dot(word: &[u8]) -> &[u8]
     }
 }
 
-// What stands before the first dot.
+// What precedes the first dot.
 fn before_dot(word: &[u8]) -> &[u8]
     ensures { result.now ≡ before_first is_dot word.now }
 {

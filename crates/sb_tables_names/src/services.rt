@@ -1,4 +1,4 @@
-// Table tests of the services by themselves: how many objects each made, and what its handles stand for, which no answer of the
+// Table tests of the services by themselves: how many objects each made, and what its handles refer to, which no answer of the
 // namespace shows. Each row continues from the one before.
 ghost use Rattle.sb_file.specs.Files as files;
 ghost use Rattle.sb_pipe.specs.Pipes as pipes;

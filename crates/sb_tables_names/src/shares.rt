@@ -54,7 +54,7 @@ fn value_of_two(
     }
 }
 
-/// What a handle of a target stands for.
+/// The object that a handle of a target refers to.
 pub fn lookup(
     alloc: Global,
     handles: &HandleTable,
@@ -74,7 +74,7 @@ fn service_word(service: Service) -> &'static str {
     }
 }
 
-// What a handle stands for, in the form in which rows give it.
+// The object of a handle, in the form in which rows give it.
 fn told_held(alloc: Global, held: Option<Held>) -> Result<String, RowFault> {
     let Some(held) = held else {
         return plain(alloc, "none");

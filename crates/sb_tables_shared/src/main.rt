@@ -1,5 +1,5 @@
 // Prints rows of the memory that the threads of a run share. A row is a function with its arguments, and what it gives is printed
-// after it. Some rows start threads; what they give is the same in whatever order the threads make their steps. The rows stand in
+// after it. Some rows start threads; what they give is the same in whatever order the threads make their steps. The rows are in
 // files, which the arguments name; what is printed is compared with the file `stdout` of this crate, which holds the same rows with
 // the values that are right.
 #![tactic(auto)]

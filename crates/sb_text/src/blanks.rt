@@ -9,7 +9,7 @@ pub fn is_blank(byte: u8) -> bool
     byte == b' ' || byte == b'\t'
 }
 
-/// Whether a line says nothing: it holds blanks alone, or its first other byte is `#`.
+/// Whether a line is blank or a comment: it holds blanks alone, or its first other byte is `#`.
 pub fn is_skipped(line: &[u8]) -> bool
     ensures { result ≡ is_skipped line.now }
 {

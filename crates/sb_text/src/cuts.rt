@@ -3,7 +3,7 @@ ghost use Rattle.std.specs.Prelude.{◌≡◌, ◌∷◌, ◌==◌, ◌<◌, ◌
 ghost use Rattle.std.specs.List.{position_or_len};
 ghost use Rattle.sb_text.specs.Lines.{line_numbered, raw_lines, raw_lines_from, without_cr};
 
-// How many bytes stand before the first LF, all if there is none.
+// How many bytes precede the first LF, all if there is none.
 fn line_len(bytes: &[u8]) -> usize
     ensures value { result ≡ position_or_len (λ b. b == 10) bytes.now }
     ensures within { result ≤ length bytes.now }
@@ -14,7 +14,7 @@ fn line_len(bytes: &[u8]) -> usize
         .unwrap_or(bytes.len())
 }
 
-// How many bytes of a line stand before the one CR at its end, all if there is none.
+// How many bytes of a line precede the one CR at its end, all if there is none.
 fn text_len(line: &[u8]) -> usize
     ensures value { take result line.now ≡ without_cr line.now }
     ensures within { result ≤ length line.now }

@@ -34,7 +34,7 @@ pub trait TextGrammar<L: TextLines> {
     fn no_version(&self) -> Self::Kind
         ensures { result ≡ (grammar self.now).no_version };
 
-    /// What is read before any further line.
+    /// What is read before any line after the first.
     fn start(&self) -> Self::Draft
         ensures { result ≡ (grammar self.now).start };
 

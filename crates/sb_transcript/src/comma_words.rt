@@ -1,4 +1,4 @@
-// Numbers with commas between them, appended to a line. After an error the line is of no use.
+// Numbers with commas between them, appended to a line. After an error the line may end anywhere.
 ghost use Rattle.std.specs.Prelude.{◌≡◌, ◌++◌, ◌∷◌, OnOk};
 ghost use Rattle.sb_transcript.specs.CommaWords.{more_words, comma_words};
 

@@ -1,5 +1,5 @@
 use denote.Param.Send.{sendable}
-use Rattle.sb_tables_shared.proofs.Crossing.{programs_sync}
+use Rattle.sb_compile.proofs.Sharing.{programs_sync}
 use Rattle.sb_tables_shared.proofs.crews.left_together.Goals as goal
 
 pub together-requires-sync-J : goal.together-requires-sync-J

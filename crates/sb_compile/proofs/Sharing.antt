@@ -1,4 +1,4 @@
--- The programs of a run may be shared by its threads.
+-- The programs of a run may be shared by threads.
 use denote.Param.Send.{IsSync, sendable}
 use denote.Ref.{NamedLft}
 use Rattle.std.proofs.Crossing.{crosses}
