@@ -39,7 +39,7 @@ all_both copied [] rest h k = k
 all_both copied (handle ∷ front) rest h k = (h.0, all_both copied front rest h.1 k)
 
 -- so does one that is found
-found_one : (copied handles : List OpenHandle) (test : OpenHandle → Bool) (held : Held) → AllByRecursion (IsFrom copied) handles
+pub found_one : (copied handles : List OpenHandle) (test : OpenHandle → Bool) (held : Held) → AllByRecursion (IsFrom copied) handles
     → option_map (λ handle. handle.held) (find test handles) ≡ Some held → (handle : OpenHandle) × IsFrom copied handle × (handle.held ≡ held)
 found_one copied [] test held h e = absurd cc
 found_one copied (handle ∷ handles) test held h e = by (test handle) e (found_one copied handles test held h.1)
@@ -50,15 +50,18 @@ found_one copied (handle ∷ handles) test held h e = by (test handle) e (found_
     by true e more = (handle, h.0, cc)
     by false e more = more e
 
+-- each of the handles that moves left comes from one that was copied
+pub each_from : (copied handles : List OpenHandle) → AreKept copied handles → AllByRecursion (IsFrom copied) handles
+each_from copied handles kept =
+    subst (AllByRecursion (IsFrom copied)) (sym kept.unchanged) (all_both copied copied kept.further (all_own copied) kept.narrow)
+
 -- ---- a handle more
 
 pub kept_one : (copied : List OpenHandle) (table : Table) (target number : ℕ) (to access : ℕ) (held : Held) → AreKept copied table.handles
     → held_by table target number ≡ Some held → bit_and access held.access.0 ≡ access
     → AreKept copied (with_handle table to (with_access held access)).handles
 kept_one copied table target number to access held kept h within =
-    let every : AllByRecursion (IsFrom copied) table.handles =
-    subst (AllByRecursion (IsFrom copied)) (sym kept.unchanged) (all_both copied copied kept.further (all_own copied) kept.narrow) in
-    let found = found_one copied table.handles (is_of target number) held every h in
+    let found = found_one copied table.handles (is_of target number) held (each_from copied table.handles kept) h in
     let wide : IsNoWider held found.1.source.held = subst (λ held. IsNoWider held found.1.source.held) found.2 found.1.is_no_wider in
     let new : OpenHandle = record { target = to; number = table.granted + 1; held = with_access held access } in
     let narrow : IsNoWider new.held held = record { object = refl; sharing = refl; access = within } in

@@ -3,5 +3,6 @@ pub mod Bounds
 pub mod Keeping
 pub mod Naming
 pub mod PassLaws
+pub mod PipeLaws
 pub mod Utf8
 pub mod Written

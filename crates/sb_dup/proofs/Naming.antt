@@ -49,7 +49,7 @@ module _ {V : Type 0} (number_of : V → ℕ) where
       by true h more = subst (λ k. nat_eq m k ≡ false) (some_number _ _ h) d.0
       by false h more = more h
 
-  name_found : (rows : Rows V) (name : List ℕ) (n : ℕ) → IsDistinct nat_eq (map (λ row. number_of row.1) rows)
+  pub name_found : (rows : Rows V) (name : List ℕ) (n : ℕ) → IsDistinct nat_eq (map (λ row. number_of row.1) rows)
       → option_map number_of (lookup (is_key name) rows) ≡ Some n → Some name ≡ name_in number_of rows n
   unfolding IsDistinct
   name_found [] name n d h = absurd cc

@@ -10,6 +10,8 @@ use Rattle.sb_dup.specs.declared.moves.MoveAnswer.TheVariants.{Given, NotHeld, M
 use Rattle.sb_dup.specs.declared.openings.Opening.{Opening}
 use Rattle.sb_handles.specs.Tables.{Table, held_by}
 use Rattle.sb_handles.specs.declared.objects.Held.{Held}
+use Rattle.sb_handles.specs.declared.objects.Service.TheVariants as service
+use Rattle.sb_kernel.specs.Kept.{IsSound}
 use Rattle.sb_kernel.specs.Namespaces.{Space}
 use Rattle.sb_rule.specs.Verdicts.{policy_at, verdict_of}
 use Rattle.sb_rule.specs.declared.policies.Policy.{Policy}
@@ -46,6 +48,22 @@ AllowedAreGranted = (ns : Space) (policies : List Policy) (m : Move) (table : Ta
 abbrev pub RefusedMovesChangeNothing : Type 0
 RefusedMovesChangeNothing = (ns : Space) (policies : List Policy) (m : Move) (table : Table) → is_given (pass ns policies m table).answer ≡ false
     → (pass ns policies m table).table ≡ table
+
+-- the giver holds a pipe with the access asked for
+pub record GivesPipe (m : Move) (table : Table) : Type 0 where
+  pub held : Held
+  pub is_held : held_by table m.from m.handle ≡ Some held
+  pub within : has_more m.access held.access.0 ≡ false
+  pub is_pipe : held.object.service ≡ service.Pipe
+
+-- no call opens a pipe
+abbrev pub PipesAreNotOpened : Type 0
+PipesAreNotOpened = (ns : Space) (policies : List Policy) (m : Move) (table : Table) → GivesPipe m table → (pass ns policies m table).answer ≡ NoOpening
+
+-- and some call opens everything else that the handles of a kernel are open on, also after moves
+abbrev pub OnlyPipesAreNotOpened : Type 0
+OnlyPipesAreNotOpened = (ns : Space) (policies : List Policy) (m : Move) (table : Table) → IsSound ns → AreKept ns.handles.handles table.handles
+    → (pass ns policies m table).answer ≡ NoOpening → GivesPipe m table
 
 -- however many moves are made, the handles that were there stay as they were, and each further one has the object and the sharing of
 -- one of them and no bit of access that this one lacks

@@ -1,6 +1,6 @@
 // Laws of moves. None of these functions does anything: each contract is a law.
 ghost use Rattle.sb_dup.specs.MoveLaws.{MovesAreBetween, MovesAreFew, WrittenMovesAreRead};
-ghost use Rattle.sb_dup.specs.PassLaws.{AllowedAreGranted, ChainsNeverWiden, GrantsAreAllowed, RefusedMovesChangeNothing};
+ghost use Rattle.sb_dup.specs.PassLaws.{AllowedAreGranted, ChainsNeverWiden, GrantsAreAllowed, OnlyPipesAreNotOpened, PipesAreNotOpened, RefusedMovesChangeNothing};
 
 use sb_text::{decimals_are_read, plain_lines_are_read};
 
@@ -16,6 +16,14 @@ pub fn moves_are_granted_if_allowed()
 #[tactic(auto, using(crate::proofs::PassLaws::refused_moves_change_nothing))]
 pub fn refused_moves_change_nothing()
     ensures { RefusedMovesChangeNothing }
+{}
+
+/// The answer to a move is that no call opens the object exactly if the giver holds a pipe with the access asked for: everything else that
+/// the handles of a kernel are open on has its name, also after moves.
+#[tactic(auto, using(crate::proofs::PipeLaws::pipes_are_not_opened, crate::proofs::PipeLaws::only_pipes_are_not_opened))]
+pub fn pipes_alone_are_not_opened()
+    ensures pipes { PipesAreNotOpened }
+    ensures only { OnlyPipesAreNotOpened }
 {}
 
 /// However many moves are made, the handles that were there stay as they were, and each further one has the object and the sharing of

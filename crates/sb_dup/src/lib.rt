@@ -15,8 +15,8 @@ mod verdicts;
 
 pub use faults::{MoveFault, MoveKind, MovesRefused};
 pub use laws::{
-    chains_never_widen, moves_are_granted_if_allowed, read_moves_are_bounded,
-    refused_moves_change_nothing, written_moves_are_read,
+    chains_never_widen, moves_are_granted_if_allowed, pipes_alone_are_not_opened,
+    read_moves_are_bounded, refused_moves_change_nothing, written_moves_are_read,
 };
 pub use lines::MOST_MOVES;
 pub use move_lines::put_moves;

@@ -4,6 +4,7 @@ ghost use Rattle.std.specs.List.{list_all};
 ghost use Rattle.sb_dup.specs.Chains.{answered, table_after};
 ghost use Rattle.sb_dup.specs.Lines.{is_between};
 ghost use Rattle.sb_dup.specs.Passes.{by_verdicts, given, needs_name, pass};
+ghost use Rattle.sb_dup.specs.Passings.{AreKept};
 ghost use Rattle.sb_handles.specs.Tables.{held_by};
 
 use crate::moves::{Answered, Move, MoveAnswer};
@@ -54,6 +55,14 @@ impl<'a> Passing<'a> {
         ensures { result.now.table ≡ self.now.table }
     {
         &self.handles
+    }
+
+    /// Establishes for a proof what holds of the handles, whatever moves were made: the first of them are those that were copied, as they
+    /// were, and each further one has the object and the sharing of a copied one, and no bit of access that this one lacks. It does nothing.
+    pub fn establish_kept(&self)
+        ensures { AreKept self.now.space.handles.handles self.now.table.handles }
+    {
+        let _handles = &self.handles;
     }
 
     // Grants the handle of a move on what the giver's handle is open on, with an access of which no bit is missing there.

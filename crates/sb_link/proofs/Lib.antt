@@ -12,3 +12,4 @@ pub mod Resolved
 pub mod Linking
 pub mod Logs
 pub mod Performed
+pub mod Asking

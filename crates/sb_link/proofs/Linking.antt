@@ -1,9 +1,8 @@
 -- A book that resolves names, after one more answer.
-use Rattle.std.proofs.Common.{◌≡◌, ◌∙◌, ℕ, ◌+◌, List, [], ◌∷◌, ◌++◌, length, Result, Ok, Err, refl, subst, ap, sym, arith}
+use Rattle.std.proofs.Common.{◌≡◌, ℕ, ◌+◌, List, [], ◌∷◌, ◌++◌, length, Result, Ok, Err, refl, arith}
 use Rattle.sb_call.specs.Tags.{shape_of}
 use Rattle.sb_call.specs.declared.arguments.Arg.{Arg}
 use Rattle.sb_call.specs.declared.arguments.Arg.TheVariants as arg
-use Rattle.sb_call.specs.declared.replies.Reply.{Reply}
 use Rattle.sb_call.specs.declared.tags.CallTag.{CallTag}
 use Rattle.sb_call.specs.declared.tags.ParamKind.{ParamKind}
 use Rattle.sb_call.specs.declared.tags.ParamKind.TheVariants.{Text, Name, Num, Handle}
@@ -16,11 +15,10 @@ use Rattle.sb_rule.specs.declared.actions.Action.TheVariants.{Allow, Deny, Alarm
 use Rattle.sb_rule.specs.declared.policies.Policy.{Policy}
 use Rattle.sb_rule.specs.declared.verdicts.Verdict.{Verdict}
 use Rattle.sb_rule.specs.declared.verdicts.Verdict.TheVariants as verdict
-use Rattle.sb_book.specs.Decisions.{by_decoded, by_verdict, decision_of, read_only_args}
-use Rattle.sb_book.specs.Histories.{History, answered}
+use Rattle.sb_book.specs.Decisions.{by_decoded, by_verdict, read_only_args}
 use Rattle.sb_book.specs.declared.entries.Entry.{Entry}
 use Rattle.sb_link.specs.Answers.{AreResolved, IsResolvedArg, IsResolvedCall, linked, stopped_reply}
-use Rattle.sb_link.specs.LinkedHistories.{IsLinkedHistory, IsLogFrom, LinkedHistory, PerformAllResolved, PerformsResolved, answered_by, decided}
+use Rattle.sb_link.specs.LinkedHistories.{IsLinkedHistory, IsLogFrom, LinkedHistory, PerformAllResolved, PerformsResolved, answered_by}
 use Rattle.sb_link.specs.declared.links.Link.{Link}
 use Rattle.sb_link.specs.declared.linked_books.Linked.{Linked}
 use Rattle.sb_link.specs.declared.linked_books.Linked.TheVariants as item

@@ -1,12 +1,15 @@
 -- After any list of answers the log is of these.
 use Rattle.std.proofs.Common.{◌≡◌, ◌∙◌, ℕ, ◌+◌, List, [], ◌∷◌, ◌++◌, length, Result, Ok, Err, refl, subst, ap, sym, arith}
+use Rattle.std.proofs.lemmas.Grind.{common_steps}
 use Rattle.std.proofs.lemmas.List.{append_assoc, append-nil}
+use Rattle.std.specs.List.{count_by}
 use Rattle.sb_block.specs.Copies.{Copied, mark_of}
-use Rattle.sb_book.specs.Histories.{Setting}
+use Rattle.sb_call.specs.declared.replies.Reply.{Reply}
+use Rattle.sb_call.specs.declared.tags.CallTag.{CallTag}
 use Rattle.sb_book.specs.declared.entries.Entry.{Entry}
 use Rattle.sb_link.specs.Answers.{linked, stopped_reply}
-use Rattle.sb_link.specs.LinkedHistories.{LinkedHistory, answered_by, answered_linked, new_linked}
-use Rattle.sb_link.specs.LinkedLaws.{Asked, IsLogOf, LogsAreOfAnswers, StoppedCallsChangeNothing, all_answered}
+use Rattle.sb_link.specs.LinkedHistories.{Asked, LinkedHistory, all_answered, answered_by, answered_linked, is_stopped, new_linked}
+use Rattle.sb_link.specs.LinkedLaws.{IsLogOf, LogsAreCounted, LogsAreOfAnswers, StoppedCallsChangeNothing}
 use Rattle.sb_link.specs.declared.links.Link.{Link}
 use Rattle.sb_link.specs.declared.linked_books.Linked.{Linked}
 use Rattle.sb_link.specs.declared.linked_books.Linked.TheVariants as item
@@ -86,3 +89,36 @@ logs_are_of_answers links setting asked =
 
 pub stopped_calls_change_nothing : StoppedCallsChangeNothing
 stopped_calls_change_nothing s target channel taken stopped e = ap (λ r. (answered_by s target channel taken r).history) e
+
+-- ---- how many there are
+
+abbrev IsCounted : List Entry → List Asked → List Linked → Type 0
+IsCounted entries asked log = (length log ≡ length asked) × (length entries + count_by is_stopped log ≡ length asked)
+
+entry_counted : (entries : List Entry) (e : Entry) (asked : List Asked) (a : Asked) (log : List Linked) (taken : Copied) (at : ℕ) → IsCounted entries asked log
+    → IsCounted (e ∷ entries) (a ∷ asked) (item.Entry taken at ∷ log)
+entry_counted entries e asked a log taken at h = let n = h.0 in let m = h.1 in (omega (arith, n), grind (arith, common_steps, m))
+
+stop_counted : (entries : List Entry) (asked : List Asked) (a : Asked) (log : List Linked) (x y : ℕ) (taken : Copied) (tag : CallTag) (stop : Stop) (reply : Reply)
+    → IsCounted entries asked log → IsCounted entries (a ∷ asked) (item.Stopped x y taken tag stop reply ∷ log)
+stop_counted entries asked a log x y taken tag stop reply h = let n = h.0 in let m = h.1 in (omega (arith, n), grind (arith, common_steps, m))
+
+counted : (links : List Link) (n : ℕ) (entries : List Entry) (asked : List Asked) (log : List Linked) → IsLogOf links n entries asked log → IsCounted entries asked log
+counted links n [] [] [] l = (refl, refl)
+counted links n (e ∷ entries) [] [] l = absurd cc
+counted links n [] [] (i ∷ log) l = absurd l
+counted links n (e ∷ entries) [] (i ∷ log) l = absurd l
+counted links n [] (a ∷ asked) [] l = absurd l
+counted links n (e ∷ entries) (a ∷ asked) [] l = absurd l
+counted links n [] (a ∷ asked) (item.Entry taken at ∷ log) l = absurd l
+counted links n (e ∷ entries) (a ∷ asked) (item.Entry taken at ∷ log) l =
+    entry_counted entries e asked a log taken at (counted links (n + 1) entries asked log l.5)
+counted links n [] (a ∷ asked) (item.Stopped x y taken tag stop reply ∷ log) l =
+    stop_counted [] asked a log x y taken tag stop reply (counted links n [] asked log l.5)
+counted links n (e ∷ entries) (a ∷ asked) (item.Stopped x y taken tag stop reply ∷ log) l =
+    stop_counted (e ∷ entries) asked a log x y taken tag stop reply (counted links n (e ∷ entries) asked log l.5)
+
+pub logs_are_counted : LogsAreCounted
+logs_are_counted links setting asked =
+    let after = all_answered (new_linked links setting) asked in
+    counted links 0 after.history.entries asked after.log (logs_are_of_answers links setting asked)

@@ -1,5 +1,5 @@
 -- The link with the longest FROM.
-use Rattle.std.proofs.Common.{◌≡◌, ◌∙◌, ℕ, ◌≤◌, ◌<◌, ltb, Bool, true, false, ◌&&◌, cond, List, [], ◌∷◌, length, Option, None, Some, inl, inr, refl, subst, ap, sym, arith}
+use Rattle.std.proofs.Common.{◌≡◌, ◌∙◌, ℕ, ◌≤◌, ltb, Bool, true, false, ◌&&◌, cond, List, [], ◌∷◌, length, Option, None, Some, inl, inr, refl, subst, sym, arith}
 use Rattle.std.proofs.lemmas.Bool.{and_parts, false≢true}
 use Rattle.std.proofs.lemmas.Bool.Decides.{nat_tests}
 use Rattle.sb_link.specs.Resolution.{applying, is_longer, is_under, longer, longest}

@@ -1,5 +1,5 @@
 -- A name resolves to a name.
-use Rattle.std.proofs.Common.{◌≡◌, ◌∙◌, ℕ, zero, suc, ◌+◌, ◌<◌, eqb, Bool, true, false, ◌&&◌, List, [], ◌∷◌, ◌++◌, length, take, drop, Option, None, Some, inl, inr, refl, subst, ap, sym, arith, append-nil}
+use Rattle.std.proofs.Common.{◌≡◌, ◌∙◌, ℕ, zero, suc, ◌<◌, eqb, Bool, true, false, List, [], ◌∷◌, ◌++◌, length, take, drop, Option, None, Some, inl, inr, refl, subst, ap, sym, arith, append-nil}
 use Rattle.std.specs.List.{list_all, onto_first}
 use Rattle.std.proofs.lemmas.Bool.{and_parts, eqb-true, false≢true}
 use Rattle.std.proofs.lemmas.List.{take-append-drop}
@@ -7,7 +7,7 @@ use Rattle.std.proofs.lemmas.List.Folds.{list_all-append}
 use Rattle.std.proofs.lemmas.List.Splits.{length-slice_split, slice_split-cons_yes, slice_split-cons_no}
 use Rattle.sb_wide.specs.Names.{is_component, is_name_of, parts_of}
 use Rattle.sb_wide.specs.Wide.{is_same}
-use Rattle.sb_link.specs.Links.{AreLinks, is_link, is_link_name}
+use Rattle.sb_link.specs.Links.{is_link, is_link_name}
 use Rattle.sb_link.specs.Resolution.{applying, ends_component, is_under, replaced, resolve_within, most_steps}
 use Rattle.sb_link.specs.ResolutionLaws.{IsAmong, NamesResolveToNames}
 use Rattle.sb_link.specs.declared.links.Link.{Link}

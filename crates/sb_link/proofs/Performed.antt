@@ -1,16 +1,8 @@
 -- Calls that were performed.
-use Rattle.std.proofs.Common.{◌≡◌, ◌∙◌, ℕ, zero, suc, ◌+◌, List, [], ◌∷◌, Option, None, Some, refl, subst, ap, sym}
+use Rattle.std.proofs.Common.{◌≡◌, ℕ, zero, suc, ◌+◌, List, [], ◌∷◌, Some, subst}
 use Rattle.std.specs.Prelude.{slice_get}
-use Rattle.sb_call.specs.Tags.{shape_of}
-use Rattle.sb_call.specs.declared.arguments.Arg.{Arg}
-use Rattle.sb_call.specs.declared.tags.CallTag.{CallTag}
-use Rattle.sb_block.specs.Calls.{call_of}
 use Rattle.sb_rule.specs.Verdicts.{policy_at}
-use Rattle.sb_rule.specs.declared.actions.Action.{Action}
 use Rattle.sb_book.specs.Headline.{EntriesSayWhatWasDone, Says, space_at}
-use Rattle.sb_book.specs.Laws.{IsAllowed}
-use Rattle.sb_book.specs.declared.decisions.Decision.{Decision}
-use Rattle.sb_book.specs.declared.decisions.Decision.TheVariants.{Performed}
 use Rattle.sb_book.specs.declared.entries.Entry.{Entry}
 use Rattle.sb_link.specs.LinkedHistories.{PerformAllResolved, PerformsResolved}
 use Rattle.sb_link.specs.LinkedLaws.{PerformedCallsAreResolved}

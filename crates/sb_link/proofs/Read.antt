@@ -1,9 +1,9 @@
 -- Links that are read are links, and can be written.
-use Rattle.std.proofs.Common.{◌≡◌, ◌∙◌, ℕ, ◌+◌, ◌<◌, ◌≤◌, nat_eq, nat_le, Bool, true, false, not, cond, ◌&&◌, ◌||◌, List, [], ◌∷◌, ◌++◌, Ok, Err, Result, Option, None, Some, length, codes, refl, subst, ap, sym, arith}
+use Rattle.std.proofs.Common.{◌≡◌, ◌∙◌, ℕ, ◌<◌, nat_eq, nat_le, Bool, true, false, List, [], ◌∷◌, ◌++◌, Ok, Err, Result, Option, None, Some, length, codes, refl, subst, ap, sym, arith}
 use Rattle.std.specs.Cmp.Lexicographic.{pointwise}
 use Rattle.std.specs.List.{list_all, list_any}
 use Rattle.std.specs.Str.{is_utf8}
-use Rattle.std.proofs.lemmas.Bool.{and_parts, false≢true}
+use Rattle.std.proofs.lemmas.Bool.{and_parts}
 use Rattle.std.proofs.lemmas.Bool.Decides.{nat_tests}
 use Rattle.std.proofs.lemmas.List.Folds.{list_all-append}
 use Rattle.std.proofs.lemmas.Str.{IsUtf8-from_is_utf8}
@@ -17,8 +17,8 @@ use Rattle.sb_text.specs.Tokens.{Lexeme, Word, Quoted, Bad, string_of, tokens_of
 use Rattle.sb_text.specs.Utf8.{Place, not_utf8_place}
 use Rattle.sb_text.specs.declared.refusals.TokenFault.{TokenFault}
 use Rattle.sb_text.specs.declared.refusals.WordFault.TheVariants as word
-use Rattle.sb_link.specs.LinkTexts.{LinkFault, add_line, grammar, link_version, new_link, read_link, reading, string_at}
-use Rattle.sb_link.specs.Links.{AreLinks, is_from, is_link, is_link_name, most_links}
+use Rattle.sb_link.specs.LinkTexts.{add_line, grammar, link_version, new_link, read_link, string_at}
+use Rattle.sb_link.specs.Links.{AreLinks, is_from, is_link_name, most_links}
 use Rattle.sb_link.specs.Writing.{ReadLinksAreLinks, is_text, is_writable}
 use Rattle.sb_link.specs.declared.faults.LinkKind.{LinkKind}
 use Rattle.sb_link.specs.declared.faults.LinkKind.TheVariants.{NotUtf8, UnknownWord, BadName, SameName, TooMany}

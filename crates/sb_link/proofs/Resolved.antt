@@ -1,5 +1,5 @@
 -- Arguments whose names are resolved.
-use Rattle.std.proofs.Common.{◌≡◌, ◌∙◌, ℕ, ◌+◌, ◌^◌, ◌<◌, Bool, true, ◌&&◌, List, [], ◌∷◌, ◌++◌, length, Option, None, Some, Result, Ok, Err, refl, subst, ap, sym, arith}
+use Rattle.std.proofs.Common.{◌≡◌, ◌∙◌, ℕ, ◌+◌, ◌^◌, ◌<◌, true, List, [], ◌∷◌, ◌++◌, length, Option, None, Some, Result, Ok, Err, refl, subst, ap, sym, arith}
 use Rattle.std.specs.Prelude.{option_map}
 use Rattle.std.proofs.lemmas.Bool.{and_parts, false≢true}
 use Rattle.std.proofs.lemmas.List.{append_assoc, append-nil}
@@ -11,14 +11,13 @@ use Rattle.sb_call.specs.declared.tags.CallTag.{CallTag}
 use Rattle.sb_call.specs.declared.tags.CallTag.TheVariants.{Ping, FileCreate, FileOpen, FileQuery, FileRename, PipeCreate, KeyCreate, KeyOpen, EventCreate, EventOpen, HandleClose}
 use Rattle.sb_call.specs.declared.tags.ParamKind.{ParamKind}
 use Rattle.sb_call.specs.declared.tags.ParamKind.TheVariants.{Text, Name, Num, Handle}
-use Rattle.sb_wide.specs.Names.{is_name_of}
 use Rattle.sb_text.specs.Steps.{on_value}
 use Rattle.sb_link.specs.Answers.{AreResolved, IsResolvedArg, resolved_arg, resolved_args, resolved_from}
 use Rattle.sb_link.specs.Links.{AreLinks}
 use Rattle.sb_link.specs.Resolution.{resolve}
 use Rattle.sb_link.specs.declared.links.Link.{Link}
 use Rattle.sb_link.specs.declared.stops.Stop.{Stop}
-use Rattle.sb_link.specs.declared.stops.Stop.TheVariants.{Loop, TooBig}
+use Rattle.sb_link.specs.declared.stops.Stop.TheVariants.{Loop}
 use Rattle.sb_link.proofs.Adding.{both}
 use Rattle.sb_link.proofs.Named.{names_resolve}
 use Rattle.sb_link.proofs.Steps.{of_some, none_is_none, resolved_names_stay}

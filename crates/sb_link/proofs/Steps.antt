@@ -1,6 +1,6 @@
 -- The steps by which a name resolves.
 use Rattle.std.proofs.Common.{◌≡◌, ◌∙◌, ℕ, zero, suc, ◌-◌, ◌<◌, List, Option, None, Some, refl, subst, ap, sym, arith}
-use Rattle.sb_link.specs.Resolution.{applying, replaced, resolve_within, resolve, most_steps}
+use Rattle.sb_link.specs.Resolution.{applying, replaced, resolve_within, most_steps}
 use Rattle.sb_link.specs.ResolutionLaws.{OtherNamesStay, ResolvedNamesStay}
 use Rattle.sb_link.specs.declared.links.Link.{Link}
 

@@ -1,24 +1,24 @@
 -- Links that are written are read back.
-use Rattle.std.proofs.Common.{◌≡◌, ◌∙◌, ℕ, ◌+◌, ◌<◌, ◌≤◌, nat_le, Bool, true, false, not, cond, ◌&&◌, ◌||◌, List, [], ◌∷◌, ◌++◌, Ok, Err, Result, Option, None, Some, length, map, codes, refl, subst, ap, sym, arith}
-use Rattle.std.specs.List.{flat_map, list_all, list_any}
+use Rattle.std.proofs.Common.{◌≡◌, ◌∙◌, ℕ, ◌+◌, ◌<◌, ◌≤◌, nat_le, Bool, true, false, not, cond, ◌||◌, List, [], ◌∷◌, ◌++◌, Ok, Result, Option, length, map, codes, refl, subst, ap, sym, arith}
+use Rattle.std.specs.List.{list_all, list_any}
 use Rattle.std.proofs.lemmas.Bool.{and_parts, false≢true}
 use Rattle.std.proofs.lemmas.Bool.Decides.{nat_tests}
 use Rattle.std.proofs.lemmas.List.{append_assoc, append-nil, length-append}
 use Rattle.std.proofs.lemmas.List.Folds.{list_all-append}
 use Rattle.std.proofs.lemmas.Str.{is_utf8-from_IsUtf8}
 use Rattle.sb_text.specs.Lines.{NumberedLine, lines_of}
-use Rattle.sb_text.specs.PlainLines.{PlainLinesAreRead, PlainLinesAreUtf8, PlainTokensAreRead, is_plain, is_plain_line, line_text, numbered}
+use Rattle.sb_text.specs.PlainLines.{PlainLinesAreRead, PlainLinesAreUtf8, PlainTokensAreRead, is_plain, is_plain_line, numbered}
 use Rattle.sb_text.specs.Readings.{on_line, read_by, read_lines, where_utf8}
 use Rattle.sb_text.specs.Spots.{by_tokens, fails_left}
 use Rattle.sb_text.specs.Steps.{◌>>=◌, version_at}
 use Rattle.sb_text.specs.Strings.{ComesBack, StringsComeBack}
 use Rattle.sb_text.specs.TokenLaws.{is_quoted_byte, written_line}
-use Rattle.sb_text.specs.Tokens.{Lexeme, Quoted, utf8_of}
-use Rattle.sb_text.specs.Utf8.{Place, not_utf8_place}
+use Rattle.sb_text.specs.Tokens.{Lexeme, utf8_of}
+use Rattle.sb_text.specs.Utf8.{Place}
 use Rattle.sb_text.specs.Utf8Laws.{NotUtf8PlaceTells}
 use Rattle.sb_text.specs.declared.refusals.TokenFault.{TokenFault}
 use Rattle.sb_text.specs.declared.refusals.WordFault.TheVariants.{NoVersion}
-use Rattle.sb_link.specs.LinkTexts.{LinkFault, grammar, link_version, new_link, read_link, reading, string_at}
+use Rattle.sb_link.specs.LinkTexts.{grammar, new_link, read_link, string_at}
 use Rattle.sb_link.specs.Links.{AreLinks, are_distinct, is_from, is_link, is_link_name, most_links}
 use Rattle.sb_link.specs.Writing.{WrittenLinksAreRead, is_text, is_writable, link_lines, link_tokens, string_token, version_tokens, written}
 use Rattle.sb_link.specs.declared.faults.LinkKind.{LinkKind}

@@ -1,5 +1,5 @@
 -- What becomes of a call when the names of its copy are resolved first.
-use Rattle.std.specs.Prelude.{◌≡◌, ⊤, ℕ, ◌+◌, true, nat_le, List, [], ◌∷◌, length, Option, None, Some, option_map, Result, Ok, Err, if◌then◌else◌}
+use Rattle.std.specs.Prelude.{◌≡◌, ⊤, ℕ, ◌+◌, nat_le, List, [], ◌∷◌, length, Option, None, Some, option_map, Result, Ok, Err, if◌then◌else◌}
 use Rattle.sb_call.specs.Statuses.{path_not_found}
 use Rattle.sb_call.specs.Tags.{shape_of}
 use Rattle.sb_call.specs.declared.arguments.Arg.{Arg}
@@ -10,7 +10,7 @@ use Rattle.sb_call.specs.declared.tags.ParamKind.{ParamKind}
 use Rattle.sb_call.specs.declared.tags.ParamKind.TheVariants.{Text, Name, Num, Handle}
 use Rattle.sb_block.specs.Blocks.{block}
 use Rattle.sb_block.specs.Calls.{decoded}
-use Rattle.sb_block.specs.Copies.{Copied, mark_of, whole}
+use Rattle.sb_block.specs.Copies.{Copied, whole}
 use Rattle.sb_block.specs.Layout.{most_words}
 use Rattle.sb_block.specs.declared.calls.Call.{Call}
 use Rattle.sb_block.specs.declared.faults.BlockFault.{BlockFault}

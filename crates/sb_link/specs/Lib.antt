@@ -8,4 +8,5 @@ pub mod Writing
 pub mod Answers
 pub mod LinkedHistories
 pub mod LinkedLaws
+pub mod ScriptCalls
 pub mod Lines

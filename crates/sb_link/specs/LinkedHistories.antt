@@ -1,5 +1,5 @@
 -- The history of a book that resolves the names of each copy first.
-use Rattle.std.specs.Prelude.{◌≡◌, ⊤, ℕ, ◌+◌, List, [], ◌∷◌, ◌++◌, length, Result, Ok, Err}
+use Rattle.std.specs.Prelude.{◌≡◌, ⊤, ℕ, ◌+◌, Bool, true, false, List, [], ◌∷◌, ◌++◌, length, Result, Ok, Err}
 use Rattle.sb_call.specs.Tags.{shape_of}
 use Rattle.sb_call.specs.declared.replies.Reply.{Reply}
 use Rattle.sb_block.specs.Copies.{Copied, mark_of}
@@ -14,6 +14,11 @@ use Rattle.sb_link.specs.declared.links.Link.{Link}
 use Rattle.sb_link.specs.declared.stops.StoppedCall.{StoppedCall}
 use Rattle.sb_link.specs.declared.linked_books.Linked.{Linked}
 use Rattle.sb_link.specs.declared.linked_books.Linked.TheVariants as item
+
+-- an item is of a call that stopped
+abbrev pub is_stopped : Linked → Bool
+is_stopped (item.Entry taken at) = false
+is_stopped (item.Stopped target channel taken tag stop reply) = true
 
 -- the links, the history of the book, and an item for each answer
 pub record LinkedHistory : Type 0 where
@@ -42,6 +47,17 @@ answered_by s target channel taken (Err stopped) =
 -- the history after the answer to a copy
 abbrev pub answered_linked : LinkedHistory → ℕ → ℕ → Copied → LinkedHistory
 answered_linked s target channel taken = answered_by s target channel taken (linked s.links taken)
+
+-- what is to be answered: a copy, and whose it is
+pub record Asked : Type 0 where
+  pub target : ℕ
+  pub channel : ℕ
+  pub taken : Copied
+
+-- the history after the answers to these, in order
+abbrev pub all_answered : LinkedHistory → List Asked → LinkedHistory
+all_answered s [] = s
+all_answered s (a ∷ asked) = all_answered (answered_linked s a.target a.channel a.taken) asked
 
 -- the reply to a copy, by what becomes of it
 abbrev pub reply_by : LinkedHistory → ℕ → Copied → Result Copied StoppedCall → Reply

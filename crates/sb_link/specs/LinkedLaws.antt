@@ -1,5 +1,6 @@
 -- What is true of a book that resolves names first.
-use Rattle.std.specs.Prelude.{◌≡◌, ⊤, ℕ, ◌+◌, List, [], ◌∷◌, map, None, Some, slice_get, Ok, Err}
+use Rattle.std.specs.Prelude.{◌≡◌, ℕ, ◌+◌, List, [], ◌∷◌, length, Some, slice_get, Ok, Err}
+use Rattle.std.specs.List.{count_by}
 use Rattle.sb_call.specs.Tags.{shape_of}
 use Rattle.sb_call.specs.declared.arguments.Arg.{Arg}
 use Rattle.sb_call.specs.declared.tags.CallTag.{CallTag}
@@ -7,27 +8,16 @@ use Rattle.sb_block.specs.Calls.{call_of}
 use Rattle.sb_block.specs.Copies.{Copied, mark_of}
 use Rattle.sb_rule.specs.Verdicts.{policy_at}
 use Rattle.sb_rule.specs.declared.actions.Action.{Action}
-use Rattle.sb_book.specs.Histories.{History, IsHistory, Setting}
+use Rattle.sb_book.specs.Histories.{IsHistory, Setting}
 use Rattle.sb_book.specs.Laws.{IsAllowed}
 use Rattle.sb_book.specs.declared.decisions.Decision.TheVariants.{Performed}
 use Rattle.sb_book.specs.declared.entries.Entry.{Entry}
 use Rattle.sb_link.specs.Answers.{AreResolved, linked, stopped_reply}
-use Rattle.sb_link.specs.LinkedHistories.{LinkedHistory, IsLinkedHistory, answered_linked, new_linked}
+use Rattle.sb_link.specs.LinkedHistories.{Asked, IsLinkedHistory, LinkedHistory, all_answered, answered_linked, is_stopped, new_linked}
 use Rattle.sb_link.specs.declared.links.Link.{Link}
 use Rattle.sb_link.specs.declared.stops.StoppedCall.{StoppedCall}
 use Rattle.sb_link.specs.declared.linked_books.Linked.{Linked}
 use Rattle.sb_link.specs.declared.linked_books.Linked.TheVariants as item
-
--- what is to be answered: a copy, and whose it is
-pub record Asked : Type 0 where
-  pub target : ℕ
-  pub channel : ℕ
-  pub taken : Copied
-
--- the history after the answers to these, in order
-abbrev pub all_answered : LinkedHistory → List Asked → LinkedHistory
-all_answered s [] = s
-all_answered s (a ∷ asked) = all_answered (answered_linked s a.target a.channel a.taken) asked
 
 -- A log of these, with the entries from number n on: one item for each, in order, with its copy. Where the copy's call stops, the item has its target and
 -- channel, and its tag, stop and reply; else it names the next entry, which has its target and channel, and the copy that became of its own
@@ -47,6 +37,12 @@ IsLogOf links n entries (a ∷ asked) (item.Stopped target channel taken tag sto
 abbrev pub LogsAreOfAnswers : Type 0
 LogsAreOfAnswers = (links : List Link) (setting : Setting) (asked : List Asked)
     → IsLogOf links 0 (all_answered (new_linked links setting) asked).history.entries asked (all_answered (new_linked links setting) asked).log
+
+-- after any list of answers there is an item for each, and each item is of an entry or of a call that stopped
+abbrev pub LogsAreCounted : Type 0
+LogsAreCounted = (links : List Link) (setting : Setting) (asked : List Asked)
+    → (length (all_answered (new_linked links setting) asked).log ≡ length asked)
+    × (length (all_answered (new_linked links setting) asked).history.entries + count_by is_stopped (all_answered (new_linked links setting) asked).log ≡ length asked)
 
 -- a call that stops changes neither the namespace nor the entries
 abbrev pub StoppedCallsChangeNothing : Type 0

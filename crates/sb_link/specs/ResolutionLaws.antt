@@ -3,7 +3,7 @@ use Rattle.std.specs.Prelude.{◌≡◌, ◌⊎◌, ℕ, true, ◌≤◌, List, 
 use Rattle.sb_wide.specs.Names.{is_name_of}
 use Rattle.sb_wide.specs.Wide.{is_same}
 use Rattle.sb_link.specs.Links.{AreLinks}
-use Rattle.sb_link.specs.Resolution.{is_under, applying, replaced, resolve}
+use Rattle.sb_link.specs.Resolution.{is_under, applying, resolve}
 use Rattle.sb_link.specs.declared.links.Link.{Link}
 
 -- a link is one of these

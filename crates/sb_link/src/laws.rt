@@ -1,6 +1,6 @@
 // Laws of resolving names, and of books that do it. None of these functions does anything: each contract is a law.
 ghost use Rattle.sb_link.specs.Cases.{ChainsResolve, LongestResolves, LoopsDoNotResolve, RingsDoNotResolve};
-ghost use Rattle.sb_link.specs.LinkedLaws.{LogsAreOfAnswers, PerformedCallsAreResolved, StoppedCallsChangeNothing};
+ghost use Rattle.sb_link.specs.LinkedLaws.{LogsAreCounted, LogsAreOfAnswers, PerformedCallsAreResolved, StoppedCallsChangeNothing};
 ghost use Rattle.sb_link.specs.ResolutionLaws.{LongestLinksApply, NamesResolveToNames, OrderDoesNotMatter, OtherNamesStay, ResolvedNamesStay, SameNamesResolveAlike};
 ghost use Rattle.sb_link.specs.Writing.{ReadLinksAreLinks, WrittenLinksAreRead};
 
@@ -50,6 +50,12 @@ pub fn same_names_resolve_alike()
 #[tactic(auto, using(crate::proofs::Logs::logs_are_of_answers))]
 pub fn logs_are_of_answers()
     ensures { LogsAreOfAnswers }
+{}
+
+/// After any list of answers there is an item for each, and as many entries as items that are not of stopped calls: the three numbers of
+/// the line of totals add up.
+pub fn logs_are_counted()
+    ensures { LogsAreCounted }
 {}
 
 /// A call that stops changes neither the namespace nor the entries.

@@ -1,9 +1,8 @@
 use Rattle.std.proofs.Common.{rules, ◌≡◌, ◌∙◌, ◌++◌, ◌∷◌, [], length, subst, sym, ap}
 use Rattle.std.specs.Prelude.{Ok, Err}
-use Rattle.sb_block.specs.Calls.{decoded}
 use Rattle.sb_block.specs.Copies.{mark_of}
 use Rattle.sb_book.specs.Histories.{answered}
-use Rattle.sb_link.specs.Answers.{IsResolvedCall, linked, stopped_reply}
+use Rattle.sb_link.specs.Answers.{linked, stopped_reply}
 use Rattle.sb_link.specs.LinkedHistories.{IsLinkedHistory, LinkedHistory, answered_by, answered_linked, decided, linked_reply, reply_by}
 use Rattle.sb_link.specs.declared.linked_books.Linked.TheVariants as item
 use Rattle.sb_link.proofs.Linking.{entry_is_linked, stop_is_linked}
