@@ -1,13 +1,12 @@
 -- What is shown before a place, and the caret under it.
-use Rattle.std.proofs.Common.{◌≡◌, ◌∙◌, ℕ, ◌+◌, ◌-◌, ◌≤◌, ◌<◌, zero, suc, min, Bool, true, false, cond, ◌||◌, nat_lt, List, [], ◌∷◌, ◌++◌, length, take, drop, replicate, refl, sym, ap, arith}
-use Rattle.std.proofs.lemmas.Bool.Decides.{nat_tests}
+use Rattle.std.proofs.Common.{◌≡◌, ◌∙◌, ℕ, ◌-◌, ◌≤◌, Bool, true, false, cond, ◌||◌, nat_lt, List, [], ◌∷◌, ◌++◌, length, take, drop, replicate, refl, sym, ap, arith}
 use Rattle.std.proofs.lemmas.Grind.{flat_map-append}
-use Rattle.std.proofs.lemmas.List.{append_assoc, append-nil, take-append-drop, take-take, length-drop}
+use Rattle.std.proofs.lemmas.List.{append_assoc, append-nil, take-append-drop, take-take}
 use Rattle.std.specs.List.{list_any}
 use Rattle.sb_message.specs.declared.glyphs.Glyph.{Glyph}
-use Rattle.sb_message.specs.Excerpts.{window_start, dots, width, blanks_under, excerpt, caret}
+use Rattle.sb_message.specs.Excerpts.{window_start, dots, width, blanks_under}
 use Rattle.sb_message.specs.Glyphs.{is_tab, shown, shown_glyph}
-use Rattle.sb_message.specs.MessageLaws.{before_place, shown_before, CaretsAreUnderTheirPlace, ExcerptsHaveTheirPlace}
+use Rattle.sb_message.specs.Laws.{before_place, CaretsAreUnderTheirPlace, ExcerptsHaveTheirPlace}
 
 neither : (a b : Bool) → (a || b) ≡ false → (a ≡ false) × (b ≡ false)
 neither true b h = search h

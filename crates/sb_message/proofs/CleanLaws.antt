@@ -1,137 +1,312 @@
--- No control character is in a message.
-use Rattle.std.proofs.Common.{◌≡◌, ◌∙◌, ℕ, ◌+◌, ◌-◌, ◌/◌, ◌%◌, ◌≤◌, ◌<◌, zero, suc, Bool, true, false, not, cond, eqb, ltb, ◌||◌, ◌&&◌, nat_lt, List, [], ◌∷◌, ◌++◌, length, take, drop, replicate, codes, refl, sym, ap, arith}
-use Rattle.std.proofs.Math.Utf8.{encode}
+-- What is shown is clean.
+use Rattle.std.proofs.Common.{◌≡◌, ⊎_elim, ◌∙◌, ℕ, ◌-◌, ◌/◌, ◌%◌, ◌<◌, ◌==◌, zero, suc, Bool, true, false, not, cond, eqb, ◌||◌, ◌&&◌, nat_le, nat_lt, List, [], ◌∷◌, ◌++◌, length, take, drop, replicate, Option, None, Some, codes, refl, sym, ap, ap₂, lt-ltb, arith}
+use Rattle.std.proofs.Math.Utf8.{scalar, scalars, encode, encodes}
+use Rattle.std.proofs.lemmas.Bool.{cases_lt, false≢true}
 use Rattle.std.proofs.lemmas.Bool.Decides.{nat_tests}
+use Rattle.std.proofs.lemmas.List.{append-nil}
 use Rattle.std.proofs.lemmas.List.Folds.{list_all-append}
-use Rattle.std.specs.Char.{is_control}
+use Rattle.std.proofs.lemmas.Str.{is_utf8-from_IsUtf8, encodes-append, chars-encodes}
 use Rattle.std.specs.Fmt.{decimal, digits, digits_onto, digit_glyph}
 use Rattle.std.specs.List.{list_all}
+use Rattle.std.specs.Str.{chars}
+use Rattle.bstr.specs.Utf8.{decoded}
+use Rattle.bstr.proofs.lemmas.SoundLemmas.{SpellsChar-decoded}
+use Rattle.ucd_category.specs.GeneralCategory.{general_category}
+use Rattle.ucd_category.specs.GeneralCategoryRows.{general_category_rows}
+use Rattle.ucd_table.specs.Rows.{value_in}
 use Rattle.sb_wide.specs.Numbers.{hexadecimal}
 use Rattle.sb_message.specs.declared.glyphs.Glyph.{Glyph}
 use Rattle.sb_message.specs.declared.glyphs.Glyph.TheVariants.{Char, Byte}
 use Rattle.sb_message.specs.declared.messages.FaultyText.{FaultyText}
-use Rattle.sb_message.specs.declared.messages.FaultyText.TheVariants.{Policy, Script, Schedule}
+use Rattle.sb_message.specs.declared.messages.FaultyText.TheVariants.{Policy, Script, Schedule, Links, Moves}
 use Rattle.sb_message.specs.declared.messages.TextFault.{TextFault}
-use Rattle.sb_message.specs.Excerpts.{window_start, dots, width, blanks_under, excerpt, caret}
-use Rattle.sb_message.specs.Glyphs.{is_hidden, is_tab, escaped, shown_glyph, shown, shown_bytes, glyphs_of}
-use Rattle.sb_message.specs.MessageLaws.{is_clean, MessagesAreClean}
-use Rattle.sb_message.specs.Messages.{text_word, place_of, headline, first_line, column_text, place_line, excerpt_lines, shown_line, fault_message}
+use Rattle.sb_message.specs.CleanTexts.{is_clean, IsClean}
+use Rattle.sb_message.specs.Excerpts.{window_start, dots, width, blanks_under, excerpt, caret, excerpt_lines}
+use Rattle.sb_message.specs.Glyphs.{is_hidden, is_tab, escaped, glyph_by, first_size, glyphs_after, glyphs_of, shown_glyph, shown, shown_bytes}
+use Rattle.sb_message.specs.Laws.{ShownTextsAreClean}
+use Rattle.sb_message.specs.Messages.{text_word, headline, first_line, column_text, place_line, fault_message}
+use Rattle.sb_message.specs.Places.{place_of, named_at, shown_line}
+use Rattle.sb_message.specs.Tokens.{until, first_token, is_char, is_blank_glyph, quoted, quoted_bytes}
 
-abbrev Clean : List ℕ → Type 0
-Clean bs = list_all is_clean bs ≡ true
+-- ---- spelling by clean characters
 
-both : (a b : List ℕ) → Clean a → Clean b → Clean (a ++ b)
-both a b ha hb = rw (list_all-append is_clean a b, ha, hb) refl
+abbrev is_good : ℕ → Bool
+is_good c = scalar c && is_clean c
 
-by_test : (b : Bool) (x y : List ℕ) → (b ≡ true → Clean x) → (b ≡ false → Clean y) → Clean (cond b x y)
-by_test true x y hx hy = hx refl
-by_test false x y hx hy = hy refl
+abbrev pub Spelled : List ℕ → Type 0
+Spelled text = (cs : List ℕ) × (list_all is_good cs ≡ true) × (encodes cs ≡ text)
 
-digit_clean : (upper : Bool) (d : ℕ) → d < 16 → is_clean (digit_glyph upper d) ≡ true
-digit_clean true d h = grind (arith, nat_tests)
-digit_clean false d h = grind (arith, nat_tests)
+left_of : (a b : Bool) → (a && b) ≡ true → a ≡ true
+left_of true b h = refl
+left_of false b h = h
 
-onto_clean : (k base : ℕ) (upper : Bool) (n : ℕ) (acc : List ℕ) → ((m : ℕ) → m % base < 16) → Clean acc → Clean (digits_onto k base upper n acc)
-onto_clean zero base upper n acc small h = h
-onto_clean (suc k) base upper n acc small h =
-    let one : Clean (digit_glyph upper (n % base) ∷ acc) = both (digit_glyph upper (n % base) ∷ []) acc (rw (digit_clean upper (n % base) (small n)) refl) h in
-    by_test (eqb (n / base) 0) (digit_glyph upper (n % base) ∷ acc) _ (λ _. one) (λ _. onto_clean k base upper (n / base) (digit_glyph upper (n % base) ∷ acc) small one)
+right_of : (a b : Bool) → (a && b) ≡ true → b ≡ true
+right_of true b h = h
+right_of false b h = absurd (false≢true h)
 
-hexadecimal_clean : (n : ℕ) → Clean (hexadecimal n)
-unfolding digits
-hexadecimal_clean n = onto_clean 64 16 false n [] (λ m. omega arith) refl
+scalars_of : (cs : List ℕ) → list_all is_good cs ≡ true → scalars cs ≡ true
+scalars_of [] h = refl
+scalars_of (c ∷ cs) h =
+    let here = left_of (scalar c) (is_clean c) (left_of (is_good c) (list_all is_good cs) h) in
+    ap₂ (λ x y. x && y) here (scalars_of cs (right_of (is_good c) (list_all is_good cs) h))
 
-decimal_clean : (n : ℕ) → Clean (decimal n)
-unfolding digits
-decimal_clean n = onto_clean 64 10 false n [] (λ m. omega arith) refl
+cleans_of : (cs : List ℕ) → list_all is_good cs ≡ true → list_all is_clean cs ≡ true
+cleans_of [] h = refl
+cleans_of (c ∷ cs) h =
+    let here = right_of (scalar c) (is_clean c) (left_of (is_good c) (list_all is_good cs) h) in
+    ap₂ (λ x y. x && y) here (cleans_of cs (right_of (is_good c) (list_all is_good cs) h))
 
-escaped_clean : (opening : List ℕ) (n : ℕ) → Clean opening → Clean (escaped opening n)
-escaped_clean opening n h = both (opening ++ hexadecimal n) (125 ∷ []) (both opening (hexadecimal n) h (hexadecimal_clean n)) refl
+pub clean_of : (text : List ℕ) → Spelled text → IsClean text
+clean_of text (cs, good, spells) = (
+  is_utf8-from_IsUtf8 text (cs, (scalars_of cs good, spells)),
+  ap (λ t. list_all is_clean (chars t)) (sym spells) ∙ ap (list_all is_clean) (chars-encodes cs (scalars_of cs good)) ∙ cleans_of cs good,
+)
 
--- a byte of a character that is not ASCII
-high_clean : (b : ℕ) → 128 ≤ b → is_clean b ≡ true
-high_clean b h = grind (arith, nat_tests)
+pub both : (a b : List ℕ) → Spelled a → Spelled b → Spelled (a ++ b)
+both a b (cs, gc, sc) (ds, gd, sd) = (
+  cs ++ ds,
+  list_all-append is_good cs ds ∙ ap₂ (λ x y. x && y) gc gd,
+  encodes-append cs ds ∙ ap₂ (λ x y. x ++ y) sc sd,
+)
 
--- a character that is not hidden is a tab or no control character
-not_hidden : (tab control line paragraph format : Bool) → (not tab && (control || line || paragraph || format)) ≡ false → (tab || not control) ≡ true
-not_hidden true control line paragraph format h = refl
-not_hidden false false line paragraph format h = refl
-not_hidden false true line paragraph format h = sym h
+-- three to six parts
+pub three : (a b c : List ℕ) → Spelled a → Spelled b → Spelled c → Spelled (a ++ b ++ c)
+three a b c ha hb hc = both (a ++ b) c (both a b ha hb) hc
 
-ascii_clean : (c : ℕ) → (eqb c 9 || not (is_control c)) ≡ true → ltb c 128 ≡ true → is_clean c ≡ true
-ascii_clean c h l = grind (arith, nat_tests)
+pub four : (a b c d : List ℕ) → Spelled a → Spelled b → Spelled c → Spelled d → Spelled (a ++ b ++ c ++ d)
+four a b c d ha hb hc hd = both (a ++ b ++ c) d (three a b c ha hb hc) hd
 
-character_clean : (c : ℕ) → is_hidden c ≡ false → Clean (encode c)
+pub five : (a b c d e : List ℕ) → Spelled a → Spelled b → Spelled c → Spelled d → Spelled e → Spelled (a ++ b ++ c ++ d ++ e)
+five a b c d e ha hb hc hd he = both (a ++ b ++ c ++ d) e (four a b c d ha hb hc hd) he
+
+pub six : (a b c d e f : List ℕ) → Spelled a → Spelled b → Spelled c → Spelled d → Spelled e → Spelled f → Spelled (a ++ b ++ c ++ d ++ e ++ f)
+six a b c d e f ha hb hc hd he hf = both (a ++ b ++ c ++ d ++ e) f (five a b c d e ha hb hc hd he) hf
+
+pub nothing : Spelled []
+nothing = ([], refl, refl)
+
+-- ---- ASCII
+
+-- a byte that is a clean character
+abbrev pub is_plain : ℕ → Bool
+is_plain b = b == 10 || b == 9 || (nat_le 32 b && nat_lt b 127)
+
+each_below : (ℕ → Bool) → ℕ → Bool
+each_below p zero = true
+each_below p (suc n) = p n && each_below p n
+
+below : (p : ℕ → Bool) (n b : ℕ) → each_below p n ≡ true → b < n → p b ≡ true
+unfolding each_below
+below p zero b h less = absurd (omega (arith, less))
+below p (suc n) b h less = ⊎_elim (λ lower. below p n b (right_of (p n) (each_below p n) h) lower)
+    (λ same. ap p (omega (arith, less, same)) ∙ left_of (p n) (each_below p n) h) (cases_lt b n)
+
+plain_checked : each_below (λ b. not (is_plain b) || is_good b) 127 ≡ true
+unfolding general_category general_category_rows value_in each_below
+plain_checked = refl
+
+plain_low : (b : ℕ) → is_plain b ≡ true → b < 127
+plain_low b h = grind (arith, nat_tests)
+
+plain_good : (b : ℕ) → is_plain b ≡ true → is_good b ≡ true
+plain_good b h = ap (λ t. not t || is_good b) (sym h) ∙ below (λ b. not (is_plain b) || is_good b) 127 b plain_checked (plain_low b h)
+
+plain_goods : (bs : List ℕ) → list_all is_plain bs ≡ true → list_all is_good bs ≡ true
+plain_goods [] h = refl
+plain_goods (b ∷ bs) h =
+    ap₂ (λ x y. x && y) (plain_good b (left_of (is_plain b) (list_all is_plain bs) h)) (plain_goods bs (right_of (is_plain b) (list_all is_plain bs) h))
+
+ascii_encode : (b : ℕ) → b < 128 → encode b ≡ b ∷ []
 unfolding encode
-character_clean c h =
-    by_test (ltb c 128) (c ∷ []) _ (λ l. rw (ascii_clean c (not_hidden (eqb c 9) (is_control c) _ _ _ h) l) refl)
-    (λ _. by_test (ltb c 2048) _ _ (λ _. rw (high_clean (192 + c / 64) (omega arith), high_clean (128 + c % 64) (omega arith)) refl)
-    (λ _. by_test (ltb c 65536) _ _
-    (λ _. rw (high_clean (224 + c / 4096) (omega arith), high_clean (128 + c / 64 % 64) (omega arith), high_clean (128 + c % 64) (omega arith)) refl)
-    (λ _. rw (high_clean (240 + c / 262144) (omega arith), high_clean (128 + c / 4096 % 64) (omega arith), high_clean (128 + c / 64 % 64) (omega arith), high_clean (128 + c % 64) (omega arith)) refl)))
+ascii_encode b low = rw (lt-ltb b 128 low)
 
-glyph_clean : (glyph : Glyph) → Clean (shown_glyph glyph)
-glyph_clean (Char c) = by_test (is_hidden c) (escaped (codes "\\u{") c) (encode c) (λ _. escaped_clean (codes "\\u{") c refl) (λ h. character_clean c h)
-glyph_clean (Byte b) = escaped_clean (codes "\\x{") b refl
+plain_encodes : (bs : List ℕ) → list_all is_plain bs ≡ true → encodes bs ≡ bs
+plain_encodes [] h = refl
+plain_encodes (b ∷ bs) h =
+    let low : b < 127 = plain_low b (left_of (is_plain b) (list_all is_plain bs) h) in
+    ap₂ (λ x y. x ++ y) (ascii_encode b (omega (arith, low))) (plain_encodes bs (right_of (is_plain b) (list_all is_plain bs) h))
 
-shown_clean : (glyphs : List Glyph) → Clean (shown glyphs)
-shown_clean [] = refl
-shown_clean (glyph ∷ glyphs) = both (shown_glyph glyph) (shown glyphs) (glyph_clean glyph) (shown_clean glyphs)
+pub plain : (bs : List ℕ) → list_all is_plain bs ≡ true → Spelled bs
+plain bs h = (bs, plain_goods bs h, plain_encodes bs h)
 
-dots_clean : (b : Bool) → Clean (dots b)
-dots_clean true = refl
-dots_clean false = refl
+-- ---- numbers
 
-spaces_clean : (n : ℕ) → Clean (replicate n 32)
-spaces_clean zero = refl
-spaces_clean (suc n) = spaces_clean n
+digit_plain : (upper : Bool) (d : ℕ) → d < 16 → is_plain (digit_glyph upper d) ≡ true
+digit_plain true d h = grind (arith, nat_tests)
+digit_plain false d h = grind (arith, nat_tests)
 
-blanks_clean : (text : List ℕ) (glyphs : List Glyph) → Clean (blanks_under text glyphs)
+by_test : {A : Type 0} (P : A → Type 0) (b : Bool) (x y : A) → (b ≡ true → P x) → (b ≡ false → P y) → P (cond b x y)
+by_test P true x y hx hy = hx refl
+by_test P false x y hx hy = hy refl
+
+onto_plain : (k base : ℕ) (upper : Bool) (n : ℕ) (acc : List ℕ) → ((m : ℕ) → m % base < 16) → list_all is_plain acc ≡ true
+    → list_all is_plain (digits_onto k base upper n acc) ≡ true
+onto_plain zero base upper n acc small h = h
+onto_plain (suc k) base upper n acc small h =
+    let one : list_all is_plain (digit_glyph upper (n % base) ∷ acc) ≡ true = ap₂ (λ x y. x && y) (digit_plain upper (n % base) (small n)) h in
+    by_test (λ l. list_all is_plain l ≡ true) (eqb (n / base) 0) (digit_glyph upper (n % base) ∷ acc) _ (λ _. one)
+    (λ _. onto_plain k base upper (n / base) (digit_glyph upper (n % base) ∷ acc) small one)
+
+pub hexadecimal_clean : (n : ℕ) → Spelled (hexadecimal n)
+unfolding digits
+hexadecimal_clean n = plain (hexadecimal n) (onto_plain 64 16 false n [] (λ m. omega arith) refl)
+
+pub decimal_clean : (n : ℕ) → Spelled (decimal n)
+unfolding digits
+decimal_clean n = plain (decimal n) (onto_plain 64 10 false n [] (λ m. omega arith) refl)
+
+-- ---- glyphs
+
+escaped_clean : (opening : List ℕ) (n : ℕ) → Spelled opening → Spelled (escaped opening n)
+escaped_clean opening n h = three opening (hexadecimal n) (125 ∷ []) h (hexadecimal_clean n) (plain (125 ∷ []) refl)
+
+-- a glyph that bytes may have: its character is a scalar value
+abbrev is_real : Glyph → Bool
+is_real (Char c) = scalar c
+is_real (Byte b) = true
+
+abbrev Real : List Glyph → Type 0
+Real glyphs = list_all is_real glyphs ≡ true
+
+shown_good : (c : ℕ) → scalar c ≡ true → is_hidden c ≡ false → is_good c ≡ true
+shown_good c h hidden = ap₂ (λ x y. x && (c == 10 || not y)) h hidden ∙ either (c == 10)
+  where
+    either : (b : Bool) → (b || true) ≡ true
+    either true = refl
+    either false = refl
+
+glyph_clean : (glyph : Glyph) → is_real glyph ≡ true → Spelled (shown_glyph glyph)
+glyph_clean (Char c) h = by_test Spelled (is_hidden c) (escaped (codes "\\u{") c) (encode c) (λ _. escaped_clean (codes "\\u{") c (plain (codes "\\u{") refl))
+    (λ hidden. (c ∷ [], ap (λ b. b && true) (shown_good c h hidden), append-nil (encode c)))
+glyph_clean (Byte b) h = escaped_clean (codes "\\x{") b (plain (codes "\\x{") refl)
+
+shown_clean : (glyphs : List Glyph) → Real glyphs → Spelled (shown glyphs)
+shown_clean [] h = nothing
+shown_clean (glyph ∷ glyphs) h =
+    both (shown_glyph glyph) (shown glyphs) (glyph_clean glyph (left_of (is_real glyph) (list_all is_real glyphs) h))
+    (shown_clean glyphs (right_of (is_real glyph) (list_all is_real glyphs) h))
+
+real_take : (n : ℕ) (glyphs : List Glyph) → Real glyphs → Real (take n glyphs)
+real_take zero glyphs h = refl
+real_take (suc n) [] h = refl
+real_take (suc n) (glyph ∷ glyphs) h =
+    ap₂ (λ x y. x && y) (left_of (is_real glyph) (list_all is_real glyphs) h) (real_take n glyphs (right_of (is_real glyph) (list_all is_real glyphs) h))
+
+real_drop : (n : ℕ) (glyphs : List Glyph) → Real glyphs → Real (drop n glyphs)
+real_drop zero glyphs h = h
+real_drop (suc n) [] h = refl
+real_drop (suc n) (glyph ∷ glyphs) h = real_drop n glyphs (right_of (is_real glyph) (list_all is_real glyphs) h)
+
+first_real : (bs : List ℕ) (b : ℕ) (o : Option ℕ) → (decoded bs).char ≡ o → is_real (glyph_by o b) ≡ true
+first_real bs b None e = refl
+first_real bs b (Some c) e = let spelled = SpellsChar-decoded bs c e in spelled.scalar
+
+after_real : (n : ℕ) (bs : List ℕ) → Real (glyphs_after n bs)
+after_real n [] = refl
+after_real (suc n) (b ∷ bs) = after_real n bs
+after_real zero (b ∷ bs) = ap₂ (λ x y. x && y) (first_real (b ∷ bs) b (decoded (b ∷ bs)).char refl) (after_real (first_size (b ∷ bs) - 1) bs)
+
+glyphs_real : (bs : List ℕ) → Real (glyphs_of bs)
+glyphs_real bs = after_real 0 bs
+
+pub bytes_clean : (bs : List ℕ) → Spelled (shown_bytes bs)
+bytes_clean bs = shown_clean (glyphs_of bs) (glyphs_real bs)
+
+-- ---- tokens
+
+dots_clean : (b : Bool) → Spelled (dots b)
+dots_clean true = plain (codes "..") refl
+dots_clean false = nothing
+
+quoted_clean : (glyphs : List Glyph) → Real glyphs → Spelled (quoted glyphs)
+quoted_clean glyphs h =
+    four (34 ∷ []) (shown (take 40 glyphs)) (dots (nat_lt 40 (length glyphs))) (34 ∷ []) (plain (34 ∷ []) refl)
+    (shown_clean (take 40 glyphs) (real_take 40 glyphs h)) (dots_clean (nat_lt 40 (length glyphs))) (plain (34 ∷ []) refl)
+
+token_real : (glyphs : List Glyph) → Real glyphs → Real (first_token glyphs)
+token_real [] h = refl
+token_real (glyph ∷ glyphs) h = by_test Real (is_char 34 glyph) (until (is_char 34) glyphs) (until is_blank_glyph (glyph ∷ glyphs))
+    (λ _. real_take _ glyphs (right_of (is_real glyph) (list_all is_real glyphs) h)) (λ _. real_take _ (glyph ∷ glyphs) h)
+
+pub named_clean : (text : FaultyText) (column : ℕ) (line : List ℕ) → Spelled (named_at text column line)
+named_clean text column line =
+    let rest = drop (place_of text column line) (glyphs_of line) in
+    quoted_clean (first_token rest) (token_real rest (real_drop (place_of text column line) (glyphs_of line) (glyphs_real line)))
+
+pub shown_texts_clean : ShownTextsAreClean
+shown_texts_clean bs = (clean_of (shown_bytes bs) (bytes_clean bs), clean_of (quoted_bytes bs) (quoted_clean (glyphs_of bs) (glyphs_real bs)))
+
+-- ---- lines
+
+spaces_plain : (n : ℕ) → list_all is_plain (replicate n 32) ≡ true
+spaces_plain zero = refl
+spaces_plain (suc n) = spaces_plain n
+
+spaces_clean : (n : ℕ) → Spelled (replicate n 32)
+spaces_clean n = plain (replicate n 32) (spaces_plain n)
+
+blanks_clean : (text : List ℕ) (glyphs : List Glyph) → Spelled (blanks_under text glyphs)
 blanks_clean text [] = spaces_clean (width text)
 blanks_clean text (glyph ∷ glyphs) =
-    by_test (is_tab glyph) _ _ (λ _. both (replicate (width text) 32) (9 ∷ blanks_under [] glyphs) (spaces_clean (width text)) (blanks_clean [] glyphs))
+    by_test Spelled (is_tab glyph) _ _
+    (λ _. both (replicate (width text) 32) (9 ∷ blanks_under [] glyphs) (spaces_clean (width text)) (both (9 ∷ []) (blanks_under [] glyphs) (plain (9 ∷ []) refl) (blanks_clean [] glyphs)))
     (λ _. blanks_clean (text ++ shown_glyph glyph) glyphs)
 
-excerpt_clean : (place : ℕ) (glyphs : List Glyph) → Clean (excerpt place glyphs)
-excerpt_clean place glyphs =
+pub excerpt_clean : (place : ℕ) (glyphs : List Glyph) → Real glyphs → Spelled (excerpt place glyphs)
+excerpt_clean place glyphs h =
     let start = window_start place (length glyphs) in
-    both (dots (nat_lt 0 start) ++ shown (take 120 (drop start glyphs))) (dots (nat_lt 120 (length glyphs - start)))
-    (both (dots (nat_lt 0 start)) (shown (take 120 (drop start glyphs))) (dots_clean (nat_lt 0 start)) (shown_clean (take 120 (drop start glyphs)))) (dots_clean _)
+    three (dots (nat_lt 0 start)) (shown (take 120 (drop start glyphs))) (dots (nat_lt 120 (length glyphs - start))) (dots_clean (nat_lt 0 start))
+    (shown_clean (take 120 (drop start glyphs)) (real_take 120 (drop start glyphs) (real_drop start glyphs h))) (dots_clean (nat_lt 120 (length glyphs - start)))
 
-caret_clean : (place : ℕ) (glyphs : List Glyph) → Clean (caret place glyphs)
+pub line_excerpt_clean : (place : ℕ) (line : List ℕ) → Spelled (excerpt place (glyphs_of line))
+line_excerpt_clean place line = excerpt_clean place (glyphs_of line) (glyphs_real line)
+
+caret_clean : (place : ℕ) (glyphs : List Glyph) → Spelled (caret place glyphs)
 caret_clean place glyphs =
     let start = window_start place (length glyphs) in
     let blanks = blanks_under (dots (nat_lt 0 start)) (take (place - start) (drop start glyphs)) in
-    both blanks (94 ∷ []) (blanks_clean (dots (nat_lt 0 start)) (take (place - start) (drop start glyphs))) refl
+    both blanks (94 ∷ []) (blanks_clean (dots (nat_lt 0 start)) (take (place - start) (drop start glyphs))) (plain (94 ∷ []) refl)
 
-lines_clean : (place : ℕ) (glyphs : List Glyph) → Clean (excerpt_lines place glyphs)
-lines_clean place glyphs =
-    both (excerpt place glyphs ++ 10 ∷ caret place glyphs) (10 ∷ []) (both (excerpt place glyphs) (10 ∷ caret place glyphs) (excerpt_clean place glyphs) (caret_clean place glyphs)) refl
+pub feed : Spelled (10 ∷ [])
+feed = plain (10 ∷ []) refl
 
-line_clean : (text : FaultyText) (column : ℕ) (line : List ℕ) → Clean (shown_line text column line)
-line_clean text zero line = refl
-line_clean text (suc column) line = lines_clean (place_of text (suc column) line) (glyphs_of line)
+lines_clean : (place : ℕ) (line : List ℕ) → Spelled (excerpt_lines place (glyphs_of line))
+lines_clean place line =
+    let glyphs = glyphs_of line in
+    three (excerpt place glyphs) (10 ∷ caret place glyphs) (10 ∷ []) (line_excerpt_clean place line)
+    (both (10 ∷ []) (caret place glyphs) feed (caret_clean place glyphs)) feed
 
-word_clean : (text : FaultyText) → Clean (text_word text)
-word_clean Policy = refl
-word_clean Script = refl
-word_clean Schedule = refl
+line_clean : (text : FaultyText) (column : ℕ) (line : List ℕ) → Spelled (shown_line text column line)
+line_clean text zero line = nothing
+line_clean text (suc column) line = lines_clean (place_of text (suc column) line) line
 
-column_clean : (column : ℕ) → Clean (column_text column)
-column_clean zero = refl
-column_clean (suc column) = decimal_clean (suc column)
+word_clean : (text : FaultyText) → Spelled (text_word text)
+word_clean Policy = plain (codes "policy") refl
+word_clean Script = plain (codes "script") refl
+word_clean Schedule = plain (codes "schedule") refl
+word_clean Links = plain (codes "links") refl
+word_clean Moves = plain (codes "moves") refl
 
-place_clean : (file : List ℕ) (line column : ℕ) → Clean (place_line file line column)
-place_clean file line column = simp (list_all-append, shown_clean, decimal_clean, column_clean) refl
+column_clean : (column : ℕ) → Spelled (column_text column)
+column_clean zero = nothing
+column_clean (suc column) = both (58 ∷ []) (decimal (suc column)) (plain (58 ∷ []) refl) (decimal_clean (suc column))
 
-first_clean : (fault : TextFault) (cause : List ℕ) → Clean cause → Clean (first_line fault cause)
-first_clean fault cause h = simp (list_all-append, word_clean, decimal_clean, h) refl
+pub place_clean : (file : List ℕ) (line column : ℕ) → Spelled (place_line file line column)
+place_clean file line column =
+    five (codes "  --> ") (shown_bytes file) (58 ∷ decimal line) (column_text column) (10 ∷ []) (plain (codes "  --> ") refl) (bytes_clean file)
+    (both (58 ∷ []) (decimal line) (plain (58 ∷ []) refl) (decimal_clean line)) (column_clean column) feed
 
-pub messages_clean : MessagesAreClean
-messages_clean = (
-  λ bs. shown_clean (glyphs_of bs),
-  λ fault cause file line h.
-      both (first_line fault cause ++ place_line file fault.line fault.column) (shown_line fault.text fault.column line)
-      (both (first_line fault cause) (place_line file fault.line fault.column) (first_clean fault cause h) (place_clean file fault.line fault.column))
-      (line_clean fault.text fault.column line),
-)
+headline_clean : (fault : TextFault) → Spelled (headline fault)
+headline_clean fault =
+    six (codes "sandbox: ") (text_word fault.text) (codes " line ") (decimal fault.line) (codes " fault ") (decimal fault.kind)
+    (plain (codes "sandbox: ") refl) (word_clean fault.text) (plain (codes " line ") refl) (decimal_clean fault.line) (plain (codes " fault ") refl)
+    (decimal_clean fault.kind)
+
+first_clean : (fault : TextFault) (cause : List ℕ) → Spelled cause → Spelled (first_line fault cause)
+first_clean fault cause h = four (headline fault) (codes ": ") cause (10 ∷ []) (headline_clean fault) (plain (codes ": ") refl) h feed
+
+pub fault_clean : (fault : TextFault) (cause file line : List ℕ) → Spelled cause → IsClean (fault_message fault cause file line)
+fault_clean fault cause file line h =
+    clean_of (fault_message fault cause file line)
+    (three (first_line fault cause) (place_line file fault.line fault.column) (shown_line fault.text fault.column line) (first_clean fault cause h)
+    (place_clean file fault.line fault.column) (line_clean fault.text fault.column line))

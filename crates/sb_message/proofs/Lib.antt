@@ -1,3 +1,6 @@
 mod Cuts
+mod Named
+mod Near
 mod CaretLaws
 mod CleanLaws
+mod CleanMessages

@@ -1,15 +1,22 @@
 -- What is wrong, in words.
 use Rattle.std.specs.Prelude.{ℕ, Bool, true, false, List, [], ◌++◌, if◌then◌else◌, codes}
+use Rattle.std.specs.Fmt.{decimal}
 use Rattle.sb_pattern.specs.declared.faults.PatternFault.{PatternFault}
 use Rattle.sb_pattern.specs.declared.faults.PatternFault.TheVariants.{DoubleStar, StarQuestion, TooLong}
 use Rattle.sb_text.specs.declared.refusals.WordFault.{WordFault}
 use Rattle.sb_text.specs.declared.refusals.WordFault.TheVariants.{Unknown, Missing, Extra, Broken, Quoted, Unquoted, Misplaced, Repeated, NoVersion}
-use Rattle.sb_message.specs.declared.glyphs.Glyph.{Glyph}
-use Rattle.sb_message.specs.Tokens.{quoted_token}
 
--- words, and after them the first of these tokens if they name it
-abbrev pub cause_text : List ℕ → Bool → List Glyph → List ℕ
-cause_text words names_token rest = words ++ (if names_token then quoted_token rest else [])
+-- words, and after them the token if they name it
+abbrev pub cause_text : List ℕ → Bool → List ℕ → List ℕ
+cause_text words names_token named = words ++ (if names_token then named else [])
+
+-- a number, and how many there are: `before FIRST between SECOND`
+abbrev pub two_text : List ℕ → ℕ → List ℕ → ℕ → List ℕ
+two_text before first between second = before ++ decimal first ++ between ++ decimal second
+
+-- a target that a script does not have
+abbrev pub no_target_text : ℕ → ℕ → List ℕ
+no_target_text target targets = two_text (codes "no such target ") target (codes ": the script has ") targets
 
 -- why a token is not the word that is due
 abbrev pub word_words : WordFault → List ℕ

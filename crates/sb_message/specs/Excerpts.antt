@@ -1,5 +1,5 @@
 -- What is shown of a line, and the caret under a place of it.
-use Rattle.std.specs.Prelude.{ℕ, ◌+◌, ◌-◌, Bool, true, false, nat_lt, min, List, [], ◌∷◌, ◌++◌, length, take, drop, replicate, if◌then◌else◌, codes}
+use Rattle.std.specs.Prelude.{ℕ, ◌-◌, Bool, false, ◌||◌, nat_lt, min, List, [], ◌∷◌, ◌++◌, length, take, drop, replicate, if◌then◌else◌, codes}
 use Rattle.std.specs.Str.{chars}
 use Rattle.unicode_width.specs.Width.{str_width}
 use Rattle.sb_message.specs.declared.glyphs.Glyph.{Glyph}
@@ -20,14 +20,18 @@ window_start place n = min (place - most_before) (n - most_glyphs)
 abbrev pub dots : Bool → List ℕ
 dots left_out = if left_out then codes ".." else []
 
--- what is shown of a line from a glyph on
-abbrev pub excerpt_from : ℕ → List Glyph → List ℕ
-excerpt_from start glyphs =
-    dots (nat_lt 0 start) ++ shown (take most_glyphs (drop start glyphs)) ++ dots (nat_lt most_glyphs (length glyphs - start))
+-- what is shown of glyphs from one on; before them there may be others
+abbrev pub excerpt_from : Bool → ℕ → List Glyph → List ℕ
+excerpt_from others start glyphs =
+    dots (others || nat_lt 0 start) ++ shown (take most_glyphs (drop start glyphs)) ++ dots (nat_lt most_glyphs (length glyphs - start))
+
+-- what is shown of glyphs round a place
+abbrev pub excerpt_in : Bool → ℕ → List Glyph → List ℕ
+excerpt_in others place glyphs = excerpt_from others (window_start place (length glyphs)) glyphs
 
 -- what is shown of a line round a place: all of it, or 120 glyphs
 abbrev pub excerpt : ℕ → List Glyph → List ℕ
-excerpt place glyphs = excerpt_from (window_start place (length glyphs)) glyphs
+excerpt place glyphs = excerpt_in false place glyphs
 
 -- how many columns of a terminal a text takes
 abbrev pub width : List ℕ → ℕ
@@ -39,10 +43,22 @@ blanks_under text [] = replicate (width text) 32
 blanks_under text (glyph ∷ glyphs) =
     if is_tab glyph then replicate (width text) 32 ++ 9 ∷ blanks_under [] glyphs else blanks_under (text ++ shown_glyph glyph) glyphs
 
--- the caret under a place of a line that is shown from a glyph on
-abbrev pub caret_from : ℕ → ℕ → List Glyph → List ℕ
-caret_from start place glyphs = blanks_under (dots (nat_lt 0 start)) (take (place - start) (drop start glyphs)) ++ 94 ∷ []
+-- the caret under a place of glyphs that are shown from one on
+abbrev pub caret_from : Bool → ℕ → ℕ → List Glyph → List ℕ
+caret_from others start place glyphs = blanks_under (dots (others || nat_lt 0 start)) (take (place - start) (drop start glyphs)) ++ 94 ∷ []
+
+-- the caret under a place of glyphs that are shown round it
+abbrev pub caret_in : Bool → ℕ → List Glyph → List ℕ
+caret_in others place glyphs = caret_from others (window_start place (length glyphs)) place glyphs
 
 -- the caret under a place of a line that is shown round it
 abbrev pub caret : ℕ → List Glyph → List ℕ
-caret place glyphs = caret_from (window_start place (length glyphs)) place glyphs
+caret place glyphs = caret_in false place glyphs
+
+-- glyphs and a caret under a place of them
+abbrev pub excerpt_lines_in : Bool → ℕ → List Glyph → List ℕ
+excerpt_lines_in others place glyphs = excerpt_in others place glyphs ++ 10 ∷ caret_in others place glyphs ++ 10 ∷ []
+
+-- a line, and a caret under its place
+abbrev pub excerpt_lines : ℕ → List Glyph → List ℕ
+excerpt_lines place glyphs = excerpt_lines_in false place glyphs

@@ -1,5 +1,5 @@
 -- The characters of bytes, and what is shown of them.
-use Rattle.std.specs.Prelude.{ℕ, zero, suc, ◌-◌, Bool, true, false, not, ◌&&◌, ◌||◌, ◌==◌, List, [], ◌∷◌, ◌++◌, slice_index, Option, None, Some, if◌then◌else◌, codes}
+use Rattle.std.specs.Prelude.{ℕ, zero, suc, ◌-◌, Bool, false, not, ◌&&◌, ◌||◌, ◌==◌, List, [], ◌∷◌, ◌++◌, slice_index, Option, None, Some, if◌then◌else◌, codes}
 use Rattle.std.specs.Char.{encode_utf8, is_control}
 use Rattle.std.specs.List.{flat_map}
 use Rattle.bstr.specs.Utf8.{decoded}
@@ -46,7 +46,7 @@ abbrev pub is_tab : Glyph → Bool
 is_tab (Char c) = c == 9
 is_tab (Byte b) = false
 
--- a number in braces, of which the first stands in the opening
+-- a number in braces; the opening has the first of them
 abbrev pub escaped : List ℕ → ℕ → List ℕ
 escaped opening number = opening ++ hexadecimal number ++ 125 ∷ []
 

@@ -1,10 +1,16 @@
 pub mod Glyphs
 pub mod Excerpts
 pub mod Tokens
+pub mod Places
 pub mod Messages
-pub mod MessageLaws
+pub mod CleanTexts
+pub mod Laws
 pub mod Causes
 pub mod PolicyMessages
 pub mod ScheduleMessages
 pub mod ScriptMessages
+pub mod LinkMessages
+pub mod MoveMessages
+pub mod AuditMessages
 pub mod EndMessages
+pub mod MessageLaws

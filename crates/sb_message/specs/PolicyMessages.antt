@@ -7,10 +7,10 @@ use Rattle.sb_ruletext.specs.declared.faults.PolicyFaultKind.TheVariants.{NotUtf
 use Rattle.sb_ruletext.specs.declared.faults.PolicyLimit.{PolicyLimit}
 use Rattle.sb_ruletext.specs.declared.faults.PolicyLimit.TheVariants.{Policies, Rules, Conditions, Numbers}
 use Rattle.sb_text.specs.declared.refusals.WordFault.TheVariants.{Misplaced}
-use Rattle.sb_message.specs.declared.glyphs.Glyph.{Glyph}
 use Rattle.sb_message.specs.declared.messages.FaultyText.TheVariants.{Policy}
 use Rattle.sb_message.specs.Causes.{cause_text, word_words, names_word, pattern_words}
-use Rattle.sb_message.specs.Messages.{rest_at, fault_message}
+use Rattle.sb_message.specs.Messages.{fault_message}
+use Rattle.sb_message.specs.Places.{named_at}
 
 -- what there is too much of
 abbrev pub limit_words : PolicyLimit → List ℕ
@@ -47,12 +47,12 @@ policy_names (TooMany limit) = false
 policy_names NoHeading = false
 policy_names _ = true
 
--- the same with the first of these tokens
-abbrev pub policy_cause : PolicyFaultKind → List Glyph → List ℕ
-policy_cause kind rest = cause_text (policy_words kind) (policy_names kind) rest
+-- the same with the token
+abbrev pub policy_cause : PolicyFaultKind → List ℕ → List ℕ
+policy_cause kind named = cause_text (policy_words kind) (policy_names kind) named
 
 -- the message of a fault of a policy file of this name, with the line that has it
 abbrev pub policy_message : List ℕ → PolicyFault → List ℕ → List ℕ
 policy_message file fault line =
     fault_message (record { text = Policy; line = fault.line; column = fault.column; kind = kind_number fault.kind })
-    (policy_cause fault.kind (rest_at Policy fault.column line)) file line
+    (policy_cause fault.kind (named_at Policy fault.column line)) file line

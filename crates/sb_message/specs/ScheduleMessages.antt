@@ -5,10 +5,10 @@ use Rattle.sb_scheduletext.specs.ScheduleTexts.{ScheduleFault}
 use Rattle.sb_scheduletext.specs.declared.faults.ScheduleKind.{ScheduleKind}
 use Rattle.sb_scheduletext.specs.declared.faults.ScheduleKind.TheVariants.{UnknownWord, UnknownActor, BadNumber, TooMany, NoRounds}
 use Rattle.sb_text.specs.declared.refusals.WordFault.TheVariants.{Misplaced, NoVersion}
-use Rattle.sb_message.specs.declared.glyphs.Glyph.{Glyph}
 use Rattle.sb_message.specs.declared.messages.FaultyText.TheVariants.{Schedule}
 use Rattle.sb_message.specs.Causes.{cause_text, word_words, names_word}
-use Rattle.sb_message.specs.Messages.{rest_at, fault_message}
+use Rattle.sb_message.specs.Messages.{fault_message}
+use Rattle.sb_message.specs.Places.{named_at}
 
 -- what is wrong
 abbrev pub schedule_words : ScheduleKind → List ℕ
@@ -29,12 +29,12 @@ schedule_names BadNumber = true
 schedule_names TooMany = false
 schedule_names NoRounds = false
 
--- the same with the first of these tokens
-abbrev pub schedule_cause : ScheduleKind → List Glyph → List ℕ
-schedule_cause kind rest = cause_text (schedule_words kind) (schedule_names kind) rest
+-- the same with the token
+abbrev pub schedule_cause : ScheduleKind → List ℕ → List ℕ
+schedule_cause kind named = cause_text (schedule_words kind) (schedule_names kind) named
 
 -- the message of a fault of a schedule file of this name, with the line that has it
 abbrev pub schedule_message : List ℕ → ScheduleFault → List ℕ → List ℕ
 schedule_message file fault line =
     fault_message (record { text = Schedule; line = fault.line; column = fault.column; kind = kind_number fault.kind })
-    (schedule_cause fault.kind (rest_at Schedule fault.column line)) file line
+    (schedule_cause fault.kind (named_at Schedule fault.column line)) file line

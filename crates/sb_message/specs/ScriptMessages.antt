@@ -10,12 +10,10 @@ use Rattle.sb_scripttext.specs.declared.faults.ScriptLimit.{ScriptLimit}
 use Rattle.sb_scripttext.specs.declared.faults.ScriptLimit.TheVariants.{Openings, Targets, Threads, Statements}
 use Rattle.sb_text.specs.declared.refusals.WordFault.{WordFault}
 use Rattle.sb_text.specs.declared.refusals.WordFault.TheVariants.{Missing, Misplaced, NoVersion}
-use Rattle.sb_message.specs.declared.glyphs.Glyph.{Glyph}
 use Rattle.sb_message.specs.declared.messages.FaultyText.TheVariants.{Script}
-use Rattle.sb_message.specs.Causes.{cause_text, word_words, names_word}
-use Rattle.sb_message.specs.Glyphs.{shown}
-use Rattle.sb_message.specs.Messages.{rest_at, fault_message}
-use Rattle.sb_message.specs.Tokens.{first_token}
+use Rattle.sb_message.specs.Causes.{cause_text, two_text, no_target_text, word_words, names_word}
+use Rattle.sb_message.specs.Messages.{fault_message}
+use Rattle.sb_message.specs.Places.{named_at}
 
 -- what there is too much of
 abbrev pub limit_words : ScriptLimit → List ℕ
@@ -24,15 +22,15 @@ limit_words Targets = codes "more than 8 targets"
 limit_words Threads = codes "more than 4 threads of a target"
 limit_words Statements = codes "more than 4096 statements of a thread"
 
--- where a line that begins with this word may be
+-- where a line that begins with this word may be; the word is between quotes, as causes name it
 abbrev pub place_words : List ℕ → List ℕ
 place_words word =
-    if is_word (codes "thread") word then codes "only after a target line: "
-    else (if is_word (codes "call") word then codes "only after a thread line: "
-    else (if is_word (codes "store") word then codes "only after a thread line: "
-    else (if is_word (codes "exchange") word then codes "only after a thread line: "
-    else (if is_word (codes "load") word then codes "only after a thread line: "
-    else (if is_word (codes "wait") word then codes "only after a thread line: "
+    if is_word (codes "\"thread\"") word then codes "only after a target line: "
+    else (if is_word (codes "\"call\"") word then codes "only after a thread line: "
+    else (if is_word (codes "\"store\"") word then codes "only after a thread line: "
+    else (if is_word (codes "\"exchange\"") word then codes "only after a thread line: "
+    else (if is_word (codes "\"load\"") word then codes "only after a thread line: "
+    else (if is_word (codes "\"wait\"") word then codes "only after a thread line: "
     else codes "only before the first target line: ")))))
 
 -- what is wrong with the arguments of a statement
@@ -40,12 +38,9 @@ abbrev pub argument_words : WordFault → List ℕ
 argument_words Missing = codes "an argument is missing"
 argument_words fault = word_words fault
 
--- words and a number, twice and three times
-abbrev pub two_text : List ℕ → ℕ → List ℕ → ℕ → List ℕ
-two_text before first between second = before ++ decimal first ++ between ++ decimal second
-
+-- words and a number, three times
 abbrev pub three_text : List ℕ → ℕ → List ℕ → ℕ → List ℕ → ℕ → List ℕ
-three_text before first between second after third = before ++ decimal first ++ between ++ decimal second ++ after ++ decimal third
+three_text before first between second after third = two_text before first between second ++ after ++ decimal third
 
 -- what is wrong, if that depends on the kind alone
 abbrev pub kind_words : ScriptKind → List ℕ
@@ -65,13 +60,13 @@ kind_words TooBig = codes "the call needs more than 64 words"
 kind_words SameName = codes "there is a target before this line with the name "
 kind_words BadStart = codes "its parent is missing or no directory, or its name is taken: "
 
--- what is wrong, of a fault at these tokens
-abbrev pub script_words : ScriptKind → List Glyph → List ℕ
-script_words (UnknownWord Misplaced) rest = place_words (shown (first_token rest))
-script_words (NoSuchTarget target targets) rest = two_text (codes "no such target ") target (codes ": the script has ") targets
-script_words (NoSuchChannel channel target channels) rest =
+-- what is wrong, of a fault at this token
+abbrev pub script_words : ScriptKind → List ℕ → List ℕ
+script_words (UnknownWord Misplaced) named = place_words named
+script_words (NoSuchTarget target targets) named = no_target_text target targets
+script_words (NoSuchChannel channel target channels) named =
     three_text (codes "no such channel ") channel (codes ": target ") target (codes " has ") channels
-script_words kind rest = kind_words kind
+script_words kind named = kind_words kind
 
 -- whether these words name the token
 abbrev pub script_names : ScriptKind → Bool
@@ -84,12 +79,12 @@ script_names (TooMany limit) = false
 script_names TooBig = false
 script_names _ = true
 
--- the same with the first of these tokens
-abbrev pub script_cause : ScriptKind → List Glyph → List ℕ
-script_cause kind rest = cause_text (script_words kind rest) (script_names kind) rest
+-- the same with the token
+abbrev pub script_cause : ScriptKind → List ℕ → List ℕ
+script_cause kind named = cause_text (script_words kind named) (script_names kind) named
 
 -- the message of a fault of a script file of this name, with the line that has it
 abbrev pub script_message : List ℕ → ScriptFault → List ℕ → List ℕ
 script_message file fault line =
     fault_message (record { text = Script; line = fault.line; column = fault.column; kind = kind_number fault.kind })
-    (script_cause fault.kind (rest_at Script fault.column line)) file line
+    (script_cause fault.kind (named_at Script fault.column line)) file line

@@ -1,5 +1,5 @@
 -- Tokens as causes name them.
-use Rattle.std.specs.Prelude.{ℕ, Bool, true, false, not, ◌||◌, ◌==◌, nat_lt, List, [], ◌∷◌, ◌++◌, length, take, if◌then◌else◌}
+use Rattle.std.specs.Prelude.{ℕ, Bool, false, not, ◌||◌, ◌==◌, nat_lt, List, [], ◌∷◌, ◌++◌, length, take, if◌then◌else◌}
 use Rattle.std.specs.List.{prefix_len}
 use Rattle.sb_message.specs.declared.glyphs.Glyph.{Glyph}
 use Rattle.sb_message.specs.declared.glyphs.Glyph.TheVariants.{Char, Byte}
@@ -23,7 +23,7 @@ is_blank_glyph glyph = is_char 32 glyph || is_char 9 glyph
 abbrev pub until : (Glyph → Bool) → List Glyph → List Glyph
 until test glyphs = take (prefix_len (λ glyph. not (test glyph)) glyphs) glyphs
 
--- the first token of glyphs, of which the first is no blank: what stands between its quotes, or all before the next blank
+-- the first token of glyphs, of which the first is no blank: what is between its quotes, or all before the next blank
 abbrev pub first_token : List Glyph → List Glyph
 first_token [] = []
 first_token (glyph ∷ glyphs) = if is_char 34 glyph then until (is_char 34) glyphs else until is_blank_glyph (glyph ∷ glyphs)

@@ -1,30 +1,57 @@
 // What is wrong, in words.
-ghost use Rattle.std.specs.Prelude.{◌≡◌, ◌++◌, drop, OnOk, IfOk, string_bytes};
-ghost use Rattle.sb_message.specs.Causes.{cause_text, word_words, names_word, pattern_words};
-ghost use Rattle.sb_message.specs.Messages.{rest_at};
+ghost use Rattle.std.specs.Prelude.{◌≡◌, ◌++◌, OnOk, string_bytes};
+ghost use Rattle.sb_message.specs.Causes.{cause_text, two_text, no_target_text, word_words, names_word, pattern_words};
 
-use crate::glyphs::{Glyph, glyphs_of};
-use crate::messages::{FaultyText, place_of};
-use crate::tokens::put_first_token;
+use crate::messages::put_decimal;
 use sb_items::NoMemory;
 use sb_pattern::PatternFault;
 use sb_text::WordFault;
-use std::alloc::Global;
 
-/// Appends words, and after them the first of these tokens if they name it.
+/// Appends words.
+pub(crate) fn put_words(out: &mut String, words: &str) -> Result<(), NoMemory>
+    ensures { OnOk result (string_bytes out.new ≡ string_bytes out.old ++ words.now) }
+{
+    out.push_str(words)?;
+    Ok(())
+}
+
+/// Appends words, and after them the token if they name it.
 pub(crate) fn put_cause(
     out: &mut String,
     words: &str,
     names_token: bool,
-    rest: &[Glyph],
+    named: &str,
 ) -> Result<(), NoMemory>
-    ensures { OnOk result (string_bytes out.new ≡ string_bytes out.old ++ cause_text words.now names_token rest.now) }
+    ensures { OnOk result (string_bytes out.new ≡ string_bytes out.old ++ cause_text words.now names_token named.now) }
 {
     out.push_str(words)?;
     if names_token {
-        put_first_token(out, rest)?;
+        out.push_str(named)?;
     }
     Ok(())
+}
+
+/// Appends words and a number, and again words and a number.
+pub(crate) fn put_two(
+    out: &mut String,
+    before: &str,
+    first: u64,
+    between: &str,
+    second: u64,
+) -> Result<(), NoMemory>
+    ensures { OnOk result (string_bytes out.new ≡ string_bytes out.old ++ two_text before.now first between.now second) }
+{
+    out.push_str(before)?;
+    put_decimal(out, first)?;
+    out.push_str(between)?;
+    put_decimal(out, second)
+}
+
+/// Appends that a script does not have this target, and how many it has.
+pub(crate) fn put_no_target(out: &mut String, target: u64, targets: u64) -> Result<(), NoMemory>
+    ensures { OnOk result (string_bytes out.new ≡ string_bytes out.old ++ no_target_text target targets) }
+{
+    put_two(out, "no such target ", target, ": the script has ", targets)
 }
 
 /// Why a token is not the word that is due.
@@ -60,28 +87,4 @@ pub(crate) fn pattern_words(fault: PatternFault) -> &'static str
         PatternFault::StarQuestion(_) => "bad pattern: a question mark follows a star",
         PatternFault::TooLong => "bad pattern: more than 256 UTF-16 units",
     }
-}
-
-// The glyphs from a place on.
-fn from_place(glyphs: &[Glyph], place: usize) -> &[Glyph]
-    ensures { result.now ≡ drop place glyphs.now }
-{
-    match glyphs.get(place..) {
-        Some(rest) => rest,
-        None => &[],
-    }
-}
-
-/// What stands on a line from a column on.
-pub(crate) fn rest_at(
-    alloc: Global,
-    text: FaultyText,
-    column: u32,
-    line: &[u8],
-) -> Result<Vec<Glyph>, NoMemory>
-    ensures { IfOk result (λ rest. rest.items ≡ rest_at text column line.now) }
-{
-    let place = place_of(alloc, text, column, line)?;
-    let glyphs = glyphs_of(alloc, line)?;
-    Ok(Vec::from_slice(alloc, from_place(&glyphs, place))?)
 }

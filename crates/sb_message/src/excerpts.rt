@@ -1,15 +1,18 @@
 // What is shown of a line, and the caret under a place of it.
 ghost use Rattle.std.specs.Prelude.{◌≡◌, ◌≤◌, ◌-◌, ◌++◌, [], length, take, drop, replicate, OnOk, IfOk, string_bytes};
-ghost use Rattle.sb_message.specs.Excerpts.{window_start, dots, excerpt_from, excerpt, width, blanks_under, caret_from, caret};
+ghost use Rattle.sb_message.specs.Excerpts.{window_start, dots, excerpt_from, excerpt_in, width, blanks_under, caret_from, caret_in, excerpt_lines_in};
 
 use crate::glyphs::{Glyph, is_tab, put_glyph, put_glyphs};
 use sb_items::NoMemory;
 use unicode_width::UnicodeWidthStr;
 
 /// How many glyphs of a line are shown at most.
-const MOST_GLYPHS: usize = 120;
+pub(crate) const MOST_GLYPHS: usize = 120;
 
-/// How many of them stand before the place at most, if as many follow.
+/// How many glyphs of a line, from at most 120 before a place on, are enough for what is shown round it.
+pub(crate) const MOST_NEAR: usize = 240;
+
+/// How many of them precede the place at most, if as many follow.
 const MOST_BEFORE: usize = 60;
 
 // The place of the first glyph that is shown.
@@ -39,16 +42,19 @@ pub(crate) fn dots(left_out: bool) -> &'static str
     if left_out { ".." } else { "" }
 }
 
-/// Appends what is shown of a line round a place, from 0: all of it, or 120 glyphs with `..` where something is left out.
-///
-/// # Errors
-/// `NoMemory` if there was none for the bytes.
-pub fn put_excerpt(out: &mut String, place: usize, glyphs: &[Glyph]) -> Result<(), NoMemory>
-    ensures { OnOk result (string_bytes out.new ≡ string_bytes out.old ++ excerpt place glyphs.now) }
+/// Appends what is shown of glyphs round a place, from 0: all of them, or 120 with `..` where something is left out. `others` is whether there are
+/// glyphs before them.
+pub(crate) fn put_excerpt(
+    out: &mut String,
+    others: bool,
+    place: usize,
+    glyphs: &[Glyph],
+) -> Result<(), NoMemory>
+    ensures { OnOk result (string_bytes out.new ≡ string_bytes out.old ++ excerpt_in others place glyphs.now) }
 {
     let start = window_start(place, glyphs.len());
     let rest = &glyphs[start..];
-    out.push_str(dots(start > 0))?;
+    out.push_str(dots(others || start > 0))?;
     put_glyphs(out, first_glyphs(rest, MOST_GLYPHS))?;
     out.push_str(dots(rest.len() > MOST_GLYPHS))?;
     Ok(())
@@ -87,18 +93,36 @@ fn put_blanks_under(out: &mut String, text: String, glyphs: &[Glyph]) -> Result<
     put_blanks(out, text.as_str())
 }
 
-/// Appends the caret under a place, from 0, of a line that is shown round it: as far to the right as what is shown before the place is wide in a
+/// Appends the caret under a place, from 0, of glyphs that are shown round it: as far to the right as what is shown before the place is wide in a
 /// terminal, where tabs are repeated.
-///
-/// # Errors
-/// `NoMemory` if there was none for the bytes.
-pub fn put_caret(out: &mut String, place: usize, glyphs: &[Glyph]) -> Result<(), NoMemory>
-    ensures { OnOk result (string_bytes out.new ≡ string_bytes out.old ++ caret place glyphs.now) }
+pub(crate) fn put_caret(
+    out: &mut String,
+    others: bool,
+    place: usize,
+    glyphs: &[Glyph],
+) -> Result<(), NoMemory>
+    ensures { OnOk result (string_bytes out.new ≡ string_bytes out.old ++ caret_in others place glyphs.now) }
 {
     let start = window_start(place, glyphs.len());
-    let text = String::from_str(*out.allocator(), dots(start > 0))?;
+    let text = String::from_str(*out.allocator(), dots(others || start > 0))?;
     let before = first_glyphs(&glyphs[start..], place.saturating_sub(start));
     put_blanks_under(out, text, before)?;
     out.push('^')?;
+    Ok(())
+}
+
+/// Appends what is shown of glyphs round a place, and the caret under it.
+pub(crate) fn put_excerpt_lines(
+    out: &mut String,
+    others: bool,
+    place: usize,
+    glyphs: &[Glyph],
+) -> Result<(), NoMemory>
+    ensures { OnOk result (string_bytes out.new ≡ string_bytes out.old ++ excerpt_lines_in others place glyphs.now) }
+{
+    put_excerpt(out, others, place, glyphs)?;
+    out.push('\n')?;
+    put_caret(out, others, place, glyphs)?;
+    out.push('\n')?;
     Ok(())
 }

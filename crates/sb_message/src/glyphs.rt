@@ -1,5 +1,5 @@
 // The characters of bytes, and what is shown of them.
-ghost use Rattle.std.specs.Prelude.{◌≡◌, ◌<◌, ◌++◌, ◌∷◌, [], length, IfOk, OnOk, IfSome, MatchOption, string_bytes};
+ghost use Rattle.std.specs.Prelude.{◌≡◌, ◌<◌, ◌++◌, ◌∷◌, [], length, take, drop, min, IfOk, OnOk, IfSome, MatchOption, string_bytes};
 ghost use Rattle.sb_wide.specs.Numbers.{hexadecimal};
 ghost use Rattle.sb_message.specs.Glyphs.{glyphs_of, is_hidden, is_tab, escaped, shown_glyph, shown, shown_bytes};
 
@@ -19,12 +19,16 @@ pub enum Glyph {
 }
 
 // The first glyph of bytes, and the bytes after it.
-#[tactic(auto, using(crate::proofs::Cuts::byte_cut, crate::proofs::Cuts::size_within, crate::proofs::Cuts::char_shorter))]
+#[inline(always)]
+#[tactic(auto, using(crate::proofs::Cuts::ascii_cut, crate::proofs::Cuts::byte_cut, crate::proofs::Cuts::size_within, crate::proofs::Cuts::char_shorter))]
 fn cut_glyph(bytes: &[u8]) -> Option<(Glyph, &[u8])>
     ensures value { MatchOption result (bytes.now ≡ []) (λ cut. glyphs_of bytes.now ≡ cut.0 ∷ glyphs_of cut.1.now) }
     ensures shorter { IfSome result (λ cut. length cut.1.now < length bytes.now) }
 {
     let (first, later) = bytes.split_first()?;
+    if *first < 128 {
+        return Some((Glyph::Char(char::from(*first)), later));
+    }
     match decode_utf8(bytes) {
         (Some(character), size) => {
             let (_, after) = bytes.split_at(size);
@@ -34,20 +38,52 @@ fn cut_glyph(bytes: &[u8]) -> Option<(Glyph, &[u8])>
     }
 }
 
-/// The characters of bytes. A byte at which no character begins is a glyph of its own.
+/// The first n glyphs of bytes, or all if there are fewer. No byte after them is read.
 ///
 /// # Errors
 /// `NoMemory` if there was none for the list.
-pub fn glyphs_of(alloc: Global, bytes: &[u8]) -> Result<Vec<Glyph>, NoMemory>
-    ensures { IfOk result (λ glyphs. glyphs.items ≡ glyphs_of bytes.now) }
+pub(crate) fn first_glyphs_of(alloc: Global, bytes: &[u8], n: usize) -> Result<Vec<Glyph>, NoMemory>
+    ensures { IfOk result (λ glyphs. glyphs.items ≡ take n (glyphs_of bytes.now)) }
 {
     let mut glyphs = Vec::new(alloc);
     let mut rest = bytes;
-    while let Some((glyph, after)) = cut_glyph(rest) {
+    for _glyph in 0..n {
+        let Some((glyph, after)) = cut_glyph(rest) else {
+            return Ok(glyphs);
+        };
         glyphs.push(glyph)?;
         rest = after;
     }
     Ok(glyphs)
+}
+
+/// The bytes after the first n glyphs.
+#[tactic(auto, using(crate::proofs::Cuts::drop_next))]
+pub(crate) fn skip_glyphs(bytes: &[u8], n: usize) -> &[u8]
+    ensures { glyphs_of result.now ≡ drop n (glyphs_of bytes.now) }
+{
+    let mut rest = bytes;
+    for _glyph in 0..n {
+        let Some((_, after)) = cut_glyph(rest) else {
+            return rest;
+        };
+        rest = after;
+    }
+    rest
+}
+
+/// How many glyphs bytes have, counted up to `most`.
+pub(crate) fn count_glyphs(bytes: &[u8], most: usize) -> usize
+    ensures { result ≡ min most (length (glyphs_of bytes.now)) }
+{
+    let mut rest = bytes;
+    for count in 0..most {
+        let Some((_, after)) = cut_glyph(rest) else {
+            return count;
+        };
+        rest = after;
+    }
+    most
 }
 
 // Whether a character is shown by its number: a control or format character except a tab, or one that separates lines or paragraphs.
@@ -110,10 +146,7 @@ pub(crate) fn put_glyph(out: &mut String, glyph: Glyph) -> Result<(), NoMemory>
 
 /// Appends what is shown of glyphs: characters as they are, but control and format characters except a tab, U+2028 and U+2029 as `\u{..}`; and a
 /// byte at which no character begins as `\x{..}`.
-///
-/// # Errors
-/// `NoMemory` if there was none for the bytes.
-pub fn put_glyphs(out: &mut String, glyphs: &[Glyph]) -> Result<(), NoMemory>
+pub(crate) fn put_glyphs(out: &mut String, glyphs: &[Glyph]) -> Result<(), NoMemory>
     ensures { OnOk result (string_bytes out.new ≡ string_bytes out.old ++ shown glyphs.now) }
 {
     for glyph in glyphs {
@@ -122,13 +155,18 @@ pub fn put_glyphs(out: &mut String, glyphs: &[Glyph]) -> Result<(), NoMemory>
     Ok(())
 }
 
-/// Appends what is shown of bytes.
+/// Appends what is shown of bytes: characters as they are, but control and format characters except a tab, U+2028 and U+2029 as `\u{..}`; and a byte
+/// at which no character begins as `\x{..}`.
 ///
 /// # Errors
 /// `NoMemory` if there was none for the bytes.
 pub fn put_shown(out: &mut String, bytes: &[u8]) -> Result<(), NoMemory>
     ensures { OnOk result (string_bytes out.new ≡ string_bytes out.old ++ shown_bytes bytes.now) }
 {
-    let glyphs = glyphs_of(*out.allocator(), bytes)?;
-    put_glyphs(out, &glyphs)
+    let mut rest = bytes;
+    while let Some((glyph, after)) = cut_glyph(rest) {
+        put_glyph(out, glyph)?;
+        rest = after;
+    }
+    Ok(())
 }

@@ -1,5 +1,5 @@
-// Laws of messages. None of these functions does anything: each contract is a law.
-ghost use Rattle.sb_message.specs.MessageLaws.{CaretsAreUnderTheirPlace, ExcerptsHaveTheirPlace, MessagesAreClean};
+// Laws of what is shown. None of these functions does anything: each contract is a law.
+ghost use Rattle.sb_message.specs.Laws.{CaretsAreUnderTheirPlace, ExcerptsHaveTheirPlace, ShownTextsAreClean};
 
 /// What is shown of a line begins with what is shown before a place of it.
 pub fn excerpts_have_their_place()
@@ -11,7 +11,7 @@ pub fn carets_are_under_their_place()
     ensures { CaretsAreUnderTheirPlace }
 {}
 
-/// No byte below 32 but LF and tab, and no byte 127, is in what is shown of bytes, nor in the message of a fault whose cause has none.
-pub fn messages_are_clean()
-    ensures { MessagesAreClean }
+/// What is shown of bytes is UTF-8 without control characters, except LF and tab, and without format characters.
+pub fn shown_texts_are_clean()
+    ensures { ShownTextsAreClean }
 {}

@@ -2,9 +2,9 @@
 ghost use Rattle.std.specs.Prelude.{◌≡◌, ◌++◌, OnOk, IfOk, string_bytes};
 ghost use Rattle.sb_message.specs.PolicyMessages.{limit_words, policy_words, policy_names, policy_cause, policy_message};
 
-use crate::causes::{names_word, pattern_words, put_cause, rest_at, word_words};
-use crate::glyphs::Glyph;
+use crate::causes::{names_word, pattern_words, put_cause, word_words};
 use crate::messages::{FaultyText, TextFault, put_text_fault};
+use crate::places::shown_place;
 use sb_items::NoMemory;
 use sb_ruletext::{PolicyFault, PolicyFaultKind, PolicyLimit};
 use sb_text::WordFault;
@@ -67,10 +67,10 @@ fn policy_names(kind: PolicyFaultKind) -> bool
     }
 }
 
-fn put_policy_cause(out: &mut String, kind: PolicyFaultKind, rest: &[Glyph]) -> Result<(), NoMemory>
-    ensures { OnOk result (string_bytes out.new ≡ string_bytes out.old ++ policy_cause kind rest.now) }
+fn put_policy_cause(out: &mut String, kind: PolicyFaultKind, named: &str) -> Result<(), NoMemory>
+    ensures { OnOk result (string_bytes out.new ≡ string_bytes out.old ++ policy_cause kind named.now) }
 {
-    put_cause(out, policy_words(kind), policy_names(kind), rest)
+    put_cause(out, policy_words(kind), policy_names(kind), named)
 }
 
 /// The message of the fault of a policy file: what is wrong, the place in the file, whose name is as the user gave it, and the line that has the fault
@@ -86,16 +86,22 @@ pub fn policy_message(
 ) -> Result<String, NoMemory>
     ensures { IfOk result (λ message. string_bytes message ≡ policy_message file.now fault line.now) }
 {
-    let rest = rest_at(alloc, FaultyText::Policy, fault.column, line)?;
-    let mut cause = String::new(alloc);
-    put_policy_cause(&mut cause, fault.kind, &rest)?;
     let place = TextFault {
         text: FaultyText::Policy,
         line: fault.line,
         column: fault.column,
         kind: fault.kind.number(),
     };
+    let shown = shown_place(alloc, place.text, place.column, line)?;
+    let mut cause = String::new(alloc);
+    put_policy_cause(&mut cause, fault.kind, shown.named.as_str())?;
     let mut message = String::new(alloc);
-    put_text_fault(&mut message, place, cause.as_str(), file, line)?;
+    put_text_fault(
+        &mut message,
+        place,
+        cause.as_str(),
+        file,
+        shown.lines.as_str(),
+    )?;
     Ok(message)
 }

@@ -2,9 +2,9 @@
 ghost use Rattle.std.specs.Prelude.{◌≡◌, ◌++◌, OnOk, IfOk, string_bytes};
 ghost use Rattle.sb_message.specs.ScheduleMessages.{schedule_words, schedule_names, schedule_cause, schedule_message};
 
-use crate::causes::{names_word, put_cause, rest_at, word_words};
-use crate::glyphs::Glyph;
+use crate::causes::{names_word, put_cause, word_words};
 use crate::messages::{FaultyText, TextFault, put_text_fault};
+use crate::places::shown_place;
 use sb_items::NoMemory;
 use sb_scheduletext::{ScheduleFault, ScheduleKind};
 use sb_text::WordFault;
@@ -38,10 +38,10 @@ fn schedule_names(kind: ScheduleKind) -> bool
     }
 }
 
-fn put_schedule_cause(out: &mut String, kind: ScheduleKind, rest: &[Glyph]) -> Result<(), NoMemory>
-    ensures { OnOk result (string_bytes out.new ≡ string_bytes out.old ++ schedule_cause kind rest.now) }
+fn put_schedule_cause(out: &mut String, kind: ScheduleKind, named: &str) -> Result<(), NoMemory>
+    ensures { OnOk result (string_bytes out.new ≡ string_bytes out.old ++ schedule_cause kind named.now) }
 {
-    put_cause(out, schedule_words(kind), schedule_names(kind), rest)
+    put_cause(out, schedule_words(kind), schedule_names(kind), named)
 }
 
 /// The message of the fault of a schedule file: what is wrong, the place in the file, whose name is as the user gave it, and the line that has the
@@ -57,16 +57,22 @@ pub fn schedule_message(
 ) -> Result<String, NoMemory>
     ensures { IfOk result (λ message. string_bytes message ≡ schedule_message file.now fault line.now) }
 {
-    let rest = rest_at(alloc, FaultyText::Schedule, fault.column, line)?;
-    let mut cause = String::new(alloc);
-    put_schedule_cause(&mut cause, fault.kind, &rest)?;
     let place = TextFault {
         text: FaultyText::Schedule,
         line: fault.line,
         column: fault.column,
         kind: fault.kind.number(),
     };
+    let shown = shown_place(alloc, place.text, place.column, line)?;
+    let mut cause = String::new(alloc);
+    put_schedule_cause(&mut cause, fault.kind, shown.named.as_str())?;
     let mut message = String::new(alloc);
-    put_text_fault(&mut message, place, cause.as_str(), file, line)?;
+    put_text_fault(
+        &mut message,
+        place,
+        cause.as_str(),
+        file,
+        shown.lines.as_str(),
+    )?;
     Ok(message)
 }

@@ -1,15 +1,10 @@
 // The messages of script texts.
 ghost use Rattle.std.specs.Prelude.{◌≡◌, ◌++◌, codes, OnOk, IfOk, string_bytes};
-ghost use Rattle.std.specs.Fmt.{decimal};
-ghost use Rattle.sb_message.specs.Causes.{cause_text};
-ghost use Rattle.sb_message.specs.ScriptMessages.{limit_words, place_words, argument_words, two_text, three_text, kind_words, script_words, script_names, script_cause, script_message};
-ghost use Rattle.sb_message.specs.Glyphs.{shown};
-ghost use Rattle.sb_message.specs.Tokens.{first_token};
+ghost use Rattle.sb_message.specs.ScriptMessages.{limit_words, place_words, argument_words, three_text, kind_words, script_words, script_names, script_cause, script_message};
 
-use crate::causes::{names_word, rest_at, word_words};
-use crate::glyphs::{Glyph, put_glyphs};
+use crate::causes::{names_word, put_no_target, put_two, put_words, word_words};
 use crate::messages::{FaultyText, TextFault, put_decimal, put_text_fault};
-use crate::tokens::{first_token, put_first_token};
+use crate::places::shown_place;
 use sb_items::NoMemory;
 use sb_scripttext::{ScriptFault, ScriptKind, ScriptLimit};
 use sb_text::WordFault;
@@ -26,12 +21,15 @@ fn limit_words(limit: ScriptLimit) -> &'static str
     }
 }
 
+// Where a line that begins with this word may be; the word is between quotes.
 fn place_words(word: &str) -> &'static str
     ensures { result.now ≡ place_words word.now }
 {
     match word {
-        "thread" => "only after a target line: ",
-        "call" | "store" | "exchange" | "load" | "wait" => "only after a thread line: ",
+        "\"thread\"" => "only after a target line: ",
+        "\"call\"" | "\"store\"" | "\"exchange\"" | "\"load\"" | "\"wait\"" => {
+            "only after a thread line: "
+        }
         _ => "only before the first target line: ",
     }
 }
@@ -45,39 +43,7 @@ fn argument_words(fault: WordFault) -> &'static str
     }
 }
 
-// Appends where a line may be that begins with the first of these tokens.
-fn put_place_words(out: &mut String, rest: &[Glyph]) -> Result<(), NoMemory>
-    ensures { OnOk result (string_bytes out.new ≡ string_bytes out.old ++ place_words (shown (first_token rest.now))) }
-{
-    let mut word = String::new(*out.allocator());
-    put_glyphs(&mut word, first_token(rest))?;
-    out.push_str(place_words(word.as_str()))?;
-    Ok(())
-}
-
-// Appends words and a number, and again words and a number.
-fn put_two(
-    out: &mut String,
-    before: &str,
-    first: u64,
-    between: &str,
-    second: u64,
-) -> Result<(), NoMemory>
-    ensures { OnOk result (string_bytes out.new ≡ string_bytes out.old ++ two_text before.now first between.now second) }
-{
-    out.push_str(before)?;
-    put_decimal(out, first)?;
-    out.push_str(between)?;
-    put_decimal(out, second)
-}
-
-fn put_no_target(out: &mut String, target: u64, targets: u64) -> Result<(), NoMemory>
-    ensures { OnOk result (string_bytes out.new ≡ string_bytes out.old ++ two_text (codes "no such target ") target (codes ": the script has ") targets) }
-{
-    put_two(out, "no such target ", target, ": the script has ", targets)
-}
-
-// The same three times.
+// Appends words and a number, three times.
 fn put_three(
     out: &mut String,
     before: &str,
@@ -89,10 +55,7 @@ fn put_three(
 ) -> Result<(), NoMemory>
     ensures { OnOk result (string_bytes out.new ≡ string_bytes out.old ++ three_text before.now first between.now second after.now third) }
 {
-    out.push_str(before)?;
-    put_decimal(out, first)?;
-    out.push_str(between)?;
-    put_decimal(out, second)?;
+    put_two(out, before, first, between, second)?;
     out.push_str(after)?;
     put_decimal(out, third)
 }
@@ -141,19 +104,12 @@ fn kind_words(kind: ScriptKind) -> &'static str
     }
 }
 
-fn put_words(out: &mut String, words: &str) -> Result<(), NoMemory>
-    ensures { OnOk result (string_bytes out.new ≡ string_bytes out.old ++ words.now) }
-{
-    out.push_str(words)?;
-    Ok(())
-}
-
-// Appends what is wrong, of a fault at these tokens.
-fn put_script_words(out: &mut String, kind: ScriptKind, rest: &[Glyph]) -> Result<(), NoMemory>
-    ensures { OnOk result (string_bytes out.new ≡ string_bytes out.old ++ script_words kind rest.now) }
+// Appends what is wrong, of a fault at this token.
+fn put_script_words(out: &mut String, kind: ScriptKind, named: &str) -> Result<(), NoMemory>
+    ensures { OnOk result (string_bytes out.new ≡ string_bytes out.old ++ script_words kind named.now) }
 {
     match kind {
-        ScriptKind::UnknownWord(WordFault::Misplaced) => put_place_words(out, rest),
+        ScriptKind::UnknownWord(WordFault::Misplaced) => put_words(out, place_words(named)),
         ScriptKind::NoSuchTarget { target, targets } => {
             put_no_target(out, u64::from(target), targets as u64)
         }
@@ -202,12 +158,12 @@ fn script_names(kind: ScriptKind) -> bool
     }
 }
 
-fn put_script_cause(out: &mut String, kind: ScriptKind, rest: &[Glyph]) -> Result<(), NoMemory>
-    ensures { OnOk result (string_bytes out.new ≡ string_bytes out.old ++ script_cause kind rest.now) }
+fn put_script_cause(out: &mut String, kind: ScriptKind, named: &str) -> Result<(), NoMemory>
+    ensures { OnOk result (string_bytes out.new ≡ string_bytes out.old ++ script_cause kind named.now) }
 {
-    put_script_words(out, kind, rest)?;
+    put_script_words(out, kind, named)?;
     if script_names(kind) {
-        put_first_token(out, rest)?;
+        out.push_str(named)?;
     }
     Ok(())
 }
@@ -225,16 +181,22 @@ pub fn script_message(
 ) -> Result<String, NoMemory>
     ensures { IfOk result (λ message. string_bytes message ≡ script_message file.now fault line.now) }
 {
-    let rest = rest_at(alloc, FaultyText::Script, fault.column, line)?;
-    let mut cause = String::new(alloc);
-    put_script_cause(&mut cause, fault.kind, &rest)?;
     let place = TextFault {
         text: FaultyText::Script,
         line: fault.line,
         column: fault.column,
         kind: fault.kind.number(),
     };
+    let shown = shown_place(alloc, place.text, place.column, line)?;
+    let mut cause = String::new(alloc);
+    put_script_cause(&mut cause, fault.kind, shown.named.as_str())?;
     let mut message = String::new(alloc);
-    put_text_fault(&mut message, place, cause.as_str(), file, line)?;
+    put_text_fault(
+        &mut message,
+        place,
+        cause.as_str(),
+        file,
+        shown.lines.as_str(),
+    )?;
     Ok(message)
 }

@@ -3,7 +3,7 @@ ghost use Rattle.std.specs.Prelude.{◌≡◌, ◌++◌, OnOk, string_bytes};
 ghost use Rattle.sb_message.specs.Tokens.{is_char, is_blank_glyph, until, first_token, quoted, quoted_token, quoted_bytes};
 
 use crate::excerpts::{dots, first_glyphs};
-use crate::glyphs::{Glyph, glyphs_of, put_glyphs};
+use crate::glyphs::{Glyph, first_glyphs_of, put_glyphs};
 use sb_items::NoMemory;
 
 /// How many characters of a token are shown at most.
@@ -41,8 +41,8 @@ fn until_blank(glyphs: &[Glyph]) -> &[Glyph]
     &glyphs[..n]
 }
 
-/// The first token of glyphs, of which the first is no blank.
-pub(crate) fn first_token(glyphs: &[Glyph]) -> &[Glyph]
+// The first token of glyphs, of which the first is no blank.
+fn first_token(glyphs: &[Glyph]) -> &[Glyph]
     ensures { result.now ≡ first_token glyphs.now }
 {
     match glyphs.split_first() {
@@ -51,11 +51,8 @@ pub(crate) fn first_token(glyphs: &[Glyph]) -> &[Glyph]
     }
 }
 
-/// Appends `"`, what is shown of glyphs, at most of 40, with `..` if there are more, and `"`.
-///
-/// # Errors
-/// `NoMemory` if there was none for the bytes.
-pub(crate) fn put_quoted_glyphs(out: &mut String, glyphs: &[Glyph]) -> Result<(), NoMemory>
+// Appends `"`, what is shown of glyphs, at most of 40, with `..` if there are more, and `"`.
+fn put_quoted_glyphs(out: &mut String, glyphs: &[Glyph]) -> Result<(), NoMemory>
     ensures { OnOk result (string_bytes out.new ≡ string_bytes out.old ++ quoted glyphs.now) }
 {
     out.push('"')?;
@@ -66,22 +63,20 @@ pub(crate) fn put_quoted_glyphs(out: &mut String, glyphs: &[Glyph]) -> Result<()
 }
 
 /// Appends the first token of glyphs, of which the first is no blank, between quotes: at most 40 characters, with `..` if there are more.
-///
-/// # Errors
-/// `NoMemory` if there was none for the bytes.
-pub fn put_first_token(out: &mut String, glyphs: &[Glyph]) -> Result<(), NoMemory>
+pub(crate) fn put_first_token(out: &mut String, glyphs: &[Glyph]) -> Result<(), NoMemory>
     ensures { OnOk result (string_bytes out.new ≡ string_bytes out.old ++ quoted_token glyphs.now) }
 {
     put_quoted_glyphs(out, first_token(glyphs))
 }
 
-/// Appends bytes between quotes in the same way.
+/// Appends bytes between quotes as they are shown: at most 40 characters, with `..` if there are more.
 ///
 /// # Errors
 /// `NoMemory` if there was none for the bytes.
+#[tactic(auto, using(crate::proofs::Named::quoted_front))]
 pub fn put_quoted(out: &mut String, bytes: &[u8]) -> Result<(), NoMemory>
     ensures { OnOk result (string_bytes out.new ≡ string_bytes out.old ++ quoted_bytes bytes.now) }
 {
-    let glyphs = glyphs_of(*out.allocator(), bytes)?;
+    let glyphs = first_glyphs_of(*out.allocator(), bytes, MOST_NAMED + 1)?;
     put_quoted_glyphs(out, &glyphs)
 }

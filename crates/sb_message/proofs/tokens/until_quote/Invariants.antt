@@ -1,6 +1,6 @@
 use Rattle.std.proofs.Common.{◌≡◌, ◌+◌, ◌-◌, ◌≤◌, not, length, drop}
 use Rattle.std.specs.List.{prefix_len}
-use Rattle.sb_message.specs.Tokens.{is_char, is_blank_glyph}
+use Rattle.sb_message.specs.Tokens.{is_char}
 use Rattle.sb_message.proofs.tokens.until_quote.Given as goal
 
 abbrev pub invariant-loop-n : goal.invariant-loop-n
