@@ -1,0 +1,10 @@
+pub mod RawLines
+pub mod Lists
+pub mod Places
+pub mod ShownLines
+pub mod Walking
+pub mod Decided
+pub mod Own
+pub mod EntriesPass
+pub mod ResultsPass
+pub mod Passing

@@ -1,0 +1,12 @@
+pub mod Calls
+pub mod Clean
+pub mod Converse
+pub mod FoundLemmas
+pub mod Keeping
+pub mod Policies
+pub mod Printing
+pub mod Reading
+pub mod RowSteps
+pub mod SlotLemmas
+pub mod SpotLemmas
+pub mod YesLemmas

@@ -1,0 +1,88 @@
+-- When a transcript is audited: no clause fails at any of its lines, and it ends after the totals.
+use Rattle.std.specs.Prelude.{ℕ, ◌+◌, Bool, not, List, [], ◌∷◌, ◌++◌, Option, None, Some, if◌then◌else◌}
+use Rattle.sb_kernel.specs.Namespaces.{Space}
+use Rattle.sb_book.specs.Histories.{setting_of}
+use Rattle.sb_rule.specs.Verdicts.{policy_at}
+use Rattle.sb_rule.specs.declared.policies.Policy.{Policy}
+use Rattle.sb_statements.specs.declared.scripts.Script.{Script}
+use Rattle.sb_text.specs.Lines.{NumberedRawLine, numbered_raw_lines}
+use Rattle.sb_lineread.specs.Reading.{line_of}
+use Rattle.sb_lineread.specs.declared.lines.EntryLine.{EntryLine}
+use Rattle.sb_lineread.specs.declared.lines.ResultLine.{ResultLine}
+use Rattle.sb_lineread.specs.declared.lines.Line.{Line}
+use Rattle.sb_lineread.specs.declared.lines.Line.TheVariants as line
+use Rattle.sb_audit.specs.Before.{entries_of, entry_count, result_count, has_totals, target_of, space_after}
+use Rattle.sb_audit.specs.Clauses.{is_due, has_channel, shows_rule, reply_due, is_own, is_fitting, totals_due, same_totals}
+use Rattle.sb_audit.specs.Comparing.{same_reply}
+use Rattle.sb_audit.specs.declared.answers.AuditAnswer.{AuditAnswer}
+use Rattle.sb_audit.specs.declared.answers.AuditAnswer.TheVariants.{Yes, No}
+
+-- the policy of a target
+abbrev pub policy_of : List Policy → Script → ℕ → Policy
+policy_of policies script target = policy_at (setting_of policies script).policies target
+
+-- the lowest clause from 3 to 5 that fails at an entry of this target, whose channel is there, if one does
+abbrev pub decision_clause : Policy → Script → Space → List EntryLine → ℕ → EntryLine → Option ℕ
+decision_clause policy script space earlier target e =
+    if not (shows_rule policy e.decision) then Some 3
+    else (if not (same_reply e.reply (reply_due space target e.decision)) then Some 4
+    else (if not (is_own policy script earlier target e) then Some 5
+    else None))
+
+-- the lowest clause from 2 to 5 that fails at an entry, if one does
+abbrev pub entry_clause : List Policy → Script → Space → List EntryLine → EntryLine → Option ℕ → Option ℕ
+entry_clause policies script space earlier e None = Some 2
+entry_clause policies script space earlier e (Some target) =
+    if has_channel script target e.channel then decision_clause (policy_of policies script target) script space earlier target e else Some 2
+
+abbrev pub result_clause : Script → List EntryLine → ResultLine → Option ℕ → Option ℕ
+result_clause script entries r None = Some 6
+result_clause script entries r (Some target) = if is_fitting script entries target r then None else Some 6
+
+-- the lowest clause that fails at a line that is due, if one does
+abbrev pub clause_at : List Policy → Script → List Line → Line → Option ℕ
+clause_at policies script before (line.Entry e) =
+    entry_clause policies script (space_after script before) (entries_of before) e (target_of script e.target)
+clause_at policies script before (line.Result r) = result_clause script (entries_of before) r (target_of script r.target)
+clause_at policies script before (line.Totals t) = if same_totals t (totals_due before) then None else Some 7
+
+-- the lowest clause that fails at a line, if one does
+abbrev pub failing : List Policy → Script → List Line → Line → Option ℕ
+failing policies script before l = if is_due script before l then clause_at policies script before l else Some 1
+
+-- the line of a transcript that bytes are with the LF that ends them, if one does and they are a line
+abbrev pub line_with_end : List ℕ → Bool → Option Line
+line_with_end bytes is_ended = if is_ended then line_of bytes else None
+
+abbrev pub ended_line : NumberedRawLine → Option Line
+ended_line raw = line_with_end raw.bytes raw.is_ended
+
+-- the lowest clause that fails there, if one does: the first if there is no line
+abbrev pub failing_line : List Policy → Script → List Line → Option Line → Option ℕ
+failing_line policies script before None = Some 1
+failing_line policies script before (Some l) = failing policies script before l
+
+-- lines, with one more after them if it is one
+abbrev pub with_line : List Line → Option Line → List Line
+with_line before None = before
+with_line before (Some l) = before ++ l ∷ []
+
+-- the answer at the end of a text of n lines, at none of which a clause fails
+abbrev pub end_answer : List Line → ℕ → AuditAnswer
+end_answer lines n = if has_totals lines then Yes (entry_count lines) (result_count lines) else No (record { line = n + 1; clause = 1 })
+
+-- the answer by the clause that fails at line n, if one does, and else the one to the lines after it
+abbrev pub answer_at : Option ℕ → ℕ → AuditAnswer → AuditAnswer
+answer_at None n later = later
+answer_at (Some clause) n later = No (record { line = n; clause = clause })
+
+-- the answer to the rest of a transcript after lines at which no clause fails; n is the number of the line before
+abbrev pub audited_from : List Policy → Script → List Line → ℕ → List NumberedRawLine → AuditAnswer
+audited_from policies script before n [] = end_answer before n
+audited_from policies script before n (raw ∷ more) =
+    answer_at (failing_line policies script before (ended_line raw)) raw.number
+    (audited_from policies script (with_line before (ended_line raw)) raw.number more)
+
+-- the answer to a transcript
+abbrev pub audited : List Policy → Script → List ℕ → AuditAnswer
+audited policies script text = audited_from policies script [] 0 (numbered_raw_lines text)

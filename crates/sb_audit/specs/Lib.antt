@@ -1,0 +1,10 @@
+pub mod Audited
+pub mod Before
+pub mod Clauses
+pub mod Comparing
+pub mod Converse
+pub mod Found
+pub mod Kept
+pub mod Laws
+pub mod Rows
+pub mod Spots

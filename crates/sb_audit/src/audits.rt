@@ -1,0 +1,94 @@
+// The audit of a transcript.
+ghost use Rattle.std.specs.Prelude.{◌≡◌, ◌<◌, ◌+◌, ◌^◌, [], length, None, IfOk};
+ghost use Rattle.sb_book.specs.Histories.{setting_of};
+ghost use Rattle.sb_audit.specs.Audited.{audited, line_with_end};
+ghost use Rattle.sb_audit.specs.Kept.{AreAtMost, FollowsLine, Keeps, failing_line_kept};
+
+use crate::answers::{AuditAnswer, Refuted};
+use crate::contexts::Context;
+use crate::walks::Walk;
+use sb_book::ReadyScript;
+use sb_items::NoMemory;
+use sb_lineread::{Line, read_line};
+use sb_rule::Judge;
+use sb_text::RawLines;
+use std::alloc::Global;
+
+// The line of a transcript that bytes are with the LF that ends them, if one does and they are a line.
+fn line_with_end(alloc: Global, bytes: &[u8], is_ended: bool) -> Result<Option<Line>, NoMemory>
+    ensures { IfOk result (λ line. line ≡ line_with_end bytes.now is_ended) }
+{
+    if !is_ended {
+        return Ok(None);
+    }
+    let line = read_line(alloc, bytes)?;
+    Ok(line)
+}
+
+// The lowest clause that fails at the next bytes of a text up to an LF, if one does. If none does, the line is kept.
+fn failing<J: Judge>(
+    alloc: Global,
+    context: &Context<'_>,
+    judge: &J,
+    walk: &mut Walk,
+    bytes: &[u8],
+    is_ended: bool,
+) -> Result<Option<u32>, NoMemory>
+    requires judge { J.policies judge.now ≡ (setting_of context.now.policies context.now.script).policies }
+    requires small { AreAtMost (2 ^ 32) walk.old.totals }
+    ensures clause { IfOk result (λ f. f ≡ failing_line_kept context.now.policies context.now.script walk.old (line_with_end bytes.now is_ended)) }
+    ensures kept { IfOk result (λ f. f ≡ None → FollowsLine context.now.script (line_with_end bytes.now is_ended) walk.old walk.new) }
+{
+    let Some(line) = line_with_end(alloc, bytes, is_ended)? else {
+        return Ok(Some(1));
+    };
+    let failing = walk.line(context, judge, line)?;
+    Ok(failing)
+}
+
+// The answer to a text of which nothing was read.
+fn answer<J: Judge>(
+    alloc: Global,
+    context: &Context<'_>,
+    judge: &J,
+    walk: &mut Walk,
+    text: &[u8],
+) -> Result<AuditAnswer, NoMemory>
+    requires judge { J.policies judge.now ≡ (setting_of context.now.policies context.now.script).policies }
+    requires start { Keeps context.now.script [] walk.old }
+    requires short { length text.now + 1 < 2 ^ 32 }
+    ensures { IfOk result (λ a. a ≡ audited context.now.policies context.now.script text.now) }
+{
+    context.establish_sound();
+    let mut lines = RawLines::new(text);
+    let mut last = 0;
+    while let Some(raw) = lines.next_line() {
+        last = raw.number;
+        if let Some(clause) = failing(alloc, context, judge, walk, raw.bytes, raw.is_ended)? {
+            return Ok(AuditAnswer::No(Refuted { line: last, clause }));
+        }
+    }
+    Ok(walk.end(last))
+}
+
+/// Whether no clause fails at any line of a transcript, whoever made it, and it ends after the totals; if not, at which line the first
+/// fails. The script is ready for the policies, and the judge judges its targets by these. The text has fewer than 2^32 - 1 bytes. It is
+/// read once, and the time is linear in its length.
+///
+/// # Errors
+/// `NoMemory` if there was none for a line, for the namespace, or for the replies on clean channels.
+pub fn audit<J: Judge>(
+    alloc: Global,
+    judge: &J,
+    ready: &ReadyScript,
+    text: &[u8],
+) -> Result<AuditAnswer, NoMemory>
+    requires judge { J.policies judge.now ≡ (setting_of ready.now.policies ready.now.script).policies }
+    requires short { length text.now + 1 < 2 ^ 32 }
+    ensures { IfOk result (λ a. a ≡ audited ready.now.policies ready.now.script text.now) }
+{
+    let context = Context::new(ready);
+    let mut walk = Walk::new(alloc, ready)?;
+    let answer = answer(alloc, &context, judge, &mut walk, text)?;
+    Ok(answer)
+}
