@@ -1,3 +1,6 @@
 pub mod ReadWords
+pub mod ReadSteps
 pub mod TakenWords
-pub mod WordTests
+pub mod NumberLaws
+pub mod WrittenCommands
+pub mod Worked

@@ -1,117 +1,83 @@
 -- Arguments that are a command, as the library reads them.
-use Rattle.std.proofs.Common.{◌≡◌, refl, codes, true, false, ℕ, Bool, List, [], ◌∷◌, ◌++◌, ◌==◌, nat_eq, Option, Some, None, if◌then◌else◌}
-use Rattle.std.specs.Cmp.Lexicographic.{pointwise}
-use Rattle.clap.specs.Words.{Row, Text, first_of, is_simple, matches_of, takes}
+use Rattle.std.proofs.Common.{◌≡◌, refl, codes, true, false, ℕ, List, [], ◌∷◌, ◌++◌, ◌==◌, Option, Some, None}
+use Rattle.clap.specs.Words.{App, Row, Text, first_of, is_simple, matches_of, takes}
 use Rattle.clap.proofs.OnLiterals.{clap_on_literals}
-use Rattle.sb_commands.specs.Commands.{Command, Check, Replay, Run}
-use Rattle.sb_commands.specs.CommandLine.{Values, check_arguments, command_line, found_check, found_replay, found_run, line_of, make_arguments, name_of, replay_arguments, run_arguments}
-use Rattle.sb_commands.specs.NumberWords.{default_workers}
-
-pub lines_are_simple : (words : List Text) → is_simple (command_line words) ≡ true
-lines_are_simple words = by (pointwise nat_eq (name_of words) (codes "check")) (pointwise nat_eq (name_of words) (codes "replay")) (pointwise nat_eq (name_of words) (codes "run"))
-  where
-    by : (check replay run : Bool)
-        → is_simple (line_of (if check then check_arguments else (if replay then replay_arguments else (if run then run_arguments else make_arguments)))) ≡ true
-    by true replay run = refl
-    by false true run = refl
-    by false false true = refl
-    by false false false = refl
+use Rattle.sb_commands.specs.CommandLine.{line_of}
+use Rattle.sb_commands.specs.Forms.{check_form, make_form, replay_form, run_form}
+use Rattle.sb_commands.specs.Usage.{Values}
 
 -- what the getters find in these rows
-abbrev pub values_in : List Row → Values
+abbrev pub values_in : List Row → Text → Option Text
 values_in rows name = first_of name rows
 
--- what is done with the values of three arguments, whatever it is
-abbrev Use : Type 0
-Use = Option Text → Option Text → Option Text → Option Command
+-- what is done with the values that are found, whatever it is
+abbrev pub Use : Type 0
+Use = Option Text → Option Text → Option Text → Option Text → Option Text → Values
 
-abbrev of_run : Use → Values → Option Command
-of_run f values = f (values (codes "policy")) (values (codes "script")) (values (codes "workers"))
+abbrev pub used : Use → (Text → Option Text) → Values
+used f found = f (found (codes "first")) (found (codes "second")) (found (codes "third")) (found (codes "last")) (found (codes "option"))
 
-abbrev of_make : Use → Values → Option Command
-of_make f values = f (values (codes "seed")) (values (codes "targets")) (values (codes "calls"))
+-- the library takes these arguments, and finds these values
+abbrev pub IsTaken : App → List Text → Option Text → Option Text → Option Text → Option Text → Option Text → Type 0
+IsTaken line words first second third last option =
+    (takes line words ≡ true) × ((f : Use) → used f (values_in (matches_of line words)) ≡ f first second third last option)
 
--- ---- an argument that does not begin with `-` goes to the next file, or is the value of the option before it
+-- the library's command lines are simple
+pub check_is_simple : is_simple (line_of check_form) ≡ true
+check_is_simple = refl
+
+pub replay_is_simple : is_simple (line_of replay_form) ≡ true
+replay_is_simple = refl
+
+pub run_is_simple : is_simple (line_of run_form) ≡ true
+run_is_simple = refl
+
+pub make_is_simple : is_simple (line_of make_form) ≡ true
+make_is_simple = refl
+
+-- ---- an argument that does not begin with `-` goes to the next place, or is the value of the option before it
 
 module _ (name : Text) (b : ℕ) (bs : List ℕ) (first : (b == 45) ≡ false) where
-  pub check_is_taken : takes (line_of check_arguments) (name ∷ (b ∷ bs) ∷ []) ≡ true
+  pub one_is_taken : IsTaken (line_of check_form) (name ∷ (b ∷ bs) ∷ []) (Some (b ∷ bs)) None None None None
   unfolding clap_on_literals
-  check_is_taken = rw (first, first) refl
-
-  pub check_is_read : found_check (values_in (matches_of (line_of check_arguments) (name ∷ (b ∷ bs) ∷ []))) ≡ Some (Check (b ∷ bs))
-  unfolding clap_on_literals
-  check_is_read = rw (first, first) refl
+  one_is_taken = (rw (first, first) refl, λ f. rw (first, first) refl)
 
   module _ (d : ℕ) (ds : List ℕ) (second : (d == 45) ≡ false) where
-    pub replay_is_taken : takes (line_of replay_arguments) (name ∷ (b ∷ bs) ∷ (d ∷ ds) ∷ []) ≡ true
+    pub two_are_taken : IsTaken (line_of replay_form) (name ∷ (b ∷ bs) ∷ (d ∷ ds) ∷ []) (Some (b ∷ bs)) (Some (d ∷ ds)) None None None
     unfolding clap_on_literals
-    replay_is_taken = rw (first, first, second, second) refl
+    two_are_taken = (rw (first, first, second, second) refl, λ f. rw (first, first, second, second) refl)
 
-    pub replay_is_read : found_replay (values_in (matches_of (line_of replay_arguments) (name ∷ (b ∷ bs) ∷ (d ∷ ds) ∷ []))) ≡ Some (Replay (b ∷ bs) (d ∷ ds) None)
+    pub run_is_taken : IsTaken (line_of run_form) (name ∷ (b ∷ bs) ∷ (d ∷ ds) ∷ []) (Some (b ∷ bs)) (Some (d ∷ ds)) None None None
     unfolding clap_on_literals
-    replay_is_read = rw (first, first, second, second) refl
-
-    pub run_is_taken : takes (line_of run_arguments) (name ∷ (b ∷ bs) ∷ (d ∷ ds) ∷ []) ≡ true
-    unfolding clap_on_literals
-    run_is_taken = rw (first, first, second, second) refl
-
-    pub run_is_read : found_run (values_in (matches_of (line_of run_arguments) (name ∷ (b ∷ bs) ∷ (d ∷ ds) ∷ []))) ≡ Some (Run (b ∷ bs) (d ∷ ds) default_workers)
-    unfolding clap_on_literals
-    run_is_read = rw (first, first, second, second) refl
+    run_is_taken = (rw (first, first, second, second) refl, λ f. rw (first, first, second, second) refl)
 
     module _ (e : ℕ) (es : List ℕ) (third : (e == 45) ≡ false) where
-      pub scheduled_is_taken : takes (line_of replay_arguments) (name ∷ (b ∷ bs) ∷ (d ∷ ds) ∷ (e ∷ es) ∷ []) ≡ true
+      pub two_and_last_are_taken : IsTaken (line_of replay_form) (name ∷ (b ∷ bs) ∷ (d ∷ ds) ∷ (e ∷ es) ∷ []) (Some (b ∷ bs)) (Some (d ∷ ds)) None (Some (e ∷ es)) None
       unfolding clap_on_literals
-      scheduled_is_taken = rw (first, first, second, second, third, third) refl
+      two_and_last_are_taken = (rw (first, first, second, second, third, third) refl, λ f. rw (first, first, second, second, third, third) refl)
 
-      pub scheduled_is_read : found_replay (values_in (matches_of (line_of replay_arguments) (name ∷ (b ∷ bs) ∷ (d ∷ ds) ∷ (e ∷ es) ∷ [])))
-          ≡ Some (Replay (b ∷ bs) (d ∷ ds) (Some (e ∷ es)))
+      pub three_are_taken : IsTaken (line_of make_form) (name ∷ (b ∷ bs) ∷ (d ∷ ds) ∷ (e ∷ es) ∷ []) (Some (b ∷ bs)) (Some (d ∷ ds)) (Some (e ∷ es)) None None
       unfolding clap_on_literals
-      scheduled_is_read = rw (first, first, second, second, third, third) refl
+      three_are_taken = (rw (first, first, second, second, third, third) refl, λ f. rw (first, first, second, second, third, third) refl)
 
       -- the third is the value of the option
 
-      pub run_joined_first_is_taken : takes (line_of run_arguments) (name ∷ (codes "--workers=" ++ (e ∷ es)) ∷ (b ∷ bs) ∷ (d ∷ ds) ∷ []) ≡ true
+      pub joined_first_is_taken : IsTaken (line_of run_form) (name ∷ (codes "--workers=" ++ (e ∷ es)) ∷ (b ∷ bs) ∷ (d ∷ ds) ∷ [])
+          (Some (b ∷ bs)) (Some (d ∷ ds)) None None (Some (e ∷ es))
       unfolding clap_on_literals
-      run_joined_first_is_taken = rw (first, first, second, second) refl
+      joined_first_is_taken = (rw (first, first, second, second) refl, λ f. rw (first, first, second, second) refl)
 
-      pub run_joined_last_is_taken : takes (line_of run_arguments) (name ∷ (b ∷ bs) ∷ (d ∷ ds) ∷ (codes "--workers=" ++ (e ∷ es)) ∷ []) ≡ true
+      pub joined_last_is_taken : IsTaken (line_of run_form) (name ∷ (b ∷ bs) ∷ (d ∷ ds) ∷ (codes "--workers=" ++ (e ∷ es)) ∷ [])
+          (Some (b ∷ bs)) (Some (d ∷ ds)) None None (Some (e ∷ es))
       unfolding clap_on_literals
-      run_joined_last_is_taken = rw (first, first, second, second) refl
+      joined_last_is_taken = (rw (first, first, second, second) refl, λ f. rw (first, first, second, second) refl)
 
-      pub run_apart_first_is_taken : takes (line_of run_arguments) (name ∷ codes "--workers" ∷ (e ∷ es) ∷ (b ∷ bs) ∷ (d ∷ ds) ∷ []) ≡ true
+      pub apart_first_is_taken : IsTaken (line_of run_form) (name ∷ codes "--workers" ∷ (e ∷ es) ∷ (b ∷ bs) ∷ (d ∷ ds) ∷ [])
+          (Some (b ∷ bs)) (Some (d ∷ ds)) None None (Some (e ∷ es))
       unfolding clap_on_literals
-      run_apart_first_is_taken = rw (third, third, first, first, second, second) refl
+      apart_first_is_taken = (rw (third, third, first, first, second, second) refl, λ f. rw (third, third, first, first, second, second) refl)
 
-      pub run_apart_last_is_taken : takes (line_of run_arguments) (name ∷ (b ∷ bs) ∷ (d ∷ ds) ∷ codes "--workers" ∷ (e ∷ es) ∷ []) ≡ true
+      pub apart_last_is_taken : IsTaken (line_of run_form) (name ∷ (b ∷ bs) ∷ (d ∷ ds) ∷ codes "--workers" ∷ (e ∷ es) ∷ [])
+          (Some (b ∷ bs)) (Some (d ∷ ds)) None None (Some (e ∷ es))
       unfolding clap_on_literals
-      run_apart_last_is_taken = rw (first, first, second, second, third, third) refl
-
-      pub make_is_taken : takes (line_of make_arguments) (name ∷ (b ∷ bs) ∷ (d ∷ ds) ∷ (e ∷ es) ∷ []) ≡ true
-      unfolding clap_on_literals
-      make_is_taken = rw (first, first, second, second, third, third) refl
-
-      pub run_joined_first_is_read : (f : Use) → of_run f (values_in (matches_of (line_of run_arguments) (name ∷ (codes "--workers=" ++ (e ∷ es)) ∷ (b ∷ bs) ∷ (d ∷ ds) ∷ [])))
-          ≡ f (Some (b ∷ bs)) (Some (d ∷ ds)) (Some (e ∷ es))
-      unfolding clap_on_literals
-      run_joined_first_is_read f = rw (first, first, second, second) refl
-
-      pub run_joined_last_is_read : (f : Use) → of_run f (values_in (matches_of (line_of run_arguments) (name ∷ (b ∷ bs) ∷ (d ∷ ds) ∷ (codes "--workers=" ++ (e ∷ es)) ∷ [])))
-          ≡ f (Some (b ∷ bs)) (Some (d ∷ ds)) (Some (e ∷ es))
-      unfolding clap_on_literals
-      run_joined_last_is_read f = rw (first, first, second, second) refl
-
-      pub run_apart_first_is_read : (f : Use) → of_run f (values_in (matches_of (line_of run_arguments) (name ∷ codes "--workers" ∷ (e ∷ es) ∷ (b ∷ bs) ∷ (d ∷ ds) ∷ [])))
-          ≡ f (Some (b ∷ bs)) (Some (d ∷ ds)) (Some (e ∷ es))
-      unfolding clap_on_literals
-      run_apart_first_is_read f = rw (third, third, first, first, second, second) refl
-
-      pub run_apart_last_is_read : (f : Use) → of_run f (values_in (matches_of (line_of run_arguments) (name ∷ (b ∷ bs) ∷ (d ∷ ds) ∷ codes "--workers" ∷ (e ∷ es) ∷ [])))
-          ≡ f (Some (b ∷ bs)) (Some (d ∷ ds)) (Some (e ∷ es))
-      unfolding clap_on_literals
-      run_apart_last_is_read f = rw (first, first, second, second, third, third) refl
-
-      pub make_is_read : (f : Use) → of_make f (values_in (matches_of (line_of make_arguments) (name ∷ (b ∷ bs) ∷ (d ∷ ds) ∷ (e ∷ es) ∷ [])))
-          ≡ f (Some (b ∷ bs)) (Some (d ∷ ds)) (Some (e ∷ es))
-      unfolding clap_on_literals
-      make_is_read f = rw (first, first, second, second, third, third) refl
+      apart_last_is_taken = (rw (first, first, second, second, third, third) refl, λ f. rw (first, first, second, second, third, third) refl)

@@ -1,327 +1,352 @@
--- The library takes arguments that are a command, and finds that command.
-use Rattle.std.proofs.Common.{◌≡◌, ◌∙◌, refl, sym, ap, subst, codes, true, false, ℕ, Bool, List, [], ◌∷◌, ◌++◌, Option, Some, None, IsSome, not, ◌&&◌, true≢false, nat_eq, drop, take, if◌then◌else◌, arith}
-use Rattle.std.specs.Prelude.{nat_le, length, option_and_then, option_map}
-use Rattle.std.specs.List.{list_all}
-use Rattle.std.specs.Option.{option_or}
-use Rattle.std.specs.Cmp.Lexicographic.{pointwise, bytes_decides}
-use Rattle.std.proofs.lemmas.Bool.Decides.{nat_tests}
-use Rattle.std.proofs.lemmas.List.{take-append-drop}
+-- The library takes arguments that are a command, and finds their values.
+use Rattle.std.proofs.Common.{◌≡◌, ◌⊎◌, inl, inr, ◌∙◌, refl, sym, ap, subst, codes, true, false, ℕ, Bool, List, [], ◌∷◌, ◌++◌, Option, Some, None, true≢false, nat_eq, if◌then◌else◌}
+use Rattle.std.specs.Prelude.{⊤, Result, Ok, Err, IsOk, length, suc}
+use Rattle.std.specs.Cmp.Lexicographic.{pointwise}
 use Rattle.clap.specs.Words.{App, HasMatchesOf, Text, first_of, first_value, found_of, is_simple, matches_of, takes}
 use Rattle.clap.proofs.WalkLemmas.{first_value-rows}
 use Rattle.clap.specs.declared.ArgMatches.{ArgMatches}
-use Rattle.sb_text.specs.Numbers.{are_digits, below_2_64, decimal_of, is_decimal_digit, value_from}
-use Rattle.sb_commands.specs.Commands.{Command, Check, Make, Replay, Run, check_of, command_of, is_file_word, make_of, replay_of, run_by, run_of}
-use Rattle.sb_commands.specs.CommandLine.{Values, arguments_of, check_arguments, command_line, found_check, found_command, found_make, found_replay, found_run, line_of, make_arguments, make_found, name_of, replay_arguments, run_arguments, run_found}
-use Rattle.sb_commands.specs.NumberWords.{calls_of, default_workers, number_within, seed_of, targets_of, within, workers_apart, workers_joined, workers_of}
-use Rattle.sb_commands.proofs.ReadWords.{values_in, lines_are_simple, check_is_taken, check_is_read, replay_is_taken, replay_is_read, run_is_taken, run_is_read, scheduled_is_taken, scheduled_is_read, run_joined_first_is_taken, run_joined_last_is_taken, run_apart_first_is_taken, run_apart_last_is_taken, make_is_taken, run_joined_first_is_read, run_joined_last_is_read, run_apart_first_is_read, run_apart_last_is_read, make_is_read}
+use Rattle.sb_commands.specs.Commands.{HasValues, IsCommandOf, command_by, command_of, with_form, with_values}
+use Rattle.sb_commands.specs.CommandLine.{found_values, line_of, or_empty}
+use Rattle.sb_commands.specs.Forms.{Choice, Form, Help, Place, form_by, form_in, forms, run_form}
+use Rattle.sb_commands.specs.NumberWords.{is_number}
+use Rattle.sb_commands.specs.Usage.{Cut, Fault, IsTested, Values, cut_last, cut_option, cut_places, fault_of, option_number, read_after, read_by, with_end, with_last, with_option, with_places}
+use Rattle.sb_commands.specs.declared.usage_faults.UsageFault.{UsageFault}
+use Rattle.sb_commands.proofs.ReadSteps.{IsPlainWord, OnCut, OnLast, OnLeft, IsOptionAt, last_left, number_is_plain, option_left, places_left, workers}
+use Rattle.sb_commands.proofs.ReadWords.{IsTaken, apart_first_is_taken, apart_last_is_taken, check_is_simple, joined_first_is_taken, joined_last_is_taken, make_is_simple, one_is_taken, replay_is_simple, run_is_simple, run_is_taken, three_are_taken, two_and_last_are_taken, two_are_taken, values_in}
 
--- ---- arguments that are a command
+-- the library takes the arguments of a command of this form with this name, and finds these values
+abbrev pub IsRead : Text → Form → List Text → Result Values Fault → Type 0
+IsRead name form words (Ok values) =
+    (takes (line_of form) (name ∷ words) ≡ true) × (found_values form (values_in (matches_of (line_of form) (name ∷ words))) ≡ values)
+IsRead name form words (Err fault) = ⊤
 
--- by a command line of these parameters the library takes the arguments, and what it finds in them is the command
-abbrev IsFound : List Text → (Values → Option Command) → List Text → Option Command → Type 0
-IsFound names found words command = (takes (line_of names) words ≡ true) × (found (values_in (matches_of (line_of names) words)) ≡ command)
+-- what a form makes of the values that are found
+abbrev values_by : Form → Option Text → Option Text → Option Text → Option Text → Option Text → Values
+values_by form first second third last option = record {
+  first = or_empty first;
+  second = or_empty second;
+  third = or_empty third;
+  last = last;
+  option = option_number form.option option;
+}
 
-both : (a b : Bool) → (a && b) ≡ true → (a ≡ true) × (b ≡ true)
-both true b h = (refl, h)
-both false b h = absurd (true≢false (sym h))
+read : (name : Text) (form : Form) (words : List Text) (first second third last option : Option Text)
+    → IsTaken (line_of form) (name ∷ words) first second third last option → IsRead name form words (Ok (values_by form first second third last option))
+read name form words first second third last option taken = (taken.0, taken.1 (values_by form))
 
-not_true : (a : Bool) → not a ≡ true → a ≡ false
-not_true true h = absurd (true≢false (sym h))
-not_true false h = refl
+-- ---- one place, as that of `check`
 
-chosen : {A : Type 0} (test : Bool) (x : A) → IsSome (if test then Some x else None) → test ≡ true
-chosen true x h = refl
-chosen false x h = absurd (true≢false (sym h))
+module _ (n does : Text) (help : Help) (p : Place) (name : Text) (total : ℕ) where
+  abbrev one_form : Form
+  one_form = record { name = n; places = p ∷ []; last = None; option = None; does = does; help = help }
 
--- arguments of digits do not begin with `-`
-digits_name_files : (word : Text) → IsSome (decimal_of word) → is_file_word word ≡ true
-digits_name_files [] some = absurd (true≢false (sym some))
-digits_name_files (b ∷ bs) some = by (are_digits is_decimal_digit 20 (b ∷ bs)) refl some
-  where
-    by : (test : Bool) → are_digits is_decimal_digit 20 (b ∷ bs) ≡ test → IsSome (if test then below_2_64 (value_from 10 0 (b ∷ bs)) else None) → is_file_word (b ∷ bs) ≡ true
-    by true e h =
-        let digits = (both (nat_le 1 (length (b ∷ bs)) && nat_le (length (b ∷ bs)) 20) (list_all is_decimal_digit (b ∷ bs)) e).1 in
-        let first = (both (is_decimal_digit b) (list_all is_decimal_digit bs) digits).0 in
-        let low : nat_le 48 b ≡ true = (both (nat_le 48 b) (nat_le b 57) first).0 in
-        grind (arith, nat_tests, low)
-    by false e h = absurd (true≢false (sym h))
+  one_end : (word : Text) → IsPlainWord word → IsRead name one_form (word ∷ []) (with_end one_form total None (word ∷ []) None (Ok (None, [])))
+  one_end word plain =
+      subst (λ (w : Text). IsRead name one_form (w ∷ []) (with_end one_form total None (w ∷ []) None (Ok (None, [])))) (sym plain.word_is)
+      (read name one_form ((plain.b ∷ plain.bs) ∷ []) (Some (plain.b ∷ plain.bs)) None None None None (one_is_taken name plain.b plain.bs plain.plain))
 
--- a number within bounds is one
-bounded_some : (low high : ℕ) (word : Text) → IsSome (number_within low high word) → IsSome (decimal_of word)
-bounded_some low high word some = by (decimal_of word) some
-  where
-    by : (n : Option ℕ) → IsSome (option_and_then (within low high) n) → IsSome n
-    by None h = absurd (true≢false (sym h))
-    by (Some n) h = refl
+  one_read : (words : List Text) → IsRead name one_form words (read_after one_form total words)
+  one_read words = by (cut_places None false total one_form.places words) (places_left None false total one_form.places words)
+    where
+      by : (placed : Result (List Text) Fault) → OnLeft one_form.places words placed → IsRead name one_form words (with_places one_form total None words placed)
+      by (Err fault) h = tt
+      by (Ok (further ∷ rest)) h = tt
+      by (Ok []) (word, after, e, (plain, kind), e2) =
+          subst (λ (ws : List Text). IsRead name one_form ws (with_end one_form total None ws None (Ok (None, [])))) (sym (e ∙ ap (λ ws. word ∷ ws) e2)) (one_end word plain)
 
-bounded_file : (low high : ℕ) (word : Text) → IsSome (number_within low high word) → is_file_word word ≡ true
-bounded_file low high word some = digits_name_files word (bounded_some low high word some)
+-- ---- two places, and a file that may be left out, as those of `replay`
 
--- the two forms of the option
-joined_word : (word : Text) → IsSome (workers_joined word) → (word ≡ codes "--workers=" ++ drop 10 word) × (workers_joined word ≡ workers_of (drop 10 word)) × IsSome (workers_of (drop 10 word))
-joined_word word some = by (pointwise nat_eq (take 10 word) (codes "--workers=")) refl some
-  where
-    by : (test : Bool) → pointwise nat_eq (take 10 word) (codes "--workers=") ≡ test → IsSome (if test then workers_of (drop 10 word) else None)
-        → (word ≡ codes "--workers=" ++ drop 10 word) × (workers_joined word ≡ workers_of (drop 10 word)) × IsSome (workers_of (drop 10 word))
-    by true e h = (
-      sym (take-append-drop 10 word) ∙ ap (λ w. w ++ drop 10 word) ((bytes_decides (take 10 word) (codes "--workers=")).0 e),
-      ap (λ (b : Bool). if b then workers_of (drop 10 word) else None) e,
-      h,
-    )
-    by false e h = absurd (true≢false (sym h))
+module _ (n does l : Text) (help : Help) (p s : Place) (name : Text) (total : ℕ) where
+  abbrev two_form : Form
+  two_form = record { name = n; places = p ∷ s ∷ []; last = Some l; option = None; does = does; help = help }
 
-apart_word : (option word : Text) → IsSome (workers_apart option word) → (option ≡ codes "--workers") × (workers_apart option word ≡ workers_of word) × IsSome (workers_of word)
-apart_word option word some = by (pointwise nat_eq option (codes "--workers")) refl some
-  where
-    by : (test : Bool) → pointwise nat_eq option (codes "--workers") ≡ test → IsSome (if test then workers_of word else None)
-        → (option ≡ codes "--workers") × (workers_apart option word ≡ workers_of word) × IsSome (workers_of word)
-    by true e h = ((bytes_decides option (codes "--workers")).0 e, ap (λ (b : Bool). if b then workers_of word else None) e, h)
-    by false e h = absurd (true≢false (sym h))
+  two_end : (a b : Text) → IsPlainWord a → IsPlainWord b → IsRead name two_form (a ∷ b ∷ []) (with_end two_form total None (a ∷ b ∷ []) None (Ok (None, [])))
+  two_end a b f g =
+      subst (λ (w : Text). IsRead name two_form (w ∷ b ∷ []) (with_end two_form total None (w ∷ b ∷ []) None (Ok (None, [])))) (sym f.word_is)
+      (subst (λ (w : Text). IsRead name two_form ((f.b ∷ f.bs) ∷ w ∷ []) (with_end two_form total None ((f.b ∷ f.bs) ∷ w ∷ []) None (Ok (None, [])))) (sym g.word_is)
+      (read name two_form ((f.b ∷ f.bs) ∷ (g.b ∷ g.bs) ∷ []) (Some (f.b ∷ f.bs)) (Some (g.b ∷ g.bs)) None None None
+      (two_are_taken name f.b f.bs f.plain g.b g.bs g.plain)))
 
--- ---- `check` and `replay`
+  last_end : (a b c : Text) → IsPlainWord a → IsPlainWord b → IsPlainWord c
+      → IsRead name two_form (a ∷ b ∷ c ∷ []) (with_end two_form total None (a ∷ b ∷ c ∷ []) (Some c) (Ok (None, [])))
+  last_end a b c f g h =
+      subst (λ (w : Text). IsRead name two_form (w ∷ b ∷ c ∷ []) (with_end two_form total None (w ∷ b ∷ c ∷ []) (Some c) (Ok (None, [])))) (sym f.word_is)
+      (subst (λ (w : Text). IsRead name two_form ((f.b ∷ f.bs) ∷ w ∷ c ∷ []) (with_end two_form total None ((f.b ∷ f.bs) ∷ w ∷ c ∷ []) (Some c) (Ok (None, [])))) (sym g.word_is)
+      (subst (λ (w : Text). IsRead name two_form ((f.b ∷ f.bs) ∷ (g.b ∷ g.bs) ∷ w ∷ []) (with_end two_form total None ((f.b ∷ f.bs) ∷ (g.b ∷ g.bs) ∷ w ∷ []) (Some w) (Ok (None, [])))) (sym h.word_is)
+      (read name two_form ((f.b ∷ f.bs) ∷ (g.b ∷ g.bs) ∷ (h.b ∷ h.bs) ∷ []) (Some (f.b ∷ f.bs)) (Some (g.b ∷ g.bs)) None (Some (h.b ∷ h.bs)) None
+      (two_and_last_are_taken name f.b f.bs f.plain g.b g.bs g.plain h.b h.bs h.plain))))
 
-check_literal : (name policy : Text) → is_file_word policy ≡ true
-    → IsFound check_arguments found_check (name ∷ policy ∷ []) (Some (Check policy))
-check_literal name [] file = absurd (true≢false (sym file))
-check_literal name (b ∷ bs) file = (
-  check_is_taken name b bs (not_true _ file),
-  check_is_read name b bs (not_true _ file),
-)
+  two_read : (words : List Text) → IsRead name two_form words (read_after two_form total words)
+  two_read words = by (cut_places None false total two_form.places words) (places_left None false total two_form.places words)
+    where
+      after : (a b : Text) (left : List Text) → words ≡ a ∷ b ∷ left → IsPlainWord a → IsPlainWord b → (cut : Cut) → OnLast left cut
+          → IsRead name two_form words (with_last two_form total None words cut)
+      after a b left e f g (Err fault) h = tt
+      after a b left e f g (Ok (None, further ∷ rest)) h = tt
+      after a b left e f g (Ok (Some c, further ∷ rest)) h = tt
+      after a b left e f g (Ok (None, [])) h =
+          subst (λ (ws : List Text). IsRead name two_form ws (with_end two_form total None ws None (Ok (None, [])))) (sym (e ∙ ap (λ ws. a ∷ b ∷ ws) h)) (two_end a b f g)
+      after a b left e f g (Ok (Some c, [])) (k, h) =
+          subst (λ (ws : List Text). IsRead name two_form ws (with_end two_form total None ws (Some c) (Ok (None, [])))) (sym (e ∙ ap (λ ws. a ∷ b ∷ ws) h))
+          (last_end a b c f g k)
 
-replay_literal : (name policy script : Text) → is_file_word policy ≡ true → is_file_word script ≡ true
-    → IsFound replay_arguments found_replay (name ∷ policy ∷ script ∷ []) (Some (Replay policy script None))
-replay_literal name [] script file other = absurd (true≢false (sym file))
-replay_literal name (b ∷ bs) [] file other = absurd (true≢false (sym other))
-replay_literal name (b ∷ bs) (d ∷ ds) file other = (
-  replay_is_taken name b bs (not_true _ file) d ds (not_true _ other),
-  replay_is_read name b bs (not_true _ file) d ds (not_true _ other),
-)
+      by : (placed : Result (List Text) Fault) → OnLeft two_form.places words placed → IsRead name two_form words (with_places two_form total None words placed)
+      by (Err fault) h = tt
+      by (Ok left) (a, others, e, (f, kind), (b, rest, e2, (g, kind2), e3)) =
+          after a b left (e ∙ ap (λ ws. a ∷ ws) (e2 ∙ ap (λ ws. b ∷ ws) e3)) f g (cut_last (Some l) total left) (last_left l total left)
 
-scheduled_literal : (name policy script schedule : Text) → is_file_word policy ≡ true → is_file_word script ≡ true → is_file_word schedule ≡ true
-    → IsFound replay_arguments found_replay (name ∷ policy ∷ script ∷ schedule ∷ []) (Some (Replay policy script (Some schedule)))
-scheduled_literal name [] script schedule file other last = absurd (true≢false (sym file))
-scheduled_literal name (b ∷ bs) [] schedule file other last = absurd (true≢false (sym other))
-scheduled_literal name (b ∷ bs) (d ∷ ds) [] file other last = absurd (true≢false (sym last))
-scheduled_literal name (b ∷ bs) (d ∷ ds) (e ∷ es) file other last = (
-  scheduled_is_taken name b bs (not_true _ file) d ds (not_true _ other) e es (not_true _ last),
-  scheduled_is_read name b bs (not_true _ file) d ds (not_true _ other) e es (not_true _ last),
-)
+-- ---- three places, as those of `make` and `linked`
 
-check_words : (name : Text) (words : List Text) → IsSome (check_of words) → IsFound check_arguments found_check (name ∷ words) (check_of words)
-check_words name [] some = absurd (true≢false (sym some))
-check_words name (policy ∷ []) some =
-    let valid = chosen (is_file_word policy) (Check policy) some in
-    let literal = check_literal name policy valid in
-    rw (valid) literal
-check_words name (policy ∷ further ∷ rest) some = absurd (true≢false (sym some))
+module _ (n does : Text) (help : Help) (p s t : Place) (name : Text) (total : ℕ) where
+  abbrev three_form : Form
+  three_form = record { name = n; places = p ∷ s ∷ t ∷ []; last = None; option = None; does = does; help = help }
 
-replay_words : (name : Text) (words : List Text) → IsSome (replay_of words) → IsFound replay_arguments found_replay (name ∷ words) (replay_of words)
-replay_words name [] some = absurd (true≢false (sym some))
-replay_words name (policy ∷ []) some = absurd (true≢false (sym some))
-replay_words name (policy ∷ script ∷ []) some =
-    let valid = chosen (is_file_word policy && is_file_word script) (Replay policy script None) some in
-    let parts = both (is_file_word policy) (is_file_word script) valid in
-    let literal = replay_literal name policy script parts.0 parts.1 in
-    rw (valid) literal
-replay_words name (policy ∷ script ∷ schedule ∷ []) some =
-    let valid = chosen (is_file_word policy && is_file_word script && is_file_word schedule) (Replay policy script (Some schedule)) some in
-    let parts = both (is_file_word policy && is_file_word script) (is_file_word schedule) valid in
-    let others = both (is_file_word policy) (is_file_word script) parts.0 in
-    let literal = scheduled_literal name policy script schedule others.0 others.1 parts.1 in
-    rw (valid) literal
-replay_words name (policy ∷ script ∷ schedule ∷ further ∷ rest) some = absurd (true≢false (sym some))
+  three_end : (a b c : Text) → IsPlainWord a → IsPlainWord b → IsPlainWord c
+      → IsRead name three_form (a ∷ b ∷ c ∷ []) (with_end three_form total None (a ∷ b ∷ c ∷ []) None (Ok (None, [])))
+  three_end a b c f g h =
+      subst (λ (w : Text). IsRead name three_form (w ∷ b ∷ c ∷ []) (with_end three_form total None (w ∷ b ∷ c ∷ []) None (Ok (None, [])))) (sym f.word_is)
+      (subst (λ (w : Text). IsRead name three_form ((f.b ∷ f.bs) ∷ w ∷ c ∷ []) (with_end three_form total None ((f.b ∷ f.bs) ∷ w ∷ c ∷ []) None (Ok (None, [])))) (sym g.word_is)
+      (subst (λ (w : Text). IsRead name three_form ((f.b ∷ f.bs) ∷ (g.b ∷ g.bs) ∷ w ∷ []) (with_end three_form total None ((f.b ∷ f.bs) ∷ (g.b ∷ g.bs) ∷ w ∷ []) None (Ok (None, [])))) (sym h.word_is)
+      (read name three_form ((f.b ∷ f.bs) ∷ (g.b ∷ g.bs) ∷ (h.b ∷ h.bs) ∷ []) (Some (f.b ∷ f.bs)) (Some (g.b ∷ g.bs)) (Some (h.b ∷ h.bs)) None None
+      (three_are_taken name f.b f.bs f.plain g.b g.bs g.plain h.b h.bs h.plain))))
+
+  three_read : (words : List Text) → IsRead name three_form words (read_after three_form total words)
+  three_read words = by (cut_places None false total three_form.places words) (places_left None false total three_form.places words)
+    where
+      by : (placed : Result (List Text) Fault) → OnLeft three_form.places words placed → IsRead name three_form words (with_places three_form total None words placed)
+      by (Err fault) h = tt
+      by (Ok (further ∷ rest)) h = tt
+      by (Ok []) (a, others, e, (f, kind), (b, rest, e2, (g, kind2), (c, end, e3, (h, kind3), e4))) =
+          subst (λ (ws : List Text). IsRead name three_form ws (with_end three_form total None ws None (Ok (None, []))))
+          (sym (e ∙ ap (λ ws. a ∷ ws) (e2 ∙ ap (λ ws. b ∷ ws) (e3 ∙ ap (λ ws. c ∷ ws) e4))))
+          (three_end a b c f g h)
 
 -- ---- `run`
 
--- its files are named, and there is a number of workers
-run_parts : (policy script : Text) (workers : Option ℕ) → IsSome (run_by policy script workers)
-    → (is_file_word policy ≡ true) × (is_file_word script ≡ true) × (run_by policy script workers ≡ option_map (Run policy script) workers) × IsSome workers
-run_parts policy script workers some = by (is_file_word policy && is_file_word script) refl some
+module _ (name : Text) (total : ℕ) where
+  abbrev RunEnd : List Text → Option Text → List Text → Option Text → Type 0
+  RunEnd words before placed after = IsRead name run_form words (with_end run_form total before placed None (Ok (after, [])))
+
+  -- the files as they are written, without an option and with one
+  run_end : (policy script : Text) → IsPlainWord policy → IsPlainWord script → RunEnd (policy ∷ script ∷ []) None (policy ∷ script ∷ []) None
+  run_end policy script p s =
+      subst (λ (w : Text). RunEnd (w ∷ script ∷ []) None (w ∷ script ∷ []) None) (sym p.word_is)
+      (subst (λ (w : Text). RunEnd ((p.b ∷ p.bs) ∷ w ∷ []) None ((p.b ∷ p.bs) ∷ w ∷ []) None) (sym s.word_is)
+      (read name run_form ((p.b ∷ p.bs) ∷ (s.b ∷ s.bs) ∷ []) (Some (p.b ∷ p.bs)) (Some (s.b ∷ s.bs)) None None None
+      (run_is_taken name p.b p.bs p.plain s.b s.bs s.plain)))
+
+  -- in three variables
+  spelled : (P : Text → Text → Text → Type 0) (policy script value : Text) (p : IsPlainWord policy) (s : IsPlainWord script) (v : IsPlainWord value)
+      → P (p.b ∷ p.bs) (s.b ∷ s.bs) (v.b ∷ v.bs) → P policy script value
+  spelled P policy script value p s v x =
+      subst (λ (w : Text). P w script value) (sym p.word_is)
+      (subst (λ (w : Text). P (p.b ∷ p.bs) w value) (sym s.word_is) (subst (λ (w : Text). P (p.b ∷ p.bs) (s.b ∷ s.bs) w) (sym v.word_is) x))
+
+  option_first : (policy script value : Text) (words : List Text) → IsPlainWord policy → IsPlainWord script → IsPlainWord value
+      → IsOptionAt words value (policy ∷ script ∷ []) → RunEnd words (Some value) (policy ∷ script ∷ []) None
+  option_first policy script value words p s v (inl e) =
+      subst (λ (ws : List Text). RunEnd ws (Some value) (policy ∷ script ∷ []) None) (sym e)
+      (spelled (λ a b c. RunEnd (codes "--workers" ∷ c ∷ a ∷ b ∷ []) (Some c) (a ∷ b ∷ []) None) policy script value p s v
+      (read name run_form (codes "--workers" ∷ (v.b ∷ v.bs) ∷ (p.b ∷ p.bs) ∷ (s.b ∷ s.bs) ∷ []) (Some (p.b ∷ p.bs)) (Some (s.b ∷ s.bs)) None None (Some (v.b ∷ v.bs))
+      (apart_first_is_taken name p.b p.bs p.plain s.b s.bs s.plain v.b v.bs v.plain)))
+  option_first policy script value words p s v (inr e) =
+      subst (λ (ws : List Text). RunEnd ws (Some value) (policy ∷ script ∷ []) None) (sym e)
+      (spelled (λ a b c. RunEnd ((codes "--workers=" ++ c) ∷ a ∷ b ∷ []) (Some c) (a ∷ b ∷ []) None) policy script value p s v
+      (read name run_form ((codes "--workers=" ++ (v.b ∷ v.bs)) ∷ (p.b ∷ p.bs) ∷ (s.b ∷ s.bs) ∷ []) (Some (p.b ∷ p.bs)) (Some (s.b ∷ s.bs)) None None (Some (v.b ∷ v.bs))
+      (joined_first_is_taken name p.b p.bs p.plain s.b s.bs s.plain v.b v.bs v.plain)))
+
+  option_last : (policy script value : Text) (left : List Text) → IsPlainWord policy → IsPlainWord script → IsPlainWord value
+      → IsOptionAt left value [] → RunEnd (policy ∷ script ∷ left) None (policy ∷ script ∷ left) (Some value)
+  option_last policy script value left p s v (inl e) =
+      subst (λ (ws : List Text). RunEnd (policy ∷ script ∷ ws) None (policy ∷ script ∷ ws) (Some value)) (sym e)
+      (spelled (λ a b c. RunEnd (a ∷ b ∷ codes "--workers" ∷ c ∷ []) None (a ∷ b ∷ codes "--workers" ∷ c ∷ []) (Some c)) policy script value p s v
+      (read name run_form ((p.b ∷ p.bs) ∷ (s.b ∷ s.bs) ∷ codes "--workers" ∷ (v.b ∷ v.bs) ∷ []) (Some (p.b ∷ p.bs)) (Some (s.b ∷ s.bs)) None None (Some (v.b ∷ v.bs))
+      (apart_last_is_taken name p.b p.bs p.plain s.b s.bs s.plain v.b v.bs v.plain)))
+  option_last policy script value left p s v (inr e) =
+      subst (λ (ws : List Text). RunEnd (policy ∷ script ∷ ws) None (policy ∷ script ∷ ws) (Some value)) (sym e)
+      (spelled (λ a b c. RunEnd (a ∷ b ∷ (codes "--workers=" ++ c) ∷ []) None (a ∷ b ∷ (codes "--workers=" ++ c) ∷ []) (Some c)) policy script value p s v
+      (read name run_form ((p.b ∷ p.bs) ∷ (s.b ∷ s.bs) ∷ (codes "--workers=" ++ (v.b ∷ v.bs)) ∷ []) (Some (p.b ∷ p.bs)) (Some (s.b ∷ s.bs)) None None (Some (v.b ∷ v.bs))
+      (joined_last_is_taken name p.b p.bs p.plain s.b s.bs s.plain v.b v.bs v.plain)))
+
+  -- no option before the files
+  run_plain : (words : List Text) → IsRead name run_form words (with_places run_form total None words (cut_places (Some workers) false total run_form.places words))
+  run_plain words = by (cut_places (Some workers) false total run_form.places words) (places_left (Some workers) false total run_form.places words)
+    where
+      after : (policy script : Text) (left : List Text) → words ≡ policy ∷ script ∷ left → IsPlainWord policy → IsPlainWord script → (cut : Cut) → OnCut left cut
+          → IsRead name run_form words (with_end run_form total None words None cut)
+      after policy script left e p s (Err fault) h = tt
+      after policy script left e p s (Ok (None, further ∷ rest)) h = tt
+      after policy script left e p s (Ok (Some value, further ∷ rest)) h = tt
+      after policy script left e p s (Ok (None, [])) h =
+          subst (λ (ws : List Text). RunEnd ws None ws None) (sym (e ∙ ap (λ ws. policy ∷ script ∷ ws) h)) (run_end policy script p s)
+      after policy script left e p s (Ok (Some value, [])) (number, h) =
+          subst (λ (ws : List Text). RunEnd ws None ws (Some value)) (sym e) (option_last policy script value left p s (number_is_plain 1 8 value number) h)
+
+      by : (placed : Result (List Text) Fault) → OnLeft run_form.places words placed → IsRead name run_form words (with_places run_form total None words placed)
+      by (Err fault) h = tt
+      by (Ok left) (policy, others, e, (p, kind), (script, rest, e2, (s, kind2), e3)) =
+          after policy script left (e ∙ ap (λ ws. policy ∷ ws) (e2 ∙ ap (λ ws. script ∷ ws) e3)) p s (cut_option (Some workers) total left) (option_left total left)
+
+  -- an option before them
+  run_given : (value : Text) (words left : List Text) → is_number 1 8 value ≡ true → IsOptionAt words value left
+      → IsRead name run_form words (with_places run_form total (Some value) left (cut_places (Some workers) true total run_form.places left))
+  run_given value words left number at = by (cut_places (Some workers) true total run_form.places left) (places_left (Some workers) true total run_form.places left)
+    where
+      by : (placed : Result (List Text) Fault) → OnLeft run_form.places left placed → IsRead name run_form words (with_places run_form total (Some value) left placed)
+      by (Err fault) h = tt
+      by (Ok (further ∷ rest)) h = tt
+      by (Ok []) (policy, others, e, (p, kind), (script, rest, e2, (s, kind2), e3)) =
+          let files : left ≡ policy ∷ script ∷ [] = e ∙ ap (λ ws. policy ∷ ws) (e2 ∙ ap (λ ws. script ∷ ws) e3) in
+          subst (λ (ws : List Text). RunEnd words (Some value) ws None) (sym files)
+          (option_first policy script value words p s (number_is_plain 1 8 value number) (subst (λ (ws : List Text). IsOptionAt words value ws) files at))
+
+  run_read : (words : List Text) → IsRead name run_form words (read_after run_form total words)
+  run_read words = by (cut_option (Some workers) total words) (option_left total words)
+    where
+      by : (cut : Cut) → OnCut words cut → IsRead name run_form words (with_option run_form total cut)
+      by (Err fault) h = tt
+      by (Ok (None, left)) e =
+          subst (λ (ws : List Text). IsRead name run_form ws (with_places run_form total None left (cut_places (Some workers) false total run_form.places left))) (sym e)
+          (run_plain left)
+      by (Ok (Some value, left)) (number, at) = run_given value words left number at
+
+-- ---- any form of the table
+
+-- a form without an option that has one of the three shapes
+abbrev has_shape : List Place → Option Text → Option Choice → Bool
+has_shape (p ∷ []) None None = true
+has_shape (p ∷ s ∷ []) (Some l) None = true
+has_shape (p ∷ s ∷ t ∷ []) None None = true
+has_shape _ _ _ = false
+
+abbrev IsShaped : Form → Type 0
+IsShaped form = (has_shape form.places form.last form.option ≡ true) ⊎ (form ≡ run_form)
+
+abbrev AreShaped : List Form → Type 0
+AreShaped [] = ⊤
+AreShaped (form ∷ rest) = IsShaped form × AreShaped rest
+
+all_are_shaped : AreShaped forms
+all_are_shaped = (inl refl, (inl refl, (inr refl, (inl refl, (inl refl, (inl refl, (inl refl, (inl refl, tt))))))))
+
+abbrev OnShaped : Option Form → Type 0
+OnShaped None = ⊤
+OnShaped (Some form) = IsShaped form
+
+found_is_shaped : (table : List Form) → AreShaped table → (name : Text) → OnShaped (form_in table name)
+found_is_shaped [] shaped name = tt
+found_is_shaped (first ∷ rest) (shaped, others) name = by (pointwise nat_eq name first.name) (found_is_shaped rest others name)
   where
-    mapped : (workers : Option ℕ) → IsSome (option_map (Run policy script) workers) → IsSome workers
-    mapped None h = absurd (true≢false (sym h))
-    mapped (Some n) h = refl
+    by : (test : Bool) → OnShaped (form_in rest name) → OnShaped (if test then Some first else form_in rest name)
+    by true h = shaped
+    by false h = h
 
-    by : (test : Bool) → (is_file_word policy && is_file_word script) ≡ test → IsSome (if test then option_map (Run policy script) workers else None)
-        → (is_file_word policy ≡ true) × (is_file_word script ≡ true) × (run_by policy script workers ≡ option_map (Run policy script) workers) × IsSome workers
-    by true e h =
-        let files = both (is_file_word policy) (is_file_word script) e in
-        (files.0, files.1, ap (λ (b : Bool). if b then option_map (Run policy script) workers else None) e, mapped workers h)
-    by false e h = absurd (true≢false (sym h))
+is_shaped : (name : Text) (form : Form) → form_by name ≡ Some form → IsShaped form
+is_shaped name form e = subst OnShaped e (found_is_shaped forms all_are_shaped name)
 
-run_literal : (name policy script : Text) → is_file_word policy ≡ true → is_file_word script ≡ true
-    → IsFound run_arguments found_run (name ∷ policy ∷ script ∷ []) (Some (Run policy script default_workers))
-run_literal name [] script file other = absurd (true≢false (sym file))
-run_literal name (b ∷ bs) [] file other = absurd (true≢false (sym other))
-run_literal name (b ∷ bs) (d ∷ ds) file other = (
-  run_is_taken name b bs (not_true _ file) d ds (not_true _ other),
-  run_is_read name b bs (not_true _ file) d ds (not_true _ other),
-)
+shape_read : (name : Text) (total : ℕ) (n does : Text) (help : Help) (places : List Place) (last : Option Text) (option : Option Choice) (words : List Text)
+    → has_shape places last option ≡ true
+    → IsRead name (record { name = n; places = places; last = last; option = option; does = does; help = help }) words
+    (read_after (record { name = n; places = places; last = last; option = option; does = does; help = help }) total words)
+shape_read name total n does help (p ∷ []) None None words h = one_read n does help p name total words
+shape_read name total n does help (p ∷ s ∷ []) (Some l) None words h = two_read n does l help p s name total words
+shape_read name total n does help (p ∷ s ∷ t ∷ []) None None words h = three_read n does help p s t name total words
+shape_read name total n does help [] last option words h = absurd (true≢false (sym h))
+shape_read name total n does help (p ∷ []) (Some l) option words h = absurd (true≢false (sym h))
+shape_read name total n does help (p ∷ []) None (Some choice) words h = absurd (true≢false (sym h))
+shape_read name total n does help (p ∷ s ∷ []) None option words h = absurd (true≢false (sym h))
+shape_read name total n does help (p ∷ s ∷ []) (Some l) (Some choice) words h = absurd (true≢false (sym h))
+shape_read name total n does help (p ∷ s ∷ t ∷ []) (Some l) option words h = absurd (true≢false (sym h))
+shape_read name total n does help (p ∷ s ∷ t ∷ []) None (Some choice) words h = absurd (true≢false (sym h))
+shape_read name total n does help (p ∷ s ∷ t ∷ u ∷ places) last option words h = absurd (true≢false (sym h))
 
-joined_first : (name policy script value : Text) → is_file_word policy ≡ true → is_file_word script ≡ true → is_file_word value ≡ true
-    → IsFound run_arguments found_run (name ∷ (codes "--workers=" ++ value) ∷ policy ∷ script ∷ []) (option_map (Run policy script) (workers_of value))
-joined_first name [] script value file other last = absurd (true≢false (sym file))
-joined_first name (b ∷ bs) [] value file other last = absurd (true≢false (sym other))
-joined_first name (b ∷ bs) (d ∷ ds) [] file other last = absurd (true≢false (sym last))
-joined_first name (b ∷ bs) (d ∷ ds) (e ∷ es) file other last = (
-  run_joined_first_is_taken name b bs (not_true _ file) d ds (not_true _ other) e es (not_true _ last),
-  run_joined_first_is_read name b bs (not_true _ file) d ds (not_true _ other) e es (not_true _ last) run_found,
-)
+all_read : (name : Text) (total : ℕ) (form : Form) (words : List Text) → IsShaped form → IsRead name form words (read_after form total words)
+all_read name total form words (inl h) = shape_read name total form.name form.does form.help form.places form.last form.option words h
+all_read name total form words (inr e) = subst (λ f. IsRead name f words (read_after f total words)) (sym e) (run_read name total words)
 
-joined_last : (name policy script value : Text) → is_file_word policy ≡ true → is_file_word script ≡ true → is_file_word value ≡ true
-    → IsFound run_arguments found_run (name ∷ policy ∷ script ∷ (codes "--workers=" ++ value) ∷ []) (option_map (Run policy script) (workers_of value))
-joined_last name [] script value file other last = absurd (true≢false (sym file))
-joined_last name (b ∷ bs) [] value file other last = absurd (true≢false (sym other))
-joined_last name (b ∷ bs) (d ∷ ds) [] file other last = absurd (true≢false (sym last))
-joined_last name (b ∷ bs) (d ∷ ds) (e ∷ es) file other last = (
-  run_joined_last_is_taken name b bs (not_true _ file) d ds (not_true _ other) e es (not_true _ last),
-  run_joined_last_is_read name b bs (not_true _ file) d ds (not_true _ other) e es (not_true _ last) run_found,
-)
+shape_is_simple : (n does : Text) (help : Help) (places : List Place) (last : Option Text) (option : Option Choice) → has_shape places last option ≡ true
+    → is_simple (line_of (record { name = n; places = places; last = last; option = option; does = does; help = help })) ≡ true
+shape_is_simple n does help (p ∷ []) None None h = check_is_simple
+shape_is_simple n does help (p ∷ s ∷ []) (Some l) None h = replay_is_simple
+shape_is_simple n does help (p ∷ s ∷ t ∷ []) None None h = make_is_simple
+shape_is_simple n does help [] last option h = absurd (true≢false (sym h))
+shape_is_simple n does help (p ∷ []) (Some l) option h = absurd (true≢false (sym h))
+shape_is_simple n does help (p ∷ []) None (Some choice) h = absurd (true≢false (sym h))
+shape_is_simple n does help (p ∷ s ∷ []) None option h = absurd (true≢false (sym h))
+shape_is_simple n does help (p ∷ s ∷ []) (Some l) (Some choice) h = absurd (true≢false (sym h))
+shape_is_simple n does help (p ∷ s ∷ t ∷ []) (Some l) option h = absurd (true≢false (sym h))
+shape_is_simple n does help (p ∷ s ∷ t ∷ []) None (Some choice) h = absurd (true≢false (sym h))
+shape_is_simple n does help (p ∷ s ∷ t ∷ u ∷ places) last option h = absurd (true≢false (sym h))
 
-apart_first : (name policy script value : Text) → is_file_word policy ≡ true → is_file_word script ≡ true → is_file_word value ≡ true
-    → IsFound run_arguments found_run (name ∷ codes "--workers" ∷ value ∷ policy ∷ script ∷ []) (option_map (Run policy script) (workers_of value))
-apart_first name [] script value file other last = absurd (true≢false (sym file))
-apart_first name (b ∷ bs) [] value file other last = absurd (true≢false (sym other))
-apart_first name (b ∷ bs) (d ∷ ds) [] file other last = absurd (true≢false (sym last))
-apart_first name (b ∷ bs) (d ∷ ds) (e ∷ es) file other last = (
-  run_apart_first_is_taken name b bs (not_true _ file) d ds (not_true _ other) e es (not_true _ last),
-  run_apart_first_is_read name b bs (not_true _ file) d ds (not_true _ other) e es (not_true _ last) run_found,
-)
+simple : (form : Form) → IsShaped form → is_simple (line_of form) ≡ true
+simple form (inl h) = shape_is_simple form.name form.does form.help form.places form.last form.option h
+simple form (inr e) = subst (λ f. is_simple (line_of f) ≡ true) (sym e) run_is_simple
 
-apart_last : (name policy script value : Text) → is_file_word policy ≡ true → is_file_word script ≡ true → is_file_word value ≡ true
-    → IsFound run_arguments found_run (name ∷ policy ∷ script ∷ codes "--workers" ∷ value ∷ []) (option_map (Run policy script) (workers_of value))
-apart_last name [] script value file other last = absurd (true≢false (sym file))
-apart_last name (b ∷ bs) [] value file other last = absurd (true≢false (sym other))
-apart_last name (b ∷ bs) (d ∷ ds) [] file other last = absurd (true≢false (sym last))
-apart_last name (b ∷ bs) (d ∷ ds) (e ∷ es) file other last = (
-  run_apart_last_is_taken name b bs (not_true _ file) d ds (not_true _ other) e es (not_true _ last),
-  run_apart_last_is_read name b bs (not_true _ file) d ds (not_true _ other) e es (not_true _ last) run_found,
-)
+-- arguments after the name of a form that have values are taken
+pub commands_are_taken : (line : App) (name : Text) (form : Form) (total : ℕ) (words : List Text) (values : Values) → line ≡ line_of form → form_by name ≡ Some form
+    → read_after form total words ≡ Ok values → takes line (name ∷ words) ≡ true
+commands_are_taken line name form total words values e listed ok =
+    ap (λ a. takes a (name ∷ words)) e ∙ (subst (λ r. IsRead name form words r) ok (all_read name total form words (is_shaped name form listed))).0
 
--- after the command's name
-abbrev IsRun : Text → List Text → Option Command → Type 0
-IsRun name words command = IsFound run_arguments found_run (name ∷ words) command
+-- and these values are found
+pub commands_are_read : (line : App) (name : Text) (form : Form) (total : ℕ) (words : List Text) (values : Values) (m : ArgMatches) → line ≡ line_of form
+    → form_by name ≡ Some form → read_after form total words ≡ Ok values → HasMatchesOf line (name ∷ words) m
+    → found_values form (first_value (found_of m)) ≡ values
+commands_are_read line name form total words values m e listed ok read =
+    let rows = (read (ap is_simple e ∙ simple form (is_shaped name form listed))).0 ∙ ap (λ a. matches_of a (name ∷ words)) e in
+    let found : first_value (found_of m) ≡ values_in (matches_of (line_of form) (name ∷ words)) =
+    λ i key. (first_value-rows (found_of m) key ∙ ap (first_of key) rows) i in
+    ap (found_values form) found ∙ (subst (λ r. IsRead name form words r) ok (all_read name total form words (is_shaped name form listed))).1
 
--- the first of two, if it is there, and otherwise the second
-either : (name : Text) (words : List Text) (a b : Option Command) → (IsSome a → IsRun name words a) → (IsSome b → IsRun name words b) → IsSome (option_or a b)
-    → IsRun name words (option_or a b)
-either name words None b f g h = g h
-either name words (Some x) b f g h = f refl
+-- ---- arguments whose first is the name of the form
 
-run_joined_first : (name first policy script : Text) → IsSome (run_by policy script (workers_joined first))
-    → IsRun name (first ∷ policy ∷ script ∷ []) (run_by policy script (workers_joined first))
-run_joined_first name first policy script some =
-    let parts = run_parts policy script (workers_joined first) some in
-    let option = joined_word first parts.3 in
-    let found = joined_first name policy script (drop 10 first) parts.0 parts.1 (bounded_file 1 8 (drop 10 first) option.2) in
-    let command : run_by policy script (workers_joined first) ≡ option_map (Run policy script) (workers_of (drop 10 first)) =
-    parts.2 ∙ ap (λ w. option_map (Run policy script) w) option.1 in
-    subst (λ c. IsRun name (first ∷ policy ∷ script ∷ []) c) (sym command)
-    (subst (λ (w : Text). IsRun name (w ∷ policy ∷ script ∷ []) (option_map (Run policy script) (workers_of (drop 10 first)))) (sym option.0) found)
-
-run_joined_last : (name policy script last : Text) → IsSome (run_by policy script (workers_joined last))
-    → IsRun name (policy ∷ script ∷ last ∷ []) (run_by policy script (workers_joined last))
-run_joined_last name policy script last some =
-    let parts = run_parts policy script (workers_joined last) some in
-    let option = joined_word last parts.3 in
-    let found = joined_last name policy script (drop 10 last) parts.0 parts.1 (bounded_file 1 8 (drop 10 last) option.2) in
-    let command : run_by policy script (workers_joined last) ≡ option_map (Run policy script) (workers_of (drop 10 last)) =
-    parts.2 ∙ ap (λ w. option_map (Run policy script) w) option.1 in
-    subst (λ c. IsRun name (policy ∷ script ∷ last ∷ []) c) (sym command)
-    (subst (λ (w : Text). IsRun name (policy ∷ script ∷ w ∷ []) (option_map (Run policy script) (workers_of (drop 10 last)))) (sym option.0) found)
-
-run_apart_first : (name first second policy script : Text) → IsSome (run_by policy script (workers_apart first second))
-    → IsRun name (first ∷ second ∷ policy ∷ script ∷ []) (run_by policy script (workers_apart first second))
-run_apart_first name first second policy script some =
-    let parts = run_parts policy script (workers_apart first second) some in
-    let option = apart_word first second parts.3 in
-    let found = apart_first name policy script second parts.0 parts.1 (bounded_file 1 8 second option.2) in
-    let command : run_by policy script (workers_apart first second) ≡ option_map (Run policy script) (workers_of second) =
-    parts.2 ∙ ap (λ w. option_map (Run policy script) w) option.1 in
-    subst (λ c. IsRun name (first ∷ second ∷ policy ∷ script ∷ []) c) (sym command)
-    (subst (λ (w : Text). IsRun name (w ∷ second ∷ policy ∷ script ∷ []) (option_map (Run policy script) (workers_of second))) (sym option.0) found)
-
-run_apart_last : (name policy script third fourth : Text) → IsSome (run_by policy script (workers_apart third fourth))
-    → IsRun name (policy ∷ script ∷ third ∷ fourth ∷ []) (run_by policy script (workers_apart third fourth))
-run_apart_last name policy script third fourth some =
-    let parts = run_parts policy script (workers_apart third fourth) some in
-    let option = apart_word third fourth parts.3 in
-    let found = apart_last name policy script fourth parts.0 parts.1 (bounded_file 1 8 fourth option.2) in
-    let command : run_by policy script (workers_apart third fourth) ≡ option_map (Run policy script) (workers_of fourth) =
-    parts.2 ∙ ap (λ w. option_map (Run policy script) w) option.1 in
-    subst (λ c. IsRun name (policy ∷ script ∷ third ∷ fourth ∷ []) c) (sym command)
-    (subst (λ (w : Text). IsRun name (policy ∷ script ∷ w ∷ fourth ∷ []) (option_map (Run policy script) (workers_of fourth))) (sym option.0) found)
-
-run_plain : (name policy script : Text) → IsSome (run_by policy script (Some default_workers))
-    → IsRun name (policy ∷ script ∷ []) (run_by policy script (Some default_workers))
-run_plain name policy script some =
-    let parts = run_parts policy script (Some default_workers) some in
-    subst (λ c. IsRun name (policy ∷ script ∷ []) c) (sym parts.2) (run_literal name policy script parts.0 parts.1)
-
-run_words : (name : Text) (words : List Text) → IsSome (run_of words) → IsRun name words (run_of words)
-run_words name [] some = absurd (true≢false (sym some))
-run_words name (policy ∷ []) some = absurd (true≢false (sym some))
-run_words name (policy ∷ script ∷ []) some = run_plain name policy script some
-run_words name (first ∷ second ∷ third ∷ []) some =
-    either name (first ∷ second ∷ third ∷ []) (run_by second third (workers_joined first)) (run_by first second (workers_joined third))
-    (run_joined_first name first second third) (run_joined_last name first second third) some
-run_words name (first ∷ second ∷ third ∷ fourth ∷ []) some =
-    either name (first ∷ second ∷ third ∷ fourth ∷ []) (run_by third fourth (workers_apart first second)) (run_by first second (workers_apart third fourth))
-    (run_apart_first name first second third fourth) (run_apart_last name first second third fourth) some
-run_words name (first ∷ second ∷ third ∷ fourth ∷ further ∷ rest) some = absurd (true≢false (sym some))
-
--- ---- `make`
-
-make_literal : (name seed targets calls : Text) → is_file_word seed ≡ true → is_file_word targets ≡ true → is_file_word calls ≡ true
-    → IsFound make_arguments found_make (name ∷ seed ∷ targets ∷ calls ∷ []) (make_of (seed ∷ targets ∷ calls ∷ []))
-make_literal name [] targets calls file other last = absurd (true≢false (sym file))
-make_literal name (b ∷ bs) [] calls file other last = absurd (true≢false (sym other))
-make_literal name (b ∷ bs) (d ∷ ds) [] file other last = absurd (true≢false (sym last))
-make_literal name (b ∷ bs) (d ∷ ds) (e ∷ es) file other last = (
-  make_is_taken name b bs (not_true _ file) d ds (not_true _ other) e es (not_true _ last),
-  make_is_read name b bs (not_true _ file) d ds (not_true _ other) e es (not_true _ last) make_found,
-)
-
--- if all three are there, each is
-three_parts : (a b c : Option ℕ) → IsSome (option_and_then (λ seed. option_and_then (λ targets. option_map (Make seed targets) c) b) a) → IsSome a × IsSome b × IsSome c
-three_parts None b c h = absurd (true≢false (sym h))
-three_parts (Some x) None c h = absurd (true≢false (sym h))
-three_parts (Some x) (Some y) None h = absurd (true≢false (sym h))
-three_parts (Some x) (Some y) (Some z) h = (refl, refl, refl)
-
-make_words : (name : Text) (words : List Text) → IsSome (make_of words) → IsFound make_arguments found_make (name ∷ words) (make_of words)
-make_words name [] some = absurd (true≢false (sym some))
-make_words name (seed ∷ []) some = absurd (true≢false (sym some))
-make_words name (seed ∷ targets ∷ []) some = absurd (true≢false (sym some))
-make_words name (seed ∷ targets ∷ calls ∷ []) some =
-    let parts = three_parts (seed_of seed) (targets_of targets) (calls_of calls) some in
-    make_literal name seed targets calls (digits_name_files seed parts.0) (bounded_file 1 8 targets parts.1) (bounded_file 1 4096 calls parts.2)
-make_words name (seed ∷ targets ∷ calls ∷ further ∷ rest) some = absurd (true≢false (sym some))
-
--- ---- any of them
-
-found : (words : List Text) → IsSome (command_of words) → IsFound (arguments_of (name_of words)) (found_command words) words (command_of words)
-found [] some = absurd (true≢false (sym some))
-found (name ∷ words) some =
-    by (pointwise nat_eq name (codes "check")) (pointwise nat_eq name (codes "replay")) (pointwise nat_eq name (codes "run")) (pointwise nat_eq name (codes "make")) some
+pub words_are_taken : (line : App) (form : Form) (words : List Text) → line ≡ line_of form → IsCommandOf form words → takes line words ≡ true
+words_are_taken line form [] e command = absurd command
+words_are_taken line form (name ∷ words) e (listed, ok) = by (read_by form words) refl ok
   where
-    by : (check replay run make : Bool)
-        → let command = if check then check_of words else (if replay then replay_of words else (if run then run_of words else (if make then make_of words else None))) in
-        IsSome command → IsFound (if check then check_arguments else (if replay then replay_arguments else (if run then run_arguments else make_arguments)))
-        (λ values. if check then found_check values else (if replay then found_replay values else (if run then found_run values else found_make values))) (name ∷ words) command
-    by true replay run make some = check_words name words some
-    by false true run make some = replay_words name words some
-    by false false true make some = run_words name words some
-    by false false false true some = make_words name words some
-    by false false false false some = absurd (true≢false (sym some))
+    by : (result : Result Values Fault) → read_by form words ≡ result → IsOk result → takes line (name ∷ words) ≡ true
+    by (Ok values) h k = commands_are_taken line name form (suc (length words)) words values e listed h
+    by (Err fault) h k = absurd (true≢false (sym k))
 
-pub commands_are_taken : (line : App) (words : List Text) → line ≡ command_line words → IsSome (command_of words) → takes line words ≡ true
-commands_are_taken line words e some = ap (λ a. takes a words) e ∙ (found words some).0
+pub words_are_read : (line : App) (form : Form) (words : List Text) (m : ArgMatches) → line ≡ line_of form → IsCommandOf form words → HasMatchesOf line words m
+    → HasValues form words (found_values form (first_value (found_of m)))
+words_are_read line form [] m e command matches = absurd command
+words_are_read line form (name ∷ words) m e (listed, ok) matches = by (read_by form words) refl ok
+  where
+    by : (result : Result Values Fault) → read_by form words ≡ result → IsOk result → read_by form words ≡ Ok (found_values form (first_value (found_of m)))
+    by (Ok values) h k = h ∙ ap Ok (sym (commands_are_read line name form (suc (length words)) words values m e listed h matches))
+    by (Err fault) h k = absurd (true≢false (sym k))
 
-pub commands_are_read : (line : App) (words : List Text) (m : ArgMatches) → line ≡ command_line words → IsSome (command_of words) → HasMatchesOf line words m
-    → found_command words (first_value (found_of m)) ≡ command_of words
-commands_are_read line words m e some read =
-    let rows = (read (ap is_simple e ∙ lines_are_simple words)).0 ∙ ap (λ a. matches_of a words) e in
-    let values : first_value (found_of m) ≡ values_in (matches_of (command_line words) words) =
-    λ i name. (first_value-rows (found_of m) name ∙ ap (first_of name) rows) i in
-    ap (found_command words) values ∙ (found words some).1
+-- ---- the command that was found
+
+-- words that were tested are a command, by how many there are
+pub tested_are_command : (name : Text) (form : Form) (total : ℕ) (words : List Text) (tested : ⊤) → form_by name ≡ Some form → total ≡ suc (length words)
+    → IsTested (read_after form total words) (Ok tested) → IsCommandOf form (name ∷ words)
+tested_are_command name form total words tested listed count h = (listed, by (read_by form words) (subst (λ n. IsTested (read_after form n words) (Ok tested)) count h))
+  where
+    by : (result : Result Values Fault) → IsTested result (Ok tested) → IsOk result
+    by (Ok values) k = refl
+    by (Err fault) k = absurd k
+
+-- and others have that fault
+pub tested_are_fault : (name : Text) (form : Form) (total : ℕ) (words : List Text) (found : UsageFault) → form_by name ≡ Some form → total ≡ suc (length words)
+    → IsTested (read_after form total words) (Err found) → command_of (name ∷ words) ≡ Err (fault_of found)
+tested_are_fault name form total words found listed count h =
+    ap (with_form name words) listed ∙ by (read_by form words) (subst (λ n. IsTested (read_after form n words) (Err found)) count h)
+  where
+    by : (result : Result Values Fault) → IsTested result (Err found) → with_values name result ≡ Err (fault_of found)
+    by (Ok values) k = absurd k
+    by (Err fault) k = ap Err k
+
+-- by its values
+pub command_is_found : (name : Text) (form : Form) (words : List Text) (values : Values) → form_by name ≡ Some form → HasValues form (name ∷ words) values
+    → command_of (name ∷ words) ≡ Ok (command_by name values)
+command_is_found name form words values listed h = ap (with_form name words) listed ∙ ap (with_values name) h
+
+-- out of memory over arguments that are a command
+pub command_is_there : (name : Text) (form : Form) (words : List Text) → IsCommandOf form (name ∷ words) → IsOk (command_of (name ∷ words))
+command_is_there name form words (listed, ok) = subst (λ f. IsOk (with_form name words f)) (sym listed) (by (read_by form words) ok)
+  where
+    by : (result : Result Values Fault) → IsOk result → IsOk (with_values name result)
+    by (Ok values) k = refl
+    by (Err fault) k = absurd (true≢false (sym k))

@@ -1,3 +1,9 @@
-pub mod CommandLine
+pub mod Forms
 pub mod NumberWords
+pub mod Usage
+pub mod Values
+pub mod CommandLine
 pub mod Commands
+pub mod CommandLaws
+pub mod UsageMessages
+pub mod Inquiries

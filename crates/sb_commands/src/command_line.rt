@@ -1,150 +1,168 @@
-// The command lines as the library that reads them sees them: each for the arguments of one command, whose name stands where a program's would.
-ghost use Rattle.std.specs.Prelude.{◌≡◌, ◌≤◌, IfOk, IfSome, false, map, option_map};
-ghost use Rattle.clap.specs.Words.{app_of, first_value, found_of, rule_of};
-ghost use Rattle.sb_commands.specs.Commands.{HasNumbers, meant, texts};
-ghost use Rattle.sb_commands.specs.CommandLine.{arguments_of, command_line, found_check, found_command, found_make, found_replay, found_run, make_by, name_of, rule_by, workers_by};
+// The command lines as the library that reads them sees them: each for the arguments of one command, whose name is where the name of a program would be.
+ghost use Rattle.std.specs.Prelude.{◌≡◌, IfOk, false, map, option_map};
+ghost use Rattle.clap.specs.Words.{app_of, first_value, found_of, rule_of, with_rule};
+ghost use Rattle.sb_commands.specs.CommandLine.{option_argument, found_values, optional_argument, line_of, names_of, required_argument, or_empty, with_choice, with_last, with_required};
+ghost use Rattle.sb_commands.specs.Forms.{choice_of, form_of, place_of};
+ghost use Rattle.sb_commands.specs.Usage.{option_number};
+ghost use Rattle.sb_commands.specs.Values.{values_of};
 
-use crate::commands::CommandWords;
-use crate::number_words::{calls_of, seed_of, targets_of, workers_of};
+use crate::forms::{CommandForm, FormOption, FormPlace};
+use crate::number_words::number_of;
 use clap::{Arg, ArgAction, ArgMatches, Command};
 use std::alloc::{AllocError, Global};
 
-// An argument by its name: `--workers N`, a schedule, which a command may have, or an argument that it has to have.
-fn argument<'a>(alloc: Global, name: &'a str) -> Arg<'a>
-    ensures rule { rule_of result ≡ rule_by name.entry.now }
+/// The values of arguments that are a command.
+#[derive(Clone, Copy)]
+pub(crate) struct FoundValues<'a> {
+    /// What is at the first place, empty if there is none.
+    pub first: &'a str,
+    /// At the second.
+    pub second: &'a str,
+    /// At the third.
+    pub third: &'a str,
+    /// The file that may be left out.
+    pub last: Option<&'a str>,
+    /// The number of the option, 0 if the command has none.
+    pub option: u64,
+}
+
+// An argument that has to be there.
+fn required_argument<'a>(alloc: Global, name: &'a str) -> Arg<'a>
+    ensures rule { rule_of result ≡ required_argument name.entry.now }
     ensures local { result.global ≡ false }
 {
-    if name == "workers" {
-        Arg::new(alloc, name).long(name).action(ArgAction::Set)
-    } else {
-        Arg::new(alloc, name)
-            .required(name != "schedule")
-            .action(ArgAction::Set)
+    Arg::new(alloc, name).required(true).action(ArgAction::Set)
+}
+
+// An argument that may be left out.
+fn optional_argument<'a>(alloc: Global, name: &'a str) -> Arg<'a>
+    ensures rule { rule_of result ≡ optional_argument name.entry.now }
+    ensures local { result.global ≡ false }
+{
+    Arg::new(alloc, name).required(false).action(ArgAction::Set)
+}
+
+// An option with a value.
+fn option_argument<'a>(alloc: Global, flag: &'a str) -> Arg<'a>
+    ensures rule { rule_of result ≡ option_argument flag.entry.now }
+    ensures local { result.global ≡ false }
+{
+    Arg::new(alloc, "option").long(flag).action(ArgAction::Set)
+}
+
+// The names of the arguments at places.
+fn names_of<'a>(places: &[FormPlace<'static>]) -> &'a [&'a str]
+    ensures { map (λ name. name.now) result.now ≡ names_of (map place_of places.now) }
+{
+    match places {
+        [] => &[],
+        [_] => &["first"],
+        [_, _] => &["first", "second"],
+        _ => &["first", "second", "third"],
     }
 }
 
-// The name of the command, if the arguments are one.
-fn name_of(words: &[String]) -> &str
-    ensures { result.now ≡ name_of (texts words.now) }
+// A command line with one argument more.
+fn with_argument<'a>(line: Command<'a>, argument: Arg<'a>) -> Result<Command<'a>, AllocError>
+    requires { argument.global ≡ false }
+    ensures { IfOk result (λ c. app_of c ≡ with_rule (app_of line.entry) (rule_of argument.entry)) }
 {
-    match words {
-        [name, ..] => name.as_str(),
-        [] => "",
-    }
+    let line = line.arg(argument)?;
+    Ok(line)
 }
 
-// The names of a command's arguments.
-fn arguments_of<'a>(name: &str) -> &'a [&'a str]
-    ensures { map (λ argument. argument.now) result.now ≡ arguments_of name.now }
+// With arguments of these names that have to be there.
+fn with_required<'a>(
+    alloc: Global,
+    line: Command<'a>,
+    names: &[&'a str],
+) -> Result<Command<'a>, AllocError>
+    ensures { IfOk result (λ c. app_of c ≡ with_required (map (λ name. name.now) names.now) (app_of line.entry)) }
 {
-    match name {
-        "check" => &["policy"],
-        "replay" => &["policy", "script", "schedule"],
-        "run" => &["policy", "script", "workers"],
-        _ => &["seed", "targets", "calls"],
-    }
-}
-
-/// The command line of the command that the arguments name.
-pub(crate) fn command_line<'a>(alloc: Global, words: &[String]) -> Result<Command<'a>, AllocError>
-    ensures { IfOk result (λ c. app_of c ≡ command_line (texts words.now)) }
-{
-    let names = arguments_of(name_of(words));
-    let mut line = Command::new(alloc, "sandbox");
+    let mut line = line;
     for name in names {
-        line = line.arg(argument(alloc, name))?;
+        line = with_argument(line, required_argument(alloc, *name))?;
     }
     Ok(line)
 }
 
-// `check` with the value of its file.
-fn found_check<'a>(values: &ArgMatches<'a>) -> Option<CommandWords<'a>>
-    ensures meant { option_map meant result ≡ found_check (first_value (found_of values.now)) }
-    ensures numbers { IfSome result HasNumbers }
+// With the file that may be left out.
+fn with_last<'a>(
+    alloc: Global,
+    line: Command<'a>,
+    last: Option<&'static str>,
+) -> Result<Command<'a>, AllocError>
+    ensures { IfOk result (λ c. app_of c ≡ with_last (option_map (λ name. name.now) last.entry) (app_of line.entry)) }
 {
-    let policy = values.get_str("policy")?;
-    Some(CommandWords::Check { policy })
+    let Some(_) = last else {
+        return Ok(line);
+    };
+    let line = with_argument(line, optional_argument(alloc, "last"))?;
+    Ok(line)
 }
 
-// `replay` with the values of its files.
-fn found_replay<'a>(values: &ArgMatches<'a>) -> Option<CommandWords<'a>>
-    ensures meant { option_map meant result ≡ found_replay (first_value (found_of values.now)) }
-    ensures numbers { IfSome result HasNumbers }
+// With the option.
+fn with_choice<'a>(
+    alloc: Global,
+    line: Command<'a>,
+    option: Option<FormOption<'static>>,
+) -> Result<Command<'a>, AllocError>
+    ensures { IfOk result (λ c. app_of c ≡ with_choice (option_map choice_of option.entry) (app_of line.entry)) }
 {
-    let policy = values.get_str("policy")?;
-    let script = values.get_str("script")?;
-    let schedule = values.get_str("schedule");
-    Some(CommandWords::Replay {
-        policy,
-        script,
-        schedule,
-    })
+    let Some(option) = option else {
+        return Ok(line);
+    };
+    let line = with_argument(line, option_argument(alloc, option.flag))?;
+    Ok(line)
 }
 
-// The number of workers, if one is given.
-fn workers_by(word: Option<&str>) -> Option<u32>
-    ensures value { result ≡ workers_by (option_map (λ w. w.now) word.entry) }
-    ensures within { IfSome result (λ n. (1 ≤ n) × (n ≤ 8)) }
+/// The command line of a form.
+pub(crate) fn line_of<'a>(
+    alloc: Global,
+    form: CommandForm<'static>,
+) -> Result<Command<'a>, AllocError>
+    ensures { IfOk result (λ c. app_of c ≡ line_of (form_of form.entry)) }
 {
-    match word {
-        Some(word) => workers_of(word.as_bytes()),
-        None => Some(2),
+    let line = Command::new(alloc, "sandbox");
+    let line = with_required(alloc, line, names_of(form.places))?;
+    let line = with_last(alloc, line, form.last)?;
+    let line = with_choice(alloc, line, form.option)?;
+    Ok(line)
+}
+
+// The text of an argument, empty if there is none.
+fn text_of<'a>(values: &ArgMatches<'a>, name: &str) -> &'a str
+    ensures { result.now ≡ or_empty (first_value (found_of values.now) name.now) }
+{
+    match values.get_str(name) {
+        Some(text) => text,
+        None => "",
     }
 }
 
-// `run` with the values of its files, and the number of workers.
-fn found_run<'a>(values: &ArgMatches<'a>) -> Option<CommandWords<'a>>
-    ensures meant { option_map meant result ≡ found_run (first_value (found_of values.now)) }
-    ensures numbers { IfSome result HasNumbers }
+// The number of the option, by its argument if it is given.
+fn option_number(option: Option<FormOption<'static>>, word: Option<&str>) -> u64
+    ensures { result ≡ option_number (option_map choice_of option.entry) (option_map (λ w. w.now) word.entry) }
 {
-    let policy = values.get_str("policy")?;
-    let script = values.get_str("script")?;
-    let workers = workers_by(values.get_str("workers"))?;
-    Some(CommandWords::Run {
-        policy,
-        script,
-        workers,
-    })
+    match (option, word) {
+        (None, _) => 0,
+        (Some(option), None) => option.default,
+        (Some(_), Some(word)) => number_of(word.as_bytes()),
+    }
 }
 
-/// `make` by the arguments of its numbers.
-pub(crate) fn make_by<'a>(seed: &str, targets: &str, calls: &str) -> Option<CommandWords<'a>>
-    ensures meant { option_map meant result ≡ make_by seed.now targets.now calls.now }
-    ensures numbers { IfSome result HasNumbers }
-{
-    let seed = seed_of(seed)?;
-    let targets = targets_of(targets)?;
-    let calls = calls_of(calls)?;
-    Some(CommandWords::Make {
-        seed,
-        targets,
-        calls,
-    })
-}
-
-// `make` with its numbers.
-fn found_make<'a>(values: &ArgMatches<'a>) -> Option<CommandWords<'a>>
-    ensures meant { option_map meant result ≡ found_make (first_value (found_of values.now)) }
-    ensures numbers { IfSome result HasNumbers }
-{
-    let seed = values.get_str("seed")?;
-    let targets = values.get_str("targets")?;
-    let calls = values.get_str("calls")?;
-    make_by(seed, targets, calls)
-}
-
-/// The command that the arguments name, with its values.
-pub(crate) fn found_command<'a>(
-    words: &[String],
+/// The values that the library found by the command line of a form.
+pub(crate) fn found_values<'a>(
+    form: CommandForm<'static>,
     values: &ArgMatches<'a>,
-) -> Option<CommandWords<'a>>
-    ensures meant { option_map meant result ≡ found_command (texts words.now) (first_value (found_of values.now)) }
-    ensures numbers { IfSome result HasNumbers }
+) -> FoundValues<'a>
+    ensures { values_of result ≡ found_values (form_of form.entry) (first_value (found_of values.now)) }
 {
-    match name_of(words) {
-        "check" => found_check(values),
-        "replay" => found_replay(values),
-        "run" => found_run(values),
-        _ => found_make(values),
+    FoundValues {
+        first: text_of(values, "first"),
+        second: text_of(values, "second"),
+        third: text_of(values, "third"),
+        last: values.get_str("last"),
+        option: option_number(form.option, values.get_str("option")),
     }
 }

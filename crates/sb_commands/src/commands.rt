@@ -1,16 +1,22 @@
 // Which command the arguments are.
-ghost use Rattle.std.specs.Prelude.{◌≡◌, ◌≢◌, IfOk, IfSome, IsErr, None, is_some, option_map};
-ghost use Rattle.sb_commands.specs.Commands.{HasNumbers, command_by, command_of, check_of, replay_of, run_apart, run_by, run_joined, run_of, make_of, is_file_word, meant, needs_threads, texts};
+ghost use Rattle.std.specs.Prelude.{◌≡◌, IfOk};
+ghost use Rattle.sb_commands.specs.Commands.{HasNumbers, HasValues, IsCommandOf, IsFound, audit_by, check_by, command_by, command_of, dup_by, linked_by, local_by, make_by, meant, replay_by, run_by};
+ghost use Rattle.sb_commands.specs.Forms.{form_of};
+ghost use Rattle.sb_commands.specs.Usage.{texts};
+ghost use Rattle.sb_commands.specs.Values.{values_of};
 
-use crate::command_line::{command_line, found_command, make_by};
-use crate::number_words::{workers_apart, workers_joined};
+use crate::command_line::{FoundValues, found_values, line_of};
+use crate::forms::{CommandForm, form_by};
+use crate::number_words::{number_of, small};
+use crate::usage::usage_test;
+use crate::usage_faults::UsageFault;
 use clap::error::ErrorKind;
-use sb_items::NoMemory;
+use sb_items::{NoMemory, Refused};
 use std::alloc::Global;
 
-/// A command with the names of its files, or with its numbers.
+/// A command that runs without threads, with the names of its files.
 #[derive(Clone, Copy)]
-pub enum CommandWords<'a> {
+pub enum PlainWords<'a> {
     /// Policies are read, and printed.
     Check {
         policy: &'a str,
@@ -21,13 +27,42 @@ pub enum CommandWords<'a> {
         script: &'a str,
         schedule: Option<&'a str>,
     },
-    /// A script is run under policies on threads, by 1 to 8 workers, and its transcript is printed.
+    /// The calls of a script are answered under policies, with the links of a file in their names, and the answers are printed.
+    Linked {
+        policy: &'a str,
+        script: &'a str,
+        links: &'a str,
+    },
+    /// A script is run under policies, then handles are moved between its targets, and its transcript and the moves are printed.
+    Dup {
+        policy: &'a str,
+        script: &'a str,
+        moves: &'a str,
+    },
+    /// A script is run without the calls that the policies deny, by a schedule if one is named, and these and the transcript are printed.
+    Local {
+        policy: &'a str,
+        script: &'a str,
+        schedule: Option<&'a str>,
+    },
+    /// A transcript is checked against what the broker promises of a script under policies.
+    Audit {
+        policy: &'a str,
+        script: &'a str,
+        transcript: &'a str,
+    },
+}
+
+/// A command that runs on threads, with the names of its files or with its numbers.
+#[derive(Clone, Copy)]
+pub enum ThreadedWords<'a> {
+    /// A script is run under policies by 1 to 8 workers, and its transcript is printed.
     Run {
         policy: &'a str,
         script: &'a str,
         workers: u32,
     },
-    /// A script is made from a seed, with 1 to 8 targets and 1 to 4,096 calls a thread, it is run on threads, and its totals are printed.
+    /// A script is made from a seed, with 1 to 8 targets and 1 to 4,096 calls a thread, it is run, and its totals are printed.
     Make {
         seed: u64,
         targets: u32,
@@ -35,169 +70,148 @@ pub enum CommandWords<'a> {
     },
 }
 
-// Whether an argument names a file: it is not empty and does not begin with `-`.
-fn is_file_word(word: &str) -> bool
-    ensures { result ≡ is_file_word word.now }
-{
-    match word.as_bytes() {
-        [first, ..] => *first != b'-',
-        [] => false,
-    }
+/// A command.
+#[derive(Clone, Copy)]
+pub enum CommandWords<'a> {
+    /// Without threads.
+    Plain(PlainWords<'a>),
+    /// On threads.
+    Threaded(ThreadedWords<'a>),
 }
 
-// Whether the arguments after `check` are `POLICY`.
-fn is_check(words: &[String]) -> bool
-    ensures { result ≡ is_some (check_of (texts words.now)) }
+fn check_by(values: FoundValues<'_>) -> CommandWords<'_>
+    ensures { meant result ≡ check_by (values_of values.entry) }
 {
-    match words {
-        [policy] => is_file_word(policy.as_str()),
-        _ => false,
-    }
+    CommandWords::Plain(PlainWords::Check {
+        policy: values.first,
+    })
 }
 
-// Whether the arguments after `replay` are `POLICY SCRIPT [SCHEDULE]`.
-fn is_replay(words: &[String]) -> bool
-    ensures { result ≡ is_some (replay_of (texts words.now)) }
+fn replay_by(values: FoundValues<'_>) -> CommandWords<'_>
+    ensures { meant result ≡ replay_by (values_of values.entry) }
 {
-    match words {
-        [policy, script] => is_file_word(policy.as_str()) && is_file_word(script.as_str()),
-        [policy, script, schedule] => {
-            is_file_word(policy.as_str())
-                && is_file_word(script.as_str())
-                && is_file_word(schedule.as_str())
-        }
-        _ => false,
-    }
+    CommandWords::Plain(PlainWords::Replay {
+        policy: values.first,
+        script: values.second,
+        schedule: values.last,
+    })
 }
 
-// Whether two arguments name the files of a run, for this number of workers, if that is one.
-#[tactic(auto, using(crate::proofs::WordTests::run_by_some))]
-fn is_run_by(policy: &str, script: &str, workers: Option<u32>) -> bool
-    ensures { result ≡ is_some (run_by policy.now script.now workers) }
+fn run_by(values: FoundValues<'_>) -> CommandWords<'_>
+    ensures { meant result ≡ run_by (values_of values.entry) }
 {
-    is_file_word(policy) && is_file_word(script) && workers.is_some()
+    CommandWords::Threaded(ThreadedWords::Run {
+        policy: values.first,
+        script: values.second,
+        workers: small(values.option),
+    })
 }
 
-// Whether three arguments after `run` are two files and `--workers=N`, which stands before them or after them.
-#[tactic(auto, using(crate::proofs::WordTests::either_some))]
-fn is_run_joined(first: &str, second: &str, third: &str) -> bool
-    ensures { result ≡ is_some (run_joined first.now second.now third.now) }
+fn make_by(values: FoundValues<'_>) -> CommandWords<'_>
+    ensures { meant result ≡ make_by (values_of values.entry) }
 {
-    is_run_by(second, third, workers_joined(first))
-        || is_run_by(first, second, workers_joined(third))
+    CommandWords::Threaded(ThreadedWords::Make {
+        seed: number_of(values.first.as_bytes()),
+        targets: small(number_of(values.second.as_bytes())),
+        calls: small(number_of(values.third.as_bytes())),
+    })
 }
 
-// Whether four arguments after `run` are two files and `--workers N`, which stand before them or after them.
-#[tactic(auto, using(crate::proofs::WordTests::either_some))]
-fn is_run_apart(first: &str, second: &str, third: &str, fourth: &str) -> bool
-    ensures { result ≡ is_some (run_apart first.now second.now third.now fourth.now) }
+fn linked_by(values: FoundValues<'_>) -> CommandWords<'_>
+    ensures { meant result ≡ linked_by (values_of values.entry) }
 {
-    is_run_by(third, fourth, workers_apart(first, second))
-        || is_run_by(first, second, workers_apart(third, fourth))
+    CommandWords::Plain(PlainWords::Linked {
+        policy: values.first,
+        script: values.second,
+        links: values.third,
+    })
 }
 
-// Whether the arguments after `run` are `POLICY SCRIPT [--workers N]`, the option before the files or after them.
-fn is_run(words: &[String]) -> bool
-    ensures { result ≡ is_some (run_of (texts words.now)) }
+fn dup_by(values: FoundValues<'_>) -> CommandWords<'_>
+    ensures { meant result ≡ dup_by (values_of values.entry) }
 {
-    match words {
-        [policy, script] => is_run_by(policy.as_str(), script.as_str(), Some(2)),
-        [first, second, third] => is_run_joined(first.as_str(), second.as_str(), third.as_str()),
-        [first, second, third, fourth] => {
-            is_run_apart(
-                first.as_str(),
-                second.as_str(),
-                third.as_str(),
-                fourth.as_str(),
-            )
-        }
-        _ => false,
-    }
+    CommandWords::Plain(PlainWords::Dup {
+        policy: values.first,
+        script: values.second,
+        moves: values.third,
+    })
 }
 
-// Whether the arguments after `make` are `SEED TARGETS CALLS`.
-#[tactic(auto, using(crate::proofs::WordTests::some_meant))]
-fn is_make(words: &[String]) -> bool
-    ensures { result ≡ is_some (make_of (texts words.now)) }
+fn local_by(values: FoundValues<'_>) -> CommandWords<'_>
+    ensures { meant result ≡ local_by (values_of values.entry) }
 {
-    match words {
-        [seed, targets, calls] => make_by(
-            seed.as_str(),
-            targets.as_str(),
-            calls.as_str(),
-        ).is_some(),
-        _ => false,
-    }
+    CommandWords::Plain(PlainWords::Local {
+        policy: values.first,
+        script: values.second,
+        schedule: values.last,
+    })
 }
 
-// Whether a name and the arguments after it are a command.
-fn is_command_by(name: &str, words: &[String]) -> bool
-    ensures { result ≡ is_some (command_by name.now (texts words.now)) }
+fn audit_by(values: FoundValues<'_>) -> CommandWords<'_>
+    ensures { meant result ≡ audit_by (values_of values.entry) }
+{
+    CommandWords::Plain(PlainWords::Audit {
+        policy: values.first,
+        script: values.second,
+        transcript: values.third,
+    })
+}
+
+// The command of this name by its values.
+fn command_by<'a>(name: &str, values: FoundValues<'a>) -> CommandWords<'a>
+    ensures { meant result ≡ command_by name.now (values_of values.entry) }
 {
     match name {
-        "check" => is_check(words),
-        "replay" => is_replay(words),
-        "run" => is_run(words),
-        "make" => is_make(words),
-        _ => false,
+        "check" => check_by(values),
+        "replay" => replay_by(values),
+        "run" => run_by(values),
+        "make" => make_by(values),
+        "linked" => linked_by(values),
+        "dup" => dup_by(values),
+        "local" => local_by(values),
+        _ => audit_by(values),
     }
 }
 
-// Whether the arguments are a command.
-fn is_command(words: &[String]) -> bool
-    ensures { result ≡ is_some (command_of (texts words.now)) }
+// The values of arguments that are a command of this form.
+fn read_values<'a>(
+    alloc: Global,
+    form: CommandForm<'static>,
+    words: &'a [String],
+) -> Result<FoundValues<'a>, NoMemory>
+    requires { IsCommandOf (form_of form) (texts words.now) }
+    ensures { IfOk result (λ values. HasValues (form_of form.entry) (texts words.now) (values_of values)) }
 {
-    match words {
-        [name, words @ ..] => is_command_by(name.as_str(), words),
-        [] => false,
-    }
-}
-
-// Whether a name and the arguments after it are a command that runs on threads.
-fn is_threaded_by(name: &str, words: &[String]) -> bool
-    ensures { result ≡ needs_threads (command_by name.now (texts words.now)) }
-{
-    match name {
-        "check" => false,
-        "replay" => false,
-        "run" => is_run(words),
-        "make" => is_make(words),
-        _ => false,
-    }
-}
-
-/// Whether the arguments are a command that runs on threads: `run` or `make`. Does not allocate.
-pub fn needs_threads(words: &[String]) -> bool
-    ensures { result ≡ needs_threads (command_of (texts words.now)) }
-{
-    match words {
-        [name, words @ ..] => is_threaded_by(name.as_str(), words),
-        [] => false,
-    }
-}
-
-/// The command that the arguments are: `check POLICY`, `replay POLICY SCRIPT [SCHEDULE]`, `run POLICY SCRIPT [--workers N]` or `make SEED
-/// TARGETS CALLS`. Any other arguments are no command.
-///
-/// Which arguments are a command is tested here. Only arguments that are go to the library for command lines, which gives the
-/// values.
-///
-/// # Errors
-/// `NoMemory` if there was none to read arguments that are a command, and never over other arguments.
-pub fn command_of(alloc: Global, words: &[String]) -> Result<Option<CommandWords<'_>>, NoMemory>
-    ensures exact { IfOk result (λ command. option_map meant command ≡ command_of (texts words.now)) }
-    ensures numbers { IfOk result (λ command. IfSome command HasNumbers) }
-    ensures memory { IsErr result → command_of (texts words.now) ≢ None }
-{
-    if !is_command(words) {
-        return Ok(None);
-    }
-    match command_line(alloc, words)?.try_get_matches_from(words) {
-        Ok(values) => Ok(found_command(words, &values)),
+    match line_of(alloc, form)?.try_get_matches_from(words) {
+        Ok(values) => Ok(found_values(form, &values)),
         Err(error) => match error.kind() {
             ErrorKind::OutOfMemory => Err(NoMemory),
             // The library takes all arguments that are a command.
             _ => unreachable!(),
         },
     }
+}
+
+/// The command that the arguments are, by the table of forms.
+///
+/// The arguments are tested here. Only those that are a command go to the library for command lines, which gives their values.
+///
+/// # Errors
+/// The first fault: that of the command's name, then that of the arguments after it from left to right, then what is missing. `NoMemory` if there
+/// was none to read arguments that are a command, and never over other arguments.
+pub fn command_of(alloc: Global, words: &[String]) -> Result<CommandWords<'_>, Refused<UsageFault>>
+    ensures exact { IsFound (command_of (texts words.now)) result }
+    ensures numbers { IfOk result (λ command. HasNumbers (meant command)) }
+{
+    let Some((name, later)) = words.split_first() else {
+        return Err(Refused::Fault(UsageFault::NoCommand));
+    };
+    let Some(form) = form_by(name.as_str()) else {
+        return Err(Refused::Fault(UsageFault::UnknownCommand));
+    };
+    if let Err(fault) = usage_test(form, words.len(), later) {
+        return Err(Refused::Fault(fault));
+    }
+    let values = read_values(alloc, form, words)?;
+    Ok(command_by(name.as_str(), values))
 }

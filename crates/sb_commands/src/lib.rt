@@ -1,8 +1,29 @@
-// The arguments of the command line: which command they are, and its values. A library for command lines reads them, once they are known to be a command.
+// The arguments of the command line: which command they are, by one table of forms, and its values; what is wrong with others; and what the program
+// prints about itself.
 #![tactic(auto)]
 
+mod audit_help;
+mod check_help;
 mod command_line;
 mod commands;
+mod dup_help;
+mod forms;
+mod help_texts;
+mod inquiries;
+mod laws;
+mod linked_help;
+mod local_help;
+mod make_help;
 mod number_words;
+mod replay_help;
+mod run_help;
+mod usage;
+mod usage_faults;
+mod usage_messages;
 
-pub use commands::{CommandWords, command_of, needs_threads};
+pub use commands::{CommandWords, PlainWords, ThreadedWords, command_of};
+pub use forms::{CommandForm, CommandHelp, FormNumber, FormOption, FormPlace, all_forms, form_by};
+pub use inquiries::{Inquiry, inquiry_of, inquiry_text};
+pub use laws::commands_are_read;
+pub use usage_faults::UsageFault;
+pub use usage_messages::usage_message;

@@ -1,27 +1,22 @@
 -- What the program does for its arguments, over any files and any output.
-use Rattle.std.specs.Prelude.{◌≡◌, ◌⊎◌, ◌<◌, ◌++◌, ℕ, List, [], Option, length}
+use Rattle.std.specs.Prelude.{◌≡◌, ◌⊎◌, ◌++◌, ℕ, List, [], Option, Result}
 use Rattle.sb_commands.specs.Commands.{Command}
-use Rattle.sb_outside.specs.Outside.{GrowsBy, Rose}
+use Rattle.sb_commands.specs.Usage.{Fault}
+use Rattle.sb_outside.specs.Outside.{GrowsBy, GrowsByPrefix}
 use Rattle.sb_top.specs.Effects.{Effect, IsOrderly}
-use Rattle.sb_top.specs.Endings.{IsEnding}
-use Rattle.sb_top.specs.Top.{files_for, meant}
+use Rattle.sb_top.specs.Top.{EndsAsMeant, files_for}
 use Rattle.sb_top.specs.declared.outcomes.Outcome.{Outcome}
 use Rattle.sb_top.specs.declared.outcomes.Status.{Status}
-use Rattle.sb_top.specs.declared.outcomes.Status.TheVariants.{Done, WriteFault}
+use Rattle.sb_top.specs.declared.outcomes.Status.TheVariants.{Done, NoMemory, WriteFault}
 
--- the outcome and the effect are those with which the top call may end
-pub record IsAnswer {G S : Type 0} (command : Option Command) (e : Effect G S) (o : Outcome) : Type 0 where
-  pub orderly : IsOrderly (files_for command) e o
-  pub ends : IsEnding (meant command) (files_for command) e o
+-- the outcome and the effect are those with which a top call may end
+pub record IsAnswer {G S : Type 0} (wanted : Result Command Fault) (e : Effect G S) (o : Outcome) : Type 0 where
+  pub orderly : IsOrderly (files_for wanted) e o
+  pub ends : EndsAsMeant wanted e o
 
--- the output grew by what was pending and then a text, and nothing is pending
-pub record IsPut {G S : Type 0} (e : Effect G S) : Type 0 where
-  pub text : List ℕ
-  pub some : 0 < length text
-  pub grown : GrowsBy e.written (e.pending ++ text) e.written'
-  pub finished : e.pending' ≡ []
-
--- no file was touched, and a text was put, or the output failed
-pub record IsTold {G S : Type 0} (e : Effect G S) (s : Status) : Type 0 where
-  pub unread : e.files' ≡ e.files
-  pub ends : ((s ≡ Done) × IsPut e) ⊎ ((s ≡ WriteFault) × Rose e.puts e.puts')
+-- the output grew by what was pending and then this text, and nothing is pending; or it failed, and grew by a prefix of that; or there was no memory for the text
+abbrev pub IsTold : List ℕ → Option (List ℕ) → List ℕ → Option (List ℕ) → List ℕ → Type 0 → Status → Type 0
+IsTold text before pending after pending' rose s =
+    ((s ≡ Done) × GrowsBy before (pending ++ text) after × (pending' ≡ []))
+    ⊎ ((s ≡ WriteFault) × GrowsByPrefix before (pending ++ text) after × rose)
+    ⊎ ((s ≡ NoMemory) × (after ≡ before))

@@ -1,8 +1,9 @@
 -- Arguments that are nothing that the program does.
-use Rattle.std.specs.Prelude.{◌≡◌, ℕ, List, None}
+use Rattle.std.specs.Prelude.{◌≡◌, ℕ, List, None, Err}
 use Rattle.sb_commands.specs.Commands.{command_of}
-use Rattle.sb_host.specs.OwnWords.{own_word_of}
+use Rattle.sb_commands.specs.Inquiries.{asked_of}
+use Rattle.sb_commands.specs.Usage.{Fault}
 
--- the arguments are neither the program's own nor a command
-abbrev pub IsFaulty : List (List ℕ) → Type 0
-IsFaulty words = (own_word_of words ≡ None) × (command_of words ≡ None)
+-- the arguments ask nothing of the program itself, and are no command, because of this fault
+abbrev pub IsFaulty : Fault → List (List ℕ) → Type 0
+IsFaulty fault words = (asked_of words ≡ None) × (command_of words ≡ Err fault)

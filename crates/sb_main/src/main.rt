@@ -1,22 +1,26 @@
 // The program: the arguments of its command line, real files and standard output, and how it ends.
 #![tactic(auto)]
 
-ghost use Rattle.std.specs.Prelude.{◌≡◌, ◌⊎◌, ◌<◌, ◌++◌, [], IsSome, None, length};
-ghost use Rattle.sb_outside.specs.Outside.{GrowsBy, Rose};
-ghost use Rattle.sb_commands.specs.Commands.{command_of, texts};
+ghost use Rattle.std.specs.Prelude.{◌≡◌, None, IfSome, IsSome};
+ghost use Rattle.sb_outside.specs.Outside.{Rose};
+ghost use Rattle.sb_commands.specs.Commands.{command_of};
+ghost use Rattle.sb_commands.specs.Inquiries.{answer_text, asked, asked_of};
+ghost use Rattle.sb_commands.specs.Usage.{fault_of, texts};
+ghost use Rattle.sb_commands.specs.declared.usage_faults.UsageFault.{UsageFault};
 ghost use Rattle.sb_top.specs.Effects.{effect};
+ghost use Rattle.sb_top.specs.Exits.{code_of};
 ghost use Rattle.sb_main.specs.Gathering.{gathering_status};
-ghost use Rattle.sb_host.specs.OwnWords.{own_word_of};
 ghost use Rattle.sb_main.specs.Answers.{IsAnswer, IsTold};
 ghost use Rattle.sb_main.specs.Faulty.{IsFaulty};
 
-use sb_commands::command_of;
-use sb_host::{HostFiles, HostSink, PIECE, own_text, own_word};
+use sb_commands::{Inquiry, UsageFault, inquiry_of, inquiry_text};
+use sb_host::{HostFiles, HostSink, PIECE};
 use sb_items::NoMemory;
 use sb_outside::{Files, OpenGate, Sink, put_text};
 use sb_top::{
-    Complaint, Outcome, Status, broker_top, exit_code, message, statuses_are_of_commands,
+    Complaint, Outcome, Status, broker_top, exit_code, message, plain_top, statuses_are_of_commands,
 };
+use std::alloc::Global;
 use std::io::{ErrorKind, IsTerminal};
 use std::process::ExitCode;
 use std::rt::Env;
@@ -25,7 +29,7 @@ use std::thread::Threads;
 use std::{env, io, rt};
 
 fn main(rt: HostRuntime) -> ExitCode {
-    ExitCode::from(exit_code(run(&rt, rt.stdout().is_terminal())))
+    ExitCode::from(run(&rt, rt.stdout().is_terminal()))
 }
 
 // An outcome before a command is carried out: it has no report.
@@ -44,8 +48,7 @@ fn complain<R: Eprint + AllocGlobal>(rt: &R, words: &[String], outcome: &Outcome
     if matches!(outcome.status, Status::Done) {
         return;
     }
-    let command = command_of(rt.alloc(), words).unwrap_or(None);
-    match message(rt.alloc(), command, outcome) {
+    match message(rt.alloc(), words, outcome) {
         Ok(text) => {
             let _ = eprint!(rt; "{text}");
         }
@@ -57,14 +60,15 @@ fn complain<R: Eprint + AllocGlobal>(rt: &R, words: &[String], outcome: &Outcome
     }
 }
 
-// Gathers the arguments after the program's name, does what they ask, and says what went wrong. What is put to a terminal is written at once.
+// Gathers the arguments after the program's name, does what they ask, and says what went wrong: the exit code. What is put to a terminal is written at
+// once.
 fn run<R: Env + rt::Files + Print + Eprint + AllocGlobal + Threads + Wait + Sync>(
     rt: &R,
     is_terminal: bool,
-) -> Status {
+) -> u8 {
     let arguments = match env::args(rt) {
         Ok(arguments) => arguments,
-        Err(error) => return refuse(rt, no_words(error.kind())),
+        Err(error) => return refuse_unread(rt, error.kind()),
     };
     let all: Result<Vec<String>, _> = arguments.collect(rt.alloc());
     let Ok(all) = all else {
@@ -74,23 +78,47 @@ fn run<R: Env + rt::Files + Print + Eprint + AllocGlobal + Threads + Wait + Sync
         [_, words @ ..] => {
             let mut files = HostFiles::new(rt);
             let piece = if is_terminal { 0 } else { PIECE };
-            let outcome = match HostSink::new(rt.alloc(), io::writer(rt), piece) {
-                Ok(mut out) => answer(rt, words, &mut files, &mut out),
-                Err(NoMemory) => outcome_of(Status::NoMemory),
-            };
-            complain(rt, words, &outcome);
-            outcome.status
+            match HostSink::new(rt.alloc(), io::writer(rt), piece) {
+                Ok(mut out) => settle(rt, words, &mut files, &mut out),
+                Err(NoMemory) => refuse(rt, Status::NoMemory),
+            }
         }
-        [] => refuse(rt, Status::Usage),
+        [] => refuse(rt, Status::Usage(UsageFault::NoCommand)),
     }
 }
 
-// Says why there are no arguments.
-fn refuse<R: Eprint + AllocGlobal>(rt: &R, status: Status) -> Status
-    ensures { result ≡ status }
+// Does what the arguments ask, and says what went wrong: the exit code.
+fn settle<R: Eprint + AllocGlobal + Threads + Wait + Sync, F: Files, K: Sink>(
+    rt: &R,
+    words: &[String],
+    files: &mut F,
+    out: &mut K,
+) -> u8 {
+    let outcome = answer(rt, words, files, out);
+    complain(rt, words, &outcome);
+    exit_code(outcome.status)
+}
+
+// Says why there are no arguments: the exit code.
+fn refuse<R: Eprint + AllocGlobal>(rt: &R, status: Status) -> u8
+    ensures { result ≡ code_of status }
 {
     complain(rt, &[], &outcome_of(status));
-    status
+    exit_code(status)
+}
+
+// Says why the arguments were not gathered: the exit code.
+fn refuse_unread<R: Eprint>(rt: &R, kind: ErrorKind) -> u8
+    ensures { result ≡ code_of (gathering_status kind) }
+{
+    let status = no_words(kind);
+    let complaint = Complaint { status };
+    if matches!(status, Status::Usage(_)) {
+        let _ = eprint!(rt; "sandbox: an argument is not UTF-8\n{complaint}\n");
+    } else {
+        let _ = rt.eprintln(complaint);
+    }
+    exit_code(status)
 }
 
 // Arguments that were not gathered are not UTF-8, or there was no memory for them.
@@ -99,38 +127,63 @@ fn no_words(kind: ErrorKind) -> Status
 {
     match kind {
         ErrorKind::OutOfMemory => Status::NoMemory,
-        _ => Status::Usage,
+        _ => Status::Usage(UsageFault::NoCommand),
     }
 }
 
-// Answers the program's own arguments, and leaves all other arguments to the top call, over any files and any output.
+// Answers what is asked of the program itself, and leaves all other arguments to the top calls, over any files and any output: to the one on threads only
+// if the other has no outcome.
 fn answer<R: AllocGlobal + Threads + Wait + Sync, F: Files, K: Sink>(
     rt: &R,
     words: &[String],
     files: &mut F,
     out: &mut K,
 ) -> Outcome
-    ensures usage { result.status ≡ Status.Usage → IsFaulty (texts words.now) }
-    ensures faulty { IsFaulty (texts words.now) → result.status ≡ Status.Usage }
-    ensures command { own_word_of (texts words.now) ≡ None → IsAnswer (command_of (texts words.now))
+    ensures usage { (fault : UsageFault) → result.status ≡ Status.Usage fault → IsFaulty (fault_of fault) (texts words.now) }
+    ensures command { asked_of (texts words.now) ≡ None → IsAnswer (command_of (texts words.now))
         (effect F.held F.faults K.written K.pending K.faults files.old files.new out.old out.new) result }
-    ensures own { IsSome (own_word_of (texts words.now)) →
-        IsTold (effect F.held F.faults K.written K.pending K.faults files.old files.new out.old out.new) result.status }
+    ensures asked { IfSome (asked_of (texts words.now)) (λ a. IsTold (answer_text a) (K.written out.old) (K.pending out.old) (K.written out.new) (K.pending out.new)
+        (Rose (K.faults out.old) (K.faults out.new)) result.status) }
+    ensures untouched { IsSome (asked_of (texts words.now)) → files.new ≡ files.old }
 {
     statuses_are_of_commands::<F, K>();
-    match own_word(words) {
-        Some(word) => outcome_of(tell(own_text(word).as_bytes(), out)),
+    match inquiry_of(words) {
+        Some(inquiry) => outcome_of(tell(rt.alloc(), inquiry, out)),
+        None => answer_command(rt, words, files, out),
+    }
+}
+
+// Leaves arguments to the top calls.
+fn answer_command<R: AllocGlobal + Threads + Wait + Sync, F: Files, K: Sink>(
+    rt: &R,
+    words: &[String],
+    files: &mut F,
+    out: &mut K,
+) -> Outcome
+    ensures { IsAnswer (command_of (texts words.now))
+        (effect F.held F.faults K.written K.pending K.faults files.old files.new out.old out.new) result }
+{
+    match plain_top(rt.alloc(), words, files, out) {
+        Some(outcome) => outcome,
         None => broker_top(rt, rt.alloc(), words, files, out, &OpenGate),
     }
 }
 
-// Puts a text, which one of the program's own arguments asks for, and finishes.
-fn tell<S: Sink>(text: &[u8], sink: &mut S) -> Status
-    ensures done { result ≡ Status.Done → GrowsBy (S.written sink.old) (S.pending sink.old ++ text.now) (S.written sink.new) }
-    ensures finished { result ≡ Status.Done → S.pending sink.new ≡ [] }
-    ensures quiet { result ≡ Status.Done → S.faults sink.new ≡ S.faults sink.old }
-    ensures fault { result ≡ Status.WriteFault → Rose (S.faults sink.old) (S.faults sink.new) }
-    ensures either { (result ≡ Status.Done) ⊎ (result ≡ Status.WriteFault) }
+// Puts the text that answers an inquiry, and finishes.
+fn tell<S: Sink>(alloc: Global, inquiry: Inquiry, sink: &mut S) -> Status
+    ensures { IsTold (answer_text (asked inquiry)) (S.written sink.old) (S.pending sink.old) (S.written sink.new) (S.pending sink.new)
+        (Rose (S.faults sink.old) (S.faults sink.new)) result }
+{
+    match inquiry_text(alloc, inquiry) {
+        Ok(text) => put_whole(text.as_bytes(), sink),
+        Err(NoMemory) => Status::NoMemory,
+    }
+}
+
+// Puts a text, and finishes.
+fn put_whole<S: Sink>(text: &[u8], sink: &mut S) -> Status
+    ensures { IsTold text.now (S.written sink.old) (S.pending sink.old) (S.written sink.new) (S.pending sink.new)
+        (Rose (S.faults sink.old) (S.faults sink.new)) result }
 {
     match put_text(sink, text) {
         Ok(()) => Status::Done,

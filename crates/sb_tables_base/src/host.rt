@@ -1,15 +1,15 @@
-// Table tests of files and outputs of the system, and of what the program tells of itself.
+// Table tests of files and outputs of the system.
 
 use crate::bytes::put_shown;
 use crate::outside::{put_content, put_outcome};
-use sb_host::{HostFiles, HostSink, OwnWord, own_text, own_word};
+use sb_host::{HostFiles, HostSink};
 use sb_outside::{Files, Sink};
-use sb_rows::{RowFault, bytes, debug_text, number, put_between};
+use sb_rows::{RowFault, bytes, number, put_between};
 use std::alloc::Global;
 use std::io::Cursor;
 use std::rt;
 
-/// What a function of the system's files and outputs, or of the program's own words, gives.
+/// What a function of the system's files and outputs gives.
 pub fn value_of<R: rt::Files>(
     rt: &R,
     alloc: Global,
@@ -19,8 +19,6 @@ pub fn value_of<R: rt::Files>(
     match name {
         "HostFiles::read" => reads_of(rt, alloc, parts),
         "HostSink::put" => puts_of(alloc, parts),
-        "own_word" => word_of(alloc, parts),
-        "own_text" => is_within(alloc, parts),
         _ => Err(RowFault::Unknown),
     }
 }
@@ -70,31 +68,4 @@ fn put_all(
     }
     put_outcome(out, sink.finish())?;
     Ok(write!(out, "faults {} ", sink.faults)?)
-}
-
-// The own word that these words are. A row without arguments has no words.
-fn word_of(alloc: Global, parts: &[&str]) -> Result<String, RowFault> {
-    let mut words = Vec::new(alloc);
-    for part in parts {
-        if !part.is_empty() {
-            words.push(String::from_str(alloc, part)?)?;
-        }
-    }
-    debug_text(alloc, &own_word(&words))
-}
-
-fn named(word: &str) -> Result<OwnWord, RowFault> {
-    match word {
-        "Help" => Ok(OwnWord::Help),
-        "Version" => Ok(OwnWord::Version),
-        _ => Err(RowFault::BadWords),
-    }
-}
-
-// Whether the text of an own word has these words in it.
-fn is_within(alloc: Global, parts: &[&str]) -> Result<String, RowFault> {
-    let [word, part] = parts else {
-        return Err(RowFault::BadWords);
-    };
-    debug_text(alloc, &own_text(named(word)?).contains(*part))
 }

@@ -1,5 +1,5 @@
 // Prints table tests of single functions. A row is a function with its arguments, and what the function gives is printed after it.
-// The rows stand in files, which the arguments name; what is printed is compared with the file `stdout` of this crate, which
+// The rows are in files, which the arguments name; what is printed is compared with the file `stdout` of this crate, which
 // holds the same rows with the values that are right.
 #![tactic(auto)]
 

@@ -1,6 +1,6 @@
 -- What commands come to, by what is read of their files.
-use Rattle.std.proofs.Common.{◌≡◌, ◌∙◌, refl, sym, ap, subst, ℕ, ◌⊎◌, inl, inr, true, false, List, Option, None, Some}
-use Rattle.std.specs.Prelude.{IfOk, IsOk, IsOkAnd, Result, Ok, Err, ◌∷◌, []}
+use Rattle.std.proofs.Common.{◌≡◌, ◌∙◌, refl, sym, ap, subst, ℕ, inl, inr, List, Option, None}
+use Rattle.std.specs.Prelude.{IfOk, IsOkAnd, Result, Ok, Err, ◌∷◌, []}
 use Rattle.sb_outside.specs.Outside.{Held}
 use Rattle.sb_rule.specs.declared.policies.Policy.{Policy}
 use Rattle.sb_statements.specs.declared.schedules.Schedule.{Schedule}
@@ -8,8 +8,8 @@ use Rattle.sb_statements.specs.declared.scripts.Script.{Script}
 use Rattle.sb_text.specs.Steps.{◌>>=◌}
 use Rattle.sb_top.specs.Check.{check_end, printed_end}
 use Rattle.sb_top.specs.Coming.{IsFound, IsFoundBy, IsFoundFor, IsFoundOnThreads, IsRead, IsReadBy, IsScheduled, IsScheduledBy, ReportedEnd, reported}
-use Rattle.sb_top.specs.Contents.{Content, Refusal, no_schedule, policies_in, refused, schedule_in, script_in}
-use Rattle.sb_top.specs.Ends.{AreContents, Contents, End, IsHeld, IsOrderOf, Meaning, OnThreads, Plain, without}
+use Rattle.sb_top.specs.Contents.{Content, Refusal, no_schedule, policies_in, refused, script_in}
+use Rattle.sb_top.specs.Ends.{Contents, End, IsHeld, IsOrderOf, Meaning, OnThreads, Plain, without}
 use Rattle.sb_top.specs.Replay.{listed, replay_end, run_end, schedule_of}
 use Rattle.sb_top.specs.Run.{IsThreadsEnd, threads_end}
 use Rattle.sb_top.specs.declared.outcomes.Status.TheVariants.{NoMemory}

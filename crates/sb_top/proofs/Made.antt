@@ -1,18 +1,20 @@
 -- The reports of generated scripts, and their totals.
 use Rattle.std.proofs.Common.{◌≡◌, ◌∙◌, ℕ, zero, suc, ◌+◌, ◌==◌, Bool, true, false, if◌then◌else◌, ◌++◌, ap, sym, refl, subst, List}
 use Rattle.std.specs.List.{list_all}
-use Rattle.std.specs.Prelude.{IfOk, Result, Ok, Err, Some}
+use Rattle.std.specs.Prelude.{IfOk, Option, Result, Ok, Err, Some, []}
 use Rattle.sb_book.specs.declared.reports.Report.{Report}
 use Rattle.sb_core.specs.Runs.{IsSomeRun}
 use Rattle.sb_gen.specs.Calls.{call_of, statement_of, statements_of}
 use Rattle.sb_gen.specs.Generator.{after, kind_of, next, number_of}
 use Rattle.sb_gen.specs.Policies.{AreMade}
-use Rattle.sb_gen.specs.Scripts.{script_of, target_of, targets_of, threads_of}
+use Rattle.sb_gen.specs.Scripts.{script_of, targets_of, threads_of}
+use Rattle.sb_outside.specs.Outside.{Held}
 use Rattle.sb_rule.specs.declared.policies.Policy.{Policy}
 use Rattle.sb_statements.specs.declared.scripts.Script.{Script}
 use Rattle.sb_statements.specs.declared.statements.Statement.{Statement}
 use Rattle.sb_transcript.specs.Totals.{totals_line}
-use Rattle.sb_top.specs.Make.{IsMadeEnd, IsMadeReport, made_line, made_policies, made_text, policies_or_none}
+use Rattle.sb_top.specs.Coming.{IsFoundOnThreads, ReportedEnd}
+use Rattle.sb_top.specs.Make.{IsMadeEnd, IsMadeReport, made_line, made_policies, make_end, made_text, policies_or_none}
 use Rattle.sb_top.specs.Replay.{whole_run}
 use Rattle.sb_top.specs.Sound.{RunsAreSound}
 use Rattle.sb_top.specs.Totals.{AllClean, TotalsAreOfVerdicts, are_calls, is_call, totals_by}
@@ -98,3 +100,8 @@ made_end_of seed targets calls report text same some = record {
   is_order = record { can = some.can; no_rounds = some.no_rounds; finished = some.finished };
   is = λ i. record { text = Ok (same i); report = Some (some.is i) };
 }
+
+-- the end of a run of the script that is made, as what the command comes to
+pub made_found : (seed targets calls : ℕ) (held : Option Held) (end : ReportedEnd) → IsMadeEnd seed targets calls end
+    → IsFoundOnThreads (make_end seed targets calls) [] held (Ok end)
+made_found seed targets calls held end e = record { order = e.order; contents = []; are = tt; ordered = λ k. e.is_order; is = e.is }

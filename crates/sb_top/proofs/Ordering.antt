@@ -7,9 +7,8 @@ use Rattle.std.proofs.lemmas.Bool.Decides.{nat_tests}
 use Rattle.sb_book.specs.Readiness.{is_judged, is_ready}
 use Rattle.sb_core.specs.Actors.{are_there, scheduled}
 use Rattle.sb_core.specs.Laws.{OrdersAreSchedules}
-use Rattle.sb_core.specs.Runs.{ended_from, ran}
+use Rattle.sb_core.specs.Runs.{ended_from}
 use Rattle.sb_core.specs.Worlds.{rounds, start_world, steps}
-use Rattle.sb_core.specs.declared.runs.Ran.{Ran}
 use Rattle.sb_kernel.specs.Openings.{opened}
 use Rattle.sb_rule.specs.WellMade.{are_well_made}
 use Rattle.sb_rule.specs.declared.policies.Policy.{Policy}
@@ -31,7 +30,7 @@ use Rattle.sb_top.specs.Replay.{ended_by, replay_end, run_end, whole_run}
 use Rattle.sb_ruletext.specs.Laws.{ReadPoliciesAreWellMade}
 use Rattle.sb_scripttext.specs.Readiness.{ReadScriptsAreReady}
 use Rattle.sb_top.proofs.ReadFiles.{short_text}
-use Rattle.sb_top.proofs.Sound.{script_known}
+use Rattle.sb_top.proofs.Readings.{script_known}
 
 -- a script that is ready is sound
 ready_sound : (policies : List Policy) (script : Script) → is_ready policies script ≡ true → is_sound script ≡ true
@@ -134,7 +133,7 @@ module _ (read : OrdersAreRead) (short : OrdersAreShort) (orders : OrdersAreSche
       let size : length (order_text actors) ≤ most_bytes = short actors 0 values few (omega arith) in
       let is = read script.targets actors 0 there values few (omega arith) in
       let scheduled : schedule_in script (Some (order_text actors)) ≡ Ok (in_order actors 0) =
-      ap (λ (r : Result (List ℕ) Refusal). r >>= λ (text : List ℕ). schedule_by text (schedules.reading script.targets text)) (short_text 3 (order_text actors) size)
+      ap (λ (r : Result (List ℕ) Refusal). r >>= λ (text : List ℕ). schedule_by text (schedules.reading script.targets text)) (short_text most_bytes 3 (order_text actors) size)
       ∙ ap (λ r. schedule_by (order_text actors) r) is in
       record {
         short = size;

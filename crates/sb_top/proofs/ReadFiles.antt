@@ -1,5 +1,5 @@
 -- How the content of a file becomes what is read of it.
-use Rattle.std.proofs.Common.{◌≡◌, ◌∙◌, refl, sym, ap, subst, ℕ, ◌+◌, ◌<◌, ◌≤◌, ◌⊎◌, inl, inr, true, false, nat_le, List, length, replicate, Option, None, Some, arith}
+use Rattle.std.proofs.Common.{◌≡◌, ◌∙◌, refl, sym, ap, subst, ℕ, ◌+◌, ◌<◌, ◌≤◌, inl, inr, true, false, nat_le, List, length, replicate, Option, None, Some, arith}
 use Rattle.std.specs.Prelude.{IsSomeAnd, Result, Ok, Err, ◌∷◌, [], map}
 use Rattle.std.proofs.lemmas.Bool.Decides.{nat_tests}
 use Rattle.std.proofs.lemmas.List.{length-replicate}
@@ -14,7 +14,7 @@ use Rattle.sb_scripttext.specs.ScriptTexts.{ScriptFault}
 use Rattle.sb_statements.specs.declared.schedules.Schedule.{Schedule}
 use Rattle.sb_statements.specs.declared.scripts.Script.{Script}
 use Rattle.sb_top.specs.Coming.{GivesBy, IsCausedBy, IsRead, IsReadBy, IsScheduled, IsScheduledBy, IsTextCaused}
-use Rattle.sb_top.specs.Contents.{Content, Refusal, most_bytes, policies_by, refused, refused_at, schedule_in, script_by, status_of, text_in}
+use Rattle.sb_top.specs.Contents.{Content, Refusal, most_bytes, policies_by, refused, refused_at, schedule_in, script_by, status_of, text_in, text_within}
 use Rattle.sb_top.specs.Ends.{AreContents, Contents, IsHeld}
 use Rattle.sb_top.specs.Endings.{IsCaused}
 use Rattle.sb_top.specs.Replay.{run_text}
@@ -40,27 +40,27 @@ are_rest held (name ∷ names) = (is_held held name, are_rest held names)
 
 -- ---- the text of a file
 
-pub short_text : (n : ℕ) (text : List ℕ) → length text ≤ most_bytes → text_in n (Some text) ≡ Ok text
-short_text n text l = let e : nat_le (length text) most_bytes ≡ true = grind (arith, nat_tests, l) in rw e refl
+pub short_text : (most n : ℕ) (text : List ℕ) → length text ≤ most → text_within most n (Some text) ≡ Ok text
+short_text most n text l = let e : nat_le (length text) most ≡ true = grind (arith, nat_tests, l) in rw e refl
 
-long_text : (n : ℕ) (text : List ℕ) → most_bytes < length text → text_in n (Some text) ≡ Err (refused (TooLong n))
-long_text n text l = let e : nat_le (length text) most_bytes ≡ false = grind (arith, nat_tests, l) in rw e refl
+long_text : (most n : ℕ) (text : List ℕ) → most < length text → text_within most n (Some text) ≡ Err (refused (TooLong n))
+long_text most n text l = let e : nat_le (length text) most ≡ false = grind (arith, nat_tests, l) in rw e refl
 
 -- a file that was read
-pub text_read : {B : Type 0} (seen : B → List ℕ) (x : B) (n : ℕ) (held : Option Held) (name : List ℕ) → IsContent held name (seen x) → length (seen x) ≤ most_bytes
-    → IsRead seen n (text_in n) held name (Ok x)
-text_read seen x n None name e l = (Some (seen x), tt, short_text n (seen x) l)
-text_read seen x n (Some held) name e l = (Some (seen x), sym e, short_text n (seen x) l)
+pub text_read : {B : Type 0} (seen : B → List ℕ) (most : ℕ) (x : B) (n : ℕ) (held : Option Held) (name : List ℕ) → IsContent held name (seen x)
+    → length (seen x) ≤ most → IsRead seen n (text_within most n) held name (Ok x)
+text_read seen most x n None name e l = (Some (seen x), tt, short_text most n (seen x) l)
+text_read seen most x n (Some held) name e l = (Some (seen x), sym e, short_text most n (seen x) l)
 
 -- a file that is missing or too long
-missing : {B : Type 0} (seen : B → List ℕ) (n : ℕ) (held : Option Held) (name : List ℕ) (rose : Type 0) → IsMissing held name rose
-    → IsRead seen n (text_in n) held name (Err (refused (status_of file.Missing n))) × IsCaused held rose (status_of file.Missing n)
-missing seen n None name rose m = ((None, tt, inl refl), m)
-missing seen n (Some held) name rose m = ((None, sym m, inl refl), tt)
+missing : {B : Type 0} (seen : B → List ℕ) (most n : ℕ) (held : Option Held) (name : List ℕ) (rose : Type 0) → IsMissing held name rose
+    → IsRead seen n (text_within most n) held name (Err (refused (status_of file.Missing n))) × IsCaused held rose (status_of file.Missing n)
+missing seen most n None name rose m = ((None, tt, inl refl), m)
+missing seen most n (Some held) name rose m = ((None, sym m, inl refl), tt)
 
-long_content : (o : Content) (n : ℕ) → IsSomeAnd o (λ bytes. most_bytes < length bytes) → text_in n o ≡ Err (refused (TooLong n))
-long_content None n h = absurd h
-long_content (Some text) n h = long_text n text h
+long_content : (most : ℕ) (o : Content) (n : ℕ) → IsSomeAnd o (λ bytes. most < length bytes) → text_within most n o ≡ Err (refused (TooLong n))
+long_content most None n h = absurd h
+long_content most (Some text) n h = long_text most n text h
 
 -- a text of n bytes
 zeros : ℕ → List ℕ
@@ -70,21 +70,21 @@ zeros_are : (n : ℕ) → length (zeros n) ≡ n
 unfolding zeros
 zeros_are n = length-replicate n 0
 
-too_long : {B : Type 0} (seen : B → List ℕ) (n : ℕ) (held : Option Held) (name : List ℕ) (rose : Type 0) → IsTooLong held name most_bytes rose
-    → IsRead seen n (text_in n) held name (Err (refused (status_of file.TooLong n))) × IsCaused held rose (status_of file.TooLong n)
-too_long seen n None name rose m =
-    let size : length (zeros (most_bytes + 1)) ≡ most_bytes + 1 = zeros_are (most_bytes + 1) in
-    ((Some (zeros (most_bytes + 1)), tt, inl (long_text n (zeros (most_bytes + 1)) (omega (arith, size)))), m)
-too_long seen n (Some held) name rose m = ((held name, refl, inl (long_content (held name) n m)), tt)
+too_long : {B : Type 0} (seen : B → List ℕ) (most n : ℕ) (held : Option Held) (name : List ℕ) (rose : Type 0) → IsTooLong held name most rose
+    → IsRead seen n (text_within most n) held name (Err (refused (status_of file.TooLong n))) × IsCaused held rose (status_of file.TooLong n)
+too_long seen most n None name rose m =
+    let size : length (zeros (most + 1)) ≡ most + 1 = zeros_are (most + 1) in
+    ((Some (zeros (most + 1)), tt, inl (long_text most n (zeros (most + 1)) (omega (arith, size)))), m)
+too_long seen most n (Some held) name rose m = ((held name, refl, inl (long_content most (held name) n m)), tt)
 
 -- and any file that was not read
-pub text_unread : {B : Type 0} (seen : B → List ℕ) (n : ℕ) (held : Option Held) (name : List ℕ) (rose : Type 0) (fault : FileFault)
-    → (fault ≡ file.Failed → rose) → (fault ≡ file.Missing → IsMissing held name rose) → (fault ≡ file.TooLong → IsTooLong held name most_bytes rose)
-    → IsRead seen n (text_in n) held name (Err (refused (status_of fault n))) × IsCaused held rose (status_of fault n)
-text_unread seen n held name rose file.Missing f m t = missing seen n held name rose (m refl)
-text_unread seen n held name rose file.TooLong f m t = too_long seen n held name rose (t refl)
-text_unread seen n held name rose file.Failed f m t = ((content_of held name, is_held held name, inr (inl refl)), f refl)
-text_unread seen n held name rose file.NoMemory f m t = ((content_of held name, is_held held name, inr (inr refl)), tt)
+pub text_unread : {B : Type 0} (seen : B → List ℕ) (most n : ℕ) (held : Option Held) (name : List ℕ) (rose : Type 0) (fault : FileFault)
+    → (fault ≡ file.Failed → rose) → (fault ≡ file.Missing → IsMissing held name rose) → (fault ≡ file.TooLong → IsTooLong held name most rose)
+    → IsRead seen n (text_within most n) held name (Err (refused (status_of fault n))) × IsCaused held rose (status_of fault n)
+text_unread seen most n held name rose file.Missing f m t = missing seen most n held name rose (m refl)
+text_unread seen most n held name rose file.TooLong f m t = too_long seen most n held name rose (t refl)
+text_unread seen most n held name rose file.Failed f m t = ((content_of held name, is_held held name, inr (inl refl)), f refl)
+text_unread seen most n held name rose file.NoMemory f m t = ((content_of held name, is_held held name, inr (inr refl)), tt)
 
 -- ---- what is read of the text
 

@@ -1,11 +1,11 @@
 -- The totals of a report that fits a script of calls with clean channels are those of the verdicts, and it has one result for each statement.
-use Rattle.std.proofs.Common.{◌≡◌, ◌∙◌, refl, ap, sym, subst, ℕ, zero, suc, ◌+◌, ◌*◌, ◌^◌, ◌/◌, ◌<◌, ◌≤◌, Bool, true, false, cond, ◌&&◌, ◌==◌, true≢false, List, [], ◌∷◌, ◌++◌, length, map, get_or, Option, Some, None, slice_get, codes, lit≤, arith}
+use Rattle.std.proofs.Common.{◌≡◌, ◌∙◌, refl, ap, sym, subst, ℕ, zero, suc, ◌+◌, ◌*◌, ◌/◌, ◌<◌, ◌≤◌, Bool, true, false, cond, ◌&&◌, ◌==◌, true≢false, List, [], ◌∷◌, ◌++◌, length, map, get_or, Option, Some, None, slice_get, codes, lit≤, arith}
 use Rattle.std.specs.Prelude.{slice_index, nat_le, is_ok}
 use Rattle.std.specs.List.{count_by, filter, list_all, sum_by}
 use Rattle.std.proofs.lemmas.Bool.{and_parts}
 use Rattle.std.proofs.lemmas.Bool.Decides.{nat_tests}
 use Rattle.std.proofs.lemmas.List.Sums.{sum_by-cons}
-use Rattle.std.proofs.lemmas.Option.{slice_get_within, slice_get-get_or, get_or_from_slice_get}
+use Rattle.std.proofs.lemmas.Option.{slice_get_within, slice_get-get_or}
 use Rattle.sb_actor.specs.Fitting.{Suits}
 use Rattle.sb_actor.specs.Moves.{is_clean}
 use Rattle.sb_actor.specs.Places.{clean_channels, mark_at, or_none, statement_at, statements_of, threads_of}
@@ -21,10 +21,9 @@ use Rattle.sb_book.specs.declared.entries.Entry.{Entry}
 use Rattle.sb_book.specs.declared.reports.Report.{Report}
 use Rattle.sb_call.specs.declared.arguments.Arg.{Arg}
 use Rattle.sb_call.specs.declared.tags.CallTag.{CallTag}
-use Rattle.sb_core.specs.Fits.{Answered, Fits, by_entry, by_result, is_entry_of, results_at}
+use Rattle.sb_core.specs.Fits.{Fits, by_entry, is_entry_of, results_at}
 use Rattle.sb_core.specs.Results.{AreAllResults}
 use Rattle.sb_core.specs.Runs.{most_results}
-use Rattle.sb_core.specs.Views.{own_calls}
 use Rattle.sb_kernel.specs.Namespaces.{Space}
 use Rattle.sb_kernel.specs.Openings.{opened, opening}
 use Rattle.sb_rule.specs.Verdicts.{policy_at, verdict_of}
@@ -41,9 +40,9 @@ use Rattle.sb_statements.specs.declared.scripts.Script.{Script}
 use Rattle.sb_statements.specs.declared.scripts.TargetScript.{TargetScript}
 use Rattle.sb_statements.specs.declared.statements.Statement.{Statement}
 use Rattle.sb_statements.specs.declared.statements.Statement.TheVariants.{Call, Store, Exchange, Load, Wait}
-use Rattle.sb_transcript.specs.Totals.{count_of, counted, is_denied, is_faked, is_performed, is_refused, totals_line}
-use Rattle.sb_top.specs.Totals.{AllClean, TotalsAreOfVerdicts, are_calls, decided, decided_in, is_call, is_decided, statement_count, statements_in, totals_by}
-use Rattle.sb_top.proofs.Sums.{Placed, count_first, counted_once, none_upto, same_both, same_upto, sum_list, tally, upto, within_length}
+use Rattle.sb_transcript.specs.Totals.{count_of, counted, is_denied, is_faked, is_performed, is_refused}
+use Rattle.sb_top.specs.Totals.{AllClean, TotalsAreOfVerdicts, are_calls, decided, decided_in, is_call, is_decided, statement_count, statements_in}
+use Rattle.sb_top.proofs.Sums.{Placed, count_first, counted_once, same_both, same_upto, sum_list, tally, upto, within_length}
 use Rattle.sb_top.proofs.Verdicts.{AreTrue, IsCall, both_true, leads, length_upto, some_same, some_true, thread_leads, true_at, true_upto}
 
 -- ---- sums over the threads of a script

@@ -1,5 +1,8 @@
 -- What the files of a command hold, by their place in the command, and what is read of each.
 use Rattle.std.specs.Prelude.{ℕ, nat_le, List, [], length, Option, None, Some, Result, Ok, Err, if◌then◌else◌}
+use Rattle.sb_commands.specs.declared.usage_faults.UsageFault.{UsageFault}
+use Rattle.sb_items.specs.declared.refusals.Refused.{Refused}
+use Rattle.sb_items.specs.declared.refusals.Refused.TheVariants as found
 use Rattle.sb_outside.specs.declared.files.FileFault.{FileFault}
 use Rattle.sb_outside.specs.declared.files.FileFault.TheVariants as file
 use Rattle.sb_rule.specs.declared.policies.Policy.{Policy}
@@ -16,7 +19,7 @@ use Rattle.sb_statements.specs.declared.scripts.Script.{Script}
 use Rattle.sb_text.specs.Lines.{line_numbered}
 use Rattle.sb_text.specs.Steps.{◌>>=◌}
 use Rattle.sb_top.specs.declared.outcomes.Status.{Status}
-use Rattle.sb_top.specs.declared.outcomes.Status.TheVariants.{PolicyRefused, ScriptRefused, ScheduleRefused, Missing, TooLong, ReadFault, NoMemory}
+use Rattle.sb_top.specs.declared.outcomes.Status.TheVariants.{PolicyRefused, ScriptRefused, ScheduleRefused, Missing, TooLong, ReadFault, NoMemory, Usage}
 
 -- why a command is not carried out: its status, and the line of a text to show with it
 pub record Refusal : Type 0 where
@@ -31,6 +34,11 @@ refused status = record { status = status; shown = None }
 abbrev pub refused_at : ℕ → List ℕ → Status → Refusal
 refused_at line text status = record { status = status; shown = line_numbered line text }
 
+-- why arguments are not carried out in which no command was found
+abbrev pub refusal_of : Refused UsageFault → Refusal
+refusal_of (found.Fault fault) = refused (Usage fault)
+refusal_of found.NoMemory = refused NoMemory
+
 -- the bytes of a file, if there is one
 abbrev pub Content : Type 0
 Content = Option (List ℕ)
@@ -39,10 +47,14 @@ Content = Option (List ℕ)
 abbrev pub most_bytes : ℕ
 most_bytes = limits.most_bytes
 
--- the text of file n, by its content
+-- the text of file n, by its content, if it has at most this many bytes
+abbrev pub text_within : ℕ → ℕ → Content → Result (List ℕ) Refusal
+text_within most n None = Err (refused (Missing n))
+text_within most n (Some text) = if nat_le (length text) most then Ok text else Err (refused (TooLong n))
+
+-- the same of each file but a transcript
 abbrev pub text_in : ℕ → Content → Result (List ℕ) Refusal
-text_in n None = Err (refused (Missing n))
-text_in n (Some text) = if nat_le (length text) most_bytes then Ok text else Err (refused (TooLong n))
+text_in n content = text_within most_bytes n content
 
 -- the status of a fault of file n
 abbrev pub status_of : FileFault → ℕ → Status

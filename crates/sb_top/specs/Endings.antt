@@ -1,14 +1,15 @@
 -- How a call ends that carries out a command, by what the command means.
 use Rattle.std.specs.Prelude.{◌≡◌, ◌⊎◌, ⊤, ℕ, List, ◌++◌, Option, None, Some, IfOk, IsOkAnd, IsSome, Result, Ok, Err}
-use Rattle.sb_book.specs.declared.reports.Report.{Report}
 use Rattle.sb_outside.specs.Outside.{GrowsBy, GrowsByPrefix, Held, Rose}
 use Rattle.sb_statements.specs.declared.schedules.Schedule.{Schedule}
+use Rattle.sb_commands.specs.Usage.{Fault, fault_of}
+use Rattle.sb_commands.specs.declared.usage_faults.UsageFault.{UsageFault}
 use Rattle.sb_top.specs.Contents.{Refusal, refused}
 use Rattle.sb_top.specs.Effects.{Effect}
 use Rattle.sb_top.specs.Ends.{AreContents, Contents, End, IsOrderOf, Meaning, OnThreads, Plain, report_of, without}
 use Rattle.sb_top.specs.declared.outcomes.Outcome.{Outcome}
 use Rattle.sb_top.specs.declared.outcomes.Status.{Status}
-use Rattle.sb_top.specs.declared.outcomes.Status.TheVariants.{Done, Missing, NoMemory, ReadFault, TooLong, WriteFault}
+use Rattle.sb_top.specs.declared.outcomes.Status.TheVariants.{Done, Missing, NoMemory, ReadFault, TooLong, Usage, WriteFault}
 
 -- done: the output grew by what was pending and then by this text; or it ended with this status, and nothing was written
 abbrev pub IsWritten : {G S : Type 0} → Result (List ℕ) Status → Effect G S → Outcome → Type 0
@@ -89,3 +90,9 @@ pub record IsThreadedEnding {G S : Type 0} (meaning : Schedule → Contents → 
 abbrev pub IsEnding : {G S : Type 0} → Meaning → List (List ℕ) → Effect G S → Outcome → Type 0
 IsEnding (Plain meaning) names e o = IsPlainEnding meaning names e o
 IsEnding (OnThreads meaning) names e o = IsThreadedEnding meaning names e o
+
+-- arguments that have this fault are refused for it
+pub record IsUsageEnding {G S : Type 0} (fault : Fault) (e : Effect G S) (o : Outcome) : Type 0 where
+  pub found : UsageFault
+  pub same : fault_of found ≡ fault
+  pub is : IsRefused (refused (Usage found)) e o

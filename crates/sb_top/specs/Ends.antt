@@ -1,5 +1,5 @@
 -- How commands end: what each means, as a function of the contents of its files.
-use Rattle.std.specs.Prelude.{◌≡◌, ⊤, ℕ, ◌-◌, List, [], ◌∷◌, length, Option, None, Some, option_map, IfSome, Result, slice_set}
+use Rattle.std.specs.Prelude.{◌≡◌, ⊤, ℕ, ◌-◌, List, [], ◌∷◌, Option, None, Some, option_map, IfSome, Result, slice_set}
 use Rattle.sb_book.specs.declared.reports.Report.{Report}
 use Rattle.sb_core.specs.Runs.{CanRun}
 use Rattle.sb_core.specs.declared.runs.Ran.{Ran}

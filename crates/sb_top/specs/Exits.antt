@@ -1,6 +1,15 @@
 -- How the program ends.
 use Rattle.std.specs.Prelude.{ℕ, ◌-◌, ◌==◌, List, [], ◌∷◌, ◌++◌, Option, None, Some, codes, decimal, if◌then◌else◌}
+use Rattle.sb_commands.specs.Commands.{command_of}
+use Rattle.sb_commands.specs.Forms.{forms}
+use Rattle.sb_commands.specs.Usage.{fault_of}
+use Rattle.sb_commands.specs.UsageMessages.{forms_text, usage_message}
+use Rattle.sb_dup.specs.Kinds as moves
+use Rattle.sb_link.specs.Kinds as links
+use Rattle.sb_message.specs.AuditMessages.{audit_message}
 use Rattle.sb_message.specs.EndMessages.{end_message}
+use Rattle.sb_message.specs.LinkMessages.{link_message}
+use Rattle.sb_message.specs.MoveMessages.{move_message}
 use Rattle.sb_message.specs.PolicyMessages.{policy_message}
 use Rattle.sb_message.specs.ScheduleMessages.{schedule_message}
 use Rattle.sb_message.specs.ScriptMessages.{script_message}
@@ -8,13 +17,14 @@ use Rattle.sb_message.specs.declared.end_messages.EndFault.TheVariants as end
 use Rattle.sb_ruletext.specs.Kinds.{kind_number}
 use Rattle.sb_scripttext.specs.Kinds as script
 use Rattle.sb_scheduletext.specs.Kinds as schedule
+use Rattle.sb_top.specs.Top.{files_for}
 use Rattle.sb_top.specs.declared.outcomes.Status.{Status}
-use Rattle.sb_top.specs.declared.outcomes.Status.TheVariants.{Done, Unfinished, Usage, PolicyRefused, ScriptRefused, ScheduleRefused, Missing, TooLong, ReadFault, WriteFault, NoMemory}
+use Rattle.sb_top.specs.declared.outcomes.Status.TheVariants.{Done, Unfinished, Usage, PolicyRefused, ScriptRefused, ScheduleRefused, LinksRefused, MovesRefused, AuditNo, Missing, TooLong, ReadFault, WriteFault, NoMemory}
 
 -- the exit code of a status
 abbrev pub code_of : Status → ℕ
 code_of Done = 0
-code_of Usage = 2
+code_of (Usage fault) = 2
 code_of (PolicyRefused fault) = 3
 code_of (ScriptRefused fault) = 4
 code_of (ScheduleRefused fault) = 5
@@ -24,11 +34,14 @@ code_of (ReadFault which) = 8
 code_of WriteFault = 9
 code_of (Unfinished target thread) = 10
 code_of NoMemory = 11
+code_of (LinksRefused fault) = 12
+code_of (MovesRefused fault) = 13
+code_of (AuditNo refuted) = 14
 
 -- what is said of a status
 abbrev pub text_of : Status → List ℕ
 text_of Done = codes "done"
-text_of Usage = codes "usage: check POLICY, replay POLICY SCRIPT [SCHEDULE], run POLICY SCRIPT [--workers N], make SEED TARGETS CALLS"
+text_of (Usage fault) = codes "usage: " ++ forms_text forms
 text_of (PolicyRefused fault) = codes "policy line " ++ (decimal fault.line ++ (codes " fault " ++ decimal (kind_number fault.kind)))
 text_of (ScriptRefused fault) = codes "script line " ++ (decimal fault.line ++ (codes " fault " ++ decimal (script.kind_number fault.kind)))
 text_of (ScheduleRefused fault) = codes "schedule line " ++ (decimal fault.line ++ (codes " fault " ++ decimal (schedule.kind_number fault.kind)))
@@ -38,6 +51,9 @@ text_of (ReadFault which) = codes "read fault in file " ++ decimal which
 text_of WriteFault = codes "write fault"
 text_of (Unfinished target thread) = codes "unfinished: target " ++ (decimal target ++ (codes " thread " ++ decimal thread))
 text_of NoMemory = codes "no memory"
+text_of (LinksRefused fault) = codes "links line " ++ (decimal fault.line ++ (codes " fault " ++ decimal (links.kind_number fault.kind)))
+text_of (MovesRefused fault) = codes "moves line " ++ (decimal fault.line ++ (codes " fault " ++ decimal (moves.kind_number fault.kind)))
+text_of (AuditNo refuted) = codes "audit line " ++ (decimal refuted.line ++ (codes " clause " ++ decimal refuted.clause))
 
 -- the line of a status on standard error, except for its end
 abbrev pub line_of : Status → List ℕ
@@ -55,17 +71,24 @@ abbrev pub name_at : ℕ → List (List ℕ) → List ℕ
 name_at n [] = []
 name_at n (name ∷ names) = if n == 1 then name else name_at (n - 1) names
 
--- What is written on standard error for a status of a command with files of these names, where this line of a text is shown: what was wrong, and if it is the fault of
--- a text, the place and the line
+-- what is written on standard error for a status of a command with files of these names, where this line of a text is shown: what was wrong, and if it is the
+-- fault of a text, the place and the line. For a fault of the arguments these are told too
+abbrev pub message_by : List (List ℕ) → List (List ℕ) → Status → Option (List ℕ) → List ℕ
+message_by words names Done shown = []
+message_by words names (Usage fault) shown = usage_message (fault_of fault) words
+message_by words names (PolicyRefused fault) shown = policy_message (name_at 1 names) fault (or_empty shown)
+message_by words names (ScriptRefused fault) shown = script_message (name_at 2 names) fault (or_empty shown)
+message_by words names (ScheduleRefused fault) shown = schedule_message (name_at 3 names) fault (or_empty shown)
+message_by words names (LinksRefused fault) shown = link_message (name_at 3 names) fault (or_empty shown)
+message_by words names (MovesRefused fault) shown = move_message (name_at 3 names) fault (or_empty shown)
+message_by words names (AuditNo refuted) shown = audit_message (name_at 3 names) refuted.line refuted.clause shown
+message_by words names (Missing n) shown = end_message (end.Missing n) (name_at n names)
+message_by words names (TooLong n) shown = end_message (end.TooLong n) (name_at n names)
+message_by words names (ReadFault n) shown = end_message (end.ReadFault n) (name_at n names)
+message_by words names WriteFault shown = end_message end.WriteFault []
+message_by words names (Unfinished target thread) shown = end_message (end.Unfinished target thread) []
+message_by words names NoMemory shown = end_message end.NoMemory []
+
+-- what is written for a status with which these arguments ended
 abbrev pub message_of : List (List ℕ) → Status → Option (List ℕ) → List ℕ
-message_of names Done shown = []
-message_of names Usage shown = line_of Usage ++ codes "\n"
-message_of names (PolicyRefused fault) shown = policy_message (name_at 1 names) fault (or_empty shown)
-message_of names (ScriptRefused fault) shown = script_message (name_at 2 names) fault (or_empty shown)
-message_of names (ScheduleRefused fault) shown = schedule_message (name_at 3 names) fault (or_empty shown)
-message_of names (Missing n) shown = end_message (end.Missing n) (name_at n names)
-message_of names (TooLong n) shown = end_message (end.TooLong n) (name_at n names)
-message_of names (ReadFault n) shown = end_message (end.ReadFault n) (name_at n names)
-message_of names WriteFault shown = end_message end.WriteFault []
-message_of names (Unfinished target thread) shown = end_message (end.Unfinished target thread) []
-message_of names NoMemory shown = end_message end.NoMemory []
+message_of words status shown = message_by words (files_for (command_of words)) status shown

@@ -1,6 +1,7 @@
 -- Laws of how commands end over files whose contents are known.
 use Rattle.std.specs.Prelude.{◌≡◌, ◌≢◌, ◌⊎◌, ℕ, ◌≤◌, List, length, map, Some, IfSome, Result}
 use Rattle.sb_commands.specs.Commands.{Command}
+use Rattle.sb_commands.specs.declared.usage_faults.UsageFault.{UsageFault}
 use Rattle.sb_outside.specs.Outside.{Held, Rose}
 use Rattle.sb_top.specs.Contents.{Refusal, refused}
 use Rattle.sb_top.specs.Effects.{Effect}
@@ -28,7 +29,7 @@ module _ (G S : Type 0) where
       → IsPlainEnding meaning names e o → e.held ≡ Some held → file_of o.status ≡ Some n → ((m : ℕ) → o.status ≢ ReadFault m)
       → IsMeant (meaning (contents_of held names)) e o
 
-  -- Usage comes of no command, and a status that names a file names one of the command
+  -- a command does not end with Usage, and a status that names a file names one of the command
   abbrev pub StatusesAreOfCommands : Type 0
   StatusesAreOfCommands = (command : Command) (e : Effect G S) (o : Outcome) → IsEnding (meaning_of command) (files_of command) e o
-      → (o.status ≢ Usage) × IfSome (file_of o.status) (λ n. (1 ≤ n) × (n ≤ length (files_of command)))
+      → ((fault : UsageFault) → o.status ≢ Usage fault) × IfSome (file_of o.status) (λ n. (1 ≤ n) × (n ≤ length (files_of command)))

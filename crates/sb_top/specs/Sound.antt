@@ -1,5 +1,6 @@
 -- What the report of a run says of its script, whatever the order of the steps was.
-use Rattle.std.specs.Prelude.{◌≡◌, ◌*◌, true, length, map, List, Option, None, IfSome, Ok}
+use Rattle.std.specs.Prelude.{◌≡◌, ◌*◌, length, map, List, None, IfSome, Ok}
+use Rattle.sb_audit.specs.Converse.{IsAuditedYes, IsPrintable}
 use Rattle.sb_book.specs.Histories.{setting_of, IsHistory}
 use Rattle.sb_core.specs.Fits.{Fits}
 use Rattle.sb_core.specs.Origins.{IsSourced}
@@ -13,12 +14,13 @@ use Rattle.sb_statements.specs.declared.schedules.Schedule.{Schedule}
 use Rattle.sb_statements.specs.declared.scripts.Script.{Script}
 use Rattle.sb_top.specs.Ends.{Contents, End, IsOrderOf, Meaning, OnThreads, Plain, ScriptRun}
 use Rattle.sb_top.specs.Replay.{whole_run}
-use Rattle.sb_top.specs.Top.{meant}
+use Rattle.sb_top.specs.Top.{meaning_of}
 
 -- What a run reports: its entries are a legal history, which led to its namespace; each result is that of the statement at its place; each
 -- target has 65 words for each channel; and no word of it is invented. If no thread is unfinished the report fits the script: there is one
--- result for each statement, each thread has its own replies, each once, each result suits its statement, and so do the words; and a channel has
--- no more entries than calls that were handed over there and statements that made it ready
+-- result for each statement, each thread has its own replies, each once, each result suits its statement, and so do the words; a channel has
+-- no more entries than calls that were handed over there and statements that made it ready; and an audit of the report's transcript says yes, if
+-- the report can be printed, as each that the program holds
 pub record IsSoundRun (policies : List Policy) (script : Script) (r : Ran) : Type 0 where
   pub history : IsHistory (record { setting = setting_of policies script; space = r.report.kernel; entries = r.report.entries })
   pub results : ResultsFit script r.report.results
@@ -26,6 +28,7 @@ pub record IsSoundRun (policies : List Policy) (script : Script) (r : Ran) : Typ
   pub sourced : IsSourced script r.report
   pub fits : r.unfinished ≡ None → Fits policies script r.report
   pub few : r.unfinished ≡ None → AreFew script r.report
+  pub audited : r.unfinished ≡ None → IsPrintable r.report → IsAuditedYes policies script r.report
 
 -- so is each run
 abbrev pub RunsAreSound : Type 0
@@ -43,4 +46,4 @@ AreEndsSound (OnThreads meaning) = (order : Schedule) (contents : Contents) (end
 
 -- so it is for each command
 abbrev pub ReportsAreSound : Type 0
-ReportsAreSound = (command : Option Command) → AreEndsSound (meant command)
+ReportsAreSound = (command : Command) → AreEndsSound (meaning_of command)

@@ -11,7 +11,7 @@ pub fn exit_code(status: Status) -> u8
 {
     match status {
         Status::Done => 0,
-        Status::Usage => 2,
+        Status::Usage(_) => 2,
         Status::PolicyRefused(_) => 3,
         Status::ScriptRefused(_) => 4,
         Status::ScheduleRefused(_) => 5,
@@ -21,6 +21,9 @@ pub fn exit_code(status: Status) -> u8
         Status::WriteFault => 9,
         Status::Unfinished { .. } => 10,
         Status::NoMemory => 11,
+        Status::LinksRefused(_) => 12,
+        Status::MovesRefused(_) => 13,
+        Status::AuditNo(_) => 14,
     }
 }
 
@@ -37,8 +40,8 @@ impl fmt::Display for Complaint {
     fn fmt<W: fmt::Write>(&self, f: &mut fmt::Formatter<W>) -> fmt::Result {
         match self.status {
             Status::Done => f.write_str("sandbox: done"),
-            Status::Usage => f.write_str(
-                "sandbox: usage: check POLICY, replay POLICY SCRIPT [SCHEDULE], run POLICY SCRIPT [--workers N], make SEED TARGETS CALLS",
+            Status::Usage(_) => f.write_str(
+                "sandbox: usage: check POLICY, replay POLICY SCRIPT [SCHEDULE], run POLICY SCRIPT [--workers N], make SEED TARGETS CALLS, linked POLICY SCRIPT LINKS, dup POLICY SCRIPT MOVES, local POLICY SCRIPT [SCHEDULE], audit POLICY SCRIPT TRANSCRIPT",
             ),
             Status::PolicyRefused(fault) => {
                 let line = fault.line;
@@ -54,6 +57,21 @@ impl fmt::Display for Complaint {
                 let line = fault.line;
                 let number = fault.kind.number();
                 write!(f, "sandbox: schedule line {line} fault {number}")
+            }
+            Status::LinksRefused(fault) => {
+                let line = fault.line;
+                let number = fault.kind.number();
+                write!(f, "sandbox: links line {line} fault {number}")
+            }
+            Status::AuditNo(refuted) => {
+                let line = refuted.line;
+                let clause = refuted.clause;
+                write!(f, "sandbox: audit line {line} clause {clause}")
+            }
+            Status::MovesRefused(fault) => {
+                let line = fault.line;
+                let number = fault.kind.number();
+                write!(f, "sandbox: moves line {line} fault {number}")
             }
             Status::Missing { which } => write!(f, "sandbox: missing file {which}"),
             Status::TooLong { which } => write!(f, "sandbox: file {which} too long"),

@@ -1,11 +1,14 @@
 // Laws of how a command ends, of reports, and of totals. None of these functions does anything: each contract is a law.
+ghost use Rattle.sb_top.specs.Audits.{ReplaysAreAudited};
 ghost use Rattle.sb_top.specs.Laws.{RefusalsAreMeant, StatusesAreOfCommands, WorkComesToItsEnd};
 ghost use Rattle.sb_top.specs.Orders.{OrdersAreReplayed, ThreadedRunsAreReplayed};
 ghost use Rattle.sb_top.specs.Sound.{ReportsAreSound, RunsAreSound};
 ghost use Rattle.sb_top.specs.Totals.{TotalsAreOfVerdicts};
 
+use sb_audit::reports_that_fit_are_audited;
 use sb_block::blocks_come_back;
 use sb_core::{no_block_is_invented, runs_are_legal, runs_are_whole, runs_fit, steps_are_folds};
+use sb_local::thinned_scripts_are_sound;
 use sb_ruletext::read_policies_are_well_made;
 use sb_scheduletext::{
     read_schedules_are_bounded, written_schedules_are_read, written_schedules_are_short,
@@ -23,7 +26,7 @@ pub fn refusals_are_meant<G, S>()
     ensures { RefusalsAreMeant G S }
 {}
 
-/// Usage comes of arguments that are no command alone, and a status that names a file names one of the command, by its place.
+/// A command does not end with Usage, and a status that names a file names one of the command, by its place.
 pub fn statuses_are_of_commands<G, S>()
     ensures { StatusesAreOfCommands G S }
 {}
@@ -37,9 +40,10 @@ pub fn runs_are_sound()
     runs_are_whole();
     runs_fit();
     no_block_is_invented();
+    reports_that_fit_are_audited();
 }
 
-/// So is the run of each end of a command: of `replay`, and of `run` and `make` whatever the order of the steps was.
+/// So is the run of each end of a command: of `replay`, `dup` and `local`, and of `run` and `make` whatever the order of the steps was.
 pub fn reports_are_sound()
     ensures { ReportsAreSound }
 {
@@ -47,6 +51,14 @@ pub fn reports_are_sound()
     read_policies_are_well_made();
     read_scripts_are_ready();
     read_schedules_are_bounded();
+    thinned_scripts_are_sound();
+}
+
+/// What `replay` writes if it is done passes an audit under the policies and the script that it read.
+pub fn replays_are_audited()
+    ensures { ReplaysAreAudited }
+{
+    reports_are_sound();
 }
 
 /// If each statement of a script is a call and every channel is clean, the totals of each report that fits the script are those that the

@@ -1,26 +1,36 @@
 // How a command ends.
 
+use sb_audit::Refuted;
 use sb_book::Report;
+use sb_commands::UsageFault;
+use sb_dup::MoveFault;
+use sb_link::LinkFault;
 use sb_outside::Bytes;
 use sb_ruletext::PolicyFault;
 use sb_scheduletext::ScheduleFault;
 use sb_scripttext::ScriptFault;
 
 /// How a command ended. Files are numbered by their place in the command, from 1.
-#[derive(Clone, Copy, Debug)]
+#[derive(Clone, Copy)]
 pub enum Status {
     /// All was put.
     Done,
     /// The run leaves a thread unfinished: the first such one is this thread of this target, both numbered from 0.
     Unfinished { target: u32, thread: u32 },
-    /// The arguments are no command.
-    Usage,
+    /// The arguments are no command, and this is their first fault.
+    Usage(UsageFault),
     /// The text of the policies has this fault, and none before it.
     PolicyRefused(PolicyFault),
     /// The first fault of the text of the script.
     ScriptRefused(ScriptFault),
     /// The first fault of the text of the schedule.
     ScheduleRefused(ScheduleFault),
+    /// The first fault of the text of the links.
+    LinksRefused(LinkFault),
+    /// The first fault of the text of the moves.
+    MovesRefused(MoveFault),
+    /// The transcript is refuted at this line by this clause.
+    AuditNo(Refuted),
     /// There is no such file.
     Missing { which: u8 },
     /// The file has more than 4,194,304 bytes.

@@ -8,7 +8,7 @@ ghost use Rattle.sb_scripttext.specs.ScriptTexts as scripts;
 ghost use Rattle.sb_statements.specs.Actors.{is_step_there};
 ghost use Rattle.sb_commands.specs.Commands.{named};
 ghost use Rattle.sb_top.specs.Coming.{GivesBy, IsCausedBy, IsRead, IsScheduled};
-ghost use Rattle.sb_top.specs.Contents.{most_bytes, no_schedule, policies_by, policies_in, refused, refused_at, schedule_by, schedule_in, script_by, script_in, status_of, text_in};
+ghost use Rattle.sb_top.specs.Contents.{most_bytes, no_schedule, policies_by, policies_in, refused, refused_at, schedule_by, schedule_in, script_by, script_in, status_of, text_in, text_within};
 ghost use Rattle.sb_top.specs.Outcomes.{IsRefusal};
 ghost use Rattle.sb_top.specs.Replay.{listed};
 ghost use Rattle.sb_top.specs.declared.outcomes.Status.TheVariants.{NoMemory};
@@ -40,8 +40,8 @@ fn refused_by(fault: FileFault, which: u8) -> Refused
     }
 }
 
-// The refusal at a line of a text, which is shown with it.
-fn refused_at(alloc: Global, line: u32, text: &[u8], status: Status) -> Refused
+/// The refusal at a line of a text, which is shown with it.
+pub fn refused_at(alloc: Global, line: u32, text: &[u8], status: Status) -> Refused
     requires { IsRefusal status }
     ensures { (result ≡ refused_at line text.now status) ⊎ (result ≡ refused NoMemory) }
 {
@@ -54,8 +54,29 @@ fn refused_at(alloc: Global, line: u32, text: &[u8], status: Status) -> Refused
     }
 }
 
-// The bytes of file `which`.
-fn text_in<F: Files>(
+/// The bytes of file `which`, which are at most `most`.
+pub fn text_within<F: Files>(
+    alloc: Global,
+    files: &mut F,
+    name: &str,
+    which: u8,
+    most: u64,
+) -> Result<Vec<u8>, Refused>
+    ensures kept { F.held files.new ≡ F.held files.old }
+    ensures counted { F.faults files.old ≤ F.faults files.new }
+    ensures ok_count { OnOk result (F.faults files.new ≡ F.faults files.old) }
+    ensures read { IsRead (λ text. text.items) which (text_within most which) (F.held files.old) name.now result }
+    ensures caused { IsCausedBy (F.held files.old) (Rose (F.faults files.old) (F.faults files.new)) result }
+    ensures short { IfOk result (λ text. length text.items ≤ most) }
+{
+    match files.read(alloc, name, most) {
+        Ok(text) => Ok(text),
+        Err(fault) => Err(refused_by(fault, which)),
+    }
+}
+
+/// The bytes of file `which`, which are at most 4,194,304.
+pub fn text_in<F: Files>(
     alloc: Global,
     files: &mut F,
     name: &str,
@@ -68,10 +89,7 @@ fn text_in<F: Files>(
     ensures caused { IsCausedBy (F.held files.old) (Rose (F.faults files.old) (F.faults files.new)) result }
     ensures short { IfOk result (λ text. length text.items ≤ most_bytes) }
 {
-    match files.read(alloc, name, MOST_BYTES) {
-        Ok(text) => Ok(text),
-        Err(fault) => Err(refused_by(fault, which)),
-    }
+    text_within(alloc, files, name, which, MOST_BYTES)
 }
 
 // The policies of a text.
@@ -147,8 +165,8 @@ pub fn script_in<F: Files>(
     script_by(alloc, policies, &text)
 }
 
-// The schedule if no file names one.
-fn no_schedule(alloc: Global) -> Schedule
+/// The schedule if no file names one.
+pub fn no_schedule(alloc: Global) -> Schedule
     ensures value { result ≡ no_schedule }
 {
     Schedule {

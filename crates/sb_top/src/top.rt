@@ -1,25 +1,28 @@
 // The top calls.
-ghost use Rattle.std.specs.Prelude.{◌≡◌, ◌≤◌, [], None, Err, IfSome, IsNone, IsOk, OnOk, is_none, true, false};
-ghost use Rattle.sb_commands.specs.Commands.{command_of, needs_threads, texts};
+ghost use Rattle.std.specs.Prelude.{◌≡◌, ◌≤◌, [], None, IfOk, IfSome, IsNone, IsOk, OnOk, is_none, true};
+ghost use Rattle.sb_commands.specs.Commands.{HasNumbers, Threaded, command_of, needs_threads, plain_of, threaded_of};
+ghost use Rattle.sb_commands.specs.Usage.{texts};
 ghost use Rattle.sb_outside.specs.Outside.{Rose};
-ghost use Rattle.sb_top.specs.Coming.{IsEndCaused, IsFoundBy};
-ghost use Rattle.sb_top.specs.Contents.{refused};
+ghost use Rattle.sb_top.specs.Coming.{IsEndCaused, IsFound, IsFoundOnThreads};
+ghost use Rattle.sb_top.specs.Contents.{refusal_of};
 ghost use Rattle.sb_top.specs.Effects.{IsOrderly, effect};
-ghost use Rattle.sb_top.specs.Endings.{IsEnding};
+ghost use Rattle.sb_top.specs.Endings.{IsPlainEnding, IsThreadedEnding};
 ghost use Rattle.sb_top.specs.Outcomes.{IsSilent};
 ghost use Rattle.sb_top.specs.Putting.{IsFinished};
-ghost use Rattle.sb_top.specs.Top.{files_for, meant};
-ghost use Rattle.sb_top.specs.declared.outcomes.Status.TheVariants.{Usage};
+ghost use Rattle.sb_top.specs.Top.{EndsAsMeant, files_for, is_threaded_name, plain_end, plain_files, threaded_end, threaded_files};
 
+use crate::audit::audit_transcript;
 use crate::check::check_policy;
+use crate::dup::dup_script;
 use crate::ends::CommandEnd;
+use crate::linked::linked_script;
+use crate::local::local_script;
 use crate::make::make_script;
 use crate::outcomes::{Outcome, Status};
 use crate::refusals::Refused;
 use crate::replay::replay_script;
 use crate::run::run_script;
-use sb_commands::{CommandWords, command_of, needs_threads};
-use sb_items::NoMemory;
+use sb_commands::{CommandWords, PlainWords, ThreadedWords, UsageFault, command_of};
 use sb_outside::{Files, Gate, Sink};
 use std::alloc::Global;
 use std::sync::Wait;
@@ -40,33 +43,46 @@ fn finish<K: Sink>(found: Result<CommandEnd, Refused>, out: &mut K) -> Outcome
     }
 }
 
-// Carries out a command that runs on no threads. Arguments that are no command are refused.
+// Carries out a command that runs without threads.
 fn carry_out<F: Files>(
     alloc: Global,
-    words: &[String],
+    command: PlainWords<'_>,
     files: &mut F,
 ) -> Result<CommandEnd, Refused>
-    requires { needs_threads (command_of (texts words.now)) ≡ false }
     ensures kept { F.held files.new ≡ F.held files.old }
     ensures counted { F.faults files.old ≤ F.faults files.new }
     ensures ok_count { OnOk result (F.faults files.new ≡ F.faults files.old) }
-    ensures found { IsFoundBy (meant (command_of (texts words.now))) (files_for (command_of (texts words.now))) (F.held files.old) result }
+    ensures found { IsFound (plain_end (plain_of command.entry)) (plain_files (plain_of command.entry)) (F.held files.old) result }
     ensures caused { IsEndCaused (F.held files.old) (Rose (F.faults files.old) (F.faults files.new)) result }
-    ensures unread { files_for (command_of (texts words.now)) ≡ [] → files.new ≡ files.old }
-    ensures usage { command_of (texts words.now) ≡ None → result ≡ Err (refused Usage) }
+    ensures unread { plain_files (plain_of command.entry) ≡ [] → files.new ≡ files.old }
 {
-    match command_of(alloc, words)? {
-        Some(CommandWords::Check { policy }) => check_policy(alloc, files, policy),
-        Some(
-            CommandWords::Replay {
-                policy,
-                script,
-                schedule,
-            },
-        ) => replay_script(alloc, files, policy, script, schedule),
-        // These run on threads.
-        Some(CommandWords::Run { .. } | CommandWords::Make { .. }) => unreachable!(),
-        None => Err(Refused::new(Status::Usage)),
+    match command {
+        PlainWords::Check { policy } => check_policy(alloc, files, policy),
+        PlainWords::Replay {
+            policy,
+            script,
+            schedule,
+        } => replay_script(alloc, files, policy, script, schedule),
+        PlainWords::Linked {
+            policy,
+            script,
+            links,
+        } => linked_script(alloc, files, policy, script, links),
+        PlainWords::Dup {
+            policy,
+            script,
+            moves,
+        } => dup_script(alloc, files, policy, script, moves),
+        PlainWords::Local {
+            policy,
+            script,
+            schedule,
+        } => local_script(alloc, files, policy, script, schedule),
+        PlainWords::Audit {
+            policy,
+            script,
+            transcript,
+        } => audit_transcript(alloc, files, policy, script, transcript),
     }
 }
 
@@ -74,35 +90,92 @@ fn carry_out<F: Files>(
 fn carry_out_on_threads<R: Threads + Wait + Sync, F: Files, G: Gate>(
     rt: &R,
     alloc: Global,
-    words: &[String],
+    command: ThreadedWords<'_>,
     files: &mut F,
     gate: &G,
 ) -> Result<CommandEnd, Refused>
-    requires { needs_threads (command_of (texts words.now)) ≡ true }
+    requires { HasNumbers (Threaded (threaded_of command)) }
     ensures kept { F.held files.new ≡ F.held files.old }
     ensures counted { F.faults files.old ≤ F.faults files.new }
     ensures ok_count { OnOk result (F.faults files.new ≡ F.faults files.old) }
-    ensures found { IsFoundBy (meant (command_of (texts words.now))) (files_for (command_of (texts words.now))) (F.held files.old) result }
+    ensures found { IsFoundOnThreads (threaded_end (threaded_of command.entry)) (threaded_files (threaded_of command.entry)) (F.held files.old) result }
     ensures caused { IsEndCaused (F.held files.old) (Rose (F.faults files.old) (F.faults files.new)) result }
-    ensures unread { files_for (command_of (texts words.now)) ≡ [] → files.new ≡ files.old }
+    ensures unread { threaded_files (threaded_of command.entry) ≡ [] → files.new ≡ files.old }
 {
-    match command_of(alloc, words)? {
-        Some(
-            CommandWords::Run {
-                policy,
-                script,
-                workers,
-            },
-        ) => run_script(rt, alloc, files, policy, script, workers, gate),
-        Some(
-            CommandWords::Make {
-                seed,
-                targets,
-                calls,
-            },
-        ) => Ok(make_script(rt, alloc, seed, targets, calls, gate)?),
-        // Other commands run on no threads.
-        _ => unreachable!(),
+    match command {
+        ThreadedWords::Run {
+            policy,
+            script,
+            workers,
+        } => run_script(rt, alloc, files, policy, script, workers, gate),
+        ThreadedWords::Make {
+            seed,
+            targets,
+            calls,
+        } => Ok(make_script(rt, alloc, seed, targets, calls, gate)?),
+    }
+}
+
+// Carries out a command that runs without threads, and puts what it comes to.
+fn plain_outcome<F: Files, K: Sink>(
+    alloc: Global,
+    command: PlainWords<'_>,
+    files: &mut F,
+    out: &mut K,
+) -> Outcome
+    ensures ends { IsPlainEnding (plain_end (plain_of command.entry)) (plain_files (plain_of command.entry))
+        (effect F.held F.faults K.written K.pending K.faults files.old files.new out.old out.new) result }
+    ensures orderly { IsOrderly (plain_files (plain_of command.entry))
+        (effect F.held F.faults K.written K.pending K.faults files.old files.new out.old out.new) result }
+{
+    let found = carry_out(alloc, command, files);
+    finish(found, out)
+}
+
+// The same of a command that runs on threads.
+fn threaded_outcome<R: Threads + Wait + Sync, F: Files, K: Sink, G: Gate>(
+    rt: &R,
+    alloc: Global,
+    command: ThreadedWords<'_>,
+    files: &mut F,
+    out: &mut K,
+    gate: &G,
+) -> Outcome
+    requires { HasNumbers (Threaded (threaded_of command)) }
+    ensures ends { IsThreadedEnding (threaded_end (threaded_of command.entry)) (threaded_files (threaded_of command.entry))
+        (effect F.held F.faults K.written K.pending K.faults files.old files.new out.old out.new) result }
+    ensures orderly { IsOrderly (threaded_files (threaded_of command.entry))
+        (effect F.held F.faults K.written K.pending K.faults files.old files.new out.old out.new) result }
+{
+    let found = carry_out_on_threads(rt, alloc, command, files, gate);
+    finish(found, out)
+}
+
+// The outcome of arguments in which no command was found.
+fn outcome_without(refused: sb_items::Refused<UsageFault>) -> Outcome
+    ensures { result ≡ record { status = (refusal_of refused).status; shown = None; report = None } }
+{
+    match refused {
+        sb_items::Refused::Fault(fault) => Refused::new(Status::Usage(fault)).into_outcome(),
+        sb_items::Refused::NoMemory => Refused::new(Status::NoMemory).into_outcome(),
+    }
+}
+
+// Whether a name is that of a command that runs on threads.
+fn is_threaded_name(name: &str) -> bool
+    ensures { result ≡ is_threaded_name name.now }
+{
+    name == "run" || name == "make"
+}
+
+// Whether the first argument is such a name.
+#[tactic(auto, using(crate::proofs::Threaded::name_tells))]
+fn names_threads(words: &[String]) -> bool
+    ensures { IsOk (command_of (texts words.now)) → result ≡ needs_threads (command_of (texts words.now)) }
+{
+    match words.split_first() {
+        Some((name, _)) => is_threaded_name(name.as_str()),
+        None => false,
     }
 }
 
@@ -119,23 +192,30 @@ pub fn plain_top<F: Files, K: Sink>(
     ensures unwritten { IsNone result → out.new ≡ out.old }
 
     // The command ends as it means over the contents of its files: with the status, the report, the line that is shown and the text that are given by
-    // its meaning; or a file of it that was reached was not read, or the output failed where a text was due, or there was no memory.
-    ensures ends { IfSome result (λ o. IsEnding (meant (command_of (texts words.now))) (files_for (command_of (texts words.now)))
-        (effect F.held F.faults K.written K.pending K.faults files.old files.new out.old out.new) o) }
-
-    // Arguments that are no command end with Usage. That others do not is the law `statuses_are_of_commands`.
-    ensures usage { IfSome result (λ o. command_of (texts words.now) ≡ None → o.status ≡ Usage) }
+    // its meaning; or a file of it that was reached was not read, or the output failed where a text was due, or there was no memory. Arguments
+    // that are no command end with Usage and their fault.
+    ensures ends { IfSome result (EndsAsMeant (command_of (texts words.now))
+        (effect F.held F.faults K.written K.pending K.faults files.old files.new out.old out.new)) }
 
     // What the files hold stays, no count of faults falls, a command without files reads nothing, nothing is put except with Done and
     // WriteFault, and with Done nothing is pending.
-    ensures orderly { IfSome result (λ o. IsOrderly (files_for (command_of (texts words.now)))
-        (effect F.held F.faults K.written K.pending K.faults files.old files.new out.old out.new) o) }
+    ensures orderly { IfSome result (IsOrderly (files_for (command_of (texts words.now)))
+        (effect F.held F.faults K.written K.pending K.faults files.old files.new out.old out.new)) }
 {
-    if needs_threads(words) {
-        return None;
+    match command_of(alloc, words) {
+        Ok(CommandWords::Plain(command)) => Some(plain_outcome(alloc, command, files, out)),
+        Ok(CommandWords::Threaded(_)) => None,
+        Err(sb_items::Refused::Fault(fault)) => {
+            let refused = sb_items::Refused::Fault(fault);
+            Some(outcome_without(refused))
+        }
+        Err(sb_items::Refused::NoMemory) => {
+            if names_threads(words) {
+                return None;
+            }
+            Some(outcome_without(sb_items::Refused::NoMemory))
+        }
     }
-    let found = carry_out(alloc, words, files);
-    Some(finish(found, out))
 }
 
 /// All that the program does, over any files and any output: reads the arguments, and carries out the command that they are. A command that
@@ -150,21 +230,21 @@ pub fn broker_top<R: Threads + Wait + Sync, F: Files, K: Sink, G: Gate>(
 ) -> Outcome
     // The command ends as it means over the contents of its files: with the status, the report, the line that is shown and the text that are given by
     // its meaning; or a file of it that was reached was not read, or the output failed where a text was due, or there was no memory. A command
-    // that runs on threads has such an end for some order of steps that leaves no thread unfinished.
-    ensures ends { IsEnding (meant (command_of (texts words.now))) (files_for (command_of (texts words.now)))
+    // that runs on threads has such an end for some order of steps that leaves no thread unfinished. Arguments that are no command end with Usage
+    // and their fault.
+    ensures ends { EndsAsMeant (command_of (texts words.now))
         (effect F.held F.faults K.written K.pending K.faults files.old files.new out.old out.new) result }
-
-    // Arguments that are no command end with Usage. That others do not is the law `statuses_are_of_commands`.
-    ensures usage { command_of (texts words.now) ≡ None → result.status ≡ Usage }
 
     // What the files hold stays, no count of faults falls, a command without files reads nothing, nothing is put except with Done and
     // WriteFault, and with Done nothing is pending.
     ensures orderly { IsOrderly (files_for (command_of (texts words.now)))
         (effect F.held F.faults K.written K.pending K.faults files.old files.new out.old out.new) result }
 {
-    if needs_threads(words) {
-        let found = carry_out_on_threads(rt, alloc, words, files, gate);
-        return finish(found, out);
+    match command_of(alloc, words) {
+        Ok(CommandWords::Plain(command)) => plain_outcome(alloc, command, files, out),
+        Ok(CommandWords::Threaded(command)) => threaded_outcome(
+            rt, alloc, command, files, out, gate,
+        ),
+        Err(refused) => outcome_without(refused),
     }
-    plain_top(alloc, words, files, out).unwrap()
 }

@@ -1,7 +1,7 @@
 use Rattle.std.proofs.Common.{◌≡◌, ◌∷◌, [], ap, refl, sym, subst, rules, List, ℕ, None}
 use Rattle.std.specs.Prelude.{Result, Ok, Err}
-use Rattle.sb_top.specs.Check.{check_end, checked, printed_end}
-use Rattle.sb_top.specs.Coming.{IsFound, ReportedEnd, reported}
+use Rattle.sb_top.specs.Check.{check_end}
+use Rattle.sb_top.specs.Coming.{IsFound, ReportedEnd}
 use Rattle.sb_top.specs.Ends.{Plain}
 use Rattle.sb_top.specs.Contents.{Refusal, refused}
 use Rattle.sb_top.specs.declared.outcomes.Status.TheVariants.{NoMemory}

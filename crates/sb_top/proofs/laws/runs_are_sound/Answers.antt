@@ -4,4 +4,4 @@ use Rattle.sb_top.proofs.laws.runs_are_sound.Goals as goal
 pub returns : goal.returns
 returns c =
     runs_are_sound c.runs_are_legal.ensures c.runs_are_whole.ensures.results c.runs_are_whole.ensures.words c.runs_fit.ensures
-    c.no_block_is_invented.ensures.sources c.no_block_is_invented.ensures.few
+    c.no_block_is_invented.ensures.sources c.no_block_is_invented.ensures.few c.reports_that_fit_are_audited.ensures

@@ -1,14 +1,16 @@
-use Rattle.sb_commands.specs.Commands.{command_of, texts}
-use Rattle.sb_outside.specs.Outside.{Held, Rose}
-use Rattle.std.proofs.Common.{◌≡◌, subst, Option}
-use Rattle.sb_top.specs.Coming.{IsEndCaused, IsFoundBy}
+use Rattle.std.proofs.Common.{◌≡◌, refl, rules, subst}
+use Rattle.std.specs.Prelude.{Err}
+use Rattle.sb_commands.specs.Commands.{IsFound, command_of}
+use Rattle.sb_commands.specs.Usage.{texts}
+use Rattle.sb_items.specs.declared.refusals.Refused.TheVariants.{NoMemory}
 use Rattle.sb_top.specs.Effects.{effect}
-use Rattle.sb_top.specs.Top.{files_for, meant}
-use Rattle.sb_top.proofs.Finishing.{ending}
+use Rattle.sb_top.proofs.Finishing.{not_found}
 use Rattle.sb_top.proofs.top.plain_top.Goals as goal
 
-pub returns-clause-ends : goal.returns-clause-ends
-returns-clause-ends g c =
-    let command = command_of (texts c.args.words.now) in
-    ending (effect g.F.Files.held g.F.Files.faults g.K.Sink.written g.K.Sink.pending g.K.Sink.faults c.args.files.now c.carry_out-found.new.files c.args.out.now c.finish.new.out)
-    c.finish.result (meant command) (files_for command) c.carry_out-found.result c.carry_out-found.ensures.found c.finish.ensures.finished c.carry_out-found.ensures.caused
+pub returns-else-names_threads-clause-ends : goal.returns-else-names_threads-clause-ends
+returns-else-names_threads-clause-ends g c =
+    let wanted = command_of (texts c.args.words.now) in
+    let is : c.command_of.result ≡ Err NoMemory = search rules in
+    let exact : IsFound wanted (Err NoMemory) = subst (IsFound wanted) is c.command_of.ensures.exact in
+    not_found (effect g.F.Files.held g.F.Files.faults g.K.Sink.written g.K.Sink.pending g.K.Sink.faults c.args.files.now c.args.files.now c.args.out.now c.args.out.now)
+    c.outcome_without-in-Err-NoMemory.result wanted NoMemory exact c.outcome_without-in-Err-NoMemory.ensures refl

@@ -1,0 +1,83 @@
+-- Worked cases: which command arguments are, and the fault of others.
+use Rattle.std.proofs.Common.{◌≡◌, refl, codes, [], ◌∷◌, Some, None}
+use Rattle.std.specs.Prelude.{Ok, Err}
+use Rattle.sb_commands.specs.Commands.{Plain, Threaded, Check, Replay, Linked, Dup, Local, Audit, Run, command_of}
+use Rattle.sb_commands.specs.Forms.{Choice}
+use Rattle.sb_commands.specs.Usage.{NoCommand, UnknownCommand, UnknownOption, OptionTwice, OptionBetween, NoOptionNumber, BadOptionNumber, NoFileName, BadNumber, ExtraWord, Missing}
+use Rattle.sb_commands.specs.UsageMessages.{fault_text, usage_line}
+
+abbrev workers : Choice
+workers = record { flag = codes "workers"; number = record { name = codes "N"; low = 1; high = 8 }; default = 2 }
+
+check_is_read : command_of (codes "check" ∷ codes "p" ∷ []) ≡ Ok (Plain (Check (codes "p")))
+check_is_read = refl
+
+schedule_is_read : command_of (codes "replay" ∷ codes "p" ∷ codes "s" ∷ codes "c" ∷ []) ≡ Ok (Plain (Replay (codes "p") (codes "s") (Some (codes "c"))))
+schedule_is_read = refl
+
+links_are_read : command_of (codes "linked" ∷ codes "p" ∷ codes "s" ∷ codes "l" ∷ []) ≡ Ok (Plain (Linked (codes "p") (codes "s") (codes "l")))
+links_are_read = refl
+
+moves_are_read : command_of (codes "dup" ∷ codes "p" ∷ codes "s" ∷ codes "m" ∷ []) ≡ Ok (Plain (Dup (codes "p") (codes "s") (codes "m")))
+moves_are_read = refl
+
+local_is_read : command_of (codes "local" ∷ codes "p" ∷ codes "s" ∷ []) ≡ Ok (Plain (Local (codes "p") (codes "s") None))
+local_is_read = refl
+
+transcript_is_read : command_of (codes "audit" ∷ codes "p" ∷ codes "s" ∷ codes "t" ∷ []) ≡ Ok (Plain (Audit (codes "p") (codes "s") (codes "t")))
+transcript_is_read = refl
+
+links_missing : command_of (codes "linked" ∷ codes "p" ∷ codes "s" ∷ []) ≡ Err (Missing (codes "LINKS"))
+links_missing = refl
+
+two_workers : command_of (codes "run" ∷ codes "p" ∷ codes "s" ∷ []) ≡ Ok (Threaded (Run (codes "p") (codes "s") 2))
+two_workers = refl
+
+option_first : command_of (codes "run" ∷ codes "--workers" ∷ codes "3" ∷ codes "p" ∷ codes "s" ∷ []) ≡ Ok (Threaded (Run (codes "p") (codes "s") 3))
+option_first = refl
+
+option_last : command_of (codes "run" ∷ codes "p" ∷ codes "s" ∷ codes "--workers=08" ∷ []) ≡ Ok (Threaded (Run (codes "p") (codes "s") 8))
+option_last = refl
+
+nothing : command_of [] ≡ Err NoCommand
+nothing = refl
+
+unknown : command_of (codes "chek" ∷ codes "p" ∷ []) ≡ Err UnknownCommand
+unknown = refl
+
+missing : command_of (codes "replay" ∷ codes "p" ∷ []) ≡ Err (Missing (codes "SCRIPT"))
+missing = refl
+
+extra : command_of (codes "check" ∷ codes "p" ∷ codes "q" ∷ []) ≡ Err (ExtraWord 2)
+extra = refl
+
+given_twice : command_of (codes "run" ∷ codes "--workers" ∷ codes "1" ∷ codes "p" ∷ codes "s" ∷ codes "--workers=2" ∷ []) ≡ Err (OptionTwice 5 workers)
+given_twice = refl
+
+between : command_of (codes "run" ∷ codes "p" ∷ codes "--workers" ∷ codes "2" ∷ codes "s" ∷ []) ≡ Err (OptionBetween 2 workers)
+between = refl
+
+no_number : command_of (codes "run" ∷ codes "p" ∷ codes "s" ∷ codes "--workers" ∷ []) ≡ Err (NoOptionNumber 3 workers)
+no_number = refl
+
+bad_number : command_of (codes "run" ∷ codes "p" ∷ codes "s" ∷ codes "--workers=9" ∷ []) ≡ Err (BadOptionNumber 3 10 workers)
+bad_number = refl
+
+option : command_of (codes "replay" ∷ codes "-x" ∷ []) ≡ Err (UnknownOption 1)
+option = refl
+
+empty_name : command_of (codes "check" ∷ [] ∷ codes "-x" ∷ []) ≡ Err (NoFileName 1 (codes "POLICY"))
+empty_name = refl
+
+too_many_targets : command_of (codes "make" ∷ codes "1" ∷ codes "9" ∷ codes "x" ∷ [])
+    ≡ Err (BadNumber 2 (record { name = codes "TARGETS"; low = 1; high = 8 }))
+too_many_targets = refl
+
+-- ---- texts
+
+usage : usage_line
+    ≡ codes "sandbox: usage: check POLICY, replay POLICY SCRIPT [SCHEDULE], run POLICY SCRIPT [--workers N], make SEED TARGETS CALLS, linked POLICY SCRIPT LINKS, dup POLICY SCRIPT MOVES, local POLICY SCRIPT [SCHEDULE], audit POLICY SCRIPT TRANSCRIPT\n"
+usage = refl
+
+number_missing : fault_text (NoOptionNumber 3 workers) [] ≡ codes "--workers: N is missing"
+number_missing = refl

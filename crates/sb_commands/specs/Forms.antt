@@ -1,0 +1,171 @@
+-- The forms of all commands. This table is the definition of the command line.
+use Rattle.std.specs.Prelude.{ℕ, nat_eq, List, [], ◌∷◌, Option, None, Some, if◌then◌else◌, codes, map, option_map}
+use Rattle.std.specs.Cmp.Lexicographic.{pointwise}
+use Rattle.sb_commands.specs.declared.audit_help.TheConstants as audit
+use Rattle.sb_commands.specs.declared.check_help.TheConstants as check
+use Rattle.sb_commands.specs.declared.dup_help.TheConstants as dup
+use Rattle.sb_commands.specs.declared.forms.CommandForm.{CommandForm}
+use Rattle.sb_commands.specs.declared.forms.CommandHelp.{CommandHelp}
+use Rattle.sb_commands.specs.declared.forms.FormNumber.{FormNumber}
+use Rattle.sb_commands.specs.declared.forms.FormOption.{FormOption}
+use Rattle.sb_commands.specs.declared.forms.FormPlace.{FormPlace}
+use Rattle.sb_commands.specs.declared.forms.FormPlace.TheVariants as place
+use Rattle.sb_commands.specs.declared.help_texts.TheConstants as texts
+use Rattle.sb_commands.specs.declared.linked_help.TheConstants as linked
+use Rattle.sb_commands.specs.declared.local_help.TheConstants as local
+use Rattle.sb_commands.specs.declared.make_help.TheConstants as make
+use Rattle.sb_commands.specs.declared.replay_help.TheConstants as replay
+use Rattle.sb_commands.specs.declared.run_help.TheConstants as run
+
+-- a number from the lowest to the highest, by its name
+pub record Bounded : Type 0 where
+  pub name : List ℕ
+  pub low : ℕ
+  pub high : ℕ
+
+-- what is at a place: the name of a file, or a number
+pub data Place : Type 0 where
+  File : List ℕ → Place
+  Number : Bounded → Place
+
+-- the option `--FLAG N` or `--FLAG=N`, with its number if it is not given
+pub record Choice : Type 0 where
+  pub flag : List ℕ
+  pub number : Bounded
+  pub default : ℕ
+
+-- what the help of a command has beside its form: what there is to know and an example, and parts that come last
+pub record Help : Type 0 where
+  pub about : List ℕ
+  pub after : List (List ℕ)
+
+-- a command: its name, what is at its places, at most three, a file that may be left out, an option, which is before all of these or after
+-- them, what the command does, and its help
+pub record Form : Type 0 where
+  pub name : List ℕ
+  pub places : List Place
+  pub last : Option (List ℕ)
+  pub option : Option Choice
+  pub does : List ℕ
+  pub help : Help
+
+abbrev pub check_form : Form
+check_form = record {
+  name = codes "check";
+  places = File (codes "POLICY") ∷ [];
+  last = None;
+  option = None;
+  does = codes "print the policies of POLICY, and the code by which calls are judged";
+  help = record { about = check.ABOUT.now; after = check.STATUSES.now ∷ [] };
+}
+
+abbrev pub replay_form : Form
+replay_form = record {
+  name = codes "replay";
+  places = File (codes "POLICY") ∷ File (codes "SCRIPT") ∷ [];
+  last = Some (codes "SCHEDULE");
+  option = None;
+  does = codes "run SCRIPT under POLICY as SCHEDULE says, and print the transcript";
+  help = record { about = replay.ABOUT.now; after = texts.BLOCK_FAULTS.now ∷ replay.STATUSES.now ∷ [] };
+}
+
+abbrev pub run_form : Form
+run_form = record {
+  name = codes "run";
+  places = File (codes "POLICY") ∷ File (codes "SCRIPT") ∷ [];
+  last = None;
+  option = Some (record { flag = codes "workers"; number = record { name = codes "N"; low = 1; high = 8 }; default = 2 });
+  does = codes "run SCRIPT under POLICY on threads, and print the transcript";
+  help = record { about = run.ABOUT.now; after = texts.BLOCK_FAULTS.now ∷ run.STATUSES.now ∷ [] };
+}
+
+abbrev pub make_form : Form
+make_form = record {
+  name = codes "make";
+  places =
+      Number (record { name = codes "SEED"; low = 0; high = 0xffffffffffffffff })
+      ∷ Number (record { name = codes "TARGETS"; low = 1; high = 8 })
+      ∷ Number (record { name = codes "CALLS"; low = 1; high = 4096 })
+      ∷ [];
+  last = None;
+  option = None;
+  does = codes "make a script from SEED, run it on threads, and print its totals";
+  help = record { about = make.ABOUT.now; after = make.STATUSES.now ∷ [] };
+}
+
+abbrev pub linked_form : Form
+linked_form = record {
+  name = codes "linked";
+  places = File (codes "POLICY") ∷ File (codes "SCRIPT") ∷ File (codes "LINKS") ∷ [];
+  last = None;
+  option = None;
+  does = codes "answer the calls of SCRIPT under POLICY, with the links of LINKS resolved";
+  help = record { about = linked.ABOUT.now; after = linked.STATUSES.now ∷ [] };
+}
+
+abbrev pub dup_form : Form
+dup_form = record {
+  name = codes "dup";
+  places = File (codes "POLICY") ∷ File (codes "SCRIPT") ∷ File (codes "MOVES") ∷ [];
+  last = None;
+  option = None;
+  does = codes "run SCRIPT under POLICY, then pass handles between targets as MOVES says";
+  help = record { about = dup.ABOUT.now; after = texts.BLOCK_FAULTS.now ∷ dup.STATUSES.now ∷ [] };
+}
+
+abbrev pub local_form : Form
+local_form = record {
+  name = codes "local";
+  places = File (codes "POLICY") ∷ File (codes "SCRIPT") ∷ [];
+  last = Some (codes "SCHEDULE");
+  option = None;
+  does = codes "leave out the calls of SCRIPT that POLICY denies, and run the rest";
+  help = record { about = local.ABOUT.now; after = texts.BLOCK_FAULTS.now ∷ local.STATUSES.now ∷ [] };
+}
+
+abbrev pub audit_form : Form
+audit_form = record {
+  name = codes "audit";
+  places = File (codes "POLICY") ∷ File (codes "SCRIPT") ∷ File (codes "TRANSCRIPT") ∷ [];
+  last = None;
+  option = None;
+  does = codes "check TRANSCRIPT against what the broker promises of SCRIPT under POLICY";
+  help = record { about = audit.ABOUT.now; after = audit.CLAUSES.now ∷ audit.STATUSES.now ∷ [] };
+}
+
+-- all commands
+abbrev pub forms : List Form
+forms = check_form ∷ replay_form ∷ run_form ∷ make_form ∷ linked_form ∷ dup_form ∷ local_form ∷ audit_form ∷ []
+
+-- the first form of this name
+abbrev pub form_in : List Form → List ℕ → Option Form
+form_in [] name = None
+form_in (form ∷ rest) name = if pointwise nat_eq name form.name then Some form else form_in rest name
+
+abbrev pub form_by : List ℕ → Option Form
+form_by name = form_in forms name
+
+-- ---- the forms that the program has
+
+abbrev pub bounded_of : FormNumber → Bounded
+bounded_of n = record { name = n.name.now; low = n.low; high = n.high }
+
+abbrev pub place_of : FormPlace → Place
+place_of (place.File name) = File name.now
+place_of (place.Number number) = Number (bounded_of number)
+
+abbrev pub choice_of : FormOption → Choice
+choice_of o = record { flag = o.flag.now; number = bounded_of o.number; default = o.default }
+
+abbrev pub help_of : CommandHelp → Help
+help_of h = record { about = h.about.now; after = map (λ part. part.now) h.after.now }
+
+abbrev pub form_of : CommandForm → Form
+form_of f = record {
+  name = f.name.now;
+  places = map place_of f.places.now;
+  last = option_map (λ name. name.now) f.last;
+  option = option_map choice_of f.option;
+  does = f.does.now;
+  help = help_of f.help;
+}

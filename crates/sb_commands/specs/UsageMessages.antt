@@ -1,0 +1,98 @@
+-- The message of arguments that are no command.
+use Rattle.std.specs.Prelude.{ℕ, List, [], ◌∷◌, ◌++◌, drop, slice_get, Option, None, Some, codes}
+use Rattle.std.specs.Fmt.{decimal}
+use Rattle.std.specs.List.{flat_map}
+use Rattle.sb_message.specs.Glyphs.{shown_bytes}
+use Rattle.sb_message.specs.Tokens.{quoted_bytes}
+use Rattle.sb_commands.specs.CommandLine.{or_empty}
+use Rattle.sb_commands.specs.Forms.{Bounded, Choice, Form, Place, forms}
+use Rattle.sb_commands.specs.Usage.{Fault, NoCommand, UnknownCommand, UnknownOption, OptionTwice, OptionBetween, NoOptionNumber, BadOptionNumber, NoFileName, BadNumber, ExtraWord, Missing, place_name}
+
+-- ---- the usage line
+
+-- ` NAME`
+abbrev pub place_text : Place → List ℕ
+place_text place = 32 ∷ place_name place
+
+-- ` [NAME]`
+abbrev pub last_text : Option (List ℕ) → List ℕ
+last_text None = []
+last_text (Some name) = codes " [" ++ name ++ codes "]"
+
+-- ` [--FLAG N]`
+abbrev pub choice_text : Option Choice → List ℕ
+choice_text None = []
+choice_text (Some choice) = codes " [--" ++ choice.flag ++ codes " " ++ choice.number.name ++ codes "]"
+
+-- `replay POLICY SCRIPT [SCHEDULE]`
+abbrev pub form_text : Form → List ℕ
+form_text form = form.name ++ flat_map place_text form.places ++ last_text form.last ++ choice_text form.option
+
+-- one form after another
+abbrev pub next_form_text : Form → List ℕ
+next_form_text form = codes ", " ++ form_text form
+
+abbrev pub forms_text : List Form → List ℕ
+forms_text [] = []
+forms_text (form ∷ rest) = form_text form ++ flat_map next_form_text rest
+
+abbrev pub usage_line : List ℕ
+usage_line = codes "sandbox: usage: " ++ forms_text forms ++ codes "\n"
+
+-- ---- what was wrong
+
+-- the argument at a place, as it is shown
+abbrev pub word_at : ℕ → List (List ℕ) → List ℕ
+word_at n words = or_empty (slice_get words n)
+
+abbrev pub quoted_word : ℕ → List (List ℕ) → List ℕ
+quoted_word n words = quoted_bytes (word_at n words)
+
+-- `COMMAND: `
+abbrev pub command_text : List (List ℕ) → List ℕ
+command_text words = shown_bytes (word_at 0 words) ++ codes ": "
+
+-- ` is not a number from LOW to HIGH`
+abbrev pub bounds_text : Bounded → List ℕ
+bounds_text number = codes " is not a number from " ++ decimal number.low ++ codes " to " ++ decimal number.high
+
+-- words and an argument
+abbrev pub unknown_text : List ℕ → ℕ → List (List ℕ) → List ℕ
+unknown_text before at words = before ++ quoted_word at words
+
+-- the command, words, and an argument
+abbrev pub argument_text : List (List ℕ) → List ℕ → ℕ → List ℕ
+argument_text words before at = command_text words ++ before ++ quoted_word at words
+
+-- the command, and a name between words
+abbrev pub name_text : List (List ℕ) → List ℕ → List ℕ → List ℕ → List ℕ
+name_text words before name after = command_text words ++ before ++ name ++ after
+
+-- the command, a name, the argument that is not what the name means, and why
+abbrev pub wrong_text : List (List ℕ) → List ℕ → ℕ → List ℕ → List ℕ
+wrong_text words name at why = name_text words [] name (codes ": ") ++ quoted_word at words ++ why
+
+-- `--FLAG: `
+abbrev pub flag_text : Choice → List ℕ
+flag_text choice = codes "--" ++ choice.flag ++ codes ": "
+
+-- an option, and what is wrong with the name of its number
+abbrev pub number_text : Choice → List ℕ → List ℕ
+number_text choice why = flag_text choice ++ choice.number.name ++ why
+
+abbrev pub fault_text : Fault → List (List ℕ) → List ℕ
+fault_text NoCommand words = codes "a command is missing"
+fault_text UnknownCommand words = unknown_text (codes "unknown command ") 0 words
+fault_text (UnknownOption at) words = argument_text words (codes "unknown option ") at
+fault_text (OptionTwice at choice) words = name_text words (codes "--") choice.flag (codes " is given twice")
+fault_text (OptionBetween at choice) words = name_text words (codes "--") choice.flag (codes " is not allowed between the files")
+fault_text (NoOptionNumber at choice) words = number_text choice (codes " is missing")
+fault_text (BadOptionNumber at skipped choice) words = flag_text choice ++ quoted_bytes (drop skipped (word_at at words)) ++ bounds_text choice.number
+fault_text (NoFileName at name) words = wrong_text words name at (codes " is not a file name")
+fault_text (BadNumber at number) words = wrong_text words number.name at (bounds_text number)
+fault_text (ExtraWord at) words = argument_text words (codes "extra argument ") at
+fault_text (Missing name) words = name_text words [] name (codes " is missing")
+
+-- what was wrong, and last the usage line
+abbrev pub usage_message : Fault → List (List ℕ) → List ℕ
+usage_message fault words = codes "sandbox: " ++ fault_text fault words ++ codes "\n" ++ usage_line

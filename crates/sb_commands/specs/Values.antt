@@ -1,0 +1,13 @@
+-- The values that the program found.
+use Rattle.std.specs.Prelude.{option_map}
+use Rattle.sb_commands.specs.Usage.{Values}
+use Rattle.sb_commands.specs.declared.command_line.FoundValues.{FoundValues}
+
+abbrev pub values_of : FoundValues → Values
+values_of v = record {
+  first = v.first.now;
+  second = v.second.now;
+  third = v.third.now;
+  last = option_map (λ name. name.now) v.last;
+  option = v.option;
+}

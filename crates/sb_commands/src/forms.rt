@@ -1,0 +1,187 @@
+// The forms of all commands, in one table.
+ghost use Rattle.std.specs.Prelude.{◌≡◌, map, option_map};
+ghost use Rattle.sb_commands.specs.Forms.{form_by, form_of, forms};
+
+use crate::{
+    audit_help, check_help, dup_help, linked_help, local_help, make_help, replay_help, run_help,
+};
+
+/// A number from the lowest to the highest, by its name.
+#[derive(Clone, Copy)]
+pub struct FormNumber<'a> {
+    /// How the usage line names it.
+    pub name: &'a str,
+    /// The lowest.
+    pub low: u64,
+    /// The highest.
+    pub high: u64,
+}
+
+/// What is at a place of a command.
+#[derive(Clone, Copy)]
+pub enum FormPlace<'a> {
+    /// The name of a file.
+    File(&'a str),
+    /// A number.
+    Number(FormNumber<'a>),
+}
+
+/// An option with a number: `--FLAG N` or `--FLAG=N`.
+#[derive(Clone, Copy)]
+pub struct FormOption<'a> {
+    /// Its name without `--`.
+    pub flag: &'a str,
+    /// Its number.
+    pub number: FormNumber<'a>,
+    /// The number if the option is not given.
+    pub default: u64,
+}
+
+/// What the help of a command has beside its form and the faults of its files.
+#[derive(Clone, Copy)]
+pub struct CommandHelp<'a> {
+    /// What there is to know, and an example, in whole lines.
+    pub about: &'a str,
+    /// The parts that come last, each in whole lines: its exit statuses are one.
+    pub after: &'a [&'a str],
+}
+
+/// How a command is written, and what it does.
+#[derive(Clone, Copy)]
+pub struct CommandForm<'a> {
+    /// Its name.
+    pub name: &'a str,
+    /// What is at its places, at most three.
+    pub places: &'a [FormPlace<'a>],
+    /// A file that may be left out, after the places.
+    pub last: Option<&'a str>,
+    /// An option, which is before the places or after all files.
+    pub option: Option<FormOption<'a>>,
+    /// What the command does, in one line.
+    pub does: &'a str,
+    /// What its help has beside this.
+    pub help: CommandHelp<'a>,
+}
+
+const POLICY: FormPlace<'static> = FormPlace::File("POLICY");
+
+const SCRIPT: FormPlace<'static> = FormPlace::File("SCRIPT");
+
+const CHECK: CommandForm<'static> = CommandForm {
+    name: "check",
+    places: &[POLICY],
+    last: None,
+    option: None,
+    does: "print the policies of POLICY, and the code by which calls are judged",
+    help: check_help::HELP,
+};
+
+const REPLAY: CommandForm<'static> = CommandForm {
+    name: "replay",
+    places: &[POLICY, SCRIPT],
+    last: Some("SCHEDULE"),
+    option: None,
+    does: "run SCRIPT under POLICY as SCHEDULE says, and print the transcript",
+    help: replay_help::HELP,
+};
+
+const RUN: CommandForm<'static> = CommandForm {
+    name: "run",
+    places: &[POLICY, SCRIPT],
+    last: None,
+    option: Some(FormOption {
+        flag: "workers",
+        number: FormNumber {
+            name: "N",
+            low: 1,
+            high: 8,
+        },
+        default: 2,
+    }),
+    does: "run SCRIPT under POLICY on threads, and print the transcript",
+    help: run_help::HELP,
+};
+
+const MAKE: CommandForm<'static> = CommandForm {
+    name: "make",
+    places: &[
+        FormPlace::Number(FormNumber {
+            name: "SEED",
+            low: 0,
+            high: u64::MAX,
+        }),
+        FormPlace::Number(FormNumber {
+            name: "TARGETS",
+            low: 1,
+            high: 8,
+        }),
+        FormPlace::Number(FormNumber {
+            name: "CALLS",
+            low: 1,
+            high: 4_096,
+        }),
+    ],
+    last: None,
+    option: None,
+    does: "make a script from SEED, run it on threads, and print its totals",
+    help: make_help::HELP,
+};
+
+const LINKED: CommandForm<'static> = CommandForm {
+    name: "linked",
+    places: &[POLICY, SCRIPT, FormPlace::File("LINKS")],
+    last: None,
+    option: None,
+    does: "answer the calls of SCRIPT under POLICY, with the links of LINKS resolved",
+    help: linked_help::HELP,
+};
+
+const DUP: CommandForm<'static> = CommandForm {
+    name: "dup",
+    places: &[POLICY, SCRIPT, FormPlace::File("MOVES")],
+    last: None,
+    option: None,
+    does: "run SCRIPT under POLICY, then pass handles between targets as MOVES says",
+    help: dup_help::HELP,
+};
+
+const LOCAL: CommandForm<'static> = CommandForm {
+    name: "local",
+    places: &[POLICY, SCRIPT],
+    last: Some("SCHEDULE"),
+    option: None,
+    does: "leave out the calls of SCRIPT that POLICY denies, and run the rest",
+    help: local_help::HELP,
+};
+
+const AUDIT: CommandForm<'static> = CommandForm {
+    name: "audit",
+    places: &[POLICY, SCRIPT, FormPlace::File("TRANSCRIPT")],
+    last: None,
+    option: None,
+    does: "check TRANSCRIPT against what the broker promises of SCRIPT under POLICY",
+    help: audit_help::HELP,
+};
+
+const FORMS: &'static [CommandForm<'static>] = &[
+    CHECK, REPLAY, RUN, MAKE, LINKED, DUP, LOCAL, AUDIT,
+];
+
+/// All commands.
+pub fn all_forms() -> &'static [CommandForm<'static>]
+    ensures { map form_of result.now ≡ forms }
+{
+    FORMS
+}
+
+/// The form of the command of this name.
+pub fn form_by(name: &str) -> Option<CommandForm<'static>>
+    ensures { option_map form_of result ≡ form_by name.now }
+{
+    for form in all_forms() {
+        if name == form.name {
+            return Some(*form);
+        }
+    }
+    None
+}

@@ -1,0 +1,13 @@
+// Laws of the command line. None of these functions does anything: each contract is a law.
+ghost use Rattle.sb_commands.specs.CommandLaws.{ReadCommandsAreWritable, WrittenCommandsAreRead};
+
+use sb_text::decimals_are_read;
+
+/// What is written of a command is read as this command, and every command that is read can be written: exactly the commands whose files have names of
+/// files and whose numbers are in their ranges are read from some arguments.
+pub fn commands_are_read()
+    ensures written { WrittenCommandsAreRead }
+    ensures read { ReadCommandsAreWritable }
+{
+    decimals_are_read();
+}

@@ -1,0 +1,26 @@
+// The help of `run`.
+use crate::forms::CommandHelp;
+use crate::help_texts::BLOCK_FAULTS;
+
+const ABOUT: &str =
+    "There is one thread for each thread of SCRIPT, and N workers, from 1 to 8, serve
+the targets. Without the option N is 2. The option is before the files or after
+them, and may be one word, --workers=N.
+
+example:
+  sandbox run examples/files.policy examples/files.script --workers 4
+";
+
+const STATUSES: &str = "exit status:
+   0  done              7  file too long
+   2  usage             8  read fault
+   3  policy refused    9  write fault
+   4  script refused   11  no memory
+   6  missing file
+";
+
+/// The help of the command.
+pub(crate) const HELP: CommandHelp<'static> = CommandHelp {
+    about: ABOUT,
+    after: &[BLOCK_FAULTS, STATUSES],
+};

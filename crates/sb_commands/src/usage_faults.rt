@@ -1,0 +1,30 @@
+// What can be wrong with arguments.
+use crate::forms::{FormNumber, FormOption};
+
+/// Why arguments are no command. Places are those of the arguments, from 0, the name of the command included; the
+/// argument itself is not kept.
+#[derive(Clone, Copy)]
+pub enum UsageFault {
+    /// There are no arguments.
+    NoCommand,
+    /// The first argument is the name of no command.
+    UnknownCommand,
+    /// The argument at this place begins with `-`, and the command has no such option.
+    UnknownOption(usize),
+    /// The option at this place is given already.
+    OptionTwice(usize, FormOption<'static>),
+    /// The option at this place is neither before the places nor after all files.
+    OptionBetween(usize, FormOption<'static>),
+    /// The option at this place has no number.
+    NoOptionNumber(usize, FormOption<'static>),
+    /// The argument at this place, without this number of bytes at its front, is not the number that the option needs.
+    BadOptionNumber(usize, usize, FormOption<'static>),
+    /// The argument at this place is not the name of a file.
+    NoFileName(usize, &'static str),
+    /// The argument at this place is not the number that is due.
+    BadNumber(usize, FormNumber<'static>),
+    /// The argument at this place is one too many.
+    ExtraWord(usize),
+    /// The argument of this name is missing.
+    Missing(&'static str),
+}

@@ -1,0 +1,384 @@
+// The message of arguments that are no command.
+ghost use Rattle.std.specs.Prelude.{◌≡◌, ◌++◌, [], drop, map, codes, option_map, OnOk, IfOk, string_bytes};
+ghost use Rattle.std.specs.Fmt.{decimal};
+ghost use Rattle.std.specs.List.{flat_map};
+ghost use Rattle.sb_commands.specs.Forms.{bounded_of, choice_of, form_of, place_of};
+ghost use Rattle.sb_commands.specs.Usage.{BadNumber, BadOptionNumber, ExtraWord, Missing, NoFileName, NoOptionNumber, OptionBetween, OptionTwice, UnknownCommand, UnknownOption, fault_of, texts};
+ghost use Rattle.sb_commands.specs.UsageMessages.{argument_text, bounds_text, choice_text, command_text, fault_text, flag_text, form_text, forms_text, last_text, name_text, next_form_text, number_text, place_text, quoted_word, unknown_text, usage_line, usage_message, word_at, wrong_text};
+
+use crate::forms::{CommandForm, FormNumber, FormOption, FormPlace, all_forms};
+use crate::usage::place_name;
+use crate::usage_faults::UsageFault;
+use sb_items::NoMemory;
+use sb_message::{put_quoted, put_shown};
+use std::alloc::Global;
+
+// Appends a number in decimal.
+fn put_number(out: &mut String, number: u64) -> Result<(), NoMemory>
+    ensures { OnOk result (string_bytes out.new ≡ string_bytes out.old ++ decimal number) }
+{
+    let digits = number.to_string(*out.allocator())?;
+    out.push_str(digits.as_str())?;
+    Ok(())
+}
+
+// Appends the names of places.
+fn put_place(out: &mut String, place: FormPlace<'static>) -> Result<(), NoMemory>
+    ensures { OnOk result (string_bytes out.new ≡ string_bytes out.old ++ place_text (place_of place.entry)) }
+{
+    out.push(' ')?;
+    out.push_str(place_name(place))?;
+    Ok(())
+}
+
+fn put_last(out: &mut String, last: Option<&'static str>) -> Result<(), NoMemory>
+    ensures { OnOk result (string_bytes out.new ≡ string_bytes out.old ++ last_text (option_map (λ name. name.now) last.entry)) }
+{
+    if let Some(name) = last {
+        out.push_str(" [")?;
+        out.push_str(name)?;
+        out.push_str("]")?;
+    }
+    Ok(())
+}
+
+fn put_choice(out: &mut String, option: Option<FormOption<'static>>) -> Result<(), NoMemory>
+    ensures { OnOk result (string_bytes out.new ≡ string_bytes out.old ++ choice_text (option_map choice_of option.entry)) }
+{
+    if let Some(option) = option {
+        out.push_str(" [--")?;
+        out.push_str(option.flag)?;
+        out.push_str(" ")?;
+        out.push_str(option.number.name)?;
+        out.push_str("]")?;
+    }
+    Ok(())
+}
+
+fn put_places(out: &mut String, places: &[FormPlace<'static>]) -> Result<(), NoMemory>
+    ensures { OnOk result (string_bytes out.new ≡ string_bytes out.old ++ flat_map place_text (map place_of places.now)) }
+{
+    for place in places {
+        put_place(out, *place)?;
+    }
+    Ok(())
+}
+
+/// Appends a form as it is written: its name, its places, and what may be left out in square brackets.
+///
+/// # Errors
+/// `NoMemory` if there was none for the bytes.
+pub(crate) fn put_form(out: &mut String, form: CommandForm<'static>) -> Result<(), NoMemory>
+    ensures { OnOk result (string_bytes out.new ≡ string_bytes out.old ++ form_text (form_of form.entry)) }
+{
+    out.push_str(form.name)?;
+    put_places(out, form.places)?;
+    put_last(out, form.last)?;
+    put_choice(out, form.option)
+}
+
+fn put_more_forms(out: &mut String, forms: &[CommandForm<'static>]) -> Result<(), NoMemory>
+    ensures { OnOk result (string_bytes out.new ≡ string_bytes out.old ++ flat_map next_form_text (map form_of forms.now)) }
+{
+    for form in forms {
+        out.push_str(", ")?;
+        put_form(out, *form)?;
+    }
+    Ok(())
+}
+
+fn put_forms(out: &mut String, forms: &[CommandForm<'static>]) -> Result<(), NoMemory>
+    ensures { OnOk result (string_bytes out.new ≡ string_bytes out.old ++ forms_text (map form_of forms.now)) }
+{
+    match forms.split_first() {
+        Some((first, rest)) => {
+            put_form(out, *first)?;
+            put_more_forms(out, rest)
+        }
+        None => Ok(()),
+    }
+}
+
+fn put_usage_line(out: &mut String) -> Result<(), NoMemory>
+    ensures { OnOk result (string_bytes out.new ≡ string_bytes out.old ++ usage_line) }
+{
+    out.push_str("sandbox: usage: ")?;
+    put_forms(out, all_forms())?;
+    out.push_str("\n")?;
+    Ok(())
+}
+
+// The argument at a place.
+fn word_at(at: usize, words: &[String]) -> &[u8]
+    ensures { result.now ≡ word_at at (texts words.now) }
+{
+    match words.get(at) {
+        Some(word) => word.as_bytes(),
+        None => &[],
+    }
+}
+
+fn put_word(out: &mut String, at: usize, words: &[String]) -> Result<(), NoMemory>
+    ensures { OnOk result (string_bytes out.new ≡ string_bytes out.old ++ quoted_word at (texts words.now)) }
+{
+    put_quoted(out, word_at(at, words))
+}
+
+fn put_command(out: &mut String, words: &[String]) -> Result<(), NoMemory>
+    ensures { OnOk result (string_bytes out.new ≡ string_bytes out.old ++ command_text (texts words.now)) }
+{
+    put_shown(out, word_at(0, words))?;
+    out.push_str(": ")?;
+    Ok(())
+}
+
+// Appends the bounds of a number.
+fn put_bounds(out: &mut String, number: FormNumber<'static>) -> Result<(), NoMemory>
+    ensures { OnOk result (string_bytes out.new ≡ string_bytes out.old ++ bounds_text (bounded_of number.entry)) }
+{
+    out.push_str(" is not a number from ")?;
+    put_number(out, number.low)?;
+    out.push_str(" to ")?;
+    put_number(out, number.high)
+}
+
+// Appends the command, words, and an argument.
+fn put_argument_fault(
+    out: &mut String,
+    before: &str,
+    at: usize,
+    words: &[String],
+) -> Result<(), NoMemory>
+    ensures { OnOk result (string_bytes out.new ≡ string_bytes out.old ++ argument_text (texts words.now) before.now at) }
+{
+    put_command(out, words)?;
+    out.push_str(before)?;
+    put_word(out, at, words)
+}
+
+// Appends the command, and a name between words.
+fn put_named_fault(
+    out: &mut String,
+    before: &str,
+    name: &str,
+    after: &str,
+    words: &[String],
+) -> Result<(), NoMemory>
+    ensures { OnOk result (string_bytes out.new ≡ string_bytes out.old ++ name_text (texts words.now) before.now name.now after.now) }
+{
+    put_command(out, words)?;
+    out.push_str(before)?;
+    out.push_str(name)?;
+    out.push_str(after)?;
+    Ok(())
+}
+
+// Appends the command, a name, and an argument that is not what the name means.
+fn put_wrong(out: &mut String, name: &str, at: usize, words: &[String]) -> Result<(), NoMemory>
+    ensures { OnOk result (string_bytes out.new ≡ string_bytes out.old
+        ++ (name_text (texts words.now) [] name.now (codes ": ") ++ quoted_word at (texts words.now))) }
+{
+    put_named_fault(out, "", name, ": ", words)?;
+    put_word(out, at, words)
+}
+
+// Appends an option's name.
+fn put_flag(out: &mut String, option: FormOption<'static>) -> Result<(), NoMemory>
+    ensures { OnOk result (string_bytes out.new ≡ string_bytes out.old ++ flag_text (choice_of option.entry)) }
+{
+    out.push_str("--")?;
+    out.push_str(option.flag)?;
+    out.push_str(": ")?;
+    Ok(())
+}
+
+// Appends words and an argument.
+fn put_unknown(out: &mut String, before: &str, at: usize, words: &[String]) -> Result<(), NoMemory>
+    ensures { OnOk result (string_bytes out.new ≡ string_bytes out.old ++ unknown_text before.now at (texts words.now)) }
+{
+    out.push_str(before)?;
+    put_word(out, at, words)
+}
+
+// Appends the fault of a command's name.
+fn put_unknown_command(out: &mut String, words: &[String]) -> Result<(), NoMemory>
+    ensures { OnOk result (string_bytes out.new ≡ string_bytes out.old ++ fault_text UnknownCommand (texts words.now)) }
+{
+    put_unknown(out, "unknown command ", 0, words)
+}
+
+// Appends that the command has no such option.
+fn put_unknown_option(out: &mut String, at: usize, words: &[String]) -> Result<(), NoMemory>
+    ensures { OnOk result (string_bytes out.new ≡ string_bytes out.old ++ fault_text (UnknownOption at) (texts words.now)) }
+{
+    put_argument_fault(out, "unknown option ", at, words)
+}
+
+// Appends that there is an argument more.
+fn put_extra_argument(out: &mut String, at: usize, words: &[String]) -> Result<(), NoMemory>
+    ensures { OnOk result (string_bytes out.new ≡ string_bytes out.old ++ fault_text (ExtraWord at) (texts words.now)) }
+{
+    put_argument_fault(out, "extra argument ", at, words)
+}
+
+// Appends an option, and what is wrong with the name of its number.
+fn put_number_name(out: &mut String, option: FormOption<'static>, why: &str) -> Result<(), NoMemory>
+    ensures { OnOk result (string_bytes out.new ≡ string_bytes out.old ++ number_text (choice_of option.entry) why.now) }
+{
+    put_flag(out, option)?;
+    out.push_str(option.number.name)?;
+    out.push_str(why)?;
+    Ok(())
+}
+
+// Appends that an option has no number.
+fn put_no_number(
+    out: &mut String,
+    at: usize,
+    option: FormOption<'static>,
+    words: &[String],
+) -> Result<(), NoMemory>
+    ensures { OnOk result (string_bytes out.new ≡ string_bytes out.old ++ fault_text (NoOptionNumber at (choice_of option.entry)) (texts words.now)) }
+{
+    put_number_name(out, option, " is missing")
+}
+
+// The rest of an argument after its first bytes, of which there are this number.
+fn after_skipped(skipped: usize, word: &[u8]) -> &[u8]
+    ensures { result.now ≡ drop skipped word.now }
+{
+    match word.get(skipped..) {
+        Some(rest) => rest,
+        None => &[],
+    }
+}
+
+// Appends that an option's number is none, or not within its bounds.
+fn put_bad_option_number(
+    out: &mut String,
+    at: usize,
+    skipped: usize,
+    option: FormOption<'static>,
+    words: &[String],
+) -> Result<(), NoMemory>
+    ensures { OnOk result (string_bytes out.new ≡ string_bytes out.old
+        ++ fault_text (BadOptionNumber at skipped (choice_of option.entry)) (texts words.now)) }
+{
+    put_flag(out, option)?;
+    put_quoted(out, after_skipped(skipped, word_at(at, words)))?;
+    put_bounds(out, option.number)
+}
+
+// Appends the command, a name, an argument that is not what the name means, and why.
+fn put_wrong_because(
+    out: &mut String,
+    name: &str,
+    at: usize,
+    why: &str,
+    words: &[String],
+) -> Result<(), NoMemory>
+    ensures { OnOk result (string_bytes out.new ≡ string_bytes out.old ++ wrong_text (texts words.now) name.now at why.now) }
+{
+    put_wrong(out, name, at, words)?;
+    out.push_str(why)?;
+    Ok(())
+}
+
+// Appends that an argument is not the name of a file.
+fn put_no_file_name(
+    out: &mut String,
+    at: usize,
+    name: &str,
+    words: &[String],
+) -> Result<(), NoMemory>
+    ensures { OnOk result (string_bytes out.new ≡ string_bytes out.old ++ fault_text (NoFileName at name.now) (texts words.now)) }
+{
+    put_wrong_because(out, name, at, " is not a file name", words)
+}
+
+// Appends that an argument is no number, or not within its bounds.
+fn put_bad_number(
+    out: &mut String,
+    at: usize,
+    number: FormNumber<'static>,
+    words: &[String],
+) -> Result<(), NoMemory>
+    ensures { OnOk result (string_bytes out.new ≡ string_bytes out.old ++ fault_text (BadNumber at (bounded_of number.entry)) (texts words.now)) }
+{
+    put_wrong(out, number.name, at, words)?;
+    put_bounds(out, number)
+}
+
+// Appends that an option is given twice.
+fn put_option_twice(
+    out: &mut String,
+    at: usize,
+    option: FormOption<'static>,
+    words: &[String],
+) -> Result<(), NoMemory>
+    ensures { OnOk result (string_bytes out.new ≡ string_bytes out.old ++ fault_text (OptionTwice at (choice_of option.entry)) (texts words.now)) }
+{
+    put_named_fault(out, "--", option.flag, " is given twice", words)
+}
+
+// Appends that an option is neither before the files nor after them.
+fn put_option_between(
+    out: &mut String,
+    at: usize,
+    option: FormOption<'static>,
+    words: &[String],
+) -> Result<(), NoMemory>
+    ensures { OnOk result (string_bytes out.new ≡ string_bytes out.old ++ fault_text (OptionBetween at (choice_of option.entry)) (texts words.now)) }
+{
+    put_named_fault(
+        out,
+        "--",
+        option.flag,
+        " is not allowed between the files",
+        words,
+    )
+}
+
+// Appends that an argument is missing.
+fn put_missing(out: &mut String, name: &str, words: &[String]) -> Result<(), NoMemory>
+    ensures { OnOk result (string_bytes out.new ≡ string_bytes out.old ++ fault_text (Missing name.now) (texts words.now)) }
+{
+    put_named_fault(out, "", name, " is missing", words)
+}
+
+// Appends what is wrong with arguments.
+fn put_fault(out: &mut String, fault: UsageFault, words: &[String]) -> Result<(), NoMemory>
+    ensures { OnOk result (string_bytes out.new ≡ string_bytes out.old ++ fault_text (fault_of fault) (texts words.now)) }
+{
+    match fault {
+        UsageFault::NoCommand => Ok(out.push_str("a command is missing")?),
+        UsageFault::UnknownCommand => put_unknown_command(out, words),
+        UsageFault::UnknownOption(at) => put_unknown_option(out, at, words),
+        UsageFault::OptionTwice(at, option) => put_option_twice(out, at, option, words),
+        UsageFault::OptionBetween(at, option) => put_option_between(out, at, option, words),
+        UsageFault::NoOptionNumber(at, option) => put_no_number(out, at, option, words),
+        UsageFault::BadOptionNumber(at, skipped, option) => {
+            put_bad_option_number(out, at, skipped, option, words)
+        }
+        UsageFault::NoFileName(at, name) => put_no_file_name(out, at, name, words),
+        UsageFault::BadNumber(at, number) => put_bad_number(out, at, number, words),
+        UsageFault::ExtraWord(at) => put_extra_argument(out, at, words),
+        UsageFault::Missing(name) => put_missing(out, name, words),
+    }
+}
+
+/// The message of arguments that are no command: what was wrong, and last the usage line. What is shown of an argument is escaped, and cut after 40
+/// characters.
+///
+/// # Errors
+/// `NoMemory` if there was none for the message.
+pub fn usage_message(alloc: Global, fault: UsageFault, words: &[String]) -> Result<String, NoMemory>
+    ensures { IfOk result (λ message. string_bytes message ≡ usage_message (fault_of fault) (texts words.now)) }
+{
+    let mut message = String::new(alloc);
+    message.push_str("sandbox: ")?;
+    put_fault(&mut message, fault, words)?;
+    message.push_str("\n")?;
+    put_usage_line(&mut message)?;
+    Ok(message)
+}
