@@ -3,7 +3,7 @@
 use crate::faults::RowFault;
 use crate::gates::MeetingGate;
 use crate::pages::{Ends, Page};
-use crate::shows::{Shown, put_gate_counts, put_outcome};
+use crate::shows::{Shown, put_gate_counts, put_message, put_outcome};
 use crate::texts::put_row;
 use sb_outside::{Bytes, FileList, MemFiles, MemSink, Numbers, StoredFile, Text};
 use sb_top::broker_top;
@@ -100,6 +100,7 @@ impl Case {
                 };
             }
             "status" => self.shown.status = true,
+            "told" => self.shown.told = true,
             _ => return Err(RowFault::Unknown),
         }
         Ok(())
@@ -195,6 +196,9 @@ impl Case {
         let gate = MeetingGate::new(alloc, self.meeting)?;
         let outcome = broker_top(rt, alloc, &self.words, files, out, &gate);
         put_outcome(alloc, &outcome, files.calls, self.shown, page)?;
+        if self.shown.told {
+            put_message(alloc, &self.words, &outcome, page)?;
+        }
         match self.meeting {
             0 => Ok(()),
             _ => put_gate_counts(alloc, gate.counts(), page),

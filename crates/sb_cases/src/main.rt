@@ -1,4 +1,4 @@
-// Runs worked cases of the top call over files and an output in memory, and prints what came of each. The cases stand in files of rows,
+// Runs worked cases of the top call over files and an output in memory, and prints what came of each. The cases are in files of rows,
 // which the arguments name. What is printed is compared with the file `stdout` of this crate, which holds what is right: it comes
 // from the rules of the texts and from cases that were worked out, and never from a run. Cases of `run` and `make` start threads, and
 // print what is the same whatever the order of their steps.
@@ -17,15 +17,18 @@
 //     gate N                       the first call of each of the targets 0 to N - 1 is held until those of all have come
 //     ends M N                     only the first M and the last N of the lines that were written are printed
 //     counts TEXT                  it is printed how many of the lines that were written end with TEXT
-//     status                       the status is printed with all that it says
+//     status                       the fault of a file that the status says is printed
+//     told                         all that is written on standard error is printed, each line after an exclamation mark
 //     end
 //
-// A row `far KIND` between cases prints the exit code of a status that no case leads to, and what is said of it.
+// A row `far KIND` between cases prints the exit code of a status that no case leads to, and what is said of it. A row `ask ARGUMENTS` prints what
+// the program tells of itself when it has these arguments.
 //
 // It prints the name of the case and, once for each row that is tried: the exit code, the count of reads and what a report
 // counts; what is said on standard error, if the command is not done; what passed a gate at which calls are held; and the lines that were written, each after a bar.
 #![tactic(auto)]
 
+mod asks;
 mod cases;
 mod far;
 mod faults;

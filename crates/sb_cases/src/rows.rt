@@ -1,5 +1,6 @@
 // The lines of a text of cases.
 
+use crate::asks::put_answer;
 use crate::cases::{Case, Setting};
 use crate::far::put_far;
 use crate::faults::RowFault;
@@ -64,6 +65,7 @@ impl<'a> Rows<'a> {
                 "" | "#" => Ok(()),
                 "case" => self.begin(line, row),
                 "far" => put_far(alloc, row, page),
+                "ask" => put_answer(alloc, row, page),
                 _ => Err(RowFault::NoCase),
             };
         }

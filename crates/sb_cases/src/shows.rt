@@ -4,7 +4,7 @@ use crate::faults::RowFault;
 use crate::gates::GateCounts;
 use crate::pages::{Ends, Page};
 use sb_book::Report;
-use sb_top::{Complaint, Outcome, Status, exit_code};
+use sb_top::{Complaint, Outcome, Status, exit_code, message};
 use std::alloc::Global;
 
 /// What is printed besides.
@@ -12,6 +12,8 @@ use std::alloc::Global;
 pub struct Shown {
     /// Whether the status is, with all that it says.
     pub status: bool,
+    /// Whether all that is written on standard error is.
+    pub told: bool,
     /// Which of the lines that were written are.
     pub ends: Ends,
 }
@@ -20,6 +22,7 @@ impl Shown {
     /// All that was written.
     pub const ALL: Shown = Shown {
         status: false,
+        told: false,
         ends: Ends::ALL,
     };
 }
@@ -42,7 +45,33 @@ pub fn put_outcome(
         page.put_line(format!(in alloc; "{complaint}")?.as_str())?;
     }
     if shown.status {
-        page.put_line(format!(in alloc; "status {status:?}")?.as_str())?;
+        page.put_line(fault(alloc, status)?.as_str())?;
+    }
+    Ok(())
+}
+
+// The status with the fault of a file that it says.
+fn fault(alloc: Global, status: Status) -> Result<String, RowFault> {
+    Ok(match status {
+        Status::PolicyRefused(fault) => format!(in alloc; "status PolicyRefused({fault:?})")?,
+        Status::ScriptRefused(fault) => format!(in alloc; "status ScriptRefused({fault:?})")?,
+        Status::ScheduleRefused(fault) => format!(in alloc; "status ScheduleRefused({fault:?})")?,
+        Status::LinksRefused(fault) => format!(in alloc; "status LinksRefused({fault:?})")?,
+        Status::MovesRefused(fault) => format!(in alloc; "status MovesRefused({fault:?})")?,
+        _ => return Err(RowFault::Unknown),
+    })
+}
+
+/// Puts what the program writes on standard error, each line after an exclamation mark.
+pub fn put_message(
+    alloc: Global,
+    words: &[String],
+    outcome: &Outcome,
+    page: &mut Page,
+) -> Result<(), RowFault> {
+    let text = message(alloc, words, outcome)?;
+    for line in text.lines() {
+        page.put_line(format!(in alloc; "! {line}")?.as_str())?;
     }
     Ok(())
 }

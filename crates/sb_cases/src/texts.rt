@@ -1,4 +1,4 @@
-// The bytes that a row of a file stands for.
+// The bytes that a row of a file denotes.
 
 use crate::faults::RowFault;
 
@@ -11,7 +11,7 @@ enum Escape {
     Digit(u8),
 }
 
-/// Appends the bytes of a row: of `| TEXT` the text and a line feed, of `% TEXT` those that the text stands for.
+/// Appends the bytes of a row: of `| TEXT` the text and a line feed, of `% TEXT` those that the text denotes.
 pub fn put_row(row: &str, bytes: &mut Vec<u8>) -> Result<(), RowFault> {
     let (head, line) = row.split_once(' ').unwrap_or((row, ""));
     match head {
@@ -24,7 +24,7 @@ pub fn put_row(row: &str, bytes: &mut Vec<u8>) -> Result<(), RowFault> {
     }
 }
 
-// `\n` stands for a line feed, `\\` for a backslash and `\xHH` for the byte of that number.
+// `\n` is a line feed, `\\` a backslash and `\xHH` the byte of that number.
 fn put_escaped(line: &str, bytes: &mut Vec<u8>) -> Result<(), RowFault> {
     let mut escape = Escape::Outside;
     for byte in line.as_bytes() {

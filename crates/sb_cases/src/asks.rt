@@ -1,0 +1,20 @@
+// What the program tells of itself.
+
+use crate::faults::RowFault;
+use crate::pages::{Ends, Page};
+use sb_commands::{inquiry_of, inquiry_text};
+use std::alloc::Global;
+
+/// Puts what is answered to the arguments of a row `ask ARGUMENTS`, each line after a bar.
+pub fn put_answer(alloc: Global, row: &str, page: &mut Page) -> Result<(), RowFault> {
+    let mut words = Vec::new(alloc);
+    for word in row.split(' ').skip(1) {
+        words.push(String::from_str(alloc, word)?)?;
+    }
+    let Some(inquiry) = inquiry_of(&words) else {
+        return Err(RowFault::Unknown);
+    };
+    let text = inquiry_text(alloc, inquiry)?;
+    page.put_line(row)?;
+    Ok(page.put_quoted(alloc, text.as_bytes(), Ends::ALL)?)
+}
