@@ -97,6 +97,20 @@ def schedule(lot):
     return ["sandbox-schedule 1", *lines] + ["rounds %d" % lot.choice([0, 1, 50, 20000000])]
 
 
+def links(lot):
+    """The lines of links, some in rings; no FROM occurs twice."""
+    froms = lot.sample([r"\docs", r"\docs\b", r"\evil", r"\EVIL\x", r"\a", r"\a\b", r"\key", r"\pipe\x", r"\event"], lot.randrange(6))
+    names = NAMES + [r"\a", r"\a\b\c", r"\key", "\\" + "n" * 140]
+    return ["sandbox-links 1", *('link "%s" "%s"' % (name, lot.choice(names)) for name in froms)]
+
+
+def moves(lot, targets):
+    """The lines of moves between this number of targets."""
+    accesses = ["0", "1", "0x80000000", "0x40000000", "0xc0000000", "0x81"]
+    drawn = ((lot.randrange(targets), lot.randrange(12), lot.randrange(targets), lot.choice(accesses)) for _ in range(lot.randrange(12)))
+    return ["sandbox-moves 1", *("move %d %d %d %s" % move for move in drawn)]
+
+
 def damaged(lot, text):
     """A text of bytes with one to three small damages, at any byte or line of it."""
     for _ in range(lot.randrange(1, 4)):
