@@ -1,5 +1,5 @@
 #!/usr/bin/env python3
-"""Looks for each name that the documents cite in the tree, and compares `--help` with docs/FORMATS.md.
+"""Looks for each name that the documents cite in the tree, and compares the faults that the help of commands lists with docs/FORMATS.md.
 
 A cited name is a span between backticks that is one word: a file or a folder, a contract, or a function, a law, a definition, a crate or
 a word of the files that users write, with `::` or `.` between its parts. A file has to be there, by its whole path or by the end of it. A
@@ -239,9 +239,9 @@ def rows_below(text, heading):
 
 
 def listed_below(text, heading):
-    """The numbers and names that `--help` lists below a heading, each name up to a colon."""
+    """The numbers and names that the help of commands lists below a heading, each name up to a colon."""
     rows = []
-    for line in text[text.index("\n" + heading) :].splitlines()[2:]:
+    for line in text[text.index('"' + heading + " (") :].splitlines()[1:]:
         row = re.match(r" +(\d+)  ([^:(]+)", line)
         if not row:
             break
@@ -250,14 +250,16 @@ def listed_below(text, heading):
 
 
 def different_lists():
-    formats, help_text = text_of("docs/FORMATS.md"), text_of("crates/sb_host/src/own_words.rt")
+    formats, help_text = text_of("docs/FORMATS.md"), text_of("crates/sb_commands/src/help_texts.rt")
     for heading, listed in [
-        ("### Faults of a policy", "faults of a policy"),
-        ("### Faults of a script", "faults of a script"),
-        ("### Faults of a schedule", "faults of a schedule"),
+        ("### Faults of a policy", "faults of POLICY"),
+        ("### Faults of a script", "faults of SCRIPT"),
+        ("### Faults of a schedule", "faults of SCHEDULE"),
+        ("### Faults of links", "faults of LINKS"),
+        ("### Faults of moves", "faults of MOVES"),
     ]:
         if rows_below(formats, heading) != listed_below(help_text, listed):
-            yield "docs/FORMATS.md and --help differ: %s" % listed
+            yield "docs/FORMATS.md and the help of commands differ: %s" % listed
 
 
 def main():

@@ -17,7 +17,7 @@ def logic_of(text, place):
 
 
 def main():
-    place = "crates/sb_host/src/own_words.rt"
+    place = "crates/sb_commands/src/help_texts.rt"
     with open(os.path.join(TOP, place), encoding="utf-8") as file:
         named = logic_of(file.read(), place)
     kit = logic_of(subprocess.run(["rt", "version"], check=True, capture_output=True, text=True).stdout, "`rt version`")
