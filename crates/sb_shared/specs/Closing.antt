@@ -37,7 +37,7 @@ abbrev pub left_view : View → View
 left_view v = record v { parts = later_parts v.parts }
 
 abbrev pub right_view : View → View
-right_view v = record v { parts = front v.parts; steps = 0; found = 0; stop = 0; seen = 0 }
+right_view v = record v { parts = front v.parts; steps = 0; found = 0; stop = 0; seen = 0; looks = 0 }
 
 -- a seat takes in the parts of another, and what it set and saw of stops
 abbrev pub joined_view : View → View → View
@@ -51,7 +51,7 @@ no_key = record {
 }
 
 abbrev pub spent_view : View
-spent_view = record { key = no_key; parts = []; steps = 0; found = 0; stop = 0; seen = 0 }
+spent_view = record { key = no_key; parts = []; steps = 0; found = 0; stop = 0; seen = 0; looks = 0 }
 
 -- The world at the end: some actors of the script made their steps in turn, and led to a world with these words, this book if nobody has
 -- the turn, and these parts

@@ -91,9 +91,9 @@ marked_view v n = moved_view v (map marked_part v.parts) n
 abbrev pub given_view : View → View
 given_view v = moved_view v (map (shown_part seen.Done None) v.parts) 0
 
--- after a look at the stop word that found n
+-- after a look at the stop word that found n: it is counted
 abbrev pub looked_view : View → ℕ → View
-looked_view v n = record v { seen = max v.seen n }
+looked_view v n = record v { seen = max v.seen n; looks = v.looks + 1 }
 
 -- after the seat set stop n
 abbrev pub stopped_view : View → ℕ → View

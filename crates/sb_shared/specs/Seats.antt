@@ -72,7 +72,7 @@ Lies None slots = slots ≡ []
 Lies (Some book) slots = slots ≡ (0, None) ∷ []
 
 -- a seat of a thread: its table and the run's policies and script, where the thread is, the number of its steps, what the last one found, whether
--- it found nothing to go on with, and the greatest stop that the seat has set and seen
+-- it found nothing to go on with, the greatest stop that the seat has set and seen, and how often it has looked
 pub record ThreadSeatValue : Type 0 where
   pub table : TableId
   pub key : Origin
@@ -84,6 +84,7 @@ pub record ThreadSeatValue : Type 0 where
   pub waiting : Bool
   pub stop : ℕ
   pub seen : ℕ
+  pub looks : ℕ
 
 abbrev pub thread_seat : TableId → View → Bool → ThreadSeatValue
 thread_seat table v waiting = record {
@@ -97,6 +98,7 @@ thread_seat table v waiting = record {
   waiting = waiting;
   stop = v.stop;
   seen = v.seen;
+  looks = v.looks;
 }
 
 -- a seat of a worker, with the book while it has the turn, and whether the worker's copy is decided
@@ -111,6 +113,7 @@ pub record WorkerSeatValue : Type 0 where
   pub found : ℕ
   pub stop : ℕ
   pub seen : ℕ
+  pub looks : ℕ
 
 abbrev pub worker_seat : TableId → View → Bool → WorkerSeatValue
 worker_seat table v decided = record {
@@ -124,6 +127,7 @@ worker_seat table v decided = record {
   found = v.found;
   stop = v.stop;
   seen = v.seen;
+  looks = v.looks;
 }
 
 -- a thread goes on by a step on a word that found n
@@ -162,12 +166,12 @@ worker_decided s = record s { decided = is_some (taken_in s.state.stage) }
 abbrev pub worker_undecided : WorkerSeatValue → WorkerSeatValue
 worker_undecided s = record s { decided = false }
 
--- a look at the stop word that saw this
+-- a look at the stop word that saw this: it is counted
 abbrev pub thread_looked : ThreadSeatValue → Option Stop → ThreadSeatValue
-thread_looked s stop = record s { seen = max s.seen (stop_number stop) }
+thread_looked s stop = record s { seen = max s.seen (stop_number stop); looks = s.looks + 1 }
 
 abbrev pub worker_looked : WorkerSeatValue → Option Stop → WorkerSeatValue
-worker_looked s stop = record s { seen = max s.seen (stop_number stop) }
+worker_looked s stop = record s { seen = max s.seen (stop_number stop); looks = s.looks + 1 }
 
 -- the seat set this stop
 abbrev pub worker_stopped : WorkerSeatValue → Stop → WorkerSeatValue
@@ -180,12 +184,13 @@ pub record KeeperValue : Type 0 where
   pub parts : List Part
   pub stop : ℕ
   pub seen : ℕ
+  pub looks : ℕ
 
 abbrev pub keeper_seat : TableId → View → KeeperValue
-keeper_seat table v = record { table = table; key = v.key; parts = v.parts; stop = v.stop; seen = v.seen }
+keeper_seat table v = record { table = table; key = v.key; parts = v.parts; stop = v.stop; seen = v.seen; looks = v.looks }
 
 abbrev pub keeper_looked : KeeperValue → Option Stop → KeeperValue
-keeper_looked s stop = record s { seen = max s.seen (stop_number stop) }
+keeper_looked s stop = record s { seen = max s.seen (stop_number stop); looks = s.looks + 1 }
 
 abbrev pub keeper_stopped : KeeperValue → Stop → KeeperValue
 keeper_stopped s stop = record s { stop = max s.stop (stop_number (Some stop)) }
@@ -193,13 +198,13 @@ keeper_stopped s stop = record s { stop = max s.stop (stop_number (Some stop)) }
 -- a seat of a thread before its first step
 abbrev pub fresh_thread : TableId → Origin → ℕ × ℕ → ThreadSeatValue
 fresh_thread table key place =
-    record { table = table; key = key; target = place.0; thread = place.1; run = run_at (start_of key) place.0 place.1; steps = 0; found = 0; waiting = false; stop = 0; seen = 0 }
+    record { table = table; key = key; target = place.0; thread = place.1; run = run_at (start_of key) place.0 place.1; steps = 0; found = 0; waiting = false; stop = 0; seen = 0; looks = 0 }
 
 -- a seat of a worker before its first step
 abbrev pub fresh_worker : TableId → Origin → ℕ → WorkerSeatValue
 fresh_worker table key t =
-    record { table = table; key = key; target = t; state = worker_at (start_of key) t; book = None; decided = false; steps = 0; found = 0; stop = 0; seen = 0 }
+    record { table = table; key = key; target = t; state = worker_at (start_of key) t; book = None; decided = false; steps = 0; found = 0; stop = 0; seen = 0; looks = 0 }
 
 -- the seat that takes in all others, before the first step
 abbrev pub fresh_keeper : TableId → Origin → KeeperValue
-fresh_keeper table key = record { table = table; key = key; parts = []; stop = 0; seen = 0 }
+fresh_keeper table key = record { table = table; key = key; parts = []; stop = 0; seen = 0; looks = 0 }

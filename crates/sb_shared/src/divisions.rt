@@ -17,7 +17,7 @@ impl Keeper {
         requires key { self.old.key ≡ words.now.key }
         requires first { (p : Part) × (more : List Part) × (self.old.parts ≡ p ∷ more) }
         ensures same { self.new ≡ record self.old { parts = later_parts self.old.parts } }
-        ensures seat { (result.table_id ≡ self.old.table) × (result.me ≡ (record { key = self.old.key; parts = front self.old.parts; steps = 0; found = 0; stop = 0; seen = 0 }, [])) }
+        ensures seat { (result.table_id ≡ self.old.table) × (result.me ≡ (record { key = self.old.key; parts = front self.old.parts; steps = 0; found = 0; stop = 0; seen = 0; looks = 0 }, [])) }
     {
         words.split_seat::<Parts>(&mut self.seat)
     }

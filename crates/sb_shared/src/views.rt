@@ -47,4 +47,6 @@ pub struct View {
     pub stop: u64,
     /// The greatest stop that the seat has seen, 0 if none.
     pub seen: u64,
+    /// The number of times that the seat has looked at the stop word.
+    pub looks: u64,
 }
