@@ -3,6 +3,8 @@ pub mod Under
 pub mod Steps
 pub mod Longest
 pub mod Order
+pub mod Walked
+pub mod Inserted
 pub mod Named
 pub mod Alike
 pub mod Cases

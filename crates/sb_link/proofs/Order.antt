@@ -55,7 +55,7 @@ module _ (links others : List Link) (are : AreLinks links) (there : (link : Link
       equal : length a.from ≤ length b.from → length b.from ≤ length a.from → length a.from ≡ length b.from
       equal p q = omega arith
 
-  same_applies : (name : List ℕ) → applying links name ≡ applying others name
+  pub same_applies : (name : List ℕ) → applying links name ≡ applying others name
   same_applies name = by (applying links name) (applying others name) refl refl
     where
       by : (f g : Option Link) → applying links name ≡ f → applying others name ≡ g → applying links name ≡ applying others name

@@ -1,5 +1,5 @@
 -- A link applies to no name that is shorter than its FROM.
-use Rattle.std.proofs.Common.{◌≡◌, ◌∙◌, ℕ, ◌<◌, ◌≤◌, Bool, true, false, ◌&&◌, map, List, length, take, drop, refl, ap, sym, arith}
+use Rattle.std.proofs.Common.{◌≡◌, ◌∙◌, ℕ, ◌≤◌, Bool, true, false, map, List, length, take, drop, refl, ap, sym, arith}
 use Rattle.std.proofs.lemmas.Bool.{and_parts}
 use Rattle.std.proofs.lemmas.List.{length-map, length-take}
 use Rattle.std.specs.Cmp.Lexicographic.{bytes_decides}
@@ -10,24 +10,10 @@ pub not_true : (b : Bool) → (b ≡ true → ⊥) → b ≡ false
 not_true true h = absurd (h refl)
 not_true false h = refl
 
-pub same_length : (a b : List ℕ) → is_same a b ≡ true → length a ≡ length b
+same_length : (a b : List ℕ) → is_same a b ≡ true → length a ≡ length b
 same_length a b h =
     let e : map folded a ≡ map folded b = (bytes_decides _ _).0 h in
     sym (length-map a folded) ∙ ap length e ∙ length-map b folded
-
-no_end : (a b : Bool) → b ≡ false → (a && b) ≡ false
-no_end true b h = h
-no_end false b h = refl
-
-an_end : (a b : Bool) → b ≡ true → (a && b) ≡ a
-an_end true b h = h
-an_end false b h = refl
-
-pub between : (from name : List ℕ) → ends_component (drop (length from) name) ≡ false → is_under from name ≡ false
-between from name h = no_end (is_same from (take (length from) name)) (ends_component (drop (length from) name)) h
-
-pub at_end : (from name : List ℕ) → ends_component (drop (length from) name) ≡ true → is_under from name ≡ is_same from (take (length from) name)
-at_end from name h = an_end (is_same from (take (length from) name)) (ends_component (drop (length from) name)) h
 
 pub under_is_long : (from name : List ℕ) → is_under from name ≡ true → length from ≤ length name
 under_is_long from name h =
@@ -35,9 +21,3 @@ under_is_long from name h =
     let e : length from ≡ length front = same_length from front (and_parts (is_same from front) (ends_component (drop (length from) name)) h).0 in
     let t = length-take (length from) name in
     omega arith
-
-pub short_is_not_under : (from name : List ℕ) → length name < length from → is_under from name ≡ false
-short_is_not_under from name h = not_true (is_under from name) (λ e. short (under_is_long from name e))
-  where
-    short : length from ≤ length name → ⊥
-    short k = omega arith

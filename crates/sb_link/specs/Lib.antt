@@ -10,3 +10,4 @@ pub mod LinkedHistories
 pub mod LinkedLaws
 pub mod ScriptCalls
 pub mod Lines
+pub mod SortedFroms

@@ -11,6 +11,7 @@ mod links;
 mod log_lines;
 mod resolving;
 mod script_calls;
+mod sorted_froms;
 mod stops;
 
 pub use faults::{LinkFault, LinkKind, LinksRefused};

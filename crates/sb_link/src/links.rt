@@ -1,9 +1,11 @@
 // Lists of links.
-ghost use Rattle.std.specs.Prelude.{◌≡◌, ◌<◌, ◌++◌, ◌∷◌, [], false, true, length, OnOk, OnErr};
+ghost use Rattle.std.specs.Prelude.{◌≡◌, ◌<◌, ◌++◌, ◌∷◌, [], false, true, length, option_map, OnOk, OnErr};
 ghost use Rattle.std.specs.List.{list_any};
 ghost use Rattle.sb_wide.specs.Wide.{is_same};
 ghost use Rattle.sb_link.specs.Links.{AreLinks, is_from, is_link, is_link_name, most_links};
+ghost use Rattle.sb_link.specs.Resolution.{applying};
 
+use crate::sorted_froms::{SortedFrom, index_with, longest};
 use sb_items::{Items, NoMemory};
 use sb_wide::{Wide, eq_ignore_ascii_case, is_name};
 use std::alloc::Global;
@@ -28,26 +30,32 @@ pub struct Link {
 }
 
 /// At most 64 links, each with two names of at most 256 units. No two begin with the same name. Contracts see the list of them.
+///
+/// Beside the list is an index of its FROMs in order, by which one walk finds the link that applies to a name.
 pub struct Links {
     items: Items<Link>,
+    sorted: Vec<SortedFrom>,
 }
 
 impl Drop for Links {
     fn drop(self) {
-        let Links { items: _ } = self;
+        let Links {
+            items: _,
+            sorted: _,
+        } = self;
     }
 }
 
 impl Model for Links {
     ghost use Rattle.std.specs.Prelude.{List};
-    ghost use Rattle.sb_link.specs.Links.{AreLinks};
+    ghost use Rattle.sb_link.specs.SortedFroms.{AreIndexed};
     ghost use Rattle.sb_link.specs.declared.links.Link.{Link};
 
     ghost Value = { List Link };
 
     ghost view = { λ l. l.items };
 
-    ghost invariant = { λ l. AreLinks l.items };
+    ghost invariant = { λ l. AreIndexed l.items l.sorted.items };
 }
 
 /// Whether units are what a link may begin with or lead to: a name of at most 256 units.
@@ -70,6 +78,7 @@ impl Links {
     {
         Links {
             items: Items::empty(alloc),
+            sorted: Vec::new(alloc),
         }
     }
 
@@ -80,18 +89,20 @@ impl Links {
         self.items.len()
     }
 
-    /// The links, in order.
-    pub fn as_slice(&self) -> &[Link]
-        ensures { result.now ≡ self.now }
-    {
-        self.items.as_slice()
-    }
-
     /// What every list of links is. It does nothing.
     pub fn establish_links(&self)
         ensures { AreLinks self.now }
     {
         let _items = &self.items;
+    }
+
+    /// Of the links that apply to a name the one with the longest FROM, in a time that grows with the units of the name and the number of
+    /// links, and not with their product.
+    #[tactic(auto, using(crate::proofs::Walked::walk_finds))]
+    pub(crate) fn applying(&self, name: &[u16]) -> Option<&Link>
+        ensures { option_map (λ l. l.now) result ≡ applying self.now name.now }
+    {
+        longest(self.items.as_slice(), self.sorted.as_slice(), name)
     }
 
     /// Whether a link begins with this name, except for the case of letters.
@@ -112,7 +123,17 @@ impl Links {
         ensures ok { OnOk result (self.new ≡ self.old ++ link ∷ []) }
         ensures err { OnErr result (self.new ≡ self.old) }
     {
+        let alloc = *self.sorted.allocator();
+        let links = self.items.as_slice();
+        let sorted = index_with(
+            alloc,
+            links,
+            link.from.as_units(),
+            links.len(),
+            self.sorted.as_slice(),
+        )?;
         self.items.push(link)?;
+        self.sorted = sorted;
         Ok(())
     }
 }
