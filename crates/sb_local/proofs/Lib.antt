@@ -5,3 +5,4 @@ pub mod Places
 pub mod Serially
 pub mod Sound
 pub mod Staying
+pub mod Whole

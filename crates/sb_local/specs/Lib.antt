@@ -1,5 +1,6 @@
 pub mod Denials
 pub mod Thinning
+pub mod Sending
 pub mod Lines
 pub mod Serial
 pub mod Laws

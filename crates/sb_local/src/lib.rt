@@ -6,6 +6,7 @@
 mod denials;
 mod laws;
 mod lines;
+mod sending;
 mod thinning;
 
 pub use denials::LocalDenial;
@@ -14,4 +15,5 @@ pub use laws::{
     statements_had_their_places, thinned_scripts_are_sound, thinning_again_changes_nothing,
 };
 pub use lines::denial_lines;
+pub use sending::SentScript;
 pub use thinning::{Places, Thinned, make_ready, thin};
