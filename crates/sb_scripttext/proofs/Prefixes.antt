@@ -8,16 +8,17 @@ use Rattle.sb_statements.specs.declared.scripts.TargetScript.{TargetScript}
 use Rattle.sb_rule.specs.declared.policies.Policy.{Policy}
 use Rattle.sb_scripttext.specs.SoFar.{SoFar}
 use Rattle.sb_scripttext.specs.Laws.{is_looked_for_last, FirstFaultsStay}
-use Rattle.sb_scripttext.specs.ScriptTexts.{Absence, ScriptFault, absence_fault, no_channel, no_target, grammar, first_absence, script_of, finished, reading}
+use Rattle.sb_scripttext.specs.ScriptTexts.{Absence, ScriptFault, with_number, absence_fault, no_channel, no_target, grammar, line_on, first_absence, script_of, finished, reading}
 use Rattle.sb_text.specs.Steps.{◌>>=◌}
 use Rattle.sb_scripttext.specs.declared.drafts.Named.{Named}
 use Rattle.sb_scripttext.specs.declared.faults.ScriptKind.{ScriptKind}
-use Rattle.sb_scripttext.specs.declared.faults.ScriptKind.TheVariants.{NotUtf8}
+use Rattle.sb_scripttext.specs.declared.faults.ScriptKind.TheVariants.{NotUtf8, UnknownWord, UnknownCall, WrongArgs, BadNumber, BadName, NoSuchPolicy, NoSuchTarget, NoSuchChannel, NoSuchWord, TooMany, TooBig, SameName, BadStart}
 use Rattle.sb_text.specs.LineLaws.{ended}
 use Rattle.sb_text.specs.Lines.{lines_of}
 use Rattle.sb_text.specs.ReadingLaws as laws
 use Rattle.sb_text.specs.Readings.{read_by, where_utf8}
 use Rattle.sb_text.specs.Utf8.{not_utf8_place}
+use Rattle.sb_text.specs.Words.{words_of}
 use Rattle.sb_text.specs.declared.refusals.TokenFault.{TokenFault}
 
 -- a text that is UTF-8 is read by its lines
@@ -45,6 +46,23 @@ absent_last targets (x ∷ xs) =
     by_tests c t p q others true false absence h = told c p absence h
     by_tests c t p q others false b absence h = told t q absence h
 
+-- a fault stays one that is looked for last, whatever number its line names
+with_number_last : (words : List (List ℕ)) (kind : ScriptKind) → is_looked_for_last kind ≡ true → is_looked_for_last (with_number words kind) ≡ true
+with_number_last words (NoSuchTarget target targets) h = refl
+with_number_last words (NoSuchChannel channel target channels) h = refl
+with_number_last words NotUtf8 h = h
+with_number_last words (UnknownWord why) h = h
+with_number_last words UnknownCall h = h
+with_number_last words (WrongArgs why) h = h
+with_number_last words BadNumber h = h
+with_number_last words BadName h = h
+with_number_last words NoSuchPolicy h = h
+with_number_last words NoSuchWord h = h
+with_number_last words (TooMany limit) h = h
+with_number_last words TooBig h = h
+with_number_last words SameName h = h
+with_number_last words (BadStart why) h = h
+
 finished_last : (text : List ℕ) (sofar : SoFar) (fault : ScriptFault) → finished text sofar ≡ Err fault → is_looked_for_last fault.kind ≡ true
 finished_last text sofar fault h = by_absence (first_absence sofar.targets sofar.named) (absent_last sofar.targets sofar.named) h
   where
@@ -55,7 +73,7 @@ finished_last text sofar fault h = by_absence (first_absence sofar.targets sofar
         → ◌≡◌ {A = Result Script ScriptFault} (elim absent [ None ↦ Ok (script_of sofar) | Some absence ↦ Err (absence_fault text absence) ]) (Err fault)
         → is_looked_for_last fault.kind ≡ true
     by_absence None l h = absurd cc
-    by_absence (Some absence) l h = same_last (absence_fault text absence) fault h ∙ l absence refl
+    by_absence (Some absence) l h = same_last (absence_fault text absence) fault h ∙ with_number_last (words_of (line_on absence.0 text)) absence.1.kind (l absence refl)
 
 abbrev fault_in : {A : Type 0} → Result A ScriptFault → Option ScriptFault
 fault_in (Ok x) = None

@@ -27,6 +27,7 @@ use Rattle.sb_scripttext.proofs.LastChanged.{changed_all}
 use Rattle.sb_scripttext.proofs.Ready.{all_more, on_this, start_made}
 use Rattle.sb_scripttext.proofs.Sound.{at_made, both, made, ok_same, passed, branches}
 use Rattle.sb_scripttext.specs.Arguments.{most_32, tag_at, arg_at, args_at, fitting, call}
+use Rattle.sb_scripttext.specs.StartFaults.{start_fault}
 use Rattle.sb_scripttext.specs.SoFar.{SoFar, nothing, change_last, is_opening, is_in_thread, with_patience, with_start, with_target, one_thread_more, with_thread, one_statement_more, in_last_thread, named_by, with_statement}
 use Rattle.sb_scripttext.specs.Lines.{is_target_named, new_name, new_name_at, policy_at, heading, patience, set_patience, add_target, add_thread, at_start, misplaced, not_here, start_line, statement_line, plain_line, line_of}
 use Rattle.sb_scripttext.specs.Openings.{can_place, dir, file, key, event}
@@ -353,7 +354,7 @@ Makes read = (new : SoFar) → read ≡ Ok new → IsWritable new
 
 start_more : (sofar : SoFar) (line : StartLine) → IsWritable sofar → is_writable_start line ≡ true → Gains (with_start sofar line)
 start_more sofar line f w =
-    branches Gains (can_place sofar.start line) _ (Err BadStart)
+    branches Gains (can_place sofar.start line) _ (Err (BadStart (start_fault sofar.start line)))
     (λ new h.
     let t = passed (nat_lt (length sofar.start) 4096) (record sofar { start = sofar.start ++ line ∷ [] }) new (TooMany Openings) h in
     subst IsWritable t.1 (record { starts = all_more is_writable_start sofar.start line f.starts w; targets = f.targets }))

@@ -22,6 +22,7 @@ use Rattle.sb_scripttext.proofs.LastChanged.{KeepsName, changed_all, changed_len
 use Rattle.sb_scripttext.proofs.Opened.{opens_with}
 use Rattle.sb_scripttext.proofs.Sound.{at_made, both, made, ok_same, passed, branches, in_range, none_absent, patience_sound, start_sound, statement_sound}
 use Rattle.sb_scripttext.specs.Arguments.{most_32}
+use Rattle.sb_scripttext.specs.StartFaults.{start_fault}
 use Rattle.sb_scripttext.specs.SoFar.{SoFar, nothing, change_last, is_opening, is_in_thread, with_patience, with_start, with_target, one_thread_more, with_thread, one_statement_more, in_last_thread, named_by, with_statement}
 use Rattle.sb_scripttext.specs.Lines.{is_target_named, new_name, new_name_at, policy_number, policy_at, heading, patience, set_patience, add_target, add_thread, at_start, misplaced, not_here, start_line, statement_line, plain_line, line_of}
 use Rattle.sb_scripttext.specs.Openings.{can_place}
@@ -32,6 +33,7 @@ use Rattle.sb_scripttext.specs.Steps.{number_within}
 use Rattle.sb_text.specs.Steps.{◌>>=◌, at_left, at_token, or_fails, with_first, end_at}
 use Rattle.sb_scripttext.specs.declared.drafts.Named.{Named}
 use Rattle.sb_scripttext.specs.declared.faults.ScriptKind.{ScriptKind}
+use Rattle.sb_scripttext.specs.declared.faults.StartFault.{StartFault}
 use Rattle.sb_scripttext.specs.declared.faults.ScriptKind.TheVariants.{NotUtf8, UnknownWord, BadNumber, SameName, NoSuchPolicy, TooMany, BadStart}
 use Rattle.sb_text.specs.Lines.{NumberedLine, lines_of}
 use Rattle.sb_text.specs.Tokens.{Lexeme, Word, Quoted, Bad, tokens_of}
@@ -199,7 +201,7 @@ start_made tokens (Err kind) x h = absurd cc
 -- the patience, the opening lines and the targets so far
 fine_start : (count : ℕ) (sofar new : SoFar) (line : StartLine) → IsFine count sofar → is_start line ≡ true → with_start sofar line ≡ Ok new → IsFine count new
 fine_start count sofar new line f s h =
-    let p = placeable (can_place sofar.start line) (cond (nat_lt (length sofar.start) 4096) (Ok (record sofar { start = sofar.start ++ line ∷ [] })) (Err (TooMany Openings))) new h in
+    let p = placeable (start_fault sofar.start line) (can_place sofar.start line) (cond (nat_lt (length sofar.start) 4096) (Ok (record sofar { start = sofar.start ++ line ∷ [] })) (Err (TooMany Openings))) new h in
     let t = passed (nat_lt (length sofar.start) 4096) (record sofar { start = sofar.start ++ line ∷ [] }) new (TooMany Openings) p.1 in
     subst (IsFine count) t.1 (record {
       patience = f.patience;
@@ -211,9 +213,9 @@ fine_start count sofar new line f s h =
       targets = f.targets;
     })
   where
-    placeable : (b : Bool) (x : Result SoFar ScriptKind) (new : SoFar) → cond b x (Err BadStart) ≡ Ok new → (b ≡ true) × (x ≡ Ok new)
-    placeable true x new h = (refl, h)
-    placeable false x new h = absurd cc
+    placeable : (why : StartFault) (b : Bool) (x : Result SoFar ScriptKind) (new : SoFar) → cond b x (Err (BadStart why)) ≡ Ok new → (b ≡ true) × (x ≡ Ok new)
+    placeable why true x new h = (refl, h)
+    placeable why false x new h = absurd cc
 
 -- what a heading says is in its ranges
 record IsHeading (count : ℕ) (targets : List TargetScript) (heading : TargetScript) : Type 0 where

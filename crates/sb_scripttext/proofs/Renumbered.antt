@@ -14,7 +14,7 @@ use Rattle.sb_scripttext.specs.SoFar.{SoFar, change_last, is_opening, is_in_thre
 use Rattle.sb_scripttext.specs.Laws.{SkippedLinesCountAlone}
 use Rattle.sb_scripttext.specs.Lines.{at_start, heading, misplaced, patience, set_patience, add_target, add_thread, start_line, statement_line, plain_line, line_of}
 use Rattle.sb_scripttext.specs.Openings.{can_place}
-use Rattle.sb_scripttext.specs.ScriptTexts.{Absence, ScriptFault, absence_fault, grammar, absence, first_absence, line_on, script_of, finished}
+use Rattle.sb_scripttext.specs.ScriptTexts.{Absence, ScriptFault, absence_on, absence_fault, grammar, absence, first_absence, line_on, script_of, finished}
 use Rattle.sb_text.specs.Steps.{◌>>=◌, at_left, on_value, end_at, with_first}
 use Rattle.sb_scripttext.specs.declared.drafts.Named.{Named}
 use Rattle.sb_scripttext.specs.declared.faults.ScriptKind.{ScriptKind}
@@ -149,7 +149,7 @@ finished_moves f text other sofar same =
         → renumbered f (λ script. script) (elim absent [ None ↦ Ok (script_of sofar) | Some absence ↦ Err (absence_fault text absence) ])
         ≡ elim (renumbered_absence f absent) [ None ↦ Ok (script_of sofar) | Some absence ↦ Err (absence_fault other absence) ]
     by_absence None = refl
-    by_absence (Some absence) = ap (λ line. Err (fault_on by_tokens (f absence.0) line absence.1)) (sym (same absence.0))
+    by_absence (Some absence) = ap (λ line. Err (absence_on (f absence.0) absence.1 line)) (sym (same absence.0))
 
 read_moves : (f : ℕ → ℕ) (text other : List ℕ) (read : Result SoFar ScriptFault) → IsOtherText f text other
     → renumbered f (λ script. script) (read >>= λ sofar. finished text sofar) ≡ (renumbered f (renumbered_sofar f) read >>= λ sofar. finished other sofar)

@@ -5,6 +5,7 @@ use Rattle.std.specs.Bool.{⊤}
 use Rattle.sb_statements.specs.declared.scripts.StartLine.{StartLine}
 use Rattle.sb_scripttext.specs.Openings.{can_place, with_line}
 use Rattle.sb_scripttext.specs.SoFar.{SoFar, with_start}
+use Rattle.sb_scripttext.specs.StartFaults.{start_fault}
 use Rattle.sb_scripttext.specs.declared.faults.ScriptKind.{ScriptKind}
 use Rattle.sb_scripttext.specs.declared.faults.ScriptKind.TheVariants.{TooMany, BadStart}
 use Rattle.sb_items.specs.Refusals.{Gives}
@@ -29,8 +30,11 @@ start_more sofar line before lines s e l =
     by (can_place sofar.start line) (sofar.start ++ line ∷ []) (nat_lt (length sofar.start) 4096) (ap (λ lines. with_line lines line) (sym s) ∙ e)
     (grind (arith, nat_tests, l))
   where
-    by : (b : Bool) (more : List StartLine) (few : Bool) → ◌≡◌ {A = Result (List StartLine) ScriptKind} (cond b (Ok more) (Err BadStart)) (Ok lines) → few ≡ true
-        → ◌≡◌ {A = Result SoFar ScriptKind} (cond b (cond few (with_lines sofar more) (Err (TooMany Openings))) (Err BadStart)) (with_lines sofar lines)
+    bad : ScriptKind
+    bad = BadStart (start_fault sofar.start line)
+
+    by : (b : Bool) (more : List StartLine) (few : Bool) → ◌≡◌ {A = Result (List StartLine) ScriptKind} (cond b (Ok more) (Err bad)) (Ok lines) → few ≡ true
+        → ◌≡◌ {A = Result SoFar ScriptKind} (cond b (cond few (with_lines sofar more) (Err (TooMany Openings))) (Err bad)) (with_lines sofar lines)
     by true more true e l = ap (with_lines sofar) (same_lines more lines e)
     by true more false e l = absurd cc
     by false more few e l = absurd cc
@@ -42,8 +46,11 @@ start_refused sofar new line before (refused.Fault kind) s h =
     by (can_place sofar.start line) (sofar.start ++ line ∷ [])
     (cond (nat_lt (length sofar.start) 4096) (with_lines sofar (sofar.start ++ line ∷ [])) (Err (TooMany Openings))) (ap (λ lines. with_line lines line) (sym s) ∙ h)
   where
-    by : (b : Bool) (more : List StartLine) (next : Result SoFar ScriptKind) → ◌≡◌ {A = Result (List StartLine) ScriptKind} (cond b (Ok more) (Err BadStart)) (Err kind)
-        → ◌≡◌ {A = Result SoFar ScriptKind} (cond b next (Err BadStart)) (Err kind)
+    bad : ScriptKind
+    bad = BadStart (start_fault sofar.start line)
+
+    by : (b : Bool) (more : List StartLine) (next : Result SoFar ScriptKind) → ◌≡◌ {A = Result (List StartLine) ScriptKind} (cond b (Ok more) (Err bad)) (Err kind)
+        → ◌≡◌ {A = Result SoFar ScriptKind} (cond b next (Err bad)) (Err kind)
     by true more next h = absurd cc
-    by false more next h = ap Err (same_kind BadStart kind h)
+    by false more next h = ap Err (same_kind bad kind h)
 start_refused sofar new line before refused.NoMemory s h = tt

@@ -30,6 +30,7 @@ use Rattle.sb_scripttext.proofs.WrittenOpenings.{start_reader, start_read}
 use Rattle.sb_scripttext.proofs.WrittenStatements.{AreSound, patience_number, statement_reader, statement_read, statement_there}
 use Rattle.sb_scripttext.proofs.WrittenTokens.{IsWhole, sound_target, channels_number, start_plain, statement_plain, patience_plain, heading_plain, script_plain}
 use Rattle.sb_scripttext.proofs.WrittenWords.{Texts, not_true, names_symm, or_false, within_read, policy_read}
+use Rattle.sb_scripttext.specs.StartFaults.{start_fault}
 use Rattle.sb_scripttext.specs.SoFar.{SoFar, nothing, is_empty, is_opening, is_in_thread, with_patience, with_start, with_target, one_thread_more, with_thread, one_statement_more, in_last_thread, named_by, with_statement}
 use Rattle.sb_scripttext.specs.Lines.{add_target, add_thread, at_start, heading, is_target_named, line_of, misplaced, new_name_at, not_here, patience, plain_line, policy_at, set_patience, start_line, statement_line}
 use Rattle.sb_scripttext.specs.Openings.{can_place}
@@ -139,7 +140,7 @@ start_by policies n line before (Event name kind initial) = refl
 
 -- an opening line that can be placed, if there is room for one more
 abbrev placed : List Lexeme → ℕ → List StartLine → StartLine → Bool → Bool → Result SoFar (TokenFault ScriptKind)
-placed tokens n before start place room = at_start tokens (cond place (cond room (Ok (opening n (before ++ start ∷ []))) (Err (TooMany Openings))) (Err BadStart))
+placed tokens n before start place room = at_start tokens (cond place (cond room (Ok (opening n (before ++ start ∷ []))) (Err (TooMany Openings))) (Err (BadStart (start_fault before start))))
 
 start_line_read : Texts → (policies : List Policy) (n line : ℕ) (before : List StartLine) (start : StartLine) → is_start start ≡ true
     → is_writable_start start ≡ true → can_place before start ≡ true → nat_lt (length before) 4096 ≡ true

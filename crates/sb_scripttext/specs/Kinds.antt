@@ -18,4 +18,4 @@ kind_number NoSuchWord = 10
 kind_number (TooMany limit) = 11
 kind_number TooBig = 12
 kind_number SameName = 13
-kind_number BadStart = 14
+kind_number (BadStart why) = 14

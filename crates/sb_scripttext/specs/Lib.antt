@@ -2,6 +2,7 @@ pub mod Kinds
 pub mod Steps
 pub mod Arguments
 pub mod Statements
+pub mod StartFaults
 pub mod Openings
 pub mod SoFar
 pub mod Building

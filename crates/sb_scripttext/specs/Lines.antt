@@ -89,7 +89,7 @@ not_here w tokens = fails_left (with_first tokens) (first_word_fault w)
 
 -- how many tokens are left where it is told that an opening line is refused: a bad start at the name, and all else at the first word
 abbrev pub start_left : List Lexeme → ScriptKind → ℕ
-start_left tokens BadStart = length tokens
+start_left tokens (BadStart why) = length tokens
 start_left tokens other = with_first tokens
 
 -- a refusal there

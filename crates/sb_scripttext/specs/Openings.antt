@@ -1,6 +1,7 @@
 -- Opening lines: what is there at the start.
 use Rattle.std.specs.Prelude.{Bool, List, [], ◌∷◌, ◌++◌, Result, Ok, Err, is_some, if◌then◌else◌}
 use Rattle.sb_kernel.specs.Openings.{placed, opening}
+use Rattle.sb_scripttext.specs.StartFaults.{start_fault}
 use Rattle.sb_statements.specs.declared.scripts.StartLine.{StartLine}
 use Rattle.sb_statements.specs.declared.scripts.StartLine.TheVariants.{Dir, File, Key, Event}
 use Rattle.sb_scripttext.specs.Arguments.{most_32}
@@ -49,4 +50,4 @@ can_place lines line = is_some (placed (opening lines) line)
 
 -- these lines with one more, which can be placed after them
 abbrev pub with_line : List StartLine → StartLine → Result (List StartLine) ScriptKind
-with_line lines line = if can_place lines line then Ok (lines ++ line ∷ []) else Err BadStart
+with_line lines line = if can_place lines line then Ok (lines ++ line ∷ []) else Err (BadStart (start_fault lines line))

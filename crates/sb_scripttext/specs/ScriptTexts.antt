@@ -1,5 +1,5 @@
 -- What a script text means: a script, or the first fault.
-use Rattle.std.specs.Prelude.{ℕ, ◌-◌, nat_lt, List, [], ◌∷◌, length, slice_get, Option, None, Some, Result, Ok, Err, if◌then◌else◌, codes}
+use Rattle.std.specs.Prelude.{ℕ, ◌-◌, nat_lt, List, [], ◌∷◌, length, drop, slice_get, unwrap_or, Option, None, Some, Result, Ok, Err, if◌then◌else◌, codes}
 use Rattle.sb_statements.specs.Soundness.{channels_of}
 use Rattle.sb_statements.specs.declared.scripts.Script.{Script}
 use Rattle.sb_statements.specs.declared.scripts.TargetScript.{TargetScript}
@@ -11,9 +11,11 @@ use Rattle.sb_scripttext.specs.declared.drafts.Named.{Named}
 use Rattle.sb_scripttext.specs.declared.faults.ScriptKind.{ScriptKind}
 use Rattle.sb_scripttext.specs.declared.faults.ScriptKind.TheVariants.{NotUtf8, UnknownWord, NoSuchTarget, NoSuchChannel}
 use Rattle.sb_text.specs.Lines.{NumberedLine, line_numbered}
+use Rattle.sb_text.specs.Numbers.{number_of}
 use Rattle.sb_text.specs.Readings.{Grammar, fault_on, read_text}
 use Rattle.sb_text.specs.Spots.{by_tokens}
 use Rattle.sb_text.specs.Tokens.{tokens_of}
+use Rattle.sb_text.specs.Words.{words_of}
 use Rattle.sb_text.specs.declared.refusals.LineFault.{LineFault}
 use Rattle.sb_text.specs.declared.refusals.TokenFault.{TokenFault}
 use Rattle.sb_text.specs.declared.refusals.WordFault.TheVariants.{NoVersion}
@@ -61,9 +63,28 @@ absence targets named =
 abbrev pub Absence : Type 0
 Absence = ℕ × TokenFault ScriptKind
 
+-- the number that the first of these words is, or this one if it is none
+abbrev pub first_number : List (List ℕ) → ℕ → ℕ
+first_number [] other = other
+first_number (word ∷ words) other = unwrap_or (number_of word) other
+
+-- the kind of a fault with the number that its line names, in place of one cut to 32 bits: T is the second word of the line, and C the third
+abbrev pub with_number : List (List ℕ) → ScriptKind → ScriptKind
+with_number words (NoSuchTarget target targets) = NoSuchTarget (first_number (drop 1 words) target) targets
+with_number words (NoSuchChannel channel target channels) = NoSuchChannel (first_number (drop 2 words) channel) target channels
+with_number words kind = kind
+
+-- a fault with the number that its line names
+abbrev pub numbered_fault : List ℕ → TokenFault ScriptKind → TokenFault ScriptKind
+numbered_fault line fault = record fault { kind = with_number (words_of line) fault.kind }
+
+-- what is not there, as a fault on the line of this number and text
+abbrev pub absence_on : ℕ → TokenFault ScriptKind → List ℕ → ScriptFault
+absence_on number fault line = fault_on by_tokens number line (numbered_fault line fault)
+
 -- the same as a fault of this text
 abbrev pub absence_fault : List ℕ → Absence → ScriptFault
-absence_fault text absence = fault_on by_tokens absence.0 (line_on absence.0 text) absence.1
+absence_fault text absence = absence_on absence.0 absence.1 (line_on absence.0 text)
 
 -- the first of these that names what is not there
 abbrev pub first_absence : List TargetScript → List Named → Option Absence

@@ -6,6 +6,7 @@ use Rattle.sb_statements.specs.declared.scripts.TargetScript.{TargetScript}
 use Rattle.sb_statements.specs.declared.statements.Statement.{Statement}
 use Rattle.sb_statements.specs.declared.statements.Statement.TheVariants.{Call, Store, Exchange, Load, Wait}
 use Rattle.sb_scripttext.specs.Openings.{can_place}
+use Rattle.sb_scripttext.specs.StartFaults.{start_fault}
 use Rattle.sb_text.specs.Steps.{◌>>=◌}
 use Rattle.sb_scripttext.specs.declared.drafts.Named.{Named}
 use Rattle.sb_scripttext.specs.declared.faults.ScriptKind.{ScriptKind}
@@ -59,7 +60,7 @@ abbrev pub with_start : SoFar → StartLine → Result SoFar ScriptKind
 with_start sofar line =
     if can_place sofar.start line
     then (if nat_lt (length sofar.start) most_start_lines then Ok (record sofar { start = sofar.start ++ line ∷ [] }) else Err (TooMany Openings))
-    else Err BadStart
+    else Err (BadStart (start_fault sofar.start line))
 
 -- one more target
 abbrev pub with_target : SoFar → TargetScript → Result SoFar ScriptKind

@@ -223,7 +223,7 @@ impl Draft {
             if self.start.can_place(&line) {
                 return Err(KindRefused::Fault(ScriptKind::TooMany(ScriptLimit::Openings)));
             }
-            return Err(KindRefused::Fault(ScriptKind::BadStart));
+            return Err(KindRefused::Fault(ScriptKind::BadStart(self.start.fault_of(&line))));
         }
         let start = mem::replace(&mut self.start, Placed::new(alloc));
         self.start = start.with(line)?;

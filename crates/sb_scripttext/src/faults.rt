@@ -18,6 +18,17 @@ pub enum ScriptLimit {
     Statements,
 }
 
+/// Why an opening line cannot be placed after those before it. Names are compared without regard to small and capital ASCII letters.
+#[derive(Clone, Copy, Debug)]
+pub enum StartFault {
+    /// An earlier line has its name, in the same service. Files and directories are of one service.
+    NameTaken,
+    /// No earlier line of the same service has the name of its parent.
+    NoParent,
+    /// The earlier line with the name of its parent is that of a file.
+    ParentIsFile,
+}
+
 /// What is wrong with a line of a script text.
 #[derive(Clone, Copy, Debug, Error)]
 pub enum ScriptKind {
@@ -48,16 +59,16 @@ pub enum ScriptKind {
     /// The target that a statement names is not there.
     #[error("no such target")]
     NoSuchTarget {
-        /// The number named, or 4,294,967,295 for one above it.
-        target: u32,
+        /// The number named.
+        target: u64,
         /// The number of targets of the script.
         targets: usize,
     },
     /// The channel that a statement names is not there.
     #[error("no such channel")]
     NoSuchChannel {
-        /// The number named, or 4,294,967,295 for one above it.
-        channel: u32,
+        /// The number named.
+        channel: u64,
         /// Its target.
         target: u32,
         /// The number of channels of the target.
@@ -75,9 +86,9 @@ pub enum ScriptKind {
     /// An earlier target has this name.
     #[error("an earlier target has this name")]
     SameName,
-    /// The parent of an opening line's name is missing or no directory, or its name is there.
+    /// An opening line cannot be placed after those before it.
     #[error("cannot be placed")]
-    BadStart,
+    BadStart(StartFault),
 }
 
 impl ScriptKind {
@@ -99,7 +110,7 @@ impl ScriptKind {
             ScriptKind::TooMany(_) => 11,
             ScriptKind::TooBig => 12,
             ScriptKind::SameName => 13,
-            ScriptKind::BadStart => 14,
+            ScriptKind::BadStart(_) => 14,
         }
     }
 }

@@ -10,10 +10,11 @@ mod lines;
 mod openings;
 mod placing;
 mod script_texts;
+mod start_faults;
 mod statements;
 mod steps;
 
-pub use faults::{ScriptFault, ScriptKind, ScriptLimit, ScriptRefused};
+pub use faults::{ScriptFault, ScriptKind, ScriptLimit, ScriptRefused, StartFault};
 pub use laws::{
     first_faults_stay, read_arguments_fit, read_scripts_are_ready, read_scripts_can_be_written,
     read_scripts_have_units, skipped_lines_count_alone, written_scripts_are_read,

@@ -204,7 +204,7 @@ fn refuse_start(others: &Tokens, refused: KindRefused) -> LineRefused
     ensures { result ≡ refused_start others.now refused }
 {
     match refused {
-        KindRefused::Fault(BadStart) => others.fail(BadStart),
+        KindRefused::Fault(BadStart(why)) => others.fail(BadStart(why)),
         refused => others.refuse_first(refused),
     }
 }

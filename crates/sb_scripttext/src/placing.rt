@@ -2,10 +2,12 @@
 ghost use Rattle.std.specs.Prelude.{◌≡◌, ◌<◌, [], true, length};
 ghost use Rattle.sb_kernel.specs.Openings.{is_named, opening};
 ghost use Rattle.sb_scripttext.specs.Openings.{can_place, with_line};
+ghost use Rattle.sb_scripttext.specs.StartFaults.{start_fault};
 ghost use Rattle.sb_statements.specs.Limits.{most_start_lines};
 ghost use Rattle.sb_items.specs.Refusals.{Gives};
 
-use crate::faults::{KindRefused, ScriptKind};
+use crate::faults::{KindRefused, ScriptKind, StartFault};
+use crate::start_faults::start_fault;
 use sb_kernel::{Kernel, openings_make_few};
 use sb_statements::{StartLine, StartLines};
 use std::alloc::Global;
@@ -65,6 +67,13 @@ impl Placed {
         self.kernel.can_place(line)
     }
 
+    /// Why another line cannot be placed, if it cannot.
+    pub(crate) fn fault_of(&self, line: &StartLine) -> StartFault
+        ensures { result ≡ start_fault self.now line.now }
+    {
+        start_fault(self.lines.as_slice(), line)
+    }
+
     /// With one more line, while there are fewer than 4,096. One that cannot be placed is a bad start.
     pub(crate) fn with(self, line: StartLine) -> Result<Placed, KindRefused>
         requires name { is_named line ≡ true }
@@ -77,7 +86,8 @@ impl Placed {
             mut kernel,
         } = self;
         if !kernel.place(&line)? {
-            return Err(KindRefused::Fault(ScriptKind::BadStart));
+            let fault = start_fault(lines.as_slice(), &line);
+            return Err(KindRefused::Fault(ScriptKind::BadStart(fault)));
         }
         lines.push(line)?;
         Ok(Placed { lines, kernel })

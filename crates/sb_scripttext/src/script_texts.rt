@@ -1,12 +1,12 @@
 // Reading script texts.
-ghost use Rattle.std.specs.Prelude.{◌≡◌, ◌+◌, ◌<◌, ◌≤◌, ◌^◌, length, IfOk};
+ghost use Rattle.std.specs.Prelude.{◌≡◌, ◌+◌, ◌<◌, ◌≤◌, ◌^◌, drop, length, IfOk};
 ghost use Rattle.sb_kernel.specs.Openings.{opening};
 ghost use Rattle.sb_scripttext.specs.SoFar.{nothing};
-ghost use Rattle.sb_scripttext.specs.ScriptTexts.{grammar, absence, line_on, first_absence, finished, reading};
+ghost use Rattle.sb_scripttext.specs.ScriptTexts.{grammar, absence, line_on, first_number, with_number, absence_on, first_absence, finished, reading};
 ghost use Rattle.sb_scripttext.specs.declared.faults.ScriptKind.TheVariants.{UnknownWord};
 ghost use Rattle.sb_items.specs.Refusals.{GivesAs};
-ghost use Rattle.sb_text.specs.Readings.{fault_on};
 ghost use Rattle.sb_text.specs.Spots.{by_tokens};
+ghost use Rattle.sb_text.specs.Words.{words_of};
 ghost use Rattle.sb_text.specs.declared.refusals.WordFault.TheVariants.{NoVersion};
 
 use crate::drafts::{Draft, Named};
@@ -18,8 +18,8 @@ use sb_kernel::Kernel;
 use sb_rule::{Policy, WellMadePolicies};
 use sb_statements::{Script, SoundScript, TargetScript};
 use sb_text::{
-    Layout, Line, Lines, TextGrammar, TokenFault, WordFault, column_at, line_numbered, read_text,
-    version_at,
+    Layout, Line, Lines, TextGrammar, TokenFault, WordFault, Words, column_at, line_numbered,
+    number_of, read_text, version_at,
 };
 use std::alloc::Global;
 
@@ -78,7 +78,7 @@ fn absence(targets: &[TargetScript], named: &Named) -> Option<TokenFault<ScriptK
             left: named.left,
             unit: None,
             kind: ScriptKind::NoSuchTarget {
-                target: named.target,
+                target: u64::from(named.target),
                 targets: targets.len(),
             },
         }),
@@ -86,7 +86,7 @@ fn absence(targets: &[TargetScript], named: &Named) -> Option<TokenFault<ScriptK
             left: named.left.saturating_sub(1),
             unit: None,
             kind: ScriptKind::NoSuchChannel {
-                channel: named.channel,
+                channel: u64::from(named.channel),
                 target: named.target,
                 channels: target.channels,
             },
@@ -106,15 +106,61 @@ fn line_on(number: u32, text: &[u8]) -> &[u8]
     }
 }
 
-// A fault on the line of this number in a text.
-fn fault_at(text: &[u8], line: u32, fault: TokenFault<ScriptKind>) -> ScriptFault
-    requires { length text.now + 1 < 2 ^ 32 }
-    ensures { result ≡ fault_on by_tokens line (line_on line text.now) fault }
+fn pass_word(words: &mut Words)
+    ensures { words.new ≡ drop 1 words.old }
 {
+    match words.next_word() {
+        Some(_) | None => {}
+    }
+}
+
+// The number that the next word is, or this one if it is none.
+fn first_number(words: &Words, other: u64) -> u64
+    ensures { result ≡ first_number words.now other }
+{
+    match words.copy().next_word() {
+        Some(word) => number_of(word).unwrap_or(other),
+        None => other,
+    }
+}
+
+// The kind of a fault with the number that its line names, which may have more than 32 bits.
+fn with_number(line: &[u8], kind: ScriptKind) -> ScriptKind
+    ensures { result ≡ with_number (words_of line.now) kind }
+{
+    let mut words = Words::new(line);
+    pass_word(&mut words);
+    match kind {
+        ScriptKind::NoSuchTarget { target, targets } => ScriptKind::NoSuchTarget {
+            target: first_number(&words, target),
+            targets,
+        },
+        ScriptKind::NoSuchChannel {
+            channel,
+            target,
+            channels,
+        } => {
+            pass_word(&mut words);
+            ScriptKind::NoSuchChannel {
+                channel: first_number(&words, channel),
+                target,
+                channels,
+            }
+        }
+        kind => kind,
+    }
+}
+
+// What is not there, as a fault on the line of this number in a text.
+fn absence_at(text: &[u8], number: u32, fault: TokenFault<ScriptKind>) -> ScriptFault
+    requires { length text.now + 1 < 2 ^ 32 }
+    ensures { result ≡ absence_on number fault (line_on number text.now) }
+{
+    let line = line_on(number, text);
     ScriptFault {
-        line,
-        column: column_at(Layout::Text, line_on(line, text), fault.left, fault.unit),
-        kind: fault.kind,
+        line: number,
+        column: column_at(Layout::Text, line, fault.left, fault.unit),
+        kind: with_number(line, fault.kind),
     }
 }
 
@@ -138,7 +184,7 @@ fn finished(text: &[u8], draft: Draft) -> Result<(Script, Kernel), ScriptRefused
 {
     let (script, kernel, named) = draft.into_script()?;
     match first_absence(script.targets.as_slice(), named.as_slice()) {
-        Some((line, fault)) => Err(ScriptRefused::Fault(fault_at(text, line, fault))),
+        Some((line, fault)) => Err(ScriptRefused::Fault(absence_at(text, line, fault))),
         None => Ok((script, kernel)),
     }
 }
