@@ -4,7 +4,7 @@ use Rattle.std.proofs.lemmas.Bool.{cond-true, cond-false}
 use Rattle.std.proofs.lemmas.Bool.Decides.{nat_tests}
 use Rattle.std.proofs.lemmas.List.Folds.{list_any-append}
 use Rattle.std.proofs.lemmas.List.Sums.{sum_by-append, sum_by-cons}
-use Rattle.std.specs.Prelude.{Option, None, Some, IfSome, cond, nat_le}
+use Rattle.std.specs.Prelude.{Option, None, Some, IfSome, is_some, cond, nat_le}
 use Rattle.std.specs.List.{count_by, list_any, sum_by}
 use Rattle.sb_actor.specs.Places.{mark_at, statement_at}
 use Rattle.sb_kernel.specs.Namespaces.{Space}
@@ -22,13 +22,17 @@ use Rattle.sb_lineread.specs.declared.lines.Line.{Line}
 use Rattle.sb_lineread.specs.declared.lines.Line.TheVariants as line
 use Rattle.sb_lineread.specs.declared.lines.ShownDecision.{ShownDecision}
 use Rattle.sb_lineread.specs.declared.lines.ShownResult.{ShownResult}
-use Rattle.sb_audit.specs.Audited.{clause_at, decision_clause, entry_clause, failing, policy_of, result_clause}
+use Rattle.sb_lineread.specs.declared.lines.ShownResult.TheVariants.{NoChannel}
+use Rattle.sb_audit.specs.Audited.{clause_at, decision_clause, entry_clause, failing, policy_of, result_clause, result_due}
 use Rattle.sb_audit.specs.Before.{entries_of, entry_count, has_totals, is_result, is_totals, performed_of, result_count, space_after, space_from, space_with, target_of}
-use Rattle.sb_audit.specs.Clauses.{count_of, fits_entries, has_channel, has_entry, is_above, is_denied, is_due, is_due_after, is_faked, is_fitting, is_of_call, is_own, is_performed, is_refused, needs_entry, place_of, reply_due, same_totals, shows_rule, suits, thread_of, totals_due}
+use Rattle.sb_audit.specs.Clauses.{answers_call, count_of, fits_entries, has_channel, has_entry, is_above, is_answered, is_denied, is_due, is_due_after, is_faked, is_fitting, is_of_call, is_own, is_performed, is_refused, needs_entry, place_of, reply_due, same_totals, shows_rule, suits, thread_of, totals_due}
 use Rattle.sb_audit.specs.Comparing.{same_reply}
+use Rattle.sb_audit.specs.Dues.{due_after, due_call, due_channel, due_form, due_reply, due_result, due_rule}
 use Rattle.sb_audit.specs.Found.{IsFound}
-use Rattle.sb_audit.specs.Kept.{EntryFollows, Follows, KeptAt, Keeps, after_result, after_totals, clause_kept, decision_kept, entry_kept, failing_kept, is_call_kept, is_fitting_kept, is_own_kept, no_totals, one_if, result_kept, suits_slot, totals_kept, with_entry, with_result}
+use Rattle.sb_audit.specs.Kept.{EntryFollows, Follows, KeptAt, Keeps, after_result, after_totals, clause_kept, decision_kept, due_kept, entry_kept, failing_kept, is_call_kept, is_fitting_kept, is_own_kept, no_totals, one_if, result_due_kept, result_kept, suits_slot, totals_kept, with_entry, with_result}
 use Rattle.sb_audit.specs.Rows.{KeepsRows, fits_slot, has_slot, row_at, slot_at}
+use Rattle.sb_audit.specs.declared.dues.Due.{Due}
+use Rattle.sb_audit.specs.declared.dues.Due.TheVariants as due
 use Rattle.sb_audit.specs.declared.slots.OwnReply.{OwnReply}
 use Rattle.sb_audit.proofs.FoundLemmas.{found}
 use Rattle.sb_audit.proofs.RowSteps.{rows_follow}
@@ -36,12 +40,22 @@ use Rattle.sb_audit.proofs.RowSteps.{rows_follow}
 -- ---- the clauses, as they look at what is kept
 
 -- by the namespace before an entry, and by whether it is its own
-abbrev decision_by : Policy → ℕ → EntryLine → Space → Bool → Option ℕ
-decision_by policy target e space own =
-    if not (shows_rule policy e.decision) then Some 3
-    else (if not (same_reply e.reply (reply_due space target e.decision)) then Some 4
-    else (if not own then Some 5
+abbrev decision_by : Policy → Script → ℕ → EntryLine → Space → Bool → Option Due
+decision_by policy script target e space own =
+    if not (shows_rule policy e.decision) then Some (due.Rule (due_rule policy e.decision))
+    else (if not (same_reply e.reply (reply_due space target e.decision)) then Some (due.Reply (due_reply e.reply (reply_due space target e.decision)))
+    else (if not own then Some (due.Own (due_call policy script target e))
     else None))
+
+-- what is no call's reply fits no entry that answers it
+none_answers : (script : Script) (target mark : ℕ) (es : List EntryLine) → fits_entries script es target mark NoChannel ≡ not (is_answered script es target mark)
+none_answers script target mark [] = refl
+none_answers script target mark (e ∷ es) =
+    by_answer (answers_call script target mark e) (fits_entries script es target mark NoChannel) (is_answered script es target mark) (none_answers script target mark es)
+  where
+    by_answer : (a f more : Bool) → f ≡ not more → ((not a || false) && f) ≡ not (a || more)
+    by_answer true f more h = refl
+    by_answer false f more h = h
 
 module _ (policies : List Policy) (script : Script) (before : List Line) (kept : KeptAt) (keeps : Keeps script before kept) where
   own_is : (policy : Policy) (target : ℕ) (e : EntryLine) → is_own_kept policy script kept.rows target e ≡ is_own policy script (entries_of before) target e
@@ -51,12 +65,13 @@ module _ (policies : List Policy) (script : Script) (before : List Line) (kept :
   decision_is : (policy : Policy) (target : ℕ) (e : EntryLine)
       → decision_kept policy script kept target e ≡ decision_clause policy script (space_after script before) (entries_of before) target e
   decision_is policy target e =
-      ap (λ space. decision_by policy target e space (is_own_kept policy script kept.rows target e)) keeps.space ∙ ap (decision_by policy target e (space_after script before)) (own_is policy target e)
+      ap (λ space. decision_by policy script target e space (is_own_kept policy script kept.rows target e)) keeps.space
+      ∙ ap (decision_by policy script target e (space_after script before)) (own_is policy target e)
 
   entry_is : (e : EntryLine) (named : Option ℕ) → entry_kept policies script kept e named ≡ entry_clause policies script (space_after script before) (entries_of before) e named
   entry_is e None = refl
   entry_is e (Some target) =
-      ap (λ clause. if has_channel script target e.channel then clause else Some 2) (decision_is (policy_of policies script target) target e)
+      ap (λ clause. if has_channel script target e.channel then clause else Some (due.Place (due_channel script target))) (decision_is (policy_of policies script target) target e)
 
   slot_is : (target : ℕ) (r : ShownResult) (slot : Option OwnReply) → ((not (needs_entry script target r) || has_slot r slot) && fits_slot r slot) ≡ suits_slot script target r slot
   slot_is target r None = by_test (needs_entry script target r)
@@ -103,24 +118,55 @@ module _ (policies : List Policy) (script : Script) (before : List Line) (kept :
           joined true n h h' f f' x a b c = sym c ∙ (ap (λ y. (n || y) && f') (sym a) ∙ ap (λ y. (n || h) && y) (sym b))
           joined false n h h' f f' x a b c = refl
 
+  -- a call is answered if there is a kept reply to it
+  answered_is : (target thread place : ℕ) → place < 65536
+      → is_some (slot_at kept.rows target thread place) ≡ is_answered script (entries_of before) target (mark_at thread place)
+  answered_is target thread place small =
+      by_slot (slot_at kept.rows target thread place) (is_answered script (entries_of before) target (mark_at thread place))
+      (sym (none_answers script target (mark_at thread place) (entries_of before)) ∙ keeps.rows.fits target thread place NoChannel small)
+    where
+      by_slot : (slot : Option OwnReply) (answered : Bool) → not answered ≡ fits_slot NoChannel slot → is_some slot ≡ answered
+      by_slot None true h = h
+      by_slot None false h = refl
+      by_slot (Some own) true h = refl
+      by_slot (Some own) false h = h
+
+  result_due_is : is_sound script ≡ true → script_has_units script ≡ true → (target : ℕ) (r : ResultLine)
+      → due.Result (result_due_kept script kept.rows target r) ≡ result_due script (entries_of before) target r
+  result_due_is sound units target r = by_statement (statement_at script target r.thread r.place) (found script target r.thread r.place sound units)
+    where
+      by_statement : (s : Option Statement) → IfSome s (λ x. IsFound target r.thread r.place x)
+          → due.Result (due_result script (is_some (slot_at kept.rows target r.thread r.place)) target (mark_at r.thread r.place) r.result s)
+          ≡ due.Result (due_result script (is_answered script (entries_of before) target (mark_at r.thread r.place)) target (mark_at r.thread r.place) r.result s)
+      by_statement None h = refl
+      by_statement (Some s) h =
+          ap (λ answered. due.Result (due_result script answered target (mark_at r.thread r.place) r.result (Some s))) (answered_is target r.thread r.place h.at_place)
+
   result_is : is_sound script ≡ true → script_has_units script ≡ true → (r : ResultLine) (named : Option ℕ)
       → result_kept script kept.rows r named ≡ result_clause script (entries_of before) r named
   result_is sound units r None = refl
-  result_is sound units r (Some target) = ap (λ b. if b then None else Some 6) (fitting_is sound units target r)
+  result_is sound units r (Some target) =
+      ap (λ b. if b then None else Some (due.Result (result_due_kept script kept.rows target r))) (fitting_is sound units target r)
+      ∙ ap (λ d. if is_fitting script (entries_of before) target r then None else Some d) (result_due_is sound units target r)
 
   clause_is : is_sound script ≡ true → script_has_units script ≡ true → (l : Line) → clause_kept policies script kept l ≡ clause_at policies script before l
   clause_is sound units (line.Entry e) = entry_is e (target_of script e.target)
   clause_is sound units (line.Result r) = result_is sound units r (target_of script r.target)
-  clause_is sound units (line.Totals t) = ap (λ totals. if same_totals t totals then None else Some 7) keeps.totals
+  clause_is sound units (line.Totals t) = ap (λ totals. if same_totals t totals then None else Some (due.Totals totals)) keeps.totals
 
   due_is : (l : Line) → is_due_after script kept.ended kept.totals.entries kept.totals.results l ≡ is_due script before l
   due_is l = ap (λ ended. is_due_after script ended kept.totals.entries kept.totals.results l) keeps.ended
       ∙ ap (λ (totals : TotalsLine). is_due_after script (has_totals before) totals.entries totals.results l) keeps.totals
 
+  pub after_is : due_kept script kept ≡ due_after script before
+  after_is = ap (λ ended. due.Form (due_form script ended kept.totals.entries kept.totals.results)) keeps.ended
+      ∙ ap (λ (totals : TotalsLine). due.Form (due_form script (has_totals before) totals.entries totals.results)) keeps.totals
+
   pub failing_is : is_sound script ≡ true → script_has_units script ≡ true → (l : Line) → failing_kept policies script kept l ≡ failing policies script before l
   failing_is sound units l =
-      ap (λ due. if due then clause_kept policies script kept l else Some 1) (due_is l)
-      ∙ ap (λ clause. if is_due script before l then clause else Some 1) (clause_is sound units l)
+      ap (λ here. if here then clause_kept policies script kept l else Some (due_kept script kept)) (due_is l)
+      ∙ (ap (λ clause. if is_due script before l then clause else Some (due_kept script kept)) (clause_is sound units l)
+      ∙ ap (λ after. if is_due script before l then clause_at policies script before l else Some after) after_is)
 
 -- ---- one line more
 
@@ -244,7 +290,7 @@ module _ (script : Script) (before : List Line) (old new : KeptAt) (keeps : Keep
   pub keeps_next : (policies : List Policy) (l : Line) → failing_kept policies script old l ≡ None → Follows script l old new → Keeps script (before ++ l ∷ []) new
   keeps_next policies (line.Entry e) none follows = by_name (target_of script e.target) refl
     where
-      by_due : (due : Bool) (clause : Option ℕ) → (if due then clause else Some 1) ≡ None → clause ≡ None
+      by_due : (here : Bool) (clause : Option Due) → (if here then clause else Some (due_kept script old)) ≡ None → clause ≡ None
       by_due true clause h = h
       by_due false clause h = absurd (cc)
 

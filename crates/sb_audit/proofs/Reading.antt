@@ -12,13 +12,16 @@ use Rattle.sb_lineread.specs.declared.lines.EntryLine.{EntryLine}
 use Rattle.sb_lineread.specs.declared.lines.TotalsLine.{TotalsLine}
 use Rattle.sb_lineread.specs.declared.lines.Line.{Line}
 use Rattle.sb_lineread.specs.declared.lines.Line.TheVariants as line
+use Rattle.sb_audit.specs.Answers.{refutation}
 use Rattle.sb_audit.specs.Audited.{answer_at, audited, audited_from, end_answer, ended_line, failing, failing_line, with_line}
 use Rattle.sb_audit.specs.Before.{entries_of, entry_count, has_totals, is_result, result_count}
 use Rattle.sb_audit.specs.Clauses.{count_of, is_denied, is_faked, is_performed, is_refused, totals_due}
+use Rattle.sb_audit.specs.Dues.{due_after, due_unread}
 use Rattle.sb_audit.specs.Kept.{AreAtMost, Follows, FollowsLine, KeptAt, Keeps, end_kept, failing_kept, failing_line_kept}
 use Rattle.sb_audit.specs.declared.answers.AuditAnswer.{AuditAnswer}
-use Rattle.sb_audit.specs.declared.answers.AuditAnswer.TheVariants.{Yes, No}
-use Rattle.sb_audit.proofs.Keeping.{failing_is, keeps_next}
+use Rattle.sb_audit.specs.declared.answers.AuditAnswer.TheVariants.{Yes}
+use Rattle.sb_audit.specs.declared.dues.Due.{Due}
+use Rattle.sb_audit.proofs.Keeping.{after_is, failing_is, keeps_next}
 
 -- the lines are numbered from n + 1
 abbrev pub IsNumbered : ℕ → List NumberedRawLine → Type 0
@@ -115,19 +118,19 @@ module _ (policies : List Policy) (script : Script) (sound : is_sound script ≡
       let count = read.count in
       at_most_more (length read.before) (2 ^ 32) kept.totals small (omega arith)
 
-  line_is : (l : Option Line) → failing_line_kept policies script kept l ≡ failing_line policies script read.before l
-  line_is None = refl
+  line_is : (l : Option Line) → failing_line_kept policies script kept raw.is_ended l ≡ failing_line policies script read.before raw.is_ended l
+  line_is None = ap (λ after. Some (due_unread raw.is_ended after)) (after_is policies script read.before kept read.keeps)
   line_is (Some l) = failing_is policies script read.before kept read.keeps sound units l
 
   answered : audited_from policies script read.before last (raw ∷ rest)
-      ≡ answer_at (failing_line_kept policies script kept (ended_line raw)) raw.number (audited_from policies script (with_line read.before (ended_line raw)) raw.number rest)
+      ≡ answer_at (failing_line_kept policies script kept raw.is_ended (ended_line raw)) raw.number (audited_from policies script (with_line read.before (ended_line raw)) raw.number rest)
   answered = ap (λ clause. answer_at clause raw.number (audited_from policies script (with_line read.before (ended_line raw)) raw.number rest)) (sym (line_is (ended_line raw)))
 
-  pub stopped : (clause : ℕ) → failing_line_kept policies script kept (ended_line raw) ≡ Some clause → No (record { line = raw.number; clause = clause }) ≡ whole
-  stopped clause h =
+  pub stopped : (d : Due) → failing_line_kept policies script kept raw.is_ended (ended_line raw) ≡ Some d → refutation raw.number d ≡ whole
+  stopped d h =
       sym (ap (λ found. answer_at found raw.number (audited_from policies script (with_line read.before (ended_line raw)) raw.number rest)) h) ∙ (sym answered ∙ read.same)
 
-  pub next_read : (next : KeptAt) → failing_line_kept policies script kept (ended_line raw) ≡ None → FollowsLine script (ended_line raw) kept next
+  pub next_read : (next : KeptAt) → failing_line_kept policies script kept raw.is_ended (ended_line raw) ≡ None → FollowsLine script (ended_line raw) kept next
       → IsRead policies script whole most next raw.number rest
   next_read next none follows = record {
     before = with_line read.before (ended_line raw);
@@ -138,21 +141,23 @@ module _ (policies : List Policy) (script : Script) (sound : is_sound script ≡
     count = count_by (ended_line raw) none;
   }
     where
-      keeps_by : (l : Option Line) → failing_line_kept policies script kept l ≡ None → FollowsLine script l kept next → Keeps script (with_line read.before l) next
+      keeps_by : (l : Option Line) → failing_line_kept policies script kept raw.is_ended l ≡ None → FollowsLine script l kept next → Keeps script (with_line read.before l) next
       keeps_by None h f = absurd (cc)
       keeps_by (Some l) h f = keeps_next script read.before kept next read.keeps policies l h f
 
-      count_by : (l : Option Line) → failing_line_kept policies script kept l ≡ None → length (with_line read.before l) ≡ raw.number
+      count_by : (l : Option Line) → failing_line_kept policies script kept raw.is_ended l ≡ None → length (with_line read.before l) ≡ raw.number
       count_by None h = absurd (cc)
       count_by (Some l) h = let a = length-append read.before (l ∷ []) in let b = read.count in let c = read.numbers.0 in omega arith
 
 pub ended_read : (policies : List Policy) (script : Script) (whole : AuditAnswer) (most : ℕ) (kept : KeptAt) (last : ℕ) → IsRead policies script whole most kept last []
-    → end_kept kept last ≡ whole
+    → end_kept script kept last ≡ whole
 ended_read policies script whole most kept last read =
-    ap (λ ended. if ended then Yes kept.totals.entries kept.totals.results else No (record { line = last + 1; clause = 1 })) read.keeps.ended
-    ∙ (ap (λ (totals : TotalsLine). if has_totals read.before then Yes totals.entries totals.results else No (record { line = last + 1; clause = 1 })) read.keeps.totals ∙ read.same)
+    ap (λ d. if kept.ended then Yes kept.totals.entries kept.totals.results else refutation (last + 1) d) (after_is policies script read.before kept read.keeps)
+    ∙ (ap (λ ended. if ended then Yes kept.totals.entries kept.totals.results else refutation (last + 1) (due_after script read.before)) read.keeps.ended
+    ∙ (ap (λ (totals : TotalsLine). if has_totals read.before then Yes totals.entries totals.results else refutation (last + 1) (due_after script read.before)) read.keeps.totals
+    ∙ read.same))
 
 -- what is no clause is none
-pub no_clause : (o : Option ℕ) → ((clause : ℕ) → o ≡ Some clause → ⊥) → o ≡ None
+pub no_clause : (o : Option Due) → ((d : Due) → o ≡ Some d → ⊥) → o ≡ None
 no_clause None h = refl
-no_clause (Some clause) h = absurd (h clause refl)
+no_clause (Some d) h = absurd (h d refl)

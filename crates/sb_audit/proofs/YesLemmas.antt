@@ -27,13 +27,17 @@ use Rattle.sb_lineread.specs.declared.lines.Line.TheVariants as line
 use Rattle.sb_lineread.specs.declared.lines.ShownDecision.{ShownDecision}
 use Rattle.sb_lineread.specs.declared.lines.ShownDecision.TheVariants as shown
 use Rattle.sb_lineread.specs.declared.lines.ShownReply.{ShownReply}
+use Rattle.sb_audit.specs.Answers.{refutation}
 use Rattle.sb_audit.specs.Audited.{answer_at, audited, audited_from, clause_at, decision_clause, end_answer, ended_line, entry_clause, failing, failing_line, line_with_end, policy_of, with_line}
 use Rattle.sb_audit.specs.Before.{entries_of, entry_count, has_totals, result_count, space_after, target_of}
 use Rattle.sb_audit.specs.Clauses.{has_channel, has_rule, is_allow, is_due, is_own, only_reads, reply_due, shows_rule}
 use Rattle.sb_audit.specs.Comparing.{same_numbers, same_reply}
+use Rattle.sb_audit.specs.Dues.{due_after, due_call, due_channel, due_reply, due_rule}
 use Rattle.sb_audit.specs.Laws.{AreRight, EntriesAreRight, IsGranted, IsOfLines, IsRightEntry, YesIsOfLines}
 use Rattle.sb_audit.specs.declared.answers.AuditAnswer.{AuditAnswer}
-use Rattle.sb_audit.specs.declared.answers.AuditAnswer.TheVariants.{Yes, No}
+use Rattle.sb_audit.specs.declared.answers.AuditAnswer.TheVariants.{Yes}
+use Rattle.sb_audit.specs.declared.dues.Due.{Due}
+use Rattle.sb_audit.specs.declared.dues.Due.TheVariants as due
 
 -- ---- the lines of a text to which the answer is yes
 
@@ -50,14 +54,14 @@ append_none : {X : Type 0} (xs : List X) → xs ++ [] ≡ xs
 append_none [] = refl
 append_none (x ∷ xs) = ap (λ ys. x ∷ ys) (append_none xs)
 
-left_none : (policies : List Policy) (script : Script) (before : List Line) (n entries results : ℕ) → end_answer before n ≡ Yes entries results
+left_none : (policies : List Policy) (script : Script) (before : List Line) (n entries results : ℕ) → end_answer script before n ≡ Yes entries results
     → AreLeft policies script before [] entries results
 left_none policies script before n entries results h = by_totals (has_totals before) refl
   where
     by_totals : (b : Bool) → has_totals before ≡ b → AreLeft policies script before [] entries results
     by_totals true e =
         let same : Yes (entry_count before) (result_count before) ≡ Yes entries results =
-        subst (λ t. (if t then Yes (entry_count before) (result_count before) else No (record { line = n + 1; clause = 1 })) ≡ Yes entries results) e h in
+        subst (λ t. (if t then Yes (entry_count before) (result_count before) else refutation (n + 1) (due_after script before)) ≡ Yes entries results) e h in
         record {
           lines = [];
           written_so = refl;
@@ -67,8 +71,8 @@ left_none policies script before n entries results h = by_totals (has_totals bef
           results_are = ap result_count (append_none before) ∙ (cc);
         }
     by_totals false e =
-        let same : No (record { line = n + 1; clause = 1 }) ≡ Yes entries results =
-        subst (λ t. (if t then Yes (entry_count before) (result_count before) else No (record { line = n + 1; clause = 1 })) ≡ Yes entries results) e h in
+        let same : refutation (n + 1) (due_after script before) ≡ Yes entries results =
+        subst (λ t. (if t then Yes (entry_count before) (result_count before) else refutation (n + 1) (due_after script before)) ≡ Yes entries results) e h in
         absurd (cc)
 
 -- a line that is read is written as it was, with its LF
@@ -85,12 +89,12 @@ left_by law policies script before n entries results [] h = left_none policies s
 left_by law policies script before n entries results (raw ∷ rest) h =
     by_line (ended_line raw) refl h (λ l g. left_by law policies script (before ++ l ∷ []) raw.number entries results rest g)
   where
-    by_clause : (o : Option ℕ) (later : AuditAnswer) → answer_at o raw.number later ≡ Yes entries results → (o ≡ None) × (later ≡ Yes entries results)
+    by_clause : (o : Option Due) (later : AuditAnswer) → answer_at o raw.number later ≡ Yes entries results → (o ≡ None) × (later ≡ Yes entries results)
     by_clause None later e = (refl, e)
-    by_clause (Some clause) later e = absurd (cc)
+    by_clause (Some d) later e = absurd (cc)
 
     by_line : (o : Option Line) → ended_line raw ≡ o
-        → answer_at (failing_line policies script before o) raw.number (audited_from policies script (with_line before o) raw.number rest) ≡ Yes entries results
+        → answer_at (failing_line policies script before raw.is_ended o) raw.number (audited_from policies script (with_line before o) raw.number rest) ≡ Yes entries results
         → ((l : Line) → audited_from policies script (before ++ l ∷ []) raw.number rest ≡ Yes entries results → AreLeft policies script (before ++ l ∷ []) rest entries results)
         → AreLeft policies script before (raw ∷ rest) entries results
     by_line None e g again = absurd (cc)
@@ -172,31 +176,34 @@ granted_is policy (shown.Alarmed tag n) h = tt
 granted_is policy (shown.Faked tag n) h = tt
 
 -- the first of three tests that fails
-abbrev first_failing : Bool → Bool → Bool → Option ℕ
-first_failing a b c = if not a then Some 3 else (if not b then Some 4 else (if not c then Some 5 else None))
+abbrev first_failing : Due → Due → Due → Bool → Bool → Bool → Option Due
+first_failing x y z a b c = if not a then Some x else (if not b then Some y else (if not c then Some z else None))
 
 -- none of which fails
-all_pass : (a b c : Bool) → first_failing a b c ≡ None → (a ≡ true) × (b ≡ true) × (c ≡ true)
-all_pass true true true h = (refl, refl, refl)
-all_pass true true false h = absurd (cc)
-all_pass true false c h = absurd (cc)
-all_pass false b c h = absurd (cc)
+all_pass : (x y z : Due) (a b c : Bool) → first_failing x y z a b c ≡ None → (a ≡ true) × (b ≡ true) × (c ≡ true)
+all_pass x y z true true true h = (refl, refl, refl)
+all_pass x y z true true false h = absurd (cc)
+all_pass x y z true false c h = absurd (cc)
+all_pass x y z false b c h = absurd (cc)
 
-passes : (b : Bool) (o : Option ℕ) (n : ℕ) → (if b then o else Some n) ≡ None → (b ≡ true) × (o ≡ None)
-passes true o n h = (refl, h)
-passes false o n h = absurd (cc)
+passes : (b : Bool) (o : Option Due) (d : Due) → (if b then o else Some d) ≡ None → (b ≡ true) × (o ≡ None)
+passes true o d h = (refl, h)
+passes false o d h = absurd (cc)
 
 pub entries_are_right : EntriesAreRight
 entries_are_right policies script before e h =
-    by_name (target_of script e.target) refl (passes (is_due script before (line.Entry e)) (clause_at policies script before (line.Entry e)) 1 h).1
+    by_name (target_of script e.target) refl (passes (is_due script before (line.Entry e)) (clause_at policies script before (line.Entry e)) (due_after script before) h).1
   where
     by_name : (o : Option ℕ) → target_of script e.target ≡ o → entry_clause policies script (space_after script before) (entries_of before) e o ≡ None
         → IsRightEntry policies script before e
     by_name None named g = absurd (cc)
     by_name (Some target) named g =
         let policy = policy_of policies script target in
-        let there = passes (has_channel script target e.channel) (decision_clause policy script (space_after script before) (entries_of before) target e) 2 g in
-        let all = all_pass (shows_rule policy e.decision) (same_reply e.reply (reply_due (space_after script before) target e.decision)) (is_own policy script (entries_of before) target e) there.1 in
+        let there = passes (has_channel script target e.channel) (decision_clause policy script (space_after script before) (entries_of before) target e) (due.Place (due_channel script target)) g in
+        let wanted = reply_due (space_after script before) target e.decision in
+        let all =
+        all_pass (due.Rule (due_rule policy e.decision)) (due.Reply (due_reply e.reply wanted)) (due.Own (due_call policy script target e)) (shows_rule policy e.decision)
+        (same_reply e.reply wanted) (is_own policy script (entries_of before) target e) there.1 in
         record {
           target = target;
           named = named;

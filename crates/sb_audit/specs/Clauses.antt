@@ -196,6 +196,10 @@ is_reply_of r c own = false
 abbrev pub answers_call : Script → ℕ → ℕ → EntryLine → Bool
 answers_call script target mark e = is_on_clean script target e && e.mark == mark
 
+-- some entry on a clean channel of the target does
+abbrev pub is_answered : Script → List EntryLine → ℕ → ℕ → Bool
+is_answered script entries target mark = list_any (answers_call script target mark) entries
+
 -- some entry on a clean channel of the target has this mark, and the result is its reply
 abbrev pub has_entry : Script → List EntryLine → ℕ → ℕ → ShownResult → Bool
 has_entry script entries target mark r = list_any (λ e. answers_call script target mark e && is_reply_of r e.channel e.reply) entries

@@ -1,5 +1,5 @@
 -- What is kept of the lines that were read, and the clauses over that.
-use Rattle.std.specs.Prelude.{◌≡◌, ℕ, ◌+◌, ◌<◌, ◌≤◌, Bool, true, false, not, ◌&&◌, ◌||◌, nat_le, List, [], length, Option, None, Some, ⊤, if◌then◌else◌}
+use Rattle.std.specs.Prelude.{◌≡◌, ℕ, ◌+◌, ◌<◌, ◌≤◌, Bool, true, false, not, ◌&&◌, ◌||◌, nat_le, List, [], length, Option, None, Some, is_some, ⊤, if◌then◌else◌}
 use Rattle.sb_actor.specs.Places.{mark_at, statement_at}
 use Rattle.sb_call.specs.Arguments.{fits}
 use Rattle.sb_kernel.specs.Namespaces.{Space}
@@ -14,13 +14,19 @@ use Rattle.sb_lineread.specs.declared.lines.Line.TheVariants as line
 use Rattle.sb_lineread.specs.declared.lines.ShownDecision.{ShownDecision}
 use Rattle.sb_lineread.specs.declared.lines.ShownDecision.TheVariants.{Refused, NoRule, Denied, Alarmed, Faked, Allowed, ReadOnly}
 use Rattle.sb_lineread.specs.declared.lines.ShownResult.{ShownResult}
+use Rattle.sb_audit.specs.Answers.{refutation}
 use Rattle.sb_audit.specs.Audited.{policy_of}
 use Rattle.sb_audit.specs.Before.{entries_of, has_totals, performed_of, space_after, space_with, target_of}
 use Rattle.sb_audit.specs.Clauses.{has_channel, is_denied, is_due_after, is_faked, is_of_call, is_performed, is_refused, is_reply_of, needs_entry, place_of, reply_due, same_totals, shows_rule, suits, thread_of, totals_due}
 use Rattle.sb_audit.specs.Comparing.{same_reply}
+use Rattle.sb_audit.specs.Dues.{due_call, due_channel, due_form, due_reply, due_result, due_rule, due_target, due_unread}
 use Rattle.sb_audit.specs.Rows.{IsPut, KeepsRows, row_at, slot_at}
 use Rattle.sb_audit.specs.declared.answers.AuditAnswer.{AuditAnswer}
-use Rattle.sb_audit.specs.declared.answers.AuditAnswer.TheVariants.{Yes, No}
+use Rattle.sb_audit.specs.declared.answers.AuditAnswer.TheVariants.{Yes}
+use Rattle.sb_audit.specs.declared.dues.Due.{Due}
+use Rattle.sb_audit.specs.declared.dues.Due.TheVariants as due
+use Rattle.sb_audit.specs.declared.dues.ResultDue.{ResultDue}
+use Rattle.sb_audit.specs.declared.dues.ResultDue.TheVariants as owed
 use Rattle.sb_audit.specs.declared.own_places.OwnPlace.{OwnPlace}
 use Rattle.sb_audit.specs.declared.own_places.OwnPlace.TheVariants.{NotClean, NotOwn, At}
 use Rattle.sb_audit.specs.declared.slots.OwnReply.{OwnReply}
@@ -74,17 +80,18 @@ IsOwnPlace policy script rows target e NotOwn = (is_clean script target e.channe
 IsOwnPlace policy script rows target e (At thread place) = IsAt policy script rows target e thread place
 
 -- the clauses, over what is kept in place of the lines before
-abbrev pub decision_kept : Policy → Script → KeptAt → ℕ → EntryLine → Option ℕ
+abbrev pub decision_kept : Policy → Script → KeptAt → ℕ → EntryLine → Option Due
 decision_kept policy script kept target e =
-    if not (shows_rule policy e.decision) then Some 3
-    else (if not (same_reply e.reply (reply_due kept.space target e.decision)) then Some 4
-    else (if not (is_own_kept policy script kept.rows target e) then Some 5
+    if not (shows_rule policy e.decision) then Some (due.Rule (due_rule policy e.decision))
+    else (if not (same_reply e.reply (reply_due kept.space target e.decision)) then Some (due.Reply (due_reply e.reply (reply_due kept.space target e.decision)))
+    else (if not (is_own_kept policy script kept.rows target e) then Some (due.Own (due_call policy script target e))
     else None))
 
-abbrev pub entry_kept : List Policy → Script → KeptAt → EntryLine → Option ℕ → Option ℕ
-entry_kept policies script kept e None = Some 2
+abbrev pub entry_kept : List Policy → Script → KeptAt → EntryLine → Option ℕ → Option Due
+entry_kept policies script kept e None = Some (due.Place (due_target script))
 entry_kept policies script kept e (Some target) =
-    if has_channel script target e.channel then decision_kept (policy_of policies script target) script kept target e else Some 2
+    if has_channel script target e.channel then decision_kept (policy_of policies script target) script kept target e
+    else Some (due.Place (due_channel script target))
 
 abbrev pub suits_slot : Script → ℕ → ShownResult → Option OwnReply → Bool
 suits_slot script target r None = not (needs_entry script target r)
@@ -95,28 +102,35 @@ is_fitting_kept script rows target r =
     suits script target (mark_at r.thread r.place) r.result (statement_at script target r.thread r.place)
     && suits_slot script target r.result (slot_at rows target r.thread r.place)
 
-abbrev pub result_kept : Script → List (List (Option OwnReply)) → ResultLine → Option ℕ → Option ℕ
-result_kept script rows r None = Some 6
-result_kept script rows r (Some target) = if is_fitting_kept script rows target r then None else Some 6
+abbrev pub result_due_kept : Script → List (List (Option OwnReply)) → ℕ → ResultLine → ResultDue
+result_due_kept script rows target r =
+    due_result script (is_some (slot_at rows target r.thread r.place)) target (mark_at r.thread r.place) r.result (statement_at script target r.thread r.place)
 
-abbrev pub totals_kept : KeptAt → TotalsLine → Option ℕ
-totals_kept kept t = if same_totals t kept.totals then None else Some 7
+abbrev pub result_kept : Script → List (List (Option OwnReply)) → ResultLine → Option ℕ → Option Due
+result_kept script rows r None = Some (due.Result owed.Statement)
+result_kept script rows r (Some target) = if is_fitting_kept script rows target r then None else Some (due.Result (result_due_kept script rows target r))
 
-abbrev pub clause_kept : List Policy → Script → KeptAt → Line → Option ℕ
+abbrev pub totals_kept : KeptAt → TotalsLine → Option Due
+totals_kept kept t = if same_totals t kept.totals then None else Some (due.Totals kept.totals)
+
+abbrev pub clause_kept : List Policy → Script → KeptAt → Line → Option Due
 clause_kept policies script kept (line.Entry e) = entry_kept policies script kept e (target_of script e.target)
 clause_kept policies script kept (line.Result r) = result_kept script kept.rows r (target_of script r.target)
 clause_kept policies script kept (line.Totals t) = totals_kept kept t
 
-abbrev pub failing_kept : List Policy → Script → KeptAt → Line → Option ℕ
+abbrev pub due_kept : Script → KeptAt → Due
+due_kept script kept = due.Form (due_form script kept.ended kept.totals.entries kept.totals.results)
+
+abbrev pub failing_kept : List Policy → Script → KeptAt → Line → Option Due
 failing_kept policies script kept l =
-    if is_due_after script kept.ended kept.totals.entries kept.totals.results l then clause_kept policies script kept l else Some 1
+    if is_due_after script kept.ended kept.totals.entries kept.totals.results l then clause_kept policies script kept l else Some (due_kept script kept)
 
-abbrev pub failing_line_kept : List Policy → Script → KeptAt → Option Line → Option ℕ
-failing_line_kept policies script kept None = Some 1
-failing_line_kept policies script kept (Some l) = failing_kept policies script kept l
+abbrev pub failing_line_kept : List Policy → Script → KeptAt → Bool → Option Line → Option Due
+failing_line_kept policies script kept is_ended None = Some (due_unread is_ended (due_kept script kept))
+failing_line_kept policies script kept is_ended (Some l) = failing_kept policies script kept l
 
-abbrev pub end_kept : KeptAt → ℕ → AuditAnswer
-end_kept kept n = if kept.ended then Yes kept.totals.entries kept.totals.results else No (record { line = n + 1; clause = 1 })
+abbrev pub end_kept : Script → KeptAt → ℕ → AuditAnswer
+end_kept script kept n = if kept.ended then Yes kept.totals.entries kept.totals.results else refutation (n + 1) (due_kept script kept)
 
 -- the totals of no lines, and with one line more
 abbrev pub no_totals : TotalsLine

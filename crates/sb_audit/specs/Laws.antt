@@ -19,11 +19,16 @@ use Rattle.sb_lineread.specs.declared.lines.ShownDecision.TheVariants as shown
 use Rattle.sb_audit.specs.Audited.{audited, failing, policy_of}
 use Rattle.sb_audit.specs.Before.{entries_of, entry_count, has_totals, result_count, space_after, target_of}
 use Rattle.sb_audit.specs.Clauses.{has_channel, has_rule, is_own, only_reads, reply_due, writing_bits}
-use Rattle.sb_audit.specs.declared.answers.AuditAnswer.TheVariants.{No, Yes}
+use Rattle.sb_audit.specs.Answers.{refutation}
+use Rattle.sb_audit.specs.Spots.{due_spot}
+use Rattle.sb_audit.specs.declared.answers.AuditAnswer.TheVariants.{Yes}
+use Rattle.sb_audit.specs.declared.dues.Due.TheVariants.{Form}
+use Rattle.sb_audit.specs.declared.dues.FormDue.TheVariants.{Line as DueLine}
 
--- an empty transcript fails the first clause at line 1
+-- an empty transcript fails the first clause at line 1, where the first entry or the first result is due, or the totals of a script without statements
 abbrev pub EmptyTranscriptsAreRefuted : Type 0
-EmptyTranscriptsAreRefuted = (policies : List Policy) (script : Script) → audited policies script [] ≡ No (record { line = 1; clause = 1 })
+EmptyTranscriptsAreRefuted =
+    (policies : List Policy) (script : Script) → audited policies script [] ≡ refutation 1 (Form (DueLine (Some 0) (due_spot script 0)))
 
 -- each of the lower 32 bits either only reads or is one that does more
 abbrev pub BitsReadOrWrite : Type 0

@@ -1,8 +1,10 @@
+pub mod Answers
 pub mod Audited
 pub mod Before
 pub mod Clauses
 pub mod Comparing
 pub mod Converse
+pub mod Dues
 pub mod Found
 pub mod Kept
 pub mod Laws

@@ -2,10 +2,12 @@
 ghost use Rattle.std.specs.Prelude.{◌≡◌, ◌<◌, ◌+◌, ◌^◌, [], length, None, IfOk};
 ghost use Rattle.sb_book.specs.Histories.{setting_of};
 ghost use Rattle.sb_audit.specs.Audited.{audited, line_with_end};
-ghost use Rattle.sb_audit.specs.Kept.{AreAtMost, FollowsLine, Keeps, failing_line_kept};
+ghost use Rattle.sb_audit.specs.Dues.{due_unread};
+ghost use Rattle.sb_audit.specs.Kept.{AreAtMost, FollowsLine, Keeps, due_kept, failing_line_kept};
 
-use crate::answers::{AuditAnswer, Refuted};
+use crate::answers::AuditAnswer;
 use crate::contexts::Context;
+use crate::dues::{Due, FormDue};
 use crate::walks::Walk;
 use sb_book::ReadyScript;
 use sb_items::NoMemory;
@@ -25,7 +27,18 @@ fn line_with_end(alloc: Global, bytes: &[u8], is_ended: bool) -> Result<Option<L
     Ok(line)
 }
 
-// The lowest clause that fails at the next bytes of a text up to an LF, if one does. If none does, the line is kept.
+// What is due at bytes that are no line, by whether an LF ends them.
+fn unread_due(context: &Context<'_>, walk: &Walk, is_ended: bool) -> Due
+    ensures { result ≡ due_unread is_ended (due_kept context.now.script walk.now) }
+{
+    if is_ended {
+        walk.due(context)
+    } else {
+        Due::Form(FormDue::LineFeed)
+    }
+}
+
+// What is due by the lowest clause that fails at the next bytes of a text up to an LF, if one does. If none does, the line is kept.
 fn failing<J: Judge>(
     alloc: Global,
     context: &Context<'_>,
@@ -33,14 +46,14 @@ fn failing<J: Judge>(
     walk: &mut Walk,
     bytes: &[u8],
     is_ended: bool,
-) -> Result<Option<u32>, NoMemory>
+) -> Result<Option<Due>, NoMemory>
     requires judge { J.policies judge.now ≡ (setting_of context.now.policies context.now.script).policies }
     requires small { AreAtMost (2 ^ 32) walk.old.totals }
-    ensures clause { IfOk result (λ f. f ≡ failing_line_kept context.now.policies context.now.script walk.old (line_with_end bytes.now is_ended)) }
+    ensures clause { IfOk result (λ f. f ≡ failing_line_kept context.now.policies context.now.script walk.old is_ended (line_with_end bytes.now is_ended)) }
     ensures kept { IfOk result (λ f. f ≡ None → FollowsLine context.now.script (line_with_end bytes.now is_ended) walk.old walk.new) }
 {
     let Some(line) = line_with_end(alloc, bytes, is_ended)? else {
-        return Ok(Some(1));
+        return Ok(Some(unread_due(context, walk, is_ended)));
     };
     let failing = walk.line(context, judge, line)?;
     Ok(failing)
@@ -64,15 +77,15 @@ fn answer<J: Judge>(
     let mut last = 0;
     while let Some(raw) = lines.next_line() {
         last = raw.number;
-        if let Some(clause) = failing(alloc, context, judge, walk, raw.bytes, raw.is_ended)? {
-            return Ok(AuditAnswer::No(Refuted { line: last, clause }));
+        if let Some(due) = failing(alloc, context, judge, walk, raw.bytes, raw.is_ended)? {
+            return Ok(AuditAnswer::refutation(last, due));
         }
     }
-    Ok(walk.end(last))
+    Ok(walk.end(context, last))
 }
 
 /// Whether no clause fails at any line of a transcript, whoever made it, and it ends after the totals; if not, at which line the first
-/// fails. The script is ready for the policies, and the judge judges its targets by these. The text has fewer than 2^32 - 1 bytes. It is
+/// fails, and what is due there. The script is ready for the policies, and the judge judges its targets by these. The text has fewer than 2^32 - 1 bytes. It is
 /// read once, and the time is linear in its length.
 ///
 /// # Errors

@@ -1,5 +1,5 @@
 // Whether an entry on a clean channel is that of a call.
-ghost use Rattle.std.specs.Prelude.{◌≡◌, ◌<◌, length, Some, true};
+ghost use Rattle.std.specs.Prelude.{◌≡◌, ◌<◌, ◌≤◌, length, Some, true};
 ghost use Rattle.sb_book.specs.Decisions.{by_verdict};
 ghost use Rattle.sb_book.specs.Histories.{setting_of};
 ghost use Rattle.sb_lineread.specs.Printed.{shown_decision};
@@ -8,11 +8,13 @@ ghost use Rattle.sb_rule.specs.declared.verdicts.Verdict.TheVariants.{Rule};
 ghost use Rattle.sb_audit.specs.Audited.{policy_of};
 ghost use Rattle.sb_audit.specs.Clauses.{is_decided};
 ghost use Rattle.sb_audit.specs.Comparing.{same_decision};
+ghost use Rattle.sb_audit.specs.Dues.{due_call, due_decision};
 ghost use Rattle.sb_audit.specs.Found.{is_encoded};
 ghost use Rattle.sb_audit.specs.Kept.{IsOwnPlace};
 
 use crate::arguments::{same_arguments, same_read_only, same_tag};
 use crate::contexts::Context;
+use crate::dues::OwnDue;
 use crate::own_places::OwnPlace;
 use crate::places::sound_statement_at;
 use crate::rows::Rows;
@@ -134,5 +136,56 @@ pub(crate) fn own_place<J: Judge>(
         OwnPlace::At { thread, place }
     } else {
         OwnPlace::NotOwn
+    }
+}
+
+// What is due of an entry whose mark names this statement, if the entry is not its own.
+fn due_decision<J: Judge>(
+    judge: &J,
+    target: u32,
+    entry: &EntryLine,
+    statement: &Statement,
+) -> OwnDue
+    requires there { target < length (J.policies judge.now) }
+    requires encoded { is_encoded statement.now ≡ true }
+    requires marked { 65536 ≤ entry.now.mark }
+    ensures { result ≡ due_decision (policy_at (J.policies judge.now) target) entry.now (Some statement.now) }
+{
+    match statement {
+        Statement::Call { tag, args } => {
+            if !is_decided(judge, target, entry.mark, &entry.decision, statement) {
+                return OwnDue::Decision {
+                    tag: *tag,
+                    verdict: judge.judge(target, *tag, args.as_slice()),
+                };
+            }
+            OwnDue::Later {
+                thread: entry.mark / MARKS - 1,
+                place: entry.mark % MARKS,
+            }
+        }
+        _ => OwnDue::CallMark,
+    }
+}
+
+/// What is due of an entry on a clean channel that is not that of a call above its thread's earlier ones.
+pub(crate) fn due_call<J: Judge>(
+    context: &Context<'_>,
+    judge: &J,
+    target: u32,
+    entry: &EntryLine,
+) -> OwnDue
+    requires there { target < length context.now.script.targets }
+    requires judge { J.policies judge.now ≡ (setting_of context.now.policies context.now.script).policies }
+    ensures { result ≡ due_call (policy_of context.now.policies context.now.script target) context.now.script target entry.now }
+{
+    if entry.mark < MARKS {
+        return OwnDue::CallMark;
+    }
+    let thread = (entry.mark / MARKS - 1) as usize;
+    let place = (entry.mark % MARKS) as usize;
+    match sound_statement_at(context.script(), target, thread, place) {
+        Some(statement) => due_decision(judge, target, entry, statement),
+        None => OwnDue::CallMark,
     }
 }

@@ -6,9 +6,11 @@ ghost use Rattle.sb_kernel.specs.Namespaces.{perform};
 ghost use Rattle.sb_audit.specs.Before.{performed_of, space_with};
 ghost use Rattle.sb_audit.specs.Clauses.{by_answer, fixed, reply_due};
 ghost use Rattle.sb_audit.specs.Comparing.{same_reply};
+ghost use Rattle.sb_audit.specs.Dues.{due_reply, other_word, whole_reply};
 ghost use Rattle.sb_audit.specs.Kept.{shown_fits};
 
 use crate::arguments::same_numbers;
+use crate::dues::ReplyDue;
 use sb_block::BlockFault;
 use sb_call::{ACCESS_DENIED, Arg, CallTag, Extended, INVALID_PARAMETER, SUCCESS};
 use sb_items::NoMemory;
@@ -131,5 +133,55 @@ pub(crate) fn reply_due(
         ShownDecision::NoRule(_) | ShownDecision::Denied { .. } | ShownDecision::Alarmed { .. } =>
             Ok(fixed(DENIED, ACCESS_DENIED, Extended::empty())),
         ShownDecision::Faked { .. } => Ok(fixed(FAKED, SUCCESS, Extended::empty())),
+    }
+}
+
+fn whole_reply(reply: &ShownReply) -> ReplyDue
+    ensures { result ≡ whole_reply reply.now }
+{
+    ReplyDue::Whole {
+        outcome: reply.outcome,
+        status: reply.status,
+        handle: reply.handle,
+        words: reply.ext.as_slice().len(),
+    }
+}
+
+// The first of the words due that is another than the one shown; the whole reply if there is none.
+fn other_word(whole: ReplyDue, shown: &[u64], wanted: &[u64]) -> ReplyDue
+    ensures { result ≡ other_word whole 0 shown.now wanted.now }
+{
+    let mut left = shown;
+    let mut right = wanted;
+    let mut at = 0;
+    while let Some((first, more)) = left.split_first() {
+        let Some((other, others)) = right.split_first() else {
+            return whole;
+        };
+        if *first != *other {
+            return ReplyDue::Word { at, value: *other };
+        }
+        at += 1;
+        left = more;
+        right = others;
+    }
+    whole
+}
+
+/// What is due in place of the reply that is shown, if it is another.
+pub(crate) fn due_reply(shown: &ShownReply, wanted: &ShownReply) -> ReplyDue
+    ensures { result ≡ due_reply shown.now wanted.now }
+{
+    let whole = whole_reply(wanted);
+    let shown_words = shown.ext.as_slice();
+    let words = wanted.ext.as_slice();
+    if shown.outcome == wanted.outcome
+        && shown.status == wanted.status
+        && shown.handle == wanted.handle
+        && shown_words.len() == words.len()
+    {
+        other_word(whole, shown_words, words)
+    } else {
+        whole
     }
 }

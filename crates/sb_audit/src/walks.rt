@@ -5,18 +5,20 @@ ghost use Rattle.sb_statements.specs.Scripts.{is_clean};
 ghost use Rattle.sb_audit.specs.Audited.{policy_of};
 ghost use Rattle.sb_audit.specs.Clauses.{is_at, is_due_after};
 ghost use Rattle.sb_audit.specs.Before.{target_of};
-ghost use Rattle.sb_audit.specs.Kept.{AreAtMost, EntryFollows, Follows, IsOwnPlace, Keeps, RowsFollow, after_result, after_totals, decision_kept, end_kept, entry_kept, failing_kept, is_own_kept, result_kept, totals_kept};
+ghost use Rattle.sb_audit.specs.Kept.{AreAtMost, EntryFollows, Follows, IsOwnPlace, Keeps, RowsFollow, after_result, after_totals, decision_kept, due_kept, end_kept, entry_kept, failing_kept, is_own_kept, result_kept, totals_kept};
 
-use crate::answers::{AuditAnswer, Refuted};
+use crate::answers::AuditAnswer;
 use crate::contexts::Context;
 use crate::counts::{no_totals, same_totals, with_entry, with_result};
-use crate::decisions::own_place;
+use crate::decisions::{due_call, own_place};
+use crate::dues::{Due, PlaceDue, ResultDue};
+use crate::forms::due_form;
 use crate::own_places::OwnPlace;
 use crate::places::{due_spot, target_of};
-use crate::replies::{reply_due, same_reply};
-use crate::results::is_fitting;
+use crate::replies::{due_reply, reply_due, same_reply};
+use crate::results::{due_result, is_fitting};
 use crate::rows::Rows;
-use crate::rules::shows_rule;
+use crate::rules::{due_rule, shows_rule};
 use crate::slots::OwnReply;
 use crate::spots::Spot;
 use sb_book::ReadyScript;
@@ -115,14 +117,26 @@ impl Walk {
         }
     }
 
-    // The clause from 3 to 5 that fails at an entry of a target that has its channel. If none does, the entry is kept.
+    /// What is due after the lines that were read.
+    pub(crate) fn due(&self, context: &Context<'_>) -> Due
+        ensures { result ≡ due_kept context.now.script self.now }
+    {
+        Due::Form(due_form(
+            context.script(),
+            self.has_totals,
+            self.totals.entries,
+            self.totals.results,
+        ))
+    }
+
+    // What is due by the clause from 3 to 5 that fails at an entry of a target that has its channel. If none does, the entry is kept.
     fn decision<J: Judge>(
         &mut self,
         context: &Context<'_>,
         judge: &J,
         target: u32,
         entry: EntryLine,
-    ) -> Result<Option<u32>, NoMemory>
+    ) -> Result<Option<Due>, NoMemory>
         requires there { target < length context.now.script.targets }
         requires judge { J.policies judge.now ≡ (setting_of context.now.policies context.now.script).policies }
         requires small { AreAtMost (2 ^ 32) self.old.totals }
@@ -131,28 +145,28 @@ impl Walk {
     {
         let policy = context.policy_of(target);
         if !shows_rule(judge, target, policy, &entry.decision) {
-            return Ok(Some(3));
+            return Ok(Some(Due::Rule(due_rule(judge, target, policy, &entry.decision))));
         }
         let due = reply_due(&mut self.kernel, target, &entry.decision)?;
         if !same_reply(&entry.reply, &due) {
-            return Ok(Some(4));
+            return Ok(Some(Due::Reply(due_reply(&entry.reply, &due))));
         }
         let place = own_place(context, judge, &self.rows, target, &entry);
         if let OwnPlace::NotOwn = place {
-            return Ok(Some(5));
+            return Ok(Some(Due::Own(due_call(context, judge, target, &entry))));
         }
         self.totals = with_entry(self.totals, &entry.decision);
         keep_reply(&mut self.rows, context, policy, target, place, entry)?;
         Ok(None)
     }
 
-    // The clause from 2 to 5 that fails at an entry. If none does, the entry is kept.
+    // What is due by the clause from 2 to 5 that fails at an entry. If none does, the entry is kept.
     fn entry<J: Judge>(
         &mut self,
         context: &Context<'_>,
         judge: &J,
         entry: EntryLine,
-    ) -> Result<Option<u32>, NoMemory>
+    ) -> Result<Option<Due>, NoMemory>
         requires judge { J.policies judge.now ≡ (setting_of context.now.policies context.now.script).policies }
         requires small { AreAtMost (2 ^ 32) self.old.totals }
         ensures clause { IfOk result (λ f. f ≡ entry_kept context.now.policies context.now.script self.old entry (target_of context.now.script entry.target)) }
@@ -160,44 +174,46 @@ impl Walk {
             → EntryFollows context.now.script target entry self.old self.new) }
     {
         let Some(target) = target_of(context.script(), &entry.target) else {
-            return Ok(Some(2));
+            let targets = context.script().target_count();
+            return Ok(Some(Due::Place(PlaceDue::Target { targets })));
         };
         if !context.has_channel(target, entry.channel) {
-            return Ok(Some(2));
+            let channels = context.script().channel_count(target);
+            return Ok(Some(Due::Place(PlaceDue::Channel { channels })));
         }
         let failing = self.decision(context, judge, target, entry)?;
         Ok(failing)
     }
 
-    // Clause 6, if it fails at a result. If it does not, the result is counted.
-    fn result_(&mut self, context: &Context<'_>, line: &ResultLine) -> Option<u32>
+    // What is due by clause 6, if it fails at a result. If it does not, the result is counted.
+    fn result_(&mut self, context: &Context<'_>, line: &ResultLine) -> Option<Due>
         requires small { AreAtMost (2 ^ 32) self.old.totals }
         ensures clause { result ≡ result_kept context.now.script self.old.rows line.now (target_of context.now.script line.now.target) }
         ensures kept { result ≡ None → self.new ≡ after_result self.old }
     {
         let Some(target) = target_of(context.script(), &line.target) else {
-            return Some(6);
+            return Some(Due::Result(ResultDue::Statement));
         };
         if !is_fitting(context, &self.rows, target, line) {
-            return Some(6);
+            return Some(Due::Result(due_result(context, &self.rows, target, line)));
         }
         self.totals = with_result(self.totals);
         None
     }
 
-    // Clause 7, if it fails at the totals. If it does not, no line may follow.
-    fn last(&mut self, totals: &TotalsLine) -> Option<u32>
+    // What is due by clause 7, if it fails at the totals. If it does not, no line may follow.
+    fn last(&mut self, totals: &TotalsLine) -> Option<Due>
         ensures clause { result ≡ totals_kept self.old totals.now }
         ensures kept { result ≡ None → self.new ≡ after_totals self.old }
     {
         if !same_totals(totals, &self.totals) {
-            return Some(7);
+            return Some(Due::Totals(self.totals));
         }
         self.has_totals = true;
         None
     }
 
-    /// The lowest clause that fails at the next line, if one does. If none does, the line is kept.
+    /// What is due by the lowest clause that fails at the next line, if one does. If none does, the line is kept.
     ///
     /// # Errors
     /// `NoMemory` if there was none for the namespace or for what is kept of the line.
@@ -206,14 +222,14 @@ impl Walk {
         context: &Context<'_>,
         judge: &J,
         line: Line,
-    ) -> Result<Option<u32>, NoMemory>
+    ) -> Result<Option<Due>, NoMemory>
         requires judge { J.policies judge.now ≡ (setting_of context.now.policies context.now.script).policies }
         requires small { AreAtMost (2 ^ 32) self.old.totals }
         ensures clause { IfOk result (λ f. f ≡ failing_kept context.now.policies context.now.script self.old line) }
         ensures kept { IfOk result (λ f. f ≡ None → Follows context.now.script line self.old self.new) }
     {
         if !self.is_due(context, &line) {
-            return Ok(Some(1));
+            return Ok(Some(self.due(context)));
         }
         match line {
             Line::Entry(entry) => {
@@ -226,9 +242,9 @@ impl Walk {
     }
 
     /// The answer at the end of a text of this number of lines, if no clause failed.
-    pub(crate) fn end(&self, lines: u32) -> AuditAnswer
+    pub(crate) fn end(&self, context: &Context<'_>, lines: u32) -> AuditAnswer
         requires { lines + 1 < 2 ^ 32 }
-        ensures { result ≡ end_kept self.now lines }
+        ensures { result ≡ end_kept context.now.script self.now lines }
     {
         if self.has_totals {
             AuditAnswer::Yes {
@@ -236,10 +252,7 @@ impl Walk {
                 results: self.totals.results,
             }
         } else {
-            AuditAnswer::No(Refuted {
-                line: lines + 1,
-                clause: 1,
-            })
+            AuditAnswer::refutation(lines + 1, self.due(context))
         }
     }
 }

@@ -33,6 +33,8 @@ use Rattle.sb_audit.specs.Before as before_lines
 use Rattle.sb_audit.specs.Before.{entries_of, entry_count, has_totals, performed_of, result_count, space_with, target_of}
 use Rattle.sb_audit.specs.Clauses.{has_channel, is_above, is_decided, is_due, is_number, is_of_call, is_of_thread, is_on_clean, is_own, is_target, place_of, reply_due, shows_rule, thread_of}
 use Rattle.sb_audit.specs.Comparing.{same_reply}
+use Rattle.sb_audit.specs.Dues.{due_after, due_call, due_channel, due_reply, due_rule}
+use Rattle.sb_audit.specs.declared.dues.Due.TheVariants as due
 use Rattle.sb_audit.proofs.Converse.Decided.{decision_same, decision_shown, reply_same, reply_shown, space_shown}
 use Rattle.sb_audit.proofs.Converse.Lists.{AllOf, AllOf-append, Rises, at_seam, rising_before}
 use Rattle.sb_audit.proofs.Converse.Own.{IsReplyTo, entries_rise, entry_replies, mark_of_entry}
@@ -179,11 +181,14 @@ right_entry policies script before t s r =
     let policy = policy_of policies script t in
     let space = before_lines.space_after script before in
     let es = entries_of before in
+    let wanted = reply_due space t s.decision in
+    let own = Some (due.Own (due_call policy script t s)) in
+    let reply = Some (due.Reply (due_reply s.reply wanted)) in
     ap (entry_clause policies script space es s) r.named
-    ∙ ap (λ b. cond b (decision_clause policy script space es t s) (Some 2)) r.channel
-    ∙ ap (λ b. cond (not b) (Some 3) (cond (not (same_reply s.reply (reply_due space t s.decision))) (Some 4) (cond (not (is_own policy script es t s)) (Some 5) None))) r.rule
-    ∙ ap (λ b. cond (not b) (Some 4) (cond (not (is_own policy script es t s)) (Some 5) None)) r.reply
-    ∙ ap (λ b. cond (not b) (Some 5) None) r.own
+    ∙ ap (λ b. cond b (decision_clause policy script space es t s) (Some (due.Place (due_channel script t)))) r.channel
+    ∙ ap (λ b. cond (not b) (Some (due.Rule (due_rule policy s.decision))) (cond (not (same_reply s.reply wanted)) reply (cond (not (is_own policy script es t s)) own None))) r.rule
+    ∙ ap (λ b. cond (not b) reply (cond (not (is_own policy script es t s)) own None)) r.reply
+    ∙ ap (λ b. cond (not b) own None) r.own
 
 entry_due : (script : Script) (before : List Line) (es : List EntryLine) (s : EntryLine) → IsBefore before es 0 → s.number ≡ length es → is_due script before (line.Entry s) ≡ true
 entry_due script before es s b e =
@@ -194,7 +199,7 @@ entry_due script before es s b e =
 
 pub passes : (policies : List Policy) (script : Script) (before : List Line) (l : Line) → is_due script before l ≡ true → clause_at policies script before l ≡ None
     → failing policies script before l ≡ None
-passes policies script before l due right = ap (λ b. cond b (clause_at policies script before l) (Some 1)) due ∙ right
+passes policies script before l here right = ap (λ b. cond b (clause_at policies script before l) (Some (due_after script before))) here ∙ right
 
 -- ---- all entries
 

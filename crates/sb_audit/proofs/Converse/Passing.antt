@@ -35,6 +35,7 @@ use Rattle.sb_audit.specs.Clauses.{count_of, is_denied, is_faked, is_performed, 
 use Rattle.sb_audit.specs.Converse.{IsPrintable, IsPrintableEntry, IsPrintableResult, ReportsThatFitAreAudited}
 use Rattle.sb_audit.specs.Spots.{due_spot, spots}
 use Rattle.sb_audit.specs.declared.answers.AuditAnswer.TheVariants.{Yes}
+use Rattle.sb_audit.specs.declared.dues.Due.TheVariants.{Totals}
 use Rattle.sb_audit.specs.declared.spots.Spot.{Spot}
 use Rattle.sb_audit.proofs.Converse.Decided.{denied_counted, faked_counted, performed_counted, refused_counted}
 use Rattle.sb_audit.proofs.Converse.EntriesPass.{IsCommon, IsPlaced, entries_pass, entry_placed, length-shown, passes}
@@ -95,7 +96,7 @@ totals_pass policies script report before b order =
     ∙ slice_get_past (map spot_of all) (length all) (omega (arith, length-map all spot_of)) in
     passes policies script before (line.Totals (shown_totals report))
     (and_from (not (has_totals before)) (is_none (due_spot script (result_count before))) (ap not b.no_totals) (ap is_none past))
-    (ap (λ t. cond t None (Some 7)) (totals_same script report before b))
+    (ap (λ t. cond t None (Some (Totals (totals_due before)))) (totals_same script report before b))
 
 -- ---- ranges
 

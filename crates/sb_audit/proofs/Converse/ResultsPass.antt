@@ -36,7 +36,7 @@ use Rattle.sb_statements.specs.declared.scripts.TargetScript.{TargetScript}
 use Rattle.sb_statements.specs.declared.statements.Statement.{Statement}
 use Rattle.sb_statements.specs.declared.statements.Statement.TheVariants as statement
 use Rattle.sb_transcript.specs.EntryLines.{target_name}
-use Rattle.sb_audit.specs.Audited.{failing, result_clause}
+use Rattle.sb_audit.specs.Audited.{failing, result_clause, result_due}
 use Rattle.sb_audit.specs.Before.{entries_of, has_totals, result_count, target_of}
 use Rattle.sb_audit.specs.Clauses.{answers_call, fits_entries, has_entry, is_at, is_due, is_fitting, is_number, is_on_clean, is_reply_of, is_target, needs_entry, suits}
 use Rattle.sb_audit.specs.Comparing.{same_reply}
@@ -409,9 +409,9 @@ right_result script entries results common placed t k i r at =
           (entry_is_there script entries results common t k i s r at w.1 w.2)) each;
     }
 
-result_due : (script : Script) (before : List Line) (es : List EntryLine) (n : ℕ) (x : Placed) → IsBefore before es n → due_spot script n ≡ Some x.spot
+result_is_due : (script : Script) (before : List Line) (es : List EntryLine) (n : ℕ) (x : Placed) → IsBefore before es n → due_spot script n ≡ Some x.spot
     → target_of script (target_name script x.spot.target) ≡ Some x.spot.target → is_due script before (line_of_result script x) ≡ true
-result_due script before es n x b spot named =
+result_is_due script before es n x b spot named =
     let r = shown_result_line script x.spot.target x.spot.thread x.spot.place x.result in
     let at : is_at script r (due_spot script (result_count before)) ≡ true =
     ap (λ m. is_at script r (due_spot script m)) b.results_are ∙ ap (is_at script r) spot
@@ -424,10 +424,10 @@ one_result : (policies : List Policy) (script : Script) (before : List Line) (es
     → due_spot script n ≡ Some x.spot → IsRightResult script es x → failing policies script before (line_of_result script x) ≡ None
 one_result policies script before es n x b spot right =
     let r = shown_result_line script x.spot.target x.spot.thread x.spot.place x.result in
-    passes policies script before (line_of_result script x) (result_due script before es n x b spot right.named)
+    passes policies script before (line_of_result script x) (result_is_due script before es n x b spot right.named)
     (ap (result_clause script (entries_of before) r) right.named
-    ∙ ap (λ (l : List EntryLine). cond (is_fitting script l x.spot.target r) None (Some 6)) b.entries_are
-    ∙ ap (λ t. cond t None (Some 6)) right.fitting)
+    ∙ ap (λ (l : List EntryLine). cond (is_fitting script l x.spot.target r) None (Some (result_due script l x.spot.target r))) b.entries_are
+    ∙ ap (λ t. cond t None (Some (result_due script es x.spot.target r))) right.fitting)
 
 -- ---- all results
 

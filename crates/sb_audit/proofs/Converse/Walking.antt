@@ -12,9 +12,11 @@ use Rattle.sb_lineread.specs.declared.lines.Line.TheVariants as line
 use Rattle.sb_rule.specs.declared.policies.Policy.{Policy}
 use Rattle.sb_statements.specs.declared.scripts.Script.{Script}
 use Rattle.sb_text.specs.Lines.{NumberedRawLine}
+use Rattle.sb_audit.specs.Answers.{refutation}
 use Rattle.sb_audit.specs.Audited.{answer_at, audited_from, end_answer, failing, failing_line, with_line}
 use Rattle.sb_audit.specs.Before.{entries_of, entry_count, has_totals, is_result, is_totals, result_count}
-use Rattle.sb_audit.specs.declared.answers.AuditAnswer.TheVariants.{Yes, No}
+use Rattle.sb_audit.specs.declared.answers.AuditAnswer.TheVariants.{Yes}
+use Rattle.sb_audit.specs.Dues.{due_after}
 use Rattle.sb_audit.proofs.Converse.Lists.{AllOf}
 use Rattle.sb_audit.proofs.Converse.RawLines.{raws_from}
 use Rattle.sb_audit.proofs.Converse.ShownLines.{Placed, line_of_result}
@@ -38,17 +40,17 @@ line_step : (policies : List Policy) (script : Script) (before : List Line) (n m
     → failing policies script before l ≡ None
     → audited_from policies script before n (record { number = m; bytes = written l; is_ended = true } ∷ more) ≡ audited_from policies script (before ++ l ∷ []) m more
 line_step policies script before n m l more read clear =
-    ap (λ o. answer_at (failing_line policies script before o) m (audited_from policies script (with_line before o) m more)) read
+    ap (λ o. answer_at (failing_line policies script before true o) m (audited_from policies script (with_line before o) m more)) read
     ∙ ap (λ f. answer_at f m (audited_from policies script (before ++ l ∷ []) m more)) clear
 
-end_yes : (lines : List Line) (n : ℕ) → has_totals lines ≡ true → end_answer lines n ≡ Yes (entry_count lines) (result_count lines)
-end_yes lines n t = ap (λ b. cond b (Yes (entry_count lines) (result_count lines)) (No (record { line = n + 1; clause = 1 }))) t
+end_yes : (script : Script) (lines : List Line) (n : ℕ) → has_totals lines ≡ true → end_answer script lines n ≡ Yes (entry_count lines) (result_count lines)
+end_yes script lines n t = ap (λ b. cond b (Yes (entry_count lines) (result_count lines)) (refutation (n + 1) (due_after script lines))) t
 
 -- an audit of lines that are read says yes if no clause fails at any of them and they have totals
 pub walked : (policies : List Policy) (script : Script) (before : List Line) (n m : ℕ) (ls : List Line) → AllOf IsRead ls → IsClear policies script before ls
     → has_totals (before ++ ls) ≡ true
     → audited_from policies script before n (raws_from m (map written ls)) ≡ Yes (entry_count (before ++ ls)) (result_count (before ++ ls))
-walked policies script before n m [] r c t = subst (λ (z : List Line). has_totals z ≡ true → end_answer before n ≡ Yes (entry_count z) (result_count z)) (sym (append-nil before)) (end_yes before n) t
+walked policies script before n m [] r c t = subst (λ (z : List Line). has_totals z ≡ true → end_answer script before n ≡ Yes (entry_count z) (result_count z)) (sym (append-nil before)) (end_yes script before n) t
 walked policies script before n m (l ∷ ls) r c t =
     let same : before ++ l ∷ [] ++ ls ≡ before ++ l ∷ ls = append_assoc before (l ∷ []) ls in
     let rest = walked policies script (before ++ l ∷ []) m (m + 1) ls r.1 c.1 (subst (λ (z : List Line). has_totals z ≡ true) (sym same) t) in

@@ -33,10 +33,11 @@ returns-in-Some-2 g c =
     let script = c.args.context.now.script in
     let text = c.args.text.now in
     let raw : NumberedRawLine = record { number = c.in-Some.raw.number; bytes = c.in-Some.raw.bytes.now; is_ended = c.in-Some.raw.is_ended } in
-    stopped policies script c.establish_sound.ensures.sound c.establish_sound.ensures.units (audited policies script text) (length text) c.loop-raw.walk c.loop-raw.last
+    c.refutation.ensures
+    ∙ stopped policies script c.establish_sound.ensures.sound c.establish_sound.ensures.units (audited policies script text) (length text) c.loop-raw.walk c.loop-raw.last
     raw c.next_line.new.self
     (subst (λ (lines : List NumberedRawLine). IsRead policies script (audited policies script text) (length text) c.loop-raw.walk c.loop-raw.last lines) c.in-Some.ensures c.loop-raw.invariant)
-    c.in-Some-2.clause (sym c.in_ok-clause.ensures.clause ∙ c.in-Some-2.is)
+    c.in-Some-2.due (sym c.in_ok-due.ensures.clause ∙ c.in-Some-2.is)
 
 pub loop-raw-smaller : goal.loop-raw-smaller
 loop-raw-smaller g c = let e = ap length c.in-Some.ensures in omega arith
@@ -47,11 +48,11 @@ loop-raw-preserved g c =
     let script = c.args.context.now.script in
     let text = c.args.text.now in
     let raw : NumberedRawLine = record { number = c.in-Some.raw.number; bytes = c.in-Some.raw.bytes.now; is_ended = c.in-Some.raw.is_ended } in
-    let none : c.in_ok-clause.field-0 ≡ None = no_clause c.in_ok-clause.field-0 c.in_default-2.not-Some in
+    let none : c.in_ok-due.field-0 ≡ None = no_clause c.in_ok-due.field-0 c.in_default-2.not-Some in
     next_read policies script c.establish_sound.ensures.sound c.establish_sound.ensures.units (audited policies script text) (length text) c.loop-raw.walk c.loop-raw.last
     raw c.next_line.new.self
     (subst (λ (lines : List NumberedRawLine). IsRead policies script (audited policies script text) (length text) c.loop-raw.walk c.loop-raw.last lines) c.in-Some.ensures c.loop-raw.invariant)
-    c.failing.new.walk (sym c.in_ok-clause.ensures.clause ∙ none) (c.in_ok-clause.ensures.kept none)
+    c.failing.new.walk (sym c.in_ok-due.ensures.clause ∙ none) (c.in_ok-due.ensures.kept none)
 
 pub end-requires : goal.end-requires
 end-requires g c = let few = c.loop-raw.invariant.few in let short = c.requires.short in omega arith
