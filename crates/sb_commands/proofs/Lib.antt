@@ -4,3 +4,4 @@ pub mod TakenWords
 pub mod NumberLaws
 pub mod WrittenCommands
 pub mod Worked
+mod CleanUsage

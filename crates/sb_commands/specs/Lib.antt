@@ -7,3 +7,4 @@ pub mod Commands
 pub mod CommandLaws
 pub mod UsageMessages
 pub mod Inquiries
+pub mod UsageLaws

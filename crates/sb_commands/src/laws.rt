@@ -1,5 +1,6 @@
 // Laws of the command line. None of these functions does anything: each contract is a law.
 ghost use Rattle.sb_commands.specs.CommandLaws.{ReadCommandsAreWritable, WrittenCommandsAreRead};
+ghost use Rattle.sb_commands.specs.UsageLaws.{UsageMessagesAreClean};
 
 use sb_text::decimals_are_read;
 
@@ -11,3 +12,9 @@ pub fn commands_are_read()
 {
     decimals_are_read();
 }
+
+/// The message of arguments that are no command is UTF-8 without control characters, except LF and tab, and without format characters, whatever the bytes of
+/// the arguments are.
+pub fn usage_messages_are_clean()
+    ensures { UsageMessagesAreClean }
+{}

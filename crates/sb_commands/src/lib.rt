@@ -24,6 +24,6 @@ mod usage_messages;
 pub use commands::{CommandWords, PlainWords, ThreadedWords, command_of};
 pub use forms::{CommandForm, CommandHelp, FormNumber, FormOption, FormPlace, all_forms, form_by};
 pub use inquiries::{Inquiry, inquiry_of, inquiry_text};
-pub use laws::commands_are_read;
+pub use laws::{commands_are_read, usage_messages_are_clean};
 pub use usage_faults::UsageFault;
 pub use usage_messages::usage_message;

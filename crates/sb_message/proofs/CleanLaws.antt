@@ -223,6 +223,9 @@ quoted_clean glyphs h =
     four (34 ∷ []) (shown (take 40 glyphs)) (dots (nat_lt 40 (length glyphs))) (34 ∷ []) (plain (34 ∷ []) refl)
     (shown_clean (take 40 glyphs) (real_take 40 glyphs h)) (dots_clean (nat_lt 40 (length glyphs))) (plain (34 ∷ []) refl)
 
+pub quoted_bytes_clean : (bs : List ℕ) → Spelled (quoted_bytes bs)
+quoted_bytes_clean bs = quoted_clean (glyphs_of bs) (glyphs_real bs)
+
 token_real : (glyphs : List Glyph) → Real glyphs → Real (first_token glyphs)
 token_real [] h = refl
 token_real (glyph ∷ glyphs) h = by_test Real (is_char 34 glyph) (until (is_char 34) glyphs) (until is_blank_glyph (glyph ∷ glyphs))
@@ -234,7 +237,7 @@ named_clean text column line =
     quoted_clean (first_token rest) (token_real rest (real_drop (place_of text column line) (glyphs_of line) (glyphs_real line)))
 
 pub shown_texts_clean : ShownTextsAreClean
-shown_texts_clean bs = (clean_of (shown_bytes bs) (bytes_clean bs), clean_of (quoted_bytes bs) (quoted_clean (glyphs_of bs) (glyphs_real bs)))
+shown_texts_clean bs = (clean_of (shown_bytes bs) (bytes_clean bs), clean_of (quoted_bytes bs) (quoted_bytes_clean bs))
 
 -- ---- lines
 

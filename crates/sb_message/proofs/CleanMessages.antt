@@ -1,7 +1,25 @@
 -- Every message is clean.
 use Rattle.std.proofs.Common.{ℕ, Bool, true, false, cond, ◌==◌, List, [], ◌∷◌, Option, None, Some, codes, refl}
 use Rattle.std.specs.Fmt.{decimal}
-use Rattle.sb_call.specs.CallWords.{is_word}
+use Rattle.sb_audit.specs.declared.answers.Refuted.{Refuted}
+use Rattle.sb_audit.specs.declared.dues.Due.{Due}
+use Rattle.sb_audit.specs.declared.dues.Due.TheVariants as due
+use Rattle.sb_audit.specs.declared.dues.FormDue.{FormDue}
+use Rattle.sb_audit.specs.declared.dues.FormDue.TheVariants as form
+use Rattle.sb_audit.specs.declared.dues.OwnDue.{OwnDue}
+use Rattle.sb_audit.specs.declared.dues.OwnDue.TheVariants as own
+use Rattle.sb_audit.specs.declared.dues.PlaceDue.{PlaceDue}
+use Rattle.sb_audit.specs.declared.dues.PlaceDue.TheVariants as place
+use Rattle.sb_audit.specs.declared.dues.ReplyDue.{ReplyDue}
+use Rattle.sb_audit.specs.declared.dues.ReplyDue.TheVariants as reply
+use Rattle.sb_audit.specs.declared.dues.ResultDue.{ResultDue}
+use Rattle.sb_audit.specs.declared.dues.ResultDue.TheVariants as result
+use Rattle.sb_audit.specs.declared.dues.RuleDue.{RuleDue}
+use Rattle.sb_audit.specs.declared.dues.RuleDue.TheVariants as rule
+use Rattle.sb_audit.specs.declared.spots.Spot.{Spot}
+use Rattle.sb_call.specs.CallWords.{call_word, is_word}
+use Rattle.sb_call.specs.declared.tags.CallTag.{CallTag}
+use Rattle.sb_call.specs.declared.tags.CallTag.TheVariants.{Ping, FileCreate, FileOpen, FileQuery, FileRename, PipeCreate, KeyCreate, KeyOpen, EventCreate, EventOpen, HandleClose}
 use Rattle.sb_dup.specs.Kinds.{kind_number as move_number}
 use Rattle.sb_dup.specs.MoveTexts.{MoveFault}
 use Rattle.sb_dup.specs.declared.faults.MoveKind.{MoveKind}
@@ -10,8 +28,14 @@ use Rattle.sb_link.specs.Kinds.{kind_number as link_number}
 use Rattle.sb_link.specs.LinkTexts.{LinkFault}
 use Rattle.sb_link.specs.declared.faults.LinkKind.{LinkKind}
 use Rattle.sb_link.specs.declared.faults.LinkKind.TheVariants as link
+use Rattle.sb_lineread.specs.declared.lines.TotalsLine.{TotalsLine}
 use Rattle.sb_pattern.specs.declared.faults.PatternFault.{PatternFault}
 use Rattle.sb_pattern.specs.declared.faults.PatternFault.TheVariants.{DoubleStar, StarQuestion, TooLong}
+use Rattle.sb_rule.specs.Actions.{action_word}
+use Rattle.sb_rule.specs.declared.actions.Action.{Action}
+use Rattle.sb_rule.specs.declared.actions.Action.TheVariants as action
+use Rattle.sb_rule.specs.declared.verdicts.Verdict.{Verdict}
+use Rattle.sb_rule.specs.declared.verdicts.Verdict.TheVariants as verdict
 use Rattle.sb_ruletext.specs.Kinds.{kind_number as policy_number}
 use Rattle.sb_ruletext.specs.PolicyTexts.{PolicyFault}
 use Rattle.sb_ruletext.specs.declared.faults.PolicyFaultKind.{PolicyFaultKind}
@@ -28,14 +52,18 @@ use Rattle.sb_scripttext.specs.declared.faults.ScriptKind.{ScriptKind}
 use Rattle.sb_scripttext.specs.declared.faults.ScriptKind.TheVariants as script
 use Rattle.sb_scripttext.specs.declared.faults.ScriptLimit.{ScriptLimit}
 use Rattle.sb_scripttext.specs.declared.faults.ScriptLimit.TheVariants.{Openings, Targets, Threads, Statements}
+use Rattle.sb_scripttext.specs.declared.faults.StartFault.{StartFault}
+use Rattle.sb_scripttext.specs.declared.faults.StartFault.TheVariants.{NameTaken, NoParent, ParentIsFile}
 use Rattle.sb_text.specs.declared.refusals.WordFault.{WordFault}
 use Rattle.sb_text.specs.declared.refusals.WordFault.TheVariants.{Unknown, Missing, Extra, Broken, Quoted, Unquoted, Misplaced, Repeated, NoVersion}
+use Rattle.sb_wide.specs.Numbers.{hexadecimal}
 use Rattle.sb_message.specs.declared.end_messages.EndFault.{EndFault}
 use Rattle.sb_message.specs.declared.end_messages.EndFault.TheVariants as end
 use Rattle.sb_message.specs.declared.messages.FaultyText.TheVariants.{Policy, Script, Schedule, Links, Moves}
-use Rattle.sb_message.specs.AuditMessages.{form_words, clause_words, audit_headline, audit_first_line, audit_line, audit_message}
+use Rattle.sb_message.specs.AuditMessages.{audit_headline, audit_first_line, audit_line, audit_message}
 use Rattle.sb_message.specs.Causes.{cause_text, two_text, no_target_text, word_words, pattern_words}
 use Rattle.sb_message.specs.CleanTexts.{IsClean}
+use Rattle.sb_message.specs.DueTexts.{form_words, clause_words, number_text, entry_text, spot_text, form_text, place_text, verdict_text, rule_text, reply_text, own_text, result_text, status_text, totals_text, due_text}
 use Rattle.sb_message.specs.EndMessages.{numbers_text, file_text, end_text, end_message}
 use Rattle.sb_message.specs.Glyphs.{shown_bytes, glyphs_of}
 use Rattle.sb_message.specs.LinkMessages.{link_words, link_names, link_message}
@@ -47,7 +75,7 @@ use Rattle.sb_message.specs.Places.{named_at}
 use Rattle.sb_message.specs.PolicyMessages as policies
 use Rattle.sb_message.specs.ScheduleMessages.{schedule_words, schedule_names, schedule_message}
 use Rattle.sb_message.specs.ScriptMessages as scripts
-use Rattle.sb_message.proofs.CleanLaws.{Spelled, clean_of, both, three, four, five, nothing, plain, decimal_clean, bytes_clean, named_clean, line_excerpt_clean, feed, place_clean, fault_clean}
+use Rattle.sb_message.proofs.CleanLaws.{Spelled, clean_of, both, three, four, five, six, nothing, plain, decimal_clean, hexadecimal_clean, bytes_clean, named_clean, line_excerpt_clean, feed, place_clean, fault_clean}
 
 -- ---- words
 
@@ -165,6 +193,11 @@ argument_clean Misplaced = plain (scripts.argument_words Misplaced) refl
 argument_clean Repeated = plain (scripts.argument_words Repeated) refl
 argument_clean NoVersion = plain (scripts.argument_words NoVersion) refl
 
+start_clean : (fault : StartFault) → Spelled (scripts.start_words fault)
+start_clean NameTaken = plain (scripts.start_words NameTaken) refl
+start_clean NoParent = plain (scripts.start_words NoParent) refl
+start_clean ParentIsFile = plain (scripts.start_words ParentIsFile) refl
+
 by_test : (b : Bool) (x y : List ℕ) → Spelled x → Spelled y → Spelled (cond b x y)
 by_test true x y hx hy = hx
 by_test false x y hx hy = hy
@@ -208,7 +241,7 @@ script_clean script.NoSuchWord named = plain (scripts.kind_words script.NoSuchWo
 script_clean (script.TooMany limit) named = script_limit_clean limit
 script_clean script.TooBig named = plain (scripts.kind_words script.TooBig) refl
 script_clean script.SameName named = plain (scripts.kind_words script.SameName) refl
-script_clean script.BadStart named = plain (scripts.kind_words script.BadStart) refl
+script_clean (script.BadStart fault) named = start_clean fault
 
 -- ---- causes
 
@@ -217,19 +250,139 @@ cause_clean words names named hw hn = both words (cond names named []) hw (by_te
 
 -- ---- the audit
 
+number_clean : (before : List ℕ) (n : ℕ) (after : List ℕ) → Spelled before → Spelled after → Spelled (number_text before n after)
+number_clean before n after hb ha = three before (decimal n) after hb (decimal_clean n) ha
+
 form_clean : (shown : Option (List ℕ)) → Spelled (form_words shown)
 form_clean (Some line) = plain (codes "the line is not one that is due here") refl
 form_clean None = plain (codes "the transcript ends where a line is due") refl
 
-clause_clean : (clause : ℕ) (shown : Option (List ℕ)) → Spelled (clause_words clause shown)
-clause_clean clause shown =
-    by_test (clause == 1) _ _ (form_clean shown)
-    (by_test (clause == 2) _ _ (plain (codes "the script has no such target or channel") refl)
-    (by_test (clause == 3) _ _ (plain (codes "the rule that is shown does not decide this call") refl)
-    (by_test (clause == 4) _ _ (plain (codes "the reply is not the one that this call gets") refl)
-    (by_test (clause == 5) _ _ (plain (codes "no later call of the target with this mark is decided in this way") refl)
-    (by_test (clause == 6) _ _ (plain (codes "the result is not one that the statement can have") refl)
-    (by_test (clause == 7) _ _ (plain (codes "the totals are not those of the lines") refl) (plain (codes "there is no such clause") refl)))))))
+clause_clean : (d : Due) (shown : Option (List ℕ)) → Spelled (clause_words d shown)
+clause_clean (due.Form d) shown = form_clean shown
+clause_clean (due.Place (place.Target n)) shown = plain (codes "no such target") refl
+clause_clean (due.Place (place.Channel n)) shown = plain (codes "no such channel") refl
+clause_clean (due.Rule d) shown = plain (codes "the rule that is shown does not decide this call") refl
+clause_clean (due.Reply d) shown = plain (codes "the reply is not the one that this call gets") refl
+clause_clean (due.Own d) shown = plain (codes "no later call of the target with this mark is decided in this way") refl
+clause_clean (due.Result d) shown = plain (codes "the result is not one that the statement can have") refl
+clause_clean (due.Totals t) shown = plain (codes "the totals are not those of the lines") refl
+
+entry_clean : (entry : Option ℕ) → Spelled (entry_text entry)
+entry_clean None = nothing
+entry_clean (Some n) = number_clean (codes "entry ") n (codes " or ") (plain (codes "entry ") refl) (plain (codes " or ") refl)
+
+spot_clean : (spot : Option Spot) → Spelled (spot_text spot)
+spot_clean None = plain (codes "the totals are due") refl
+spot_clean (Some spot) =
+    both (two_text (codes "the result of target ") spot.target (codes " thread ") spot.thread) (number_text (codes " place ") spot.place (codes " is due"))
+    (numbered_clean (codes "the result of target ") (codes " thread ") spot.target spot.thread (plain (codes "the result of target ") refl) (plain (codes " thread ") refl))
+    (number_clean (codes " place ") spot.place (codes " is due") (plain (codes " place ") refl) (plain (codes " is due") refl))
+
+form_due_clean : (d : FormDue) → Spelled (form_text d)
+form_due_clean form.LineFeed = plain (codes "a line feed at its end is due") refl
+form_due_clean (form.Line entry spot) = both (entry_text entry) (spot_text spot) (entry_clean entry) (spot_clean spot)
+form_due_clean form.End = plain (codes "nothing is due after the totals") refl
+
+place_due_clean : (d : PlaceDue) → Spelled (place_text d)
+place_due_clean (place.Target n) = number_clean (codes "the script has ") n [] (plain (codes "the script has ") refl) nothing
+place_due_clean (place.Channel n) = number_clean (codes "the target has ") n [] (plain (codes "the target has ") refl) nothing
+
+action_clean : (a : Action) → Spelled (action_word a)
+action_clean action.Allow = plain (action_word action.Allow) refl
+action_clean action.Deny = plain (action_word action.Deny) refl
+action_clean action.Alarm = plain (action_word action.Alarm) refl
+action_clean action.Fake = plain (action_word action.Fake) refl
+action_clean action.ReadOnly = plain (action_word action.ReadOnly) refl
+
+call_clean : (t : CallTag) → Spelled (call_word t)
+call_clean Ping = plain (call_word Ping) refl
+call_clean FileCreate = plain (call_word FileCreate) refl
+call_clean FileOpen = plain (call_word FileOpen) refl
+call_clean FileQuery = plain (call_word FileQuery) refl
+call_clean FileRename = plain (call_word FileRename) refl
+call_clean PipeCreate = plain (call_word PipeCreate) refl
+call_clean KeyCreate = plain (call_word KeyCreate) refl
+call_clean KeyOpen = plain (call_word KeyOpen) refl
+call_clean EventCreate = plain (call_word EventCreate) refl
+call_clean EventOpen = plain (call_word EventOpen) refl
+call_clean HandleClose = plain (call_word HandleClose) refl
+
+verdict_clean : (v : Verdict) → Spelled (verdict_text v)
+verdict_clean verdict.NoRule = plain (codes "no rule of the policy matches it") refl
+verdict_clean (verdict.Rule line a) =
+    both (number_text (codes "the policy decides it by the rule on line ") line (codes ": ")) (action_word a)
+    (number_clean (codes "the policy decides it by the rule on line ") line (codes ": ") (plain (codes "the policy decides it by the rule on line ") refl) (plain (codes ": ") refl))
+    (action_clean a)
+
+rule_due_clean : (d : RuleDue) → Spelled (rule_text d)
+rule_due_clean rule.FittingArgs = plain (codes "its arguments do not fit it") refl
+rule_due_clean (rule.Decided v) = verdict_clean v
+rule_due_clean (rule.RuleOn line a) =
+    three (codes "the policy has no ") (action_word a) (number_text (codes " rule for it on line ") line []) (plain (codes "the policy has no ") refl) (action_clean a)
+    (number_clean (codes " rule for it on line ") line [] (plain (codes " rule for it on line ") refl) nothing)
+rule_due_clean (rule.Without bits) =
+    both (codes "its access has bits that do more than read: 0x") (hexadecimal bits) (plain (codes "its access has bits that do more than read: 0x") refl)
+    (hexadecimal_clean bits)
+
+status_clean : (outcome status : ℕ) → Spelled (status_text outcome status)
+unfolding status_text
+status_clean outcome status =
+    both (number_text (codes "outcome ") outcome (codes ", status 0x")) (hexadecimal status)
+    (number_clean (codes "outcome ") outcome (codes ", status 0x") (plain (codes "outcome ") refl) (plain (codes ", status 0x") refl)) (hexadecimal_clean status)
+
+reply_due_clean : (d : ReplyDue) → Spelled (reply_text d)
+reply_due_clean (reply.Whole outcome status handle words) =
+    both (status_text outcome status) (two_text (codes ", handle ") handle (codes ", extended words: ") words) (status_clean outcome status)
+    (numbered_clean (codes ", handle ") (codes ", extended words: ") handle words (plain (codes ", handle ") refl) (plain (codes ", extended words: ") refl))
+reply_due_clean (reply.Word n value) =
+    numbered_clean (codes "its extended word ") (codes " is ") n value (plain (codes "its extended word ") refl) (plain (codes " is ") refl)
+
+own_due_clean : (d : OwnDue) → Spelled (own_text d)
+own_due_clean own.CallMark = plain (codes "the mark is not that of a call") refl
+own_due_clean (own.Decision tag v) =
+    four (codes "the call is ") (call_word tag) (codes ", and ") (verdict_text v) (plain (codes "the call is ") refl) (call_clean tag) (plain (codes ", and ") refl)
+    (verdict_clean v)
+own_due_clean (own.Later thread at) =
+    both (two_text (codes "an earlier entry is that of the call of thread ") thread (codes " at place ") at) (codes " or of a later one")
+    (numbered_clean (codes "an earlier entry is that of the call of thread ") (codes " at place ") thread at
+    (plain (codes "an earlier entry is that of the call of thread ") refl) (plain (codes " at place ") refl))
+    (plain (codes " or of a later one") refl)
+
+result_due_clean : (d : ResultDue) → Spelled (result_text d)
+result_due_clean result.Statement = plain (codes "there is none at this place") refl
+result_due_clean (result.ReplyOf mark) =
+    number_clean (codes "the reply of the entry with mark ") mark (codes " is due") (plain (codes "the reply of the entry with mark ") refl) (plain (codes " is due") refl)
+result_due_clean (result.Entry channel mark) =
+    numbered_clean (codes "no entry on channel ") (codes ", which is clean, has mark ") channel mark (plain (codes "no entry on channel ") refl)
+    (plain (codes ", which is clean, has mark ") refl)
+result_due_clean result.Channel = plain (codes "a clean channel of the target is free for it") refl
+result_due_clean (result.CleanReply channel) =
+    number_clean (codes "a reply is due on channel ") channel (codes ", which is clean") (plain (codes "a reply is due on channel ") refl) (plain (codes ", which is clean") refl)
+result_due_clean result.OtherState = plain (codes "a send is lost only if its channel is not found busy") refl
+result_due_clean (result.OtherMark mark) =
+    number_clean (codes "the mark of a foreign reply is not the call's own, ") mark [] (plain (codes "the mark of a foreign reply is not the call's own, ") refl) nothing
+result_due_clean result.OfCall = plain (codes "it is a call") refl
+result_due_clean result.OfStore = plain (codes "it is a store") refl
+result_due_clean result.OfLoad = plain (codes "it is an exchange or a load") refl
+result_due_clean (result.OfWait most) =
+    number_clean (codes "it is a wait whose limit of loads is ") most [] (plain (codes "it is a wait whose limit of loads is ") refl) nothing
+
+totals_due_clean : (t : TotalsLine) → Spelled (totals_text t)
+totals_due_clean t =
+    three (two_text (codes "entries ") t.entries (codes " performed ") t.performed) (two_text (codes " faked ") t.faked (codes " denied ") t.denied)
+    (two_text (codes " refused ") t.refused (codes " results ") t.results)
+    (numbered_clean (codes "entries ") (codes " performed ") t.entries t.performed (plain (codes "entries ") refl) (plain (codes " performed ") refl))
+    (numbered_clean (codes " faked ") (codes " denied ") t.faked t.denied (plain (codes " faked ") refl) (plain (codes " denied ") refl))
+    (numbered_clean (codes " refused ") (codes " results ") t.refused t.results (plain (codes " refused ") refl) (plain (codes " results ") refl))
+
+due_clean : (d : Due) → Spelled (due_text d)
+due_clean (due.Form d) = form_due_clean d
+due_clean (due.Place d) = place_due_clean d
+due_clean (due.Rule d) = rule_due_clean d
+due_clean (due.Reply d) = reply_due_clean d
+due_clean (due.Own d) = own_due_clean d
+due_clean (due.Result d) = result_due_clean d
+due_clean (due.Totals t) = totals_due_clean t
 
 audit_line_clean : (shown : Option (List ℕ)) → Spelled (audit_line shown)
 audit_line_clean None = nothing
@@ -239,15 +392,16 @@ audit_headline_clean : (line clause : ℕ) → Spelled (audit_headline line clau
 audit_headline_clean line clause =
     numbered_clean (codes "sandbox: audit line ") (codes " clause ") line clause (plain (codes "sandbox: audit line ") refl) (plain (codes " clause ") refl)
 
-audit_first_clean : (line clause : ℕ) (shown : Option (List ℕ)) → Spelled (audit_first_line line clause shown)
-audit_first_clean line clause shown =
-    four (audit_headline line clause) (codes ": ") (clause_words clause shown) (10 ∷ []) (audit_headline_clean line clause) (plain (codes ": ") refl)
-    (clause_clean clause shown) feed
+audit_first_clean : (refuted : Refuted) (shown : Option (List ℕ)) → Spelled (audit_first_line refuted shown)
+audit_first_clean refuted shown =
+    six (audit_headline refuted.line refuted.clause) (codes ": ") (clause_words refuted.due shown) (codes ": ") (due_text refuted.due) (10 ∷ [])
+    (audit_headline_clean refuted.line refuted.clause) (plain (codes ": ") refl) (clause_clean refuted.due shown) (plain (codes ": ") refl)
+    (due_clean refuted.due) feed
 
-audit_clean : (file : List ℕ) (line clause : ℕ) (shown : Option (List ℕ)) → IsClean (audit_message file line clause shown)
-audit_clean file line clause shown =
-    clean_of (audit_message file line clause shown)
-    (three (audit_first_line line clause shown) (place_line file line 0) (audit_line shown) (audit_first_clean line clause shown) (place_clean file line 0)
+audit_clean : (file : List ℕ) (refuted : Refuted) (shown : Option (List ℕ)) → IsClean (audit_message file refuted shown)
+audit_clean file refuted shown =
+    clean_of (audit_message file refuted shown)
+    (three (audit_first_line refuted shown) (place_line file refuted.line 0) (audit_line shown) (audit_first_clean refuted shown) (place_clean file refuted.line 0)
     (audit_line_clean shown))
 
 -- ---- ends

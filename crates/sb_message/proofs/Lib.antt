@@ -2,5 +2,5 @@ mod Cuts
 mod Named
 mod Near
 mod CaretLaws
-mod CleanLaws
+pub mod CleanLaws
 mod CleanMessages

@@ -11,6 +11,7 @@ pub mod ScheduleMessages
 pub mod ScriptMessages
 pub mod LinkMessages
 pub mod MoveMessages
+pub mod DueTexts
 pub mod AuditMessages
 pub mod EndMessages
 pub mod MessageLaws

@@ -1,5 +1,6 @@
 -- What is true of all messages.
 use Rattle.std.specs.Prelude.{ℕ, List, Option}
+use Rattle.sb_audit.specs.declared.answers.Refuted.{Refuted}
 use Rattle.sb_dup.specs.MoveTexts.{MoveFault}
 use Rattle.sb_link.specs.LinkTexts.{LinkFault}
 use Rattle.sb_ruletext.specs.PolicyTexts.{PolicyFault}
@@ -23,5 +24,5 @@ MessagesAreClean =
     × ((file line : List ℕ) (fault : ScheduleFault) → IsClean (schedule_message file fault line))
     × ((file line : List ℕ) (fault : LinkFault) → IsClean (link_message file fault line))
     × ((file line : List ℕ) (fault : MoveFault) → IsClean (move_message file fault line))
-    × ((file : List ℕ) (line clause : ℕ) (shown : Option (List ℕ)) → IsClean (audit_message file line clause shown))
+    × ((file : List ℕ) (refuted : Refuted) (shown : Option (List ℕ)) → IsClean (audit_message file refuted shown))
     × ((file : List ℕ) (fault : EndFault) → IsClean (end_message fault file))

@@ -8,6 +8,8 @@ use Rattle.sb_scripttext.specs.declared.faults.ScriptKind.{ScriptKind}
 use Rattle.sb_scripttext.specs.declared.faults.ScriptKind.TheVariants.{NotUtf8, UnknownWord, UnknownCall, WrongArgs, BadNumber, BadName, NoSuchPolicy, NoSuchTarget, NoSuchChannel, NoSuchWord, TooMany, TooBig, SameName, BadStart}
 use Rattle.sb_scripttext.specs.declared.faults.ScriptLimit.{ScriptLimit}
 use Rattle.sb_scripttext.specs.declared.faults.ScriptLimit.TheVariants.{Openings, Targets, Threads, Statements}
+use Rattle.sb_scripttext.specs.declared.faults.StartFault.{StartFault}
+use Rattle.sb_scripttext.specs.declared.faults.StartFault.TheVariants.{NameTaken, NoParent, ParentIsFile}
 use Rattle.sb_text.specs.declared.refusals.WordFault.{WordFault}
 use Rattle.sb_text.specs.declared.refusals.WordFault.TheVariants.{Missing, Misplaced, NoVersion}
 use Rattle.sb_message.specs.declared.messages.FaultyText.TheVariants.{Script}
@@ -38,6 +40,12 @@ abbrev pub argument_words : WordFault → List ℕ
 argument_words Missing = codes "an argument is missing"
 argument_words fault = word_words fault
 
+-- why an opening line cannot be placed
+abbrev pub start_words : StartFault → List ℕ
+start_words NameTaken = codes "an earlier line has this name: "
+start_words NoParent = codes "no earlier line has the parent of "
+start_words ParentIsFile = codes "a file is the parent of "
+
 -- words and a number, three times
 abbrev pub three_text : List ℕ → ℕ → List ℕ → ℕ → List ℕ → ℕ → List ℕ
 three_text before first between second after third = two_text before first between second ++ after ++ decimal third
@@ -58,7 +66,7 @@ kind_words NoSuchWord = codes "a channel has words 0 to 63, not "
 kind_words (TooMany limit) = limit_words limit
 kind_words TooBig = codes "the call needs more than 64 words"
 kind_words SameName = codes "there is a target before this line with the name "
-kind_words BadStart = codes "its parent is missing or no directory, or its name is taken: "
+kind_words (BadStart fault) = start_words fault
 
 -- what is wrong, of a fault at this token
 abbrev pub script_words : ScriptKind → List ℕ → List ℕ

@@ -2,66 +2,75 @@
 ghost use Rattle.std.specs.Prelude.{◌≡◌, ◌++◌, ◌∷◌, [], option_map, OnOk, IfOk, string_bytes};
 ghost use Rattle.sb_message.specs.Excerpts.{excerpt};
 ghost use Rattle.sb_message.specs.Glyphs.{glyphs_of};
-ghost use Rattle.sb_message.specs.AuditMessages.{form_words, clause_words, audit_headline, audit_first_line, audit_line, audit_message};
+ghost use Rattle.sb_message.specs.Causes.{two_text};
+ghost use Rattle.sb_message.specs.DueTexts.{clause_words, due_text};
+ghost use Rattle.sb_message.specs.AuditMessages.{audit_first_line, audit_line, audit_message};
 
 use crate::causes::put_two;
+use crate::due_texts::{clause_words, put_due};
 use crate::excerpts::{MOST_NEAR, put_excerpt};
 use crate::glyphs::first_glyphs_of;
 use crate::messages::put_place_line;
+use sb_audit::{Due, Refuted};
 use sb_items::NoMemory;
 use std::alloc::Global;
 
-fn form_words(shown: Option<&[u8]>) -> &'static str
-    ensures { result.now ≡ form_words (option_map (λ bytes. bytes.now) shown.entry) }
+// Appends the words of a clause, and what is due.
+fn put_clause(
+    out: &mut String,
+    between: &str,
+    due: Due,
+    shown: Option<&[u8]>,
+) -> Result<(), NoMemory>
+    ensures { OnOk result (string_bytes out.new ≡ string_bytes out.old ++ between.now ++ clause_words due (option_map (λ bytes. bytes.now) shown.entry)
+        ++ between.now ++ due_text due ++ 10 ∷ []) }
 {
-    match shown {
-        Some(_) => "the line is not one that is due here",
-        None => "the transcript ends where a line is due",
-    }
+    out.push_str(between)?;
+    out.push_str(clause_words(due, shown))?;
+    out.push_str(between)?;
+    put_due(out, due)?;
+    out.push('\n')?;
+    Ok(())
 }
 
-fn clause_words(clause: u32, shown: Option<&[u8]>) -> &'static str
-    ensures { result.now ≡ clause_words clause (option_map (λ bytes. bytes.now) shown.entry) }
-{
-    match clause {
-        1 => form_words(shown),
-        2 => "the script has no such target or channel",
-        3 => "the rule that is shown does not decide this call",
-        4 => "the reply is not the one that this call gets",
-        5 => "no later call of the target with this mark is decided in this way",
-        6 => "the result is not one that the statement can have",
-        7 => "the totals are not those of the lines",
-        _ => "there is no such clause",
-    }
-}
-
-// Appends the first line up to the words.
-fn put_audit_headline(out: &mut String, line: u32, clause: u32) -> Result<(), NoMemory>
-    ensures { OnOk result (string_bytes out.new ≡ string_bytes out.old ++ audit_headline line clause) }
+// Appends a line and a clause after these words, and then the words of the clause and what is due, with `between` before each.
+fn put_refuted(
+    out: &mut String,
+    before: &str,
+    middle: &str,
+    between: &str,
+    refuted: Refuted,
+    shown: Option<&[u8]>,
+) -> Result<(), NoMemory>
+    ensures { OnOk result (string_bytes out.new ≡ string_bytes out.old ++ two_text before.now refuted.line middle.now refuted.clause
+        ++ between.now ++ clause_words refuted.due (option_map (λ bytes. bytes.now) shown.entry) ++ between.now ++ due_text refuted.due ++ 10 ∷ []) }
 {
     put_two(
         out,
-        "sandbox: audit line ",
-        u64::from(line),
-        " clause ",
-        u64::from(clause),
-    )
+        before,
+        u64::from(refuted.line),
+        middle,
+        u64::from(refuted.clause),
+    )?;
+    put_clause(out, between, refuted.due, shown)
 }
 
 // Appends the first line.
 fn put_audit_first_line(
     out: &mut String,
-    line: u32,
-    clause: u32,
+    refuted: Refuted,
     shown: Option<&[u8]>,
 ) -> Result<(), NoMemory>
-    ensures { OnOk result (string_bytes out.new ≡ string_bytes out.old ++ audit_first_line line clause (option_map (λ bytes. bytes.now) shown.entry)) }
+    ensures { OnOk result (string_bytes out.new ≡ string_bytes out.old ++ audit_first_line refuted (option_map (λ bytes. bytes.now) shown.entry)) }
 {
-    put_audit_headline(out, line, clause)?;
-    out.push_str(": ")?;
-    out.push_str(clause_words(clause, shown))?;
-    out.push('\n')?;
-    Ok(())
+    put_refuted(
+        out,
+        "sandbox: audit line ",
+        " clause ",
+        ": ",
+        refuted,
+        shown,
+    )
 }
 
 // Appends what is shown of the beginning of a line.
@@ -92,23 +101,22 @@ fn put_audit_line(out: &mut String, shown: Option<&[u8]>) -> Result<(), NoMemory
     }
 }
 
-/// The message of a transcript that an audit refutes: which clause of the audit fails, from 1 to 7, at which line, from 1, of the file, whose name is as
-/// the user gave it; and the line. `shown` is that line without its line feed, and None if the transcript ends before it.
+/// The message of a transcript that an audit refutes: at which line of the file, whose name is as the user gave it, which clause fails; what is wrong
+/// and what is due there, in words; and the line. `shown` is that line without its line feed, and None if the transcript ends before it.
 ///
 /// # Errors
 /// `NoMemory` if there was none for the message.
 pub fn audit_message(
     alloc: Global,
     file: &[u8],
-    line: u32,
-    clause: u32,
+    refuted: Refuted,
     shown: Option<&[u8]>,
 ) -> Result<String, NoMemory>
-    ensures { IfOk result (λ message. string_bytes message ≡ audit_message file.now line clause (option_map (λ bytes. bytes.now) shown.entry)) }
+    ensures { IfOk result (λ message. string_bytes message ≡ audit_message file.now refuted (option_map (λ bytes. bytes.now) shown.entry)) }
 {
     let mut message = String::new(alloc);
-    put_audit_first_line(&mut message, line, clause, shown)?;
-    put_place_line(&mut message, file, line, 0)?;
+    put_audit_first_line(&mut message, refuted, shown)?;
+    put_place_line(&mut message, file, refuted.line, 0)?;
     put_audit_line(&mut message, shown)?;
     Ok(message)
 }

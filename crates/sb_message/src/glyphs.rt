@@ -104,8 +104,8 @@ pub(crate) fn is_tab(glyph: Glyph) -> bool
     matches!(glyph, Glyph::Char('\t'))
 }
 
-// Appends a number in lower-case hexadecimal digits.
-fn put_hexadecimal(out: &mut String, number: u32) -> Result<(), NoMemory>
+/// Appends a number in lower-case hexadecimal digits.
+pub(crate) fn put_hexadecimal(out: &mut String, number: u64) -> Result<(), NoMemory>
     ensures { OnOk result (string_bytes out.new ≡ string_bytes out.old ++ hexadecimal number) }
 {
     match write!(out, "{number:x}") {
@@ -119,7 +119,7 @@ fn put_escaped(out: &mut String, opening: &str, number: u32) -> Result<(), NoMem
     ensures { OnOk result (string_bytes out.new ≡ string_bytes out.old ++ escaped opening.now number) }
 {
     out.push_str(opening)?;
-    put_hexadecimal(out, number)?;
+    put_hexadecimal(out, u64::from(number))?;
     out.push('}')?;
     Ok(())
 }

@@ -4,6 +4,7 @@
 
 mod audit_messages;
 mod causes;
+mod due_texts;
 mod end_messages;
 mod excerpts;
 mod glyphs;

@@ -1,12 +1,12 @@
 // The messages of script texts.
 ghost use Rattle.std.specs.Prelude.{◌≡◌, ◌++◌, codes, OnOk, IfOk, string_bytes};
-ghost use Rattle.sb_message.specs.ScriptMessages.{limit_words, place_words, argument_words, three_text, kind_words, script_words, script_names, script_cause, script_message};
+ghost use Rattle.sb_message.specs.ScriptMessages.{limit_words, place_words, argument_words, start_words, three_text, kind_words, script_words, script_names, script_cause, script_message};
 
 use crate::causes::{names_word, put_no_target, put_two, put_words, word_words};
 use crate::messages::{FaultyText, TextFault, put_decimal, put_text_fault};
 use crate::places::shown_place;
 use sb_items::NoMemory;
-use sb_scripttext::{ScriptFault, ScriptKind, ScriptLimit};
+use sb_scripttext::{ScriptFault, ScriptKind, ScriptLimit, StartFault};
 use sb_text::WordFault;
 use std::alloc::Global;
 
@@ -40,6 +40,17 @@ fn argument_words(fault: WordFault) -> &'static str
     match fault {
         WordFault::Missing => "an argument is missing",
         _ => word_words(fault),
+    }
+}
+
+// Why an opening line cannot be placed.
+fn start_words(fault: StartFault) -> &'static str
+    ensures { result.now ≡ start_words fault }
+{
+    match fault {
+        StartFault::NameTaken => "an earlier line has this name: ",
+        StartFault::NoParent => "no earlier line has the parent of ",
+        StartFault::ParentIsFile => "a file is the parent of ",
     }
 }
 
@@ -100,7 +111,7 @@ fn kind_words(kind: ScriptKind) -> &'static str
         ScriptKind::TooMany(limit) => limit_words(limit),
         ScriptKind::TooBig => "the call needs more than 64 words",
         ScriptKind::SameName => "there is a target before this line with the name ",
-        ScriptKind::BadStart => "its parent is missing or no directory, or its name is taken: ",
+        ScriptKind::BadStart(fault) => start_words(fault),
     }
 }
 
@@ -111,18 +122,13 @@ fn put_script_words(out: &mut String, kind: ScriptKind, named: &str) -> Result<(
     match kind {
         ScriptKind::UnknownWord(WordFault::Misplaced) => put_words(out, place_words(named)),
         ScriptKind::NoSuchTarget { target, targets } => {
-            put_no_target(out, u64::from(target), targets as u64)
+            put_no_target(out, target, targets as u64)
         }
         ScriptKind::NoSuchChannel {
             channel,
             target,
             channels,
-        } => put_no_channel(
-            out,
-            u64::from(channel),
-            u64::from(target),
-            u64::from(channels),
-        ),
+        } => put_no_channel(out, channel, u64::from(target), u64::from(channels)),
         ScriptKind::NotUtf8
         | ScriptKind::UnknownWord(_)
         | ScriptKind::UnknownCall
@@ -134,7 +140,7 @@ fn put_script_words(out: &mut String, kind: ScriptKind, named: &str) -> Result<(
         | ScriptKind::TooMany(_)
         | ScriptKind::TooBig
         | ScriptKind::SameName
-        | ScriptKind::BadStart => put_words(out, kind_words(kind)),
+        | ScriptKind::BadStart(_) => put_words(out, kind_words(kind)),
     }
 }
 
@@ -154,7 +160,7 @@ fn script_names(kind: ScriptKind) -> bool
         | ScriptKind::NoSuchPolicy
         | ScriptKind::NoSuchWord
         | ScriptKind::SameName
-        | ScriptKind::BadStart => true,
+        | ScriptKind::BadStart(_) => true,
     }
 }
 

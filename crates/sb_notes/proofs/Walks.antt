@@ -1,0 +1,35 @@
+-- Notes that were read, and those that follow.
+use Rattle.std.specs.Prelude.{Option}
+use Rattle.std.proofs.Common.{◌≡◌, ◌∙◌, Bool, List, [], ◌∷◌, ◌++◌, ap, sym, append_assoc}
+use Rattle.std.proofs.lemmas.List.{append-nil}
+use Rattle.std.specs.List.{flat_map}
+use Rattle.sb_notes.specs.Notes.{follows_is, note_at, noted, notes_in, notes_on}
+use Rattle.sb_notes.specs.declared.kinds.NoteKind.{NoteKind}
+use Rattle.sb_notes.specs.declared.notes.Note.{Note}
+use Rattle.sb_text.specs.Lines.{NumberedLine}
+use Rattle.sb_text.specs.Steps.{with_first}
+use Rattle.sb_text.specs.Tokens.{Lexeme}
+
+-- a token is passed
+pub token_passed : (line : NumberedLine) (is_string next : Bool) (before now whole : List Note) (token : Lexeme) (tokens rest : List Lexeme) (kind : Option NoteKind)
+    → before ++ notes_in line is_string tokens ≡ whole → tokens ≡ token ∷ rest → kind ≡ note_at is_string token
+    → now ≡ before ++ noted line (with_first rest) kind → next ≡ follows_is token → now ++ notes_in line next rest ≡ whole
+token_passed line is_string next before now whole token tokens rest kind i t k n f =
+    rw (n) rw (k) rw (f) (append_assoc before (noted line (with_first rest) (note_at is_string token)) (notes_in line (follows_is token) rest)
+    ∙ (sym (ap (λ (l : List Lexeme). before ++ notes_in line is_string l) t) ∙ i))
+
+-- no token is left
+pub tokens_ended : (line : NumberedLine) (is_string : Bool) (before whole : List Note) (tokens : List Lexeme)
+    → before ++ notes_in line is_string tokens ≡ whole → tokens ≡ [] → before ≡ whole
+tokens_ended line is_string before whole tokens i t =
+    sym (append-nil before) ∙ (sym (ap (λ (l : List Lexeme). before ++ notes_in line is_string l) t) ∙ i)
+
+-- a line is passed
+pub line_passed : (before now whole : List Note) (line : NumberedLine) (lines rest : List NumberedLine)
+    → before ++ flat_map notes_on lines ≡ whole → lines ≡ line ∷ rest → now ≡ before ++ notes_on line → now ++ flat_map notes_on rest ≡ whole
+line_passed before now whole line lines rest i t n =
+    rw (n) (append_assoc before (notes_on line) (flat_map notes_on rest) ∙ (sym (ap (λ (l : List NumberedLine). before ++ flat_map notes_on l) t) ∙ i))
+
+-- no line is left
+pub lines_ended : (before whole : List Note) (lines : List NumberedLine) → before ++ flat_map notes_on lines ≡ whole → lines ≡ [] → before ≡ whole
+lines_ended before whole lines i t = sym (append-nil before) ∙ (sym (ap (λ (l : List NumberedLine). before ++ flat_map notes_on l) t) ∙ i)

@@ -1,0 +1,4 @@
+pub mod Kinds
+pub mod Notes
+pub mod NoteMessages
+pub mod Laws

@@ -1,0 +1,113 @@
+// Notes in words.
+ghost use Rattle.std.specs.Prelude.{◌≡◌, ◌++◌, ◌≤◌, length, take, IfOk, OnOk, string_bytes};
+ghost use Rattle.std.specs.Fmt.{decimal};
+ghost use Rattle.std.specs.List.{flat_map};
+ghost use Rattle.sb_notes.specs.NoteMessages.{line_or_empty, note_headline, note_text, note_words, notes_message, notes_text, number_text};
+
+use crate::kinds::NoteKind;
+use crate::notes::{Note, read_notes};
+use sb_items::NoMemory;
+use sb_message::{FaultyText, put_place};
+use sb_text::line_numbered;
+use std::alloc::Global;
+
+/// The number of notes that are told one by one. If there are more, their number follows.
+pub const MOST_TOLD: usize = 20;
+
+fn note_words(kind: NoteKind) -> &'static str
+    ensures { result.now ≡ note_words kind }
+{
+    match kind {
+        NoteKind::UnescapedPrefix => {
+            "each ? of \\??\\ matches any unit: write \\/?/?\\ for the prefix itself"
+        }
+        NoteKind::MatchesNoName => "the pattern matches no name: each name begins with \\",
+    }
+}
+
+fn put_decimal(out: &mut String, number: u64) -> Result<(), NoMemory>
+    ensures { OnOk result (string_bytes out.new ≡ string_bytes out.old ++ decimal number) }
+{
+    let mut digits = itoa::Buffer::new();
+    out.push_str(digits.format(number))?;
+    Ok(())
+}
+
+// Appends the first line of a note.
+fn put_note_headline(out: &mut String, note: Note) -> Result<(), NoMemory>
+    ensures { OnOk result (string_bytes out.new ≡ string_bytes out.old ++ note_headline note) }
+{
+    out.push_str("sandbox: note: policy line ")?;
+    put_decimal(out, u64::from(note.line))?;
+    out.push_str(": ")?;
+    out.push_str(note_words(note.kind))?;
+    out.push('\n')?;
+    Ok(())
+}
+
+// The line of this number, from 1, or nothing if there is none.
+fn line_or_empty(number: u32, text: &[u8]) -> &[u8]
+    ensures { result.now ≡ line_or_empty number text.now }
+{
+    match line_numbered(number, text) {
+        Some(line) => line,
+        None => &[],
+    }
+}
+
+// Appends a note: what is noted, the place, and the line with a caret.
+#[tactic(auto, unfolding(crate::specs::NoteMessages::note_text))]
+fn put_note(out: &mut String, file: &[u8], text: &[u8], note: Note) -> Result<(), NoMemory>
+    ensures { OnOk result (string_bytes out.new ≡ string_bytes out.old ++ note_text file.now text.now note) }
+{
+    put_note_headline(out, note)?;
+    let line = line_or_empty(note.line, text);
+    put_place(out, FaultyText::Policy, file, note.line, note.column, line)
+}
+
+// The first notes, which are told one by one.
+fn first_notes(notes: &[Note]) -> &[Note]
+    ensures { result.now ≡ take 20 notes.now }
+{
+    match notes.get(..MOST_TOLD) {
+        Some(first) => first,
+        None => notes,
+    }
+}
+
+// Appends notes, one by one.
+fn put_notes(out: &mut String, file: &[u8], text: &[u8], notes: &[Note]) -> Result<(), NoMemory>
+    ensures { OnOk result (string_bytes out.new ≡ string_bytes out.old ++ flat_map (note_text file.now text.now) notes.now) }
+{
+    for note in notes {
+        put_note(out, file, text, *note)?;
+    }
+    Ok(())
+}
+
+// Appends the number of notes if not all are told one by one.
+fn put_number(out: &mut String, number: usize) -> Result<(), NoMemory>
+    ensures { OnOk result (string_bytes out.new ≡ string_bytes out.old ++ number_text number) }
+{
+    if number > MOST_TOLD {
+        out.push_str("sandbox: note: ")?;
+        put_decimal(out, number as u64)?;
+        out.push_str(" notes, of which the first 20 are shown\n")?;
+    }
+    Ok(())
+}
+
+/// The notes of a policy text in words, and nothing if it has none: for each of the first 20 what is noted, the place in the file, whose name is as the
+/// user gave it, and the line with a caret under the pattern; and if there are more, their number.
+///
+/// # Errors
+/// `NoMemory` if there was none for the notes, or for the message.
+pub fn notes_message(alloc: Global, file: &[u8], text: &[u8]) -> Result<String, NoMemory>
+    ensures { IfOk result (λ message. string_bytes message ≡ notes_message file.now text.now) }
+{
+    let notes = read_notes(alloc, text)?;
+    let mut message = String::new(alloc);
+    put_notes(&mut message, file, text, first_notes(&notes))?;
+    put_number(&mut message, notes.len())?;
+    Ok(message)
+}
