@@ -1,22 +1,31 @@
--- Arguments that a top call takes for no command.
-use Rattle.std.proofs.Common.{◌≡◌, ◌∙◌, ap, sym}
-use Rattle.std.specs.Prelude.{Result, Ok, Err}
+-- How the answers to arguments end.
+use Rattle.std.proofs.Common.{◌≡◌, ◌∙◌, sym, subst, ℕ, inl, inr, List, Option}
+use Rattle.std.specs.Prelude.{Result}
 use Rattle.sb_commands.specs.Commands.{Command}
-use Rattle.sb_commands.specs.Usage.{Fault, fault_of}
+use Rattle.sb_commands.specs.Usage.{Fault}
 use Rattle.sb_commands.specs.declared.usage_faults.UsageFault.{UsageFault}
-use Rattle.sb_top.specs.Effects.{Effect}
-use Rattle.sb_top.specs.Laws.{StatusesAreOfCommands}
-use Rattle.sb_top.specs.Top.{EndsAsMeant}
-use Rattle.sb_top.specs.declared.outcomes.Outcome.{Outcome}
+use Rattle.sb_main.specs.Answers.{IsTold}
 use Rattle.sb_top.specs.declared.outcomes.Status.{Status}
-use Rattle.sb_top.specs.declared.outcomes.Status.TheVariants.{Usage}
+use Rattle.sb_top.specs.declared.outcomes.Status.TheVariants.{Done, NoMemory, Usage, WriteFault}
 
-same_fault : (a b : UsageFault) → ◌≡◌ {A = Status} (Usage a) (Usage b) → a ≡ b
-same_fault a b e = cc
+never_done : (fault : UsageFault) → ◌≡◌ {A = Status} Done (Usage fault) → ⊥
+never_done fault e = cc
 
--- they alone end with Usage, and with their own fault
-pub usage_is_faulty : (G S : Type 0) → StatusesAreOfCommands G S → (wanted : Result Command Fault) (e : Effect G S) (o : Outcome)
-    → EndsAsMeant wanted e o → (fault : UsageFault) → o.status ≡ Usage fault → wanted ≡ Err (fault_of fault)
-usage_is_faulty G S law (Ok command) e o ends fault is = absurd ((law command e o ends).0 fault is)
-usage_is_faulty G S law (Err f) e o ends fault is =
-    ap Err (sym ends.same ∙ ap fault_of (same_fault ends.found fault (sym ends.is.status ∙ is)))
+never_failed : (fault : UsageFault) → ◌≡◌ {A = Status} WriteFault (Usage fault) → ⊥
+never_failed fault e = cc
+
+never_starved : (fault : UsageFault) → ◌≡◌ {A = Status} NoMemory (Usage fault) → ⊥
+never_starved fault e = cc
+
+-- a text that was asked for does not end with Usage
+pub never_usage : (text : List ℕ) (before : Option (List ℕ)) (pending : List ℕ) (after : Option (List ℕ)) (pending' : List ℕ) (rose : Type 0) (s : Status) (fault : UsageFault)
+    → IsTold text before pending after pending' rose s → s ≡ Usage fault → ⊥
+never_usage text before pending after pending' rose s fault (inl d) e = never_done fault (sym d.0 ∙ e)
+never_usage text before pending after pending' rose s fault (inr (inl w)) e = never_failed fault (sym w.0 ∙ e)
+never_usage text before pending after pending' rose s fault (inr (inr n)) e = never_starved fault (sym n.0 ∙ e)
+
+-- what a second call does after a first that changed nothing
+pub after_first : {G S : Type 0} (P : Result Command Fault → G → S → Type 0) (wanted found : Result Command Fault) (files files' : G) (out out' : S)
+    → wanted ≡ found → files' ≡ files → out' ≡ out → P found files' out' → P wanted files out
+after_first P wanted found files files' out out' w f p h =
+    subst (λ x. P x files out) (sym w) (subst (λ x. P found x out) f (subst (λ x. P found files' x) p h))

@@ -1,7 +1,7 @@
 // The program: the arguments of its command line, real files and standard output, and how it ends.
 #![tactic(auto)]
 
-ghost use Rattle.std.specs.Prelude.{◌≡◌, None, IfSome, IsSome};
+ghost use Rattle.std.specs.Prelude.{◌≡◌, None, Err, IfSome, IsSome};
 ghost use Rattle.sb_outside.specs.Outside.{Rose};
 ghost use Rattle.sb_commands.specs.Commands.{command_of};
 ghost use Rattle.sb_commands.specs.Inquiries.{answer_text, asked, asked_of};
@@ -18,7 +18,8 @@ use sb_host::{HostFiles, HostSink, PIECE};
 use sb_items::NoMemory;
 use sb_outside::{Files, OpenGate, Sink, put_text};
 use sb_top::{
-    Complaint, Outcome, Status, broker_top, exit_code, message, plain_top, statuses_are_of_commands,
+    Complaint, Outcome, Status, exit_code, message, plain_top, statuses_are_of_commands,
+    threads_top,
 };
 use std::alloc::Global;
 use std::io::{ErrorKind, IsTerminal};
@@ -43,19 +44,20 @@ fn outcome_of(status: Status) -> Outcome
     }
 }
 
-// Says on standard error what went wrong, if anything did. What is not written there changes nothing.
+// Says on standard error what went wrong, if anything did, and tells the notes of `check`. What is not written there changes nothing.
 fn complain<R: Eprint + AllocGlobal>(rt: &R, words: &[String], outcome: &Outcome) {
-    if matches!(outcome.status, Status::Done) {
-        return;
-    }
     match message(rt.alloc(), words, outcome) {
         Ok(text) => {
-            let _ = eprint!(rt; "{text}");
+            if !text.is_empty() {
+                let _ = eprint!(rt; "{text}");
+            }
         }
         Err(NoMemory) => {
-            let _ = rt.eprintln(Complaint {
-                status: outcome.status,
-            });
+            if !matches!(outcome.status, Status::Done) {
+                let _ = rt.eprintln(Complaint {
+                    status: outcome.status,
+                });
+            }
         }
     }
 }
@@ -131,8 +133,7 @@ fn no_words(kind: ErrorKind) -> Status
     }
 }
 
-// Answers what is asked of the program itself, and leaves all other arguments to the top calls, over any files and any output: to the one on threads only
-// if the other has no outcome.
+// Answers what is asked of the program itself, and leaves all other arguments to the top calls, over any files and any output.
 fn answer<R: AllocGlobal + Threads + Wait + Sync, F: Files, K: Sink>(
     rt: &R,
     words: &[String],
@@ -146,15 +147,29 @@ fn answer<R: AllocGlobal + Threads + Wait + Sync, F: Files, K: Sink>(
         (Rose (K.faults out.old) (K.faults out.new)) result.status) }
     ensures untouched { IsSome (asked_of (texts words.now)) → files.new ≡ files.old }
 {
-    statuses_are_of_commands::<F, K>();
     match inquiry_of(words) {
         Some(inquiry) => outcome_of(tell(rt.alloc(), inquiry, out)),
         None => answer_command(rt, words, files, out),
     }
 }
 
-// Leaves arguments to the top calls.
+// Leaves arguments to the top calls, which end with Usage only if the arguments are no command, and with their fault.
 fn answer_command<R: AllocGlobal + Threads + Wait + Sync, F: Files, K: Sink>(
+    rt: &R,
+    words: &[String],
+    files: &mut F,
+    out: &mut K,
+) -> Outcome
+    ensures ends { IsAnswer (command_of (texts words.now))
+        (effect F.held F.faults K.written K.pending K.faults files.old files.new out.old out.new) result }
+    ensures usage { (fault : UsageFault) → result.status ≡ Status.Usage fault → command_of (texts words.now) ≡ Err (fault_of fault) }
+{
+    statuses_are_of_commands::<F, K>();
+    carry_out(rt, words, files, out)
+}
+
+// Carries out the command that the arguments are: on threads only if it is handed back by the call that does without them.
+fn carry_out<R: AllocGlobal + Threads + Wait + Sync, F: Files, K: Sink>(
     rt: &R,
     words: &[String],
     files: &mut F,
@@ -164,8 +179,8 @@ fn answer_command<R: AllocGlobal + Threads + Wait + Sync, F: Files, K: Sink>(
         (effect F.held F.faults K.written K.pending K.faults files.old files.new out.old out.new) result }
 {
     match plain_top(rt.alloc(), words, files, out) {
-        Some(outcome) => outcome,
-        None => broker_top(rt, rt.alloc(), words, files, out, &OpenGate),
+        Ok(outcome) => outcome,
+        Err(command) => threads_top(rt, rt.alloc(), command, files, out, &OpenGate),
     }
 }
 

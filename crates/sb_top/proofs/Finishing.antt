@@ -1,8 +1,8 @@
 -- How a command ends, by what it comes to and how that is put.
-use Rattle.std.proofs.Common.{◌≡◌, ◌∙◌, refl, sym, ap, subst, ℕ, ◌⊎◌, inl, inr, List, Option, None, Some, true≢false}
+use Rattle.std.proofs.Common.{◌≡◌, ◌∙◌, refl, sym, ap, subst, ℕ, ◌⊎◌, inl, inr, List, Option, None, Some, true, true≢false}
 use Rattle.std.specs.Prelude.{IsOk, IsOkAnd, IsSome, Result, Ok, Err}
 use Rattle.sb_book.specs.declared.reports.Report.{Report}
-use Rattle.sb_commands.specs.Commands.{Command}
+use Rattle.sb_commands.specs.Commands.{Command, needs_threads}
 use Rattle.sb_commands.specs.Commands as commands
 use Rattle.sb_commands.specs.Usage.{Fault}
 use Rattle.sb_commands.specs.declared.usage_faults.UsageFault.{UsageFault}
@@ -28,7 +28,7 @@ module _ {G S : Type 0} (e : Effect G S) (o : Outcome) where
 
   -- an end was put
   put_end : (end : End) (text : Result (List ℕ) Status) → end.text ≡ text → IsPut text e.written e.pending e.written' (Rose e.puts e.puts') o.status
-      → o.report ≡ report_of end → o.shown ≡ None → IsDone end e o ⊎ IsUnwritten end e o
+      → o.report ≡ report_of end → o.shown ≡ end.noted → IsDone end e o ⊎ IsUnwritten end e o
   put_end end (Ok text) is (inl p) report shown =
       inl (record { written = subst (λ t. IsWritten t e o) (sym is) p; report = report; shown = shown })
   put_end end (Ok text) is (inr p) report shown =
@@ -51,7 +51,8 @@ module _ {G S : Type 0} (e : Effect G S) (o : Outcome) where
         → IsEndFor meaning contents e o
     done_for (Err r) end is h f = absurd h
     done_for (Ok x) end is h f =
-        by (put_end x end.text (sym (ap (λ (y : ReportedEnd). y.text) h)) f.0 (f.1 ∙ ap (λ (y : ReportedEnd). y.report) h) f.2)
+        by (put_end x end.text (sym (ap (λ (y : ReportedEnd). y.text) h)) f.0 (f.1 ∙ ap (λ (y : ReportedEnd). y.report) h)
+        (f.2 ∙ ap (λ (y : ReportedEnd). y.noted) h))
       where
         by : IsDone x e o ⊎ IsUnwritten x e o → IsEndFor meaning contents e o
         by (inl k) = inl (subst (λ r. IsMeant r e o) (sym is) k)
@@ -147,3 +148,18 @@ module _ {G S : Type 0} (e : Effect G S) (o : Outcome) where
   pub not_found : (wanted : Result Command Fault) (found : Refused UsageFault) → commands.IsFound wanted (Err found)
       → ◌≡◌ {A = Outcome} o (record { status = (refusal_of found).status; shown = None; report = None }) → e.written' ≡ e.written → EndsAsMeant wanted e o
   not_found wanted found is h w = ends_without wanted found is (refused_so found h w)
+
+-- a command that runs on threads has an outcome here only without memory
+pub handed_without : (wanted : Result Command Fault) (found : Refused UsageFault) (o : Outcome) → commands.IsFound wanted (Err found)
+    → ◌≡◌ {A = Outcome} o (record { status = (refusal_of found).status; shown = None; report = None })
+    → needs_threads wanted ≡ true → o.status ≡ NoMemory
+handed_without wanted (words.Fault fault) o is h needed =
+    absurd (true≢false (sym needed ∙ ap needs_threads is))
+handed_without wanted words.NoMemory o is h needed = ap (λ (x : Outcome). x.status) h
+
+-- ---- what a second call does after a first that changed nothing
+
+pub after_first : {G S : Type 0} (P : Result Command Fault → G → S → Type 0) (wanted found : Result Command Fault) (files files' : G) (out out' : S)
+    → wanted ≡ found → files' ≡ files → out' ≡ out → P found files' out' → P wanted files out
+after_first P wanted found files files' out out' w f p h =
+    subst (λ x. P x files out) (sym w) (subst (λ x. P found x out) f (subst (λ x. P found files' x) p h))

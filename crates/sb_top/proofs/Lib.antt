@@ -15,7 +15,12 @@ pub mod Ready
 pub mod Sound
 pub mod Sums
 pub mod Texts
-pub mod Threaded
 pub mod ThreadEnds
 pub mod Totalling
 pub mod Verdicts
+pub mod AllCommands
+pub mod Checking
+pub mod Replaying
+pub mod Running
+pub mod ScriptEnds
+pub mod Suiting

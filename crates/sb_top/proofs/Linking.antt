@@ -1,23 +1,20 @@
--- What `linked` comes to, by what is read of its files.
-use Rattle.std.proofs.Common.{◌≡◌, ◌∙◌, refl, sym, ap, subst, ℕ, inl, inr, List, Option, None, append-nil}
-use Rattle.std.specs.Prelude.{IsOkAnd, Result, Ok, Err, ◌∷◌, []}
+-- What `linked` comes to.
+use Rattle.std.proofs.Common.{◌≡◌, refl, sym, subst, ℕ, inl, inr, List, Option, lit≤}
+use Rattle.std.specs.Prelude.{IfSome, Result, Ok, Err, ◌∷◌, []}
 use Rattle.sb_link.specs.LinkTexts.{LinkFault}
 use Rattle.sb_link.specs.declared.links.Link.{Link}
-use Rattle.sb_outside.specs.Outside.{Held, joined}
+use Rattle.sb_outside.specs.Outside.{Held}
 use Rattle.sb_rule.specs.declared.policies.Policy.{Policy}
 use Rattle.sb_statements.specs.declared.scripts.Script.{Script}
-use Rattle.sb_text.specs.Steps.{◌>>=◌}
-use Rattle.sb_top.specs.Coming.{GivesBy, IsCausedBy, IsFound, IsFoundFor, IsRead, IsReadBy, ReportedEnd, reported}
-use Rattle.sb_top.specs.Contents.{Content, Refusal, policies_in, refused_at, script_in}
+use Rattle.sb_top.specs.Coming.{GivesBy, IsCausedBy}
+use Rattle.sb_top.specs.Contents.{Content, Refusal, refused_at, text_in}
 use Rattle.sb_top.specs.Endings.{IsCaused}
-use Rattle.sb_top.specs.Ends.{End}
-use Rattle.sb_top.specs.Linked.{calls_end, linked_end, links_by, links_in}
+use Rattle.sb_top.specs.Ends.{End, Plain}
+use Rattle.sb_top.specs.Linked.{calls_end, linked_end, links_after, links_by, links_in}
+use Rattle.sb_top.specs.Sound.{AreEndsSound, IsSound}
 use Rattle.sb_top.specs.declared.outcomes.Status.TheVariants.{LinksRefused}
-use Rattle.sb_top.proofs.Carrying.{Known}
-use Rattle.sb_top.proofs.ReadFiles.{content_of, is_held}
-
-pub one_text : (text : List ℕ) → joined (text ∷ []) ≡ text
-one_text text = append-nil text
+use Rattle.sb_top.proofs.ScriptEnds.{each_end}
+use Rattle.sb_top.proofs.Suiting.{EndsPlainly, IsSuited, RefusesFor, next, of_text, script_suited, third_refuses}
 
 -- a refusal of what the text of the links says has no cause outside it
 pub links_caused : (text : List ℕ) (held : Option Held) (rose : Type 0) (found : Result (List Link) LinkFault) (r : Result (List Link) Refusal)
@@ -31,64 +28,21 @@ links_caused text held rose found (Err refusal) (inl e) = by found e
         let is : refused_at fault.line text (LinksRefused fault) ≡ refusal = cc in subst (λ (x : Refusal). IsCaused held rose x.status) is tt
 links_caused text held rose found (Err refusal) (inr e) = subst (λ (x : Refusal). IsCaused held rose x.status) (sym e) tt
 
-module _ (held : Option Held) (policy script links : List ℕ) where
-  abbrev after_script : Content → List Policy → Script → Result End Refusal
-  after_script third policies read = links_in third >>= λ l. Ok (calls_end policies read l)
+-- ---- its statuses, and its runs
 
-  abbrev after_policies : Content → Content → List Policy → Result End Refusal
-  after_policies second third policies = script_in policies second >>= after_script third policies
+links_refuse : (content : Content) → RefusesFor 3 (links_in content)
+links_refuse content = next 3 (text_in 3 content) _ (of_text 3 3 content (lit≤ tt) (lit≤ tt)) (λ text. by text _)
+  where
+    by : (text : List ℕ) (r : Result (List Link) LinkFault) → RefusesFor 3 (links_by text r)
+    by text (Ok p) = tt
+    by text (Err fault) = (3, refl, lit≤ tt, lit≤ tt)
 
-  pub linked_unread : (refusal : Refusal) → IsRead (λ (p : List Policy). p) 1 policies_in held policy (Err refusal)
-      → IsFound linked_end (policy ∷ script ∷ links ∷ []) held (Err refusal)
-  linked_unread refusal h = record {
-    contents = h.0 ∷ content_of held script ∷ content_of held links ∷ [];
-    are = (h.1, (is_held held script, (is_held held links, tt)));
-    is = by h.2;
-  }
-    where
-      by : IsReadBy (λ (p : List Policy). p) 1 policies_in h.0 (Err refusal) → IsFoundFor linked_end (h.0 ∷ content_of held script ∷ content_of held links ∷ []) (Err refusal)
-      by (inl e) = inl (ap (λ x. x >>= after_policies (content_of held script) (content_of held links)) e)
-      by (inr (inl u)) = inr (inl (1, u, refl))
-      by (inr (inr m)) = inr (inr m)
+calls_plain : (policies : List Policy) (script : Script) (links : List Link) → EndsPlainly (calls_end policies script links)
+calls_plain policies script links s e = cc
 
-  pub linked_scriptless : (policies : List Policy) (refusal : Refusal) → Known policies_in held policy policies
-      → IsRead (λ (s : Script). s) 2 (script_in policies) held script (Err refusal) → IsFound linked_end (policy ∷ script ∷ links ∷ []) held (Err refusal)
-  linked_scriptless policies refusal p h = record {
-    contents = p.0 ∷ h.0 ∷ content_of held links ∷ [];
-    are = (p.1, (h.1, (is_held held links, tt)));
-    is = by h.2;
-  }
-    where
-      by : IsReadBy (λ (s : Script). s) 2 (script_in policies) h.0 (Err refusal) → IsFoundFor linked_end (p.0 ∷ h.0 ∷ content_of held links ∷ []) (Err refusal)
-      by (inl e) = inl (ap (λ x. x >>= after_policies h.0 (content_of held links)) p.2 ∙ ap (λ x. x >>= after_script (content_of held links) policies) e)
-      by (inr (inl u)) = inr (inl (2, u, ap (λ x. x >>= after_policies None (content_of held links)) p.2))
-      by (inr (inr m)) = inr (inr m)
+pub linked_suited : IsSuited 3 linked_end
+linked_suited = script_suited 3 links_after calls_end (lit≤ tt) (λ policies script files e. third_refuses links_in links_refuse files) calls_plain
 
-  to_links : (policies : List Policy) (read : Script) (first second third : Content) → policies_in first ≡ Ok policies → script_in policies second ≡ Ok read
-      → linked_end (first ∷ second ∷ third ∷ []) ≡ after_script third policies read
-  to_links policies read first second third p s = ap (λ x. x >>= after_policies second third) p ∙ ap (λ x. x >>= after_script third policies) s
-
-  pub linked_linkless : (policies : List Policy) (read : Script) (refusal : Refusal) → Known policies_in held policy policies → Known (script_in policies) held script read
-      → IsRead (λ (l : List Link). l) 3 links_in held links (Err refusal) → IsFound linked_end (policy ∷ script ∷ links ∷ []) held (Err refusal)
-  linked_linkless policies read refusal p s h = record {
-    contents = p.0 ∷ s.0 ∷ h.0 ∷ [];
-    are = (p.1, (s.1, (h.1, tt)));
-    is = by h.2;
-  }
-    where
-      by : IsReadBy (λ (l : List Link). l) 3 links_in h.0 (Err refusal) → IsFoundFor linked_end (p.0 ∷ s.0 ∷ h.0 ∷ []) (Err refusal)
-      by (inl e) = inl (to_links policies read p.0 s.0 h.0 p.2 s.2 ∙ ap (λ x. x >>= λ l. Ok (calls_end policies read l)) e)
-      by (inr (inl u)) = inr (inl (3, u, to_links policies read p.0 s.0 None p.2 s.2))
-      by (inr (inr m)) = inr (inr m)
-
-  pub linked_done : (policies : List Policy) (read : Script) (found : List Link) (end : ReportedEnd) → Known policies_in held policy policies
-      → Known (script_in policies) held script read → Known links_in held links found → end ≡ reported (calls_end policies read found)
-      → IsFound linked_end (policy ∷ script ∷ links ∷ []) held (Ok end)
-  linked_done policies read found end p s h e = record {
-    contents = p.0 ∷ s.0 ∷ h.0 ∷ [];
-    are = (p.1, (s.1, (h.1, tt)));
-    is =
-        let is : linked_end (p.0 ∷ s.0 ∷ h.0 ∷ []) ≡ Ok (calls_end policies read found) =
-        to_links policies read p.0 s.0 h.0 p.2 s.2 ∙ ap (λ x. x >>= λ l. Ok (calls_end policies read l)) h.2 in
-        subst (λ x. IsOkAnd x (λ y. end ≡ reported y)) (sym is) e;
-  }
+-- it makes no run
+pub linked_sound : AreEndsSound (Plain linked_end)
+linked_sound = each_end links_after calls_end (λ (x : End). IfSome x.run IsSound) (λ p s files ps script links a b c. tt)

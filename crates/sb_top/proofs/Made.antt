@@ -1,7 +1,7 @@
--- The reports of generated scripts, and their totals.
-use Rattle.std.proofs.Common.{◌≡◌, ◌∙◌, ℕ, zero, suc, ◌+◌, ◌==◌, Bool, true, false, if◌then◌else◌, ◌++◌, ap, sym, refl, subst, List}
+-- What `make` comes to: the reports of generated scripts, and their totals.
+use Rattle.std.proofs.Common.{◌≡◌, ◌∙◌, ℕ, zero, suc, ◌+◌, ◌==◌, Bool, true, false, if◌then◌else◌, ◌++◌, ap, sym, refl, subst, List, length}
 use Rattle.std.specs.List.{list_all}
-use Rattle.std.specs.Prelude.{IfOk, Option, Result, Ok, Err, Some, []}
+use Rattle.std.specs.Prelude.{IfOk, IfSome, Option, Result, Ok, Err, None, Some, ◌∷◌, []}
 use Rattle.sb_book.specs.declared.reports.Report.{Report}
 use Rattle.sb_core.specs.Runs.{IsSomeRun}
 use Rattle.sb_gen.specs.Calls.{call_of, statement_of, statements_of}
@@ -14,11 +14,14 @@ use Rattle.sb_statements.specs.declared.scripts.Script.{Script}
 use Rattle.sb_statements.specs.declared.statements.Statement.{Statement}
 use Rattle.sb_transcript.specs.Totals.{totals_line}
 use Rattle.sb_top.specs.Coming.{IsFoundOnThreads, ReportedEnd}
-use Rattle.sb_top.specs.Make.{IsMadeEnd, IsMadeReport, made_line, made_policies, make_end, made_text, policies_or_none}
+use Rattle.sb_top.specs.Make.{IsMadeEnd, IsMadeReport, made_line, made_end, made_policies, make_end, made_text, policies_or_none}
+use Rattle.sb_top.specs.Ends.{Contents, End, IsOrderOf, OnThreads}
 use Rattle.sb_top.specs.Replay.{whole_run}
-use Rattle.sb_top.specs.Sound.{RunsAreSound}
+use Rattle.sb_top.specs.Sound.{AreEndsSound, IsSound, RunsAreSound}
 use Rattle.sb_top.specs.Totals.{AllClean, TotalsAreOfVerdicts, are_calls, is_call, totals_by}
+use Rattle.sb_top.proofs.Readings.{same_end}
 use Rattle.sb_top.proofs.Sound.{some_run_fits}
+use Rattle.sb_top.proofs.Suiting.{AreSuited, EndsPlainly, RefusesFor}
 use Rattle.sb_top.proofs.Verdicts.{both_true}
 
 -- the policies that were made are those of the text
@@ -93,15 +96,35 @@ made_lines law sound seed targets calls policies script (Err error) made same cl
 
 -- the two lines of a report that was made are those of its order of steps
 pub made_end_of : (seed targets calls : ℕ) (report : Report) (text : List ℕ) → text ≡ made_text seed targets calls → IsMadeReport seed targets calls report
-    → IsMadeEnd seed targets calls (record { text = Ok text; report = Some report })
+    → IsMadeEnd seed targets calls (record { text = Ok text; report = Some report; noted = None })
 unfolding whole_run
 made_end_of seed targets calls report text same some = record {
   order = some.schedule;
   is_order = record { can = some.can; no_rounds = some.no_rounds; finished = some.finished };
-  is = λ i. record { text = Ok (same i); report = Some (some.is i) };
+  is = λ i. record { text = Ok (same i); report = Some (some.is i); noted = None };
 }
 
 -- the end of a run of the script that is made, as what the command comes to
 pub made_found : (seed targets calls : ℕ) (held : Option Held) (end : ReportedEnd) → IsMadeEnd seed targets calls end
     → IsFoundOnThreads (make_end seed targets calls) [] held (Ok end)
 made_found seed targets calls held end e = record { order = e.order; contents = []; are = tt; ordered = λ k. e.is_order; is = e.is }
+
+-- ---- its statuses, and its runs
+
+pub make_suited : (seed targets calls : ℕ) → AreSuited 0 (OnThreads (make_end seed targets calls))
+make_suited seed targets calls order = record { refuses = refuses; plain = plain }
+  where
+    refuses : (contents : Contents) → length contents ≡ 0 → RefusesFor 0 (make_end seed targets calls order contents)
+    refuses [] e = tt
+    refuses (c ∷ cs) e = cc
+
+    plain : (contents : Contents) (end : End) → make_end seed targets calls order contents ≡ Ok end → EndsPlainly end
+    plain [] end e = subst EndsPlainly (same_end (made_end seed targets calls order) end e) (λ s k. cc)
+    plain (c ∷ cs) end e = cc
+
+pub make_sound : RunsAreSound → (seed targets calls : ℕ) → AreEndsSound (OnThreads (make_end seed targets calls))
+make_sound law seed targets calls order [] end e is =
+    let same = same_end (made_end seed targets calls order) end e in
+    let mine : IsOrderOf order (made_end seed targets calls order) = subst (IsOrderOf order) (sym same) is in
+    subst (λ (x : End). IfSome x.run IsSound) same (law _ _ order mine.can)
+make_sound law seed targets calls order (c ∷ cs) end e is = cc

@@ -1,88 +1,30 @@
--- What `dup` comes to, by what is read of its files, and that the run of its end is sound.
-use Rattle.std.proofs.Common.{◌≡◌, ◌∙◌, refl, sym, ap, subst, ℕ, inl, inr, true, List, length, Option, None, Some}
-use Rattle.std.specs.Prelude.{IsOkAnd, IfSome, Result, Ok, Err, ◌∷◌, []}
+-- What `dup` comes to.
+use Rattle.std.proofs.Common.{◌≡◌, ◌∙◌, refl, sym, ap, subst, ℕ, true, List, length, Option, None, Some, lit≤}
+use Rattle.std.specs.Prelude.{IfSome, Result, Ok, Err}
 use Rattle.std.specs.List.{list_all}
 use Rattle.std.proofs.lemmas.List.{length-map}
-use Rattle.sb_book.specs.Readiness.{IsReady}
+use Rattle.sb_book.specs.Histories.{setting_of}
 use Rattle.sb_book.specs.declared.reports.Report.{Report}
 use Rattle.sb_compile.specs.Compiling.{policies_of_targets}
 use Rattle.sb_dup.specs.Lines.{is_between}
+use Rattle.sb_dup.specs.MoveTexts.{MoveFault}
 use Rattle.sb_dup.specs.declared.moves.Move.{Move}
 use Rattle.sb_outside.specs.Outside.{Held}
 use Rattle.sb_rule.specs.Verdicts.{policy_at}
 use Rattle.sb_rule.specs.declared.policies.Policy.{Policy}
+use Rattle.sb_ruletext.specs.Laws.{ReadPoliciesAreWellMade}
+use Rattle.sb_scripttext.specs.Readiness.{ReadScriptsAreReady}
 use Rattle.sb_statements.specs.declared.scripts.Script.{Script}
-use Rattle.sb_text.specs.Steps.{◌>>=◌}
-use Rattle.sb_top.specs.Coming.{IsFound, IsFoundFor, IsRead, IsReadBy, IsTextCaused, ReportedEnd, reported}
-use Rattle.sb_top.specs.Contents.{Content, Refusal, no_schedule, policies_in, script_in}
-use Rattle.sb_top.specs.Dup.{dup_end, moves_end, moves_in, text_after}
-use Rattle.sb_top.specs.Ends.{Contents, End}
-use Rattle.sb_top.specs.Sound.{IsSound, RunsAreSound}
-use Rattle.sb_top.proofs.Carrying.{Known}
-use Rattle.sb_top.proofs.ReadFiles.{content_of, is_held}
-
--- ---- what is read
-
-module _ (held : Option Held) (policy script moves : List ℕ) where
-  abbrev after_script : Content → List Policy → Script → Result End Refusal
-  after_script third policies read = moves_in read third >>= λ found. Ok (moves_end policies read found)
-
-  abbrev after_policies : Content → Content → List Policy → Result End Refusal
-  after_policies second third policies = script_in policies second >>= λ read. after_script third policies read
-
-  pub dup_unread : (refusal : Refusal) → IsRead (λ (p : List Policy). p) 1 policies_in held policy (Err refusal) → IsFound dup_end (policy ∷ script ∷ moves ∷ []) held (Err refusal)
-  dup_unread refusal h = record {
-    contents = h.0 ∷ content_of held script ∷ content_of held moves ∷ [];
-    are = (h.1, (is_held held script, (is_held held moves, tt)));
-    is = by h.2;
-  }
-    where
-      by : IsReadBy (λ (p : List Policy). p) 1 policies_in h.0 (Err refusal) → IsFoundFor dup_end (h.0 ∷ content_of held script ∷ content_of held moves ∷ []) (Err refusal)
-      by (inl e) = inl (ap (λ x. x >>= after_policies (content_of held script) (content_of held moves)) e)
-      by (inr (inl u)) = inr (inl (1, u, refl))
-      by (inr (inr m)) = inr (inr m)
-
-  pub dup_scriptless : (policies : List Policy) (refusal : Refusal) → Known policies_in held policy policies → IsRead (λ (s : Script). s) 2 (script_in policies) held script (Err refusal)
-      → IsFound dup_end (policy ∷ script ∷ moves ∷ []) held (Err refusal)
-  dup_scriptless policies refusal p h = record {
-    contents = p.0 ∷ h.0 ∷ content_of held moves ∷ [];
-    are = (p.1, (h.1, (is_held held moves, tt)));
-    is = by h.2;
-  }
-    where
-      by : IsReadBy (λ (s : Script). s) 2 (script_in policies) h.0 (Err refusal) → IsFoundFor dup_end (p.0 ∷ h.0 ∷ content_of held moves ∷ []) (Err refusal)
-      by (inl e) = inl (ap (λ x. x >>= after_policies h.0 (content_of held moves)) p.2 ∙ ap (λ x. x >>= after_script (content_of held moves) policies) e)
-      by (inr (inl u)) = inr (inl (2, u, ap (λ x. x >>= after_policies None (content_of held moves)) p.2))
-      by (inr (inr m)) = inr (inr m)
-
-  to_moves : (policies : List Policy) (read : Script) (p : Known policies_in held policy policies) (s : Known (script_in policies) held script read) (third : Content)
-      → dup_end (p.0 ∷ s.0 ∷ third ∷ []) ≡ after_script third policies read
-  to_moves policies read p s third = ap (λ x. x >>= after_policies s.0 third) p.2 ∙ ap (λ x. x >>= after_script third policies) s.2
-
-  pub dup_moveless : (policies : List Policy) (read : Script) (refusal : Refusal) → Known policies_in held policy policies → Known (script_in policies) held script read
-      → IsRead (λ (m : List Move). m) 3 (moves_in read) held moves (Err refusal) → IsFound dup_end (policy ∷ script ∷ moves ∷ []) held (Err refusal)
-  dup_moveless policies read refusal p s h = record {
-    contents = p.0 ∷ s.0 ∷ h.0 ∷ [];
-    are = (p.1, (s.1, (h.1, tt)));
-    is = by h.2;
-  }
-    where
-      by : IsReadBy (λ (m : List Move). m) 3 (moves_in read) h.0 (Err refusal) → IsFoundFor dup_end (p.0 ∷ s.0 ∷ h.0 ∷ []) (Err refusal)
-      by (inl e) = inl (to_moves policies read p s h.0 ∙ ap (λ x. x >>= λ found. Ok (moves_end policies read found)) e)
-      by (inr (inl u)) = inr (inl (3, u, to_moves policies read p s None))
-      by (inr (inr m)) = inr (inr m)
-
-  pub dup_done : (policies : List Policy) (read : Script) (found : List Move) (end : ReportedEnd) → Known policies_in held policy policies
-      → Known (script_in policies) held script read → Known (moves_in read) held moves found → end ≡ reported (moves_end policies read found)
-      → IsFound dup_end (policy ∷ script ∷ moves ∷ []) held (Ok end)
-  dup_done policies read found end p s m e = record {
-    contents = p.0 ∷ s.0 ∷ m.0 ∷ [];
-    are = (p.1, (s.1, (m.1, tt)));
-    is =
-        let is : dup_end (p.0 ∷ s.0 ∷ m.0 ∷ []) ≡ Ok (moves_end policies read found) =
-        to_moves policies read p s m.0 ∙ ap (λ x. x >>= λ found. Ok (moves_end policies read found)) m.2 in
-        subst (λ x. IsOkAnd x (λ y. end ≡ reported y)) (sym is) e;
-  }
+use Rattle.sb_top.specs.Coming.{IsTextCaused}
+use Rattle.sb_top.specs.Contents.{Content, no_schedule, text_in}
+use Rattle.sb_top.specs.Dup.{dup_end, moves_after, moves_by, moves_end, moves_in, text_after}
+use Rattle.sb_top.specs.Ends.{End, Plain}
+use Rattle.sb_top.specs.Replay.{whole_run}
+use Rattle.sb_top.specs.Sound.{AreEndsSound, IsSound, RunsAreSound}
+use Rattle.sb_top.specs.declared.outcomes.Status.{Status}
+use Rattle.sb_top.proofs.Readings.{can_run}
+use Rattle.sb_top.proofs.ScriptEnds.{each_end}
+use Rattle.sb_top.proofs.Suiting.{EndsPlainly, IsPlainStatus, IsSuited, RefusesFor, next, of_text, script_suited, third_refuses, unfinished_plain}
 
 -- ---- the run and its end
 
@@ -100,26 +42,26 @@ pub dup_caused : (held : Option Held) (rose : Type 0) (targets : List Policy) (s
 dup_caused held rose targets script moves report None = tt
 dup_caused held rose targets script moves report (Some thread) = tt
 
--- ---- soundness
+-- ---- its statuses, and its runs
 
-module _ (law : RunsAreSound) (ready : (p s : Content) (ps : List Policy) (script : Script) → policies_in p ≡ Ok ps → script_in ps s ≡ Ok script → IsReady ps script) where
-  -- a step that gave a value, and what came of it
-  bound : {A B : Type 0} (r : Result A Refusal) (f : A → Result B Refusal) (y : B) → (r >>= f) ≡ Ok y → (x : A) × (r ≡ Ok x) × (f x ≡ Ok y)
-  bound (Ok x) f y e = (x, refl, e)
-  bound (Err k) f y e = cc
+moves_refuse : (script : Script) (content : Content) → RefusesFor 3 (moves_in script content)
+moves_refuse script content = next 3 (text_in 3 content) _ (of_text 3 3 content (lit≤ tt) (lit≤ tt)) (λ text. by text _)
+  where
+    by : (text : List ℕ) (r : Result (List Move) MoveFault) → RefusesFor 3 (moves_by text r)
+    by text (Ok p) = tt
+    by text (Err fault) = (3, refl, lit≤ tt, lit≤ tt)
 
-  same_end : (x y : End) → ◌≡◌ {A = Result End Refusal} (Ok x) (Ok y) → x ≡ y
-  same_end x y e = cc
+moves_plain : (policies : List Policy) (script : Script) (moves : List Move) → EndsPlainly (moves_end policies script moves)
+moves_plain policies script moves s = by (whole_run policies script no_schedule).unfinished
+  where
+    by : (left : Option (ℕ × ℕ)) → text_after (setting_of policies script).policies script moves (whole_run policies script no_schedule).report left ≡ Err s → IsPlainStatus s
+    by None e = cc
+    by (Some thread) e = unfinished_plain thread s e
 
-  -- the run of each end of `dup` is sound
-  pub dup_sound : (contents : Contents) (end : End) → dup_end contents ≡ Ok end → IfSome end.run IsSound
-  dup_sound [] end e = cc
-  dup_sound (p ∷ []) end e = cc
-  dup_sound (p ∷ s ∷ []) end e = cc
-  dup_sound (p ∷ s ∷ m ∷ []) end e =
-      let ps = bound (policies_in p) _ end e in
-      let script = bound (script_in ps.0 s) _ end ps.2 in
-      let moves = bound (moves_in script.0 m) _ end script.2 in
-      subst (λ (x : End). IfSome x.run IsSound) (same_end (moves_end ps.0 script.0 moves.0) end moves.2)
-      (law ps.0 script.0 no_schedule record { ready = ready p s ps.0 script.0 ps.1 script.1; there = refl })
-  dup_sound (p ∷ s ∷ m ∷ c ∷ cs) end e = cc
+pub dup_suited : IsSuited 3 dup_end
+dup_suited = script_suited 3 moves_after moves_end (lit≤ tt) (λ policies script files e. third_refuses (moves_in script) (moves_refuse script) files) moves_plain
+
+pub dup_sound : RunsAreSound → ReadPoliciesAreWellMade → ReadScriptsAreReady → AreEndsSound (Plain dup_end)
+dup_sound law made ready =
+    each_end moves_after moves_end (λ (x : End). IfSome x.run IsSound)
+    (λ p s files ps script moves a b c. law ps script no_schedule (can_run made ready p s ps script no_schedule a b refl))

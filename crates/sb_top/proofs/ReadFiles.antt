@@ -1,5 +1,5 @@
 -- How the content of a file becomes what is read of it.
-use Rattle.std.proofs.Common.{◌≡◌, ◌∙◌, refl, sym, ap, subst, ℕ, ◌+◌, ◌<◌, ◌≤◌, inl, inr, true, false, nat_le, List, length, replicate, Option, None, Some, arith}
+use Rattle.std.proofs.Common.{◌≡◌, ◌∙◌, refl, sym, ap, subst, ℕ, ◌+◌, ◌<◌, ◌≤◌, inl, inr, true, false, nat_le, List, length, replicate, Option, None, Some, arith, Bool, cond}
 use Rattle.std.specs.Prelude.{IsSomeAnd, Result, Ok, Err, ◌∷◌, [], map}
 use Rattle.std.proofs.lemmas.Bool.Decides.{nat_tests}
 use Rattle.std.proofs.lemmas.List.{length-replicate}
@@ -9,15 +9,15 @@ use Rattle.sb_outside.specs.declared.files.FileFault.TheVariants as file
 use Rattle.sb_text.specs.Steps.{◌>>=◌}
 use Rattle.sb_core.specs.declared.runs.Ran.{Ran}
 use Rattle.sb_rule.specs.declared.policies.Policy.{Policy}
-use Rattle.sb_ruletext.specs.PolicyTexts.{PolicyFault}
+use Rattle.sb_ruletext.specs.PolicyTexts.{PolicyFault, reading}
 use Rattle.sb_scripttext.specs.ScriptTexts.{ScriptFault}
 use Rattle.sb_statements.specs.declared.schedules.Schedule.{Schedule}
 use Rattle.sb_statements.specs.declared.scripts.Script.{Script}
-use Rattle.sb_top.specs.Coming.{GivesBy, IsCausedBy, IsRead, IsReadBy, IsScheduled, IsScheduledBy, IsTextCaused}
-use Rattle.sb_top.specs.Contents.{Content, Refusal, most_bytes, policies_by, refused, refused_at, schedule_in, script_by, status_of, text_in, text_within}
+use Rattle.sb_top.specs.Coming.{GivesBy, IsCausedBy, IsRead, IsLaterBy, IsReadBy, IsScheduled, IsTextCaused}
+use Rattle.sb_top.specs.Contents.{Content, Refusal, most_bytes, noted_policies_in, policies_by, refused, refused_at, schedule_in, script_by, status_of, text_in, text_within}
 use Rattle.sb_top.specs.Ends.{AreContents, Contents, IsHeld}
 use Rattle.sb_top.specs.Endings.{IsCaused}
-use Rattle.sb_top.specs.Replay.{run_text}
+use Rattle.sb_top.specs.Replay.{run_text, schedule_of}
 use Rattle.sb_top.specs.declared.outcomes.Status.TheVariants.{PolicyRefused, ScriptRefused, TooLong}
 
 -- ---- contents that are not looked at
@@ -141,7 +141,19 @@ pub scheduled : (script : Script) (held : Option Held) (name : List ℕ) (found 
 scheduled script held name (Ok schedule) h = (h.0 ∷ [], (h.1, tt), h.2)
 scheduled script held name (Err refusal) h = (h.0 ∷ [], (h.1, tt), by h.2)
   where
-    by : IsReadBy (λ (s : Schedule). s) 3 (schedule_in script) h.0 (Err refusal) → IsScheduledBy script (h.0 ∷ []) (Err refusal)
+    by : IsReadBy (λ (s : Schedule). s) 3 (schedule_in script) h.0 (Err refusal) → IsLaterBy (schedule_of script) (h.0 ∷ []) (Err refusal)
     by (inl e) = inl e
     by (inr (inl u)) = inr (inl (u, refl))
     by (inr (inr m)) = inr (inr m)
+
+-- what the first file holds, if it has these policies
+kept_text : (b : Bool) (held text : List ℕ) → cond b (Ok held) (Err (refused (TooLong 1))) ≡ Ok text → held ≡ text
+kept_text true held text e = cc
+kept_text false held text e = cc
+
+pub noted_found : (content : Content) (text : List ℕ) (policies : List Policy) → text_in 1 content ≡ Ok text → policies_by text (reading text) ≡ Ok policies
+    → noted_policies_in content ≡ Ok (Some text, policies)
+noted_found None text policies t p = cc
+noted_found (Some held) text policies t p =
+    (λ i. (t i >>= λ x. policies_by x (reading x)) >>= λ q. Ok (Some held, q)) ∙ (λ i. p i >>= λ q. Ok (Some held, q))
+    ∙ ap (λ (h : List ℕ). Ok (Some h, policies)) (kept_text (nat_le (length held) most_bytes) held text t)

@@ -1,5 +1,5 @@
 -- What `audit POLICY SCRIPT TRANSCRIPT` means.
-use Rattle.std.specs.Prelude.{ℕ, ◌-◌, List, [], ◌∷◌, ◌++◌, map, slice_get, Option, None, Result, Ok, Err, codes}
+use Rattle.std.specs.Prelude.{ℕ, ◌-◌, List, ◌++◌, map, slice_get, Option, None, Result, Ok, Err, codes}
 use Rattle.std.specs.Fmt.{decimal}
 use Rattle.sb_audit.specs.Audited.{audited}
 use Rattle.sb_audit.specs.declared.answers.AuditAnswer.{AuditAnswer}
@@ -9,9 +9,10 @@ use Rattle.sb_rule.specs.declared.policies.Policy.{Policy}
 use Rattle.sb_statements.specs.declared.scripts.Script.{Script}
 use Rattle.sb_text.specs.Lines.{numbered_raw_lines}
 use Rattle.sb_text.specs.Steps.{◌>>=◌}
-use Rattle.sb_top.specs.Contents.{Content, Refusal, policies_in, refused, script_in, text_within}
+use Rattle.sb_top.specs.Contents.{Content, Refusal, text_within}
 use Rattle.sb_top.specs.Ends.{Contents, End}
-use Rattle.sb_top.specs.declared.outcomes.Status.TheVariants.{AuditNo, Missing}
+use Rattle.sb_top.specs.ScriptEnds.{script_end, third_by}
+use Rattle.sb_top.specs.declared.outcomes.Status.TheVariants.{AuditNo}
 
 -- the most bytes that a transcript may have
 abbrev pub most_transcript_bytes : ℕ
@@ -44,12 +45,14 @@ answer_in policies script content = text_within most_transcript_bytes 3 content 
 
 -- the answer is written, and there is no run
 abbrev pub answered_end : List ℕ → End
-answered_end text = record { text = Ok text; run = None }
+answered_end text = record { text = Ok text; run = None; noted = None }
 
--- the transcript is audited under the policies and the script
+-- the transcript is read after the script, and audited under it and the policies
+abbrev pub answer_after : List Policy → Script → Contents → Result (List ℕ) Refusal
+answer_after policies script files = third_by (answer_in policies script) files
+
+abbrev pub audited_end : List Policy → Script → List ℕ → End
+audited_end policies script text = answered_end text
+
 abbrev pub audit_end : Contents → Result End Refusal
-audit_end (policy ∷ script ∷ transcript ∷ []) =
-    policies_in policy >>= λ policies.
-    script_in policies script >>= λ script.
-    answer_in policies script transcript >>= λ text. Ok (answered_end text)
-audit_end _ = Err (refused (Missing 1))
+audit_end contents = script_end answer_after audited_end contents

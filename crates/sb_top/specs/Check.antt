@@ -6,7 +6,7 @@ use Rattle.sb_compile.specs.Listing.{listing_of}
 use Rattle.sb_rule.specs.declared.policies.Policy.{Policy}
 use Rattle.sb_ruleprint.specs.Printing.{printed}
 use Rattle.sb_text.specs.Steps.{◌>>=◌}
-use Rattle.sb_top.specs.Contents.{Refusal, policies_in, refused}
+use Rattle.sb_top.specs.Contents.{Content, Refusal, policies_in, refused}
 use Rattle.sb_top.specs.Ends.{Contents, End}
 use Rattle.sb_top.specs.declared.outcomes.Status.TheVariants.{Missing}
 
@@ -18,10 +18,11 @@ listings policies = flat_map (λ policy. listing_of (program_of policy)) policie
 unfoldable pub checked : List Policy → List ℕ
 checked policies = printed policies ++ listings policies
 
-abbrev pub printed_end : List Policy → End
-printed_end policies = record { text = Ok (checked policies); run = None }
+-- the end that prints policies, where their file holds this
+abbrev pub printed_end : Content → List Policy → End
+printed_end content policies = record { text = Ok (checked policies); run = None; noted = content }
 
--- the policies of its file are printed
+-- the policies of its file are printed, and the notes of its text are told
 abbrev pub check_end : Contents → Result End Refusal
-check_end (policy ∷ []) = policies_in policy >>= λ policies. Ok (printed_end policies)
+check_end (policy ∷ []) = policies_in policy >>= λ policies. Ok (printed_end policy policies)
 check_end _ = Err (refused (Missing 1))

@@ -1,5 +1,6 @@
 -- What reading and carrying out give, before anything is put.
-use Rattle.std.specs.Prelude.{◌≡◌, ◌⊎◌, ⊤, ℕ, List, Option, Some, IfOk, IsOk, IsOkAnd, Result, Ok, Err}
+use Rattle.std.specs.Prelude.{◌≡◌, ◌⊎◌, ⊤, ℕ, List, Option, None, Some, IfOk, IsOk, IsOkAnd, Result, Ok, Err}
+use Rattle.sb_book.specs.ReadyScripts.{Ready}
 use Rattle.sb_book.specs.declared.reports.Report.{Report}
 use Rattle.sb_core.specs.declared.runs.Ran.{Ran}
 use Rattle.sb_outside.specs.Outside.{Held}
@@ -9,6 +10,7 @@ use Rattle.sb_top.specs.Contents.{Content, Refusal, refused}
 use Rattle.sb_top.specs.Ends.{AreContents, Contents, End, IsHeld, IsOrderOf, Meaning, OnThreads, Plain, report_of, without}
 use Rattle.sb_top.specs.Endings.{IsCaused}
 use Rattle.sb_top.specs.Replay.{run_text, schedule_of}
+use Rattle.sb_top.specs.ScriptEnds.{opened_of}
 use Rattle.sb_top.specs.declared.outcomes.Status.{Status}
 use Rattle.sb_top.specs.declared.outcomes.Status.TheVariants.{Missing, NoMemory, ReadFault}
 
@@ -31,28 +33,47 @@ abbrev pub IsCausedBy : {A : Type 0} → Option Held → Type 0 → Result A Ref
 IsCausedBy held rose (Ok x) = ⊤
 IsCausedBy held rose (Err refusal) = IsCaused held rose refusal.status
 
--- the schedule of the last file, if one is named: as a step reads it
-abbrev pub IsScheduledBy : Script → Contents → Result Schedule Refusal → Type 0
-IsScheduledBy script contents (Ok schedule) = schedule_of script contents ≡ Ok schedule
-IsScheduledBy script contents (Err refusal) =
-    (schedule_of script contents ≡ Err refusal)
-    ⊎ ((refusal ≡ refused (ReadFault 3)) × (schedule_of script (without 1 contents) ≡ Err (refused (Missing 3))))
+-- the policies and the script of the first two files were read; or they are refused, or one of them was not read, or there was no memory
+abbrev pub IsOpenedBy : Content → Content → Result Ready Refusal → Type 0
+IsOpenedBy policy script (Ok ready) = opened_of policy script ≡ Ok ready
+IsOpenedBy policy script (Err refusal) =
+    (opened_of policy script ≡ Err refusal)
+    ⊎ (refusal ≡ refused (ReadFault 1))
+    ⊎ ((refusal ≡ refused (ReadFault 2)) × (opened_of policy None ≡ Err (refused (Missing 2))))
     ⊎ (refusal ≡ refused NoMemory)
 
+-- so it is for some contents that the two files are known to hold
+abbrev pub IsOpened : Option Held → List ℕ → List ℕ → Result Ready Refusal → Type 0
+IsOpened held policy script found =
+    (first : Content) × (second : Content) × IsHeld held policy first × IsHeld held script second × IsOpenedBy first second found
+
+-- what a step reads of the files after the script: its value was given, or refused; or the third file was not read, or there was no memory
+abbrev pub IsLaterBy : {A : Type 0} → (Contents → Result A Refusal) → Contents → Result A Refusal → Type 0
+IsLaterBy step contents (Ok x) = step contents ≡ Ok x
+IsLaterBy step contents (Err refusal) =
+    (step contents ≡ Err refusal)
+    ⊎ ((refusal ≡ refused (ReadFault 3)) × (step (without 1 contents) ≡ Err (refused (Missing 3))))
+    ⊎ (refusal ≡ refused NoMemory)
+
+abbrev pub IsLater : {A : Type 0} → (Contents → Result A Refusal) → Option Held → List (List ℕ) → Result A Refusal → Type 0
+IsLater step held names found = (contents : Contents) × AreContents held names contents × IsLaterBy step contents found
+
+-- the schedule of the last file, if one is named
 abbrev pub IsScheduled : Script → Option Held → List (List ℕ) → Result Schedule Refusal → Type 0
-IsScheduled script held names found = (contents : Contents) × AreContents held names contents × IsScheduledBy script contents found
+IsScheduled script held names found = IsLater (schedule_of script) held names found
 
 -- an end with the report of its run
 pub record ReportedEnd : Type 0 where
   pub text : Result (List ℕ) Status
   pub report : Option Report
+  pub noted : Option (List ℕ)
 
 abbrev pub reported : End → ReportedEnd
-reported end = record { text = end.text; report = report_of end }
+reported end = record { text = end.text; report = report_of end; noted = end.noted }
 
 -- the end of a run of this script: it puts its transcript if no thread is unfinished
 abbrev pub reported_run : Script → Ran → ReportedEnd
-reported_run script r = record { text = run_text script r r.unfinished; report = Some r.report }
+reported_run script r = record { text = run_text script r r.unfinished; report = Some r.report; noted = None }
 
 -- the refusal comes of a file that was reached and could not be read
 abbrev pub IsUnreadFor : (Contents → Result End Refusal) → Contents → Refusal → Type 0

@@ -72,6 +72,10 @@ policies_by text (Err fault) = Err (refused_at fault.line text (PolicyRefused fa
 abbrev pub policies_in : Content → Result (List Policy) Refusal
 policies_in content = text_in 1 content >>= λ text. policies_by text (policies.reading text)
 
+-- the same with what the file holds
+abbrev pub noted_policies_in : Content → Result (Content × List Policy) Refusal
+noted_policies_in content = policies_in content >>= λ policies. Ok (content, policies)
+
 -- the script of a text, or its fault
 abbrev pub script_by : List ℕ → Result Script ScriptFault → Result Script Refusal
 script_by text (Ok script) = Ok script

@@ -1,5 +1,5 @@
 -- What `dup POLICY SCRIPT MOVES` means.
-use Rattle.std.specs.Prelude.{ℕ, List, [], ◌∷◌, ◌++◌, length, Option, None, Some, Result, Ok, Err}
+use Rattle.std.specs.Prelude.{ℕ, List, ◌++◌, length, Option, None, Some, Result, Ok, Err}
 use Rattle.sb_book.specs.Histories.{setting_of}
 use Rattle.sb_book.specs.declared.reports.Report.{Report}
 use Rattle.sb_core.specs.declared.runs.Ran.{Ran}
@@ -12,11 +12,12 @@ use Rattle.sb_rule.specs.declared.policies.Policy.{Policy}
 use Rattle.sb_statements.specs.declared.scripts.Script.{Script}
 use Rattle.sb_text.specs.Steps.{◌>>=◌}
 use Rattle.sb_transcript.specs.Transcripts.{transcript}
-use Rattle.sb_top.specs.Contents.{Content, Refusal, no_schedule, policies_in, refused, refused_at, script_in, text_in}
+use Rattle.sb_top.specs.Contents.{Content, Refusal, no_schedule, refused_at, text_in}
 use Rattle.sb_top.specs.Ends.{Contents, End}
+use Rattle.sb_top.specs.ScriptEnds.{script_end, third_by}
 use Rattle.sb_top.specs.Replay.{whole_run}
 use Rattle.sb_top.specs.declared.outcomes.Status.{Status}
-use Rattle.sb_top.specs.declared.outcomes.Status.TheVariants.{Missing, MovesRefused, Unfinished}
+use Rattle.sb_top.specs.declared.outcomes.Status.TheVariants.{MovesRefused, Unfinished}
 
 -- the moves of a text, or its fault
 abbrev pub moves_by : List ℕ → Result (List Move) MoveFault → Result (List Move) Refusal
@@ -45,15 +46,15 @@ abbrev pub moved_by : List Policy → Script → List Move → Ran → End
 moved_by policies script moves r = record {
   text = text_after (setting_of policies script).policies script moves r.report r.unfinished;
   run = Some (record { policies = policies; script = script; ran = r });
+  noted = None;
 }
 
 -- the script is run without a schedule, and then the moves are made
 abbrev pub moves_end : List Policy → Script → List Move → End
 moves_end policies script moves = moved_by policies script moves (whole_run policies script no_schedule)
 
+abbrev pub moves_after : List Policy → Script → Contents → Result (List Move) Refusal
+moves_after policies script files = third_by (moves_in script) files
+
 abbrev pub dup_end : Contents → Result End Refusal
-dup_end (policy ∷ script ∷ moves ∷ []) =
-    policies_in policy >>= λ policies.
-    script_in policies script >>= λ script.
-    moves_in script moves >>= λ moves. Ok (moves_end policies script moves)
-dup_end _ = Err (refused (Missing 1))
+dup_end contents = script_end moves_after moves_end contents

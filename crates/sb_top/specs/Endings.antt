@@ -20,7 +20,7 @@ IsWritten (Err status) e o = (o.status ≡ status) × (e.written' ≡ e.written)
 pub record IsDone {G S : Type 0} (end : End) (e : Effect G S) (o : Outcome) : Type 0 where
   pub written : IsWritten end.text e o
   pub report : o.report ≡ report_of end
-  pub shown : o.shown ≡ None
+  pub shown : o.shown ≡ end.noted
 
 -- it was refused for this: there is no report, and nothing was written
 pub record IsRefused {G S : Type 0} (refusal : Refusal) (e : Effect G S) (o : Outcome) : Type 0 where
@@ -46,7 +46,7 @@ pub record IsUnwritten {G S : Type 0} (end : End) (e : Effect G S) (o : Outcome)
   pub due : end.text ≡ Ok text
   pub status : o.status ≡ WriteFault
   pub report : o.report ≡ report_of end
-  pub shown : o.shown ≡ None
+  pub shown : o.shown ≡ end.noted
   pub written : GrowsByPrefix e.written (e.pending ++ text) e.written'
   pub rose : Rose e.puts e.puts'
 

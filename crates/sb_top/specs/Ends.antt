@@ -20,10 +20,12 @@ pub record ScriptRun : Type 0 where
   pub script : Script
   pub ran : Ran
 
--- how a command ends that is not refused: it is done and writes these bytes, or ends with a status and puts nothing; and its run, if it makes one
+-- how a command ends that is not refused: it is done and writes these bytes, or ends with a status and puts nothing; its run, if it makes one; and the
+-- policy text whose notes are told, if it has them told
 pub record End : Type 0 where
   pub text : Result (List ℕ) Status
   pub run : Option ScriptRun
+  pub noted : Option (List ℕ)
 
 -- the report of an end is that of its run
 abbrev pub report_of : End → Option Report

@@ -14,6 +14,7 @@ use Rattle.sb_message.specs.PolicyMessages.{policy_message}
 use Rattle.sb_message.specs.ScheduleMessages.{schedule_message}
 use Rattle.sb_message.specs.ScriptMessages.{script_message}
 use Rattle.sb_message.specs.declared.end_messages.EndFault.TheVariants as end
+use Rattle.sb_notes.specs.NoteMessages.{notes_message}
 use Rattle.sb_ruletext.specs.Kinds.{kind_number}
 use Rattle.sb_scripttext.specs.Kinds as script
 use Rattle.sb_scheduletext.specs.Kinds as schedule
@@ -71,17 +72,22 @@ abbrev pub name_at : ℕ → List (List ℕ) → List ℕ
 name_at n [] = []
 name_at n (name ∷ names) = if n == 1 then name else name_at (n - 1) names
 
+-- the notes of a policy text in the file of this name, if they are told
+abbrev pub notes_by : List ℕ → Option (List ℕ) → List ℕ
+notes_by name None = []
+notes_by name (Some text) = notes_message name text
+
 -- what is written on standard error for a status of a command with files of these names, where this line of a text is shown: what was wrong, and if it is the
 -- fault of a text, the place and the line. For a fault of the arguments these are told too
 abbrev pub message_by : List (List ℕ) → List (List ℕ) → Status → Option (List ℕ) → List ℕ
-message_by words names Done shown = []
+message_by words names Done shown = notes_by (name_at 1 names) shown
 message_by words names (Usage fault) shown = usage_message (fault_of fault) words
 message_by words names (PolicyRefused fault) shown = policy_message (name_at 1 names) fault (or_empty shown)
 message_by words names (ScriptRefused fault) shown = script_message (name_at 2 names) fault (or_empty shown)
 message_by words names (ScheduleRefused fault) shown = schedule_message (name_at 3 names) fault (or_empty shown)
 message_by words names (LinksRefused fault) shown = link_message (name_at 3 names) fault (or_empty shown)
 message_by words names (MovesRefused fault) shown = move_message (name_at 3 names) fault (or_empty shown)
-message_by words names (AuditNo refuted) shown = audit_message (name_at 3 names) refuted.line refuted.clause shown
+message_by words names (AuditNo refuted) shown = audit_message (name_at 3 names) refuted shown
 message_by words names (Missing n) shown = end_message (end.Missing n) (name_at n names)
 message_by words names (TooLong n) shown = end_message (end.TooLong n) (name_at n names)
 message_by words names (ReadFault n) shown = end_message (end.ReadFault n) (name_at n names)

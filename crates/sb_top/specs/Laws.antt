@@ -1,14 +1,15 @@
 -- Laws of how commands end over files whose contents are known.
-use Rattle.std.specs.Prelude.{◌≡◌, ◌≢◌, ◌⊎◌, ℕ, ◌≤◌, List, length, map, Some, IfSome, Result}
+use Rattle.std.specs.Prelude.{◌≡◌, ◌≢◌, ◌⊎◌, ℕ, ◌≤◌, List, length, map, Some, IfSome, Result, Err}
 use Rattle.sb_commands.specs.Commands.{Command}
+use Rattle.sb_commands.specs.Usage.{Fault, fault_of}
 use Rattle.sb_commands.specs.declared.usage_faults.UsageFault.{UsageFault}
 use Rattle.sb_outside.specs.Outside.{Held, Rose}
 use Rattle.sb_top.specs.Contents.{Refusal, refused}
 use Rattle.sb_top.specs.Effects.{Effect}
-use Rattle.sb_top.specs.Endings.{IsEnding, IsMeant, IsPlainEnding, IsRefused}
+use Rattle.sb_top.specs.Endings.{IsMeant, IsPlainEnding, IsRefused}
 use Rattle.sb_top.specs.Ends.{Contents, End}
 use Rattle.sb_top.specs.Outcomes.{file_of}
-use Rattle.sb_top.specs.Top.{files_of, meaning_of}
+use Rattle.sb_top.specs.Top.{EndsAsMeant, files_for}
 use Rattle.sb_top.specs.declared.outcomes.Outcome.{Outcome}
 use Rattle.sb_top.specs.declared.outcomes.Status.TheVariants.{NoMemory, ReadFault, Usage}
 
@@ -29,7 +30,8 @@ module _ (G S : Type 0) where
       → IsPlainEnding meaning names e o → e.held ≡ Some held → file_of o.status ≡ Some n → ((m : ℕ) → o.status ≢ ReadFault m)
       → IsMeant (meaning (contents_of held names)) e o
 
-  -- a command does not end with Usage, and a status that names a file names one of the command
-  abbrev pub StatusesAreOfCommands : Type 0
-  StatusesAreOfCommands = (command : Command) (e : Effect G S) (o : Outcome) → IsEnding (meaning_of command) (files_of command) e o
-      → ((fault : UsageFault) → o.status ≢ Usage fault) × IfSome (file_of o.status) (λ n. (1 ≤ n) × (n ≤ length (files_of command)))
+-- arguments that end with Usage are no command, and this is their fault; and a status that names a file names one of the command
+unfoldable pub StatusesAreOfCommands : Type 0 → Type 0 → Type 0
+StatusesAreOfCommands G S = (wanted : Result Command Fault) (e : Effect G S) (o : Outcome) → EndsAsMeant wanted e o
+    → ((fault : UsageFault) → o.status ≡ Usage fault → wanted ≡ Err (fault_of fault))
+    × IfSome (file_of o.status) (λ n. (1 ≤ n) × (n ≤ length (files_for wanted)))

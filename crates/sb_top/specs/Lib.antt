@@ -3,6 +3,7 @@ pub mod Outcomes
 pub mod Contents
 pub mod Effects
 pub mod Ends
+pub mod ScriptEnds
 pub mod Endings
 pub mod Coming
 pub mod Putting

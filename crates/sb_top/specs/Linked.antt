@@ -1,5 +1,5 @@
 -- What `linked POLICY SCRIPT LINKS` means.
-use Rattle.std.specs.Prelude.{ℕ, List, [], ◌∷◌, None, Result, Ok, Err}
+use Rattle.std.specs.Prelude.{ℕ, List, None, Result, Ok, Err}
 use Rattle.sb_link.specs.LinkTexts.{LinkFault}
 use Rattle.sb_link.specs.LinkTexts as links
 use Rattle.sb_link.specs.Lines.{linked_text}
@@ -7,9 +7,10 @@ use Rattle.sb_link.specs.declared.links.Link.{Link}
 use Rattle.sb_rule.specs.declared.policies.Policy.{Policy}
 use Rattle.sb_statements.specs.declared.scripts.Script.{Script}
 use Rattle.sb_text.specs.Steps.{◌>>=◌}
-use Rattle.sb_top.specs.Contents.{Content, Refusal, policies_in, refused, refused_at, script_in, text_in}
+use Rattle.sb_top.specs.Contents.{Content, Refusal, refused_at, text_in}
 use Rattle.sb_top.specs.Ends.{Contents, End}
-use Rattle.sb_top.specs.declared.outcomes.Status.TheVariants.{LinksRefused, Missing}
+use Rattle.sb_top.specs.ScriptEnds.{script_end, third_by}
+use Rattle.sb_top.specs.declared.outcomes.Status.TheVariants.{LinksRefused}
 
 -- the links of a text, or its fault
 abbrev pub links_by : List ℕ → Result (List Link) LinkFault → Result (List Link) Refusal
@@ -26,12 +27,11 @@ calls_text policies script links = linked_text policies script links
 
 -- they are written, and there is no run
 abbrev pub calls_end : List Policy → Script → List Link → End
-calls_end policies script links = record { text = Ok (calls_text policies script links); run = None }
+calls_end policies script links = record { text = Ok (calls_text policies script links); run = None; noted = None }
 
--- the calls of the script are answered, the names of each resolved by the links
+-- the links are read after the script, whose calls are answered, the names of each resolved by them
+abbrev pub links_after : List Policy → Script → Contents → Result (List Link) Refusal
+links_after policies script files = third_by links_in files
+
 abbrev pub linked_end : Contents → Result End Refusal
-linked_end (policy ∷ script ∷ links ∷ []) =
-    policies_in policy >>= λ policies.
-    script_in policies script >>= λ script.
-    links_in links >>= λ links. Ok (calls_end policies script links)
-linked_end _ = Err (refused (Missing 1))
+linked_end contents = script_end links_after calls_end contents

@@ -12,14 +12,14 @@ use Rattle.sb_rule.specs.declared.policies.Policy.{Policy}
 use Rattle.sb_statements.specs.declared.schedules.Schedule.{Schedule}
 use Rattle.sb_statements.specs.declared.scripts.Script.{Script}
 use Rattle.sb_statements.specs.declared.statements.Statement.{Statement}
-use Rattle.sb_text.specs.Steps.{◌>>=◌}
 use Rattle.sb_transcript.specs.Transcripts.{transcript}
 use Rattle.sb_top.specs.Coming.{ReportedEnd}
-use Rattle.sb_top.specs.Contents.{Content, Refusal, policies_in, refused, script_in}
+use Rattle.sb_top.specs.Contents.{Content, Refusal, policies_in, script_in}
 use Rattle.sb_top.specs.Ends.{Contents, End}
+use Rattle.sb_top.specs.ScriptEnds.{script_end}
 use Rattle.sb_top.specs.Replay.{schedule_of, whole_run}
 use Rattle.sb_top.specs.declared.outcomes.Status.{Status}
-use Rattle.sb_top.specs.declared.outcomes.Status.TheVariants.{Missing, Unfinished}
+use Rattle.sb_top.specs.declared.outcomes.Status.TheVariants.{Unfinished}
 
 -- a script without the calls that its targets deny themselves, each by the policy that it names; and these calls
 unfoldable pub thinned : List Policy → Script → Thinned
@@ -43,11 +43,12 @@ abbrev pub ended_after : List ℕ → List Policy → Script → Ran → End
 ended_after lines policies script r = record {
   text = text_after lines script r r.unfinished;
   run = Some (record { policies = policies; script = script; ran = r });
+  noted = None;
 }
 
 -- the same with its report
 abbrev pub reported_after : List ℕ → Script → Ran → ReportedEnd
-reported_after lines script r = record { text = text_after lines script r r.unfinished; report = Some r.report }
+reported_after lines script r = record { text = text_after lines script r r.unfinished; report = Some r.report; noted = None }
 
 -- the end of the run, by a schedule, of what the targets of a script send: the lines of the calls that they deny themselves come before the transcript
 abbrev pub sent_end : List Policy → Script → Thinned → Schedule → End
@@ -58,12 +59,11 @@ abbrev pub local_run_end : List Policy → Script → Schedule → End
 local_run_end policies script schedule = sent_end policies script (thinned policies script) schedule
 
 -- what the targets of the script send is run by the schedule, which is one of the actors of that
+abbrev pub sent_schedule_after : List Policy → Script → Contents → Result Schedule Refusal
+sent_schedule_after policies script files = schedule_of (thinned policies script).script files
+
 abbrev pub local_end : Contents → Result End Refusal
-local_end (policy ∷ script ∷ schedule) =
-    policies_in policy >>= λ policies.
-    script_in policies script >>= λ script.
-    schedule_of (thinned policies script).script schedule >>= λ schedule. Ok (local_run_end policies script schedule)
-local_end _ = Err (refused (Missing 1))
+local_end contents = script_end sent_schedule_after local_run_end contents
 
 -- If a script has one thread, which has only calls, the report of `local` has the namespace that the calls of the script as it was written lead to, performed in
 -- order, if the run leaves nothing unfinished

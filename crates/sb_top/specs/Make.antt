@@ -1,5 +1,5 @@
 -- What `make SEED TARGETS CALLS` means.
-use Rattle.std.specs.Prelude.{◌≡◌, ℕ, ◌*◌, List, [], ◌++◌, Some, codes, Result, Ok, Err}
+use Rattle.std.specs.Prelude.{◌≡◌, ℕ, ◌*◌, List, [], ◌++◌, Some, codes, Result, Ok, Err, None}
 use Rattle.std.specs.Fmt.{decimal}
 use Rattle.sb_book.specs.declared.reports.Report.{Report}
 use Rattle.sb_core.specs.Runs.{IsSomeRun}
@@ -47,7 +47,8 @@ made_run seed targets calls order = record {
 
 -- the two lines are written
 abbrev pub made_end : ℕ → ℕ → ℕ → Schedule → End
-made_end seed targets calls order = record { text = Ok (made_text seed targets calls); run = Some (made_run seed targets calls order) }
+made_end seed targets calls order =
+    record { text = Ok (made_text seed targets calls); run = Some (made_run seed targets calls order); noted = None }
 
 -- this is the end of a run of the script that is made, by some order of steps
 pub record IsMadeEnd (seed targets calls : ℕ) (end : ReportedEnd) : Type 0 where

@@ -33,5 +33,5 @@ IsPut (Err wanted) before pending after rose status = (status ≡ wanted) × (af
 
 -- what a command comes to was put, or its refusal told
 abbrev pub IsFinished : Result ReportedEnd Refusal → Option (List ℕ) → List ℕ → Option (List ℕ) → Type 0 → Outcome → Type 0
-IsFinished (Ok end) before pending after rose o = IsPut end.text before pending after rose o.status × (o.report ≡ end.report) × (o.shown ≡ None)
+IsFinished (Ok end) before pending after rose o = IsPut end.text before pending after rose o.status × (o.report ≡ end.report) × (o.shown ≡ end.noted)
 IsFinished (Err refusal) before pending after rose o = (o ≡ record { status = refusal.status; shown = refusal.shown; report = None }) × (after ≡ before)

@@ -5,10 +5,10 @@ use Rattle.sb_core.specs.declared.runs.Ran.{Ran}
 use Rattle.sb_rule.specs.declared.policies.Policy.{Policy}
 use Rattle.sb_statements.specs.declared.schedules.Schedule.{Schedule}
 use Rattle.sb_statements.specs.declared.scripts.Script.{Script}
-use Rattle.sb_text.specs.Steps.{◌>>=◌}
 use Rattle.sb_transcript.specs.Transcripts.{transcript}
-use Rattle.sb_top.specs.Contents.{Refusal, no_schedule, policies_in, refused, schedule_in, script_in}
+use Rattle.sb_top.specs.Contents.{Refusal, no_schedule, refused, schedule_in}
 use Rattle.sb_top.specs.Ends.{Contents, End}
+use Rattle.sb_top.specs.ScriptEnds.{script_end}
 use Rattle.sb_top.specs.declared.outcomes.Status.{Status}
 use Rattle.sb_top.specs.declared.outcomes.Status.TheVariants.{Missing, Unfinished}
 
@@ -23,7 +23,8 @@ run_text script r (Some thread) = Err (Unfinished thread.0 thread.1)
 
 -- the end of a run: it writes its transcript if no thread is unfinished
 abbrev pub ended_by : List Policy → Script → Ran → End
-ended_by policies script r = record { text = run_text script r r.unfinished; run = Some (record { policies = policies; script = script; ran = r }) }
+ended_by policies script r =
+    record { text = run_text script r r.unfinished; run = Some (record { policies = policies; script = script; ran = r }); noted = None }
 
 -- the end of the run of a script by a schedule
 abbrev pub run_end : List Policy → Script → Schedule → End
@@ -40,10 +41,9 @@ schedule_of script [] = Ok no_schedule
 schedule_of script (schedule ∷ []) = schedule_in script schedule
 schedule_of script _ = Err (refused (Missing 3))
 
--- the script is run by the schedule
+-- the schedule is read after the script, which is run by it
+abbrev pub schedule_after : List Policy → Script → Contents → Result Schedule Refusal
+schedule_after policies script files = schedule_of script files
+
 abbrev pub replay_end : Contents → Result End Refusal
-replay_end (policy ∷ script ∷ schedule) =
-    policies_in policy >>= λ policies.
-    script_in policies script >>= λ script.
-    schedule_of script schedule >>= λ schedule. Ok (run_end policies script schedule)
-replay_end _ = Err (refused (Missing 1))
+replay_end contents = script_end schedule_after run_end contents

@@ -1,6 +1,5 @@
 -- What arguments mean.
-use Rattle.std.specs.Prelude.{ℕ, nat_eq, Bool, ◌||◌, List, [], ◌∷◌, Result, Ok, Err, codes}
-use Rattle.std.specs.Cmp.Lexicographic.{pointwise}
+use Rattle.std.specs.Prelude.{ℕ, List, [], ◌∷◌, Result, Ok, Err}
 use Rattle.sb_commands.specs.Commands.{Command, PlainCommand, ThreadedCommand, Audit, Check, Dup, Linked, Local, Make, Replay, Run}
 use Rattle.sb_commands.specs.Commands as commands
 use Rattle.sb_commands.specs.Usage.{Fault}
@@ -19,32 +18,41 @@ use Rattle.sb_top.specs.Replay.{listed, replay_end}
 use Rattle.sb_top.specs.Run.{threads_end}
 use Rattle.sb_top.specs.declared.outcomes.Outcome.{Outcome}
 
--- what a command means that runs without threads
-abbrev pub plain_end : PlainCommand → Contents → Result End Refusal
-plain_end (Check policy) = check_end
-plain_end (Replay policy script schedule) = replay_end
-plain_end (Linked policy script links) = linked_end
-plain_end (Dup policy script moves) = dup_end
-plain_end (Local policy script schedule) = local_end
-plain_end (Audit policy script transcript) = audit_end
+-- What a command is to the calls that carry it out: the names of its files, in the order of their places, and what it means. A command that is added has one
+-- line here
+pub record PlainMeaning : Type 0 where
+  pub files : List (List ℕ)
+  pub end : Contents → Result End Refusal
 
--- and one that runs on threads, for each order of steps
-abbrev pub threaded_end : ThreadedCommand → Schedule → Contents → Result End Refusal
-threaded_end (Run policy script workers) = threads_end
-threaded_end (Make seed targets calls) = make_end seed targets calls
+-- a command that runs without threads
+abbrev pub plain_meaning : PlainCommand → PlainMeaning
+plain_meaning (Check policy) = record { files = policy ∷ []; end = check_end }
+plain_meaning (Replay policy script schedule) = record { files = policy ∷ script ∷ listed schedule; end = replay_end }
+plain_meaning (Linked policy script links) = record { files = policy ∷ script ∷ links ∷ []; end = linked_end }
+plain_meaning (Dup policy script moves) = record { files = policy ∷ script ∷ moves ∷ []; end = dup_end }
+plain_meaning (Local policy script schedule) = record { files = policy ∷ script ∷ listed schedule; end = local_end }
+plain_meaning (Audit policy script transcript) = record { files = policy ∷ script ∷ transcript ∷ []; end = audit_end }
 
--- the names of the files of a command, in the order of their places
 abbrev pub plain_files : PlainCommand → List (List ℕ)
-plain_files (Check policy) = policy ∷ []
-plain_files (Replay policy script schedule) = policy ∷ script ∷ listed schedule
-plain_files (Linked policy script links) = policy ∷ script ∷ links ∷ []
-plain_files (Dup policy script moves) = policy ∷ script ∷ moves ∷ []
-plain_files (Local policy script schedule) = policy ∷ script ∷ listed schedule
-plain_files (Audit policy script transcript) = policy ∷ script ∷ transcript ∷ []
+plain_files command = (plain_meaning command).files
+
+abbrev pub plain_end : PlainCommand → Contents → Result End Refusal
+plain_end command = (plain_meaning command).end
+
+-- one that runs on threads, with what it means for each order of steps
+pub record ThreadedMeaning : Type 0 where
+  pub files : List (List ℕ)
+  pub end : Schedule → Contents → Result End Refusal
+
+abbrev pub threaded_meaning : ThreadedCommand → ThreadedMeaning
+threaded_meaning (Run policy script workers) = record { files = policy ∷ script ∷ []; end = threads_end }
+threaded_meaning (Make seed targets calls) = record { files = []; end = make_end seed targets calls }
 
 abbrev pub threaded_files : ThreadedCommand → List (List ℕ)
-threaded_files (Run policy script workers) = policy ∷ script ∷ []
-threaded_files (Make seed targets calls) = []
+threaded_files command = (threaded_meaning command).files
+
+abbrev pub threaded_end : ThreadedCommand → Schedule → Contents → Result End Refusal
+threaded_end command = (threaded_meaning command).end
 
 -- what a command means
 abbrev pub meaning_of : Command → Meaning
@@ -65,7 +73,3 @@ EndsAsMeant (Err fault) e o = IsUsageEnding fault e o
 abbrev pub files_for : Result Command Fault → List (List ℕ)
 files_for (Ok command) = files_of command
 files_for (Err fault) = []
-
--- the name is that of a command that runs on threads
-abbrev pub is_threaded_name : List ℕ → Bool
-is_threaded_name name = pointwise nat_eq name (codes "run") || pointwise nat_eq name (codes "make")

@@ -1,19 +1,19 @@
 // The command `audit`: policies, a script and a transcript are read, and what the audit of the transcript answers is put.
 ghost use Rattle.std.specs.Prelude.{◌≡◌, ◌≤◌, ◌<◌, ◌+◌, ◌^◌, ◌⊎◌, ◌∷◌, [], length, MatchOption, None, Some, IfOk, OnOk};
 ghost use Rattle.sb_audit.specs.Audited.{audited};
-ghost use Rattle.sb_outside.specs.Outside.{Rose, joined};
+ghost use Rattle.sb_outside.specs.Outside.{Rose};
 ghost use Rattle.sb_top.specs.Audit.{answer_by, answer_in, answer_to, answered_end, audit_end, raw_line, refuted_at, yes_line};
 ghost use Rattle.sb_top.specs.Coming.{GivesBy, IsCausedBy, IsEndCaused, IsFound, IsRead, reported};
 ghost use Rattle.sb_top.specs.Contents.{refused};
 
-use crate::ends::{CommandEnd, Lines};
+use crate::ends::{CommandEnd, Lines, one_text};
 use crate::outcomes::Status;
-use crate::reading::{policies_in, script_in, text_within};
+use crate::reading::{opened_in, text_within};
 use crate::refusals::Refused;
 use sb_audit::{AuditAnswer, Refuted, audit};
 use sb_book::{OpenedScript, ReadyScript};
 use sb_compile::Programs;
-use sb_items::{Items, NoMemory};
+use sb_items::NoMemory;
 use sb_outside::{Bytes, Files};
 use sb_text::RawLines;
 use std::alloc::Global;
@@ -107,15 +107,13 @@ fn answer_in<F: Files>(
 }
 
 // The end that puts an answer.
-#[tactic(auto, using(crate::proofs::Linking::one_text))]
 fn end_of_audit(alloc: Global, line: Vec<u8>) -> Result<CommandEnd, NoMemory>
     ensures { IfOk result (λ end. end ≡ reported (answered_end line.items)) }
 {
-    let mut texts = Items::empty(alloc);
-    texts.push(Bytes::new(line))?;
     Ok(CommandEnd {
-        lines: Ok(Lines::Texts(texts)),
+        lines: Ok(Lines::Texts(one_text(alloc, line)?)),
         report: None,
+        noted: None,
     })
 }
 
@@ -134,8 +132,7 @@ pub fn audit_transcript<F: Files>(
     ensures found { IsFound audit_end (policy.now ∷ script.now ∷ transcript.now ∷ []) (F.held files.old) result }
     ensures caused { IsEndCaused (F.held files.old) (Rose (F.faults files.old) (F.faults files.new)) result }
 {
-    let policies = policies_in(alloc, files, policy)?;
-    let opened = script_in(alloc, files, policies, script)?;
+    let opened = opened_in(alloc, files, policy, script)?;
     let (ready, _) = opened.into_parts();
     let line = answer_in(alloc, files, &ready, transcript)?;
     Ok(end_of_audit(alloc, line)?)

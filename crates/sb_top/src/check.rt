@@ -7,7 +7,7 @@ ghost use Rattle.sb_top.specs.Check.{check_end, checked, listings};
 ghost use Rattle.sb_top.specs.Coming.{IsEndCaused, IsFound};
 
 use crate::ends::{CommandEnd, Lines};
-use crate::reading::policies_in;
+use crate::reading::noted_policies_in;
 use crate::refusals::Refused;
 use sb_compile::compile;
 use sb_items::{Items, NoMemory};
@@ -44,7 +44,7 @@ fn check_texts(alloc: Global, policies: &WellMadePolicies) -> Result<Items<Bytes
     Ok(texts)
 }
 
-/// Reads the policies of a file, and prints them: they as a text, and then the listings of their programs.
+/// Reads the policies of a file, and prints them: they as a text, and then the listings of their programs. The notes of the file's text are told.
 pub fn check_policy<F: Files>(
     alloc: Global,
     files: &mut F,
@@ -56,10 +56,12 @@ pub fn check_policy<F: Files>(
     ensures found { IsFound check_end (policy.now ∷ []) (F.held files.old) result }
     ensures caused { IsEndCaused (F.held files.old) (Rose (F.faults files.old) (F.faults files.new)) result }
 {
-    let policies = policies_in(alloc, files, policy)?;
+    let noted = noted_policies_in(alloc, files, policy)?;
+    let (text, policies) = noted;
     let texts = check_texts(alloc, &policies)?;
     Ok(CommandEnd {
         lines: Ok(Lines::Texts(texts)),
         report: None,
+        noted: Some(Bytes::new(text)),
     })
 }

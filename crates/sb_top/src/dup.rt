@@ -14,7 +14,7 @@ ghost use Rattle.sb_top.specs.Putting.{EndsSilently, text_of};
 
 use crate::ends::{CommandEnd, Lines};
 use crate::outcomes::Status;
-use crate::reading::{no_schedule, policies_in, refused_at, script_in, text_in};
+use crate::reading::{no_schedule, opened_in, refused_at, text_in};
 use crate::refusals::Refused;
 use sb_book::{OpenedScript, Report, RunStart};
 use sb_compile::Programs;
@@ -147,6 +147,7 @@ fn move_by(alloc: Global, opened: OpenedScript, moves: &Moves) -> Result<Command
     Ok(CommandEnd {
         lines,
         report: Some(ran.report),
+        noted: None,
     })
 }
 
@@ -165,8 +166,7 @@ pub fn dup_script<F: Files>(
     ensures found { IsFound dup_end (policy.now ∷ script.now ∷ moves.now ∷ []) (F.held files.old) result }
     ensures caused { IsEndCaused (F.held files.old) (Rose (F.faults files.old) (F.faults files.new)) result }
 {
-    let policies = policies_in(alloc, files, policy)?;
-    let opened = script_in(alloc, files, policies, script)?;
+    let opened = opened_in(alloc, files, policy, script)?;
     let moves = moves_in(alloc, files, opened.script(), moves)?;
     Ok(move_by(alloc, opened, &moves)?)
 }

@@ -1,14 +1,15 @@
 // Ends of commands, and how they are put.
-ghost use Rattle.std.specs.Prelude.{◌≡◌, ◌≤◌, [], None, Ok};
-ghost use Rattle.sb_outside.specs.Outside.{Rose};
+ghost use Rattle.std.specs.Prelude.{◌≡◌, ◌≤◌, [], IfOk, Ok};
+ghost use Rattle.sb_outside.specs.Outside.{Rose, joined};
 ghost use Rattle.sb_top.specs.Outcomes.{IsSilent};
 ghost use Rattle.sb_top.specs.Putting.{IsPut, bytes_of};
 
 use crate::outcomes::{Outcome, Status};
 use sb_book::Report;
-use sb_items::Items;
+use sb_items::{Items, NoMemory};
 use sb_outside::{Bytes, Sink, put_lines};
 use sb_transcript::LineBuffer;
+use std::alloc::Global;
 use std::marker::Model;
 
 /// What is put: some texts, or the lines of a transcript, each by one put.
@@ -50,11 +51,25 @@ impl Lines {
     }
 }
 
-/// How a command ends that is not refused: what it puts, or the status with which it ends and puts nothing; and the report of its run, if it
-/// makes one.
+/// A text alone.
+///
+/// # Errors
+/// `NoMemory` if there was none for the list of one.
+#[tactic(auto, using(crate::proofs::Texts::one_text))]
+pub fn one_text(alloc: Global, text: Vec<u8>) -> Result<Items<Bytes>, NoMemory>
+    ensures { IfOk result (λ texts. joined texts ≡ text.items) }
+{
+    let mut texts = Items::empty(alloc);
+    texts.push(Bytes::new(text))?;
+    Ok(texts)
+}
+
+/// How a command ends that is not refused: what it puts, or the status with which it ends and puts nothing; the report of its run, if it makes
+/// one; and the policy text whose notes are told, if it has them told.
 pub struct CommandEnd {
     pub(crate) lines: Result<Lines, Status>,
     pub(crate) report: Option<Report>,
+    pub(crate) noted: Option<Bytes>,
 }
 
 impl Drop for CommandEnd {
@@ -62,6 +77,7 @@ impl Drop for CommandEnd {
         let CommandEnd {
             lines: _,
             report: _,
+            noted: _,
         } = self;
     }
 }
@@ -72,7 +88,7 @@ impl Model for CommandEnd {
 
     ghost Value = { ReportedEnd };
 
-    ghost view = { λ end. record { text = text_of end.lines; report = end.report } };
+    ghost view = { λ end. record { text = text_of end.lines; report = end.report; noted = end.noted } };
 
     ghost invariant = { λ end. EndsSilently end.lines };
 }
@@ -83,19 +99,23 @@ impl CommandEnd {
         ensures counted { K.faults out.old ≤ K.faults out.new }
         ensures put { IsPut self.text (K.written out.old) (K.pending out.old) (K.written out.new) (Rose (K.faults out.old) (K.faults out.new)) result.status }
         ensures report { result.report ≡ self.report }
-        ensures shown { result.shown ≡ None }
+        ensures shown { result.shown ≡ self.noted }
         ensures silent { IsSilent result.status → out.new ≡ out.old }
         ensures done_count { result.status ≡ Status.Done → K.faults out.new ≡ K.faults out.old }
         ensures finished { result.status ≡ Status.Done → K.pending out.new ≡ [] }
     {
-        let CommandEnd { lines, report } = self;
+        let CommandEnd {
+            lines,
+            report,
+            noted,
+        } = self;
         let status = match lines {
             Ok(lines) => lines.put(out),
             Err(status) => status,
         };
         Outcome {
             status,
-            shown: None,
+            shown: noted,
             report,
         }
     }

@@ -27,4 +27,4 @@ pub use laws::{
 pub use local::local_runs_are_serial;
 pub use messages::message;
 pub use outcomes::{Outcome, Status};
-pub use top::{broker_top, plain_top};
+pub use top::{broker_top, plain_top, threads_top};

@@ -2,19 +2,19 @@
 // each is put.
 ghost use Rattle.std.specs.Prelude.{◌≡◌, ◌≤◌, ◌<◌, ◌+◌, ◌^◌, ◌∷◌, [], length, IfOk, OnOk};
 ghost use Rattle.sb_link.specs.LinkTexts.{reading};
-ghost use Rattle.sb_outside.specs.Outside.{Rose, joined};
+ghost use Rattle.sb_outside.specs.Outside.{Rose};
 ghost use Rattle.sb_top.specs.Coming.{GivesBy, IsCausedBy, IsEndCaused, IsFound, IsRead, reported};
 ghost use Rattle.sb_top.specs.Linked.{calls_end, calls_text, linked_end, links_by, links_in};
 
-use crate::ends::{CommandEnd, Lines};
+use crate::ends::{CommandEnd, Lines, one_text};
 use crate::outcomes::Status;
-use crate::reading::{policies_in, refused_at, script_in, text_in};
+use crate::reading::{opened_in, refused_at, text_in};
 use crate::refusals::Refused;
 use sb_book::{OpenedScript, RunStart};
 use sb_compile::Programs;
-use sb_items::{Items, NoMemory};
+use sb_items::NoMemory;
 use sb_link::{Links, LinksRefused, answer_script, read_links};
-use sb_outside::{Bytes, Files};
+use sb_outside::Files;
 use std::alloc::Global;
 
 // The links of a text.
@@ -57,16 +57,6 @@ fn calls_text(alloc: Global, opened: OpenedScript, links: Links) -> Result<Vec<u
     book.text(alloc, ready.script())
 }
 
-// A text alone.
-#[tactic(auto, using(crate::proofs::Linking::one_text))]
-fn one_text(alloc: Global, text: Vec<u8>) -> Result<Items<Bytes>, NoMemory>
-    ensures { IfOk result (λ texts. joined texts ≡ text.items) }
-{
-    let mut texts = Items::empty(alloc);
-    texts.push(Bytes::new(text))?;
-    Ok(texts)
-}
-
 // The end of a script that was read: the lines of the answers to its calls are put.
 fn end_of_calls(alloc: Global, opened: OpenedScript, links: Links) -> Result<CommandEnd, NoMemory>
     ensures { IfOk result (λ end. end ≡ reported (calls_end opened.policies opened.script links)) }
@@ -75,6 +65,7 @@ fn end_of_calls(alloc: Global, opened: OpenedScript, links: Links) -> Result<Com
     Ok(CommandEnd {
         lines: Ok(Lines::Texts(one_text(alloc, text)?)),
         report: None,
+        noted: None,
     })
 }
 
@@ -92,8 +83,7 @@ pub fn linked_script<F: Files>(
     ensures found { IsFound linked_end (policy.now ∷ script.now ∷ links.now ∷ []) (F.held files.old) result }
     ensures caused { IsEndCaused (F.held files.old) (Rose (F.faults files.old) (F.faults files.new)) result }
 {
-    let policies = policies_in(alloc, files, policy)?;
-    let opened = script_in(alloc, files, policies, script)?;
+    let opened = opened_in(alloc, files, policy, script)?;
     let links = links_in(alloc, files, links)?;
     Ok(end_of_calls(alloc, opened, links)?)
 }

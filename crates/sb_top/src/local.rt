@@ -15,16 +15,15 @@ ghost use Rattle.sb_transcript.specs.Transcripts.{transcript};
 
 use crate::ends::{CommandEnd, Lines};
 use crate::outcomes::Status;
-use crate::reading::{policies_in, schedule_of, script_in};
+use crate::reading::{opened_in, schedule_of};
 use crate::refusals::Refused;
-use sb_book::{OpenedScript, ReadyScript, Report, RunStart};
+use sb_book::{ReadyScript, Report, RunStart};
 use sb_compile::Programs;
 use sb_core::{Ran, run};
 use sb_items::{Items, NoMemory};
 use sb_kernel::Kernel;
 use sb_local::{
-    LocalDenial, Thinned, denial_lines, make_ready, runs_of_one_thread_are_serial, thin,
-    thinned_scripts_are_sound,
+    LocalDenial, SentScript, denial_lines, runs_of_one_thread_are_serial, thinned_scripts_are_sound,
 };
 use sb_outside::{Bytes, Files};
 use sb_ruletext::read_policies_are_well_made;
@@ -41,10 +40,8 @@ struct LocalScript<'a> {
     written: &'a ReadyScript,
     // The programs of its policies, by which the targets judge, and the broker.
     judge: Programs<'a>,
-    // The script without the calls that its targets deny themselves.
-    sent: OpenedScript,
-    // These calls.
-    denied: Items<LocalDenial>,
+    // What its targets send, and the calls that they deny themselves.
+    sent: SentScript<'a>,
 }
 
 impl<'a> Drop for LocalScript<'a> {
@@ -53,7 +50,6 @@ impl<'a> Drop for LocalScript<'a> {
             written: _,
             judge: _,
             sent: _,
-            denied: _,
         } = self;
     }
 }
@@ -66,7 +62,7 @@ impl<'a> Model for LocalScript<'a> {
 
     ghost view = { λ l. l.written.now };
 
-    ghost invariant = { λ l. IsThinnedTo l.written.now l.judge.policies l.sent l.denied };
+    ghost invariant = { λ l. IsThinnedTo l.written.now l.judge.policies l.sent.ready l.sent.denied };
 }
 
 // The texts that are put: the lines of the calls that are denied, with their places in the script as it was written, and then the transcript of
@@ -109,31 +105,21 @@ fn end_of_local(
     Ok(CommandEnd {
         lines,
         report: Some(report),
+        noted: None,
     })
 }
 
 impl<'a> LocalScript<'a> {
-    // A script that was read, with the namespace that it opens with, which is that of what its targets send.
-    fn of(
-        alloc: Global,
-        written: &'a ReadyScript,
-        kernel: Kernel,
-    ) -> Result<LocalScript<'a>, NoMemory>
-        requires { kernel ≡ opening written.now.script.start }
+    // A script that was read, as its targets send it.
+    fn of(alloc: Global, written: &'a ReadyScript) -> Result<LocalScript<'a>, NoMemory>
         ensures { IfOk result (λ local. local ≡ written.now) }
     {
         let judge = Programs::new(alloc, written.policies(), written.script())?;
-        let Thinned {
-            script,
-            kept: _,
-            denied,
-        } = thin(alloc, &judge, written.script())?;
-        let sent = make_ready(written, script)?;
+        let sent = SentScript::new(alloc, &judge, written)?;
         Ok(LocalScript {
             written,
             judge,
-            sent: OpenedScript::of(sent, kernel),
-            denied,
+            sent,
         })
     }
 
@@ -141,11 +127,12 @@ impl<'a> LocalScript<'a> {
     fn sent(&self) -> &SoundScript
         ensures { result.now ≡ (thinned self.now.policies self.now.script).script }
     {
-        self.sent.script()
+        self.sent.ready().script()
     }
 
-    // Runs what the targets send by a schedule of its actors.
-    fn run(self, alloc: Global, schedule: &Schedule) -> Result<CommandEnd, NoMemory>
+    // Runs what the targets send by a schedule of its actors, from the namespace that the script opens with.
+    fn run(self, alloc: Global, kernel: Kernel, schedule: &Schedule) -> Result<CommandEnd, NoMemory>
+        requires kernel { kernel ≡ opening self.script.start }
         requires there { list_all (is_step_there (thinned self.policies self.script).script.targets) schedule.now.steps ≡ true }
         ensures { IfOk result (λ end. end ≡ reported (local_run_end self.entry.policies self.entry.script schedule.now)) }
     {
@@ -154,15 +141,13 @@ impl<'a> LocalScript<'a> {
             written,
             judge,
             sent,
-            denied,
         } = self;
-        let (sent, kernel) = sent.into_parts();
-        let ran = run(alloc, &judge, RunStart::of(&sent, kernel), schedule)?;
+        let ran = run(alloc, &judge, RunStart::of(sent.ready(), kernel), schedule)?;
         end_of_local(
             alloc,
             written.script(),
-            denied.as_slice(),
-            sent.script(),
+            sent.denied(),
+            sent.ready().script(),
             ran,
         )
     }
@@ -182,12 +167,11 @@ pub fn local_script<F: Files>(
     ensures found { IsFound local_end (policy.now ∷ script.now ∷ listed (named schedule.entry)) (F.held files.old) result }
     ensures caused { IsEndCaused (F.held files.old) (Rose (F.faults files.old) (F.faults files.new)) result }
 {
-    let policies = policies_in(alloc, files, policy)?;
-    let opened = script_in(alloc, files, policies, script)?;
+    let opened = opened_in(alloc, files, policy, script)?;
     let (written, kernel) = opened.into_parts();
-    let local = LocalScript::of(alloc, &written, kernel)?;
+    let local = LocalScript::of(alloc, &written)?;
     let schedule = schedule_of(alloc, files, local.sent(), schedule)?;
-    Ok(local.run(alloc, &schedule)?)
+    Ok(local.run(alloc, kernel, &schedule)?)
 }
 
 /// If a script has one thread, which has only calls, then the namespace after a run by `local` that leaves nothing unfinished is that of the

@@ -96,5 +96,6 @@ pub fn make_script<R: Threads + Wait + Sync, G: Gate>(
     Ok(CommandEnd {
         lines: Ok(Lines::Texts(texts)),
         report: Some(report),
+        noted: None,
     })
 }

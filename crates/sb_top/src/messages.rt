@@ -2,7 +2,7 @@
 ghost use Rattle.std.specs.Prelude.{◌≡◌, IfOk, option_map, string_bytes};
 ghost use Rattle.sb_commands.specs.Commands.{command_of, meant, named};
 ghost use Rattle.sb_commands.specs.Usage.{texts};
-ghost use Rattle.sb_top.specs.Exits.{message_of, name_at, or_empty};
+ghost use Rattle.sb_top.specs.Exits.{message_of, name_at, notes_by, or_empty};
 ghost use Rattle.sb_top.specs.Replay.{listed};
 ghost use Rattle.sb_top.specs.Top.{files_for, files_of};
 
@@ -13,6 +13,7 @@ use sb_message::{
     EndFault, audit_message, end_message, link_message, move_message, policy_message,
     schedule_message, script_message,
 };
+use sb_notes::notes_message;
 use std::alloc::Global;
 
 // The names of the files of a command, by their places; empty if there is no such file.
@@ -131,8 +132,21 @@ fn shown_bytes(outcome: &Outcome) -> Option<&[u8]>
     }
 }
 
+// The notes of the text that is shown, if one is.
+fn notes_told(alloc: Global, words: &[String], outcome: &Outcome) -> Result<String, NoMemory>
+    ensures { IfOk result (λ text. string_bytes text ≡ notes_by (name_at 1 (files_for (command_of (texts words.now)))) outcome.now.shown) }
+{
+    match shown_bytes(outcome) {
+        Some(text) => {
+            let name = name_in(alloc, words, 1)?;
+            notes_message(alloc, name.as_bytes(), text)
+        }
+        None => Ok(String::new(alloc)),
+    }
+}
+
 /// What is written on standard error for an outcome of these arguments: the file and what was wrong in words, and for the fault of a text its place and
-/// the line with a caret; for a usage fault what was wrong with the arguments, and the usage line. Done has no message.
+/// the line with a caret; for a usage fault what was wrong with the arguments, and the usage line. Done has no message, but the notes of the policy text of `check`.
 ///
 /// # Errors
 /// `NoMemory` if there was none for the message.
@@ -141,7 +155,7 @@ pub fn message(alloc: Global, words: &[String], outcome: &Outcome) -> Result<Str
 {
     let line = shown_line(outcome);
     match outcome.status {
-        Status::Done => Ok(String::new(alloc)),
+        Status::Done => notes_told(alloc, words, outcome),
         Status::Usage(fault) => usage_message(alloc, fault, words),
         Status::PolicyRefused(fault) => {
             let name = name_in(alloc, words, 1)?;
@@ -165,13 +179,7 @@ pub fn message(alloc: Global, words: &[String], outcome: &Outcome) -> Result<Str
         }
         Status::AuditNo(refuted) => {
             let name = name_in(alloc, words, 3)?;
-            audit_message(
-                alloc,
-                name.as_bytes(),
-                refuted.line,
-                refuted.clause,
-                shown_bytes(outcome),
-            )
+            audit_message(alloc, name.as_bytes(), refuted, shown_bytes(outcome))
         }
         Status::Missing { which } => {
             let name = name_in(alloc, words, which)?;

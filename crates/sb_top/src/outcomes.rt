@@ -29,7 +29,7 @@ pub enum Status {
     LinksRefused(LinkFault),
     /// The first fault of the text of the moves.
     MovesRefused(MoveFault),
-    /// The transcript is refuted at this line by this clause.
+    /// The transcript is refuted at this line by this clause, with what is due there.
     AuditNo(Refuted),
     /// There is no such file.
     Missing { which: u8 },
@@ -43,11 +43,11 @@ pub enum Status {
     NoMemory,
 }
 
-/// The status, the line of a text that is shown with it, and the report of a run with Done, Unfinished and WriteFault.
+/// The status, what of a text is shown with it, and the report of a run with Done, Unfinished and WriteFault.
 pub struct Outcome {
     /// How the command ended.
     pub status: Status,
-    /// The line of a refused text that has the fault, without its line end.
+    /// The line of a refused text that has the fault, without its line end; or the policy text whose notes are told, if the command has an end.
     pub shown: Option<Bytes>,
     /// What its run gave.
     pub report: Option<Report>,

@@ -1,5 +1,5 @@
 // The files of commands, read and found to be policies, a script for targets of these, and a schedule of its actors.
-ghost use Rattle.std.specs.Prelude.{◌≡◌, ◌≤◌, ◌<◌, ◌+◌, ◌^◌, ◌⊎◌, length, true, IfOk, OnOk};
+ghost use Rattle.std.specs.Prelude.{◌≡◌, ◌≤◌, ◌<◌, ◌+◌, ◌^◌, ◌⊎◌, length, true, IfOk, OnOk, Some};
 ghost use Rattle.std.specs.List.{list_all};
 ghost use Rattle.sb_outside.specs.Outside.{Rose};
 ghost use Rattle.sb_ruletext.specs.PolicyTexts.{reading};
@@ -7,8 +7,8 @@ ghost use Rattle.sb_scheduletext.specs.ScheduleTexts as schedules;
 ghost use Rattle.sb_scripttext.specs.ScriptTexts as scripts;
 ghost use Rattle.sb_statements.specs.Actors.{is_step_there};
 ghost use Rattle.sb_commands.specs.Commands.{named};
-ghost use Rattle.sb_top.specs.Coming.{GivesBy, IsCausedBy, IsRead, IsScheduled};
-ghost use Rattle.sb_top.specs.Contents.{most_bytes, no_schedule, policies_by, policies_in, refused, refused_at, schedule_by, schedule_in, script_by, script_in, status_of, text_in, text_within};
+ghost use Rattle.sb_top.specs.Coming.{GivesBy, IsCausedBy, IsOpened, IsRead, IsScheduled};
+ghost use Rattle.sb_top.specs.Contents.{most_bytes, no_schedule, noted_policies_in, policies_by, policies_in, refused, refused_at, schedule_by, schedule_in, script_by, script_in, status_of, text_in, text_within};
 ghost use Rattle.sb_top.specs.Outcomes.{IsRefusal};
 ghost use Rattle.sb_top.specs.Replay.{listed};
 ghost use Rattle.sb_top.specs.declared.outcomes.Status.TheVariants.{NoMemory};
@@ -125,6 +125,24 @@ pub fn policies_in<F: Files>(
     policies_by(alloc, &text)
 }
 
+/// The text of the first file, and its policies.
+#[tactic(auto, using(crate::proofs::ReadFiles::noted_found))]
+pub fn noted_policies_in<F: Files>(
+    alloc: Global,
+    files: &mut F,
+    name: &str,
+) -> Result<(Vec<u8>, WellMadePolicies), Refused>
+    ensures kept { F.held files.new ≡ F.held files.old }
+    ensures counted { F.faults files.old ≤ F.faults files.new }
+    ensures ok_count { OnOk result (F.faults files.new ≡ F.faults files.old) }
+    ensures read { IsRead (λ r. (Some r.0.items, r.1.list)) 1 noted_policies_in (F.held files.old) name.now result }
+    ensures caused { IsCausedBy (F.held files.old) (Rose (F.faults files.old) (F.faults files.new)) result }
+{
+    let text = text_in(alloc, files, name, 1)?;
+    let policies = policies_by(alloc, &text)?;
+    Ok((text, policies))
+}
+
 // The script of a text, for targets of these policies.
 fn script_by(
     alloc: Global,
@@ -147,8 +165,8 @@ fn script_by(
     }
 }
 
-/// The script of the second file, for targets of these policies.
-pub fn script_in<F: Files>(
+// The script of the second file, for targets of these policies.
+fn script_in<F: Files>(
     alloc: Global,
     files: &mut F,
     policies: WellMadePolicies,
@@ -163,6 +181,24 @@ pub fn script_in<F: Files>(
 {
     let text = text_in(alloc, files, name, 2)?;
     script_by(alloc, policies, &text)
+}
+
+/// The policies of the first file, and the script of the second for targets of these. The second is read once the first was read and has no fault.
+pub fn opened_in<F: Files>(
+    alloc: Global,
+    files: &mut F,
+    policy: &str,
+    script: &str,
+) -> Result<OpenedScript, Refused>
+    ensures kept { F.held files.new ≡ F.held files.old }
+    ensures counted { F.faults files.old ≤ F.faults files.new }
+    ensures ok_count { OnOk result (F.faults files.new ≡ F.faults files.old) }
+    ensures opened { IsOpened (F.held files.old) policy.now script.now result }
+    ensures caused { IsCausedBy (F.held files.old) (Rose (F.faults files.old) (F.faults files.new)) result }
+{
+    let policies = policies_in(alloc, files, policy)?;
+    let opened = script_in(alloc, files, policies, script)?;
+    Ok(opened)
 }
 
 /// The schedule if no file names one.

@@ -10,7 +10,7 @@ ghost use Rattle.sb_top.specs.Replay.{listed, replay_end, run_end, whole_run};
 
 use crate::ends::{CommandEnd, Lines};
 use crate::outcomes::Status;
-use crate::reading::{policies_in, schedule_of, script_in};
+use crate::reading::{opened_in, schedule_of};
 use crate::refusals::Refused;
 use sb_book::{OpenedScript, RunStart};
 use sb_compile::Programs;
@@ -37,6 +37,7 @@ pub fn end_of_run(alloc: Global, script: &Script, ran: Ran) -> Result<CommandEnd
     Ok(CommandEnd {
         lines,
         report: Some(report),
+        noted: None,
     })
 }
 
@@ -75,8 +76,7 @@ pub fn replay_script<F: Files>(
     ensures found { IsFound replay_end (policy.now ∷ script.now ∷ listed (named schedule.entry)) (F.held files.old) result }
     ensures caused { IsEndCaused (F.held files.old) (Rose (F.faults files.old) (F.faults files.new)) result }
 {
-    let policies = policies_in(alloc, files, policy)?;
-    let opened = script_in(alloc, files, policies, script)?;
+    let opened = opened_in(alloc, files, policy, script)?;
     let schedule = schedule_of(alloc, files, opened.script(), schedule)?;
     Ok(run_by(alloc, opened, &schedule)?)
 }

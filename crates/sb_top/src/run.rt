@@ -5,7 +5,7 @@ ghost use Rattle.sb_top.specs.Coming.{IsEndCaused, IsFoundOnThreads};
 ghost use Rattle.sb_top.specs.Run.{IsThreadsEnd, threads_end};
 
 use crate::ends::CommandEnd;
-use crate::reading::{policies_in, script_in};
+use crate::reading::opened_in;
 use crate::refusals::Refused;
 use crate::replay::end_of_run;
 use crate::threads::run_judged;
@@ -54,7 +54,6 @@ pub fn run_script<R: Threads + Wait + Sync, F: Files, G: Gate>(
     ensures found { IsFoundOnThreads threads_end (policy.now ∷ script.now ∷ []) (F.held files.old) result }
     ensures caused { IsEndCaused (F.held files.old) (Rose (F.faults files.old) (F.faults files.new)) result }
 {
-    let policies = policies_in(alloc, files, policy)?;
-    let opened = script_in(alloc, files, policies, script)?;
+    let opened = opened_in(alloc, files, policy, script)?;
     Ok(run_opened(rt, alloc, opened, workers, gate)?)
 }

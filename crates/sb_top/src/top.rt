@@ -1,5 +1,5 @@
 // The top calls.
-ghost use Rattle.std.specs.Prelude.{◌≡◌, ◌≤◌, [], None, IfOk, IfSome, IsNone, IsOk, OnOk, is_none, true};
+ghost use Rattle.std.specs.Prelude.{◌≡◌, ◌≤◌, [], None, IfErr, IfOk, IsOk, OnErr, OnOk, MatchResult, Ok, true};
 ghost use Rattle.sb_commands.specs.Commands.{HasNumbers, Threaded, command_of, needs_threads, plain_of, threaded_of};
 ghost use Rattle.sb_commands.specs.Usage.{texts};
 ghost use Rattle.sb_outside.specs.Outside.{Rose};
@@ -9,7 +9,7 @@ ghost use Rattle.sb_top.specs.Effects.{IsOrderly, effect};
 ghost use Rattle.sb_top.specs.Endings.{IsPlainEnding, IsThreadedEnding};
 ghost use Rattle.sb_top.specs.Outcomes.{IsSilent};
 ghost use Rattle.sb_top.specs.Putting.{IsFinished};
-ghost use Rattle.sb_top.specs.Top.{EndsAsMeant, files_for, is_threaded_name, plain_end, plain_files, threaded_end, threaded_files};
+ghost use Rattle.sb_top.specs.Top.{EndsAsMeant, files_for, plain_end, plain_files, threaded_end, threaded_files};
 
 use crate::audit::audit_transcript;
 use crate::check::check_policy;
@@ -132,8 +132,8 @@ fn plain_outcome<F: Files, K: Sink>(
     finish(found, out)
 }
 
-// The same of a command that runs on threads.
-fn threaded_outcome<R: Threads + Wait + Sync, F: Files, K: Sink, G: Gate>(
+/// Carries out a command that runs on threads, and puts what it comes to. It waits for them. A call that a worker judges passes the gate, which no clause says.
+pub fn threads_top<R: Threads + Wait + Sync, F: Files, K: Sink, G: Gate>(
     rt: &R,
     alloc: Global,
     command: ThreadedWords<'_>,
@@ -161,65 +161,44 @@ fn outcome_without(refused: sb_items::Refused<UsageFault>) -> Outcome
     }
 }
 
-// Whether a name is that of a command that runs on threads.
-fn is_threaded_name(name: &str) -> bool
-    ensures { result ≡ is_threaded_name name.now }
-{
-    name == "run" || name == "make"
-}
-
-// Whether the first argument is such a name.
-#[tactic(auto, using(crate::proofs::Threaded::name_tells))]
-fn names_threads(words: &[String]) -> bool
-    ensures { IsOk (command_of (texts words.now)) → result ≡ needs_threads (command_of (texts words.now)) }
-{
-    match words.split_first() {
-        Some((name, _)) => is_threaded_name(name.as_str()),
-        None => false,
-    }
-}
-
-/// All that the program does without threads, over any files and any output: reads the arguments, and carries out the command that they are.
-/// There is no outcome exactly if they are the arguments of `run` or `make`; then nothing is read, and nothing is put. It waits for nobody.
-pub fn plain_top<F: Files, K: Sink>(
+/// All that the program does without threads, over any files and any output: reads the arguments, and carries out the command that they are. A command
+/// that runs on threads is handed back, and then nothing was read, and nothing was put. It waits for nobody.
+///
+/// # Errors
+/// The command, if it runs on threads.
+pub fn plain_top<'a, F: Files, K: Sink>(
     alloc: Global,
-    words: &[String],
+    words: &'a [String],
     files: &mut F,
     out: &mut K,
-) -> Option<Outcome>
-    ensures answered { is_none result ≡ needs_threads (command_of (texts words.now)) }
-    ensures unread { IsNone result → files.new ≡ files.old }
-    ensures unwritten { IsNone result → out.new ≡ out.old }
+) -> Result<Outcome, ThreadedWords<'a>>
+    // A command that runs on threads has an outcome here only if there was no memory to read the arguments.
+    ensures handed { MatchResult result (λ outcome. needs_threads (command_of (texts words.now)) ≡ true → outcome.status ≡ Status.NoMemory)
+        (λ command. command_of (texts words.now) ≡ Ok (Threaded (threaded_of command))) }
+    ensures numbers { IfErr result (λ command. HasNumbers (Threaded (threaded_of command))) }
+    ensures unread { OnErr result (files.new ≡ files.old) }
+    ensures unwritten { OnErr result (out.new ≡ out.old) }
 
     // The command ends as it means over the contents of its files: with the status, the report, the line that is shown and the text that are given by
     // its meaning; or a file of it that was reached was not read, or the output failed where a text was due, or there was no memory. Arguments
     // that are no command end with Usage and their fault.
-    ensures ends { IfSome result (EndsAsMeant (command_of (texts words.now))
+    ensures ends { IfOk result (EndsAsMeant (command_of (texts words.now))
         (effect F.held F.faults K.written K.pending K.faults files.old files.new out.old out.new)) }
 
     // What the files hold stays, no count of faults falls, a command without files reads nothing, nothing is put except with Done and
     // WriteFault, and with Done nothing is pending.
-    ensures orderly { IfSome result (IsOrderly (files_for (command_of (texts words.now)))
+    ensures orderly { IfOk result (IsOrderly (files_for (command_of (texts words.now)))
         (effect F.held F.faults K.written K.pending K.faults files.old files.new out.old out.new)) }
 {
     match command_of(alloc, words) {
-        Ok(CommandWords::Plain(command)) => Some(plain_outcome(alloc, command, files, out)),
-        Ok(CommandWords::Threaded(_)) => None,
-        Err(sb_items::Refused::Fault(fault)) => {
-            let refused = sb_items::Refused::Fault(fault);
-            Some(outcome_without(refused))
-        }
-        Err(sb_items::Refused::NoMemory) => {
-            if names_threads(words) {
-                return None;
-            }
-            Some(outcome_without(sb_items::Refused::NoMemory))
-        }
+        Ok(CommandWords::Plain(command)) => Ok(plain_outcome(alloc, command, files, out)),
+        Ok(CommandWords::Threaded(command)) => Err(command),
+        Err(refused) => Ok(outcome_without(refused)),
     }
 }
 
-/// All that the program does, over any files and any output: reads the arguments, and carries out the command that they are. A command that
-/// runs on threads waits for them. A call that a worker judges passes the gate, which no clause says.
+/// All that the program does, over any files and any output: reads the arguments, and carries out the command that they are, without threads or on
+/// them.
 pub fn broker_top<R: Threads + Wait + Sync, F: Files, K: Sink, G: Gate>(
     rt: &R,
     alloc: Global,
@@ -240,11 +219,8 @@ pub fn broker_top<R: Threads + Wait + Sync, F: Files, K: Sink, G: Gate>(
     ensures orderly { IsOrderly (files_for (command_of (texts words.now)))
         (effect F.held F.faults K.written K.pending K.faults files.old files.new out.old out.new) result }
 {
-    match command_of(alloc, words) {
-        Ok(CommandWords::Plain(command)) => plain_outcome(alloc, command, files, out),
-        Ok(CommandWords::Threaded(command)) => threaded_outcome(
-            rt, alloc, command, files, out, gate,
-        ),
-        Err(refused) => outcome_without(refused),
+    match plain_top(alloc, words, files, out) {
+        Ok(outcome) => outcome,
+        Err(command) => threads_top(rt, alloc, command, files, out, gate),
     }
 }

@@ -1,4 +1,4 @@
-use Rattle.sb_top.proofs.Sound.{reports_are_sound}
+use Rattle.sb_top.proofs.AllCommands.{reports_are_sound}
 use Rattle.sb_top.proofs.laws.reports_are_sound.Goals as goal
 
 pub returns : goal.returns

@@ -1,4 +1,4 @@
-use Rattle.sb_top.proofs.EndLaws.{statuses_are_of_commands}
+use Rattle.sb_top.proofs.AllCommands.{statuses_are_of_commands}
 use Rattle.sb_top.proofs.laws.statuses_are_of_commands.Goals as goal
 
 pub returns : goal.returns

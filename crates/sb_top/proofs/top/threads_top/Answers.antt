@@ -3,7 +3,7 @@ use Rattle.sb_top.specs.Effects.{effect}
 use Rattle.sb_top.specs.Ends.{OnThreads}
 use Rattle.sb_top.specs.Top.{threaded_end, threaded_files}
 use Rattle.sb_top.proofs.Finishing.{ending}
-use Rattle.sb_top.proofs.top.threaded_outcome.Goals as goal
+use Rattle.sb_top.proofs.top.threads_top.Goals as goal
 
 pub returns-clause-ends : goal.returns-clause-ends
 returns-clause-ends g c =
