@@ -4,7 +4,7 @@ use crate::faults::RowFault;
 use crate::pages::Page;
 use sb_ruletext::{PolicyFault, PolicyFaultKind, PolicyLimit};
 use sb_scheduletext::{ScheduleFault, ScheduleKind};
-use sb_scripttext::{ScriptFault, ScriptKind};
+use sb_scripttext::{ScriptFault, ScriptKind, StartFault};
 use sb_top::{Complaint, Status, exit_code};
 use std::alloc::Global;
 
@@ -20,7 +20,7 @@ pub fn put_far(alloc: Global, row: &str, page: &mut Page) -> Result<(), RowFault
         "far script" => Status::ScriptRefused(ScriptFault {
             line: u32::MAX,
             column: u32::MAX,
-            kind: ScriptKind::BadStart,
+            kind: ScriptKind::BadStart(StartFault::NameTaken),
         }),
         "far schedule" => Status::ScheduleRefused(ScheduleFault {
             line: u32::MAX,

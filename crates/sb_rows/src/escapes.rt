@@ -16,18 +16,12 @@ enum Escape {
 /// `\xHH` is the byte of this number.
 pub fn bytes(alloc: Global, text: &str) -> Result<Vec<u8>, RowFault> {
     let mut found = Vec::new(alloc);
-    put_escaped(text, &mut found)?;
-    Ok(found)
-}
-
-/// Appends the same.
-pub fn put_escaped(text: &str, found: &mut Vec<u8>) -> Result<(), RowFault> {
     let mut escape = Escape::Outside;
     for byte in text.as_bytes() {
-        escape = after(escape, *byte, found)?;
+        escape = after(escape, *byte, &mut found)?;
     }
     match escape {
-        Escape::Outside => Ok(()),
+        Escape::Outside => Ok(found),
         _ => Err(RowFault::BadEscape),
     }
 }

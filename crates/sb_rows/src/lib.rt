@@ -1,5 +1,5 @@
-// Rows of single functions: what may be wrong with a row, readers of the arguments that every program of rows knows, and what is
-// printed of a row.
+// Table tests of functions: the loop over the rows of a program, what may be wrong with a row, readers of arguments, and what is
+// printed of values.
 #![tactic(auto)]
 
 mod calls;
@@ -7,14 +7,11 @@ mod escapes;
 mod faults;
 mod lines;
 mod readers;
-mod units;
+mod tables;
 
-pub use calls::{arg, args, args_in, call, param, put_word, short_name, tag};
-pub use escapes::{bytes, put_escaped};
+pub use calls::{call, put_word};
+pub use escapes::bytes;
 pub use faults::RowFault;
 pub use lines::{is_row, told_row};
-pub use readers::{arguments, debug_text, number, wide};
-pub use units::{
-    display_text, numbers, put_between, put_number, put_quoted, put_units, quoted, small, unit,
-    unquoted, word_units, words_in,
-};
+pub use readers::{arguments, debug_text, number, put_between, small, wide};
+pub use tables::{Table, print_rows};

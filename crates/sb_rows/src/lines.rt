@@ -1,4 +1,4 @@
-// The lines of a file of rows, and what is printed of them.
+// The lines of a file of rows, for programs that go over them by a loop of their own.
 
 use crate::faults::RowFault;
 use std::alloc::{AllocError, Global};
@@ -16,6 +16,6 @@ pub fn told_row(
 ) -> Result<String, AllocError> {
     match value {
         Ok(value) => format!(in alloc; "{row} => {value}"),
-        Err(fault) => format!(in alloc; "{row} FAULT {fault}"),
+        Err(fault) => format!(in alloc; "{row} FAULT {}", fault.text()),
     }
 }

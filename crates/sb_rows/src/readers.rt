@@ -1,4 +1,4 @@
-// A reader for each type of an argument.
+// Readers of numbers and strings, and how values are written.
 
 use crate::faults::RowFault;
 use sb_wide::Wide;
@@ -23,6 +23,11 @@ pub fn number(text: &str) -> Result<u64, RowFault> {
     read.map_err(|_| RowFault::BadNumber)
 }
 
+/// A number of 32 bits.
+pub fn small(text: &str) -> Result<u32, RowFault> {
+    u32::try_from(number(text)?).map_err(|_| RowFault::BadNumber)
+}
+
 /// Units: the letters of the text, where `{d800}` is the unit of this number and `{61*300}` this many of them.
 pub fn wide(alloc: Global, text: &str) -> Result<Wide, RowFault> {
     let mut found = Vec::new(alloc);
@@ -37,7 +42,7 @@ pub fn wide(alloc: Global, text: &str) -> Result<Wide, RowFault> {
         put_units(unit, &mut found)?;
         put_text(alloc, after, &mut found)?;
     }
-    Ok(Wide::from_units(alloc, &found)?)
+    Ok(Wide::new(found))
 }
 
 fn put_text(alloc: Global, text: &str, found: &mut Vec<u16>) -> Result<(), RowFault> {
@@ -57,4 +62,12 @@ fn put_units(text: &str, found: &mut Vec<u16>) -> Result<(), RowFault> {
 /// A value as its `Debug` writes it.
 pub fn debug_text<T: Debug>(alloc: Global, value: &T) -> Result<String, RowFault> {
     Ok(format!(in alloc; "{value:?}")?)
+}
+
+/// Appends a separator, except before the first item of a list.
+pub fn put_between(out: &mut String, separator: &str) -> Result<(), RowFault> {
+    if !out.is_empty() {
+        out.push_str(separator)?;
+    }
+    Ok(())
 }

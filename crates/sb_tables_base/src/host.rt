@@ -1,30 +1,15 @@
 // Table tests of files and outputs of the system.
 
 use crate::bytes::put_shown;
-use crate::outside::{put_content, put_outcome};
 use sb_host::{HostFiles, HostSink};
-use sb_outside::{Files, Sink};
+use sb_outside::{FileFault, Files, Sink, SinkFault};
 use sb_rows::{RowFault, bytes, number, put_between};
 use std::alloc::Global;
 use std::io::Cursor;
 use std::rt;
 
-/// What a function of the system's files and outputs gives.
-pub fn value_of<R: rt::Files>(
-    rt: &R,
-    alloc: Global,
-    name: &str,
-    parts: &[&str],
-) -> Result<String, RowFault> {
-    match name {
-        "HostFiles::read" => reads_of(rt, alloc, parts),
-        "HostSink::put" => puts_of(alloc, parts),
-        _ => Err(RowFault::Unknown),
-    }
-}
-
-// What the reads of `MOST | NAME | ..` return, each with the count of faults after it.
-fn reads_of<R: rt::Files>(rt: &R, alloc: Global, parts: &[&str]) -> Result<String, RowFault> {
+/// What the reads of `MOST | NAME | ..` return, each with the count of faults after it.
+pub fn reads_of<R: rt::Files>(rt: &R, alloc: Global, parts: &[&str]) -> Result<String, RowFault> {
     let [most, names @ ..] = parts else {
         return Err(RowFault::BadWords);
     };
@@ -39,9 +24,9 @@ fn reads_of<R: rt::Files>(rt: &R, alloc: Global, parts: &[&str]) -> Result<Strin
     Ok(out)
 }
 
-// The outcome of each put of `PIECE | TEXT | ..` into a writer of eight bytes, with the bytes that are then pending; the outcome of the
-// finish, the count of faults, and what the writer then holds.
-fn puts_of(alloc: Global, parts: &[&str]) -> Result<String, RowFault> {
+/// The outcome of each put of `PIECE | TEXT | ..` into a writer of eight bytes, with the bytes that are then pending; the outcome of the
+/// finish, the count of faults, and what the writer then holds.
+pub fn puts_of(alloc: Global, parts: &[&str]) -> Result<String, RowFault> {
     let [piece, texts @ ..] = parts else {
         return Err(RowFault::BadWords);
     };
@@ -68,4 +53,21 @@ fn put_all(
     }
     put_outcome(out, sink.finish())?;
     Ok(write!(out, "faults {} ", sink.faults)?)
+}
+
+// Appends what a read returns.
+fn put_content(out: &mut String, content: Result<Vec<u8>, FileFault>) -> Result<(), RowFault> {
+    match content {
+        Ok(content) => put_shown(out, &content)?,
+        Err(fault) => write!(out, "{fault:?}")?,
+    }
+    Ok(out.push_str("; ")?)
+}
+
+// Appends what a put or a finish returns.
+fn put_outcome(out: &mut String, outcome: Result<(), SinkFault>) -> Result<(), RowFault> {
+    match outcome {
+        Ok(()) => Ok(out.push_str("ok ")?),
+        Err(fault) => Ok(write!(out, "{fault:?} ")?),
+    }
 }

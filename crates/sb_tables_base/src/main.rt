@@ -3,36 +3,60 @@
 // holds the same rows with the values that are right.
 #![tactic(auto)]
 
+mod blocks;
 mod bytes;
 mod host;
-mod outside;
+mod indexes;
+mod messages;
 mod patterns;
-mod readers_rules;
-mod rows;
-mod rules;
-mod strings;
-mod texts;
 
-use sb_rows::{is_row, told_row};
+use sb_rows::{RowFault, Table, print_rows};
 use std::alloc::Global;
+use std::io;
 use std::rt::Files;
-use std::{env, fs, io};
 
 fn main(rt: HostRuntime) -> io::Result<()> {
-    let alloc = rt.alloc();
-    for name in env::args(&rt)?.skip(1) {
-        let text = fs::read_to_string(&rt, name)?;
-        for line in text.as_str().lines() {
-            rt.println(told_line(&rt, alloc, line)?)?;
-        }
-    }
-    Ok(())
+    print_rows(&rt, &mut Functions { rt: &rt })
 }
 
-// What is printed of a line: a blank line or a comment as it is, and a row with its value.
-fn told_line<R: Files>(rt: &R, alloc: Global, line: &str) -> io::Result<String> {
-    if !is_row(line) {
-        return Ok(String::from_str(alloc, line)?);
+// The functions that rows name. Some of them read files of the system.
+#[derive(Drop)]
+struct Functions<'a, R> {
+    rt: &'a R,
+}
+
+impl<R: Files> Table for Functions<'_, R> {
+    fn value_of(&mut self, alloc: Global, name: &str, parts: &[&str]) -> Result<String, RowFault> {
+        match name {
+            "HostFiles::read" => host::reads_of(self.rt, alloc, parts),
+            "HostSink::put" => host::puts_of(alloc, parts),
+            _ => plain_value(alloc, name, parts),
+        }
     }
-    Ok(told_row(alloc, line, rows::value_of(rt, alloc, line))?)
+}
+
+fn plain_value(alloc: Global, name: &str, parts: &[&str]) -> Result<String, RowFault> {
+    match parts {
+        [text] => match name {
+            "Pattern::read" => patterns::cells(alloc, text),
+            "messages" => messages::messages(alloc, text),
+            _ => Err(RowFault::Unknown),
+        },
+        [first, second] => value_of_two(alloc, name, first, second),
+        [first, second, third] => match name {
+            "fault_of" => blocks::fault(alloc, first, second, third),
+            "candidates" => indexes::candidates(alloc, first, second, third),
+            _ => Err(RowFault::Unknown),
+        },
+        _ => Err(RowFault::Unknown),
+    }
+}
+
+fn value_of_two(alloc: Global, name: &str, first: &str, second: &str) -> Result<String, RowFault> {
+    match name {
+        "Pattern::matches_plain" => patterns::matched(alloc, first, second),
+        "encode" => blocks::encoded(alloc, first, second),
+        "fault_of" => blocks::changed_fault(alloc, first, second),
+        _ => Err(RowFault::Unknown),
+    }
 }

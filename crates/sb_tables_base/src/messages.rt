@@ -1,0 +1,70 @@
+// Table tests of the texts of faults that no command prints.
+
+use sb_block::{BlockFault, TooBig};
+use sb_items::NoMemory;
+use sb_outside::{FileFault, SinkFault};
+use sb_pattern::PatternFault;
+use sb_rows::{RowFault, put_between};
+use sb_text::NotUtf8;
+use std::alloc::Global;
+use std::fmt::Display;
+
+/// The texts of the faults of a crate.
+pub fn messages(alloc: Global, name: &str) -> Result<String, RowFault> {
+    let mut out = String::new(alloc);
+    match name {
+        "sb_items" => put_message(&mut out, &NoMemory)?,
+        "sb_text" => put_message(&mut out, &NotUtf8 { line: 3, column: 7 })?,
+        "sb_outside" => put_outside(&mut out)?,
+        "sb_pattern" => put_patterns(&mut out)?,
+        "sb_block" => put_blocks(&mut out)?,
+        _ => return Err(RowFault::Unknown),
+    }
+    Ok(out)
+}
+
+fn put_message<T: Display>(out: &mut String, fault: &T) -> Result<(), RowFault> {
+    put_between(out, "; ")?;
+    Ok(write!(out, "{fault}")?)
+}
+
+fn put_outside(out: &mut String) -> Result<(), RowFault> {
+    for fault in [
+        FileFault::Missing,
+        FileFault::TooLong,
+        FileFault::Failed,
+        FileFault::NoMemory,
+    ] {
+        put_message(out, &fault)?;
+    }
+    put_message(out, &SinkFault::Failed)
+}
+
+fn put_patterns(out: &mut String) -> Result<(), RowFault> {
+    for fault in [
+        PatternFault::DoubleStar(2),
+        PatternFault::StarQuestion(2),
+        PatternFault::TooLong,
+    ] {
+        put_message(out, &fault)?;
+    }
+    Ok(())
+}
+
+fn put_blocks(out: &mut String) -> Result<(), RowFault> {
+    for fault in [
+        BlockFault::TooManyParams(10),
+        BlockFault::BadEnd(65),
+        BlockFault::CountChanged(2, 5),
+        BlockFault::EndChanged(19, 0),
+        BlockFault::BadParamType(1),
+        BlockFault::BadPlace(0),
+        BlockFault::UnknownTag(99),
+        BlockFault::WrongShape,
+        BlockFault::BadSize(0),
+        BlockFault::BadName(0),
+    ] {
+        put_message(out, &fault)?;
+    }
+    put_message(out, &TooBig)
+}
