@@ -42,18 +42,34 @@ def build():
         fail("crates/sb_bench was not built\n" + built.stdout + built.stderr)
 
 
-def replay(folder, schedule=()):
-    """Replays `policy` and `script` of a folder into its `transcript`, by the schedule of this name where there is one: the
-    seconds that it took and the bytes of its peak."""
+def transcribe(folder, words):
+    """Runs `sandbox` with these words in a folder, with its output in `transcript` there: the seconds that it took and the bytes of its
+    peak. It is to end with status 0."""
     with open(os.path.join(folder, "transcript"), "wb") as out:
         start = processor_seconds()
-        child = subprocess.Popen([SANDBOX, "replay", "policy", "script", *schedule], cwd=folder, stdout=out)
+        child = subprocess.Popen([SANDBOX, *words], cwd=folder, stdout=out)
         _, status, usage = os.wait4(child.pid, 0)
         seconds = processor_seconds() - start
     child.returncode = os.waitstatus_to_exitcode(status)
     if child.returncode != 0:
-        fail("the program ended with status %d" % child.returncode)
+        fail("sandbox %s ended with status %d" % (" ".join(words), child.returncode))
     return seconds, usage.ru_maxrss * 1024
+
+
+def replay(folder, schedule=()):
+    """Replays `policy` and `script` of a folder into its `transcript`, by the schedule of this name where there is one: the
+    seconds that it took and the bytes of its peak."""
+    return transcribe(folder, ["replay", "policy", "script", *schedule])
+
+
+def best_in_turns(runs, folder, works):
+    """The seconds of the best run of each of these works, which are words of `sandbox`. They take turns, so that what else the machine does
+    falls on each alike."""
+    measured = [[] for _ in works]
+    for _ in range(runs):
+        for words, seconds in zip(works, measured):
+            seconds.append(transcribe(folder, words)[0])
+    return [min(seconds) for seconds in measured]
 
 
 def outcome_of_sandbox(folder, words):

@@ -89,12 +89,21 @@ def mixed_calls():
         yield call.format(g=(number >> 10) % GROUPS), outcome
 
 
+def mixed_rules():
+    """The rules that decide the mixed calls."""
+    return [rule.format(g=group) for group in range(GROUPS) for _, rule, _ in MIXED if rule]
+
+
+def mixed_directories():
+    """The opening lines that the mixed calls need."""
+    return ['dir "\\d%d"' % group for group in range(GROUPS)]
+
+
 def measure_mixed(runs):
     """Mixed calls of every service per second."""
     made = list(mixed_calls())
-    rules = [rule.format(g=group) for group in range(GROUPS) for _, rule, _ in MIXED if rule]
-    directories = ['dir "\\d%d"' % group for group in range(GROUPS)]
-    script = texts.single_target([[call for call, _ in made]], directories)
+    rules = mixed_rules()
+    script = texts.single_target([[call for call, _ in made]], mixed_directories())
     came = [outcome for _, outcome in made]
     with texts.folder_with(texts.single_policy(rules, 2), script) as folder:
         best = min(programs.replay(folder)[0] for _ in range(runs))
