@@ -8,8 +8,6 @@ import texts
 
 CALLS = 8 * 4 * 4096
 
-# The most that calls may take under links, by the same calls under none.
-MOST_TIMES = 1.5
 
 # The most seconds for a file of links of 4 MiB.
 MOST_SECONDS = 0.05
@@ -48,12 +46,13 @@ def script_of(names):
     return lines
 
 
-# What is measured: in words, the links, and the names of the calls. Links apply to every second name of the first and the last, and to none of
-# the other one.
+# What is measured: in words, the links, the names of the calls, and the most that they may take, by the same calls under no links. Links apply to
+# every second name of the first and the last, and to none of the other one. In the last, names of 150 units are judged, performed and written
+# where there are five without links.
 WORKS = [
-    ("64 links, of which each applies to some of the names", short_links(), ["\\%s%d\\f" % (front, n) for n in range(64) for front in "ln"]),
-    ("64 FROMs of 256 units that differ in the last one", long_links(), ["\\" + "l" * (1 + n % 12) for n in range(128)]),
-    ("a link to 150 units, and 63 FROMs that differ in the last one", deep_links(), ["\\%s\\f%d" % (front, n) for n in range(64) for front in "ln"]),
+    ("64 links, of which each applies to some of the names", short_links(), ["\\%s%d\\f" % (front, n) for n in range(64) for front in "ln"], 1.5),
+    ("64 FROMs of 256 units that differ in the last one", long_links(), ["\\" + "l" * (1 + n % 12) for n in range(128)], 1.5),
+    ("a link to 150 units, and 63 FROMs that differ in the last one", deep_links(), ["\\%s\\f%d" % (front, n) for n in range(64) for front in "ln"], 2.0),
 ]
 
 
@@ -66,8 +65,8 @@ def seconds_of(folder, links, wanted):
     return spent
 
 
-def measure_calls(runs, what, links, names):
-    """Calls per second under links, and how often the time under no links goes into theirs. It fails where that is more than MOST_TIMES."""
+def measure_calls(runs, what, links, names, most):
+    """Calls per second under links, and how often the time under no links goes into theirs. It fails where that is more than `most`."""
     wanted = "linked calls %d entries %d stopped 0" % (CALLS, CALLS)
     measured = {"none": [], "links": []}
     with texts.folder_with(texts.single_policy(["allow file.query"]), script_of(names)) as folder:
@@ -78,8 +77,8 @@ def measure_calls(runs, what, links, names):
                 seconds.append(seconds_of(folder, file, wanted))
     none, some = min(measured["none"]), min(measured["links"])
     print("%d calls under %s: %d calls per second, %.2f times as long as under no links" % (CALLS, what, CALLS / some, some / none))
-    if some > MOST_TIMES * none:
-        programs.miss("calls under %s take more than %.1f times as long as under no links" % (what, MOST_TIMES))
+    if some > most * none:
+        programs.miss("calls under %s take more than %.1f times as long as under no links" % (what, most))
 
 
 def padded(lines, last):
