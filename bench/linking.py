@@ -52,7 +52,7 @@ def script_of(names):
 WORKS = [
     ("64 links, of which each applies to some of the names", short_links(), ["\\%s%d\\f" % (front, n) for n in range(64) for front in "ln"], 1.5),
     ("64 FROMs of 256 units that differ in the last one", long_links(), ["\\" + "l" * (1 + n % 12) for n in range(128)], 1.5),
-    ("a link to 150 units, and 63 FROMs that differ in the last one", deep_links(), ["\\%s\\f%d" % (front, n) for n in range(64) for front in "ln"], 2.0),
+    ("a link to 150 units, and 63 FROMs that differ in the last one", deep_links(), ["\\%s\\f%d" % (front, n) for n in range(64) for front in "ln"], 1.5),
 ]
 
 
