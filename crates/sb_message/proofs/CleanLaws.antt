@@ -279,7 +279,7 @@ lines_clean place line =
     three (excerpt place glyphs) (10 ∷ caret place glyphs) (10 ∷ []) (line_excerpt_clean place line)
     (both (10 ∷ []) (caret place glyphs) feed (caret_clean place glyphs)) feed
 
-line_clean : (text : FaultyText) (column : ℕ) (line : List ℕ) → Spelled (shown_line text column line)
+pub line_clean : (text : FaultyText) (column : ℕ) (line : List ℕ) → Spelled (shown_line text column line)
 line_clean text zero line = nothing
 line_clean text (suc column) line = lines_clean (place_of text (suc column) line) line
 

@@ -1,3 +1,4 @@
 mod Walks
 mod Told
 mod Truth
+mod Clean

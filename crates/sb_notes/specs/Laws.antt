@@ -1,6 +1,8 @@
 -- What is true of what is noted of patterns.
 use Rattle.std.specs.Prelude.{◌≡◌, ℕ, true, false, List, ◌∷◌, Some}
+use Rattle.sb_message.specs.CleanTexts.{IsClean}
 use Rattle.sb_notes.specs.Kinds.{kind_of}
+use Rattle.sb_notes.specs.NoteMessages.{notes_message}
 use Rattle.sb_notes.specs.declared.kinds.NoteKind.TheVariants.{UnescapedPrefix, MatchesNoName}
 use Rattle.sb_pattern.specs.Matching.{matches}
 use Rattle.sb_pattern.specs.Reading.{cells_of}
@@ -13,3 +15,7 @@ NotesAreTrue =
     ((units us : List ℕ) → kind_of units ≡ Some MatchesNoName → is_name_of us ≡ true → matches (cells_of units) us ≡ false)
     × ((units us : List ℕ) (u v : ℕ) → kind_of units ≡ Some UnescapedPrefix
     → matches (cells_of units) (92 ∷ u ∷ v ∷ us) ≡ matches (cells_of units) (92 ∷ 63 ∷ 63 ∷ us))
+
+-- what is written of the notes of a policy file is clean, whatever the bytes of its name and of its text are
+abbrev pub NotesAreClean : Type 0
+NotesAreClean = (file text : List ℕ) → IsClean (notes_message file text)

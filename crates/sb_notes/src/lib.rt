@@ -8,6 +8,6 @@ mod note_messages;
 mod notes;
 
 pub use kinds::NoteKind;
-pub use laws::notes_are_true;
+pub use laws::{notes_are_clean, notes_are_true};
 pub use note_messages::{MOST_TOLD, notes_message};
 pub use notes::{Note, read_notes};
