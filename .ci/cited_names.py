@@ -53,9 +53,11 @@ def tree():
 
 
 def words_of(paths):
-    """Each word of each source."""
+    """Each word of each source, and the name of each mutation."""
     words = set()
     for path in paths:
+        if path.endswith(".edit"):
+            words.add(os.path.splitext(os.path.basename(path))[0])
         if os.path.splitext(path)[1] in SOURCES and os.path.isfile(os.path.join(TOP, path)):
             words.update(re.findall(r"\w+", text_of(path)))
     return words

@@ -1,7 +1,7 @@
 // A gate at which the calls of two targets wait for one another.
 
-use crate::inputs::Inputs;
 use crate::reports::report_by_threads;
+use sb_book::ReadyScript;
 use sb_outside::Gate;
 use sb_rows::RowFault;
 use std::alloc::Global;
@@ -46,12 +46,12 @@ impl MeetingGate {
     }
 }
 
-/// Runs a script of two targets by this many workers through such a gate. RunFacts are how many calls passed, of target 0 and of all others,
+/// Runs a script of two targets by this many workers through such a gate. It tells how many calls passed, of target 0 and of all others,
 /// and how many of them were held back to the last turn.
 pub fn meeting<R: Threads + Wait + Sync>(
     rt: &R,
     alloc: Global,
-    inputs: &Inputs,
+    ready: &ReadyScript,
     workers: u32,
     turns: u64,
 ) -> Result<String, RowFault> {
@@ -61,7 +61,7 @@ pub fn meeting<R: Threads + Wait + Sync>(
         second: AtomicU64::new(0),
         missed: AtomicU64::new(0),
     };
-    report_by_threads(rt, alloc, inputs, workers, &gate)?;
+    report_by_threads(rt, alloc, ready, workers, &gate)?;
     let (first, second) = (
         gate.first.load(Ordering::SeqCst),
         gate.second.load(Ordering::SeqCst),
