@@ -3,9 +3,9 @@ use Rattle.std.proofs.Common.{◌≡◌, ℕ, suc, ◌-◌, ◌==◌, Bool, true
 use Rattle.std.specs.Prelude.{⊤, is_some, Result, Ok, Err}
 use Rattle.std.specs.Cmp.Lexicographic.{pointwise}
 use Rattle.std.specs.Fmt.{decimal}
-use Rattle.sb_message.proofs.CleanLaws.{Spelled, clean_of, both, three, four, nothing, plain, decimal_clean, bytes_clean, quoted_bytes_clean, feed}
-use Rattle.sb_message.specs.CleanTexts.{IsClean}
-use Rattle.sb_message.specs.Tokens.{quoted_bytes}
+use Rattle.sb_glyphs.proofs.CleanLaws.{Spelled, clean_of, both, three, four, nothing, plain, decimal_clean, bytes_clean, quoted_bytes_clean, feed}
+use Rattle.sb_glyphs.specs.CleanTexts.{IsClean}
+use Rattle.sb_glyphs.specs.Tokens.{quoted_bytes}
 use Rattle.sb_commands.specs.Commands.{Command, with_values, with_form, command_of}
 use Rattle.sb_commands.specs.Forms.{Bounded, Choice, Form, Place, File, Number, check_form, replay_form, run_form, make_form, linked_form, dup_form, local_form, audit_form, form_by}
 use Rattle.sb_commands.specs.NumberWords.{is_number}

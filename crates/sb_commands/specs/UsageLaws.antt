@@ -1,6 +1,6 @@
 -- What is true of all messages about arguments that are no command.
 use Rattle.std.specs.Prelude.{◌≡◌, ℕ, List, Err}
-use Rattle.sb_message.specs.CleanTexts.{IsClean}
+use Rattle.sb_glyphs.specs.CleanTexts.{IsClean}
 use Rattle.sb_commands.specs.Commands.{command_of}
 use Rattle.sb_commands.specs.Usage.{Fault}
 use Rattle.sb_commands.specs.UsageMessages.{usage_message}

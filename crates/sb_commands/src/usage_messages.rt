@@ -10,7 +10,7 @@ use crate::forms::{CommandForm, FormNumber, FormOption, FormPlace, all_forms};
 use crate::usage::place_name;
 use crate::usage_faults::UsageFault;
 use sb_items::NoMemory;
-use sb_message::{put_quoted, put_shown};
+use sb_glyphs::{put_quoted, put_shown};
 use std::alloc::Global;
 
 // Appends a number in decimal.

@@ -62,20 +62,21 @@ use Rattle.sb_message.specs.declared.end_messages.EndFault.TheVariants as end
 use Rattle.sb_message.specs.declared.messages.FaultyText.TheVariants.{Policy, Script, Schedule, Links, Moves}
 use Rattle.sb_message.specs.AuditMessages.{audit_headline, audit_first_line, audit_line, audit_message}
 use Rattle.sb_message.specs.Causes.{cause_text, two_text, no_target_text, word_words, pattern_words}
-use Rattle.sb_message.specs.CleanTexts.{IsClean}
+use Rattle.sb_glyphs.specs.CleanTexts.{IsClean}
 use Rattle.sb_message.specs.DueTexts.{form_words, clause_words, number_text, entry_text, spot_text, form_text, place_text, verdict_text, rule_text, reply_text, own_text, result_text, status_text, totals_text, due_text}
 use Rattle.sb_message.specs.EndMessages.{numbers_text, file_text, end_text, end_message}
-use Rattle.sb_message.specs.Glyphs.{shown_bytes, glyphs_of}
+use Rattle.sb_glyphs.specs.Glyphs.{shown_bytes, glyphs_of}
 use Rattle.sb_message.specs.LinkMessages.{link_words, link_names, link_message}
 use Rattle.sb_message.specs.MessageLaws.{MessagesAreClean}
 use Rattle.sb_message.specs.Messages.{place_line}
 use Rattle.sb_message.specs.MoveMessages.{move_words, move_names, move_message}
-use Rattle.sb_message.specs.Excerpts.{excerpt}
+use Rattle.sb_glyphs.specs.Excerpts.{excerpt}
 use Rattle.sb_message.specs.Places.{named_at}
 use Rattle.sb_message.specs.PolicyMessages as policies
 use Rattle.sb_message.specs.ScheduleMessages.{schedule_words, schedule_names, schedule_message}
 use Rattle.sb_message.specs.ScriptMessages as scripts
-use Rattle.sb_message.proofs.CleanLaws.{Spelled, clean_of, both, three, four, five, six, nothing, plain, decimal_clean, hexadecimal_clean, bytes_clean, named_clean, line_excerpt_clean, feed, place_clean, fault_clean}
+use Rattle.sb_glyphs.proofs.CleanLaws.{Spelled, clean_of, both, three, four, five, six, nothing, plain, decimal_clean, hexadecimal_clean, bytes_clean, line_excerpt_clean, feed}
+use Rattle.sb_message.proofs.CleanPlaces.{named_clean, place_clean, fault_clean}
 
 -- ---- words
 

@@ -1,6 +1,3 @@
-mod Cuts
-mod Named
 mod Near
-mod CaretLaws
-pub mod CleanLaws
+pub mod CleanPlaces
 mod CleanMessages

@@ -3,11 +3,11 @@ use Rattle.std.proofs.Common.{◌≡◌, ◌⊎◌, ⊎_elim, inl, inr, ◌∙�
 use Rattle.std.proofs.lemmas.Bool.{cases_lt}
 use Rattle.std.proofs.lemmas.Bool.Decides.{nat_tests}
 use Rattle.std.proofs.lemmas.List.{take-take, take_all, drop_all, drop-take, drop-drop, length-take, length-drop}
-use Rattle.sb_message.specs.declared.glyphs.Glyph.{Glyph}
-use Rattle.sb_message.specs.Excerpts.{window_start, dots, excerpt_from, excerpt_in, excerpt, caret_from, caret_in, caret, excerpt_lines_in, excerpt_lines, blanks_under}
-use Rattle.sb_message.specs.Glyphs.{shown}
-use Rattle.sb_message.specs.Tokens.{quoted_token}
-use Rattle.sb_message.proofs.Named.{named_front}
+use Rattle.sb_glyphs.specs.declared.glyphs.Glyph.{Glyph}
+use Rattle.sb_glyphs.specs.Excerpts.{window_start, dots, excerpt_from, excerpt_in, excerpt, caret_from, caret_in, caret, excerpt_lines_in, excerpt_lines, blanks_under}
+use Rattle.sb_glyphs.specs.Glyphs.{shown}
+use Rattle.sb_glyphs.specs.Tokens.{quoted_token}
+use Rattle.sb_glyphs.proofs.Named.{named_front}
 
 -- the place, if it is on the line, and else the line's end; what is left out before it; and the place in what is near
 abbrev on_line : ℕ → List Glyph → ℕ

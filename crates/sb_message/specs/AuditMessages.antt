@@ -3,8 +3,8 @@ use Rattle.std.specs.Prelude.{ℕ, Option, None, Some, List, [], ◌∷◌, ◌+
 use Rattle.sb_audit.specs.declared.answers.Refuted.{Refuted}
 use Rattle.sb_message.specs.Causes.{two_text}
 use Rattle.sb_message.specs.DueTexts.{clause_words, due_text}
-use Rattle.sb_message.specs.Excerpts.{excerpt}
-use Rattle.sb_message.specs.Glyphs.{glyphs_of}
+use Rattle.sb_glyphs.specs.Excerpts.{excerpt}
+use Rattle.sb_glyphs.specs.Glyphs.{glyphs_of}
 use Rattle.sb_message.specs.Messages.{place_line}
 
 -- `sandbox: audit line L clause N`

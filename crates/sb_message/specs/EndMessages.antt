@@ -3,7 +3,7 @@ use Rattle.std.specs.Prelude.{ℕ, List, [], ◌∷◌, ◌++◌, codes}
 use Rattle.std.specs.Fmt.{decimal}
 use Rattle.sb_message.specs.declared.end_messages.EndFault.{EndFault}
 use Rattle.sb_message.specs.declared.end_messages.EndFault.TheVariants.{Unfinished, Missing, TooLong, ReadFault, WriteFault, NoMemory}
-use Rattle.sb_message.specs.Glyphs.{shown_bytes}
+use Rattle.sb_glyphs.specs.Glyphs.{shown_bytes}
 
 -- words around two numbers
 abbrev pub numbers_text : List ℕ → ℕ → List ℕ → ℕ → List ℕ → List ℕ

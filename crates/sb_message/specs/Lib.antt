@@ -1,10 +1,5 @@
-pub mod Glyphs
-pub mod Excerpts
-pub mod Tokens
 pub mod Places
 pub mod Messages
-pub mod CleanTexts
-pub mod Laws
 pub mod Causes
 pub mod PolicyMessages
 pub mod ScheduleMessages

@@ -7,7 +7,7 @@ use Rattle.sb_ruletext.specs.PolicyTexts.{PolicyFault}
 use Rattle.sb_scheduletext.specs.ScheduleTexts.{ScheduleFault}
 use Rattle.sb_scripttext.specs.ScriptTexts.{ScriptFault}
 use Rattle.sb_message.specs.AuditMessages.{audit_message}
-use Rattle.sb_message.specs.CleanTexts.{IsClean}
+use Rattle.sb_glyphs.specs.CleanTexts.{IsClean}
 use Rattle.sb_message.specs.EndMessages.{end_message}
 use Rattle.sb_message.specs.LinkMessages.{link_message}
 use Rattle.sb_message.specs.MoveMessages.{move_message}

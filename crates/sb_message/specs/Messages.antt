@@ -4,7 +4,7 @@ use Rattle.std.specs.Fmt.{decimal}
 use Rattle.sb_message.specs.declared.messages.FaultyText.{FaultyText}
 use Rattle.sb_message.specs.declared.messages.FaultyText.TheVariants.{Policy, Script, Schedule, Links, Moves}
 use Rattle.sb_message.specs.declared.messages.TextFault.{TextFault}
-use Rattle.sb_message.specs.Glyphs.{shown_bytes}
+use Rattle.sb_glyphs.specs.Glyphs.{shown_bytes}
 use Rattle.sb_message.specs.Places.{shown_line}
 
 -- the name of a text

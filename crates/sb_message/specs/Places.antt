@@ -2,9 +2,9 @@
 use Rattle.std.specs.Prelude.{ℕ, suc, zero, ◌-◌, List, [], length, take, drop}
 use Rattle.sb_message.specs.declared.messages.FaultyText.{FaultyText}
 use Rattle.sb_message.specs.declared.messages.FaultyText.TheVariants.{Schedule}
-use Rattle.sb_message.specs.Excerpts.{excerpt_lines}
-use Rattle.sb_message.specs.Glyphs.{glyphs_of}
-use Rattle.sb_message.specs.Tokens.{quoted_token}
+use Rattle.sb_glyphs.specs.Excerpts.{excerpt_lines}
+use Rattle.sb_glyphs.specs.Glyphs.{glyphs_of}
+use Rattle.sb_glyphs.specs.Tokens.{quoted_token}
 
 -- how many glyphs of a line are before a column: in a schedule columns count bytes, elsewhere characters
 abbrev pub place_of : FaultyText → ℕ → List ℕ → ℕ

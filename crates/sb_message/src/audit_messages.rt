@@ -1,17 +1,16 @@
 // The message of an audit that finds a line that refutes its transcript.
 ghost use Rattle.std.specs.Prelude.{◌≡◌, ◌++◌, ◌∷◌, [], option_map, OnOk, IfOk, string_bytes};
-ghost use Rattle.sb_message.specs.Excerpts.{excerpt};
-ghost use Rattle.sb_message.specs.Glyphs.{glyphs_of};
+ghost use Rattle.sb_glyphs.specs.Excerpts.{excerpt};
+ghost use Rattle.sb_glyphs.specs.Glyphs.{glyphs_of};
 ghost use Rattle.sb_message.specs.Causes.{two_text};
 ghost use Rattle.sb_message.specs.DueTexts.{clause_words, due_text};
 ghost use Rattle.sb_message.specs.AuditMessages.{audit_first_line, audit_line, audit_message};
 
 use crate::causes::put_two;
 use crate::due_texts::{clause_words, put_due};
-use crate::excerpts::{MOST_NEAR, put_excerpt};
-use crate::glyphs::first_glyphs_of;
 use crate::messages::put_place_line;
 use sb_audit::{Due, Refuted};
+use sb_glyphs::{MOST_NEAR, first_glyphs_of, put_excerpt};
 use sb_items::NoMemory;
 use std::alloc::Global;
 

@@ -9,10 +9,10 @@ ghost use Rattle.sb_wide.specs.Numbers.{hexadecimal};
 ghost use Rattle.sb_message.specs.DueTexts.{clause_words, due_text, entry_text, form_text, form_words, number_text, own_text, place_text, reply_text, result_text, rule_text, spot_text, status_text, totals_text, verdict_text};
 
 use crate::causes::put_two;
-use crate::glyphs::put_hexadecimal;
 use crate::messages::put_decimal;
 use sb_audit::{Due, FormDue, OwnDue, PlaceDue, ReplyDue, ResultDue, RuleDue, Spot};
 use sb_call::CallTag;
+use sb_glyphs::put_hexadecimal;
 use sb_items::NoMemory;
 use sb_lineread::TotalsLine;
 use sb_rule::{Action, Verdict};

@@ -2,8 +2,8 @@
 ghost use Rattle.std.specs.Prelude.{◌≡◌, ◌++◌, ◌∷◌, [], codes, OnOk, IfOk, string_bytes};
 ghost use Rattle.sb_message.specs.EndMessages.{numbers_text, file_text, end_text, end_message};
 
-use crate::glyphs::put_shown;
 use crate::messages::put_decimal;
+use sb_glyphs::put_shown;
 use sb_items::NoMemory;
 use std::alloc::Global;
 

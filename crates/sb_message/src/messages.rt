@@ -3,7 +3,7 @@ ghost use Rattle.std.specs.Prelude.{◌≡◌, ◌++◌, OnOk, string_bytes};
 ghost use Rattle.std.specs.Fmt.{decimal};
 ghost use Rattle.sb_message.specs.Messages.{text_word, headline, first_line, column_text, place_line, message_with};
 
-use crate::glyphs::put_shown;
+use sb_glyphs::put_shown;
 use sb_items::NoMemory;
 
 /// A text that may have a fault.

@@ -1,13 +1,14 @@
 // What a message shows of the line of a fault.
 ghost use Rattle.std.specs.Prelude.{◌≡◌, ◌-◌, ◌++◌, take, drop, IfOk, OnOk, string_bytes};
-ghost use Rattle.sb_message.specs.Excerpts.{excerpt_lines_in};
+ghost use Rattle.sb_glyphs.specs.Excerpts.{excerpt_lines_in};
 ghost use Rattle.sb_message.specs.Places.{place_of, named_at, if_column, shown_line};
 ghost use Rattle.sb_message.specs.Messages.{place_line};
 
-use crate::excerpts::{MOST_GLYPHS, MOST_NEAR, put_excerpt_lines};
-use crate::glyphs::{Glyph, count_glyphs, first_glyphs_of, skip_glyphs};
 use crate::messages::{FaultyText, put_place_line};
-use crate::tokens::put_first_token;
+use sb_glyphs::{
+    Glyph, MOST_GLYPHS, MOST_NEAR, count_glyphs, first_glyphs_of, glyph_count, put_excerpt_lines,
+    put_first_token, skip_glyphs,
+};
 use sb_items::NoMemory;
 use std::alloc::Global;
 
@@ -31,15 +32,11 @@ fn bytes_before(column: u32, line: &[u8]) -> &[u8]
 }
 
 // How many glyphs of a line precede a column.
-#[tactic(auto, using(crate::proofs::Cuts::glyphs_counted))]
 fn place_of(text: FaultyText, column: u32, line: &[u8]) -> usize
     ensures { result ≡ place_of text column line.now }
 {
     match text {
-        FaultyText::Schedule => {
-            let before = bytes_before(column, line);
-            count_glyphs(before, before.len())
-        }
+        FaultyText::Schedule => glyph_count(bytes_before(column, line)),
         FaultyText::Policy | FaultyText::Script | FaultyText::Links | FaultyText::Moves => {
             column.saturating_sub(1) as usize
         }

@@ -2,7 +2,8 @@
 use Rattle.std.proofs.Common.{◌≡◌, ℕ, Bool, true, false, cond, nat_lt, List, [], ◌∷◌, ◌++◌, length, take, codes, refl}
 use Rattle.std.specs.Fmt.{decimal}
 use Rattle.std.specs.List.{flat_map}
-use Rattle.sb_message.proofs.CleanLaws.{Spelled, clean_of, both, three, four, five, nothing, plain, decimal_clean, feed, line_clean, place_clean}
+use Rattle.sb_glyphs.proofs.CleanLaws.{Spelled, clean_of, both, three, four, five, nothing, plain, decimal_clean, feed}
+use Rattle.sb_message.proofs.CleanPlaces.{line_clean, place_clean}
 use Rattle.sb_message.specs.Messages.{place_line}
 use Rattle.sb_message.specs.Places.{shown_line}
 use Rattle.sb_message.specs.declared.messages.FaultyText.TheVariants.{Policy}

@@ -1,6 +1,6 @@
 -- What is true of what is noted of patterns.
 use Rattle.std.specs.Prelude.{◌≡◌, ℕ, true, false, List, ◌∷◌, Some}
-use Rattle.sb_message.specs.CleanTexts.{IsClean}
+use Rattle.sb_glyphs.specs.CleanTexts.{IsClean}
 use Rattle.sb_notes.specs.Kinds.{kind_of}
 use Rattle.sb_notes.specs.NoteMessages.{notes_message}
 use Rattle.sb_notes.specs.declared.kinds.NoteKind.TheVariants.{UnescapedPrefix, MatchesNoName}

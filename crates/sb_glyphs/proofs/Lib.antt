@@ -1,0 +1,4 @@
+mod Cuts
+pub mod Named
+mod CaretLaws
+pub mod CleanLaws

@@ -1,0 +1,5 @@
+pub mod Glyphs
+pub mod Excerpts
+pub mod Tokens
+pub mod CleanTexts
+pub mod Laws

@@ -1,5 +1,0 @@
-use Rattle.std.proofs.Common.{◌≡◌, ◌++◌, replicate, string_bytes}
-use Rattle.sb_message.proofs.excerpts.put_spaces.Given as goal
-
-abbrev pub invariant-loop-space : goal.invariant-loop-space
-invariant-loop-space l = string_bytes l.out ≡ string_bytes l.initial.out ++ replicate l._space 32

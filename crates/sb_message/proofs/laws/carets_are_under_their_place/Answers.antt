@@ -1,5 +1,0 @@
-use Rattle.sb_message.proofs.CaretLaws.{carets_under}
-use Rattle.sb_message.proofs.laws.carets_are_under_their_place.Goals as goal
-
-pub returns : goal.returns
-returns c = carets_under

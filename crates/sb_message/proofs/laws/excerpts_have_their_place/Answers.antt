@@ -1,5 +1,0 @@
-use Rattle.sb_message.proofs.CaretLaws.{excerpts_placed}
-use Rattle.sb_message.proofs.laws.excerpts_have_their_place.Goals as goal
-
-pub returns : goal.returns
-returns c = excerpts_placed
