@@ -15,3 +15,4 @@ pub mod WrittenOpenings
 pub mod WrittenTokens
 pub mod WrittenScripts
 pub mod Keeping
+mod StartReasons

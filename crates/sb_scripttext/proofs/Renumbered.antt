@@ -22,8 +22,8 @@ use Rattle.sb_scripttext.specs.declared.faults.ScriptKind.TheVariants.{UnknownWo
 use Rattle.sb_text.specs.LineLaws.{LinesAppend, WrittenLinesAreRead, ended, is_line}
 use Rattle.sb_text.specs.Lines.{raw_lines, lines_from, lines_of, without_cr}
 use Rattle.sb_text.specs.ReadingLaws as laws
-use Rattle.sb_text.specs.Readings.{fault_on, is_some_line, read_by, renumbered, behind}
-use Rattle.sb_text.specs.Spots.{by_tokens, fails_left}
+use Rattle.sb_text.specs.Readings.{is_some_line, read_by, renumbered, behind}
+use Rattle.sb_text.specs.Spots.{fails_left}
 use Rattle.sb_text.specs.Tokens.{Lexeme, Word, Quoted, Bad, tokens_of}
 use Rattle.sb_scripttext.specs.declared.faults.ScriptLimit.TheVariants.{Openings, Targets}
 use Rattle.sb_text.specs.declared.refusals.TokenFault.{TokenFault}

@@ -34,7 +34,7 @@ use Rattle.sb_scripttext.specs.StartFaults.{start_fault}
 use Rattle.sb_scripttext.specs.SoFar.{SoFar, nothing, is_empty, is_opening, is_in_thread, with_patience, with_start, with_target, one_thread_more, with_thread, one_statement_more, in_last_thread, named_by, with_statement}
 use Rattle.sb_scripttext.specs.Lines.{add_target, add_thread, at_start, heading, is_target_named, line_of, misplaced, new_name_at, not_here, patience, plain_line, policy_at, set_patience, start_line, statement_line}
 use Rattle.sb_scripttext.specs.Openings.{can_place}
-use Rattle.sb_scripttext.specs.ScriptTexts.{Absence, ScriptFault, absence_fault, add_line, grammar, absence, first_absence, finished}
+use Rattle.sb_scripttext.specs.ScriptTexts.{Absence, ScriptFault, absence_fault, grammar, absence, first_absence, finished}
 use Rattle.sb_scripttext.specs.Steps.{number_within}
 use Rattle.sb_scripttext.specs.Writable.{is_writable_start, is_writable_statement, is_writable_thread, is_writable_target, is_writable, are_short_named}
 use Rattle.sb_scripttext.specs.Writing.{number_token, start_tokens, statement_tokens, thread_lines, policy_name, heading_tokens, target_lines, version_tokens, patience_tokens, script_lines, written}

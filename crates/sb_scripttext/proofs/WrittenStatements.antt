@@ -26,7 +26,7 @@ use Rattle.sb_scripttext.specs.Steps.{within}
 use Rattle.sb_scripttext.specs.Writable.{is_number, is_writable_arg, is_writable_statement}
 use Rattle.sb_scripttext.specs.Writing.{number_token, place_word, arg_token, word_tokens, statement_tokens}
 use Rattle.sb_scripttext.specs.declared.faults.ScriptKind.{ScriptKind}
-use Rattle.sb_scripttext.specs.declared.faults.ScriptKind.TheVariants.{UnknownWord, WrongArgs, BadNumber, NoSuchTarget, NoSuchChannel, TooBig}
+use Rattle.sb_scripttext.specs.declared.faults.ScriptKind.TheVariants.{UnknownWord, WrongArgs, BadNumber, TooBig}
 use Rattle.sb_text.specs.Steps.{◌>>=◌, Read, at_left, at_token, later, with_first, end_at}
 use Rattle.sb_text.specs.Tokens.{Lexeme, Word}
 use Rattle.sb_scripttext.specs.declared.drafts.Named.{Named}

@@ -13,3 +13,4 @@ pub mod Laws
 pub mod Writing
 pub mod Writable
 pub mod WritingLaws
+pub mod StartLaws

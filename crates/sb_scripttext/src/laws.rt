@@ -1,10 +1,13 @@
 // Laws of script texts. None of these functions does anything: each contract is a law.
 ghost use Rattle.sb_scripttext.specs.Laws.{FirstFaultsStay, SkippedLinesCountAlone, ReadArgumentsFit};
 ghost use Rattle.sb_scripttext.specs.Readiness.{ReadScriptsAreReady, ReadScriptsHaveUnits};
+ghost use Rattle.sb_scripttext.specs.StartLaws.{StartFaultsAreTrue};
 ghost use Rattle.sb_scripttext.specs.WritingLaws.{WrittenScriptsAreRead, ReadScriptsCanBeWritten};
 
 use crate::drafts::Draft;
 use crate::faults::ScriptKind;
+use sb_event::EventRow;
+use sb_names::puts_are_found;
 use sb_text::{
     decimals_are_read, not_utf8_place_tells, plain_lines_are_read, quoted_strings_are_read,
     quoted_tokens_are_text,
@@ -68,4 +71,15 @@ pub fn read_scripts_can_be_written()
 {
     quoted_strings_are_read();
     quoted_tokens_are_text();
+}
+
+/// If an opening line cannot be placed in the namespace that the lines before it give, what its fault says is so there: its name is
+/// taken among the objects of its service, or the name is free and its parent is not there, or the name is free and its parent is
+/// a file.
+#[tactic(auto, using(crate::proofs::StartReasons::start_faults_true))]
+pub fn start_faults_are_true()
+    ensures { StartFaultsAreTrue }
+{
+    puts_are_found::<u64>();
+    puts_are_found::<EventRow>();
 }

@@ -17,6 +17,7 @@ mod steps;
 pub use faults::{ScriptFault, ScriptKind, ScriptLimit, ScriptRefused, StartFault};
 pub use laws::{
     first_faults_stay, read_arguments_fit, read_scripts_are_ready, read_scripts_can_be_written,
-    read_scripts_have_units, skipped_lines_count_alone, written_scripts_are_read,
+    read_scripts_have_units, skipped_lines_count_alone, start_faults_are_true,
+    written_scripts_are_read,
 };
 pub use script_texts::read_script;
