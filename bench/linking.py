@@ -47,10 +47,11 @@ def script_of(names):
 
 
 # What is measured: in words, the links, the names of the calls, and the most that they may take, by the same calls under no links. Links apply to
-# every second name of the first and the last, and to none of the other one. In the last, names of 150 units are judged, performed and written
-# where there are five without links.
+# every second name of the first and the last, and to none of the others. In the last, names of 150 units are judged, performed and written where
+# there are five without links.
 WORKS = [
     ("64 links, of which each applies to some of the names", short_links(), ["\\%s%d\\f" % (front, n) for n in range(64) for front in "ln"], 1.5),
+    ("64 links, of which none applies", short_links(), ["\\n%d\\f" % n for n in range(64)], 1.5),
     ("64 FROMs of 256 units that differ in the last one", long_links(), ["\\" + "l" * (1 + n % 12) for n in range(128)], 1.5),
     ("a link to 150 units, and 63 FROMs that differ in the last one", deep_links(), ["\\%s\\f%d" % (front, n) for n in range(64) for front in "ln"], 1.5),
 ]

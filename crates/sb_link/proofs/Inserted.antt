@@ -4,7 +4,7 @@ use Rattle.std.specs.List.{list_any}
 use Rattle.std.specs.Prelude.{if◌then◌else◌, slice_get, ◌⊎◌}
 use Rattle.sb_link.specs.Links.{is_from, is_link, most_links}
 use Rattle.sb_link.specs.ResolutionLaws.{IsAmong}
-use Rattle.sb_link.specs.SortedFroms.{AreIndexed, IsIndex, Shows, common, from_at, inserted, is_before}
+use Rattle.sb_link.specs.SortedFroms.{AreIndexed, IsIndex, Shows, entry_after, from_at, inserted, is_before}
 use Rattle.sb_link.specs.declared.links.Link.{Link}
 use Rattle.sb_link.specs.declared.sorted_froms.SortedFrom.{SortedFrom}
 use Rattle.sb_link.proofs.Adding.{one_more}
@@ -69,7 +69,7 @@ shows_more links link before (e ∷ es) (first ∷ ordered) h =
 abbrev inserted_at : List Link → Link → List ℕ → SortedFrom → List SortedFrom → List ℕ → List SortedFrom
 inserted_at links link before e es other =
     if is_before other link.from then e ∷ inserted links link.from (length links) other es
-    else record { place = length links; shared = common before link.from } ∷ record { place = e.place; shared = common link.from other } ∷ es
+    else entry_after before (length links) link.from ∷ entry_after link.from e.place other ∷ es
 
 shows_inserted : (links : List Link) (link : Link) (before : List ℕ) (sorted : List SortedFrom) (ordered : List Link) → Shows links before sorted ordered
     → Shows (links ++ link ∷ []) before (inserted links link.from (length links) before sorted) (placed link ordered)
@@ -89,7 +89,7 @@ shows_inserted links link before (e ∷ es) (first ∷ ordered) h =
     by : (b : Bool) → Shows (links ++ link ∷ []) first.from (inserted links link.from (length links) first.from es) (placed link ordered)
         → Shows (links ++ link ∷ []) before
         (if b then e ∷ inserted links link.from (length links) first.from es
-        else record { place = length links; shared = common before link.from } ∷ record { place = e.place; shared = common link.from first.from } ∷ es)
+        else entry_after before (length links) link.from ∷ entry_after link.from e.place first.from ∷ es)
         (if b then first ∷ placed link ordered else link ∷ first ∷ ordered)
     by true k = (stays, h.1, k)
     by false k = (get_last links link, refl, (stays, refl, shows_more links link first.from es ordered h.2))

@@ -1,5 +1,5 @@
 -- The FROMs of links in order, and the walk over them that finds the longest which applies to a name.
-use Rattle.std.specs.Prelude.{◌≡◌, ℕ, suc, ◌+◌, min, Bool, true, false, ◌&&◌, ◌==◌, nat_lt, List, [], ◌∷◌, length, drop, Option, None, Some, if◌then◌else◌, slice_get, ⊤}
+use Rattle.std.specs.Prelude.{◌≡◌, ℕ, suc, ◌+◌, min, Bool, true, false, not, ◌&&◌, ◌==◌, nat_lt, List, [], ◌∷◌, length, drop, Option, None, Some, if◌then◌else◌, slice_get, ⊤}
 use Rattle.sb_wide.specs.Wide.{folded}
 use Rattle.sb_link.specs.Links.{AreLinks}
 use Rattle.sb_link.specs.Resolution.{ends_component, is_longer}
@@ -19,13 +19,22 @@ is_before [] b = true
 is_before (x ∷ xs) [] = false
 is_before (x ∷ xs) (y ∷ ys) = if folded x == folded y then is_before xs ys else nat_lt (folded x) (folded y)
 
--- each FROM of the index is that of a link in its place, and its number is what it has in common with the FROM before it
+-- the first of these units, folded; none if there are no units
+abbrev pub next_unit : List ℕ → Option ℕ
+next_unit [] = None
+next_unit (u ∷ us) = Some (folded u)
+
+-- the entry of a FROM, of the link at a place, after another FROM
+abbrev pub entry_after : List ℕ → ℕ → List ℕ → SortedFrom
+entry_after before place from = record { place = place; shared = common before from; next = next_unit (drop (common before from) from) }
+
+-- each entry of the index is that of the FROM of a link, in the link's place, after the FROM before it
 abbrev pub Shows : List Link → List ℕ → List SortedFrom → List Link → Type 0
 Shows links before [] [] = ⊤
 Shows links before (e ∷ es) [] = ⊥
 Shows links before [] (link ∷ ordered) = ⊥
 Shows links before (e ∷ es) (link ∷ ordered) =
-    (slice_get links e.place ≡ Some link) × (e.shared ≡ common before link.from) × Shows links link.from es ordered
+    (slice_get links e.place ≡ Some link) × (e ≡ entry_after before e.place link.from) × Shows links link.from es ordered
 
 -- the index of a list of links shows all of them
 pub record IsIndex (links : List Link) (sorted : List SortedFrom) : Type 0 where
@@ -47,11 +56,20 @@ from_at links place = elim (slice_get links place) [
 
 -- the index with one more FROM, of the link at this place, below those that come before it
 abbrev pub inserted : List Link → List ℕ → ℕ → List ℕ → List SortedFrom → List SortedFrom
-inserted links from place before [] = record { place = place; shared = common before from } ∷ []
+inserted links from place before [] = entry_after before place from ∷ []
 inserted links from place before (e ∷ es) =
     if is_before (from_at links e.place) from then e ∷ inserted links from place (from_at links e.place) es
-    else record { place = place; shared = common before from }
-    ∷ record { place = e.place; shared = common from (from_at links e.place) } ∷ es
+    else entry_after before place from ∷ entry_after from e.place (from_at links e.place) ∷ es
+
+-- a FROM that goes on with the first of these units differs there from a name that goes on with the second, or ends there
+abbrev pub is_other : Option ℕ → Option ℕ → Bool
+is_other None unit = false
+is_other (Some u) None = true
+is_other (Some u) (Some v) = not (u == v)
+
+-- the FROM before this one has this many units in common with a name, which goes on with this unit: it differs from the name there too
+abbrev pub differs : ℕ → Option ℕ → SortedFrom → Bool
+differs count next e = if e.shared == count then is_other e.next next else nat_lt count e.shared
 
 -- what a FROM has in common with a name, by what it has in common with the FROM before it, and by what that has with the name
 abbrev pub next_common : ℕ → ℕ → List ℕ → List ℕ → ℕ
@@ -78,5 +96,7 @@ longer_at links place count name found = elim (slice_get links place) [
 abbrev pub walked : List Link → List ℕ → ℕ → Option Link → List SortedFrom → Option Link
 walked links name count found [] = found
 walked links name count found (e ∷ es) =
+    if differs count (next_unit (drop count name)) e then walked links name count found es
+    else
     let next = next_common e.shared count (from_at links e.place) name in
     walked links name next (longer_at links e.place next name found) es

@@ -1,7 +1,8 @@
 // The FROMs of links in order, and the walk over them that finds the longest which applies to a name.
-ghost use Rattle.std.specs.Prelude.{◌≡◌, ◌+◌, ◌<◌, ◌≤◌, ◌^◌, IfOk, None, [], drop, length, option_map};
+ghost use Rattle.std.specs.Prelude.{◌≡◌, ◌+◌, ◌<◌, ◌≤◌, ◌^◌, IfOk, None, [], drop, length, not, ◌==◌, option_map};
+ghost use Rattle.sb_wide.specs.Wide.{folded};
 ghost use Rattle.sb_link.specs.Resolution.{ends_component, is_longer};
-ghost use Rattle.sb_link.specs.SortedFroms.{common, from_at, inserted, is_before, is_whole, longer_at, longer_by, next_common, walked};
+ghost use Rattle.sb_link.specs.SortedFroms.{common, differs, entry_after, from_at, inserted, is_before, is_other, is_whole, longer_at, longer_by, next_common, next_unit, walked};
 
 use crate::links::Link;
 use sb_items::NoMemory;
@@ -17,6 +18,15 @@ pub(crate) struct SortedFrom {
     pub place: usize,
     /// How many units it has in common with the FROM before it, at the front and after folding.
     pub shared: usize,
+    /// The unit after these, folded. None if it ends there.
+    pub next: Option<u16>,
+}
+
+// Whether two units are different after folding.
+fn is_different(a: u16, b: u16) -> bool
+    ensures { result ≡ not (folded a == folded b) }
+{
+    a != b && to_ascii_uppercase(a) != to_ascii_uppercase(b)
 }
 
 // How many units two names have in common at the front, after folding.
@@ -30,7 +40,7 @@ fn common(a: &[u16], b: &[u16]) -> usize
         let Some((y, others)) = second.split_first() else {
             return a.len() - first.len();
         };
-        if to_ascii_uppercase(*x) != to_ascii_uppercase(*y) {
+        if is_different(*x, *y) {
             return a.len() - first.len();
         }
         first = more;
@@ -69,6 +79,40 @@ fn from_at(links: &[Link], place: usize) -> &[u16]
     }
 }
 
+// The units from this place on, none if there are fewer.
+fn after(units: &[u16], count: usize) -> &[u16]
+    ensures rest { result.now ≡ drop count units.now }
+    ensures room { count + length result.now < 2 ^ 64 }
+{
+    if count > units.len() {
+        return &[];
+    }
+    let (_, rest) = units.split_at(count);
+    rest
+}
+
+// The first unit, folded, if there is one.
+fn next_unit(units: &[u16]) -> Option<u16>
+    ensures { result ≡ next_unit units.now }
+{
+    match units {
+        [first, ..] => Some(to_ascii_uppercase(*first)),
+        [] => None,
+    }
+}
+
+// The entry of a FROM, of the link at a place, after another FROM.
+fn entry_after(before: &[u16], place: usize, from: &[u16]) -> SortedFrom
+    ensures { result ≡ entry_after before.now place from.now }
+{
+    let shared = common(before, from);
+    SortedFrom {
+        place,
+        shared,
+        next: next_unit(after(from, shared)),
+    }
+}
+
 // The index with one more FROM, of the link at this place, below those that come before it.
 #[tactic(auto, using(crate::proofs::Inserted::put_one_more))]
 pub(crate) fn index_with(
@@ -86,14 +130,8 @@ pub(crate) fn index_with(
     while let Some((entry, more)) = rest.split_first() {
         let other = from_at(links, entry.place);
         if !is_before(other, from) {
-            all.push(SortedFrom {
-                place,
-                shared: common(before, from),
-            })?;
-            all.push(SortedFrom {
-                place: entry.place,
-                shared: common(from, other),
-            })?;
+            all.push(entry_after(before, place, from))?;
+            all.push(entry_after(from, entry.place, other))?;
             all.extend_from_slice(more)?;
             return Ok(all);
         }
@@ -101,23 +139,8 @@ pub(crate) fn index_with(
         before = other;
         rest = more;
     }
-    all.push(SortedFrom {
-        place,
-        shared: common(before, from),
-    })?;
+    all.push(entry_after(before, place, from))?;
     Ok(all)
-}
-
-// The units from this place on, none if there are fewer.
-fn after(units: &[u16], count: usize) -> &[u16]
-    ensures rest { result.now ≡ drop count units.now }
-    ensures room { count + length result.now < 2 ^ 64 }
-{
-    if count > units.len() {
-        return &[];
-    }
-    let (_, rest) = units.split_at(count);
-    rest
 }
 
 // What a FROM has in common with a name, by what it has in common with the FROM before it, and by what that has with the name.
@@ -188,8 +211,31 @@ fn longer_at<'a>(
     }
 }
 
-/// The link with the longest FROM of those that apply to a name, by one walk over the index. A unit of the name is compared again only
-/// where a FROM ends or differs there.
+// Whether a FROM that goes on with the first of these units differs there from a name that goes on with the second, or ends there.
+fn is_other(unit: Option<u16>, next: Option<u16>) -> bool
+    ensures { result ≡ is_other unit next }
+{
+    match (unit, next) {
+        (Some(unit), Some(next)) => unit != next,
+        (Some(_), None) => true,
+        (None, _) => false,
+    }
+}
+
+// Whether a FROM differs from a name where the FROM before it does, which has this many units in common with the name. The name goes on
+// with this unit.
+fn differs(count: usize, next: Option<u16>, entry: &SortedFrom) -> bool
+    ensures { result ≡ differs count next entry.now }
+{
+    if entry.shared == count {
+        is_other(entry.next, next)
+    } else {
+        count < entry.shared
+    }
+}
+
+/// The link with the longest FROM of those that apply to a name, by one walk over the index. A FROM is looked at only where it may have
+/// more in common with the name than the one before it, and no unit of the name is compared again where it was the same.
 pub(crate) fn longest<'a>(
     links: &'a [Link],
     sorted: &[SortedFrom],
@@ -198,9 +244,14 @@ pub(crate) fn longest<'a>(
     ensures { option_map (λ l. l.now) result ≡ walked links.now name.now 0 None sorted.now }
 {
     let mut count = 0;
+    let mut next = next_unit(name);
     let mut found = None;
     for entry in sorted {
+        if differs(count, next, entry) {
+            continue;
+        }
         count = next_common(entry.shared, count, from_at(links, entry.place), name);
+        next = next_unit(after(name, count));
         found = longer_at(links, entry.place, count, name, found);
     }
     found
