@@ -2,10 +2,11 @@
 
 use crate::faults::RowFault;
 use crate::pages::Page;
+use sb_plain::Status;
 use sb_ruletext::{PolicyFault, PolicyFaultKind, PolicyLimit};
 use sb_scheduletext::{ScheduleFault, ScheduleKind};
 use sb_scripttext::{ScriptFault, ScriptKind, StartFault};
-use sb_top::{Complaint, Status, exit_code};
+use sb_top::{Complaint, exit_code};
 use std::alloc::Global;
 
 /// Puts the exit code of the status that the row names, and what is said of it: a fault in the last line that has a number, a thread

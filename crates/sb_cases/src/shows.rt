@@ -4,7 +4,8 @@ use crate::faults::RowFault;
 use crate::gates::GateCounts;
 use crate::pages::{Ends, Page};
 use sb_book::Report;
-use sb_top::{Complaint, Outcome, Status, exit_code, message};
+use sb_plain::{Outcome, Status};
+use sb_top::{Complaint, exit_code, message};
 use std::alloc::Global;
 
 /// What is printed besides.

@@ -1,13 +1,16 @@
 -- The message of arguments that are no command is clean.
-use Rattle.std.proofs.Common.{◌≡◌, ℕ, suc, ◌-◌, ◌==◌, Bool, true, false, cond, nat_eq, List, [], ◌∷◌, ◌++◌, length, drop, Option, None, Some, codes, refl, subst}
+use Rattle.std.proofs.Common.{◌≡◌, ℕ, suc, ◌-◌, ◌==◌, Bool, true, false, cond, ◌&&◌, List, [], ◌∷◌, ◌++◌, length, drop, Option, None, Some, codes, refl, subst}
 use Rattle.std.specs.Prelude.{⊤, is_some, Result, Ok, Err}
-use Rattle.std.specs.Cmp.Lexicographic.{pointwise}
+use Rattle.std.specs.List.{list_all}
 use Rattle.std.specs.Fmt.{decimal}
-use Rattle.sb_glyphs.proofs.CleanLaws.{Spelled, clean_of, both, three, four, nothing, plain, decimal_clean, bytes_clean, quoted_bytes_clean, feed}
+use Rattle.sb_glyphs.proofs.CleanLaws.{Spelled, is_plain, clean_of, both, three, four, nothing, plain, decimal_clean, bytes_clean, quoted_bytes_clean, feed}
+use Rattle.sb_commands.proofs.Listed.{form_is, is_plain_choice, is_plain_form, is_plain_name, is_plain_place, plain_form}
+use Rattle.sb_commands.proofs.ReadSteps.{both as and_both}
+use Rattle.sb_commands.specs.declared.works.Work.{Work}
 use Rattle.sb_glyphs.specs.CleanTexts.{IsClean}
 use Rattle.sb_glyphs.specs.Tokens.{quoted_bytes}
 use Rattle.sb_commands.specs.Commands.{Command, with_values, with_form, command_of}
-use Rattle.sb_commands.specs.Forms.{Bounded, Choice, Form, Place, File, Number, check_form, replay_form, run_form, make_form, linked_form, dup_form, local_form, audit_form, form_by}
+use Rattle.sb_commands.specs.Forms.{Bounded, Choice, Form, Place, File, Number, form_by}
 use Rattle.sb_commands.specs.NumberWords.{is_number}
 use Rattle.sb_commands.specs.Usage.{Fault, NoCommand, UnknownCommand, UnknownOption, OptionTwice, OptionBetween, NoOptionNumber, BadOptionNumber, NoFileName, BadNumber, ExtraWord, Missing, Values, FlagWord, Apart, Joined, Other, flag_word, Cut, cut_apart, cut_by, cut_option, dash_by, dash_fault, is_dash, kind_fault, place_fault, place_name, unless_fault, cut_places, last_by, cut_last, cut_end, extra_in, values_unless, with_end, with_last, with_places, with_option, read_by}
 use Rattle.sb_commands.specs.UsageLaws.{UsageMessagesAreClean}
@@ -224,52 +227,50 @@ read_fine form words f = with_option_fine form (suc (length words)) (cut_option 
 
 -- ---- the forms
 
-policy_clean : Spelled (codes "POLICY")
-policy_clean = plain (codes "POLICY") refl
+places_clean : (places : List Place) → list_all is_plain_place places ≡ true → HasCleanPlaces places
+places_clean [] h = tt
+places_clean (place ∷ places) h =
+    let parts = and_both (is_plain_place place) (list_all is_plain_place places) h in (plain (place_name place) parts.0, places_clean places parts.1)
 
-script_clean : Spelled (codes "SCRIPT")
-script_clean = plain (codes "SCRIPT") refl
+last_clean : (last : Option (List ℕ)) → is_plain_name last ≡ true → HasCleanLast last
+last_clean None h = tt
+last_clean (Some name) h = plain name h
+
+option_clean : (option : Option Choice) → is_plain_choice option ≡ true → HasCleanOption option
+option_clean None h = tt
+option_clean (Some choice) h =
+    let parts = and_both (list_all is_plain choice.flag) (list_all is_plain choice.number.name) h in (plain choice.flag parts.0, plain choice.number.name parts.1)
+
+form_clean : (form : Form) → is_plain_form form ≡ true → IsCleanForm form
+form_clean form h =
+    let parts = and_both (list_all is_plain_place form.places) (is_plain_name form.last && is_plain_choice form.option) h in
+    let others = and_both (is_plain_name form.last) (is_plain_choice form.option) parts.1 in
+    record { places = places_clean form.places parts.0; last = last_clean form.last others.0; option = option_clean form.option others.1 }
 
 abbrev FineForm : Option Form → Type 0
 FineForm None = ⊤
 FineForm (Some form) = IsCleanForm form
 
-form_tested : (b : Bool) (form : Form) (rest : Option Form) → IsCleanForm form → FineForm rest → FineForm (cond b (Some form) rest)
-form_tested true form rest hf hr = hf
-form_tested false form rest hf hr = hr
-
-with_schedule : Spelled (codes "SCHEDULE")
-with_schedule = plain (codes "SCHEDULE") refl
-
 forms_clean : (name : List ℕ) → FineForm (form_by name)
-forms_clean name =
-    form_tested (pointwise nat_eq name (codes "check")) check_form _ (record { places = (policy_clean, tt); last = tt; option = tt })
-    (form_tested (pointwise nat_eq name (codes "replay")) replay_form _ (record { places = (policy_clean, (script_clean, tt)); last = with_schedule; option = tt })
-    (form_tested (pointwise nat_eq name (codes "run")) run_form _
-    (record { places = (policy_clean, (script_clean, tt)); last = tt; option = (plain (codes "workers") refl, plain (codes "N") refl) })
-    (form_tested (pointwise nat_eq name (codes "make")) make_form _
-    (record { places = (plain (codes "SEED") refl, (plain (codes "TARGETS") refl, (plain (codes "CALLS") refl, tt))); last = tt; option = tt })
-    (form_tested (pointwise nat_eq name (codes "linked")) linked_form _
-    (record { places = (policy_clean, (script_clean, (plain (codes "LINKS") refl, tt))); last = tt; option = tt })
-    (form_tested (pointwise nat_eq name (codes "dup")) dup_form _
-    (record { places = (policy_clean, (script_clean, (plain (codes "MOVES") refl, tt))); last = tt; option = tt })
-    (form_tested (pointwise nat_eq name (codes "local")) local_form _ (record { places = (policy_clean, (script_clean, tt)); last = with_schedule; option = tt })
-    (form_tested (pointwise nat_eq name (codes "audit")) audit_form _
-    (record { places = (policy_clean, (script_clean, (plain (codes "TRANSCRIPT") refl, tt))); last = tt; option = tt }) tt)))))))
+forms_clean name = by (form_by name) refl
+  where
+    by : (form : Option Form) → form_by name ≡ form → FineForm form
+    by None e = tt
+    by (Some form) e = form_clean form (subst (λ f. is_plain_form f ≡ true) (form_is name form e) (plain_form form.work))
 
 -- ---- the arguments
 
-named_fine : (name : List ℕ) (values : Result Values Fault) → Fine values → Fine (with_values name values)
-named_fine name (Ok values) h = tt
-named_fine name (Err fault) h = h
+named_fine : (work : Work) (values : Result Values Fault) → Fine values → Fine (with_values work values)
+named_fine work (Ok values) h = tt
+named_fine work (Err fault) h = h
 
-form_fine : (name : List ℕ) (words : List (List ℕ)) (form : Option Form) → FineForm form → Fine (with_form name words form)
-form_fine name words None h = tt
-form_fine name words (Some form) h = named_fine name (read_by form words) (read_fine form words h)
+form_fine : (words : List (List ℕ)) (form : Option Form) → FineForm form → Fine (with_form words form)
+form_fine words None h = tt
+form_fine words (Some form) h = named_fine form.work (read_by form words) (read_fine form words h)
 
 command_fine : (words : List (List ℕ)) → Fine (command_of words)
 command_fine [] = tt
-command_fine (name ∷ words) = form_fine name words (form_by name) (forms_clean name)
+command_fine (name ∷ words) = form_fine words (form_by name) (forms_clean name)
 
 pub usage_messages_clean : UsageMessagesAreClean
 usage_messages_clean words fault e = message_clean fault words (subst (Fine {A = Command}) e (command_fine words))

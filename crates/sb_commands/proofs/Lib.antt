@@ -1,5 +1,6 @@
 pub mod ReadWords
 pub mod ReadSteps
+pub mod Listed
 pub mod TakenWords
 pub mod NumberLaws
 pub mod WrittenCommands

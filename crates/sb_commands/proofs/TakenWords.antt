@@ -5,19 +5,26 @@ use Rattle.std.specs.Cmp.Lexicographic.{pointwise}
 use Rattle.clap.specs.Words.{App, HasMatchesOf, Text, first_of, first_value, found_of, is_simple, matches_of, takes}
 use Rattle.clap.proofs.WalkLemmas.{first_value-rows}
 use Rattle.clap.specs.declared.ArgMatches.{ArgMatches}
-use Rattle.sb_commands.specs.Commands.{HasValues, IsCommandOf, command_by, command_of, with_form, with_values}
+use Rattle.sb_commands.specs.Commands.{HasNumbers, HasValues, IsCommandOf, command_in, command_of, files_by, files_of, values_in, values_or_none, with_form, with_values}
+use Rattle.sb_commands.specs.CommandLaws.{suits}
 use Rattle.sb_commands.specs.CommandLine.{found_values, line_of, or_empty}
-use Rattle.sb_commands.specs.Forms.{Choice, Form, Help, Place, form_by, form_in, forms, run_form}
+use Rattle.sb_commands.specs.Forms.{Choice, Form, Help, Place, form_by, form_with}
 use Rattle.sb_commands.specs.NumberWords.{is_number}
 use Rattle.sb_commands.specs.Usage.{Cut, Fault, IsTested, Values, cut_last, cut_option, cut_places, fault_of, option_number, read_after, read_by, with_end, with_last, with_option, with_places}
 use Rattle.sb_commands.specs.declared.usage_faults.UsageFault.{UsageFault}
+use Rattle.sb_commands.specs.declared.works.PlainWork.TheVariants.{Check}
+use Rattle.sb_commands.specs.declared.works.ThreadedWork.TheVariants.{Run}
+use Rattle.sb_commands.specs.declared.works.Work.{Work}
+use Rattle.sb_commands.specs.declared.works.Work.TheVariants.{Plain, Threaded}
+use Rattle.sb_commands.proofs.Listed.{form_is}
+use Rattle.sb_commands.proofs.NumberLaws.{has_numbers, values_suit}
 use Rattle.sb_commands.proofs.ReadSteps.{IsPlainWord, OnCut, OnLast, OnLeft, IsOptionAt, last_left, number_is_plain, option_left, places_left, workers}
-use Rattle.sb_commands.proofs.ReadWords.{IsTaken, apart_first_is_taken, apart_last_is_taken, check_is_simple, joined_first_is_taken, joined_last_is_taken, make_is_simple, one_is_taken, replay_is_simple, run_is_simple, run_is_taken, three_are_taken, two_and_last_are_taken, two_are_taken, values_in}
+use Rattle.sb_commands.proofs.ReadWords.{IsTaken, apart_first_is_taken, apart_last_is_taken, joined_first_is_taken, joined_last_is_taken, last_is_simple, one_is_simple, one_is_taken, pair_is_simple, pair_is_taken, run_form, run_is_simple, run_is_taken, three_are_taken, three_is_simple, two_and_last_are_taken, two_are_taken, values_in as row_values}
 
 -- the library takes the arguments of a command of this form with this name, and finds these values
 abbrev pub IsRead : Text → Form → List Text → Result Values Fault → Type 0
 IsRead name form words (Ok values) =
-    (takes (line_of form) (name ∷ words) ≡ true) × (found_values form (values_in (matches_of (line_of form) (name ∷ words))) ≡ values)
+    (takes (line_of form) (name ∷ words) ≡ true) × (found_values form (row_values (matches_of (line_of form) (name ∷ words))) ≡ values)
 IsRead name form words (Err fault) = ⊤
 
 -- what a form makes of the values that are found
@@ -36,9 +43,9 @@ read name form words first second third last option taken = (taken.0, taken.1 (v
 
 -- ---- one place, as that of `check`
 
-module _ (n does : Text) (help : Help) (p : Place) (name : Text) (total : ℕ) where
+module _ (work : Work) (n does : Text) (help : Help) (p : Place) (name : Text) (total : ℕ) where
   abbrev one_form : Form
-  one_form = record { name = n; places = p ∷ []; last = None; option = None; does = does; help = help }
+  one_form = record { work = work; name = n; places = p ∷ []; last = None; option = None; does = does; help = help }
 
   one_end : (word : Text) → IsPlainWord word → IsRead name one_form (word ∷ []) (with_end one_form total None (word ∷ []) None (Ok (None, [])))
   one_end word plain =
@@ -54,11 +61,34 @@ module _ (n does : Text) (help : Help) (p : Place) (name : Text) (total : ℕ) w
       by (Ok []) (word, after, e, (plain, kind), e2) =
           subst (λ (ws : List Text). IsRead name one_form ws (with_end one_form total None ws None (Ok (None, [])))) (sym (e ∙ ap (λ ws. word ∷ ws) e2)) (one_end word plain)
 
+-- ---- two places
+
+module _ (work : Work) (n does : Text) (help : Help) (p s : Place) (name : Text) (total : ℕ) where
+  abbrev pair_form : Form
+  pair_form = record { work = work; name = n; places = p ∷ s ∷ []; last = None; option = None; does = does; help = help }
+
+  pair_end : (a b : Text) → IsPlainWord a → IsPlainWord b → IsRead name pair_form (a ∷ b ∷ []) (with_end pair_form total None (a ∷ b ∷ []) None (Ok (None, [])))
+  pair_end a b f g =
+      subst (λ (w : Text). IsRead name pair_form (w ∷ b ∷ []) (with_end pair_form total None (w ∷ b ∷ []) None (Ok (None, [])))) (sym f.word_is)
+      (subst (λ (w : Text). IsRead name pair_form ((f.b ∷ f.bs) ∷ w ∷ []) (with_end pair_form total None ((f.b ∷ f.bs) ∷ w ∷ []) None (Ok (None, [])))) (sym g.word_is)
+      (read name pair_form ((f.b ∷ f.bs) ∷ (g.b ∷ g.bs) ∷ []) (Some (f.b ∷ f.bs)) (Some (g.b ∷ g.bs)) None None None
+      (pair_is_taken name f.b f.bs f.plain g.b g.bs g.plain)))
+
+  pair_read : (words : List Text) → IsRead name pair_form words (read_after pair_form total words)
+  pair_read words = by (cut_places None false total pair_form.places words) (places_left None false total pair_form.places words)
+    where
+      by : (placed : Result (List Text) Fault) → OnLeft pair_form.places words placed → IsRead name pair_form words (with_places pair_form total None words placed)
+      by (Err fault) h = tt
+      by (Ok (further ∷ rest)) h = tt
+      by (Ok []) (a, others, e, (f, kind), (b, rest, e2, (g, kind2), e3)) =
+          subst (λ (ws : List Text). IsRead name pair_form ws (with_end pair_form total None ws None (Ok (None, []))))
+          (sym (e ∙ ap (λ ws. a ∷ ws) (e2 ∙ ap (λ ws. b ∷ ws) e3))) (pair_end a b f g)
+
 -- ---- two places, and a file that may be left out, as those of `replay`
 
-module _ (n does l : Text) (help : Help) (p s : Place) (name : Text) (total : ℕ) where
+module _ (work : Work) (n does l : Text) (help : Help) (p s : Place) (name : Text) (total : ℕ) where
   abbrev two_form : Form
-  two_form = record { name = n; places = p ∷ s ∷ []; last = Some l; option = None; does = does; help = help }
+  two_form = record { work = work; name = n; places = p ∷ s ∷ []; last = Some l; option = None; does = does; help = help }
 
   two_end : (a b : Text) → IsPlainWord a → IsPlainWord b → IsRead name two_form (a ∷ b ∷ []) (with_end two_form total None (a ∷ b ∷ []) None (Ok (None, [])))
   two_end a b f g =
@@ -97,9 +127,9 @@ module _ (n does l : Text) (help : Help) (p s : Place) (name : Text) (total : �
 
 -- ---- three places, as those of `make` and `linked`
 
-module _ (n does : Text) (help : Help) (p s t : Place) (name : Text) (total : ℕ) where
+module _ (work : Work) (n does : Text) (help : Help) (p s t : Place) (name : Text) (total : ℕ) where
   abbrev three_form : Form
-  three_form = record { name = n; places = p ∷ s ∷ t ∷ []; last = None; option = None; does = does; help = help }
+  three_form = record { work = work; name = n; places = p ∷ s ∷ t ∷ []; last = None; option = None; does = does; help = help }
 
   three_end : (a b c : Text) → IsPlainWord a → IsPlainWord b → IsPlainWord c
       → IsRead name three_form (a ∷ b ∷ c ∷ []) (with_end three_form total None (a ∷ b ∷ c ∷ []) None (Ok (None, [])))
@@ -215,6 +245,7 @@ module _ (name : Text) (total : ℕ) where
 -- a form without an option that has one of the three shapes
 abbrev has_shape : List Place → Option Text → Option Choice → Bool
 has_shape (p ∷ []) None None = true
+has_shape (p ∷ s ∷ []) None None = true
 has_shape (p ∷ s ∷ []) (Some l) None = true
 has_shape (p ∷ s ∷ t ∷ []) None None = true
 has_shape _ _ _ = false
@@ -222,64 +253,53 @@ has_shape _ _ _ = false
 abbrev IsShaped : Form → Type 0
 IsShaped form = (has_shape form.places form.last form.option ≡ true) ⊎ (form ≡ run_form)
 
-abbrev AreShaped : List Form → Type 0
-AreShaped [] = ⊤
-AreShaped (form ∷ rest) = IsShaped form × AreShaped rest
-
-all_are_shaped : AreShaped forms
-all_are_shaped = (inl refl, (inl refl, (inr refl, (inl refl, (inl refl, (inl refl, (inl refl, (inl refl, tt))))))))
-
-abbrev OnShaped : Option Form → Type 0
-OnShaped None = ⊤
-OnShaped (Some form) = IsShaped form
-
-found_is_shaped : (table : List Form) → AreShaped table → (name : Text) → OnShaped (form_in table name)
-found_is_shaped [] shaped name = tt
-found_is_shaped (first ∷ rest) (shaped, others) name = by (pointwise nat_eq name first.name) (found_is_shaped rest others name)
-  where
-    by : (test : Bool) → OnShaped (form_in rest name) → OnShaped (if test then Some first else form_in rest name)
-    by true h = shaped
-    by false h = h
+-- each form of the table has a shape
+shaped : (work : Work) → IsShaped (form_with work)
+shaped (Threaded Run) = inr refl
+shaped (Plain Check) = inl refl
+shaped work = inl refl
 
 is_shaped : (name : Text) (form : Form) → form_by name ≡ Some form → IsShaped form
-is_shaped name form e = subst OnShaped e (found_is_shaped forms all_are_shaped name)
+is_shaped name form e = subst IsShaped (form_is name form e) (shaped form.work)
 
-shape_read : (name : Text) (total : ℕ) (n does : Text) (help : Help) (places : List Place) (last : Option Text) (option : Option Choice) (words : List Text)
+shape_read : (name : Text) (total : ℕ) (work : Work) (n does : Text) (help : Help) (places : List Place) (last : Option Text) (option : Option Choice) (words : List Text)
     → has_shape places last option ≡ true
-    → IsRead name (record { name = n; places = places; last = last; option = option; does = does; help = help }) words
-    (read_after (record { name = n; places = places; last = last; option = option; does = does; help = help }) total words)
-shape_read name total n does help (p ∷ []) None None words h = one_read n does help p name total words
-shape_read name total n does help (p ∷ s ∷ []) (Some l) None words h = two_read n does l help p s name total words
-shape_read name total n does help (p ∷ s ∷ t ∷ []) None None words h = three_read n does help p s t name total words
-shape_read name total n does help [] last option words h = absurd (true≢false (sym h))
-shape_read name total n does help (p ∷ []) (Some l) option words h = absurd (true≢false (sym h))
-shape_read name total n does help (p ∷ []) None (Some choice) words h = absurd (true≢false (sym h))
-shape_read name total n does help (p ∷ s ∷ []) None option words h = absurd (true≢false (sym h))
-shape_read name total n does help (p ∷ s ∷ []) (Some l) (Some choice) words h = absurd (true≢false (sym h))
-shape_read name total n does help (p ∷ s ∷ t ∷ []) (Some l) option words h = absurd (true≢false (sym h))
-shape_read name total n does help (p ∷ s ∷ t ∷ []) None (Some choice) words h = absurd (true≢false (sym h))
-shape_read name total n does help (p ∷ s ∷ t ∷ u ∷ places) last option words h = absurd (true≢false (sym h))
+    → IsRead name (record { work = work; name = n; places = places; last = last; option = option; does = does; help = help }) words
+    (read_after (record { work = work; name = n; places = places; last = last; option = option; does = does; help = help }) total words)
+shape_read name total work n does help (p ∷ []) None None words h = one_read work n does help p name total words
+shape_read name total work n does help (p ∷ s ∷ []) None None words h = pair_read work n does help p s name total words
+shape_read name total work n does help (p ∷ s ∷ []) (Some l) None words h = two_read work n does l help p s name total words
+shape_read name total work n does help (p ∷ s ∷ t ∷ []) None None words h = three_read work n does help p s t name total words
+shape_read name total work n does help [] last option words h = absurd (true≢false (sym h))
+shape_read name total work n does help (p ∷ []) (Some l) option words h = absurd (true≢false (sym h))
+shape_read name total work n does help (p ∷ []) None (Some choice) words h = absurd (true≢false (sym h))
+shape_read name total work n does help (p ∷ s ∷ []) None (Some choice) words h = absurd (true≢false (sym h))
+shape_read name total work n does help (p ∷ s ∷ []) (Some l) (Some choice) words h = absurd (true≢false (sym h))
+shape_read name total work n does help (p ∷ s ∷ t ∷ []) (Some l) option words h = absurd (true≢false (sym h))
+shape_read name total work n does help (p ∷ s ∷ t ∷ []) None (Some choice) words h = absurd (true≢false (sym h))
+shape_read name total work n does help (p ∷ s ∷ t ∷ u ∷ places) last option words h = absurd (true≢false (sym h))
 
 all_read : (name : Text) (total : ℕ) (form : Form) (words : List Text) → IsShaped form → IsRead name form words (read_after form total words)
-all_read name total form words (inl h) = shape_read name total form.name form.does form.help form.places form.last form.option words h
+all_read name total form words (inl h) = shape_read name total form.work form.name form.does form.help form.places form.last form.option words h
 all_read name total form words (inr e) = subst (λ f. IsRead name f words (read_after f total words)) (sym e) (run_read name total words)
 
-shape_is_simple : (n does : Text) (help : Help) (places : List Place) (last : Option Text) (option : Option Choice) → has_shape places last option ≡ true
-    → is_simple (line_of (record { name = n; places = places; last = last; option = option; does = does; help = help })) ≡ true
-shape_is_simple n does help (p ∷ []) None None h = check_is_simple
-shape_is_simple n does help (p ∷ s ∷ []) (Some l) None h = replay_is_simple
-shape_is_simple n does help (p ∷ s ∷ t ∷ []) None None h = make_is_simple
-shape_is_simple n does help [] last option h = absurd (true≢false (sym h))
-shape_is_simple n does help (p ∷ []) (Some l) option h = absurd (true≢false (sym h))
-shape_is_simple n does help (p ∷ []) None (Some choice) h = absurd (true≢false (sym h))
-shape_is_simple n does help (p ∷ s ∷ []) None option h = absurd (true≢false (sym h))
-shape_is_simple n does help (p ∷ s ∷ []) (Some l) (Some choice) h = absurd (true≢false (sym h))
-shape_is_simple n does help (p ∷ s ∷ t ∷ []) (Some l) option h = absurd (true≢false (sym h))
-shape_is_simple n does help (p ∷ s ∷ t ∷ []) None (Some choice) h = absurd (true≢false (sym h))
-shape_is_simple n does help (p ∷ s ∷ t ∷ u ∷ places) last option h = absurd (true≢false (sym h))
+shape_is_simple : (work : Work) (n does : Text) (help : Help) (places : List Place) (last : Option Text) (option : Option Choice) → has_shape places last option ≡ true
+    → is_simple (line_of (record { work = work; name = n; places = places; last = last; option = option; does = does; help = help })) ≡ true
+shape_is_simple work n does help (p ∷ []) None None h = one_is_simple
+shape_is_simple work n does help (p ∷ s ∷ []) None None h = pair_is_simple
+shape_is_simple work n does help (p ∷ s ∷ []) (Some l) None h = last_is_simple
+shape_is_simple work n does help (p ∷ s ∷ t ∷ []) None None h = three_is_simple
+shape_is_simple work n does help [] last option h = absurd (true≢false (sym h))
+shape_is_simple work n does help (p ∷ []) (Some l) option h = absurd (true≢false (sym h))
+shape_is_simple work n does help (p ∷ []) None (Some choice) h = absurd (true≢false (sym h))
+shape_is_simple work n does help (p ∷ s ∷ []) None (Some choice) h = absurd (true≢false (sym h))
+shape_is_simple work n does help (p ∷ s ∷ []) (Some l) (Some choice) h = absurd (true≢false (sym h))
+shape_is_simple work n does help (p ∷ s ∷ t ∷ []) (Some l) option h = absurd (true≢false (sym h))
+shape_is_simple work n does help (p ∷ s ∷ t ∷ []) None (Some choice) h = absurd (true≢false (sym h))
+shape_is_simple work n does help (p ∷ s ∷ t ∷ u ∷ places) last option h = absurd (true≢false (sym h))
 
 simple : (form : Form) → IsShaped form → is_simple (line_of form) ≡ true
-simple form (inl h) = shape_is_simple form.name form.does form.help form.places form.last form.option h
+simple form (inl h) = shape_is_simple form.work form.name form.does form.help form.places form.last form.option h
 simple form (inr e) = subst (λ f. is_simple (line_of f) ≡ true) (sym e) run_is_simple
 
 -- arguments after the name of a form that have values are taken
@@ -294,7 +314,7 @@ pub commands_are_read : (line : App) (name : Text) (form : Form) (total : ℕ) (
     → found_values form (first_value (found_of m)) ≡ values
 commands_are_read line name form total words values m e listed ok read =
     let rows = (read (ap is_simple e ∙ simple form (is_shaped name form listed))).0 ∙ ap (λ a. matches_of a (name ∷ words)) e in
-    let found : first_value (found_of m) ≡ values_in (matches_of (line_of form) (name ∷ words)) =
+    let found : first_value (found_of m) ≡ row_values (matches_of (line_of form) (name ∷ words)) =
     λ i key. (first_value-rows (found_of m) key ∙ ap (first_of key) rows) i in
     ap (found_values form) found ∙ (subst (λ r. IsRead name form words r) ok (all_read name total form words (is_shaped name form listed))).1
 
@@ -332,21 +352,39 @@ tested_are_command name form total words tested listed count h = (listed, by (re
 pub tested_are_fault : (name : Text) (form : Form) (total : ℕ) (words : List Text) (found : UsageFault) → form_by name ≡ Some form → total ≡ suc (length words)
     → IsTested (read_after form total words) (Err found) → command_of (name ∷ words) ≡ Err (fault_of found)
 tested_are_fault name form total words found listed count h =
-    ap (with_form name words) listed ∙ by (read_by form words) (subst (λ n. IsTested (read_after form n words) (Err found)) count h)
+    ap (with_form words) listed ∙ by (read_by form words) (subst (λ n. IsTested (read_after form n words) (Err found)) count h)
   where
-    by : (result : Result Values Fault) → IsTested result (Err found) → with_values name result ≡ Err (fault_of found)
+    by : (result : Result Values Fault) → IsTested result (Err found) → with_values form.work result ≡ Err (fault_of found)
     by (Ok values) k = absurd k
     by (Err fault) k = ap Err k
 
--- by its values
-pub command_is_found : (name : Text) (form : Form) (words : List Text) (values : Values) → form_by name ≡ Some form → HasValues form (name ∷ words) values
-    → command_of (name ∷ words) ≡ Ok (command_by name values)
-command_is_found name form words values listed h = ap (with_form name words) listed ∙ ap (with_values name) h
-
--- out of memory over arguments that are a command
-pub command_is_there : (name : Text) (form : Form) (words : List Text) → IsCommandOf form (name ∷ words) → IsOk (command_of (name ∷ words))
-command_is_there name form words (listed, ok) = subst (λ f. IsOk (with_form name words f)) (sym listed) (by (read_by form words) ok)
+-- arguments that are a command are this one
+pub command_is_found : (form : Form) (words : List Text) → IsCommandOf form words → command_of words ≡ Ok (command_in form words)
+command_is_found form [] command = absurd command
+command_is_found form (name ∷ words) (listed, ok) = ap (with_form words) listed ∙ by (read_by form words) ok
   where
-    by : (result : Result Values Fault) → IsOk result → IsOk (with_values name result)
+    by : (result : Result Values Fault) → IsOk result → with_values form.work result ≡ Ok (record { work = form.work; values = values_or_none result })
     by (Ok values) k = refl
     by (Err fault) k = absurd (true≢false (sym k))
+
+-- their values
+pub values_are : (form : Form) (words : List Text) (values : Values) → HasValues form words values → values ≡ values_in form words
+values_are form [] values h = absurd h
+values_are form (name ∷ words) values h = sym (ap values_or_none h)
+
+-- their numbers are within their bounds
+pub numbers_are : (form : Form) (words : List Text) → IsCommandOf form words → HasNumbers (command_in form words)
+numbers_are form [] command = absurd command
+numbers_are form (name ∷ words) (listed, ok) = by (read_by form words) refl ok
+  where
+    by : (result : Result Values Fault) → read_by form words ≡ result → IsOk result → HasNumbers (record { work = form.work; values = values_or_none result })
+    by (Ok values) e k =
+        has_numbers (record { work = form.work; values = values })
+        (subst (λ f. suits f values ≡ true) (sym (form_is name form listed)) (values_suit name form words values listed e))
+    by (Err fault) e k = absurd (true≢false (sym k))
+
+-- and their files are those that the form says
+pub files_are : (form : Form) (words : List Text) (values : Values) → IsCommandOf form words → values ≡ values_in form words
+    → files_by form values ≡ files_of (command_in form words)
+files_are form [] values command e = absurd command
+files_are form (name ∷ words) values (listed, ok) e = λ i. files_by (sym (form_is name form listed) i) (e i)

@@ -1,42 +1,48 @@
 -- Worked cases: which command arguments are, and the fault of others.
-use Rattle.std.proofs.Common.{◌≡◌, refl, codes, [], ◌∷◌, Some, None}
+use Rattle.std.proofs.Common.{◌≡◌, refl, ℕ, List, Option, codes, [], ◌∷◌, Some, None}
 use Rattle.std.specs.Prelude.{Ok, Err}
-use Rattle.sb_commands.specs.Commands.{Plain, Threaded, Check, Replay, Linked, Dup, Local, Audit, Run, command_of}
+use Rattle.sb_commands.specs.Commands.{command_of}
 use Rattle.sb_commands.specs.Forms.{Choice}
-use Rattle.sb_commands.specs.Usage.{NoCommand, UnknownCommand, UnknownOption, OptionTwice, OptionBetween, NoOptionNumber, BadOptionNumber, NoFileName, BadNumber, ExtraWord, Missing}
-use Rattle.sb_commands.specs.UsageMessages.{fault_text, usage_line}
+use Rattle.sb_commands.specs.Usage.{Values, NoCommand, UnknownCommand, UnknownOption, OptionTwice, OptionBetween, NoOptionNumber, BadOptionNumber, NoFileName, BadNumber, ExtraWord, Missing}
+use Rattle.sb_commands.specs.declared.works.PlainWork.TheVariants.{Audit, Check, Dup, Linked, Local, Replay}
+use Rattle.sb_commands.specs.declared.works.ThreadedWork.TheVariants.{Run}
+use Rattle.sb_commands.specs.declared.works.Work.TheVariants.{Plain, Threaded}
+use Rattle.sb_commands.specs.UsageMessages.{fault_text}
 
 abbrev workers : Choice
 workers = record { flag = codes "workers"; number = record { name = codes "N"; low = 1; high = 8 }; default = 2 }
 
-check_is_read : command_of (codes "check" ∷ codes "p" ∷ []) ≡ Ok (Plain (Check (codes "p")))
+abbrev values : List ℕ → List ℕ → List ℕ → Option (List ℕ) → ℕ → Values
+values first second third last option = record { first = first; second = second; third = third; last = last; option = option }
+
+check_is_read : command_of (codes "check" ∷ codes "p" ∷ []) ≡ Ok (record { work = Plain Check; values = values (codes "p") [] [] None 0 })
 check_is_read = refl
 
-schedule_is_read : command_of (codes "replay" ∷ codes "p" ∷ codes "s" ∷ codes "c" ∷ []) ≡ Ok (Plain (Replay (codes "p") (codes "s") (Some (codes "c"))))
+schedule_is_read : command_of (codes "replay" ∷ codes "p" ∷ codes "s" ∷ codes "c" ∷ []) ≡ Ok (record { work = Plain Replay; values = values (codes "p") (codes "s") [] (Some (codes "c")) 0 })
 schedule_is_read = refl
 
-links_are_read : command_of (codes "linked" ∷ codes "p" ∷ codes "s" ∷ codes "l" ∷ []) ≡ Ok (Plain (Linked (codes "p") (codes "s") (codes "l")))
+links_are_read : command_of (codes "linked" ∷ codes "p" ∷ codes "s" ∷ codes "l" ∷ []) ≡ Ok (record { work = Plain Linked; values = values (codes "p") (codes "s") (codes "l") None 0 })
 links_are_read = refl
 
-moves_are_read : command_of (codes "dup" ∷ codes "p" ∷ codes "s" ∷ codes "m" ∷ []) ≡ Ok (Plain (Dup (codes "p") (codes "s") (codes "m")))
+moves_are_read : command_of (codes "dup" ∷ codes "p" ∷ codes "s" ∷ codes "m" ∷ []) ≡ Ok (record { work = Plain Dup; values = values (codes "p") (codes "s") (codes "m") None 0 })
 moves_are_read = refl
 
-local_is_read : command_of (codes "local" ∷ codes "p" ∷ codes "s" ∷ []) ≡ Ok (Plain (Local (codes "p") (codes "s") None))
+local_is_read : command_of (codes "local" ∷ codes "p" ∷ codes "s" ∷ []) ≡ Ok (record { work = Plain Local; values = values (codes "p") (codes "s") [] None 0 })
 local_is_read = refl
 
-transcript_is_read : command_of (codes "audit" ∷ codes "p" ∷ codes "s" ∷ codes "t" ∷ []) ≡ Ok (Plain (Audit (codes "p") (codes "s") (codes "t")))
+transcript_is_read : command_of (codes "audit" ∷ codes "p" ∷ codes "s" ∷ codes "t" ∷ []) ≡ Ok (record { work = Plain Audit; values = values (codes "p") (codes "s") (codes "t") None 0 })
 transcript_is_read = refl
 
 links_missing : command_of (codes "linked" ∷ codes "p" ∷ codes "s" ∷ []) ≡ Err (Missing (codes "LINKS"))
 links_missing = refl
 
-two_workers : command_of (codes "run" ∷ codes "p" ∷ codes "s" ∷ []) ≡ Ok (Threaded (Run (codes "p") (codes "s") 2))
+two_workers : command_of (codes "run" ∷ codes "p" ∷ codes "s" ∷ []) ≡ Ok (record { work = Threaded Run; values = values (codes "p") (codes "s") [] None 2 })
 two_workers = refl
 
-option_first : command_of (codes "run" ∷ codes "--workers" ∷ codes "3" ∷ codes "p" ∷ codes "s" ∷ []) ≡ Ok (Threaded (Run (codes "p") (codes "s") 3))
+option_first : command_of (codes "run" ∷ codes "--workers" ∷ codes "3" ∷ codes "p" ∷ codes "s" ∷ []) ≡ Ok (record { work = Threaded Run; values = values (codes "p") (codes "s") [] None 3 })
 option_first = refl
 
-option_last : command_of (codes "run" ∷ codes "p" ∷ codes "s" ∷ codes "--workers=08" ∷ []) ≡ Ok (Threaded (Run (codes "p") (codes "s") 8))
+option_last : command_of (codes "run" ∷ codes "p" ∷ codes "s" ∷ codes "--workers=08" ∷ []) ≡ Ok (record { work = Threaded Run; values = values (codes "p") (codes "s") [] None 8 })
 option_last = refl
 
 nothing : command_of [] ≡ Err NoCommand
@@ -74,10 +80,6 @@ too_many_targets : command_of (codes "make" ∷ codes "1" ∷ codes "9" ∷ code
 too_many_targets = refl
 
 -- ---- texts
-
-usage : usage_line
-    ≡ codes "sandbox: usage: check POLICY, replay POLICY SCRIPT [SCHEDULE], run POLICY SCRIPT [--workers N], make SEED TARGETS CALLS, linked POLICY SCRIPT LINKS, dup POLICY SCRIPT MOVES, local POLICY SCRIPT [SCHEDULE], audit POLICY SCRIPT TRANSCRIPT\n"
-usage = refl
 
 number_missing : fault_text (NoOptionNumber 3 workers) [] ≡ codes "--workers: N is missing"
 number_missing = refl

@@ -1,52 +1,70 @@
 -- How a command is written, and that exactly what can be written is read.
-use Rattle.std.specs.Prelude.{◌≡◌, ℕ, ◌<◌, ◌^◌, ◌==◌, not, Bool, true, false, List, [], ◌∷◌, option_to_list, codes, Ok, ⊤}
+use Rattle.std.specs.Prelude.{◌≡◌, ℕ, ◌==◌, ◌&&◌, not, Bool, true, false, List, [], ◌∷◌, ◌++◌, Option, None, Some, option_to_list, codes, Ok}
 use Rattle.std.specs.Fmt.{decimal}
 use Rattle.std.specs.List.{list_all}
-use Rattle.sb_commands.specs.Commands.{Command, Plain, Threaded, PlainCommand, Check, Replay, Linked, Dup, Local, Audit, Run, Make, HasNumbers, command_of}
+use Rattle.sb_commands.specs.Commands.{Command, command_of, placed}
+use Rattle.sb_commands.specs.Forms.{Choice, File, Form, Number, Place, form_with}
+use Rattle.sb_commands.specs.NumberWords.{is_number, is_within}
+use Rattle.sb_commands.specs.Usage.{Values}
 
 -- the name of a file on the command line: it is not empty, and does not begin with `-`
 abbrev pub is_file_name : List ℕ → Bool
 is_file_name [] = false
 is_file_name (b ∷ bs) = not (b == 45)
 
+-- an argument is what its place asks for
+abbrev pub suits_place : Place → List ℕ → Bool
+suits_place (File name) word = is_file_name word
+suits_place (Number number) word = is_number number.low number.high word
+
+abbrev pub is_empty : List ℕ → Bool
+is_empty [] = true
+is_empty (b ∷ bs) = false
+
+-- so are arguments, and nothing is where there is no place
+abbrev pub suit_places : List Place → List (List ℕ) → Bool
+suit_places [] words = list_all is_empty words
+suit_places (place ∷ places) [] = false
+suit_places (place ∷ places) (word ∷ words) = suits_place place word && suit_places places words
+
+-- the file that may be left out
+abbrev pub suits_last : Option (List ℕ) → Option (List ℕ) → Bool
+suits_last name None = true
+suits_last None (Some word) = false
+suits_last (Some name) (Some word) = is_file_name word
+
+-- the number of the option
+abbrev pub suits_option : Option Choice → ℕ → Bool
+suits_option None number = number == 0
+suits_option (Some choice) number = is_within choice.number.low choice.number.high (Some number)
+
+-- values that can be written in a form
+abbrev pub suits : Form → Values → Bool
+suits form values = suit_places form.places (placed values) && (suits_last form.last values.last && suits_option form.option values.option)
+
+-- a command that can be written: its files have names of files, and its numbers are within their bounds
+abbrev pub IsWritable : Command → Type 0
+IsWritable command = suits (form_with command.work) command.values ≡ true
+
+-- the arguments at places
+abbrev pub written_places : List Place → List (List ℕ) → List (List ℕ)
+written_places [] words = []
+written_places (place ∷ places) [] = []
+written_places (place ∷ places) (word ∷ words) = word ∷ written_places places words
+
+-- the option with its number
+abbrev pub written_option : Option Choice → ℕ → List (List ℕ)
+written_option None number = []
+written_option (Some choice) number = (codes "--" ++ choice.flag) ∷ decimal number ∷ []
+
+-- the arguments of a form with these values
+abbrev pub written_values : Form → Values → List (List ℕ)
+written_values form values =
+    written_places form.places (placed values) ++ (option_to_list values.last ++ written_option form.option values.option)
+
 -- the arguments of a command
-abbrev pub written_plain : PlainCommand → List (List ℕ)
-written_plain (Check policy) = codes "check" ∷ policy ∷ []
-written_plain (Replay policy script schedule) = codes "replay" ∷ policy ∷ script ∷ option_to_list schedule
-written_plain (Linked policy script links) = codes "linked" ∷ policy ∷ script ∷ links ∷ []
-written_plain (Dup policy script moves) = codes "dup" ∷ policy ∷ script ∷ moves ∷ []
-written_plain (Local policy script schedule) = codes "local" ∷ policy ∷ script ∷ option_to_list schedule
-written_plain (Audit policy script transcript) = codes "audit" ∷ policy ∷ script ∷ transcript ∷ []
-
 abbrev pub written : Command → List (List ℕ)
-written (Plain command) = written_plain command
-written (Threaded (Run policy script workers)) = codes "run" ∷ policy ∷ script ∷ codes "--workers" ∷ decimal workers ∷ []
-written (Threaded (Make seed targets calls)) = codes "make" ∷ decimal seed ∷ decimal targets ∷ decimal calls ∷ []
-
--- the files of a command
-abbrev pub plain_files : PlainCommand → List (List ℕ)
-plain_files (Check policy) = policy ∷ []
-plain_files (Replay policy script schedule) = policy ∷ script ∷ option_to_list schedule
-plain_files (Linked policy script links) = policy ∷ script ∷ links ∷ []
-plain_files (Dup policy script moves) = policy ∷ script ∷ moves ∷ []
-plain_files (Local policy script schedule) = policy ∷ script ∷ option_to_list schedule
-plain_files (Audit policy script transcript) = policy ∷ script ∷ transcript ∷ []
-
-abbrev pub files : Command → List (List ℕ)
-files (Plain command) = plain_files command
-files (Threaded (Run policy script workers)) = policy ∷ script ∷ []
-files (Threaded (Make seed targets calls)) = []
-
--- a seed has 64 bits
-abbrev pub HasSeed : Command → Type 0
-HasSeed (Threaded (Make seed targets calls)) = seed < 2 ^ 64
-HasSeed _ = ⊤
-
--- a command that can be written: its files have names of files, and its numbers are in their ranges
-pub record IsWritable (command : Command) : Type 0 where
-  pub names : list_all is_file_name (files command) ≡ true
-  pub seed : HasSeed command
-  pub numbers : HasNumbers command
+written command = (form_with command.work).name ∷ written_values (form_with command.work) command.values
 
 -- what is written of a command is read as this command
 abbrev pub WrittenCommandsAreRead : Type 0

@@ -1,124 +1,112 @@
 -- Which command the arguments are.
-use Rattle.std.specs.Prelude.{ℕ, ◌≡◌, ◌≤◌, ⊤, Bool, true, false, nat_eq, List, [], ◌∷◌, Option, None, Some, if◌then◌else◌, codes, option_map, Result, Ok, Err, IsOk}
+use Rattle.std.specs.Prelude.{ℕ, ◌-◌, ◌==◌, ◌≡◌, ◌≤◌, ⊤, Bool, true, false, List, [], ◌∷◌, ◌++◌, Option, None, Some, if◌then◌else◌, option_map, option_to_list, Result, Ok, Err, IsOk}
 use Rattle.std.specs.Borrow.{Bor}
-use Rattle.std.specs.Cmp.Lexicographic.{pointwise}
-use Rattle.sb_commands.specs.Forms.{Form, form_by}
-use Rattle.sb_commands.specs.NumberWords.{number_of, small}
-use Rattle.sb_commands.specs.Usage.{Fault, NoCommand, UnknownCommand, Values, fault_of, read_by}
-use Rattle.sb_commands.specs.declared.commands.CommandWords.{CommandWords}
-use Rattle.sb_commands.specs.declared.commands.CommandWords.TheVariants as words
-use Rattle.sb_commands.specs.declared.commands.PlainWords.{PlainWords}
-use Rattle.sb_commands.specs.declared.commands.PlainWords.TheVariants as plain
-use Rattle.sb_commands.specs.declared.commands.ThreadedWords.{ThreadedWords}
-use Rattle.sb_commands.specs.declared.commands.ThreadedWords.TheVariants as threaded
-use Rattle.sb_commands.specs.declared.usage_faults.UsageFault.{UsageFault}
-use Rattle.sb_items.specs.declared.refusals.Refused.{Refused}
-use Rattle.sb_items.specs.declared.refusals.Refused.TheVariants as refused
+use Rattle.sb_commands.specs.Forms.{Choice, File, Form, Number, Place, form_by, form_with}
+use Rattle.sb_commands.specs.NumberWords.{number_of}
+use Rattle.sb_commands.specs.Usage.{Fault, NoCommand, UnknownCommand, Values, read_by}
+use Rattle.sb_commands.specs.declared.works.PlainWork.{PlainWork}
+use Rattle.sb_commands.specs.declared.works.ThreadedWork.{ThreadedWork}
+use Rattle.sb_commands.specs.declared.works.Work.{Work}
+use Rattle.sb_commands.specs.declared.works.Work.TheVariants.{Plain, Threaded}
 
--- a command that runs without threads, with the names of its files: policies are checked; a script is replayed under policies, by a schedule if one
--- is named; its calls are answered with the links of a file in their names; it is run, and handles are moved between its targets; it is run without
--- the calls that the policies deny; or a transcript of it is audited
-pub data PlainCommand : Type 0 where
-  Check : List ℕ → PlainCommand
-  Replay : List ℕ → List ℕ → Option (List ℕ) → PlainCommand
-  Linked : List ℕ → List ℕ → List ℕ → PlainCommand
-  Dup : List ℕ → List ℕ → List ℕ → PlainCommand
-  Local : List ℕ → List ℕ → Option (List ℕ) → PlainCommand
-  Audit : List ℕ → List ℕ → List ℕ → PlainCommand
-
--- a command that runs on threads: a script is run under policies by this number of workers, or a script of this seed, with these numbers of targets
--- and of calls a thread, is made and run
-pub data ThreadedCommand : Type 0 where
-  Run : List ℕ → List ℕ → ℕ → ThreadedCommand
-  Make : ℕ → ℕ → ℕ → ThreadedCommand
-
-pub data Command : Type 0 where
-  Plain : PlainCommand → Command
-  Threaded : ThreadedCommand → Command
-
--- each command by its values
-abbrev pub check_by : Values → Command
-check_by values = Plain (Check values.first)
-
-abbrev pub replay_by : Values → Command
-replay_by values = Plain (Replay values.first values.second values.last)
-
-abbrev pub run_by : Values → Command
-run_by values = Threaded (Run values.first values.second (small values.option))
-
-abbrev pub make_by : Values → Command
-make_by values = Threaded (Make (number_of values.first) (small (number_of values.second)) (small (number_of values.third)))
-
-abbrev pub linked_by : Values → Command
-linked_by values = Plain (Linked values.first values.second values.third)
-
-abbrev pub dup_by : Values → Command
-dup_by values = Plain (Dup values.first values.second values.third)
-
-abbrev pub local_by : Values → Command
-local_by values = Plain (Local values.first values.second values.last)
-
-abbrev pub audit_by : Values → Command
-audit_by values = Plain (Audit values.first values.second values.third)
-
--- the command of this name by its values
-abbrev pub command_by : List ℕ → Values → Command
-command_by name values =
-    if pointwise nat_eq name (codes "check") then check_by values
-    else (if pointwise nat_eq name (codes "replay") then replay_by values
-    else (if pointwise nat_eq name (codes "run") then run_by values
-    else (if pointwise nat_eq name (codes "make") then make_by values
-    else (if pointwise nat_eq name (codes "linked") then linked_by values
-    else (if pointwise nat_eq name (codes "dup") then dup_by values
-    else (if pointwise nat_eq name (codes "local") then local_by values else audit_by values))))))
+-- a command: what it does, and the values of its arguments
+pub record Command : Type 0 where
+  pub work : Work
+  pub values : Values
 
 -- with the arguments after its name
-abbrev pub with_values : List ℕ → Result Values Fault → Result Command Fault
-with_values name (Ok values) = Ok (command_by name values)
-with_values name (Err fault) = Err fault
+abbrev pub with_values : Work → Result Values Fault → Result Command Fault
+with_values work (Ok values) = Ok (record { work = work; values = values })
+with_values work (Err fault) = Err fault
 
 -- with its form, if it has one
-abbrev pub with_form : List ℕ → List (List ℕ) → Option Form → Result Command Fault
-with_form name words None = Err UnknownCommand
-with_form name words (Some form) = with_values name (read_by form words)
+abbrev pub with_form : List (List ℕ) → Option Form → Result Command Fault
+with_form words None = Err UnknownCommand
+with_form words (Some form) = with_values form.work (read_by form words)
 
 -- the command that the arguments are, or the first fault: that of the command's name, then that of the arguments after it from left to right
 abbrev pub command_of : List (List ℕ) → Result Command Fault
 command_of [] = Err NoCommand
-command_of (name ∷ words) = with_form name words (form_by name)
+command_of (name ∷ words) = with_form words (form_by name)
 
--- the name of a file, if one is given
+-- whether there is a command, and it runs on threads
+abbrev pub is_threaded : Work → Bool
+is_threaded (Threaded work) = true
+is_threaded _ = false
+
+abbrev pub needs_threads : Result Command Fault → Bool
+needs_threads (Ok command) = is_threaded command.work
+needs_threads (Err fault) = false
+
+-- ---- the files
+
+-- what is at the three places
+abbrev pub placed : Values → List (List ℕ)
+placed values = values.first ∷ values.second ∷ values.third ∷ []
+
+-- the names of the files at places
+abbrev pub files_at : List Place → List (List ℕ) → List (List ℕ)
+files_at [] words = []
+files_at (place ∷ places) [] = []
+files_at (File name ∷ places) (word ∷ words) = word ∷ files_at places words
+files_at (Number number ∷ places) (word ∷ words) = files_at places words
+
+-- the file that may be left out, in a form that has one
+abbrev pub last_file : Option (List ℕ) → Option (List ℕ) → List (List ℕ)
+last_file None value = []
+last_file (Some name) value = option_to_list value
+
+-- the names of the files of a command, in their order in the command
+abbrev pub files_by : Form → Values → List (List ℕ)
+files_by form values = files_at form.places (placed values) ++ last_file form.last values.last
+
+abbrev pub files_of : Command → List (List ℕ)
+files_of command = files_by (form_with command.work) command.values
+
+-- a command that runs without threads, and one that runs on threads, by its values
+abbrev pub plain : PlainWork → Values → Command
+plain work values = record { work = Plain work; values = values }
+
+abbrev pub plain_files : PlainWork → Values → List (List ℕ)
+plain_files work values = files_of (plain work values)
+
+abbrev pub threaded : ThreadedWork → Values → Command
+threaded work values = record { work = Threaded work; values = values }
+
+abbrev pub threaded_files : ThreadedWork → Values → List (List ℕ)
+threaded_files work values = files_of (threaded work values)
+
+-- the name of a file that the program has, if one is given
 abbrev pub named : Option (Bor (List ℕ)) → Option (List ℕ)
 named file = option_map (λ name. name.now) file
 
--- commands that the program found
-abbrev pub plain_of : PlainWords → PlainCommand
-plain_of (plain.Check policy) = Check policy.now
-plain_of (plain.Replay policy script schedule) = Replay policy.now script.now (named schedule)
-plain_of (plain.Linked policy script links) = Linked policy.now script.now links.now
-plain_of (plain.Dup policy script moves) = Dup policy.now script.now moves.now
-plain_of (plain.Local policy script schedule) = Local policy.now script.now (named schedule)
-plain_of (plain.Audit policy script transcript) = Audit policy.now script.now transcript.now
+-- the name of file n, from 1; nothing, if there is no such file
+abbrev pub name_at : ℕ → List (List ℕ) → List ℕ
+name_at n [] = []
+name_at n (name ∷ names) = if n == 1 then name else name_at (n - 1) names
 
-abbrev pub threaded_of : ThreadedWords → ThreadedCommand
-threaded_of (threaded.Run policy script workers) = Run policy.now script.now workers
-threaded_of (threaded.Make seed targets calls) = Make seed targets calls
+-- ---- the numbers
 
-abbrev pub meant : CommandWords → Command
-meant (words.Plain command) = Plain (plain_of command)
-meant (words.Threaded command) = Threaded (threaded_of command)
+-- a number is not below the lowest and not above the highest of its place
+abbrev pub IsWithin : Place → List ℕ → Type 0
+IsWithin (File name) word = ⊤
+IsWithin (Number number) word = (number.low ≤ number_of word) × (number_of word ≤ number.high)
 
--- numbers are in their ranges: 1 to 8 workers, and 1 to 8 targets with 1 to 4,096 calls a thread
-abbrev pub HasNumbers : Command → Type 0
-HasNumbers (Threaded (Run policy script workers)) = (1 ≤ workers) × (workers ≤ 8)
-HasNumbers (Threaded (Make seed targets calls)) = ((1 ≤ targets) × (targets ≤ 8)) × ((1 ≤ calls) × (calls ≤ 4096))
-HasNumbers _ = ⊤
+abbrev pub AreWithin : List Place → List (List ℕ) → Type 0
+AreWithin [] words = ⊤
+AreWithin (place ∷ places) [] = ⊤
+AreWithin (place ∷ places) (word ∷ words) = IsWithin place word × AreWithin places words
 
--- the command was found, or its fault, or memory ran out, which it does only over arguments that are a command
-abbrev pub IsFound : Result Command Fault → Result CommandWords (Refused UsageFault) → Type 0
-IsFound wanted (Ok command) = wanted ≡ Ok (meant command)
-IsFound wanted (Err (refused.Fault fault)) = wanted ≡ Err (fault_of fault)
-IsFound wanted (Err refused.NoMemory) = IsOk wanted
+abbrev pub IsOptionWithin : Option Choice → ℕ → Type 0
+IsOptionWithin None value = ⊤
+IsOptionWithin (Some choice) value = (choice.number.low ≤ value) × (value ≤ choice.number.high)
+
+-- the numbers of a command are within the bounds of its form
+pub record HasNumbers (command : Command) : Type 0 where
+  pub places : AreWithin (form_with command.work).places (placed command.values)
+  pub option : IsOptionWithin (form_with command.work).option command.values.option
+
+-- ---- arguments that are a command
 
 -- the first argument is the name of a form, and those after it have values by it
 abbrev pub IsCommandOf : Form → List (List ℕ) → Type 0
@@ -130,7 +118,18 @@ abbrev pub HasValues : Form → List (List ℕ) → Values → Type 0
 HasValues form [] values = ⊥
 HasValues form (name ∷ words) values = read_by form words ≡ Ok values
 
--- whether there is a command, and it runs on threads
-abbrev pub needs_threads : Result Command Fault → Bool
-needs_threads (Ok (Threaded command)) = true
-needs_threads _ = false
+-- their values
+abbrev pub no_values : Values
+no_values = record { first = []; second = []; third = []; last = None; option = 0 }
+
+abbrev pub values_or_none : Result Values Fault → Values
+values_or_none (Ok values) = values
+values_or_none (Err fault) = no_values
+
+abbrev pub values_in : Form → List (List ℕ) → Values
+values_in form [] = no_values
+values_in form (name ∷ words) = values_or_none (read_by form words)
+
+-- the command that they are
+abbrev pub command_in : Form → List (List ℕ) → Command
+command_in form words = record { work = form.work; values = values_in form words }

@@ -1,4 +1,4 @@
--- The forms of all commands. This table is the definition of the command line.
+-- The forms of all commands. This table is the definition of the command line: a command is a case of `form_with`, and a place in `works`.
 use Rattle.std.specs.Prelude.{ℕ, nat_eq, List, [], ◌∷◌, Option, None, Some, if◌then◌else◌, codes, map, option_map}
 use Rattle.std.specs.Cmp.Lexicographic.{pointwise}
 use Rattle.sb_commands.specs.declared.audit_help.TheConstants as audit
@@ -16,6 +16,10 @@ use Rattle.sb_commands.specs.declared.local_help.TheConstants as local
 use Rattle.sb_commands.specs.declared.make_help.TheConstants as make
 use Rattle.sb_commands.specs.declared.replay_help.TheConstants as replay
 use Rattle.sb_commands.specs.declared.run_help.TheConstants as run
+use Rattle.sb_commands.specs.declared.works.PlainWork.TheVariants.{Check, Replay, Linked, Dup, Local, Audit}
+use Rattle.sb_commands.specs.declared.works.ThreadedWork.TheVariants.{Run, Make}
+use Rattle.sb_commands.specs.declared.works.Work.{Work}
+use Rattle.sb_commands.specs.declared.works.Work.TheVariants.{Plain, Threaded}
 
 -- a number from the lowest to the highest, by its name
 pub record Bounded : Type 0 where
@@ -39,9 +43,10 @@ pub record Help : Type 0 where
   pub about : List ℕ
   pub after : List (List ℕ)
 
--- a command: its name, what is at its places, at most three, a file that may be left out, an option, which is before all of these or after
--- them, what the command does, and its help
+-- a command: what it does, its name, what is at its places, at most three, a file that may be left out, an option, which is before all of these or after
+-- them, what the command does in words, and its help
 pub record Form : Type 0 where
+  pub work : Work
   pub name : List ℕ
   pub places : List Place
   pub last : Option (List ℕ)
@@ -49,8 +54,10 @@ pub record Form : Type 0 where
   pub does : List ℕ
   pub help : Help
 
-abbrev pub check_form : Form
-check_form = record {
+-- the form of each command
+abbrev pub form_with : Work → Form
+form_with (Plain Check) = record {
+  work = Plain Check;
   name = codes "check";
   places = File (codes "POLICY") ∷ [];
   last = None;
@@ -58,9 +65,8 @@ check_form = record {
   does = codes "print the policies of POLICY, and the code by which calls are judged";
   help = record { about = check.ABOUT.now; after = check.STATUSES.now ∷ [] };
 }
-
-abbrev pub replay_form : Form
-replay_form = record {
+form_with (Plain Replay) = record {
+  work = Plain Replay;
   name = codes "replay";
   places = File (codes "POLICY") ∷ File (codes "SCRIPT") ∷ [];
   last = Some (codes "SCHEDULE");
@@ -68,9 +74,8 @@ replay_form = record {
   does = codes "run SCRIPT under POLICY as SCHEDULE says, and print the transcript";
   help = record { about = replay.ABOUT.now; after = texts.BLOCK_FAULTS.now ∷ replay.STATUSES.now ∷ [] };
 }
-
-abbrev pub run_form : Form
-run_form = record {
+form_with (Threaded Run) = record {
+  work = Threaded Run;
   name = codes "run";
   places = File (codes "POLICY") ∷ File (codes "SCRIPT") ∷ [];
   last = None;
@@ -78,9 +83,8 @@ run_form = record {
   does = codes "run SCRIPT under POLICY on threads, and print the transcript";
   help = record { about = run.ABOUT.now; after = texts.BLOCK_FAULTS.now ∷ run.STATUSES.now ∷ [] };
 }
-
-abbrev pub make_form : Form
-make_form = record {
+form_with (Threaded Make) = record {
+  work = Threaded Make;
   name = codes "make";
   places =
       Number (record { name = codes "SEED"; low = 0; high = 0xffffffffffffffff })
@@ -92,9 +96,8 @@ make_form = record {
   does = codes "make a script from SEED, run it on threads, and print its totals";
   help = record { about = make.ABOUT.now; after = make.STATUSES.now ∷ [] };
 }
-
-abbrev pub linked_form : Form
-linked_form = record {
+form_with (Plain Linked) = record {
+  work = Plain Linked;
   name = codes "linked";
   places = File (codes "POLICY") ∷ File (codes "SCRIPT") ∷ File (codes "LINKS") ∷ [];
   last = None;
@@ -102,9 +105,8 @@ linked_form = record {
   does = codes "answer the calls of SCRIPT under POLICY, with the links of LINKS resolved";
   help = record { about = linked.ABOUT.now; after = linked.STATUSES.now ∷ [] };
 }
-
-abbrev pub dup_form : Form
-dup_form = record {
+form_with (Plain Dup) = record {
+  work = Plain Dup;
   name = codes "dup";
   places = File (codes "POLICY") ∷ File (codes "SCRIPT") ∷ File (codes "MOVES") ∷ [];
   last = None;
@@ -112,9 +114,8 @@ dup_form = record {
   does = codes "run SCRIPT under POLICY, then pass handles between targets as MOVES says";
   help = record { about = dup.ABOUT.now; after = texts.BLOCK_FAULTS.now ∷ dup.STATUSES.now ∷ [] };
 }
-
-abbrev pub local_form : Form
-local_form = record {
+form_with (Plain Local) = record {
+  work = Plain Local;
   name = codes "local";
   places = File (codes "POLICY") ∷ File (codes "SCRIPT") ∷ [];
   last = Some (codes "SCHEDULE");
@@ -122,9 +123,8 @@ local_form = record {
   does = codes "leave out the calls of SCRIPT that POLICY denies, and run the rest";
   help = record { about = local.ABOUT.now; after = texts.BLOCK_FAULTS.now ∷ local.STATUSES.now ∷ [] };
 }
-
-abbrev pub audit_form : Form
-audit_form = record {
+form_with (Plain Audit) = record {
+  work = Plain Audit;
   name = codes "audit";
   places = File (codes "POLICY") ∷ File (codes "SCRIPT") ∷ File (codes "TRANSCRIPT") ∷ [];
   last = None;
@@ -133,9 +133,12 @@ audit_form = record {
   help = record { about = audit.ABOUT.now; after = audit.CLAUSES.now ∷ audit.STATUSES.now ∷ [] };
 }
 
--- all commands
+-- all commands, in the order in which they are listed
+abbrev pub works : List Work
+works = Plain Check ∷ Plain Replay ∷ Threaded Run ∷ Threaded Make ∷ Plain Linked ∷ Plain Dup ∷ Plain Local ∷ Plain Audit ∷ []
+
 abbrev pub forms : List Form
-forms = check_form ∷ replay_form ∷ run_form ∷ make_form ∷ linked_form ∷ dup_form ∷ local_form ∷ audit_form ∷ []
+forms = map form_with works
 
 -- the first form of this name
 abbrev pub form_in : List Form → List ℕ → Option Form
@@ -162,6 +165,7 @@ help_of h = record { about = h.about.now; after = map (λ part. part.now) h.afte
 
 abbrev pub form_of : CommandForm → Form
 form_of f = record {
+  work = f.work;
   name = f.name.now;
   places = map place_of f.places.now;
   last = option_map (λ name. name.now) f.last;

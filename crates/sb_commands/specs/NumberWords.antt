@@ -1,5 +1,5 @@
 -- Numbers on the command line: 1 to 20 decimal digits, leading zeros included.
-use Rattle.std.specs.Prelude.{ℕ, ◌&&◌, nat_le, min, Bool, false, List, Option, None, Some}
+use Rattle.std.specs.Prelude.{ℕ, ◌&&◌, nat_le, Bool, false, List, Option, None, Some}
 use Rattle.sb_text.specs.Numbers.{decimal_of}
 
 -- whether there is a number, not below the lowest and not above the highest
@@ -18,7 +18,3 @@ number_or_zero (Some n) = n
 
 abbrev pub number_of : List ℕ → ℕ
 number_of word = number_or_zero (decimal_of word)
-
--- a number in 32 bits, of one whose bounds are below 2^32
-abbrev pub small : ℕ → ℕ
-small n = min n 0xffffffff

@@ -1,9 +1,9 @@
 -- The values that the program found.
 use Rattle.std.specs.Prelude.{option_map}
 use Rattle.sb_commands.specs.Usage.{Values}
-use Rattle.sb_commands.specs.declared.command_line.FoundValues.{FoundValues}
+use Rattle.sb_commands.specs.declared.command_line.CommandValues.{CommandValues}
 
-abbrev pub values_of : FoundValues → Values
+abbrev pub values_of : CommandValues → Values
 values_of v = record {
   first = v.first.now;
   second = v.second.now;

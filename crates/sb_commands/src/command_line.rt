@@ -11,9 +11,9 @@ use crate::number_words::number_of;
 use clap::{Arg, ArgAction, ArgMatches, Command};
 use std::alloc::{AllocError, Global};
 
-/// The values of arguments that are a command.
+/// The values of the arguments of a command.
 #[derive(Clone, Copy)]
-pub(crate) struct FoundValues<'a> {
+pub struct CommandValues<'a> {
     /// What is at the first place, empty if there is none.
     pub first: &'a str,
     /// At the second.
@@ -147,7 +147,7 @@ fn option_number(option: Option<FormOption<'static>>, word: Option<&str>) -> u64
     match (option, word) {
         (None, _) => 0,
         (Some(option), None) => option.default,
-        (Some(_), Some(word)) => number_of(word.as_bytes()),
+        (Some(_), Some(word)) => number_of(word),
     }
 }
 
@@ -155,10 +155,10 @@ fn option_number(option: Option<FormOption<'static>>, word: Option<&str>) -> u64
 pub(crate) fn found_values<'a>(
     form: CommandForm<'static>,
     values: &ArgMatches<'a>,
-) -> FoundValues<'a>
+) -> CommandValues<'a>
     ensures { values_of result ≡ found_values (form_of form.entry) (first_value (found_of values.now)) }
 {
-    FoundValues {
+    CommandValues {
         first: text_of(values, "first"),
         second: text_of(values, "second"),
         third: text_of(values, "third"),

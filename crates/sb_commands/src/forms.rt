@@ -1,7 +1,9 @@
 // The forms of all commands, in one table.
 ghost use Rattle.std.specs.Prelude.{◌≡◌, map, option_map};
 ghost use Rattle.sb_commands.specs.Forms.{form_by, form_of, forms};
+ghost use Rattle.sb_commands.specs.UsageMessages.{forms_text};
 
+use crate::works::{PlainWork, ThreadedWork, Work};
 use crate::{
     audit_help, check_help, dup_help, linked_help, local_help, make_help, replay_help, run_help,
 };
@@ -49,6 +51,8 @@ pub struct CommandHelp<'a> {
 /// How a command is written, and what it does.
 #[derive(Clone, Copy)]
 pub struct CommandForm<'a> {
+    /// What it does.
+    pub work: Work,
     /// Its name.
     pub name: &'a str,
     /// What is at its places, at most three.
@@ -68,6 +72,7 @@ const POLICY: FormPlace<'static> = FormPlace::File("POLICY");
 const SCRIPT: FormPlace<'static> = FormPlace::File("SCRIPT");
 
 const CHECK: CommandForm<'static> = CommandForm {
+    work: Work::Plain(PlainWork::Check),
     name: "check",
     places: &[POLICY],
     last: None,
@@ -77,6 +82,7 @@ const CHECK: CommandForm<'static> = CommandForm {
 };
 
 const REPLAY: CommandForm<'static> = CommandForm {
+    work: Work::Plain(PlainWork::Replay),
     name: "replay",
     places: &[POLICY, SCRIPT],
     last: Some("SCHEDULE"),
@@ -86,6 +92,7 @@ const REPLAY: CommandForm<'static> = CommandForm {
 };
 
 const RUN: CommandForm<'static> = CommandForm {
+    work: Work::Threaded(ThreadedWork::Run),
     name: "run",
     places: &[POLICY, SCRIPT],
     last: None,
@@ -103,6 +110,7 @@ const RUN: CommandForm<'static> = CommandForm {
 };
 
 const MAKE: CommandForm<'static> = CommandForm {
+    work: Work::Threaded(ThreadedWork::Make),
     name: "make",
     places: &[
         FormPlace::Number(FormNumber {
@@ -128,6 +136,7 @@ const MAKE: CommandForm<'static> = CommandForm {
 };
 
 const LINKED: CommandForm<'static> = CommandForm {
+    work: Work::Plain(PlainWork::Linked),
     name: "linked",
     places: &[POLICY, SCRIPT, FormPlace::File("LINKS")],
     last: None,
@@ -137,6 +146,7 @@ const LINKED: CommandForm<'static> = CommandForm {
 };
 
 const DUP: CommandForm<'static> = CommandForm {
+    work: Work::Plain(PlainWork::Dup),
     name: "dup",
     places: &[POLICY, SCRIPT, FormPlace::File("MOVES")],
     last: None,
@@ -146,6 +156,7 @@ const DUP: CommandForm<'static> = CommandForm {
 };
 
 const LOCAL: CommandForm<'static> = CommandForm {
+    work: Work::Plain(PlainWork::Local),
     name: "local",
     places: &[POLICY, SCRIPT],
     last: Some("SCHEDULE"),
@@ -155,6 +166,7 @@ const LOCAL: CommandForm<'static> = CommandForm {
 };
 
 const AUDIT: CommandForm<'static> = CommandForm {
+    work: Work::Plain(PlainWork::Audit),
     name: "audit",
     places: &[POLICY, SCRIPT, FormPlace::File("TRANSCRIPT")],
     last: None,
@@ -167,11 +179,22 @@ const FORMS: &'static [CommandForm<'static>] = &[
     CHECK, REPLAY, RUN, MAKE, LINKED, DUP, LOCAL, AUDIT,
 ];
 
+// The forms of the table as they are written, one after another.
+const FORMS_TEXT: &str =
+    "check POLICY, replay POLICY SCRIPT [SCHEDULE], run POLICY SCRIPT [--workers N], make SEED TARGETS CALLS, linked POLICY SCRIPT LINKS, dup POLICY SCRIPT MOVES, local POLICY SCRIPT [SCHEDULE], audit POLICY SCRIPT TRANSCRIPT";
+
 /// All commands.
 pub fn all_forms() -> &'static [CommandForm<'static>]
     ensures { map form_of result.now ≡ forms }
 {
     FORMS
+}
+
+/// All commands as they are written, in one line: what the usage line lists.
+pub fn forms_text() -> &'static str
+    ensures { result.now ≡ forms_text forms }
+{
+    FORMS_TEXT
 }
 
 /// The form of the command of this name.

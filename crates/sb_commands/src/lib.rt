@@ -7,6 +7,7 @@ mod check_help;
 mod command_line;
 mod commands;
 mod dup_help;
+mod file_names;
 mod forms;
 mod help_texts;
 mod inquiries;
@@ -20,10 +21,16 @@ mod run_help;
 mod usage;
 mod usage_faults;
 mod usage_messages;
+mod works;
 
-pub use commands::{CommandWords, PlainWords, ThreadedWords, command_of};
-pub use forms::{CommandForm, CommandHelp, FormNumber, FormOption, FormPlace, all_forms, form_by};
+pub use command_line::CommandValues;
+pub use commands::{CommandWords, ThreadedWords, command_of};
+pub use forms::{
+    CommandForm, CommandHelp, FormNumber, FormOption, FormPlace, all_forms, form_by, forms_text,
+};
 pub use inquiries::{Inquiry, inquiry_of, inquiry_text};
 pub use laws::{commands_are_read, usage_messages_are_clean};
+pub use number_words::number_of;
 pub use usage_faults::UsageFault;
 pub use usage_messages::usage_message;
+pub use works::{PlainWork, ThreadedWork, Work};

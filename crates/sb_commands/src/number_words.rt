@@ -1,6 +1,6 @@
 // Numbers on the command line: 1 to 20 decimal digits, leading zeros included.
 ghost use Rattle.std.specs.Prelude.{◌≡◌};
-ghost use Rattle.sb_commands.specs.NumberWords.{is_number, number_of, small};
+ghost use Rattle.sb_commands.specs.NumberWords.{is_number, number_of};
 
 use sb_text::decimal_of;
 
@@ -15,18 +15,11 @@ pub(crate) fn is_number(low: u64, high: u64, word: &[u8]) -> bool
 }
 
 /// The number that an argument is, and 0 if it is none.
-pub(crate) fn number_of(word: &[u8]) -> u64
+pub fn number_of(word: &str) -> u64
     ensures { result ≡ number_of word.now }
 {
-    match decimal_of(word) {
+    match decimal_of(word.as_bytes()) {
         Some(number) => number,
         None => 0,
     }
-}
-
-/// A number in 32 bits; the highest such number if it is above.
-pub(crate) fn small(number: u64) -> u32
-    ensures { result ≡ small number }
-{
-    number.min(u64::from(u32::MAX)) as u32
 }

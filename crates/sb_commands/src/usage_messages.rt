@@ -4,13 +4,13 @@ ghost use Rattle.std.specs.Fmt.{decimal};
 ghost use Rattle.std.specs.List.{flat_map};
 ghost use Rattle.sb_commands.specs.Forms.{bounded_of, choice_of, form_of, place_of};
 ghost use Rattle.sb_commands.specs.Usage.{BadNumber, BadOptionNumber, ExtraWord, Missing, NoFileName, NoOptionNumber, OptionBetween, OptionTwice, UnknownCommand, UnknownOption, fault_of, texts};
-ghost use Rattle.sb_commands.specs.UsageMessages.{argument_text, bounds_text, choice_text, command_text, fault_text, flag_text, form_text, forms_text, last_text, name_text, next_form_text, number_text, place_text, quoted_word, unknown_text, usage_line, usage_message, word_at, wrong_text};
+ghost use Rattle.sb_commands.specs.UsageMessages.{argument_text, bounds_text, choice_text, command_text, fault_text, flag_text, form_text, last_text, name_text, number_text, place_text, quoted_word, unknown_text, usage_line, usage_message, word_at, wrong_text};
 
-use crate::forms::{CommandForm, FormNumber, FormOption, FormPlace, all_forms};
+use crate::forms::{CommandForm, FormNumber, FormOption, FormPlace, forms_text};
 use crate::usage::place_name;
 use crate::usage_faults::UsageFault;
-use sb_items::NoMemory;
 use sb_glyphs::{put_quoted, put_shown};
+use sb_items::NoMemory;
 use std::alloc::Global;
 
 // Appends a number in decimal.
@@ -77,33 +77,11 @@ pub(crate) fn put_form(out: &mut String, form: CommandForm<'static>) -> Result<(
     put_choice(out, form.option)
 }
 
-fn put_more_forms(out: &mut String, forms: &[CommandForm<'static>]) -> Result<(), NoMemory>
-    ensures { OnOk result (string_bytes out.new ≡ string_bytes out.old ++ flat_map next_form_text (map form_of forms.now)) }
-{
-    for form in forms {
-        out.push_str(", ")?;
-        put_form(out, *form)?;
-    }
-    Ok(())
-}
-
-fn put_forms(out: &mut String, forms: &[CommandForm<'static>]) -> Result<(), NoMemory>
-    ensures { OnOk result (string_bytes out.new ≡ string_bytes out.old ++ forms_text (map form_of forms.now)) }
-{
-    match forms.split_first() {
-        Some((first, rest)) => {
-            put_form(out, *first)?;
-            put_more_forms(out, rest)
-        }
-        None => Ok(()),
-    }
-}
-
 fn put_usage_line(out: &mut String) -> Result<(), NoMemory>
     ensures { OnOk result (string_bytes out.new ≡ string_bytes out.old ++ usage_line) }
 {
     out.push_str("sandbox: usage: ")?;
-    put_forms(out, all_forms())?;
+    out.push_str(forms_text())?;
     out.push_str("\n")?;
     Ok(())
 }

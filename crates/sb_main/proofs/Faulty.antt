@@ -5,8 +5,8 @@ use Rattle.sb_commands.specs.Commands.{Command}
 use Rattle.sb_commands.specs.Usage.{Fault}
 use Rattle.sb_commands.specs.declared.usage_faults.UsageFault.{UsageFault}
 use Rattle.sb_main.specs.Answers.{IsTold}
-use Rattle.sb_top.specs.declared.outcomes.Status.{Status}
-use Rattle.sb_top.specs.declared.outcomes.Status.TheVariants.{Done, NoMemory, Usage, WriteFault}
+use Rattle.sb_plain.specs.declared.outcomes.Status.{Status}
+use Rattle.sb_plain.specs.declared.outcomes.Status.TheVariants.{Done, NoMemory, Usage, WriteFault}
 
 never_done : (fault : UsageFault) → ◌≡◌ {A = Status} Done (Usage fault) → ⊥
 never_done fault e = cc

@@ -3,11 +3,11 @@ use Rattle.std.specs.Prelude.{◌≡◌, ◌⊎◌, ◌++◌, ℕ, List, [], Opt
 use Rattle.sb_commands.specs.Commands.{Command}
 use Rattle.sb_commands.specs.Usage.{Fault}
 use Rattle.sb_outside.specs.Outside.{GrowsBy, GrowsByPrefix}
-use Rattle.sb_top.specs.Effects.{Effect, IsOrderly}
+use Rattle.sb_plain.specs.Effects.{Effect, IsOrderly}
 use Rattle.sb_top.specs.Top.{EndsAsMeant, files_for}
-use Rattle.sb_top.specs.declared.outcomes.Outcome.{Outcome}
-use Rattle.sb_top.specs.declared.outcomes.Status.{Status}
-use Rattle.sb_top.specs.declared.outcomes.Status.TheVariants.{Done, NoMemory, WriteFault}
+use Rattle.sb_plain.specs.declared.outcomes.Outcome.{Outcome}
+use Rattle.sb_plain.specs.declared.outcomes.Status.{Status}
+use Rattle.sb_plain.specs.declared.outcomes.Status.TheVariants.{Done, NoMemory, WriteFault}
 
 -- the outcome and the effect are those with which a top call may end
 pub record IsAnswer {G S : Type 0} (wanted : Result Command Fault) (e : Effect G S) (o : Outcome) : Type 0 where

@@ -2,8 +2,8 @@
 use Rattle.std.specs.declared.io.ErrorKind.{ErrorKind}
 use Rattle.std.specs.declared.io.ErrorKind.TheVariants as kind
 use Rattle.sb_commands.specs.declared.usage_faults.UsageFault.TheVariants as fault
-use Rattle.sb_top.specs.declared.outcomes.Status.{Status}
-use Rattle.sb_top.specs.declared.outcomes.Status.TheVariants.{Usage, NoMemory}
+use Rattle.sb_plain.specs.declared.outcomes.Status.{Status}
+use Rattle.sb_plain.specs.declared.outcomes.Status.TheVariants.{Usage, NoMemory}
 
 -- what it comes to if the arguments were not gathered: they are not UTF-8, or there was no memory for them
 abbrev pub gathering_status : ErrorKind → Status

@@ -7,7 +7,7 @@ ghost use Rattle.sb_commands.specs.Commands.{command_of};
 ghost use Rattle.sb_commands.specs.Inquiries.{answer_text, asked, asked_of};
 ghost use Rattle.sb_commands.specs.Usage.{fault_of, texts};
 ghost use Rattle.sb_commands.specs.declared.usage_faults.UsageFault.{UsageFault};
-ghost use Rattle.sb_top.specs.Effects.{effect};
+ghost use Rattle.sb_plain.specs.Effects.{effect};
 ghost use Rattle.sb_top.specs.Exits.{code_of};
 ghost use Rattle.sb_main.specs.Gathering.{gathering_status};
 ghost use Rattle.sb_main.specs.Answers.{IsAnswer, IsTold};
@@ -17,10 +17,8 @@ use sb_commands::{Inquiry, UsageFault, inquiry_of, inquiry_text};
 use sb_host::{HostFiles, HostSink, PIECE};
 use sb_items::NoMemory;
 use sb_outside::{Files, OpenGate, Sink, put_text};
-use sb_top::{
-    Complaint, Outcome, Status, exit_code, message, plain_top, statuses_are_of_commands,
-    threads_top,
-};
+use sb_plain::{Outcome, Status};
+use sb_top::{Complaint, exit_code, message, plain_top, statuses_are_of_commands, threads_top};
 use std::alloc::Global;
 use std::io::{ErrorKind, IsTerminal};
 use std::process::ExitCode;
@@ -180,7 +178,7 @@ fn carry_out<R: AllocGlobal + Threads + Wait + Sync, F: Files, K: Sink>(
 {
     match plain_top(rt.alloc(), words, files, out) {
         Ok(outcome) => outcome,
-        Err(command) => threads_top(rt, rt.alloc(), command, files, out, &OpenGate),
+        Err(command) => threads_top(rt, rt.alloc(), &command, files, out, &OpenGate),
     }
 }
 

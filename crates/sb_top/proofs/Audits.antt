@@ -1,20 +1,21 @@
 -- What `replay` writes passes an audit.
 use Rattle.std.proofs.Common.{◌≡◌, ℕ, List, [], ◌∷◌, Option, None, Some, refl, sym, subst, ap, ◌∙◌}
 use Rattle.std.specs.Prelude.{IfSome, Result, Ok, Err}
-use Rattle.sb_commands.specs.Commands.{Replay}
-use Rattle.sb_commands.specs.Commands as commands
+use Rattle.sb_commands.specs.Commands.{no_values, plain}
+use Rattle.sb_commands.specs.declared.works.PlainWork.TheVariants.{Replay}
 use Rattle.sb_core.specs.declared.runs.Ran.{Ran}
 use Rattle.sb_rule.specs.declared.policies.Policy.{Policy}
 use Rattle.sb_statements.specs.declared.scripts.Script.{Script}
 use Rattle.sb_audit.specs.Audited.{audited}
 use Rattle.sb_text.specs.Steps.{◌>>=◌}
 use Rattle.sb_top.specs.Audits.{IsAuditedAs, ReplaysAreAudited}
-use Rattle.sb_top.specs.Contents.{Content, Refusal, policies_in, script_in}
-use Rattle.sb_top.specs.Ends.{Contents, End, ScriptRun}
-use Rattle.sb_top.specs.Replay.{ended_by, replay_end, run_end, run_text, schedule_of, whole_run}
-use Rattle.sb_top.specs.Sound.{IsSound, IsSoundRun, ReportsAreSound}
-use Rattle.sb_top.specs.declared.outcomes.Status.{Status}
-use Rattle.sb_top.specs.declared.outcomes.Status.TheVariants.{Unfinished}
+use Rattle.sb_plain.specs.Contents.{Content, Refusal, policies_in, script_in}
+use Rattle.sb_plain.specs.Ends.{Contents, End, ScriptRun}
+use Rattle.sb_plain.specs.Replay.{ended_by, replay_end, run_end, run_text, schedule_of, whole_run}
+use Rattle.sb_plain.specs.Sound.{IsSound, IsSoundRun}
+use Rattle.sb_top.specs.Sound.{ReportsAreSound}
+use Rattle.sb_plain.specs.declared.outcomes.Status.{Status}
+use Rattle.sb_plain.specs.declared.outcomes.Status.TheVariants.{Unfinished}
 use Rattle.sb_transcript.specs.Transcripts.{transcript}
 
 -- a text that is written is the transcript, and no thread is unfinished
@@ -49,4 +50,4 @@ replays_are_audited law (p ∷ s ∷ files) end text e t =
     let ps = bound (policies_in p) _ end e in
     let script = bound (script_in ps.0 s) _ end ps.2 in
     let schedule = bound (schedule_of script.0 files) _ end script.2 in
-    end_audited ps.0 script.0 (whole_run ps.0 script.0 schedule.0) end text (same_end _ end schedule.2) (law (commands.Plain (Replay [] [] None)) (p ∷ s ∷ files) end e) t
+    end_audited ps.0 script.0 (whole_run ps.0 script.0 schedule.0) end text (same_end _ end schedule.2) (law (plain Replay no_values) (p ∷ s ∷ files) end e) t

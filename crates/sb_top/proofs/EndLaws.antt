@@ -3,15 +3,15 @@ use Rattle.std.proofs.Common.{◌≡◌, ◌∙◌, refl, sym, ap, subst, ℕ, �
 use Rattle.std.specs.Prelude.{IsOkAnd, Result, Ok, Err, ◌∷◌, []}
 use Rattle.std.proofs.lemmas.Option.{none-some}
 use Rattle.sb_outside.specs.Outside.{Held, Rose}
-use Rattle.sb_top.specs.Contents.{Refusal, refused}
-use Rattle.sb_top.specs.Effects.{Effect}
-use Rattle.sb_top.specs.Endings.{IsCaused, IsEndFor, IsMeant, IsRefused, IsUnread, IsUnwritten}
-use Rattle.sb_top.specs.Ends.{AreContents, Contents, End}
+use Rattle.sb_plain.specs.Contents.{Refusal, refused}
+use Rattle.sb_plain.specs.Effects.{Effect}
+use Rattle.sb_plain.specs.Endings.{IsCaused, IsEndFor, IsMeant, IsRefused, IsUnread, IsUnwritten}
+use Rattle.sb_plain.specs.Ends.{AreContents, Contents, End}
 use Rattle.sb_top.specs.Laws.{RefusalsAreMeant, WorkComesToItsEnd, contents_of}
-use Rattle.sb_top.specs.Outcomes.{file_of}
-use Rattle.sb_top.specs.declared.outcomes.Outcome.{Outcome}
-use Rattle.sb_top.specs.declared.outcomes.Status.{Status}
-use Rattle.sb_top.specs.declared.outcomes.Status.TheVariants.{NoMemory, WriteFault}
+use Rattle.sb_plain.specs.Outcomes.{file_of}
+use Rattle.sb_plain.specs.declared.outcomes.Outcome.{Outcome}
+use Rattle.sb_plain.specs.declared.outcomes.Status.{Status}
+use Rattle.sb_plain.specs.declared.outcomes.Status.TheVariants.{NoMemory, WriteFault}
 
 -- ---- contents that are known
 

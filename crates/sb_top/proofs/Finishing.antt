@@ -2,25 +2,20 @@
 use Rattle.std.proofs.Common.{◌≡◌, ◌∙◌, refl, sym, ap, subst, ℕ, ◌⊎◌, inl, inr, List, Option, None, Some, true, true≢false}
 use Rattle.std.specs.Prelude.{IsOk, IsOkAnd, IsSome, Result, Ok, Err}
 use Rattle.sb_book.specs.declared.reports.Report.{Report}
-use Rattle.sb_commands.specs.Commands.{Command, needs_threads}
-use Rattle.sb_commands.specs.Commands as commands
-use Rattle.sb_commands.specs.Usage.{Fault}
+use Rattle.sb_commands.specs.Commands.{Command}
+use Rattle.sb_commands.specs.Usage.{Fault, fault_of}
 use Rattle.sb_commands.specs.declared.usage_faults.UsageFault.{UsageFault}
-use Rattle.sb_items.specs.declared.refusals.Refused.{Refused}
-use Rattle.sb_items.specs.declared.refusals.Refused.TheVariants as words
 use Rattle.sb_outside.specs.Outside.{Rose}
-use Rattle.sb_top.specs.Coming.{IsEndCaused, IsFoundBy, IsFoundFor, IsTextCaused, ReportedEnd, reported}
-use Rattle.sb_top.specs.Contents.{Refusal, no_schedule, refusal_of, refused}
-use Rattle.sb_top.specs.Effects.{Effect}
-use Rattle.sb_top.specs.Endings.{IsCaused, IsDone, IsEndFor, IsEnding, IsMeant, IsRefused, IsUnwritten, IsWritten}
-use Rattle.sb_top.specs.Ends.{Contents, End, Meaning, OnThreads, Plain, report_of}
-use Rattle.sb_top.specs.Putting.{IsFinished, IsPut}
-use Rattle.sb_top.specs.Top.{EndsAsMeant, files_of, meaning_of}
-use Rattle.sb_top.proofs.ReadFiles.{are_rest, rest_of}
-use Rattle.std.proofs.lemmas.Bool.{false≢true}
-use Rattle.sb_top.specs.declared.outcomes.Outcome.{Outcome}
-use Rattle.sb_top.specs.declared.outcomes.Status.{Status}
-use Rattle.sb_top.specs.declared.outcomes.Status.TheVariants.{NoMemory}
+use Rattle.sb_plain.specs.Coming.{IsEndCaused, IsFoundBy, IsFoundFor, IsTextCaused, ReportedEnd, reported}
+use Rattle.sb_plain.specs.Contents.{Refusal, refused}
+use Rattle.sb_plain.specs.Effects.{Effect}
+use Rattle.sb_plain.specs.Endings.{IsCaused, IsDone, IsEndFor, IsEnding, IsMeant, IsRefused, IsUnwritten, IsWritten}
+use Rattle.sb_plain.specs.Ends.{Contents, End, Meaning, OnThreads, Plain, report_of}
+use Rattle.sb_plain.specs.Putting.{IsFinished, IsPut}
+use Rattle.sb_top.specs.Top.{EndsAsMeant}
+use Rattle.sb_plain.specs.declared.outcomes.Outcome.{Outcome}
+use Rattle.sb_plain.specs.declared.outcomes.Status.{Status}
+use Rattle.sb_plain.specs.declared.outcomes.Status.TheVariants.{NoMemory, Usage}
 
 module _ {G S : Type 0} (e : Effect G S) (o : Outcome) where
   abbrev Finished : Result ReportedEnd Refusal → Type 0
@@ -106,56 +101,20 @@ module _ {G S : Type 0} (e : Effect G S) (o : Outcome) where
     caused = caused (Rose e.reads e.reads') found c f;
   }
 
--- ---- arguments in which no command was found
+-- ---- arguments that are no command
 
-module _ {G S : Type 0} (e : Effect G S) (o : Outcome) where
-  starved_end : (meaning : Meaning) (names : List (List ℕ)) → IsRefused (refused NoMemory) e o → IsEnding meaning names e o
-  starved_end (Plain m) names r = record {
-    contents = rest_of e.held names;
-    held = are_rest e.held names;
-    ends = inr (inr (inr r));
-    caused = subst (IsCaused e.held (Rose e.reads e.reads')) (sym r.status) tt;
-  }
-  starved_end (OnThreads m) names r = record {
-    order = no_schedule;
-    contents = rest_of e.held names;
-    held = are_rest e.held names;
-    ordered = λ k. absurd (no_report e o o.report r.report k);
-    ends = inr (inr (inr r));
-    caused = subst (IsCaused e.held (Rose e.reads e.reads')) (sym r.status) tt;
-  }
-
-  refused_so : (found : Refused UsageFault) → ◌≡◌ {A = Outcome} o (record { status = (refusal_of found).status; shown = None; report = None }) → e.written' ≡ e.written
-      → IsRefused (refusal_of found) e o
-  refused_so (words.Fault fault) h w = record {
+pub usage_ends : {G S : Type 0} (e : Effect G S) (o : Outcome) (wanted : Result Command Fault) (fault : UsageFault) → wanted ≡ Err (fault_of fault)
+    → ◌≡◌ {A = Outcome} o (record { status = Usage fault; shown = None; report = None }) → e.written' ≡ e.written → EndsAsMeant wanted e o
+usage_ends e o wanted fault is h w = subst (λ r. EndsAsMeant r e o) (sym is) (record {
+  found = fault;
+  same = refl;
+  is = record {
     status = ap (λ (x : Outcome). x.status) h;
     report = ap (λ (x : Outcome). x.report) h;
     shown = ap (λ (x : Outcome). x.shown) h;
     written = w;
-  }
-  refused_so words.NoMemory h w = record {
-    status = ap (λ (x : Outcome). x.status) h;
-    report = ap (λ (x : Outcome). x.report) h;
-    shown = ap (λ (x : Outcome). x.shown) h;
-    written = w;
-  }
-
-  ends_without : (wanted : Result Command Fault) (found : Refused UsageFault) → commands.IsFound wanted (Err found) → IsRefused (refusal_of found) e o → EndsAsMeant wanted e o
-  ends_without wanted (words.Fault fault) is r = subst (λ w. EndsAsMeant w e o) (sym is) (record { found = fault; same = refl; is = r })
-  ends_without (Ok command) words.NoMemory is r = starved_end (meaning_of command) (files_of command) r
-  ends_without (Err fault) words.NoMemory is r = absurd (false≢true is)
-
-  pub not_found : (wanted : Result Command Fault) (found : Refused UsageFault) → commands.IsFound wanted (Err found)
-      → ◌≡◌ {A = Outcome} o (record { status = (refusal_of found).status; shown = None; report = None }) → e.written' ≡ e.written → EndsAsMeant wanted e o
-  not_found wanted found is h w = ends_without wanted found is (refused_so found h w)
-
--- a command that runs on threads has an outcome here only without memory
-pub handed_without : (wanted : Result Command Fault) (found : Refused UsageFault) (o : Outcome) → commands.IsFound wanted (Err found)
-    → ◌≡◌ {A = Outcome} o (record { status = (refusal_of found).status; shown = None; report = None })
-    → needs_threads wanted ≡ true → o.status ≡ NoMemory
-handed_without wanted (words.Fault fault) o is h needed =
-    absurd (true≢false (sym needed ∙ ap needs_threads is))
-handed_without wanted words.NoMemory o is h needed = ap (λ (x : Outcome). x.status) h
+  };
+})
 
 -- ---- what a second call does after a first that changed nothing
 

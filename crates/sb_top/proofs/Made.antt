@@ -13,15 +13,15 @@ use Rattle.sb_rule.specs.declared.policies.Policy.{Policy}
 use Rattle.sb_statements.specs.declared.scripts.Script.{Script}
 use Rattle.sb_statements.specs.declared.statements.Statement.{Statement}
 use Rattle.sb_transcript.specs.Totals.{totals_line}
-use Rattle.sb_top.specs.Coming.{IsFoundOnThreads, ReportedEnd}
+use Rattle.sb_plain.specs.Coming.{IsFoundOnThreads, ReportedEnd}
 use Rattle.sb_top.specs.Make.{IsMadeEnd, IsMadeReport, made_line, made_end, made_policies, make_end, made_text, policies_or_none}
-use Rattle.sb_top.specs.Ends.{Contents, End, IsOrderOf, OnThreads}
-use Rattle.sb_top.specs.Replay.{whole_run}
-use Rattle.sb_top.specs.Sound.{AreEndsSound, IsSound, RunsAreSound}
+use Rattle.sb_plain.specs.Ends.{Contents, End, IsOrderOf, OnThreads}
+use Rattle.sb_plain.specs.Replay.{whole_run}
+use Rattle.sb_plain.specs.Sound.{AreEndsSound, IsSound, RunsAreSound}
 use Rattle.sb_top.specs.Totals.{AllClean, TotalsAreOfVerdicts, are_calls, is_call, totals_by}
-use Rattle.sb_top.proofs.Readings.{same_end}
+use Rattle.sb_plain.proofs.Readings.{same_end}
 use Rattle.sb_top.proofs.Sound.{some_run_fits}
-use Rattle.sb_top.proofs.Suiting.{AreSuited, EndsPlainly, RefusesFor}
+use Rattle.sb_plain.proofs.Suiting.{AreSuited, EndsPlainly, RefusesFor}
 use Rattle.sb_top.proofs.Verdicts.{both_true}
 
 -- the policies that were made are those of the text

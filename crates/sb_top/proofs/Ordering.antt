@@ -25,12 +25,12 @@ use Rattle.sb_statements.specs.declared.scripts.Script.{Script}
 use Rattle.sb_statements.specs.declared.scripts.TargetScript.{TargetScript}
 use Rattle.sb_text.specs.Steps.{◌>>=◌}
 use Rattle.sb_top.specs.Orders.{OrdersAreReplayed, ThreadedRunsAreReplayed, order_text}
-use Rattle.sb_top.specs.Contents.{Content, Refusal, most_bytes, policies_in, schedule_by, schedule_in, script_in}
-use Rattle.sb_top.specs.Replay.{ended_by, replay_end, run_end, whole_run}
+use Rattle.sb_plain.specs.Contents.{Content, Refusal, most_bytes, policies_in, schedule_by, schedule_in, script_in}
+use Rattle.sb_plain.specs.Replay.{ended_by, replay_end, run_end, whole_run}
 use Rattle.sb_ruletext.specs.Laws.{ReadPoliciesAreWellMade}
 use Rattle.sb_scripttext.specs.Readiness.{ReadScriptsAreReady}
-use Rattle.sb_top.proofs.ReadFiles.{short_text}
-use Rattle.sb_top.proofs.Readings.{script_known}
+use Rattle.sb_plain.proofs.ReadFiles.{short_text}
+use Rattle.sb_plain.proofs.Readings.{script_known}
 
 -- a script that is ready is sound
 ready_sound : (policies : List Policy) (script : Script) → is_ready policies script ≡ true → is_sound script ≡ true

@@ -6,13 +6,13 @@ use Rattle.sb_outside.specs.Outside.{Held}
 use Rattle.sb_rule.specs.declared.policies.Policy.{Policy}
 use Rattle.sb_statements.specs.declared.schedules.Schedule.{Schedule}
 use Rattle.sb_statements.specs.declared.scripts.Script.{Script}
-use Rattle.sb_top.specs.Coming.{IsFoundOnThreads, IsOpened, ReportedEnd, reported}
-use Rattle.sb_top.specs.Ends.{Contents, End, IsOrderOf, OnThreads}
+use Rattle.sb_plain.specs.Coming.{IsFoundOnThreads, IsOpened, ReportedEnd, reported}
+use Rattle.sb_plain.specs.Ends.{Contents, End, IsOrderOf, OnThreads}
 use Rattle.sb_top.specs.Run.{IsThreadsEnd, nothing_after, ordered_end, threads_end}
-use Rattle.sb_top.specs.Sound.{AreEndsSound, IsSound, RunsAreSound}
-use Rattle.sb_top.proofs.Replaying.{run_plain}
-use Rattle.sb_top.proofs.ScriptEnds.{each_end, to_later}
-use Rattle.sb_top.proofs.Suiting.{AreSuited, RefusesFor, script_suited}
+use Rattle.sb_plain.specs.Sound.{AreEndsSound, IsSound, RunsAreSound}
+use Rattle.sb_plain.proofs.Replaying.{run_plain}
+use Rattle.sb_plain.proofs.ScriptEnds.{each_end, to_later}
+use Rattle.sb_plain.proofs.Suiting.{AreSuited, RefusesFor, script_suited}
 
 pub run_done : (held : Option Held) (policy script : List ℕ) (ready : Ready) (end : ReportedEnd) → IsOpened held policy script (Ok ready)
     → IsThreadsEnd ready.policies ready.script end → IsFoundOnThreads threads_end (policy ∷ script ∷ []) held (Ok end)

@@ -10,8 +10,8 @@ use Rattle.sb_core.specs.Runs.{IsSomeRun, most_results, ran}
 use Rattle.sb_core.specs.Tallies.{EntriesAreFew}
 use Rattle.sb_rule.specs.declared.policies.Policy.{Policy}
 use Rattle.sb_statements.specs.declared.scripts.Script.{Script}
-use Rattle.sb_top.specs.Replay.{whole_run}
-use Rattle.sb_top.specs.Sound.{RunsAreSound}
+use Rattle.sb_plain.specs.Replay.{whole_run}
+use Rattle.sb_plain.specs.Sound.{RunsAreSound}
 use Rattle.sb_top.proofs.Totalling as totalling
 
 -- every run is sound, by the laws of the core

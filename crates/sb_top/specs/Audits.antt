@@ -4,8 +4,8 @@ use Rattle.sb_audit.specs.Audited.{audited}
 use Rattle.sb_audit.specs.Converse.{IsPrintable}
 use Rattle.sb_audit.specs.declared.answers.AuditAnswer.TheVariants.{Yes}
 use Rattle.sb_book.specs.Reports.{result_count}
-use Rattle.sb_top.specs.Ends.{Contents, End, ScriptRun}
-use Rattle.sb_top.specs.Replay.{replay_end}
+use Rattle.sb_plain.specs.Ends.{Contents, End, ScriptRun}
+use Rattle.sb_plain.specs.Replay.{replay_end}
 
 -- an audit of this text under the policies and the script of a run says yes, with the numbers of its entries and its results
 abbrev pub IsAuditedAs : List ℕ → ScriptRun → Type 0

@@ -1,6 +1,6 @@
 -- How the program ends.
-use Rattle.std.specs.Prelude.{ℕ, ◌-◌, ◌==◌, List, [], ◌∷◌, ◌++◌, Option, None, Some, codes, decimal, if◌then◌else◌}
-use Rattle.sb_commands.specs.Commands.{command_of}
+use Rattle.std.specs.Prelude.{ℕ, List, [], ◌++◌, Option, None, Some, codes, decimal}
+use Rattle.sb_commands.specs.Commands.{command_of, name_at}
 use Rattle.sb_commands.specs.Forms.{forms}
 use Rattle.sb_commands.specs.Usage.{fault_of}
 use Rattle.sb_commands.specs.UsageMessages.{forms_text, usage_message}
@@ -19,8 +19,8 @@ use Rattle.sb_ruletext.specs.Kinds.{kind_number}
 use Rattle.sb_scripttext.specs.Kinds as script
 use Rattle.sb_scheduletext.specs.Kinds as schedule
 use Rattle.sb_top.specs.Top.{files_for}
-use Rattle.sb_top.specs.declared.outcomes.Status.{Status}
-use Rattle.sb_top.specs.declared.outcomes.Status.TheVariants.{Done, Unfinished, Usage, PolicyRefused, ScriptRefused, ScheduleRefused, LinksRefused, MovesRefused, AuditNo, Missing, TooLong, ReadFault, WriteFault, NoMemory}
+use Rattle.sb_plain.specs.declared.outcomes.Status.{Status}
+use Rattle.sb_plain.specs.declared.outcomes.Status.TheVariants.{Done, Unfinished, Usage, PolicyRefused, ScriptRefused, ScheduleRefused, LinksRefused, MovesRefused, AuditNo, Missing, TooLong, ReadFault, WriteFault, NoMemory}
 
 -- the exit code of a status
 abbrev pub code_of : Status → ℕ
@@ -66,11 +66,6 @@ line_of status = codes "sandbox: " ++ text_of status
 abbrev pub or_empty : Option (List ℕ) → List ℕ
 or_empty None = []
 or_empty (Some bytes) = bytes
-
--- the name of file n, from 1; nothing, if there is no such file
-abbrev pub name_at : ℕ → List (List ℕ) → List ℕ
-name_at n [] = []
-name_at n (name ∷ names) = if n == 1 then name else name_at (n - 1) names
 
 -- the notes of a policy text in the file of this name, if they are told
 abbrev pub notes_by : List ℕ → Option (List ℕ) → List ℕ

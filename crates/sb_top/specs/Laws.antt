@@ -4,14 +4,14 @@ use Rattle.sb_commands.specs.Commands.{Command}
 use Rattle.sb_commands.specs.Usage.{Fault, fault_of}
 use Rattle.sb_commands.specs.declared.usage_faults.UsageFault.{UsageFault}
 use Rattle.sb_outside.specs.Outside.{Held, Rose}
-use Rattle.sb_top.specs.Contents.{Refusal, refused}
-use Rattle.sb_top.specs.Effects.{Effect}
-use Rattle.sb_top.specs.Endings.{IsMeant, IsPlainEnding, IsRefused}
-use Rattle.sb_top.specs.Ends.{Contents, End}
-use Rattle.sb_top.specs.Outcomes.{file_of}
+use Rattle.sb_plain.specs.Contents.{Refusal, refused}
+use Rattle.sb_plain.specs.Effects.{Effect}
+use Rattle.sb_plain.specs.Endings.{IsMeant, IsPlainEnding, IsRefused}
+use Rattle.sb_plain.specs.Ends.{Contents, End}
+use Rattle.sb_plain.specs.Outcomes.{file_of}
 use Rattle.sb_top.specs.Top.{EndsAsMeant, files_for}
-use Rattle.sb_top.specs.declared.outcomes.Outcome.{Outcome}
-use Rattle.sb_top.specs.declared.outcomes.Status.TheVariants.{NoMemory, ReadFault, Usage}
+use Rattle.sb_plain.specs.declared.outcomes.Outcome.{Outcome}
+use Rattle.sb_plain.specs.declared.outcomes.Status.TheVariants.{NoMemory, ReadFault, Usage}
 
 -- the contents of the files of these names, by what is held
 abbrev pub contents_of : Held → List (List ℕ) → Contents

@@ -8,12 +8,12 @@ use Rattle.sb_gen.specs.Scripts.{script_of}
 use Rattle.sb_rule.specs.declared.policies.Policy.{Policy}
 use Rattle.sb_ruletext.specs.PolicyTexts.{PolicyFault, reading}
 use Rattle.sb_statements.specs.declared.schedules.Schedule.{Schedule}
-use Rattle.sb_top.specs.Coming.{ReportedEnd, reported}
-use Rattle.sb_top.specs.Contents.{Refusal, refused}
-use Rattle.sb_top.specs.Ends.{Contents, End, IsOrderOf, ScriptRun}
-use Rattle.sb_top.specs.Replay.{whole_run}
+use Rattle.sb_plain.specs.Coming.{ReportedEnd, reported}
+use Rattle.sb_plain.specs.Contents.{Refusal, refused}
+use Rattle.sb_plain.specs.Ends.{Contents, End, IsOrderOf, ScriptRun}
+use Rattle.sb_plain.specs.Replay.{whole_run}
 use Rattle.sb_top.specs.Totals.{totals_by}
-use Rattle.sb_top.specs.declared.outcomes.Status.TheVariants.{Missing}
+use Rattle.sb_plain.specs.declared.outcomes.Status.TheVariants.{Missing}
 
 -- the policies of a text without a fault
 abbrev pub policies_or_none : Result (List Policy) PolicyFault → List Policy

@@ -9,9 +9,9 @@ use Rattle.sb_scheduletext.specs.Printing.{in_order, written}
 use Rattle.sb_statements.specs.declared.schedules.Actor.{Actor}
 use Rattle.sb_statements.specs.declared.schedules.Schedule.{Schedule}
 use Rattle.sb_statements.specs.declared.scripts.Script.{Script}
-use Rattle.sb_top.specs.Contents.{Content, most_bytes, policies_in, script_in}
-use Rattle.sb_top.specs.Ends.{IsOrderOf}
-use Rattle.sb_top.specs.Replay.{replay_end, run_end, whole_run}
+use Rattle.sb_plain.specs.Contents.{Content, most_bytes, policies_in, script_in}
+use Rattle.sb_plain.specs.Ends.{IsOrderOf}
+use Rattle.sb_plain.specs.Replay.{replay_end, run_end, whole_run}
 
 -- the text of the schedule in which each of these actors makes one step, in turn, and after which there are no rounds
 abbrev pub order_text : List Actor → List ℕ

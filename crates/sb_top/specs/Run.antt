@@ -3,11 +3,11 @@ use Rattle.std.specs.Prelude.{◌≡◌, List, Result, ⊤}
 use Rattle.sb_rule.specs.declared.policies.Policy.{Policy}
 use Rattle.sb_statements.specs.declared.scripts.Script.{Script}
 use Rattle.sb_statements.specs.declared.schedules.Schedule.{Schedule}
-use Rattle.sb_top.specs.Contents.{Refusal}
-use Rattle.sb_top.specs.Coming.{ReportedEnd, reported}
-use Rattle.sb_top.specs.Ends.{Contents, End, IsOrderOf}
-use Rattle.sb_top.specs.Replay.{run_end}
-use Rattle.sb_top.specs.ScriptEnds.{no_third, script_end}
+use Rattle.sb_plain.specs.Contents.{Refusal}
+use Rattle.sb_plain.specs.Coming.{ReportedEnd, reported}
+use Rattle.sb_plain.specs.Ends.{Contents, End, IsOrderOf}
+use Rattle.sb_plain.specs.Replay.{run_end}
+use Rattle.sb_plain.specs.ScriptEnds.{no_third, script_end}
 
 -- the script is run by this order of steps
 abbrev pub nothing_after : List Policy → Script → Contents → Result ⊤ Refusal

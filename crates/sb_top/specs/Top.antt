@@ -1,68 +1,50 @@
 -- What arguments mean.
-use Rattle.std.specs.Prelude.{ℕ, List, [], ◌∷◌, Result, Ok, Err}
-use Rattle.sb_commands.specs.Commands.{Command, PlainCommand, ThreadedCommand, Audit, Check, Dup, Linked, Local, Make, Replay, Run}
-use Rattle.sb_commands.specs.Commands as commands
-use Rattle.sb_commands.specs.Usage.{Fault}
+use Rattle.std.specs.Prelude.{ℕ, List, [], Result, Ok, Err}
+use Rattle.sb_commands.specs.Commands.{Command, files_of}
+use Rattle.sb_commands.specs.NumberWords.{number_of}
+use Rattle.sb_commands.specs.Usage.{Fault, Values}
+use Rattle.sb_commands.specs.declared.works.PlainWork.{PlainWork}
+use Rattle.sb_commands.specs.declared.works.PlainWork.TheVariants.{Audit, Check, Dup, Linked, Local, Replay}
+use Rattle.sb_commands.specs.declared.works.ThreadedWork.{ThreadedWork}
+use Rattle.sb_commands.specs.declared.works.ThreadedWork.TheVariants.{Make, Run}
+use Rattle.sb_commands.specs.declared.works.Work.{Work}
+use Rattle.sb_commands.specs.declared.works.Work.TheVariants as work
 use Rattle.sb_statements.specs.declared.schedules.Schedule.{Schedule}
-use Rattle.sb_top.specs.Audit.{audit_end}
-use Rattle.sb_top.specs.Check.{check_end}
-use Rattle.sb_top.specs.Contents.{Refusal}
-use Rattle.sb_top.specs.Dup.{dup_end}
-use Rattle.sb_top.specs.Effects.{Effect}
-use Rattle.sb_top.specs.Endings.{IsEnding, IsUsageEnding}
-use Rattle.sb_top.specs.Ends.{Contents, End, Meaning, OnThreads, Plain}
-use Rattle.sb_top.specs.Linked.{linked_end}
-use Rattle.sb_top.specs.Local.{local_end}
+use Rattle.sb_plain.specs.Audit.{audit_end}
+use Rattle.sb_plain.specs.Check.{check_end}
+use Rattle.sb_plain.specs.Contents.{Refusal}
+use Rattle.sb_plain.specs.Dup.{dup_end}
+use Rattle.sb_plain.specs.Effects.{Effect}
+use Rattle.sb_plain.specs.Endings.{IsEnding, IsUsageEnding}
+use Rattle.sb_plain.specs.Ends.{Contents, End, Meaning, OnThreads, Plain}
+use Rattle.sb_plain.specs.Linked.{linked_end}
+use Rattle.sb_plain.specs.Local.{local_end}
 use Rattle.sb_top.specs.Make.{make_end}
-use Rattle.sb_top.specs.Replay.{listed, replay_end}
+use Rattle.sb_plain.specs.Replay.{replay_end}
 use Rattle.sb_top.specs.Run.{threads_end}
-use Rattle.sb_top.specs.declared.outcomes.Outcome.{Outcome}
+use Rattle.sb_plain.specs.declared.outcomes.Outcome.{Outcome}
 
--- What a command is to the calls that carry it out: the names of its files, in the order of their places, and what it means. A command that is added has one
--- line here
-pub record PlainMeaning : Type 0 where
-  pub files : List (List ℕ)
-  pub end : Contents → Result End Refusal
+-- What each command means that runs without threads. A command that is added has one line here
+abbrev pub plain_meaning : PlainWork → Contents → Result End Refusal
+plain_meaning Check = check_end
+plain_meaning Replay = replay_end
+plain_meaning Linked = linked_end
+plain_meaning Dup = dup_end
+plain_meaning Local = local_end
+plain_meaning Audit = audit_end
 
--- a command that runs without threads
-abbrev pub plain_meaning : PlainCommand → PlainMeaning
-plain_meaning (Check policy) = record { files = policy ∷ []; end = check_end }
-plain_meaning (Replay policy script schedule) = record { files = policy ∷ script ∷ listed schedule; end = replay_end }
-plain_meaning (Linked policy script links) = record { files = policy ∷ script ∷ links ∷ []; end = linked_end }
-plain_meaning (Dup policy script moves) = record { files = policy ∷ script ∷ moves ∷ []; end = dup_end }
-plain_meaning (Local policy script schedule) = record { files = policy ∷ script ∷ listed schedule; end = local_end }
-plain_meaning (Audit policy script transcript) = record { files = policy ∷ script ∷ transcript ∷ []; end = audit_end }
-
-abbrev pub plain_files : PlainCommand → List (List ℕ)
-plain_files command = (plain_meaning command).files
-
-abbrev pub plain_end : PlainCommand → Contents → Result End Refusal
-plain_end command = (plain_meaning command).end
-
--- one that runs on threads, with what it means for each order of steps
-pub record ThreadedMeaning : Type 0 where
-  pub files : List (List ℕ)
-  pub end : Schedule → Contents → Result End Refusal
-
-abbrev pub threaded_meaning : ThreadedCommand → ThreadedMeaning
-threaded_meaning (Run policy script workers) = record { files = policy ∷ script ∷ []; end = threads_end }
-threaded_meaning (Make seed targets calls) = record { files = []; end = make_end seed targets calls }
-
-abbrev pub threaded_files : ThreadedCommand → List (List ℕ)
-threaded_files command = (threaded_meaning command).files
-
-abbrev pub threaded_end : ThreadedCommand → Schedule → Contents → Result End Refusal
-threaded_end command = (threaded_meaning command).end
+-- and each that runs on threads, by the values of its arguments, for each order of steps
+abbrev pub threaded_meaning : ThreadedWork → Values → Schedule → Contents → Result End Refusal
+threaded_meaning Run values = threads_end
+threaded_meaning Make values = make_end (number_of values.first) (number_of values.second) (number_of values.third)
 
 -- what a command means
-abbrev pub meaning_of : Command → Meaning
-meaning_of (commands.Plain command) = Plain (plain_end command)
-meaning_of (commands.Threaded command) = OnThreads (threaded_end command)
+abbrev pub meaning_by : Work → Values → Meaning
+meaning_by (work.Plain plain) values = Plain (plain_meaning plain)
+meaning_by (work.Threaded threaded) values = OnThreads (threaded_meaning threaded values)
 
--- the names of its files
-abbrev pub files_of : Command → List (List ℕ)
-files_of (commands.Plain command) = plain_files command
-files_of (commands.Threaded command) = threaded_files command
+abbrev pub meaning_of : Command → Meaning
+meaning_of command = meaning_by command.work command.values
 
 -- How arguments end: a command as it means over the contents of its files, and arguments that are no command with their first fault
 abbrev pub EndsAsMeant : {G S : Type 0} → Result Command Fault → Effect G S → Outcome → Type 0

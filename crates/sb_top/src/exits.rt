@@ -2,7 +2,8 @@
 ghost use Rattle.std.specs.Prelude.{◌≡◌, Some};
 ghost use Rattle.sb_top.specs.Exits.{code_of, line_of};
 
-use crate::outcomes::Status;
+use sb_commands::forms_text;
+use sb_plain::Status;
 use std::fmt;
 
 /// The exit code of a status.
@@ -40,9 +41,10 @@ impl fmt::Display for Complaint {
     fn fmt<W: fmt::Write>(&self, f: &mut fmt::Formatter<W>) -> fmt::Result {
         match self.status {
             Status::Done => f.write_str("sandbox: done"),
-            Status::Usage(_) => f.write_str(
-                "sandbox: usage: check POLICY, replay POLICY SCRIPT [SCHEDULE], run POLICY SCRIPT [--workers N], make SEED TARGETS CALLS, linked POLICY SCRIPT LINKS, dup POLICY SCRIPT MOVES, local POLICY SCRIPT [SCHEDULE], audit POLICY SCRIPT TRANSCRIPT",
-            ),
+            Status::Usage(_) => {
+                let forms = forms_text();
+                write!(f, "sandbox: usage: {forms}")
+            }
             Status::PolicyRefused(fault) => {
                 let line = fault.line;
                 let number = fault.kind.number();

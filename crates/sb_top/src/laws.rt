@@ -2,7 +2,8 @@
 ghost use Rattle.sb_top.specs.Audits.{ReplaysAreAudited};
 ghost use Rattle.sb_top.specs.Laws.{RefusalsAreMeant, StatusesAreOfCommands, WorkComesToItsEnd};
 ghost use Rattle.sb_top.specs.Orders.{OrdersAreReplayed, ThreadedRunsAreReplayed};
-ghost use Rattle.sb_top.specs.Sound.{ReportsAreSound, RunsAreSound};
+ghost use Rattle.sb_plain.specs.Sound.{RunsAreSound};
+ghost use Rattle.sb_top.specs.Sound.{ReportsAreSound};
 ghost use Rattle.sb_top.specs.Totals.{TotalsAreOfVerdicts};
 
 use sb_audit::reports_that_fit_are_audited;

@@ -5,13 +5,13 @@ ghost use Rattle.sb_outside.specs.Outside.{joined};
 ghost use Rattle.sb_transcript.specs.Totals.{totals_line};
 ghost use Rattle.sb_top.specs.Make.{IsMadeEnd, IsMadeReport, made_line, made_text};
 
-use crate::ends::{CommandEnd, Lines};
 use crate::laws::{runs_are_sound, totals_are_of_verdicts};
 use crate::threads::run_judged;
 use sb_book::{Report, RunStart};
 use sb_gen::make;
 use sb_items::{Items, NoMemory};
 use sb_outside::{Bytes, Gate};
+use sb_plain::{CommandEnd, two_texts};
 use sb_transcript::totals;
 use std::alloc::Global;
 use std::sync::Wait;
@@ -33,7 +33,6 @@ fn made_line(alloc: Global, targets: u32, calls: u32) -> Result<Vec<u8>, NoMemor
 }
 
 // The two lines: what was made, and the totals of the report.
-#[tactic(auto, using(crate::proofs::Texts::two_texts))]
 fn made_texts(
     alloc: Global,
     targets: u32,
@@ -45,10 +44,11 @@ fn made_texts(
     requires few { result_count report.now.results < 2 ^ 62 }
     ensures { IfOk result (λ texts. joined texts ≡ made_line targets calls ++ totals_line report.now) }
 {
-    let mut texts = Items::empty(alloc);
-    texts.push(Bytes::new(made_line(alloc, targets, calls)?))?;
-    texts.push(Bytes::new(totals(alloc, report)?))?;
-    Ok(texts)
+    two_texts(
+        alloc,
+        made_line(alloc, targets, calls)?,
+        totals(alloc, report)?,
+    )
 }
 
 // The report of a run of the script that is made from a seed.
@@ -93,9 +93,5 @@ pub fn make_script<R: Threads + Wait + Sync, G: Gate>(
 {
     let report = run_made(rt, alloc, seed, targets, calls, gate)?;
     let texts = made_texts(alloc, targets, calls, &report)?;
-    Ok(CommandEnd {
-        lines: Ok(Lines::Texts(texts)),
-        report: Some(report),
-        noted: None,
-    })
+    Ok(CommandEnd::with_report(texts, report))
 }

@@ -1,114 +1,27 @@
 // What is written on standard error for a status.
 ghost use Rattle.std.specs.Prelude.{◌≡◌, IfOk, option_map, string_bytes};
-ghost use Rattle.sb_commands.specs.Commands.{command_of, meant, named};
+ghost use Rattle.sb_commands.specs.Commands.{command_of, name_at};
 ghost use Rattle.sb_commands.specs.Usage.{texts};
-ghost use Rattle.sb_top.specs.Exits.{message_of, name_at, notes_by, or_empty};
-ghost use Rattle.sb_top.specs.Replay.{listed};
-ghost use Rattle.sb_top.specs.Top.{files_for, files_of};
+ghost use Rattle.sb_top.specs.Exits.{message_of, notes_by, or_empty};
+ghost use Rattle.sb_top.specs.Top.{files_for};
 
-use crate::outcomes::{Outcome, Status};
-use sb_commands::{CommandWords, PlainWords, ThreadedWords, command_of, usage_message};
-use sb_items::{NoMemory, Refused};
+use sb_commands::{command_of, usage_message};
+use sb_items::NoMemory;
 use sb_message::{
     EndFault, audit_message, end_message, link_message, move_message, policy_message,
     schedule_message, script_message,
 };
 use sb_notes::notes_message;
+use sb_plain::{Outcome, Status};
 use std::alloc::Global;
-
-// The names of the files of a command, by their places; empty if there is no such file.
-#[derive(Clone, Copy)]
-struct FileNames<'a> {
-    first: &'a str,
-    second: &'a str,
-    third: &'a str,
-}
-
-// The names of files of which the third may be left out.
-fn names_with<'a>(first: &'a str, second: &'a str, third: Option<&'a str>) -> FileNames<'a>
-    ensures first { result.first.now ≡ first.now }
-    ensures second { result.second.now ≡ second.now }
-    ensures third { result.third.now ≡ name_at 1 (listed (named third.entry)) }
-{
-    FileNames {
-        first,
-        second,
-        third: third.unwrap_or(""),
-    }
-}
-
-// The names of the files of a command.
-fn file_names<'a>(command: CommandWords<'a>) -> FileNames<'a>
-    ensures first { result.first.now ≡ name_at 1 (files_of (meant command.entry)) }
-    ensures second { result.second.now ≡ name_at 2 (files_of (meant command.entry)) }
-    ensures third { result.third.now ≡ name_at 3 (files_of (meant command.entry)) }
-{
-    match command {
-        CommandWords::Plain(PlainWords::Check { policy }) => names_with(policy, "", None),
-        CommandWords::Plain(
-            PlainWords::Replay {
-                policy,
-                script,
-                schedule,
-            },
-        ) => names_with(policy, script, schedule),
-        CommandWords::Plain(
-            PlainWords::Linked {
-                policy,
-                script,
-                links,
-            },
-        ) => names_with(policy, script, Some(links)),
-        CommandWords::Plain(
-            PlainWords::Dup {
-                policy,
-                script,
-                moves,
-            },
-        ) => names_with(policy, script, Some(moves)),
-        CommandWords::Plain(
-            PlainWords::Local {
-                policy,
-                script,
-                schedule,
-            },
-        ) => names_with(policy, script, schedule),
-        CommandWords::Plain(
-            PlainWords::Audit {
-                policy,
-                script,
-                transcript,
-            },
-        ) => names_with(policy, script, Some(transcript)),
-        CommandWords::Threaded(ThreadedWords::Run { policy, script, .. }) => {
-            names_with(policy, script, None)
-        }
-        CommandWords::Threaded(ThreadedWords::Make { .. }) => names_with("", "", None),
-    }
-}
-
-// The name of file `which` of a command; empty if there is no such file.
-#[tactic(auto, using(crate::proofs::Naming::no_name))]
-fn name_at<'a>(command: CommandWords<'a>, which: u8) -> &'a str
-    ensures { result.now ≡ name_at which (files_of (meant command.entry)) }
-{
-    let names = file_names(command);
-    match which {
-        1 => names.first,
-        2 => names.second,
-        3 => names.third,
-        _ => "",
-    }
-}
 
 // The name of file `which` of the command that the arguments are; empty if there is no such file.
 fn name_in(alloc: Global, words: &[String], which: u8) -> Result<&str, NoMemory>
     ensures { IfOk result (λ name. name.now ≡ name_at which (files_for (command_of (texts words.now)))) }
 {
-    match command_of(alloc, words) {
-        Ok(command) => Ok(name_at(command, which)),
-        Err(Refused::Fault(_)) => Ok(""),
-        Err(Refused::NoMemory) => Err(NoMemory),
+    match command_of(words) {
+        Ok(command) => command.file_name(alloc, which),
+        Err(_) => Ok(""),
     }
 }
 

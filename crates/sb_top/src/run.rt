@@ -1,18 +1,15 @@
 // The command `run`: policies and a script are read, the script is run on threads, and its transcript is put line by line.
 ghost use Rattle.std.specs.Prelude.{◌≡◌, ◌≤◌, [], ◌∷◌, IfOk, OnOk};
 ghost use Rattle.sb_outside.specs.Outside.{Rose};
-ghost use Rattle.sb_top.specs.Coming.{IsEndCaused, IsFoundOnThreads};
+ghost use Rattle.sb_plain.specs.Coming.{IsEndCaused, IsFoundOnThreads};
 ghost use Rattle.sb_top.specs.Run.{IsThreadsEnd, threads_end};
 
-use crate::ends::CommandEnd;
-use crate::reading::opened_in;
-use crate::refusals::Refused;
-use crate::replay::end_of_run;
 use crate::threads::run_judged;
 use sb_book::{OpenedScript, RunStart};
 use sb_core::Ran;
 use sb_items::NoMemory;
 use sb_outside::{Files, Gate};
+use sb_plain::{CommandEnd, Refused, end_of_run, opened_in};
 use std::alloc::Global;
 use std::sync::Wait;
 use std::thread::Threads;

@@ -1,29 +1,28 @@
 // The top calls.
-ghost use Rattle.std.specs.Prelude.{◌≡◌, ◌≤◌, [], None, IfErr, IfOk, IsOk, OnErr, OnOk, MatchResult, Ok, true};
-ghost use Rattle.sb_commands.specs.Commands.{HasNumbers, Threaded, command_of, needs_threads, plain_of, threaded_of};
+ghost use Rattle.std.specs.Prelude.{◌≡◌, ◌≤◌, ◌<◌, ◌^◌, [], None, IfErr, IfOk, IsOk, OnErr, OnOk, Ok, is_err};
+ghost use Rattle.sb_commands.specs.Commands.{HasNumbers, command_of, files_of, needs_threads, plain_files, threaded, threaded_files};
 ghost use Rattle.sb_commands.specs.Usage.{texts};
+ghost use Rattle.sb_commands.specs.Values.{values_of};
 ghost use Rattle.sb_outside.specs.Outside.{Rose};
-ghost use Rattle.sb_top.specs.Coming.{IsEndCaused, IsFound, IsFoundOnThreads};
-ghost use Rattle.sb_top.specs.Contents.{refusal_of};
-ghost use Rattle.sb_top.specs.Effects.{IsOrderly, effect};
-ghost use Rattle.sb_top.specs.Endings.{IsPlainEnding, IsThreadedEnding};
-ghost use Rattle.sb_top.specs.Outcomes.{IsSilent};
-ghost use Rattle.sb_top.specs.Putting.{IsFinished};
-ghost use Rattle.sb_top.specs.Top.{EndsAsMeant, files_for, plain_end, plain_files, threaded_end, threaded_files};
+ghost use Rattle.sb_plain.specs.Coming.{IsEndCaused, IsFound, IsFoundBy, IsFoundOnThreads};
+ghost use Rattle.sb_plain.specs.Effects.{IsOrderly, effect};
+ghost use Rattle.sb_plain.specs.Endings.{IsEnding};
+ghost use Rattle.sb_plain.specs.Outcomes.{IsSilent};
+ghost use Rattle.sb_plain.specs.Putting.{IsFinished};
+ghost use Rattle.sb_top.specs.Top.{EndsAsMeant, files_for, meaning_of, plain_meaning, threaded_meaning};
 
-use crate::audit::audit_transcript;
-use crate::check::check_policy;
-use crate::dup::dup_script;
-use crate::ends::CommandEnd;
-use crate::linked::linked_script;
-use crate::local::local_script;
 use crate::make::make_script;
-use crate::outcomes::{Outcome, Status};
-use crate::refusals::Refused;
-use crate::replay::replay_script;
 use crate::run::run_script;
-use sb_commands::{CommandWords, PlainWords, ThreadedWords, UsageFault, command_of};
+use sb_commands::{
+    CommandValues, CommandWords, PlainWork, ThreadedWords, ThreadedWork, Work, command_of,
+    number_of,
+};
+use sb_items::NoMemory;
 use sb_outside::{Files, Gate, Sink};
+use sb_plain::{
+    CommandEnd, Outcome, Refused, Status, audit_transcript, check_policy, dup_script,
+    linked_script, local_script, replay_script,
+};
 use std::alloc::Global;
 use std::sync::Wait;
 use std::thread::Threads;
@@ -43,92 +42,136 @@ fn finish<K: Sink>(found: Result<CommandEnd, Refused>, out: &mut K) -> Outcome
     }
 }
 
-// Carries out a command that runs without threads.
-fn carry_out<F: Files>(
+// What a command comes to that runs without threads, by the values of its arguments.
+fn carry_out_by<F: Files>(
     alloc: Global,
-    command: PlainWords<'_>,
+    work: PlainWork,
+    values: CommandValues<'_>,
     files: &mut F,
 ) -> Result<CommandEnd, Refused>
     ensures kept { F.held files.new ≡ F.held files.old }
     ensures counted { F.faults files.old ≤ F.faults files.new }
     ensures ok_count { OnOk result (F.faults files.new ≡ F.faults files.old) }
-    ensures found { IsFound (plain_end (plain_of command.entry)) (plain_files (plain_of command.entry)) (F.held files.old) result }
+    ensures found { IsFound (plain_meaning work) (plain_files work (values_of values.entry)) (F.held files.old) result }
     ensures caused { IsEndCaused (F.held files.old) (Rose (F.faults files.old) (F.faults files.new)) result }
-    ensures unread { plain_files (plain_of command.entry) ≡ [] → files.new ≡ files.old }
+    ensures unread { plain_files work (values_of values.entry) ≡ [] → files.new ≡ files.old }
 {
-    match command {
-        PlainWords::Check { policy } => check_policy(alloc, files, policy),
-        PlainWords::Replay {
-            policy,
-            script,
-            schedule,
-        } => replay_script(alloc, files, policy, script, schedule),
-        PlainWords::Linked {
-            policy,
-            script,
-            links,
-        } => linked_script(alloc, files, policy, script, links),
-        PlainWords::Dup {
-            policy,
-            script,
-            moves,
-        } => dup_script(alloc, files, policy, script, moves),
-        PlainWords::Local {
-            policy,
-            script,
-            schedule,
-        } => local_script(alloc, files, policy, script, schedule),
-        PlainWords::Audit {
-            policy,
-            script,
-            transcript,
-        } => audit_transcript(alloc, files, policy, script, transcript),
+    let CommandValues {
+        first,
+        second,
+        third,
+        last,
+        option: _,
+    } = values;
+    match work {
+        PlainWork::Check => check_policy(alloc, files, first),
+        PlainWork::Replay => replay_script(alloc, files, first, second, last),
+        PlainWork::Linked => linked_script(alloc, files, first, second, third),
+        PlainWork::Dup => dup_script(alloc, files, first, second, third),
+        PlainWork::Local => local_script(alloc, files, first, second, last),
+        PlainWork::Audit => audit_transcript(alloc, files, first, second, third),
     }
 }
 
-// Carries out a command that runs on threads.
-fn carry_out_on_threads<R: Threads + Wait + Sync, F: Files, G: Gate>(
+// A number below 2^32 in 32 bits.
+fn small(number: u64) -> u32
+    requires { number < 2 ^ 32 }
+    ensures { result ≡ number }
+{
+    number as u32
+}
+
+// What a command comes to that runs on threads, by the values of its arguments.
+fn carry_out_on_threads_by<R: Threads + Wait + Sync, F: Files, G: Gate>(
     rt: &R,
     alloc: Global,
-    command: ThreadedWords<'_>,
+    work: ThreadedWork,
+    values: CommandValues<'_>,
     files: &mut F,
     gate: &G,
 ) -> Result<CommandEnd, Refused>
-    requires { HasNumbers (Threaded (threaded_of command)) }
+    requires { HasNumbers (threaded work (values_of values)) }
     ensures kept { F.held files.new ≡ F.held files.old }
     ensures counted { F.faults files.old ≤ F.faults files.new }
     ensures ok_count { OnOk result (F.faults files.new ≡ F.faults files.old) }
-    ensures found { IsFoundOnThreads (threaded_end (threaded_of command.entry)) (threaded_files (threaded_of command.entry)) (F.held files.old) result }
+    ensures found { IsFoundOnThreads (threaded_meaning work (values_of values.entry)) (threaded_files work (values_of values.entry)) (F.held files.old) result }
     ensures caused { IsEndCaused (F.held files.old) (Rose (F.faults files.old) (F.faults files.new)) result }
-    ensures unread { threaded_files (threaded_of command.entry) ≡ [] → files.new ≡ files.old }
+    ensures unread { threaded_files work (values_of values.entry) ≡ [] → files.new ≡ files.old }
 {
-    match command {
-        ThreadedWords::Run {
-            policy,
-            script,
-            workers,
-        } => run_script(rt, alloc, files, policy, script, workers, gate),
-        ThreadedWords::Make {
-            seed,
-            targets,
-            calls,
-        } => Ok(make_script(rt, alloc, seed, targets, calls, gate)?),
+    let CommandValues {
+        first,
+        second,
+        third,
+        last: _,
+        option,
+    } = values;
+    match work {
+        ThreadedWork::Run => run_script(rt, alloc, files, first, second, small(option), gate),
+        ThreadedWork::Make => {
+            let targets = small(number_of(second));
+            let calls = small(number_of(third));
+            Ok(make_script(rt, alloc, number_of(first), targets, calls, gate)?)
+        }
+    }
+}
+
+// What a command comes to that runs without threads.
+fn carry_out<F: Files>(
+    alloc: Global,
+    work: PlainWork,
+    command: &CommandWords<'_>,
+    files: &mut F,
+) -> Result<CommandEnd, Refused>
+    requires { command.now.work ≡ Work.Plain work }
+    ensures kept { F.held files.new ≡ F.held files.old }
+    ensures counted { F.faults files.old ≤ F.faults files.new }
+    ensures ok_count { OnOk result (F.faults files.new ≡ F.faults files.old) }
+    ensures found { IsFoundBy (meaning_of command.now) (files_of command.now) (F.held files.old) result }
+    ensures caused { IsEndCaused (F.held files.old) (Rose (F.faults files.old) (F.faults files.new)) result }
+    ensures unread { files_of command.now ≡ [] → files.new ≡ files.old }
+{
+    match command.values(alloc) {
+        Ok(values) => carry_out_by(alloc, work, values, files),
+        Err(NoMemory) => Err(Refused::new(Status::NoMemory)),
+    }
+}
+
+// What a command comes to that runs on threads.
+fn carry_out_on_threads<R: Threads + Wait + Sync, F: Files, G: Gate>(
+    rt: &R,
+    alloc: Global,
+    command: &ThreadedWords<'_>,
+    files: &mut F,
+    gate: &G,
+) -> Result<CommandEnd, Refused>
+    ensures kept { F.held files.new ≡ F.held files.old }
+    ensures counted { F.faults files.old ≤ F.faults files.new }
+    ensures ok_count { OnOk result (F.faults files.new ≡ F.faults files.old) }
+    ensures found { IsFoundBy (meaning_of command.now) (files_of command.now) (F.held files.old) result }
+    ensures caused { IsEndCaused (F.held files.old) (Rose (F.faults files.old) (F.faults files.new)) result }
+    ensures unread { files_of command.now ≡ [] → files.new ≡ files.old }
+{
+    match command.values(alloc) {
+        Ok(values) => { carry_out_on_threads_by(rt, alloc, command.work(), values, files, gate) }
+        Err(NoMemory) => Err(Refused::new(Status::NoMemory)),
     }
 }
 
 // Carries out a command that runs without threads, and puts what it comes to.
 fn plain_outcome<F: Files, K: Sink>(
     alloc: Global,
-    command: PlainWords<'_>,
+    work: PlainWork,
+    command: &CommandWords<'_>,
     files: &mut F,
     out: &mut K,
 ) -> Outcome
-    ensures ends { IsPlainEnding (plain_end (plain_of command.entry)) (plain_files (plain_of command.entry))
+    requires { command.now.work ≡ Work.Plain work }
+    ensures ends { IsEnding (meaning_of command.now) (files_of command.now)
         (effect F.held F.faults K.written K.pending K.faults files.old files.new out.old out.new) result }
-    ensures orderly { IsOrderly (plain_files (plain_of command.entry))
+    ensures orderly { IsOrderly (files_of command.now)
         (effect F.held F.faults K.written K.pending K.faults files.old files.new out.old out.new) result }
 {
-    let found = carry_out(alloc, command, files);
+    let found = carry_out(alloc, work, command, files);
     finish(found, out)
 }
 
@@ -136,46 +179,34 @@ fn plain_outcome<F: Files, K: Sink>(
 pub fn threads_top<R: Threads + Wait + Sync, F: Files, K: Sink, G: Gate>(
     rt: &R,
     alloc: Global,
-    command: ThreadedWords<'_>,
+    command: &ThreadedWords<'_>,
     files: &mut F,
     out: &mut K,
     gate: &G,
 ) -> Outcome
-    requires { HasNumbers (Threaded (threaded_of command)) }
-    ensures ends { IsThreadedEnding (threaded_end (threaded_of command.entry)) (threaded_files (threaded_of command.entry))
+    ensures ends { IsEnding (meaning_of command.now) (files_of command.now)
         (effect F.held F.faults K.written K.pending K.faults files.old files.new out.old out.new) result }
-    ensures orderly { IsOrderly (threaded_files (threaded_of command.entry))
+    ensures orderly { IsOrderly (files_of command.now)
         (effect F.held F.faults K.written K.pending K.faults files.old files.new out.old out.new) result }
 {
     let found = carry_out_on_threads(rt, alloc, command, files, gate);
     finish(found, out)
 }
 
-// The outcome of arguments in which no command was found.
-fn outcome_without(refused: sb_items::Refused<UsageFault>) -> Outcome
-    ensures { result ≡ record { status = (refusal_of refused).status; shown = None; report = None } }
-{
-    match refused {
-        sb_items::Refused::Fault(fault) => Refused::new(Status::Usage(fault)).into_outcome(),
-        sb_items::Refused::NoMemory => Refused::new(Status::NoMemory).into_outcome(),
-    }
-}
-
 /// All that the program does without threads, over any files and any output: reads the arguments, and carries out the command that they are. A command
 /// that runs on threads is handed back, and then nothing was read, and nothing was put. It waits for nobody.
 ///
 /// # Errors
-/// The command, if it runs on threads.
+/// The command, if and only if it runs on threads.
 pub fn plain_top<'a, F: Files, K: Sink>(
     alloc: Global,
     words: &'a [String],
     files: &mut F,
     out: &mut K,
 ) -> Result<Outcome, ThreadedWords<'a>>
-    // A command that runs on threads has an outcome here only if there was no memory to read the arguments.
-    ensures handed { MatchResult result (λ outcome. needs_threads (command_of (texts words.now)) ≡ true → outcome.status ≡ Status.NoMemory)
-        (λ command. command_of (texts words.now) ≡ Ok (Threaded (threaded_of command))) }
-    ensures numbers { IfErr result (λ command. HasNumbers (Threaded (threaded_of command))) }
+    // There is no outcome exactly if the arguments are a command that runs on threads, and then this command is handed back.
+    ensures answered { is_err result ≡ needs_threads (command_of (texts words.now)) }
+    ensures handed { IfErr result (λ command. command_of (texts words.now) ≡ Ok command) }
     ensures unread { OnErr result (files.new ≡ files.old) }
     ensures unwritten { OnErr result (out.new ≡ out.old) }
 
@@ -190,10 +221,12 @@ pub fn plain_top<'a, F: Files, K: Sink>(
     ensures orderly { IfOk result (IsOrderly (files_for (command_of (texts words.now)))
         (effect F.held F.faults K.written K.pending K.faults files.old files.new out.old out.new)) }
 {
-    match command_of(alloc, words) {
-        Ok(CommandWords::Plain(command)) => Ok(plain_outcome(alloc, command, files, out)),
-        Ok(CommandWords::Threaded(command)) => Err(command),
-        Err(refused) => Ok(outcome_without(refused)),
+    match command_of(words) {
+        Ok(command) => match command.work() {
+            Work::Plain(work) => Ok(plain_outcome(alloc, work, &command, files, out)),
+            Work::Threaded(work) => Err(ThreadedWords::new(work, command)),
+        },
+        Err(fault) => Ok(Refused::new(Status::Usage(fault)).into_outcome()),
     }
 }
 
@@ -221,6 +254,6 @@ pub fn broker_top<R: Threads + Wait + Sync, F: Files, K: Sink, G: Gate>(
 {
     match plain_top(alloc, words, files, out) {
         Ok(outcome) => outcome,
-        Err(command) => threads_top(rt, alloc, command, files, out, gate),
+        Err(command) => threads_top(rt, alloc, &command, files, out, gate),
     }
 }

@@ -2,7 +2,7 @@ use Rattle.std.proofs.Common.{◌≡◌, ◌∙◌, ap, rules, sym, None}
 use Rattle.sb_commands.specs.Inquiries.{answer_text, asked, asked_of}
 use Rattle.sb_commands.specs.Usage.{texts}
 use Rattle.sb_outside.specs.Outside.{Rose}
-use Rattle.sb_top.specs.declared.outcomes.Outcome.{Outcome}
+use Rattle.sb_plain.specs.declared.outcomes.Outcome.{Outcome}
 use Rattle.sb_main.proofs.Faulty.{never_usage}
 use Rattle.sb_main.proofs.answer.Goals as goal
 

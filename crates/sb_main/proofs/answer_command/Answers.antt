@@ -1,6 +1,6 @@
 use Rattle.sb_commands.specs.Commands.{command_of}
 use Rattle.sb_commands.specs.Usage.{texts}
-use Rattle.sb_top.specs.Effects.{effect}
+use Rattle.sb_plain.specs.Effects.{effect}
 use Rattle.sb_top.specs.Laws.{StatusesAreOfCommands}
 use Rattle.sb_main.proofs.answer_command.Goals as goal
 

@@ -3,7 +3,7 @@ use Rattle.std.specs.Prelude.{IfOk}
 use Rattle.sb_book.specs.ReadyScripts.{Ready}
 use Rattle.sb_core.specs.Runs.{IsSomeRun}
 use Rattle.sb_statements.specs.declared.scripts.Script.{Script}
-use Rattle.sb_top.specs.Coming.{reported_run}
+use Rattle.sb_plain.specs.Coming.{reported_run}
 use Rattle.sb_top.proofs.ThreadEnds.{are_threads_ends}
 use Rattle.sb_top.proofs.run.run_opened.Goals as goal
 

@@ -1,13 +1,13 @@
 use Rattle.std.proofs.Common.{◌≡◌, ◌∷◌, [], refl, sym, subst, rules, List}
 use Rattle.std.specs.Prelude.{Result, Err}
-use Rattle.sb_top.specs.Coming.{IsFoundOnThreads, ReportedEnd}
-use Rattle.sb_top.specs.Contents.{Refusal, no_schedule, refused}
-use Rattle.sb_top.specs.Ends.{OnThreads}
+use Rattle.sb_plain.specs.Coming.{IsFoundOnThreads, ReportedEnd}
+use Rattle.sb_plain.specs.Contents.{Refusal, no_schedule, refused}
+use Rattle.sb_plain.specs.Ends.{OnThreads}
 use Rattle.sb_top.specs.Run.{nothing_after, ordered_end, threads_end}
-use Rattle.sb_top.specs.declared.outcomes.Status.TheVariants.{NoMemory}
-use Rattle.sb_top.proofs.Carrying.{on_threads, starved}
+use Rattle.sb_plain.specs.declared.outcomes.Status.TheVariants.{NoMemory}
+use Rattle.sb_plain.proofs.Carrying.{on_threads, starved}
 use Rattle.sb_top.proofs.Running.{run_done}
-use Rattle.sb_top.proofs.ScriptEnds.{unopened}
+use Rattle.sb_plain.proofs.ScriptEnds.{unopened}
 use Rattle.sb_top.proofs.run.run_script.Goals as goal
 
 pub returns-in_err-opened-clause-found : goal.returns-in_err-opened-clause-found

@@ -1,7 +1,7 @@
 use Rattle.std.specs.Prelude.{Ok}
-use Rattle.sb_commands.specs.Commands.{Threaded, command_of, threaded_of}
+use Rattle.sb_commands.specs.Commands.{command_of}
 use Rattle.sb_commands.specs.Usage.{texts}
-use Rattle.sb_top.specs.Effects.{IsOrderly, effect}
+use Rattle.sb_plain.specs.Effects.{IsOrderly, effect}
 use Rattle.sb_top.specs.Top.{EndsAsMeant, files_for}
 use Rattle.sb_top.proofs.Finishing.{after_first}
 use Rattle.sb_top.proofs.top.broker_top.Goals as goal
@@ -11,7 +11,7 @@ returns-in-Err-clause-ends g c =
     let files = c.threads_top.new.files in
     let out = c.threads_top.new.out in
     after_first (λ w f o. EndsAsMeant w (effect g.F.Files.held g.F.Files.faults g.K.Sink.written g.K.Sink.pending g.K.Sink.faults f files o out) c.threads_top.result)
-    (command_of (texts c.args.words.now)) (Ok (Threaded (threaded_of c.in-Err.command))) c.args.files.now c.plain_top.new.files c.args.out.now c.plain_top.new.out
+    (command_of (texts c.args.words.now)) (Ok c.in-Err.command) c.args.files.now c.plain_top.new.files c.args.out.now c.plain_top.new.out
     c.in-Err.ensures.handed c.in-Err.ensures.unread c.in-Err.ensures.unwritten c.threads_top.ensures.ends
 
 pub returns-in-Err-clause-orderly : goal.returns-in-Err-clause-orderly
@@ -19,5 +19,5 @@ returns-in-Err-clause-orderly g c =
     let files = c.threads_top.new.files in
     let out = c.threads_top.new.out in
     after_first (λ w f o. IsOrderly (files_for w) (effect g.F.Files.held g.F.Files.faults g.K.Sink.written g.K.Sink.pending g.K.Sink.faults f files o out) c.threads_top.result)
-    (command_of (texts c.args.words.now)) (Ok (Threaded (threaded_of c.in-Err.command))) c.args.files.now c.plain_top.new.files c.args.out.now c.plain_top.new.out
+    (command_of (texts c.args.words.now)) (Ok c.in-Err.command) c.args.files.now c.plain_top.new.files c.args.out.now c.plain_top.new.out
     c.in-Err.ensures.handed c.in-Err.ensures.unread c.in-Err.ensures.unwritten c.threads_top.ensures.orderly

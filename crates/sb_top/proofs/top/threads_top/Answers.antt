@@ -1,13 +1,12 @@
-use Rattle.sb_commands.specs.Commands.{threaded_of}
-use Rattle.sb_top.specs.Effects.{effect}
-use Rattle.sb_top.specs.Ends.{OnThreads}
-use Rattle.sb_top.specs.Top.{threaded_end, threaded_files}
+use Rattle.sb_commands.specs.Commands.{files_of}
+use Rattle.sb_plain.specs.Effects.{effect}
+use Rattle.sb_top.specs.Top.{meaning_of}
 use Rattle.sb_top.proofs.Finishing.{ending}
 use Rattle.sb_top.proofs.top.threads_top.Goals as goal
 
 pub returns-clause-ends : goal.returns-clause-ends
 returns-clause-ends g c =
-    let command = threaded_of c.args.command in
+    let command = c.args.command.now in
     ending (effect g.F.Files.held g.F.Files.faults g.K.Sink.written g.K.Sink.pending g.K.Sink.faults c.args.files.now c.carry_out_on_threads-found.new.files c.args.out.now c.finish.new.out)
-    c.finish.result (OnThreads (threaded_end command)) (threaded_files command) c.carry_out_on_threads-found.result c.carry_out_on_threads-found.ensures.found c.finish.ensures.finished
+    c.finish.result (meaning_of command) (files_of command) c.carry_out_on_threads-found.result c.carry_out_on_threads-found.ensures.found c.finish.ensures.finished
     c.carry_out_on_threads-found.ensures.caused

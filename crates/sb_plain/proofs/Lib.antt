@@ -1,0 +1,13 @@
+pub mod ReadFiles
+pub mod Carrying
+pub mod Moving
+pub mod Auditing
+pub mod Linking
+pub mod LocalRuns
+pub mod Readings
+pub mod Ready
+pub mod Texts
+pub mod Checking
+pub mod Replaying
+pub mod ScriptEnds
+pub mod Suiting

@@ -1,0 +1,71 @@
+use Rattle.sb_book.specs.Histories.{setting_of}
+use Rattle.sb_dup.specs.declared.moves.Move.{Move}
+use Rattle.sb_outside.specs.Outside.{Held, Rose}
+use Rattle.sb_statements.specs.declared.scripts.Script.{Script}
+use Rattle.sb_plain.proofs.Carrying.{starved}
+use Rattle.sb_plain.proofs.Moving.{dup_caused}
+use Rattle.sb_plain.proofs.ScriptEnds.{finished, third_read, third_unread, unfinished, unopened}
+use Rattle.sb_plain.specs.Coming.{IsFound, IsLater, IsRead, IsScheduled, IsTextCaused, ReportedEnd, reported}
+use Rattle.sb_plain.specs.Contents.{Refusal, refused}
+use Rattle.sb_plain.specs.Contents.{no_schedule}
+use Rattle.sb_plain.specs.Dup.{dup_end, moves_after, moves_end, moves_in}
+use Rattle.sb_plain.specs.Ends.{Plain}
+use Rattle.sb_plain.specs.Replay.{whole_run}
+use Rattle.sb_plain.specs.declared.outcomes.Status.TheVariants.{NoMemory}
+use Rattle.std.proofs.Common.{◌≡◌, ◌∷◌, [], ap, refl, sym, subst, rules, ℕ, List, Option}
+use Rattle.std.specs.Prelude.{Result, Ok, Err}
+use Rattle.sb_plain.proofs.dup.dup_script.Goals as goal
+
+pub returns-in_err-opened-clause-found : goal.returns-in_err-opened-clause-found
+returns-in_err-opened-clause-found g c =
+    let held = g.F.Files.held c.args.files.now in
+    let refusal = c.in_err-opened.field-0.0 in
+    let is : c.from_residual.result ≡ Err refusal = search rules in
+    let P : Result ReportedEnd Refusal → Type 0 = IsFound dup_end (c.args.policy.now ∷ c.args.script.now ∷ c.args.moves.now ∷ []) held in
+    subst P (sym is) (unopened moves_after moves_end held c.args.policy.now c.args.script.now (c.args.moves.now ∷ []) refusal c.in_err-opened.ensures.opened)
+
+pub returns-in_err-move_by-clause-found : goal.returns-in_err-move_by-clause-found
+returns-in_err-move_by-clause-found g c =
+    let held = g.F.Files.held c.args.files.now in
+    let is : c.from_residual-in_err-move_by.result ≡ Err (refused NoMemory) = search rules in
+    let P : Result ReportedEnd Refusal → Type 0 = IsFound dup_end (c.args.policy.now ∷ c.args.script.now ∷ c.args.moves.now ∷ []) held in
+    subst P (sym is) (starved (Plain dup_end) (c.args.policy.now ∷ c.args.script.now ∷ c.args.moves.now ∷ []) held (refused NoMemory) refl)
+
+pub returns-in_err-moves-clause-found : goal.returns-in_err-moves-clause-found
+returns-in_err-moves-clause-found g c =
+    let held = g.F.Files.held c.args.files.now in
+    let ready = c.in_ok-opened.opened in
+    let refusal = c.in_err-moves.field-0.0 in
+    let is : c.from_residual-in_err-moves.result ≡ Err refusal = search rules in
+    let P : Result ReportedEnd Refusal → Type 0 = IsFound dup_end (c.args.policy.now ∷ c.args.script.now ∷ c.args.moves.now ∷ []) held in
+    let same : c.script.result.now ≡ ready.script = search rules in
+    let R : Script → Type 0 = λ s. IsRead (λ (m : List Move). m) 3 (moves_in s) (g.F.Files.held c.opened_in.new.files) c.args.moves.now (Err refusal) in
+    let there : R ready.script = subst R same c.in_err-moves.ensures.read in
+    let Q : Option Held → Type 0 = λ h. IsRead (λ (m : List Move). m) 3 (moves_in ready.script) h c.args.moves.now (Err refusal) in
+    let read : Q held = subst Q c.in_ok-opened.ensures.kept there in
+    let after = third_unread (moves_in ready.script) held c.args.moves.now (λ (m : List Move). m) refusal refl read in
+    subst P (sym is) (unfinished moves_after moves_end held c.args.policy.now c.args.script.now (c.args.moves.now ∷ []) ready c.in_ok-opened.ensures.opened refusal after)
+
+pub returns-clause-found : goal.returns-clause-found
+returns-clause-found g c =
+    let held = g.F.Files.held c.args.files.now in
+    let ready = c.in_ok-opened.opened in
+    let moves = c.in_ok-moves.moves in
+    let same : c.script.result.now ≡ ready.script = search rules in
+    let R : Script → Type 0 = λ s. IsRead (λ (m : List Move). m) 3 (moves_in s) (g.F.Files.held c.opened_in.new.files) c.args.moves.now (Ok moves) in
+    let there : R ready.script = subst R same c.in_ok-moves.ensures.read in
+    let Q : Option Held → Type 0 = λ h. IsRead (λ (m : List Move). m) 3 (moves_in ready.script) h c.args.moves.now (Ok moves) in
+    let read : Q held = subst Q c.in_ok-opened.ensures.kept there in
+    let after = third_read (moves_in ready.script) held c.args.moves.now (λ (m : List Move). m) moves read in
+    let end = c.in_ok-move_by.ensures in
+    finished moves_after moves_end held c.args.policy.now c.args.script.now (c.args.moves.now ∷ []) ready c.in_ok-opened.ensures.opened moves c.in_ok-move_by.field-0 after end
+
+pub returns-clause-caused : goal.returns-clause-caused
+returns-clause-caused g c =
+    let held = g.F.Files.held c.args.files.now in
+    let rose = Rose (g.F.Files.faults c.args.files.now) (g.F.Files.faults c.moves_in.new.files) in
+    let policies = c.in_ok-opened.opened.policies in
+    let script = c.in_ok-opened.opened.script in
+    let ran = whole_run policies script no_schedule in
+    subst (IsTextCaused held rose) (sym (ap (λ (x : ReportedEnd). x.text) c.in_ok-move_by.ensures))
+    (dup_caused held rose (setting_of policies script).policies script c.in_ok-moves.moves ran.report ran.unfinished)

@@ -1,0 +1,56 @@
+use Rattle.sb_link.specs.declared.links.Link.{Link}
+use Rattle.sb_outside.specs.Outside.{Held, Rose}
+use Rattle.sb_plain.proofs.Carrying.{starved}
+use Rattle.sb_plain.proofs.ScriptEnds.{finished, third_read, third_unread, unfinished, unopened}
+use Rattle.sb_plain.specs.Coming.{IsFound, IsLater, IsRead, IsScheduled, IsTextCaused, ReportedEnd, reported}
+use Rattle.sb_plain.specs.Contents.{Refusal, refused}
+use Rattle.sb_plain.specs.Ends.{Plain}
+use Rattle.sb_plain.specs.Linked.{calls_end, linked_end, links_after, links_in}
+use Rattle.sb_plain.specs.declared.outcomes.Status.TheVariants.{NoMemory}
+use Rattle.std.proofs.Common.{◌≡◌, ◌∷◌, [], ap, refl, sym, subst, rules, ℕ, List, Option}
+use Rattle.std.specs.Prelude.{Result, Ok, Err}
+use Rattle.sb_plain.proofs.linked.linked_script.Goals as goal
+
+pub returns-in_err-opened-clause-found : goal.returns-in_err-opened-clause-found
+returns-in_err-opened-clause-found g c =
+    let held = g.F.Files.held c.args.files.now in
+    let refusal = c.in_err-opened.field-0.0 in
+    let is : c.from_residual.result ≡ Err refusal = search rules in
+    let P : Result ReportedEnd Refusal → Type 0 = IsFound linked_end (c.args.policy.now ∷ c.args.script.now ∷ c.args.links.now ∷ []) held in
+    subst P (sym is) (unopened links_after calls_end held c.args.policy.now c.args.script.now (c.args.links.now ∷ []) refusal c.in_err-opened.ensures.opened)
+
+pub returns-in_err-end_of_calls-clause-found : goal.returns-in_err-end_of_calls-clause-found
+returns-in_err-end_of_calls-clause-found g c =
+    let held = g.F.Files.held c.args.files.now in
+    let is : c.from_residual-in_err-end_of_calls.result ≡ Err (refused NoMemory) = search rules in
+    let P : Result ReportedEnd Refusal → Type 0 = IsFound linked_end (c.args.policy.now ∷ c.args.script.now ∷ c.args.links.now ∷ []) held in
+    subst P (sym is) (starved (Plain linked_end) (c.args.policy.now ∷ c.args.script.now ∷ c.args.links.now ∷ []) held (refused NoMemory) refl)
+
+pub returns-in_err-links-clause-found : goal.returns-in_err-links-clause-found
+returns-in_err-links-clause-found g c =
+    let held = g.F.Files.held c.args.files.now in
+    let ready = c.in_ok-opened.opened in
+    let refusal = c.in_err-links.field-0.0 in
+    let is : c.from_residual-in_err-links.result ≡ Err refusal = search rules in
+    let P : Result ReportedEnd Refusal → Type 0 = IsFound linked_end (c.args.policy.now ∷ c.args.script.now ∷ c.args.links.now ∷ []) held in
+    let Q : Option Held → Type 0 = λ h. IsRead (λ (l : List Link). l) 3 links_in h c.args.links.now (Err refusal) in
+    let read : Q held = subst Q c.in_ok-opened.ensures.kept c.in_err-links.ensures.read in
+    let after = third_unread links_in held c.args.links.now (λ (l : List Link). l) refusal refl read in
+    subst P (sym is) (unfinished links_after calls_end held c.args.policy.now c.args.script.now (c.args.links.now ∷ []) ready c.in_ok-opened.ensures.opened refusal after)
+
+pub returns-clause-found : goal.returns-clause-found
+returns-clause-found g c =
+    let held = g.F.Files.held c.args.files.now in
+    let ready = c.in_ok-opened.opened in
+    let links = c.in_ok-links.links in
+    let Q : Option Held → Type 0 = λ h. IsRead (λ (l : List Link). l) 3 links_in h c.args.links.now (Ok links) in
+    let read : Q held = subst Q c.in_ok-opened.ensures.kept c.in_ok-links.ensures.read in
+    let after = third_read links_in held c.args.links.now (λ (l : List Link). l) links read in
+    let end = c.in_ok-end_of_calls.ensures in
+    finished links_after calls_end held c.args.policy.now c.args.script.now (c.args.links.now ∷ []) ready c.in_ok-opened.ensures.opened links c.in_ok-end_of_calls.field-0 after end
+
+pub returns-clause-caused : goal.returns-clause-caused
+returns-clause-caused g c =
+    let held = g.F.Files.held c.args.files.now in
+    let rose = Rose (g.F.Files.faults c.args.files.now) (g.F.Files.faults c.links_in.new.files) in
+    subst (IsTextCaused held rose) (sym (ap (λ (x : ReportedEnd). x.text) c.in_ok-end_of_calls.ensures)) tt

@@ -1,0 +1,88 @@
+use Rattle.sb_book.specs.ReadyScripts.{Ready}
+use Rattle.sb_commands.specs.Commands.{named}
+use Rattle.sb_local.specs.Lines.{denial_lines}
+use Rattle.sb_outside.specs.Outside.{Held, Rose}
+use Rattle.sb_statements.specs.declared.scripts.Script.{Script}
+use Rattle.sb_plain.proofs.Carrying.{starved}
+use Rattle.sb_plain.proofs.LocalRuns.{local_caused}
+use Rattle.sb_plain.proofs.ScriptEnds.{finished, third_read, third_unread, unfinished, unopened}
+use Rattle.sb_plain.specs.Coming.{IsFound, IsLater, IsRead, IsScheduled, IsTextCaused, ReportedEnd, reported}
+use Rattle.sb_plain.specs.Contents.{Refusal, refused}
+use Rattle.sb_plain.specs.Ends.{Plain}
+use Rattle.sb_plain.specs.Local.{local_end, local_run_end, sent_schedule_after, thinned}
+use Rattle.sb_plain.specs.Replay.{listed, whole_run}
+use Rattle.sb_plain.specs.declared.outcomes.Status.TheVariants.{NoMemory}
+use Rattle.std.proofs.Common.{◌≡◌, ◌∷◌, [], ap, refl, sym, subst, rules, ℕ, List, Option}
+use Rattle.std.specs.Prelude.{Result, Ok, Err}
+use Rattle.sb_plain.proofs.local.local_script.Goals as goal
+
+pub returns-in_err-opened-clause-found : goal.returns-in_err-opened-clause-found
+returns-in_err-opened-clause-found g c =
+    let held = g.F.Files.held c.args.files.now in
+    let schedule = named c.args.schedule in
+    let refusal = c.in_err-opened.field-0.0 in
+    let is : c.from_residual.result ≡ Err refusal = search rules in
+    let P : Result ReportedEnd Refusal → Type 0 = IsFound local_end (c.args.policy.now ∷ c.args.script.now ∷ listed schedule) held in
+    subst P (sym is) (unopened sent_schedule_after local_run_end held c.args.policy.now c.args.script.now (listed schedule) refusal c.in_err-opened.ensures.opened)
+
+pub returns-in_err-local-clause-found : goal.returns-in_err-local-clause-found
+returns-in_err-local-clause-found g c =
+    let held = g.F.Files.held c.args.files.now in
+    let schedule = named c.args.schedule in
+    let is : c.from_residual-in_err-local.result ≡ Err (refused NoMemory) = search rules in
+    let P : Result ReportedEnd Refusal → Type 0 = IsFound local_end (c.args.policy.now ∷ c.args.script.now ∷ listed schedule) held in
+    subst P (sym is) (starved (Plain local_end) (c.args.policy.now ∷ c.args.script.now ∷ listed schedule) held (refused NoMemory) refl)
+
+pub returns-in_err-run-clause-found : goal.returns-in_err-run-clause-found
+returns-in_err-run-clause-found g c =
+    let held = g.F.Files.held c.args.files.now in
+    let schedule = named c.args.schedule in
+    let is : c.from_residual-in_err-run.result ≡ Err (refused NoMemory) = search rules in
+    let P : Result ReportedEnd Refusal → Type 0 = IsFound local_end (c.args.policy.now ∷ c.args.script.now ∷ listed schedule) held in
+    subst P (sym is) (starved (Plain local_end) (c.args.policy.now ∷ c.args.script.now ∷ listed schedule) held (refused NoMemory) refl)
+
+pub returns-in_err-schedule-clause-found : goal.returns-in_err-schedule-clause-found
+returns-in_err-schedule-clause-found g c =
+    let held = g.F.Files.held c.args.files.now in
+    let schedule = named c.args.schedule in
+    let ready = c.in_ok-opened.opened in
+    let refusal = c.in_err-schedule.field-0.0 in
+    let is : c.from_residual-in_err-schedule.result ≡ Err refusal = search rules in
+    let P : Result ReportedEnd Refusal → Type 0 = IsFound local_end (c.args.policy.now ∷ c.args.script.now ∷ listed schedule) held in
+    let written : c.in_ok-local.local ≡ ready = search rules in
+    let sent : c.deref.result.now ≡ (thinned c.in_ok-local.local.policies c.in_ok-local.local.script).script = search rules in
+    let R : Script → Type 0 = λ s. IsScheduled s (g.F.Files.held c.opened_in.new.files) (listed schedule) (Err refusal) in
+    let there : R (thinned c.in_ok-local.local.policies c.in_ok-local.local.script).script = subst R sent c.in_err-schedule.ensures.read in
+    let W : Ready → Type 0 = λ w. R (thinned w.policies w.script).script in
+    let mine : W ready = subst W written there in
+    let Q : Option Held → Type 0 = λ h. IsScheduled (thinned ready.policies ready.script).script h (listed schedule) (Err refusal) in
+    let after : Q held = subst Q c.in_ok-opened.ensures.kept mine in
+    subst P (sym is) (unfinished sent_schedule_after local_run_end held c.args.policy.now c.args.script.now (listed schedule) ready c.in_ok-opened.ensures.opened refusal after)
+
+pub returns-clause-found : goal.returns-clause-found
+returns-clause-found g c =
+    let held = g.F.Files.held c.args.files.now in
+    let schedule = named c.args.schedule in
+    let ready = c.in_ok-opened.opened in
+    let order = c.in_ok-schedule.schedule in
+    let written : c.in_ok-local.local ≡ ready = search rules in
+    let sent : c.deref.result.now ≡ (thinned c.in_ok-local.local.policies c.in_ok-local.local.script).script = search rules in
+    let R : Script → Type 0 = λ s. IsScheduled s (g.F.Files.held c.opened_in.new.files) (listed schedule) (Ok order) in
+    let there : R (thinned c.in_ok-local.local.policies c.in_ok-local.local.script).script = subst R sent c.in_ok-schedule.ensures.read in
+    let W : Ready → Type 0 = λ w. R (thinned w.policies w.script).script in
+    let mine : W ready = subst W written there in
+    let Q : Option Held → Type 0 = λ h. IsScheduled (thinned ready.policies ready.script).script h (listed schedule) (Ok order) in
+    let after : Q held = subst Q c.in_ok-opened.ensures.kept mine in
+    let E : Ready → Type 0 = λ w. c.in_ok-run.field-0 ≡ reported (local_run_end w.policies w.script order) in
+    let end : E ready = subst E written c.in_ok-run.ensures in
+    finished sent_schedule_after local_run_end held c.args.policy.now c.args.script.now (listed schedule) ready c.in_ok-opened.ensures.opened order c.in_ok-run.field-0 after end
+
+pub returns-clause-caused : goal.returns-clause-caused
+returns-clause-caused g c =
+    let held = g.F.Files.held c.args.files.now in
+    let rose = Rose (g.F.Files.faults c.args.files.now) (g.F.Files.faults c.schedule_of.new.files) in
+    let local = c.in_ok-local.local in
+    let sent = thinned local.policies local.script in
+    let ran = whole_run local.policies sent.script c.in_ok-schedule.schedule in
+    subst (IsTextCaused held rose) (sym (ap (λ (x : ReportedEnd). x.text) c.in_ok-run.ensures))
+    (local_caused held rose (denial_lines local.script sent.denied) sent.script ran ran.unfinished)

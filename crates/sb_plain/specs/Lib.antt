@@ -1,0 +1,15 @@
+pub mod Outcomes
+pub mod Contents
+pub mod Effects
+pub mod Ends
+pub mod ScriptEnds
+pub mod Endings
+pub mod Coming
+pub mod Putting
+pub mod Audit
+pub mod Check
+pub mod Replay
+pub mod Linked
+pub mod Dup
+pub mod Local
+pub mod Sound

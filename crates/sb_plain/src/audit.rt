@@ -1,0 +1,139 @@
+// The command `audit`: policies, a script and a transcript are read, and what the audit of the transcript answers is put.
+ghost use Rattle.std.specs.Prelude.{◌≡◌, ◌≤◌, ◌<◌, ◌+◌, ◌^◌, ◌⊎◌, ◌∷◌, [], length, MatchOption, None, Some, IfOk, OnOk};
+ghost use Rattle.sb_audit.specs.Audited.{audited};
+ghost use Rattle.sb_outside.specs.Outside.{Rose};
+ghost use Rattle.sb_plain.specs.Audit.{answer_by, answer_in, answer_to, answered_end, audit_end, raw_line, refuted_at, yes_line};
+ghost use Rattle.sb_plain.specs.Coming.{GivesBy, IsCausedBy, IsEndCaused, IsFound, IsRead, reported};
+ghost use Rattle.sb_plain.specs.Contents.{refused};
+
+use crate::ends::{CommandEnd, Lines, one_text};
+use crate::outcomes::Status;
+use crate::reading::{opened_in, text_within};
+use crate::refusals::Refused;
+use sb_audit::{AuditAnswer, Refuted, audit};
+use sb_book::{OpenedScript, ReadyScript};
+use sb_compile::Programs;
+use sb_items::NoMemory;
+use sb_outside::{Bytes, Files};
+use sb_text::RawLines;
+use std::alloc::Global;
+
+/// The most bytes that a transcript may have.
+const MOST_TRANSCRIPT_BYTES: u64 = 268_435_456;
+
+// The line of this number, from 1, as it is between LFs.
+fn raw_line(number: u32, text: &[u8]) -> Option<&[u8]>
+    requires { length text.now < 2 ^ 32 }
+    ensures { MatchOption result (raw_line number text.now ≡ None) (λ line. raw_line number text.now ≡ Some line.now) }
+{
+    let mut lines = RawLines::new(text);
+    let mut before = number.saturating_sub(1);
+    while let Some(line) = lines.next_line() {
+        if before == 0 {
+            return Some(line.bytes);
+        }
+        before -= 1;
+    }
+    None
+}
+
+// The refusal of a transcript that is refuted, with the line at which it is.
+fn refuted_at(alloc: Global, refuted: Refuted, text: &[u8]) -> Refused
+    requires { length text.now < 2 ^ 32 }
+    ensures { (result ≡ refuted_at refuted text.now) ⊎ (result ≡ refused Status.NoMemory) }
+{
+    let status = Status::AuditNo(refuted);
+    match raw_line(refuted.line, text) {
+        Some(shown) => match Vec::from_slice(alloc, shown) {
+            Ok(shown) => Refused::at(status, Bytes::new(shown)),
+            Err(_) => Refused::new(Status::NoMemory),
+        },
+        None => Refused::new(status),
+    }
+}
+
+// `audit yes entries E results S`, with its LF.
+fn yes_line(alloc: Global, entries: u64, results: u64) -> Result<Vec<u8>, NoMemory>
+    ensures { IfOk result (λ line. line.items ≡ yes_line entries results) }
+{
+    let line = format!(in alloc; "audit yes entries {entries} results {results}\n")?;
+    Ok(line.into_bytes())
+}
+
+// What is written of an answer, or the refusal of the transcript.
+fn answer_by(alloc: Global, text: &[u8], answer: AuditAnswer) -> Result<Vec<u8>, Refused>
+    requires { length text.now < 2 ^ 32 }
+    ensures { GivesBy (λ line. line.items) (answer_by text.now answer) result }
+{
+    match answer {
+        AuditAnswer::Yes { entries, results } => Ok(yes_line(alloc, entries, results)?),
+        AuditAnswer::No(refuted) => Err(refuted_at(alloc, refuted, text)),
+    }
+}
+
+// The answer to a transcript under the policies of a script, whose programs judge it.
+fn audited(alloc: Global, ready: &ReadyScript, text: &[u8]) -> Result<AuditAnswer, NoMemory>
+    requires { length text.now + 1 < 2 ^ 32 }
+    ensures { IfOk result (λ answer. answer ≡ audited ready.now.policies ready.now.script text.now) }
+{
+    let judge = Programs::new(alloc, ready.policies(), ready.script())?;
+    audit(alloc, &judge, ready, text)
+}
+
+// What is written of the audit of a transcript, or its refusal.
+fn answer_to(alloc: Global, ready: &ReadyScript, text: &[u8]) -> Result<Vec<u8>, Refused>
+    requires { length text.now + 1 < 2 ^ 32 }
+    ensures { GivesBy (λ line. line.items) (answer_to ready.now.policies ready.now.script text.now) result }
+{
+    let answer = audited(alloc, ready, text)?;
+    answer_by(alloc, text, answer)
+}
+
+// The same of the transcript of the third file.
+fn answer_in<F: Files>(
+    alloc: Global,
+    files: &mut F,
+    ready: &ReadyScript,
+    name: &str,
+) -> Result<Vec<u8>, Refused>
+    ensures kept { F.held files.new ≡ F.held files.old }
+    ensures counted { F.faults files.old ≤ F.faults files.new }
+    ensures ok_count { OnOk result (F.faults files.new ≡ F.faults files.old) }
+    ensures read { IsRead (λ line. line.items) 3 (answer_in ready.now.policies ready.now.script) (F.held files.old) name.now result }
+    ensures caused { IsCausedBy (F.held files.old) (Rose (F.faults files.old) (F.faults files.new)) result }
+{
+    let text = text_within(alloc, files, name, 3, MOST_TRANSCRIPT_BYTES)?;
+    answer_to(alloc, ready, &text)
+}
+
+// The end that puts an answer.
+fn end_of_audit(alloc: Global, line: Vec<u8>) -> Result<CommandEnd, NoMemory>
+    ensures { IfOk result (λ end. end ≡ reported (answered_end line.items)) }
+{
+    Ok(CommandEnd {
+        lines: Ok(Lines::Texts(one_text(alloc, line)?)),
+        report: None,
+        noted: None,
+    })
+}
+
+/// Reads policies, a script and a transcript of at most 268,435,456 bytes, in this order, and audits the transcript under them: a transcript at
+/// which no clause fails ends with a line that tells its numbers of entries and results, and another is refused at the line of the first that does.
+pub fn audit_transcript<F: Files>(
+    alloc: Global,
+    files: &mut F,
+    policy: &str,
+    script: &str,
+    transcript: &str,
+) -> Result<CommandEnd, Refused>
+    ensures kept { F.held files.new ≡ F.held files.old }
+    ensures counted { F.faults files.old ≤ F.faults files.new }
+    ensures ok_count { OnOk result (F.faults files.new ≡ F.faults files.old) }
+    ensures found { IsFound audit_end (policy.now ∷ script.now ∷ transcript.now ∷ []) (F.held files.old) result }
+    ensures caused { IsEndCaused (F.held files.old) (Rose (F.faults files.old) (F.faults files.new)) result }
+{
+    let opened = opened_in(alloc, files, policy, script)?;
+    let (ready, _) = opened.into_parts();
+    let line = answer_in(alloc, files, &ready, transcript)?;
+    Ok(end_of_audit(alloc, line)?)
+}

@@ -1,0 +1,67 @@
+// The command `check`: policies are read, and printed with the listings of their programs.
+ghost use Rattle.std.specs.Prelude.{◌≡◌, ◌≤◌, [], ◌∷◌, true, IfOk, OnOk};
+ghost use Rattle.std.specs.List.{list_all};
+ghost use Rattle.sb_outside.specs.Outside.{Rose, joined};
+ghost use Rattle.sb_rule.specs.WellMade.{is_well_made};
+ghost use Rattle.sb_plain.specs.Check.{check_end, checked, listings};
+ghost use Rattle.sb_plain.specs.Coming.{IsEndCaused, IsFound};
+
+use crate::ends::{CommandEnd, Lines};
+use crate::reading::noted_policies_in;
+use crate::refusals::Refused;
+use sb_compile::compile;
+use sb_items::{Items, NoMemory};
+use sb_outside::{Bytes, Files};
+use sb_rule::{Policy, WellMadePolicies};
+use sb_ruletext::print_policies;
+use std::alloc::Global;
+
+// The listings of the programs of policies, one after another.
+fn listings(alloc: Global, policies: &[Policy]) -> Result<Vec<u8>, NoMemory>
+    requires { list_all is_well_made policies.now ≡ true }
+    ensures { IfOk result (λ text. text.items ≡ listings policies.now) }
+{
+    let mut text = Vec::new(alloc);
+    let mut policies = policies;
+    while let Some((policy, later)) = policies.split_first() {
+        let listing = compile(alloc, policy)?.listing(alloc)?;
+        text.extend_from_slice(&listing)?;
+        policies = later;
+    }
+    Ok(text)
+}
+
+// The two texts of a check: the policies, and the listings of their programs.
+#[tactic(auto, using(crate::proofs::Ready::each_made))]
+fn check_texts(alloc: Global, policies: &WellMadePolicies) -> Result<Items<Bytes>, NoMemory>
+    ensures { IfOk result (λ texts. joined texts ≡ checked policies.now.list) }
+{
+    let printed = print_policies(alloc, policies)?;
+    let listed = listings(alloc, policies.policies().list.as_slice())?;
+    let mut texts = Items::empty(alloc);
+    texts.push(Bytes::new(printed))?;
+    texts.push(Bytes::new(listed))?;
+    Ok(texts)
+}
+
+/// Reads the policies of a file, and prints them: they as a text, and then the listings of their programs. The notes of the file's text are told.
+pub fn check_policy<F: Files>(
+    alloc: Global,
+    files: &mut F,
+    policy: &str,
+) -> Result<CommandEnd, Refused>
+    ensures kept { F.held files.new ≡ F.held files.old }
+    ensures counted { F.faults files.old ≤ F.faults files.new }
+    ensures ok_count { OnOk result (F.faults files.new ≡ F.faults files.old) }
+    ensures found { IsFound check_end (policy.now ∷ []) (F.held files.old) result }
+    ensures caused { IsEndCaused (F.held files.old) (Rose (F.faults files.old) (F.faults files.new)) result }
+{
+    let noted = noted_policies_in(alloc, files, policy)?;
+    let (text, policies) = noted;
+    let texts = check_texts(alloc, &policies)?;
+    Ok(CommandEnd {
+        lines: Ok(Lines::Texts(texts)),
+        report: None,
+        noted: Some(Bytes::new(text)),
+    })
+}

@@ -1,0 +1,169 @@
+// The command `dup`: policies, a script and moves are read, the script is run, and then handles are passed between its targets.
+ghost use Rattle.std.specs.Prelude.{◌≡◌, ◌≤◌, ◌<◌, ◌+◌, ◌^◌, ◌∷◌, [], length, true, IfOk, OnOk};
+ghost use Rattle.std.specs.List.{list_all};
+ghost use Rattle.sb_book.specs.Histories.{setting_of};
+ghost use Rattle.sb_book.specs.Reports.{result_count};
+ghost use Rattle.sb_dup.specs.Lines.{is_between};
+ghost use Rattle.sb_dup.specs.MoveTexts.{reading};
+ghost use Rattle.sb_outside.specs.Outside.{Rose, joined};
+ghost use Rattle.sb_plain.specs.Coming.{GivesBy, IsCausedBy, IsEndCaused, IsFound, IsRead, reported};
+ghost use Rattle.sb_plain.specs.Contents.{no_schedule};
+ghost use Rattle.sb_plain.specs.Dup.{answers_after, dup_end, moved_text, moves_by, moves_end, moves_in, text_after};
+ghost use Rattle.sb_plain.specs.Replay.{whole_run};
+ghost use Rattle.sb_plain.specs.Putting.{EndsSilently, text_of};
+
+use crate::ends::{CommandEnd, Lines, two_texts};
+use crate::outcomes::Status;
+use crate::reading::{no_schedule, opened_in, refused_at, text_in};
+use crate::refusals::Refused;
+use sb_book::{OpenedScript, Report, RunStart};
+use sb_compile::Programs;
+use sb_core::{Ran, run};
+use sb_dup::{Answered, Moves, MovesRefused, Passing, put_moves, read_moves};
+use sb_items::{Items, NoMemory};
+use sb_outside::{Bytes, Files};
+use sb_statements::{Script, SoundScript};
+use sb_transcript::transcript_lines;
+use std::alloc::Global;
+
+// The moves of a text, between targets of this script.
+fn moves_by(alloc: Global, script: &SoundScript, text: &[u8]) -> Result<Moves, Refused>
+    requires { length text.now + 1 < 2 ^ 32 }
+    ensures given { GivesBy (λ m. m) (moves_by text.now (reading (length script.now.targets) text.now)) result }
+    ensures between { IfOk result (λ moves. list_all (is_between (length script.now.targets)) moves ≡ true) }
+{
+    match read_moves(alloc, text, script) {
+        Ok(moves) => Ok(moves),
+        Err(MovesRefused::Fault(fault)) => Err(refused_at(
+            alloc,
+            fault.line,
+            text,
+            Status::MovesRefused(fault),
+        )),
+        Err(MovesRefused::NoMemory) => Err(Refused::new(Status::NoMemory)),
+    }
+}
+
+// The moves of the third file, between targets of this script.
+fn moves_in<F: Files>(
+    alloc: Global,
+    files: &mut F,
+    script: &SoundScript,
+    name: &str,
+) -> Result<Moves, Refused>
+    ensures kept { F.held files.new ≡ F.held files.old }
+    ensures counted { F.faults files.old ≤ F.faults files.new }
+    ensures ok_count { OnOk result (F.faults files.new ≡ F.faults files.old) }
+    ensures read { IsRead (λ m. m) 3 (moves_in script.now) (F.held files.old) name.now result }
+    ensures between { IfOk result (λ moves. list_all (is_between (length script.now.targets)) moves ≡ true) }
+    ensures caused { IsCausedBy (F.held files.old) (Rose (F.faults files.old) (F.faults files.new)) result }
+{
+    let text = text_in(alloc, files, name, 3)?;
+    moves_by(alloc, script, &text)
+}
+
+// How moves are answered after a run, one after another, from the namespace and the handles that it reports.
+fn answers_after(
+    alloc: Global,
+    judge: &Programs<'_>,
+    moves: &Moves,
+    report: &Report,
+) -> Result<Answered, NoMemory>
+    requires between { list_all (is_between (length judge.now.policies)) moves.now ≡ true }
+    ensures { IfOk result (λ done. done ≡ answers_after judge.now.policies moves.now report.now) }
+{
+    let mut passing = Passing::new(alloc, &report.kernel)?;
+    passing.apply_each(alloc, judge, moves.as_slice())
+}
+
+// The transcript of a run, and the lines of the moves after it.
+#[tactic(auto, unfolding(crate::specs::Dup::moved_text))]
+fn texts_after(
+    alloc: Global,
+    judge: &Programs<'_>,
+    script: &Script,
+    moves: &Moves,
+    report: &Report,
+) -> Result<Items<Bytes>, NoMemory>
+    requires between { list_all (is_between (length judge.now.policies)) moves.now ≡ true }
+    requires few { result_count report.now.results < 2 ^ 62 }
+    ensures { IfOk result (λ texts. joined texts ≡ moved_text judge.now.policies script.now moves.now report.now) }
+{
+    let answers = answers_after(alloc, judge, moves, report)?;
+    let lines = transcript_lines(alloc, script, report)?;
+    let transcript = Vec::from_slice(alloc, lines.bytes())?;
+    let mut moved = Vec::new(alloc);
+    put_moves(&mut moved, script, &answers)?;
+    two_texts(alloc, transcript, moved)
+}
+
+// What is put after a run, or the thread that it leaves unfinished.
+fn lines_after(
+    alloc: Global,
+    judge: &Programs<'_>,
+    script: &Script,
+    moves: &Moves,
+    ran: &Ran,
+) -> Result<Result<Lines, Status>, NoMemory>
+    requires between { list_all (is_between (length judge.now.policies)) moves.now ≡ true }
+    requires few { result_count ran.now.report.results < 2 ^ 62 }
+    ensures text { IfOk result (λ lines. text_of lines ≡ text_after judge.now.policies script.now moves.now ran.now.report ran.now.unfinished) }
+    ensures silent { IfOk result EndsSilently }
+{
+    match ran.unfinished {
+        None => {
+            let texts = texts_after(alloc, judge, script, moves, &ran.report)?;
+            Ok(Ok(Lines::Texts(texts)))
+        }
+        Some((target, thread)) => Ok(Err(Status::Unfinished { target, thread })),
+    }
+}
+
+// The run of a script without a schedule, in which calls are judged by these programs.
+fn run_unscheduled(
+    alloc: Global,
+    judge: &Programs<'_>,
+    start: RunStart<'_>,
+) -> Result<Ran, NoMemory>
+    requires judge { judge.now.policies ≡ (setting_of start.policies start.script).policies }
+    ensures value { IfOk result (λ r. r ≡ whole_run start.entry.policies start.entry.script no_schedule) }
+    ensures few { IfOk result (λ r. result_count r.report.results < 2 ^ 62) }
+{
+    run(alloc, judge, start, &no_schedule(alloc))
+}
+
+// Runs a script that was read, and makes the moves.
+fn move_by(alloc: Global, opened: OpenedScript, moves: &Moves) -> Result<CommandEnd, NoMemory>
+    requires between { list_all (is_between (length opened.script.targets)) moves.now ≡ true }
+    ensures { IfOk result (λ end. end ≡ reported (moves_end opened.policies opened.script moves.now)) }
+{
+    let (ready, kernel) = opened.into_parts();
+    let judge = Programs::new(alloc, ready.policies(), ready.script())?;
+    let ran = run_unscheduled(alloc, &judge, RunStart::of(&ready, kernel))?;
+    let lines = lines_after(alloc, &judge, ready.script(), moves, &ran)?;
+    Ok(CommandEnd {
+        lines,
+        report: Some(ran.report),
+        noted: None,
+    })
+}
+
+/// Reads policies, a script and moves, runs the script without a schedule, and then passes handles between its targets as the moves
+/// say. The file of the moves is read once the script was read and has no fault.
+pub fn dup_script<F: Files>(
+    alloc: Global,
+    files: &mut F,
+    policy: &str,
+    script: &str,
+    moves: &str,
+) -> Result<CommandEnd, Refused>
+    ensures kept { F.held files.new ≡ F.held files.old }
+    ensures counted { F.faults files.old ≤ F.faults files.new }
+    ensures ok_count { OnOk result (F.faults files.new ≡ F.faults files.old) }
+    ensures found { IsFound dup_end (policy.now ∷ script.now ∷ moves.now ∷ []) (F.held files.old) result }
+    ensures caused { IsEndCaused (F.held files.old) (Rose (F.faults files.old) (F.faults files.new)) result }
+{
+    let opened = opened_in(alloc, files, policy, script)?;
+    let moves = moves_in(alloc, files, opened.script(), moves)?;
+    Ok(move_by(alloc, opened, &moves)?)
+}

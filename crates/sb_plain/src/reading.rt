@@ -1,0 +1,268 @@
+// The files of commands, read and found to be policies, a script for targets of these, and a schedule of its actors.
+ghost use Rattle.std.specs.Prelude.{◌≡◌, ◌≤◌, ◌<◌, ◌+◌, ◌^◌, ◌⊎◌, length, true, IfOk, OnOk, Some};
+ghost use Rattle.std.specs.List.{list_all};
+ghost use Rattle.sb_outside.specs.Outside.{Rose};
+ghost use Rattle.sb_ruletext.specs.PolicyTexts.{reading};
+ghost use Rattle.sb_scheduletext.specs.ScheduleTexts as schedules;
+ghost use Rattle.sb_scripttext.specs.ScriptTexts as scripts;
+ghost use Rattle.sb_statements.specs.Actors.{is_step_there};
+ghost use Rattle.sb_commands.specs.Commands.{named};
+ghost use Rattle.sb_plain.specs.Coming.{GivesBy, IsCausedBy, IsOpened, IsRead, IsScheduled};
+ghost use Rattle.sb_plain.specs.Contents.{most_bytes, no_schedule, noted_policies_in, policies_by, policies_in, refused, refused_at, schedule_by, schedule_in, script_by, script_in, status_of, text_in, text_within};
+ghost use Rattle.sb_plain.specs.Outcomes.{IsRefusal};
+ghost use Rattle.sb_plain.specs.Replay.{listed};
+ghost use Rattle.sb_plain.specs.declared.outcomes.Status.TheVariants.{NoMemory};
+
+use crate::outcomes::Status;
+use crate::refusals::Refused;
+use sb_book::OpenedScript;
+use sb_outside::{Bytes, FileFault, Files};
+use sb_rule::WellMadePolicies;
+use sb_ruletext::{TextRefused, read_policies};
+use sb_scheduletext::{MOST_ROUNDS, ScheduleRefused, read_schedule};
+use sb_scripttext::{ScriptRefused, read_script};
+use sb_statements::{Schedule, Script, Steps};
+use sb_text::line_numbered;
+use std::alloc::Global;
+
+/// The most bytes that a file may have.
+const MOST_BYTES: u64 = 4_194_304;
+
+// The refusal for a fault of file `which`.
+fn refused_by(fault: FileFault, which: u8) -> Refused
+    ensures { result ≡ refused (status_of fault which) }
+{
+    match fault {
+        FileFault::Missing => Refused::new(Status::Missing { which }),
+        FileFault::TooLong => Refused::new(Status::TooLong { which }),
+        FileFault::Failed => Refused::new(Status::ReadFault { which }),
+        FileFault::NoMemory => Refused::new(Status::NoMemory),
+    }
+}
+
+/// The refusal at a line of a text, which is shown with it.
+pub fn refused_at(alloc: Global, line: u32, text: &[u8], status: Status) -> Refused
+    requires { IsRefusal status }
+    ensures { (result ≡ refused_at line text.now status) ⊎ (result ≡ refused NoMemory) }
+{
+    match line_numbered(line, text) {
+        Some(shown) => match Vec::from_slice(alloc, shown) {
+            Ok(shown) => Refused::at(status, Bytes::new(shown)),
+            Err(_) => Refused::new(Status::NoMemory),
+        },
+        None => Refused::new(status),
+    }
+}
+
+/// The bytes of file `which`, which are at most `most`.
+pub fn text_within<F: Files>(
+    alloc: Global,
+    files: &mut F,
+    name: &str,
+    which: u8,
+    most: u64,
+) -> Result<Vec<u8>, Refused>
+    ensures kept { F.held files.new ≡ F.held files.old }
+    ensures counted { F.faults files.old ≤ F.faults files.new }
+    ensures ok_count { OnOk result (F.faults files.new ≡ F.faults files.old) }
+    ensures read { IsRead (λ text. text.items) which (text_within most which) (F.held files.old) name.now result }
+    ensures caused { IsCausedBy (F.held files.old) (Rose (F.faults files.old) (F.faults files.new)) result }
+    ensures short { IfOk result (λ text. length text.items ≤ most) }
+{
+    match files.read(alloc, name, most) {
+        Ok(text) => Ok(text),
+        Err(fault) => Err(refused_by(fault, which)),
+    }
+}
+
+/// The bytes of file `which`, which are at most 4,194,304.
+pub fn text_in<F: Files>(
+    alloc: Global,
+    files: &mut F,
+    name: &str,
+    which: u8,
+) -> Result<Vec<u8>, Refused>
+    ensures kept { F.held files.new ≡ F.held files.old }
+    ensures counted { F.faults files.old ≤ F.faults files.new }
+    ensures ok_count { OnOk result (F.faults files.new ≡ F.faults files.old) }
+    ensures read { IsRead (λ text. text.items) which (text_in which) (F.held files.old) name.now result }
+    ensures caused { IsCausedBy (F.held files.old) (Rose (F.faults files.old) (F.faults files.new)) result }
+    ensures short { IfOk result (λ text. length text.items ≤ most_bytes) }
+{
+    text_within(alloc, files, name, which, MOST_BYTES)
+}
+
+// The policies of a text.
+fn policies_by(alloc: Global, text: &[u8]) -> Result<WellMadePolicies, Refused>
+    requires { length text.now + 1 < 2 ^ 32 }
+    ensures { GivesBy (λ p. p.list) (policies_by text.now (reading text.now)) result }
+{
+    match read_policies(alloc, text) {
+        Ok(policies) => Ok(policies),
+        Err(TextRefused::Fault(fault)) => Err(refused_at(
+            alloc,
+            fault.line,
+            text,
+            Status::PolicyRefused(fault),
+        )),
+        Err(TextRefused::NoMemory) => Err(Refused::new(Status::NoMemory)),
+    }
+}
+
+/// The policies of the first file.
+pub fn policies_in<F: Files>(
+    alloc: Global,
+    files: &mut F,
+    name: &str,
+) -> Result<WellMadePolicies, Refused>
+    ensures kept { F.held files.new ≡ F.held files.old }
+    ensures counted { F.faults files.old ≤ F.faults files.new }
+    ensures ok_count { OnOk result (F.faults files.new ≡ F.faults files.old) }
+    ensures read { IsRead (λ p. p.list) 1 policies_in (F.held files.old) name.now result }
+    ensures caused { IsCausedBy (F.held files.old) (Rose (F.faults files.old) (F.faults files.new)) result }
+{
+    let text = text_in(alloc, files, name, 1)?;
+    policies_by(alloc, &text)
+}
+
+/// The text of the first file, and its policies.
+#[tactic(auto, using(crate::proofs::ReadFiles::noted_found))]
+pub fn noted_policies_in<F: Files>(
+    alloc: Global,
+    files: &mut F,
+    name: &str,
+) -> Result<(Vec<u8>, WellMadePolicies), Refused>
+    ensures kept { F.held files.new ≡ F.held files.old }
+    ensures counted { F.faults files.old ≤ F.faults files.new }
+    ensures ok_count { OnOk result (F.faults files.new ≡ F.faults files.old) }
+    ensures read { IsRead (λ r. (Some r.0.items, r.1.list)) 1 noted_policies_in (F.held files.old) name.now result }
+    ensures caused { IsCausedBy (F.held files.old) (Rose (F.faults files.old) (F.faults files.new)) result }
+{
+    let text = text_in(alloc, files, name, 1)?;
+    let policies = policies_by(alloc, &text)?;
+    Ok((text, policies))
+}
+
+// The script of a text, for targets of these policies.
+fn script_by(
+    alloc: Global,
+    policies: WellMadePolicies,
+    text: &[u8],
+) -> Result<OpenedScript, Refused>
+    requires short { length text.now + 1 < 2 ^ 32 }
+    ensures script { GivesBy (λ s. s.script) (script_by text.now (scripts.reading policies.list text.now)) result }
+    ensures policies { IfOk result (λ s. s.policies ≡ policies.list) }
+{
+    match read_script(alloc, text, policies) {
+        Ok(opened) => Ok(opened),
+        Err(ScriptRefused::Fault(fault)) => Err(refused_at(
+            alloc,
+            fault.line,
+            text,
+            Status::ScriptRefused(fault),
+        )),
+        Err(ScriptRefused::NoMemory) => Err(Refused::new(Status::NoMemory)),
+    }
+}
+
+// The script of the second file, for targets of these policies.
+fn script_in<F: Files>(
+    alloc: Global,
+    files: &mut F,
+    policies: WellMadePolicies,
+    name: &str,
+) -> Result<OpenedScript, Refused>
+    ensures kept { F.held files.new ≡ F.held files.old }
+    ensures counted { F.faults files.old ≤ F.faults files.new }
+    ensures ok_count { OnOk result (F.faults files.new ≡ F.faults files.old) }
+    ensures read { IsRead (λ s. s.script) 2 (script_in policies.list) (F.held files.old) name.now result }
+    ensures policies { IfOk result (λ s. s.policies ≡ policies.list) }
+    ensures caused { IsCausedBy (F.held files.old) (Rose (F.faults files.old) (F.faults files.new)) result }
+{
+    let text = text_in(alloc, files, name, 2)?;
+    script_by(alloc, policies, &text)
+}
+
+/// The policies of the first file, and the script of the second for targets of these. The second is read once the first was read and has no fault.
+pub fn opened_in<F: Files>(
+    alloc: Global,
+    files: &mut F,
+    policy: &str,
+    script: &str,
+) -> Result<OpenedScript, Refused>
+    ensures kept { F.held files.new ≡ F.held files.old }
+    ensures counted { F.faults files.old ≤ F.faults files.new }
+    ensures ok_count { OnOk result (F.faults files.new ≡ F.faults files.old) }
+    ensures opened { IsOpened (F.held files.old) policy.now script.now result }
+    ensures caused { IsCausedBy (F.held files.old) (Rose (F.faults files.old) (F.faults files.new)) result }
+{
+    let policies = policies_in(alloc, files, policy)?;
+    let opened = script_in(alloc, files, policies, script)?;
+    Ok(opened)
+}
+
+/// The schedule if no file names one.
+pub fn no_schedule(alloc: Global) -> Schedule
+    ensures value { result ≡ no_schedule }
+{
+    Schedule {
+        steps: Steps::new(Vec::new(alloc)),
+        rounds: MOST_ROUNDS,
+    }
+}
+
+// The schedule of a text, for the actors of this script.
+fn schedule_by(alloc: Global, script: &Script, text: &[u8]) -> Result<Schedule, Refused>
+    requires { length text.now + 1 < 2 ^ 32 }
+    ensures given { GivesBy (λ s. s) (schedule_by text.now (schedules.reading script.now.targets text.now)) result }
+    ensures there { IfOk result (λ s. list_all (is_step_there script.now.targets) s.steps ≡ true) }
+{
+    match read_schedule(alloc, text, script) {
+        Ok(schedule) => Ok(schedule),
+        Err(ScheduleRefused::Fault(fault)) => Err(refused_at(
+            alloc,
+            fault.line,
+            text,
+            Status::ScheduleRefused(fault),
+        )),
+        Err(ScheduleRefused::NoMemory) => Err(Refused::new(Status::NoMemory)),
+    }
+}
+
+// The schedule of the third file, for the actors of this script.
+fn schedule_in<F: Files>(
+    alloc: Global,
+    files: &mut F,
+    script: &Script,
+    name: &str,
+) -> Result<Schedule, Refused>
+    ensures kept { F.held files.new ≡ F.held files.old }
+    ensures counted { F.faults files.old ≤ F.faults files.new }
+    ensures ok_count { OnOk result (F.faults files.new ≡ F.faults files.old) }
+    ensures read { IsRead (λ s. s) 3 (schedule_in script.now) (F.held files.old) name.now result }
+    ensures there { IfOk result (λ s. list_all (is_step_there script.now.targets) s.steps ≡ true) }
+    ensures caused { IsCausedBy (F.held files.old) (Rose (F.faults files.old) (F.faults files.new)) result }
+{
+    let text = text_in(alloc, files, name, 3)?;
+    schedule_by(alloc, script, &text)
+}
+
+/// The schedule of the third file, if one is named. If none is named no file is read.
+pub fn schedule_of<F: Files>(
+    alloc: Global,
+    files: &mut F,
+    script: &Script,
+    name: Option<&str>,
+) -> Result<Schedule, Refused>
+    ensures kept { F.held files.new ≡ F.held files.old }
+    ensures counted { F.faults files.old ≤ F.faults files.new }
+    ensures ok_count { OnOk result (F.faults files.new ≡ F.faults files.old) }
+    ensures read { IsScheduled script.now (F.held files.old) (listed (named name.entry)) result }
+    ensures there { IfOk result (λ s. list_all (is_step_there script.now.targets) s.steps ≡ true) }
+    ensures caused { IsCausedBy (F.held files.old) (Rose (F.faults files.old) (F.faults files.new)) result }
+{
+    match name {
+        Some(name) => schedule_in(alloc, files, script, name),
+        None => Ok(no_schedule(alloc)),
+    }
+}

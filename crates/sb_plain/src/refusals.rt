@@ -1,0 +1,84 @@
+// Why commands are not carried out.
+ghost use Rattle.std.specs.Prelude.{◌≡◌, None, Some};
+ghost use Rattle.sb_plain.specs.Contents.{refused};
+ghost use Rattle.sb_plain.specs.Outcomes.{IsRefusal};
+
+use crate::outcomes::{Outcome, Status};
+use sb_items::NoMemory;
+use sb_outside::Bytes;
+use std::marker::Model;
+
+/// Why a command is not carried out: its status, which is one of those before anything is put, and the line of a text that is shown with it.
+pub struct Refused {
+    status: Status,
+    shown: Option<Bytes>,
+}
+
+impl Drop for Refused {
+    fn drop(self) {
+        let Refused {
+            status: _,
+            shown: _,
+        } = self;
+    }
+}
+
+impl Model for Refused {
+    ghost use Rattle.sb_plain.specs.Contents.{Refusal};
+    ghost use Rattle.sb_plain.specs.Outcomes.{IsRefusal};
+
+    ghost Value = { Refusal };
+
+    ghost view = { λ r. record { status = r.status; shown = r.shown } };
+
+    ghost invariant = { λ r. IsRefusal r.status };
+}
+
+impl Refused {
+    /// A refusal that shows no line.
+    pub fn new(status: Status) -> Refused
+        requires { IsRefusal status }
+        ensures { result ≡ refused status }
+    {
+        Refused {
+            status,
+            shown: None,
+        }
+    }
+
+    /// A refusal that shows this line.
+    pub fn at(status: Status, line: Bytes) -> Refused
+        requires { IsRefusal status }
+        ensures { result ≡ record { status = status; shown = Some line } }
+    {
+        Refused {
+            status,
+            shown: Some(line),
+        }
+    }
+
+    /// The outcome of a command that is refused for this: it has no report.
+    pub fn into_outcome(self) -> Outcome
+        ensures outcome { result ≡ record { status = self.status; shown = self.shown; report = None } }
+        ensures refusal { IsRefusal result.status }
+    {
+        let Refused { status, shown } = self;
+        Outcome {
+            status,
+            shown,
+            report: None,
+        }
+    }
+}
+
+impl From<NoMemory> for Refused {
+    ghost use Rattle.std.specs.Prelude.{◌≡◌};
+    ghost use Rattle.sb_plain.specs.Contents.{refused};
+    ghost use Rattle.sb_plain.specs.declared.outcomes.Status.TheVariants.{NoMemory};
+
+    ghost from_gives = { λ _ r. r ≡ refused NoMemory };
+
+    fn from(_error: NoMemory) -> Refused {
+        Refused::new(Status::NoMemory)
+    }
+}

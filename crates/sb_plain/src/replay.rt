@@ -1,0 +1,82 @@
+// The command `replay`: policies, a script and its schedule are read, the script is run, and its transcript is put line by line.
+ghost use Rattle.std.specs.Prelude.{◌≡◌, ◌≤◌, ◌<◌, ◌^◌, ◌∷◌, true, IfOk, OnOk};
+ghost use Rattle.std.specs.List.{list_all};
+ghost use Rattle.sb_book.specs.Reports.{result_count};
+ghost use Rattle.sb_commands.specs.Commands.{named};
+ghost use Rattle.sb_outside.specs.Outside.{Rose};
+ghost use Rattle.sb_statements.specs.Actors.{is_step_there};
+ghost use Rattle.sb_plain.specs.Coming.{IsEndCaused, IsFound, reported, reported_run};
+ghost use Rattle.sb_plain.specs.Replay.{listed, replay_end, run_end, whole_run};
+
+use crate::ends::{CommandEnd, Lines};
+use crate::outcomes::Status;
+use crate::reading::{opened_in, schedule_of};
+use crate::refusals::Refused;
+use sb_book::{OpenedScript, RunStart};
+use sb_compile::Programs;
+use sb_core::{Ran, run};
+use sb_items::NoMemory;
+use sb_outside::Files;
+use sb_statements::{Schedule, Script};
+use sb_transcript::transcript_lines;
+use std::alloc::Global;
+
+/// The end of a run of a script: its transcript is put if no thread is unfinished.
+///
+/// # Errors
+/// `NoMemory` if there was none for the transcript.
+pub fn end_of_run(alloc: Global, script: &Script, ran: Ran) -> Result<CommandEnd, NoMemory>
+    requires few { result_count ran.report.results < 2 ^ 62 }
+    ensures { IfOk result (λ end. end ≡ reported_run script.now ran) }
+{
+    let Ran { report, unfinished } = ran;
+    let lines = match unfinished {
+        None => Ok(Lines::Transcript(transcript_lines(alloc, script, &report)?)),
+        Some((target, thread)) => Err(Status::Unfinished { target, thread }),
+    };
+    Ok(CommandEnd {
+        lines,
+        report: Some(report),
+        noted: None,
+    })
+}
+
+// The run of a script by a schedule, in which calls are judged by the programs of the policies.
+#[tactic(auto, unfolding(crate::specs::Replay::whole_run))]
+fn run_whole(alloc: Global, start: RunStart<'_>, schedule: &Schedule) -> Result<Ran, NoMemory>
+    requires there { list_all (is_step_there start.script.targets) schedule.now.steps ≡ true }
+    ensures value { IfOk result (λ r. r ≡ whole_run start.entry.policies start.entry.script schedule.now) }
+    ensures few { IfOk result (λ r. result_count r.report.results < 2 ^ 62) }
+{
+    let judge = Programs::new(alloc, start.ready().policies(), start.ready().script())?;
+    run(alloc, &judge, start, schedule)
+}
+
+// Runs a script that was read, by its schedule.
+fn run_by(alloc: Global, opened: OpenedScript, schedule: &Schedule) -> Result<CommandEnd, NoMemory>
+    requires there { list_all (is_step_there opened.script.targets) schedule.now.steps ≡ true }
+    ensures { IfOk result (λ end. end ≡ reported (run_end opened.policies opened.script schedule.now)) }
+{
+    let (ready, kernel) = opened.into_parts();
+    let ran = run_whole(alloc, RunStart::of(&ready, kernel), schedule)?;
+    end_of_run(alloc, ready.script(), ran)
+}
+
+/// Reads policies, a script and the schedule if one is named, and runs the script by it.
+pub fn replay_script<F: Files>(
+    alloc: Global,
+    files: &mut F,
+    policy: &str,
+    script: &str,
+    schedule: Option<&str>,
+) -> Result<CommandEnd, Refused>
+    ensures kept { F.held files.new ≡ F.held files.old }
+    ensures counted { F.faults files.old ≤ F.faults files.new }
+    ensures ok_count { OnOk result (F.faults files.new ≡ F.faults files.old) }
+    ensures found { IsFound replay_end (policy.now ∷ script.now ∷ listed (named schedule.entry)) (F.held files.old) result }
+    ensures caused { IsEndCaused (F.held files.old) (Rose (F.faults files.old) (F.faults files.new)) result }
+{
+    let opened = opened_in(alloc, files, policy, script)?;
+    let schedule = schedule_of(alloc, files, opened.script(), schedule)?;
+    Ok(run_by(alloc, opened, &schedule)?)
+}

@@ -1,9 +1,0 @@
-use Rattle.sb_ruletext.specs.PolicyTexts.{reading}
-use Rattle.sb_outside.specs.Outside.{Rose}
-use Rattle.sb_top.proofs.ReadFiles.{policies_caused}
-use Rattle.sb_top.proofs.reading.policies_in.Goals as goal
-
-pub returns-clause-caused : goal.returns-clause-caused
-returns-clause-caused g c =
-    policies_caused (λ p. p.list) c.deref.result.now (g.F.Files.held c.args.files.now) (Rose (g.F.Files.faults c.args.files.now) (g.F.Files.faults c.text_in.new.files))
-    (reading c.deref.result.now) c.policies_by.result c.policies_by.ensures
