@@ -13,6 +13,7 @@ use std::alloc::Global;
 pub(crate) const BROKEN: ScriptKind = ScriptKind::UnknownWord(WordFault::Broken);
 
 /// N: a number. `quoted` is the fault of a quoted token in its place, `missing` that of none.
+#[inline(always)]
 #[tactic(auto, unfolding(crate::specs::Steps::number_at))]
 pub(crate) fn number_at(
     quoted: ScriptKind,
@@ -39,6 +40,7 @@ pub(crate) fn within(lo: u64, hi: u64, number: u64) -> Result<u64, KindRefused>
 }
 
 /// N: a number from `lo` to `hi`, with the faults of `number_at`.
+#[inline(always)]
 #[tactic(auto, unfolding(crate::specs::Steps::number_within))]
 pub(crate) fn number_within(
     lo: u64,
@@ -59,6 +61,7 @@ pub(crate) fn number_within(
 }
 
 /// "S": a string. `unquoted` is the fault of a word in its place, `missing` that of none.
+#[inline(always)]
 #[tactic(auto, unfolding(crate::specs::Steps::string_at))]
 pub(crate) fn string_at(
     alloc: Global,
@@ -73,6 +76,7 @@ pub(crate) fn string_at(
 }
 
 /// "NAME": a name, with the faults of `string_at`.
+#[inline(always)]
 #[tactic(auto, unfolding(crate::specs::Steps::name_at))]
 pub(crate) fn name_at(
     alloc: Global,

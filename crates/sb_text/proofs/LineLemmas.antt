@@ -1,6 +1,8 @@
 -- The lines of a text, cut at its first LF.
-use Rattle.std.proofs.Common.{nat_lt, ◌≡◌, ◌∙◌, ap, refl, sym, subst, suc, not, Bool, true, false, cond, ℕ, ◌+◌, ◌<◌, ◌==◌, List, [], ◌∷◌, length, take, drop, get_or, arith}
+use Rattle.std.proofs.Common.{nat_lt, ◌≡◌, ◌∙◌, ap, refl, sym, subst, suc, not, Bool, true, false, cond, ℕ, ◌+◌, ◌<◌, ◌==◌, List, [], ◌∷◌, Option, None, Some, unwrap_or, length, take, drop, get_or, arith}
 use Rattle.std.proofs.lemmas.List.{length-drop, length-take-le}
+use Rattle.std.proofs.lemmas.List.Sums.{position_or_len_is}
+use Rattle.memchr.specs.Find.{IsFirstByte, is_byte}
 use Rattle.sb_text.proofs.LineLaws.{lines_some}
 use Rattle.std.proofs.lemmas.Grind.{common_steps}
 use Rattle.std.proofs.lemmas.Bool.Decides.{nat_tests}
@@ -15,6 +17,18 @@ lines_at_first (b ∷ c ∷ bs) h = grind (arith, nat_tests, common_steps, lines
 pub lf_at_first : (bs : List ℕ) → position_or_len (λ b. b == 10) bs < length bs → get_or bs (position_or_len (λ b. b == 10) bs) 0 ≡ 10
 lf_at_first [] h = absurd (omega arith)
 lf_at_first (b ∷ bs) h = grind (arith, nat_tests, common_steps, lf_at_first bs)
+
+untrue : (b : Bool) → ¬ (b ≡ true) → b ≡ false
+untrue true h = absurd (h refl)
+untrue false h = refl
+
+-- what a search for LF finds, or the end
+pub first_lf : (bs : List ℕ) (found : Option ℕ) → IsFirstByte (is_byte 10) bs found → unwrap_or found (length bs) ≡ position_or_len (λ b. b == 10) bs
+first_lf bs None h =
+    sym (position_or_len_is (λ b. b == 10) bs (length bs) 0 (omega arith) (λ k l. untrue (get_or bs k 0 == 10) (h k (omega arith) l)) (λ l. absurd (omega arith)))
+first_lf bs (Some n) h =
+    let first = h.0 in
+    sym (position_or_len_is (λ b. b == 10) bs n 0 (omega (arith, first.high)) (λ k l. untrue (get_or bs k 0 == 10) (first.before k (omega arith) l)) (λ l. h.1))
 
 abbrev first_end : List ℕ → ℕ
 first_end bs = position_or_len (λ b. b == 10) bs

@@ -3,15 +3,25 @@ ghost use Rattle.std.specs.Prelude.{◌≡◌, ◌∷◌, ◌==◌, ◌<◌, ◌
 ghost use Rattle.std.specs.List.{position_or_len};
 ghost use Rattle.sb_text.specs.Lines.{line_numbered, raw_lines, raw_lines_from, without_cr};
 
+use memchr::memchr;
+
 // How many bytes precede the first LF, all if there is none.
+fn lf_place(bytes: &[u8]) -> usize
+    ensures value { result ≡ position_or_len (λ b. b == 10) bytes.now }
+    ensures within { result ≤ length bytes.now }
+{
+    memchr(b'\n', bytes).unwrap_or(bytes.len())
+}
+
+// The same. No search begins for an empty line.
 fn line_len(bytes: &[u8]) -> usize
     ensures value { result ≡ position_or_len (λ b. b == 10) bytes.now }
     ensures within { result ≤ length bytes.now }
 {
-    bytes
-        .iter()
-        .position(|byte| *byte == b'\n')
-        .unwrap_or(bytes.len())
+    match bytes {
+        [b'\n', ..] => 0,
+        _ => lf_place(bytes),
+    }
 }
 
 // How many bytes of a line precede the one CR at its end, all if there is none.

@@ -130,9 +130,9 @@ fn before_unit(unit: Option<u32>, bytes: &[u8]) -> usize
     }
 }
 
-// The number of tokens of a line.
+/// The number of tokens of a line.
 #[tactic(auto, using(crate::proofs::Places::count_past))]
-fn token_count(layout: Layout, line: &[u8]) -> usize
+pub(crate) fn token_count(layout: Layout, line: &[u8]) -> usize
     ensures { result ≡ length (starts_of layout line.now) }
 {
     let mut rest = line;

@@ -11,6 +11,7 @@ use sb_items::Refused;
 
 /// A word: its bytes. `quoted` is the fault of a quoted token in its place, `bad` that of one that breaks the rules, and
 /// `missing` that of none.
+#[inline(always)]
 pub fn word_at<'a, K: Drop>(
     quoted: K,
     bad: K,
@@ -30,6 +31,7 @@ pub fn word_at<'a, K: Drop>(
 
 /// A quoted token: what is between its quotes. `word` is the fault of a word in its place, `bad` that of a token that
 /// breaks the rules, and `missing` that of none.
+#[inline(always)]
 pub fn quoted_at<'a, K: Drop>(
     word: K,
     bad: K,
@@ -49,6 +51,7 @@ pub fn quoted_at<'a, K: Drop>(
 }
 
 /// The line has to end here. `extra` is the fault of an extra token, `bad` that of one that breaks the rules.
+#[inline(always)]
 pub fn end_at<K: Drop>(extra: K, bad: K, tokens: &Tokens) -> Result<(), Refused<TokenFault<K>>>
     ensures { Gives (end_at extra bad tokens.now) result }
 {
@@ -70,6 +73,7 @@ pub fn or_fault<A: Drop, K: Drop>(kind: K, value: Option<A>) -> Result<A, Refuse
 }
 
 /// A value that is there, or this fault at the token that was due.
+#[inline(always)]
 pub fn or_fails<A: Drop, K: Drop>(
     due: &Tokens,
     kind: K,

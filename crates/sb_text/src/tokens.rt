@@ -6,8 +6,9 @@ ghost use Rattle.sb_text.specs.TokenLaws.{is_quotable};
 ghost use Rattle.sb_text.specs.Tokens.{tokens_of, lexeme_of};
 
 use crate::first_tokens::cut_token;
-use crate::laws::tokens_are_found;
+use crate::laws::{tokens_are_found, tokens_have_starts};
 use crate::refusals::TokenFault;
+use crate::spots::{Layout, token_count};
 use sb_items::Refused;
 use std::marker::Model;
 
@@ -54,6 +55,7 @@ impl<'a> Tokens<'a> {
     }
 
     /// The same tokens, to go back to.
+    #[inline(always)]
     pub fn copy(&self) -> Tokens<'a>
         ensures { result ≡ self.now }
     {
@@ -77,26 +79,29 @@ impl<'a> Tokens<'a> {
     }
 
     /// The next token, which is not passed.
+    #[inline(always)]
     pub fn peek(&self) -> Option<Token<'a>>
         ensures { MatchOption result (self.now ≡ []) (λ token. self.now ≡ lexeme_of token ∷ later self.now) }
     {
         self.next
     }
 
-    /// The number of tokens that are left. Walks over them.
+    /// The number of tokens that are left. Looks at each byte of them.
+    #[cold]
+    #[inline(never)]
     pub fn left(&self) -> usize
         ensures value { result ≡ length self.now }
         ensures most { result + 1 < 2 ^ 64 }
     {
-        let mut tokens = self.copy();
-        let mut count = 0;
-        while tokens.next_token().is_some() {
-            count += 1;
+        tokens_have_starts();
+        match self.next {
+            None => 0,
+            Some(_) => 1 + token_count(Layout::Text, self.rest.as_bytes()),
         }
-        count
     }
 
     /// This refusal, with its fault at the first token of a line of which these are the others.
+    #[inline(always)]
     pub fn refuse_first<K: Drop>(&self, refused: Refused<K>) -> Refused<TokenFault<K>>
         ensures { result ≡ refused_left (with_first self.now) refused }
     {
@@ -107,6 +112,7 @@ impl<'a> Tokens<'a> {
     }
 
     /// This fault at the first token of a line of which these are the others.
+    #[inline(always)]
     pub fn fail_first<K: Drop>(&self, kind: K) -> Refused<TokenFault<K>>
         ensures { result ≡ Fault (record { left = with_first self.now; unit = None; kind = kind }) }
     {
@@ -118,6 +124,7 @@ impl<'a> Tokens<'a> {
     }
 
     /// This refusal, with its fault at the next token, or at the line's end if there is none.
+    #[inline(always)]
     pub fn refuse<K: Drop>(&self, refused: Refused<K>) -> Refused<TokenFault<K>>
         ensures { result ≡ refused_left (length self.now) refused }
     {
@@ -128,6 +135,7 @@ impl<'a> Tokens<'a> {
     }
 
     /// This fault at the next token, or at the line's end if there is none.
+    #[inline(always)]
     pub fn fail<K: Drop>(&self, kind: K) -> Refused<TokenFault<K>>
         ensures { result ≡ Fault (record { left = length self.now; unit = None; kind = kind }) }
     {
@@ -139,6 +147,7 @@ impl<'a> Tokens<'a> {
     }
 
     /// This fault at the character of a UTF-16 unit, from 0, between the quotes of the next token.
+    #[inline(always)]
     pub fn fail_within<K: Drop>(&self, unit: u32, kind: K) -> Refused<TokenFault<K>>
         ensures { result ≡ Fault (record { left = length self.now; unit = Some unit; kind = kind }) }
     {
@@ -150,6 +159,7 @@ impl<'a> Tokens<'a> {
     }
 
     /// Whether the line ends here.
+    #[inline(always)]
     pub fn is_end(&self) -> bool
         ensures { result ≡ is_end self.now }
     {

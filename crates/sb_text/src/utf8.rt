@@ -52,9 +52,25 @@ fn place_after(front: &[u8]) -> NotUtf8
     NotUtf8 { line, column }
 }
 
+// The wide string of ASCII bytes: a unit for each.
+fn from_ascii(alloc: Global, bytes: &[u8]) -> Result<Wide, NoMemory>
+    ensures { IfOk result (λ wide. wide ≡ bytes.now) }
+{
+    let mut units = Vec::with_capacity(alloc, bytes.len())?;
+    for byte in bytes {
+        units.push_reserved(u16::from(*byte));
+    }
+    Ok(Wide::new(units))
+}
+
 /// The wide string that a quoted token means: the UTF-16 units of its characters, without escapes.
+#[tactic(auto, using(crate::proofs::QuotedStrings::string_of_ascii))]
 pub fn string_of(alloc: Global, quoted: &str) -> Result<Wide, NoMemory>
     ensures { IfOk result (λ wide. wide ≡ string_of quoted.now) }
 {
-    Wide::from_str(alloc, quoted)
+    if !quoted.is_ascii() {
+        return Wide::from_str(alloc, quoted);
+    }
+    let wide = from_ascii(alloc, quoted.as_bytes())?;
+    Ok(wide)
 }
