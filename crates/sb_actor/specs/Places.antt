@@ -82,6 +82,18 @@ thread_start script target thread = begins script (record {
 abbrev pub is_finished : Script → ThreadAt → Bool
 is_finished script x = nat_le (length (statements_of script x.target x.thread)) x.place
 
+-- the same by the stage
+abbrev pub is_over : ThreadStage → Bool
+is_over (stage.Try c rounds all_abandoned) = false
+is_over (stage.Fill c i) = false
+is_over (stage.Send c) = false
+is_over (stage.Wait c loads) = false
+is_over (stage.Fetch c words) = false
+is_over (stage.Free c words) = false
+is_over (stage.Abandon c) = false
+is_over (stage.Stray loads most) = false
+is_over stage.Over = true
+
 -- the statement is a call
 abbrev pub is_call : Option Statement → Bool
 is_call (Some (Call tag args)) = true

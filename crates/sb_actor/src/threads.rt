@@ -9,7 +9,7 @@ ghost use Rattle.sb_actor.specs.ThreadStages.{ThreadAt, Try};
 ghost use Rattle.sb_statements.specs.CleanTables.{IsCleanTable};
 ghost use Rattle.sb_actor.specs.Acts.{observation};
 ghost use Rattle.sb_actor.specs.Endings.{result_of};
-ghost use Rattle.sb_actor.specs.Places.{statement_at, begins, direct_at, thread_start, is_finished};
+ghost use Rattle.sb_actor.specs.Places.{statement_at, begins, direct_at, thread_start, is_finished, is_over};
 ghost use Rattle.sb_actor.specs.Observations.{Done};
 ghost use Rattle.sb_actor.specs.ThreadFields.{is_free};
 ghost use Rattle.sb_actor.specs.ThreadTable.{thread_plan, thread_after, stray_row, after_round, after_try, after_fill, after_send, after_wait, after_stray_load, reply_by, goes_on, ends, has_clean};
@@ -150,6 +150,15 @@ fn reply_by(channel: u32, mark: u64, reply: Reply) -> CallResult
     }
 }
 
+// Takes the words out of a block. One that has none is left as it is.
+fn clear(block: &mut Words)
+    ensures { block.new ≡ [] }
+{
+    if block.len() > 0 {
+        *block = Words::empty();
+    }
+}
+
 impl ThreadState {
     /// A thread before its first step. The target and the thread are there.
     pub fn new(script: &SoundScript, target: u32, thread: u32) -> ThreadState
@@ -206,19 +215,19 @@ impl ThreadState {
                 self.phase = ThreadPhase::Try;
             }
             Some(Statement::Wait { most, .. }) => {
-                self.block = Words::empty();
+                clear(&mut self.block);
                 self.count = 0;
                 self.most = *most;
                 self.phase = ThreadPhase::Stray;
             }
             Some(_) => {
-                self.block = Words::empty();
+                clear(&mut self.block);
                 self.count = 0;
                 self.most = 1;
                 self.phase = ThreadPhase::Stray;
             }
             None => {
-                self.block = Words::empty();
+                clear(&mut self.block);
                 self.phase = ThreadPhase::Over;
             }
         }
@@ -572,6 +581,13 @@ impl ThreadState {
         ensures { result ≡ self.now.place }
     {
         self.place
+    }
+
+    /// Whether its stage is that after the last statement.
+    pub fn is_over(&self) -> bool
+        ensures { result ≡ is_over self.now.stage }
+    {
+        matches!(self.phase, ThreadPhase::Over)
     }
 
     /// Whether each statement has ended. The script is that of `new`.

@@ -70,6 +70,35 @@ fn taken_of(count: u64, end: u64, words: Words) -> BlockCopy
     BlockCopy::of(count, end, words).unwrap()
 }
 
+// Ends a copy with these words, which are taken out. It stands apart, so that a step that ends no copy has no large locals.
+#[inline(never)]
+fn end_copy(taken: &mut BlockCopy, words: &mut Words, count: u64, end: u64)
+    requires { is_copy (copied count end words.old) ≡ true }
+    ensures taken { taken.new ≡ copied count end words.old }
+    ensures words { words.new ≡ [] }
+{
+    let whole = mem::replace(words, Words::empty());
+    *taken = taken_of(count, end, whole);
+}
+
+// Ends a copy before its first word.
+#[inline(never)]
+fn end_without(taken: &mut BlockCopy, count: u64, end: u64)
+    requires { is_copy (copied count end []) ≡ true }
+    ensures { taken.new ≡ copied count end [] }
+{
+    *taken = no_words(count, end);
+}
+
+// Takes the words out of a copy. One that has none is left as it is.
+fn clear(words: &mut Words)
+    ensures { words.new ≡ [] }
+{
+    if words.len() > 0 {
+        *words = Words::empty();
+    }
+}
+
 // A copy that ended before its first word.
 fn no_words(count: u64, end: u64) -> BlockCopy
     requires { is_copy (copied count end []) ≡ true }
@@ -146,7 +175,7 @@ impl WorkerState {
         ensures { self.new ≡ at_stage self.old (after_count count) }
     {
         if count > MOST_PARAMETERS {
-            self.taken = no_words(count, 0);
+            end_without(&mut self.taken, count, 0);
             self.phase = WorkerPhase::Take;
         } else {
             self.count = count;
@@ -160,12 +189,12 @@ impl WorkerState {
         ensures { self.new ≡ at_stage self.old (after_end count end) }
     {
         if end < 16 + count || end > 64 {
-            self.taken = no_words(count, end);
+            end_without(&mut self.taken, count, end);
             self.phase = WorkerPhase::Take;
         } else {
             self.count = count;
             self.end = end;
-            self.words = Words::empty();
+            clear(&mut self.words);
             self.phase = WorkerPhase::Copy;
         }
     }
@@ -186,8 +215,8 @@ impl WorkerState {
             WorkerPhase::Copy => {
                 self.words.push(observed.value());
                 if self.words.len() as u64 == self.end {
-                    let words = mem::replace(&mut self.words, Words::empty());
-                    self.taken = taken_of(self.count, self.end, words);
+                    let (count, end) = (self.count, self.end);
+                    end_copy(&mut self.taken, &mut self.words, count, end);
                     self.phase = WorkerPhase::Take;
                 }
             }
