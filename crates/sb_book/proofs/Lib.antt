@@ -1,6 +1,7 @@
 pub mod Fitting
 pub mod HistoryLaws
 pub mod Legal
+pub mod PackedNumbers
 pub mod Ready
 pub mod Sayings
 pub mod Storing

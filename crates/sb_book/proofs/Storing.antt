@@ -1,20 +1,22 @@
--- Entries that are stored: what a row cuts stays when words are appended, and what is appended is a new row's.
+-- Entries that are stored: what a row reads stays when bytes are appended, and what is appended is a new row's.
 use Rattle.std.proofs.Common.{◌≡◌, ◌∙◌, ℕ, ◌+◌, ◌<◌, ◌≤◌, true, List, [], ◌∷◌, ◌++◌, length, map, take, drop, refl, sym, ap, subst, zero, suc, arith, append_assoc, get_or}
 use Rattle.std.proofs.lemmas.Bool.{and_parts}
 use Rattle.std.proofs.lemmas.Bool.Decides.{nat_tests}
-use Rattle.std.specs.Prelude.{⊤, nat_le, nat_lt, slice_get, option_map}
-use Rattle.std.specs.List.{All}
-use Rattle.std.proofs.lemmas.List.{length-append, length-drop, take-append-le, drop-append-le, take_all, length-map, map-append, take-map}
+use Rattle.std.specs.Prelude.{⊤, nat_le, nat_lt, slice_get, slice_index, option_map}
+use Rattle.std.specs.List.{All, list_all}
+use Rattle.std.proofs.lemmas.List.{append-nil, length-append, drop-append-le, take_all, length-map, map-append, take-map}
 use Rattle.std.proofs.lemmas.List.Elements.{All-take}
 use Rattle.std.proofs.lemmas.Option.{slice_get-map}
-use Rattle.std.proofs.Math.Seq.{drop-append_seam, take-append_seam}
+use Rattle.std.proofs.Math.Seq.{drop-append_seam}
 use Rattle.sb_call.specs.declared.replies.Reply.{Reply}
-use Rattle.sb_block.specs.Copies.{Copied, copied, is_copy}
+use Rattle.sb_block.specs.Copies.{Copied, is_copy}
 use Rattle.sb_block.specs.Layout.{most_words}
-use Rattle.sb_book.specs.Stores.{IsCut, copy_words, entry_with, ext_words, is_room, row_entry, stored_entry}
+use Rattle.sb_book.specs.Packing.{after_numbers, has_numbers, is_word, number_in, numbers_in, packed_all}
+use Rattle.sb_book.specs.Stores.{IsCut, after_count, after_end, after_handle, after_mark, after_outcome, after_status, copy_in, entry_with, ext_in, head_of, is_room, reply_in, row_entry, stored_entry, words_in}
 use Rattle.sb_book.specs.declared.decisions.Decision.{Decision}
 use Rattle.sb_book.specs.declared.entries.Entry.{Entry}
 use Rattle.sb_book.specs.declared.stores.EntryRow.{EntryRow}
+use Rattle.sb_book.proofs.PackedNumbers.{afters_back, afters_stay, all_back, all_stay, numbers_back, numbers_stay}
 
 -- each row cuts the words
 abbrev AreCut : List ℕ → List EntryRow → Type 0
@@ -33,25 +35,62 @@ by_place : (xs : List ℕ) (rows : List EntryRow) → AreCut xs rows → All (Is
 by_place xs [] h = λ k d i. absurd (omega (arith, i))
 by_place xs (r ∷ rows) h = at_place xs rows r h.0 (by_place xs rows h.1)
 
--- words that lie within stay the same when others are appended
-part_stays : (n m : ℕ) (xs ys : List ℕ) → n + m ≤ length xs → take m (drop n (xs ++ ys)) ≡ take m (drop n xs)
-part_stays n m xs ys h =
-    let before : n ≤ length xs = omega (arith, h) in
-    let inside : m ≤ length (drop n xs) = omega (arith, length-drop n xs, h) in
-    rw (drop-append-le n xs ys before) (take-append-le m (drop n xs) ys inside)
+-- ---- what a row reads stays when bytes are appended
 
-copy_stays : (xs ys : List ℕ) (r : EntryRow) → IsCut xs r → copy_words (xs ++ ys) r ≡ copy_words xs r
-copy_stays xs ys r h = let within = h.within in part_stays r.first r.len xs ys (omega (arith, within))
+-- the numbers with which its bytes begin
+record HeadStays (bs ys : List ℕ) : Type 0 where
+  count : number_in (bs ++ ys) ≡ number_in bs
+  end : number_in (after_count (bs ++ ys)) ≡ number_in (after_count bs)
+  mark : number_in (after_end (bs ++ ys)) ≡ number_in (after_end bs)
+  outcome : number_in (after_mark (bs ++ ys)) ≡ number_in (after_mark bs)
+  status : number_in (after_outcome (bs ++ ys)) ≡ number_in (after_outcome bs)
+  handle : number_in (after_status (bs ++ ys)) ≡ number_in (after_status bs)
+  rest : after_handle (bs ++ ys) ≡ after_handle bs ++ ys
 
-ext_stays : (xs ys : List ℕ) (r : EntryRow) → IsCut xs r → ext_words (xs ++ ys) r ≡ ext_words xs r
-ext_stays xs ys r h =
-    let within = h.within in
-    let before : r.first ≤ length xs = omega (arith, within) in
-    let inside : r.len + r.ext_len ≤ length (drop r.first xs) = omega (arith, length-drop r.first xs, within) in
-    rw (drop-append-le r.first xs ys before) (part_stays r.len r.ext_len (drop r.first xs) ys inside)
+head_stays : (bs ys : List ℕ) → has_numbers 6 bs ≡ true → HeadStays bs ys
+head_stays bs ys h =
+    let six : numbers_in 6 (bs ++ ys) ≡ numbers_in 6 bs = numbers_stay 6 bs ys h in
+    record {
+      count = ap (λ ns. slice_index ns 0) six;
+      end = ap (λ ns. slice_index ns 1) six;
+      mark = ap (λ ns. slice_index ns 2) six;
+      outcome = ap (λ ns. slice_index ns 3) six;
+      status = ap (λ ns. slice_index ns 4) six;
+      handle = ap (λ ns. slice_index ns 5) six;
+      rest = afters_stay 6 bs ys h;
+    }
+
+ext_stays : (r : EntryRow) (bs ys : List ℕ) → has_numbers 6 bs ≡ true → has_numbers r.ext_len (after_handle bs) ≡ true → ext_in r (bs ++ ys) ≡ ext_in r bs
+ext_stays r bs ys head ext = ap (numbers_in r.ext_len) (head_stays bs ys head).rest ∙ numbers_stay r.ext_len (after_handle bs) ys ext
+
+words_begin : (r : EntryRow) (bs ys : List ℕ) → has_numbers 6 bs ≡ true → has_numbers r.ext_len (after_handle bs) ≡ true
+    → after_numbers r.ext_len (after_handle (bs ++ ys)) ≡ after_numbers r.ext_len (after_handle bs) ++ ys
+words_begin r bs ys head ext = ap (after_numbers r.ext_len) (head_stays bs ys head).rest ∙ afters_stay r.ext_len (after_handle bs) ys ext
+
+words_stay : (r : EntryRow) (bs ys : List ℕ) → has_numbers 6 bs ≡ true → has_numbers r.ext_len (after_handle bs) ≡ true
+    → has_numbers r.len (after_numbers r.ext_len (after_handle bs)) ≡ true → words_in r (bs ++ ys) ≡ words_in r bs
+words_stay r bs ys head ext words =
+    ap (numbers_in r.len) (words_begin r bs ys head ext) ∙ numbers_stay r.len (after_numbers r.ext_len (after_handle bs)) ys words
+
+copy_stays : (r : EntryRow) (bs ys : List ℕ) → has_numbers 6 bs ≡ true → has_numbers r.ext_len (after_handle bs) ≡ true
+    → has_numbers r.len (after_numbers r.ext_len (after_handle bs)) ≡ true → copy_in r (bs ++ ys) ≡ copy_in r bs
+copy_stays r bs ys head ext words = let h = head_stays bs ys head in rw (h.count, h.end, words_stay r bs ys head ext words) refl
+
+reply_stays : (r : EntryRow) (bs ys : List ℕ) → has_numbers 6 bs ≡ true → has_numbers r.ext_len (after_handle bs) ≡ true → reply_in r (bs ++ ys) ≡ reply_in r bs
+reply_stays r bs ys head ext = let h = head_stays bs ys head in rw (h.mark, h.outcome, h.status, h.handle, ext_stays r bs ys head ext) refl
+
+-- of a row in all bytes
+beginning_stays : (xs ys : List ℕ) (r : EntryRow) → IsCut xs r → drop r.first (xs ++ ys) ≡ drop r.first xs ++ ys
+beginning_stays xs ys r h = drop-append-le r.first xs ys h.within
 
 entry_stays : (xs ys : List ℕ) (r : EntryRow) → IsCut xs r → stored_entry (xs ++ ys) r ≡ stored_entry xs r
-entry_stays xs ys r h = ap (λ w. row_entry r w (ext_words (xs ++ ys) r)) (copy_stays xs ys r h) ∙ ap (λ w. row_entry r (copy_words xs r) w) (ext_stays xs ys r h)
+entry_stays xs ys r h =
+    let bs : List ℕ = drop r.first xs in
+    let copy : copy_in r (bs ++ ys) ≡ copy_in r bs = copy_stays r bs ys h.head h.ext h.words in
+    let reply : reply_in r (bs ++ ys) ≡ reply_in r bs = reply_stays r bs ys h.head h.ext in
+    ap (row_entry r) (beginning_stays xs ys r h)
+    ∙ ap (λ c. entry_with r.target r.channel c r.decision (reply_in r (bs ++ ys))) copy
+    ∙ ap (λ a. entry_with r.target r.channel (copy_in r bs) r.decision a) reply
 
 entries_stay : (xs ys : List ℕ) (rows : List EntryRow) → AreCut xs rows → map (stored_entry (xs ++ ys)) rows ≡ map (stored_entry xs) rows
 entries_stay xs ys [] h = refl
@@ -60,12 +99,19 @@ entries_stay xs ys (r ∷ rows) h =
 
 cut_stays : (xs ys : List ℕ) (r : EntryRow) → IsCut xs r → IsCut (xs ++ ys) r
 cut_stays xs ys r h =
+    let bs : List ℕ = drop r.first xs in
     let within = h.within in
+    let begins : drop r.first (xs ++ ys) ≡ bs ++ ys = beginning_stays xs ys r h in
+    let rest : after_handle (bs ++ ys) ≡ after_handle bs ++ ys = (head_stays bs ys h.head).rest in
     record {
       within = omega (arith, length-append xs ys, within);
       most = h.most;
       few = h.few;
-      rule = ap (λ w. is_copy (copied r.count_seen r.end_seen w)) (copy_stays xs ys r h) ∙ h.rule;
+      head = ap (has_numbers 6) begins ∙ all_stay 6 bs ys h.head;
+      ext = ap (λ b. has_numbers r.ext_len (after_handle b)) begins ∙ ap (has_numbers r.ext_len) rest ∙ all_stay r.ext_len (after_handle bs) ys h.ext;
+      words = ap (λ b. has_numbers r.len (after_numbers r.ext_len (after_handle b))) begins ∙ ap (has_numbers r.len) (words_begin r bs ys h.head h.ext)
+          ∙ all_stay r.len (after_numbers r.ext_len (after_handle bs)) ys h.words;
+      rule = ap (λ b. is_copy (copy_in r b)) begins ∙ ap is_copy (copy_stays r bs ys h.head h.ext h.words) ∙ h.rule;
     }
 
 cuts_stay : (xs ys : List ℕ) (rows : List EntryRow) → AreCut xs rows → AreCut (xs ++ ys) rows
@@ -76,52 +122,136 @@ cuts_append : (xs : List ℕ) (rows : List EntryRow) (r : EntryRow) → AreCut x
 cuts_append xs [] r h own = (own, tt)
 cuts_append xs (x ∷ rows) r h own = (h.0, cuts_append xs rows r h.1 own)
 
--- a row of what is appended cuts that
-new_copy : (xs copy ext : List ℕ) (r : EntryRow) → r.first ≡ length xs → r.len ≡ length copy → copy_words (xs ++ (copy ++ ext)) r ≡ copy
-new_copy xs copy ext r first len = rw (first, len, drop-append_seam xs (copy ++ ext), take-append_seam copy ext) refl
+-- ---- a row of what is appended
 
-new_ext : (xs copy ext : List ℕ) (r : EntryRow) → r.first ≡ length xs → r.len ≡ length copy → r.ext_len ≡ length ext → ext_words (xs ++ (copy ++ ext)) r ≡ ext
-new_ext xs copy ext r first len ext_len =
-    rw (first, len, drop-append_seam xs (copy ++ ext), drop-append_seam copy ext) (take_all r.ext_len ext (omega (arith, ext_len)))
+-- the bytes of an entry
+abbrev entry_bytes : Copied → Reply → List ℕ
+entry_bytes taken reply = packed_all (head_of taken reply) ++ (packed_all reply.ext ++ packed_all taken.words)
 
-new_entry : (xs copy ext : List ℕ) (r : EntryRow) → r.first ≡ length xs → r.len ≡ length copy → r.ext_len ≡ length ext
-    → stored_entry (xs ++ (copy ++ ext)) r ≡ row_entry r copy ext
-new_entry xs copy ext r first len ext_len =
-    ap (λ w. row_entry r w (ext_words (xs ++ (copy ++ ext)) r)) (new_copy xs copy ext r first len) ∙ ap (λ w. row_entry r copy w) (new_ext xs copy ext r first len ext_len)
+-- all its numbers are words
+record AreWords (taken : Copied) (reply : Reply) : Type 0 where
+  head : list_all is_word (head_of taken reply) ≡ true
+  ext : list_all is_word reply.ext ≡ true
+  words : list_all is_word taken.words ≡ true
 
--- the entries with one more
-stored_more : (xs copy ext more : List ℕ) (rows more_rows : List EntryRow) (r : EntryRow) → AreCut xs rows → more ≡ (xs ++ copy) ++ ext
-    → more_rows ≡ rows ++ r ∷ [] → r.first ≡ length xs → r.len ≡ length copy → r.ext_len ≡ length ext
-    → map (stored_entry more) more_rows ≡ map (stored_entry xs) rows ++ row_entry r copy ext ∷ []
-stored_more xs copy ext more rows more_rows r h words all first len ext_len =
-    let appended : more ≡ xs ++ (copy ++ ext) = words ∙ append_assoc xs copy ext in
-    rw (appended, all, map-append (stored_entry (xs ++ (copy ++ ext))) rows (r ∷ []), entries_stay xs (copy ++ ext) rows h)
-    (ap (λ e. map (stored_entry xs) rows ++ e ∷ []) (new_entry xs copy ext r first len ext_len))
+-- a row with the lengths of an entry
+record IsRowOf (r : EntryRow) (taken : Copied) (reply : Reply) : Type 0 where
+  len : r.len ≡ length taken.words
+  ext_len : r.ext_len ≡ length reply.ext
 
--- the same with the entry of the parts that the row was made of
-pub stored_with : (xs copy ext more : List ℕ) (rows more_rows : List EntryRow) (r : EntryRow) (target channel : ℕ) (taken : Copied) (decision : Decision) (reply : Reply)
-    → All (IsCut xs) rows → more ≡ (xs ++ copy) ++ ext → more_rows ≡ rows ++ r ∷ [] → r.first ≡ length xs → r.len ≡ length copy → r.ext_len ≡ length ext
-    → copy ≡ taken.words → ext ≡ reply.ext → r.target ≡ target → r.channel ≡ channel → r.decision ≡ decision
-    → r.count_seen ≡ taken.count_seen → r.end_seen ≡ taken.end_seen
-    → r.mark ≡ reply.mark → r.outcome ≡ reply.outcome → r.status ≡ reply.status → r.handle ≡ reply.handle
-    → map (stored_entry more) more_rows ≡ map (stored_entry xs) rows ++ entry_with target channel taken decision reply ∷ []
-stored_with xs copy ext more rows more_rows r target channel taken decision reply h words all first len ext_len copy_is ext_is
-    t c d count end m o s handle =
-    let same : row_entry r copy ext ≡ entry_with target channel taken decision reply = rw (t, c, d, count, end, m, o, s, handle, copy_is, ext_is) refl in
-    stored_more xs copy ext more rows more_rows r (by_rows xs rows h) words all first len ext_len ∙ ap (λ e. map (stored_entry xs) rows ++ e ∷ []) same
+-- what follows the numbers with which the bytes begin
+new_rest : (taken : Copied) (reply : Reply) → after_handle (entry_bytes taken reply) ≡ packed_all reply.ext ++ packed_all taken.words
+new_rest taken reply = afters_back (head_of taken reply) (packed_all reply.ext ++ packed_all taken.words)
 
-pub cut_more : (xs copy ext more : List ℕ) (rows more_rows : List EntryRow) (r : EntryRow) → All (IsCut xs) rows → more ≡ (xs ++ copy) ++ ext
-    → more_rows ≡ rows ++ r ∷ [] → r.first ≡ length xs → r.len ≡ length copy → r.ext_len ≡ length ext → length copy ≤ most_words → length ext ≤ 7
-    → is_copy (copied r.count_seen r.end_seen copy) ≡ true → All (IsCut more) more_rows
-cut_more xs copy ext more rows more_rows r h words all first len ext_len most few rule =
-    let appended : more ≡ xs ++ (copy ++ ext) = words ∙ append_assoc xs copy ext in
-    let own : IsCut (xs ++ (copy ++ ext)) r = record {
-      within = omega (arith, length-append xs (copy ++ ext), length-append copy ext, first, len, ext_len);
+new_words_begin : (r : EntryRow) (taken : Copied) (reply : Reply) → IsRowOf r taken reply
+    → after_numbers r.ext_len (after_handle (entry_bytes taken reply)) ≡ packed_all taken.words ++ []
+new_words_begin r taken reply row =
+    ap (after_numbers r.ext_len) (new_rest taken reply) ∙ ap (λ n. after_numbers n (packed_all reply.ext ++ packed_all taken.words)) row.ext_len
+    ∙ afters_back reply.ext (packed_all taken.words) ∙ sym (append-nil (packed_all taken.words))
+
+new_words : (r : EntryRow) (taken : Copied) (reply : Reply) → IsRowOf r taken reply → AreWords taken reply → words_in r (entry_bytes taken reply) ≡ taken.words
+new_words r taken reply row all =
+    ap (numbers_in r.len) (new_words_begin r taken reply row) ∙ ap (λ n. numbers_in n (packed_all taken.words ++ [])) row.len
+    ∙ numbers_back taken.words [] all.words
+
+new_ext : (r : EntryRow) (taken : Copied) (reply : Reply) → IsRowOf r taken reply → AreWords taken reply → ext_in r (entry_bytes taken reply) ≡ reply.ext
+new_ext r taken reply row all =
+    ap (numbers_in r.ext_len) (new_rest taken reply) ∙ ap (λ n. numbers_in n (packed_all reply.ext ++ packed_all taken.words)) row.ext_len
+    ∙ numbers_back reply.ext (packed_all taken.words) all.ext
+
+new_head : (taken : Copied) (reply : Reply) → AreWords taken reply → numbers_in 6 (entry_bytes taken reply) ≡ head_of taken reply
+new_head taken reply all = numbers_back (head_of taken reply) (packed_all reply.ext ++ packed_all taken.words) all.head
+
+new_copy : (r : EntryRow) (taken : Copied) (reply : Reply) → IsRowOf r taken reply → AreWords taken reply → copy_in r (entry_bytes taken reply) ≡ taken
+new_copy r taken reply row all =
+    let six = new_head taken reply all in
+    let count : number_in (entry_bytes taken reply) ≡ taken.count_seen = ap (λ ns. slice_index ns 0) six in
+    let end : number_in (after_count (entry_bytes taken reply)) ≡ taken.end_seen = ap (λ ns. slice_index ns 1) six in
+    rw (count, end, new_words r taken reply row all) refl
+
+new_reply : (r : EntryRow) (taken : Copied) (reply : Reply) → IsRowOf r taken reply → AreWords taken reply → reply_in r (entry_bytes taken reply) ≡ reply
+new_reply r taken reply row all =
+    let six = new_head taken reply all in
+    let mark : number_in (after_end (entry_bytes taken reply)) ≡ reply.mark = ap (λ ns. slice_index ns 2) six in
+    let outcome : number_in (after_mark (entry_bytes taken reply)) ≡ reply.outcome = ap (λ ns. slice_index ns 3) six in
+    let status : number_in (after_outcome (entry_bytes taken reply)) ≡ reply.status = ap (λ ns. slice_index ns 4) six in
+    let handle : number_in (after_status (entry_bytes taken reply)) ≡ reply.handle = ap (λ ns. slice_index ns 5) six in
+    rw (mark, outcome, status, handle, new_ext r taken reply row all) refl
+
+new_entry : (xs : List ℕ) (r : EntryRow) (taken : Copied) (reply : Reply) → r.first ≡ length xs → IsRowOf r taken reply → AreWords taken reply
+    → stored_entry (xs ++ entry_bytes taken reply) r ≡ entry_with r.target r.channel taken r.decision reply
+new_entry xs r taken reply first row all =
+    ap (λ n. row_entry r (drop n (xs ++ entry_bytes taken reply))) first ∙ ap (row_entry r) (drop-append_seam xs (entry_bytes taken reply))
+    ∙ ap (λ c. entry_with r.target r.channel c r.decision (reply_in r (entry_bytes taken reply))) (new_copy r taken reply row all)
+    ∙ ap (λ a. entry_with r.target r.channel taken r.decision a) (new_reply r taken reply row all)
+
+new_cut : (xs : List ℕ) (r : EntryRow) (taken : Copied) (reply : Reply) → r.first ≡ length xs → IsRowOf r taken reply → AreWords taken reply
+    → length taken.words ≤ most_words → length reply.ext ≤ 7 → is_copy taken ≡ true → IsCut (xs ++ entry_bytes taken reply) r
+new_cut xs r taken reply first row all most few rule =
+    let bytes : List ℕ = entry_bytes taken reply in
+    let len = row.len in
+    let ext_len = row.ext_len in
+    let begins : drop r.first (xs ++ bytes) ≡ bytes = ap (λ n. drop n (xs ++ bytes)) first ∙ drop-append_seam xs bytes in
+    record {
+      within = omega (arith, length-append xs bytes, first);
       most = omega (arith, len, most);
       few = omega (arith, ext_len, few);
-      rule = ap (λ w. is_copy (copied r.count_seen r.end_seen w)) (new_copy xs copy ext r first len) ∙ rule;
-    } in
-    rw (appended, all) (by_place (xs ++ (copy ++ ext)) (rows ++ r ∷ []) (cuts_append (xs ++ (copy ++ ext)) rows r (cuts_stay xs (copy ++ ext) rows (by_rows xs rows h)) own))
+      head = ap (has_numbers 6) begins ∙ all_back (head_of taken reply) (packed_all reply.ext ++ packed_all taken.words);
+      ext = ap (λ b. has_numbers r.ext_len (after_handle b)) begins ∙ ap (has_numbers r.ext_len) (new_rest taken reply)
+          ∙ ap (λ n. has_numbers n (packed_all reply.ext ++ packed_all taken.words)) ext_len ∙ all_back reply.ext (packed_all taken.words);
+      words = ap (λ b. has_numbers r.len (after_numbers r.ext_len (after_handle b))) begins ∙ ap (has_numbers r.len) (new_words_begin r taken reply row)
+          ∙ ap (λ n. has_numbers n (packed_all taken.words ++ [])) len ∙ all_back taken.words [];
+      rule = ap (λ b. is_copy (copy_in r b)) begins ∙ ap is_copy (new_copy r taken reply row all) ∙ rule;
+    }
+
+-- bytes to which those of an entry were appended in three parts
+appended : (xs head ext copy more : List ℕ) (taken : Copied) (reply : Reply) → more ≡ ((xs ++ packed_all head) ++ packed_all ext) ++ packed_all copy
+    → head ≡ head_of taken reply → ext ≡ reply.ext → copy ≡ taken.words → more ≡ xs ++ entry_bytes taken reply
+appended xs head ext copy more taken reply bytes head_is ext_is copy_is =
+    let parts : ((xs ++ packed_all head) ++ packed_all ext) ++ packed_all copy ≡ xs ++ (packed_all head ++ (packed_all ext ++ packed_all copy)) = simp append_assoc in
+    bytes ∙ parts ∙ ap (λ h. xs ++ (packed_all h ++ (packed_all ext ++ packed_all copy))) head_is
+    ∙ ap (λ e. xs ++ (packed_all (head_of taken reply) ++ (packed_all e ++ packed_all copy))) ext_is
+    ∙ ap (λ c. xs ++ (packed_all (head_of taken reply) ++ (packed_all reply.ext ++ packed_all c))) copy_is
+
+all_words : (head ext copy : List ℕ) (taken : Copied) (reply : Reply) → head ≡ head_of taken reply → ext ≡ reply.ext → copy ≡ taken.words
+    → list_all is_word head ≡ true → list_all is_word ext ≡ true → list_all is_word copy ≡ true → AreWords taken reply
+all_words head ext copy taken reply head_is ext_is copy_is a b c = record {
+  head = ap (list_all is_word) (sym head_is) ∙ a;
+  ext = ap (list_all is_word) (sym ext_is) ∙ b;
+  words = ap (list_all is_word) (sym copy_is) ∙ c;
+}
+
+-- the entries with one more
+pub stored_with : (xs head ext copy more : List ℕ) (rows more_rows : List EntryRow) (r : EntryRow) (target channel : ℕ) (taken : Copied) (decision : Decision) (reply : Reply)
+    → All (IsCut xs) rows → more ≡ ((xs ++ packed_all head) ++ packed_all ext) ++ packed_all copy → more_rows ≡ rows ++ r ∷ []
+    → head ≡ head_of taken reply → ext ≡ reply.ext → copy ≡ taken.words
+    → list_all is_word head ≡ true → list_all is_word ext ≡ true → list_all is_word copy ≡ true
+    → r.first ≡ length xs → r.len ≡ length copy → r.ext_len ≡ length ext → r.target ≡ target → r.channel ≡ channel → r.decision ≡ decision
+    → map (stored_entry more) more_rows ≡ map (stored_entry xs) rows ++ entry_with target channel taken decision reply ∷ []
+stored_with xs head ext copy more rows more_rows r target channel taken decision reply h bytes all head_is ext_is copy_is a b c first len ext_len t ch d =
+    let row : IsRowOf r taken reply = record { len = len ∙ ap length copy_is; ext_len = ext_len ∙ ap length ext_is } in
+    let words : AreWords taken reply = all_words head ext copy taken reply head_is ext_is copy_is a b c in
+    let whole : more ≡ xs ++ entry_bytes taken reply = appended xs head ext copy more taken reply bytes head_is ext_is copy_is in
+    let own : stored_entry (xs ++ entry_bytes taken reply) r ≡ entry_with target channel taken decision reply =
+    new_entry xs r taken reply first row words ∙ rw (t, ch, d) refl in
+    rw (whole, all, map-append (stored_entry (xs ++ entry_bytes taken reply)) rows (r ∷ []), entries_stay xs (entry_bytes taken reply) rows (by_rows xs rows h))
+    (ap (λ e. map (stored_entry xs) rows ++ e ∷ []) own)
+
+pub cut_more : (xs head ext copy more : List ℕ) (rows more_rows : List EntryRow) (r : EntryRow) (taken : Copied) (reply : Reply)
+    → All (IsCut xs) rows → more ≡ ((xs ++ packed_all head) ++ packed_all ext) ++ packed_all copy → more_rows ≡ rows ++ r ∷ []
+    → head ≡ head_of taken reply → ext ≡ reply.ext → copy ≡ taken.words
+    → list_all is_word head ≡ true → list_all is_word ext ≡ true → list_all is_word copy ≡ true
+    → r.first ≡ length xs → r.len ≡ length copy → r.ext_len ≡ length ext
+    → length copy ≤ most_words → length ext ≤ 7 → is_copy taken ≡ true → All (IsCut more) more_rows
+cut_more xs head ext copy more rows more_rows r taken reply h bytes all head_is ext_is copy_is a b c first len ext_len most few rule =
+    let row : IsRowOf r taken reply = record { len = len ∙ ap length copy_is; ext_len = ext_len ∙ ap length ext_is } in
+    let words : AreWords taken reply = all_words head ext copy taken reply head_is ext_is copy_is a b c in
+    let whole : more ≡ xs ++ entry_bytes taken reply = appended xs head ext copy more taken reply bytes head_is ext_is copy_is in
+    let own : IsCut (xs ++ entry_bytes taken reply) r =
+    new_cut xs r taken reply first row words (omega (arith, most, ap length copy_is)) (omega (arith, few, ap length ext_is)) rule in
+    rw (whole, all)
+    (by_place (xs ++ entry_bytes taken reply) (rows ++ r ∷ [])
+    (cuts_append (xs ++ entry_bytes taken reply) rows r (cuts_stay xs (entry_bytes taken reply) rows (by_rows xs rows h)) own))
 
 -- the first row and the others
 pub first_is_cut : (xs : List ℕ) (rows later : List EntryRow) (r : EntryRow) → rows ≡ r ∷ later → All (IsCut xs) rows → IsCut xs r
@@ -149,15 +279,15 @@ pub front_is_all : (n : ℕ) (rows : List EntryRow) → length rows ≤ n → ro
 front_is_all n rows h = sym (take_all n rows h)
 
 -- room that was made, and what it has room for
-pub room_made : (rows rows_capacity words words_capacity : ℕ) → rows < rows_capacity → words + 71 ≤ words_capacity → is_room rows rows_capacity words words_capacity ≡ true
-room_made rows rows_capacity words words_capacity row more = grind (arith, nat_tests, row, more)
+pub room_made : (rows rows_capacity bytes bytes_capacity : ℕ) → rows < rows_capacity → bytes + 770 ≤ bytes_capacity → is_room rows rows_capacity bytes bytes_capacity ≡ true
+room_made rows rows_capacity bytes bytes_capacity row more = grind (arith, nat_tests, row, more)
 
-pub room_for_row : (rows rows_capacity words words_capacity : ℕ) → is_room rows rows_capacity words words_capacity ≡ true → rows < rows_capacity
-room_for_row rows rows_capacity words words_capacity h =
-    let one = (and_parts (nat_lt rows rows_capacity) (nat_le (words + 71) words_capacity) h).0 in
+pub room_for_row : (rows rows_capacity bytes bytes_capacity : ℕ) → is_room rows rows_capacity bytes bytes_capacity ≡ true → rows < rows_capacity
+room_for_row rows rows_capacity bytes bytes_capacity h =
+    let one = (and_parts (nat_lt rows rows_capacity) (nat_le (bytes + 770) bytes_capacity) h).0 in
     grind (arith, nat_tests, one)
 
-pub room_for_words : (rows rows_capacity words words_capacity : ℕ) → is_room rows rows_capacity words words_capacity ≡ true → words + 71 ≤ words_capacity
-room_for_words rows rows_capacity words words_capacity h =
-    let two = (and_parts (nat_lt rows rows_capacity) (nat_le (words + 71) words_capacity) h).1 in
+pub room_for_bytes : (rows rows_capacity bytes bytes_capacity : ℕ) → is_room rows rows_capacity bytes bytes_capacity ≡ true → bytes + 770 ≤ bytes_capacity
+room_for_bytes rows rows_capacity bytes bytes_capacity h =
+    let two = (and_parts (nat_lt rows rows_capacity) (nat_le (bytes + 770) bytes_capacity) h).1 in
     grind (arith, nat_tests, two)

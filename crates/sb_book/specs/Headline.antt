@@ -14,7 +14,8 @@ use Rattle.sb_rule.specs.declared.actions.Action.TheVariants.{Allow, Deny, Alarm
 use Rattle.sb_rule.specs.declared.policies.Policy.{Policy}
 use Rattle.sb_rule.specs.declared.verdicts.Verdict.{Verdict}
 use Rattle.sb_rule.specs.declared.verdicts.Verdict.TheVariants.{Rule, NoRule}
-use Rattle.sb_book.specs.Histories.{Setting, IsLegalHistory, denied_outcome, faked_outcome, fault_words, performed_reply, refused_outcome, space_from}
+use Rattle.sb_book.specs.Histories.{Setting, IsLegalHistory, space_from}
+use Rattle.sb_book.specs.Replies.{denied_outcome, faked_outcome, fault_words, performed_reply, refused_outcome}
 use Rattle.sb_book.specs.Laws.{IsAllowed}
 use Rattle.sb_book.specs.declared.decisions.Decision.{Decision}
 use Rattle.sb_book.specs.declared.decisions.Decision.TheVariants.{Refused, Denied, Faked, Performed}

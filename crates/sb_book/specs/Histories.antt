@@ -1,16 +1,14 @@
 -- The history of what was decided, and when it is a legal one.
 use Rattle.std.specs.Prelude.{◌≡◌, ℕ, ◌<◌, true, List, [], ◌∷◌, ◌++◌, length, map, slice_index, ⊤}
 use Rattle.sb_call.specs.Statuses.{success, invalid_parameter, access_denied}
-use Rattle.sb_call.specs.declared.replies.Answer.{Answer}
 use Rattle.sb_call.specs.declared.replies.Reply.{Reply}
 use Rattle.sb_statements.specs.declared.scripts.Script.{Script}
 use Rattle.sb_statements.specs.declared.scripts.StartLine.{StartLine}
 use Rattle.sb_block.specs.Copies.{Copied, is_copy, mark_of}
-use Rattle.sb_block.specs.declared.faults.BlockFault.{BlockFault}
-use Rattle.sb_block.specs.declared.faults.BlockFault.TheVariants.{TooManyParams, BadEnd, CountChanged, EndChanged, BadParamType, BadPlace, UnknownTag, WrongShape, BadSize, BadName}
 use Rattle.sb_rule.specs.Verdicts.{policy_at}
 use Rattle.sb_rule.specs.declared.policies.Policy.{Policy}
 use Rattle.sb_book.specs.Decisions.{decision_of}
+pub use Rattle.sb_book.specs.Replies.{denied_outcome, fault_words, faked_outcome, performed_outcome, performed_reply, refused_outcome}
 use Rattle.sb_kernel.specs.Namespaces.{Space, perform}
 use Rattle.sb_kernel.specs.Openings.{opening}
 use Rattle.sb_book.specs.declared.decisions.Decision.{Decision}
@@ -44,39 +42,6 @@ JudgesBy policies h = policies ≡ h.setting.policies
 -- no entries yet
 abbrev pub new_history : Setting → History
 new_history setting = record { setting = setting; space = opening setting.start; entries = [] }
-
--- a fault's number, and then its values
-abbrev pub fault_words : BlockFault → List ℕ
-fault_words (TooManyParams n) = 1 ∷ n ∷ []
-fault_words (BadEnd e) = 2 ∷ e ∷ []
-fault_words (CountChanged a b) = 3 ∷ a ∷ b ∷ []
-fault_words (EndChanged a b) = 4 ∷ a ∷ b ∷ []
-fault_words (BadParamType i) = 5 ∷ i ∷ []
-fault_words (BadPlace i) = 6 ∷ i ∷ []
-fault_words (UnknownTag t) = 7 ∷ t ∷ []
-fault_words WrongShape = 8 ∷ []
-fault_words (BadSize i) = 9 ∷ i ∷ []
-fault_words (BadName i) = 10 ∷ i ∷ []
-
--- the outcome of a reply to a call that was performed
-abbrev pub performed_outcome : ℕ
-performed_outcome = 0
-
--- to a block that was refused
-abbrev pub refused_outcome : ℕ
-refused_outcome = 1
-
--- to a call that was denied
-abbrev pub denied_outcome : ℕ
-denied_outcome = 2
-
--- to a call that was faked
-abbrev pub faked_outcome : ℕ
-faked_outcome = 3
-
--- the reply that shows a service's answer
-abbrev pub performed_reply : ℕ → Answer → Reply
-performed_reply mark a = record { mark = mark; outcome = performed_outcome; status = a.status; handle = a.handle; ext = a.ext }
 
 -- the reply to a mark that a decision leads to
 abbrev pub reply_of : Space → ℕ → ℕ → Decision → Reply

@@ -2,8 +2,10 @@ pub mod Decisions
 pub mod Headline
 pub mod Histories
 pub mod Laws
+pub mod Packing
 pub mod Readiness
 pub mod ReadyScripts
+pub mod Replies
 pub mod Reports
 pub mod Stores
 pub mod Targets

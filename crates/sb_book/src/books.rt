@@ -1,17 +1,20 @@
 // The book: every entry of a run so far, and the namespace that they led to.
-ghost use Rattle.std.specs.Prelude.{◌≡◌, ◌≤◌, ◌<◌, ◌∷◌, [], true, length, is_ok, slice_index, OnOk, OnErr, IfOk};
+ghost use Rattle.std.specs.Prelude.{◌≡◌, ◌≤◌, ◌<◌, true, length, is_ok, slice_index, OnOk, OnErr, IfOk};
 ghost use Rattle.sb_block.specs.Copies.{is_copy, mark_of};
 ghost use Rattle.sb_rule.specs.Verdicts.{policy_at};
 ghost use Rattle.sb_book.specs.Decisions.{decision_of, is_fitting};
-ghost use Rattle.sb_book.specs.Histories.{History, IsHistory, new_history, setting_of, fault_words, performed_reply, reply_of, space_after, answered};
+ghost use Rattle.sb_book.specs.Histories.{History, IsHistory, new_history, setting_of, reply_of, space_after, answered};
 
 use crate::decisions::Decision;
 use crate::entries::Entries;
+use crate::replies::{
+    DENIED_OUTCOME, FAKED_OUTCOME, REFUSED_OUTCOME, fault_words, performed_reply,
+};
 use crate::run_starts::RunStart;
 use crate::slices::EntrySlice;
 use crate::stores::EntryStore;
-use sb_block::{BlockCopy, BlockFault, faultless_copies_fit};
-use sb_call::{ACCESS_DENIED, Answer, Extended, INVALID_PARAMETER, Reply, SUCCESS};
+use sb_block::{BlockCopy, faultless_copies_fit};
+use sb_call::{ACCESS_DENIED, Extended, INVALID_PARAMETER, Reply, SUCCESS};
 use sb_items::NoMemory;
 use sb_kernel::Kernel;
 use sb_rule::Policies;
@@ -53,78 +56,6 @@ impl Model for Book {
     ghost invariant = { λ b. IsHistory (record { setting = setting_of b.policies.value.list b.script.value; space = b.kernel; entries = b.store.entries }) };
 }
 
-// The outcome of a reply: to a call that was performed, to a block that was refused, to a call that was denied, and to one that was faked.
-const PERFORMED: u64 = 0;
-
-const REFUSED: u64 = 1;
-
-const DENIED: u64 = 2;
-
-const FAKED: u64 = 3;
-
-// A fault's number alone.
-fn one_word(number: u64) -> Extended
-    ensures { result ≡ number ∷ [] }
-{
-    let mut words = Extended::empty();
-    words.push(number);
-    words
-}
-
-// A fault's number and its value.
-fn two_words(number: u64, value: u64) -> Extended
-    ensures { result ≡ number ∷ value ∷ [] }
-{
-    let mut words = one_word(number);
-    words.push(value);
-    words
-}
-
-// A fault's number and its two values.
-fn three_words(number: u64, seen: u64, copied: u64) -> Extended
-    ensures { result ≡ number ∷ seen ∷ copied ∷ [] }
-{
-    let mut words = two_words(number, seen);
-    words.push(copied);
-    words
-}
-
-// The extended words of a reply to a block that was refused.
-fn fault_words(fault: BlockFault) -> Extended
-    ensures { result ≡ fault_words fault }
-{
-    match fault {
-        BlockFault::TooManyParams(count) => two_words(1, count),
-        BlockFault::BadEnd(end) => two_words(2, end),
-        BlockFault::CountChanged(seen, copied) => three_words(3, seen, copied),
-        BlockFault::EndChanged(seen, copied) => three_words(4, seen, copied),
-        BlockFault::BadParamType(param) => two_words(5, u64::from(param)),
-        BlockFault::BadPlace(param) => two_words(6, u64::from(param)),
-        BlockFault::UnknownTag(tag) => two_words(7, tag),
-        BlockFault::WrongShape => one_word(8),
-        BlockFault::BadSize(param) => two_words(9, u64::from(param)),
-        BlockFault::BadName(param) => two_words(10, u64::from(param)),
-    }
-}
-
-// The reply that shows a service's answer.
-fn performed_reply(mark: u64, answer: Answer) -> Reply
-    ensures { result ≡ performed_reply mark answer }
-{
-    let Answer {
-        status,
-        handle,
-        ext,
-    } = answer;
-    Reply {
-        mark,
-        outcome: PERFORMED,
-        status: u64::from(status),
-        handle,
-        ext,
-    }
-}
-
 // A copy keeps the rule of a copy. It does nothing.
 fn establish_whole(taken: &BlockCopy)
     ensures { is_copy taken.now ≡ true }
@@ -147,21 +78,21 @@ fn carry_out(
     match decision {
         Decision::Refused(fault) => Ok(Reply {
             mark,
-            outcome: REFUSED,
+            outcome: REFUSED_OUTCOME,
             status: u64::from(INVALID_PARAMETER),
             handle: 0,
             ext: fault_words(*fault),
         }),
         Decision::Denied { .. } => Ok(Reply {
             mark,
-            outcome: DENIED,
+            outcome: DENIED_OUTCOME,
             status: u64::from(ACCESS_DENIED),
             handle: 0,
             ext: Extended::empty(),
         }),
         Decision::Faked { .. } => Ok(Reply {
             mark,
-            outcome: FAKED,
+            outcome: FAKED_OUTCOME,
             status: u64::from(SUCCESS),
             handle: 0,
             ext: Extended::empty(),

@@ -7,7 +7,9 @@ mod books;
 mod decisions;
 mod entries;
 mod laws;
+mod packing;
 mod ready_scripts;
+mod replies;
 mod reports;
 mod run_starts;
 mod slices;
@@ -22,6 +24,7 @@ pub use laws::{
     only_performed_calls_count, performed_calls_are_allowed,
 };
 pub use ready_scripts::{OpenedScript, ReadyScript};
+pub use replies::{DENIED_OUTCOME, FAKED_OUTCOME, PERFORMED_OUTCOME, REFUSED_OUTCOME, fault_words};
 pub use reports::{AllWords, Report, Results, TargetResults, ThreadResults, WordList};
 pub use run_starts::RunStart;
 pub use slices::EntrySlice;

@@ -1,5 +1,5 @@
 // Entries, borrowed from what stores them.
-ghost use Rattle.std.specs.Prelude.{◌≡◌, ◌∷◌, [], drop, length, slice_get, take, MatchOption};
+ghost use Rattle.std.specs.Prelude.{◌≡◌, ◌∷◌, [], length, slice_get, take, MatchOption};
 ghost use Rattle.sb_book.specs.Stores.{IsCut, stored_entry};
 
 use crate::stores::EntryRow;
@@ -9,12 +9,12 @@ use std::marker::Model;
 /// Entries that are borrowed from what stores them. Contracts see the list of the entries.
 pub struct EntrySlice<'a> {
     pub(crate) rows: &'a [EntryRow],
-    pub(crate) words: &'a [u64],
+    pub(crate) bytes: &'a [u8],
 }
 
 impl<'a> Drop for EntrySlice<'a> {
     fn drop(self) {
-        let EntrySlice { rows: _, words: _ } = self;
+        let EntrySlice { rows: _, bytes: _ } = self;
     }
 }
 
@@ -26,30 +26,18 @@ impl<'a> Model for EntrySlice<'a> {
 
     ghost Value = { List Entry };
 
-    ghost view = { λ e. map (stored_entry e.words.now) e.rows.now };
+    ghost view = { λ e. map (stored_entry e.bytes.now) e.rows.now };
 
-    ghost invariant = { λ e. All (IsCut e.words.now) e.rows.now };
+    ghost invariant = { λ e. All (IsCut e.bytes.now) e.rows.now };
 }
 
-// The words of a row's copy, and the extended words of its reply.
-fn cut<'a>(words: &'a [u64], row: &EntryRow) -> (&'a [u64], &'a [u64])
-    requires { IsCut words.now row.now }
-    ensures copy { result.0.now ≡ take row.now.len (drop row.now.first words.now) }
-    ensures ext { result.1.now ≡ take row.now.ext_len (drop row.now.len (drop row.now.first words.now)) }
+// The entry of a row.
+fn view_of<'a>(bytes: &'a [u8], row: &'a EntryRow) -> EntryView<'a>
+    requires { IsCut bytes.now row.now }
+    ensures { result ≡ stored_entry bytes.now row.now }
 {
-    let (_, rest) = words.split_at(row.first);
-    let (copy, rest) = rest.split_at(row.len as usize);
-    let (ext, _) = rest.split_at(row.ext_len as usize);
-    (copy, ext)
-}
-
-// The entry that a row cuts out of the words.
-fn view_of<'a>(words: &'a [u64], row: &'a EntryRow) -> EntryView<'a>
-    requires { IsCut words.now row.now }
-    ensures { result ≡ stored_entry words.now row.now }
-{
-    let (words, ext) = cut(words, row);
-    EntryView { row, words, ext }
+    let (_, bytes) = bytes.split_at(row.first);
+    EntryView { row, bytes }
 }
 
 // The rows before a place, or all if there are not that many.
@@ -79,7 +67,7 @@ impl<'a> EntrySlice<'a> {
         ensures { result ≡ slice_get self.now place }
     {
         match self.rows.get(place) {
-            Some(row) => Some(view_of(self.words, row)),
+            Some(row) => Some(view_of(self.bytes, row)),
             None => None,
         }
     }
@@ -91,10 +79,10 @@ impl<'a> EntrySlice<'a> {
     {
         match self.rows.split_first() {
             Some((row, rows)) => Some((
-                view_of(self.words, row),
+                view_of(self.bytes, row),
                 EntrySlice {
                     rows,
-                    words: self.words,
+                    bytes: self.bytes,
                 },
             )),
             None => None,
@@ -108,7 +96,7 @@ impl<'a> EntrySlice<'a> {
     {
         EntrySlice {
             rows: front(self.rows, place),
-            words: self.words,
+            bytes: self.bytes,
         }
     }
 }

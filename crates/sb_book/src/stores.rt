@@ -1,8 +1,9 @@
-// How entries are stored: a row for each, and one buffer for the words of all copies and replies, which the rows cut.
+// How entries are stored: a row for each, and one buffer with the numbers of all copies and replies as bytes.
 ghost use Rattle.std.specs.Prelude.{◌≡◌, ◌<◌, ◌++◌, ◌∷◌, ◌^◌, [], true, length, OnOk};
-ghost use Rattle.sb_book.specs.Stores.{entry_with};
+ghost use Rattle.sb_book.specs.Stores.{entry_with, head_of};
 
 use crate::decisions::Decision;
+use crate::packing::put_numbers;
 use crate::slices::EntrySlice;
 use sb_block::BlockCopy;
 use sb_call::Reply;
@@ -10,38 +11,26 @@ use sb_items::NoMemory;
 use std::alloc::Global;
 use std::marker::Model;
 
-/// The most words of an entry: 64 of a copy and 7 extended words of a reply.
-const MOST_ENTRY_WORDS: usize = 71;
+/// The most bytes of an entry: of 64 words of a copy, 7 extended words of a reply, and six numbers more, ten of each.
+const MOST_ENTRY_BYTES: usize = 770;
 
-/// What is stored of an entry beside the words of its copy and the extended words of its reply.
+/// What is stored of an entry beside the numbers of its copy and its reply.
 pub(crate) struct EntryRow {
-    // Where the copy's words begin in the buffer. The extended words of the reply follow them.
+    // Where its bytes begin in the buffer.
     pub(crate) first: usize,
-    pub(crate) count_seen: u64,
-    pub(crate) end_seen: u64,
-    pub(crate) mark: u64,
-    pub(crate) outcome: u64,
-    pub(crate) status: u64,
-    pub(crate) handle: u64,
     pub(crate) decision: Decision,
     pub(crate) target: u32,
     pub(crate) channel: u32,
     // How many words the copy has, at most 64.
-    pub(crate) len: u32,
+    pub(crate) len: u8,
     // How many extended words the reply has, at most 7.
-    pub(crate) ext_len: u32,
+    pub(crate) ext_len: u8,
 }
 
 impl Drop for EntryRow {
     fn drop(self) {
         let EntryRow {
             first: _,
-            count_seen: _,
-            end_seen: _,
-            mark: _,
-            outcome: _,
-            status: _,
-            handle: _,
             decision: _,
             target: _,
             channel: _,
@@ -51,16 +40,16 @@ impl Drop for EntryRow {
     }
 }
 
-/// Stored entries. What an entry needs is a row and the words that its copy and its reply have. Contracts see the entries, and whether there is
-/// room for one more.
+/// Stored entries. What an entry needs is a row, and as many bytes as the numbers of its copy and its reply have. Contracts see the entries,
+/// and whether there is room for one more.
 pub(crate) struct EntryStore {
     pub(crate) rows: Vec<EntryRow>,
-    pub(crate) words: Vec<u64>,
+    pub(crate) bytes: Vec<u8>,
 }
 
 impl Drop for EntryStore {
     fn drop(self) {
-        let EntryStore { rows: _, words: _ } = self;
+        let EntryStore { rows: _, bytes: _ } = self;
     }
 }
 
@@ -72,11 +61,25 @@ impl Model for EntryStore {
     ghost Value = { StoreAt };
 
     ghost view = { λ s. record {
-      entries = map (stored_entry s.words.items) s.rows.items;
-      room = is_room (vec_len s.rows) (vec_capacity s.rows) (vec_len s.words) (vec_capacity s.words);
+      entries = map (stored_entry s.bytes.items) s.rows.items;
+      room = is_room (vec_len s.rows) (vec_capacity s.rows) (vec_len s.bytes) (vec_capacity s.bytes);
     } };
 
-    ghost invariant = { λ s. All (IsCut s.words.items) s.rows.items };
+    ghost invariant = { λ s. All (IsCut s.bytes.items) s.rows.items };
+}
+
+// What the bytes of an entry begin with: the count and the end that were seen, and the numbers of the reply.
+fn head_of(taken: &BlockCopy, reply: &Reply) -> [u64; 6]
+    ensures { result ≡ head_of taken.now reply.now }
+{
+    [
+        taken.count_seen(),
+        taken.end_seen(),
+        reply.mark,
+        reply.outcome,
+        reply.status,
+        reply.handle,
+    ]
 }
 
 impl EntryStore {
@@ -86,7 +89,7 @@ impl EntryStore {
     {
         EntryStore {
             rows: Vec::new(alloc),
-            words: Vec::new(alloc),
+            bytes: Vec::new(alloc),
         }
     }
 
@@ -100,12 +103,12 @@ impl EntryStore {
         ensures room { OnOk result (self.new.room ≡ true) }
     {
         self.rows.reserve(1)?;
-        self.words.reserve(MOST_ENTRY_WORDS)?;
+        self.bytes.reserve(MOST_ENTRY_BYTES)?;
         Ok(())
     }
 
     /// Appends an entry, for which there must be room. Does not allocate.
-    #[tactic(auto, using(crate::proofs::Storing::room_for_row, crate::proofs::Storing::room_for_words, crate::proofs::Storing::stored_with, crate::proofs::Storing::cut_more))]
+    #[tactic(auto, using(crate::proofs::Storing::room_for_row, crate::proofs::Storing::room_for_bytes, crate::proofs::Storing::stored_with, crate::proofs::Storing::cut_more))]
     pub(crate) fn push_reserved(
         &mut self,
         target: u32,
@@ -120,21 +123,16 @@ impl EntryStore {
         let copy = taken.words();
         let ext = reply.ext.as_slice();
         let row = EntryRow {
-            first: self.words.len(),
-            count_seen: taken.count_seen(),
-            end_seen: taken.end_seen(),
-            mark: reply.mark,
-            outcome: reply.outcome,
-            status: reply.status,
-            handle: reply.handle,
+            first: self.bytes.len(),
             decision,
             target,
             channel,
-            len: copy.len() as u32,
-            ext_len: ext.len() as u32,
+            len: copy.len() as u8,
+            ext_len: ext.len() as u8,
         };
-        self.words.extend_from_slice(copy).unwrap();
-        self.words.extend_from_slice(ext).unwrap();
+        put_numbers(&mut self.bytes, &head_of(taken, reply));
+        put_numbers(&mut self.bytes, ext);
+        put_numbers(&mut self.bytes, copy);
         self.rows.push_reserved(row);
     }
 
@@ -153,7 +151,7 @@ impl EntryStore {
     {
         EntrySlice {
             rows: &self.rows,
-            words: &self.words,
+            bytes: &self.bytes,
         }
     }
 }

@@ -2,44 +2,55 @@
 ghost use Rattle.std.specs.Prelude.{◌≡◌, ◌≤◌, length, true};
 ghost use Rattle.sb_block.specs.Copies.{is_copy, mark_of};
 ghost use Rattle.sb_block.specs.Layout.{most_words};
+ghost use Rattle.sb_book.specs.Packing.{after_numbers};
+ghost use Rattle.sb_book.specs.Stores.{after_handle};
 
 use crate::decisions::Decision;
+use crate::packing::{after_numbers, take_ext, take_number, take_words};
 use crate::stores::EntryRow;
-use arrayvec::ArrayVec;
 use sb_block::{BlockCopy, Words};
-use sb_call::{Extended, Reply};
+use sb_call::Reply;
 use std::marker::Model;
 
 /// An entry that is borrowed from those that store it. Contracts see the entry.
 pub struct EntryView<'a> {
     pub(crate) row: &'a EntryRow,
-    pub(crate) words: &'a [u64],
-    pub(crate) ext: &'a [u64],
+    // From where the bytes of the row begin.
+    pub(crate) bytes: &'a [u8],
 }
 
 impl<'a> Drop for EntryView<'a> {
     fn drop(self) {
-        let EntryView {
-            row: _,
-            words: _,
-            ext: _,
-        } = self;
+        let EntryView { row: _, bytes: _ } = self;
     }
 }
 
 impl<'a> Model for EntryView<'a> {
-    ghost use Rattle.std.specs.Prelude.{◌≡◌, ◌≤◌, length, true};
-    ghost use Rattle.sb_block.specs.Copies.{copied, is_copy};
+    ghost use Rattle.std.specs.Prelude.{◌≡◌, ◌≤◌, true};
+    ghost use Rattle.sb_block.specs.Copies.{is_copy};
     ghost use Rattle.sb_block.specs.Layout.{most_words};
-    ghost use Rattle.sb_book.specs.Stores.{row_entry};
+    ghost use Rattle.sb_book.specs.Stores.{copy_in, row_entry};
     ghost use Rattle.sb_book.specs.declared.entries.Entry.{Entry};
 
     ghost Value = { Entry };
 
-    ghost view = { λ v. row_entry v.row.now v.words.now v.ext.now };
+    ghost view = { λ v. row_entry v.row.now v.bytes.now };
 
-    ghost invariant = { λ v. (is_copy (copied v.row.now.count_seen v.row.now.end_seen v.words.now) ≡ true)
-        × (length v.words.now ≤ most_words) × (length v.ext.now ≤ 7) };
+    ghost invariant = { λ v. (is_copy (copy_in v.row.now v.bytes.now) ≡ true) × (v.row.now.len ≤ most_words) × (v.row.now.ext_len ≤ 7) };
+}
+
+// The bytes of an entry after the numbers with which they begin.
+fn after_head(bytes: &[u8]) -> &[u8]
+    ensures { result.now ≡ after_handle bytes.now }
+{
+    after_numbers(bytes, 6)
+}
+
+// The bytes of the words of a row's copy.
+fn word_bytes<'a>(row: &EntryRow, bytes: &'a [u8]) -> &'a [u8]
+    ensures { result.now ≡ after_numbers row.now.ext_len (after_handle bytes.now) }
+{
+    after_numbers(after_head(bytes), usize::from(row.ext_len))
 }
 
 impl<'a> EntryView<'a> {
@@ -61,42 +72,45 @@ impl<'a> EntryView<'a> {
     pub fn count_seen(&self) -> u64
         ensures { result ≡ self.now.taken.count_seen }
     {
-        self.row.count_seen
+        let (count, _) = take_number(self.bytes);
+        count
     }
 
     /// The end, in words, that was loaded before the copy, or 0 if it was not loaded.
     pub fn end_seen(&self) -> u64
         ensures { result ≡ self.now.taken.end_seen }
     {
-        self.row.end_seen
+        let (_, rest) = take_number(self.bytes);
+        let (end, _) = take_number(rest);
+        end
     }
 
-    /// The words of the copy, at most 64.
-    pub fn words(&self) -> &[u64]
-        ensures value { result.now ≡ self.now.taken.words }
-        ensures most { length result.now ≤ most_words }
+    /// The words of the copy, at most 64. Does not allocate.
+    pub fn words(&self) -> Words
+        ensures value { result ≡ self.now.taken.words }
         ensures rule { is_copy self.now.taken ≡ true }
     {
-        self.words
+        take_words(word_bytes(self.row, self.bytes), usize::from(self.row.len))
     }
 
     /// The caller's mark: word 1 of the copy, or 0 if the copy is empty.
+    #[tactic(auto, using(crate::proofs::PackedNumbers::second_word, crate::proofs::PackedNumbers::no_second_word))]
     pub fn mark(&self) -> u64
         ensures { result ≡ mark_of self.now.taken }
     {
-        match self.words {
-            [_, mark, ..] => *mark,
-            _ => 0,
+        if self.row.len < 2 {
+            return 0;
         }
+        let (_, rest) = take_number(word_bytes(self.row, self.bytes));
+        let (mark, _) = take_number(rest);
+        mark
     }
 
     /// The copy that was taken of the block. Does not allocate.
     pub fn taken(&self) -> BlockCopy
         ensures { result ≡ self.now.taken }
     {
-        let mut words = Words::empty();
-        words.extend(self.words);
-        BlockCopy::of(self.row.count_seen, self.row.end_seen, words).unwrap()
+        BlockCopy::of(self.count_seen(), self.end_seen(), self.words()).unwrap()
     }
 
     /// What was decided on the copy.
@@ -110,14 +124,18 @@ impl<'a> EntryView<'a> {
     pub fn reply(&self) -> Reply
         ensures { result ≡ self.now.reply }
     {
-        let mut ext = ArrayVec::new();
-        let _fits = ext.try_extend_from_slice(self.ext);
+        let (_, rest) = take_number(self.bytes);
+        let (_, rest) = take_number(rest);
+        let (mark, rest) = take_number(rest);
+        let (outcome, rest) = take_number(rest);
+        let (status, rest) = take_number(rest);
+        let (handle, rest) = take_number(rest);
         Reply {
-            mark: self.row.mark,
-            outcome: self.row.outcome,
-            status: self.row.status,
-            handle: self.row.handle,
-            ext: Extended::new(ext),
+            mark,
+            outcome,
+            status,
+            handle,
+            ext: take_ext(rest, usize::from(self.row.ext_len)),
         }
     }
 }

@@ -1,0 +1,106 @@
+// Numbers as bytes: seven bits a byte, the lowest first, and each byte of a number but its last has the high bit set (LEB128).
+ghost use Rattle.std.specs.Prelude.{◌≡◌, ◌≤◌, ◌+◌, ◌*◌, ◌++◌, length, true, vec_len, vec_capacity};
+ghost use Rattle.std.specs.List.{list_all};
+ghost use Rattle.sb_book.specs.Packing.{after_number, after_numbers, is_word, number_in, numbers_in, packed, packed_all};
+
+use sb_block::Words;
+use sb_call::Extended;
+
+// Appends a number, for whose bytes there must be room.
+#[tactic(auto, using(crate::proofs::PackedNumbers::packed_last, crate::proofs::PackedNumbers::packed_more))]
+fn put_number(bytes: &mut Vec<u8>, number: u64)
+    requires room { vec_len bytes.old + length (packed number) ≤ vec_capacity bytes.old }
+    ensures bytes { bytes.new.items ≡ bytes.old.items ++ packed number }
+    ensures len { vec_len bytes.new ≡ vec_len bytes.old + length (packed number) }
+    ensures room { vec_capacity bytes.new ≡ vec_capacity bytes.old }
+{
+    let mut left = number;
+    while left >= 128 {
+        bytes.push_reserved((left % 128) as u8 + 128);
+        left /= 128;
+    }
+    bytes.push_reserved(left as u8);
+}
+
+/// Appends numbers, one after another. There must be room for ten bytes of each. Does not allocate.
+#[tactic(auto, using(crate::proofs::PackedNumbers::packed_few))]
+pub(crate) fn put_numbers(bytes: &mut Vec<u8>, numbers: &[u64])
+    requires room { vec_len bytes.old + 10 * length numbers.now ≤ vec_capacity bytes.old }
+    ensures bytes { bytes.new.items ≡ bytes.old.items ++ packed_all numbers.now }
+    ensures len { vec_len bytes.new ≤ vec_len bytes.old + 10 * length numbers.now }
+    ensures room { vec_capacity bytes.new ≡ vec_capacity bytes.old }
+    ensures words { list_all is_word numbers.now ≡ true }
+{
+    let mut rest = numbers;
+    while let Some((number, later)) = rest.split_first() {
+        put_number(bytes, *number);
+        rest = later;
+    }
+}
+
+/// The number at the front of bytes, and the bytes after it.
+pub(crate) fn take_number(bytes: &[u8]) -> (u64, &[u8])
+    ensures number { result.0 ≡ number_in bytes.now }
+    ensures rest { result.1.now ≡ after_number bytes.now }
+{
+    let Some((byte, rest)) = bytes.split_first() else {
+        return (0, bytes);
+    };
+    let low = u64::from(*byte);
+    if low < 128 {
+        return (low, rest);
+    }
+    let (high, rest) = take_number(rest);
+    (high.saturating_mul(128).saturating_add(low - 128), rest)
+}
+
+/// The bytes after the given number of numbers.
+#[tactic(auto, using(crate::proofs::PackedNumbers::afters_more))]
+pub(crate) fn after_numbers(bytes: &[u8], count: usize) -> &[u8]
+    ensures { result.now ≡ after_numbers count bytes.now }
+{
+    let mut rest = bytes;
+    let mut left = count;
+    while left > 0 {
+        let (_, later) = take_number(rest);
+        rest = later;
+        left -= 1;
+    }
+    rest
+}
+
+/// The given number of words at the front of bytes, at most 64.
+#[tactic(auto, using(crate::proofs::PackedNumbers::numbers_more))]
+pub(crate) fn take_words(bytes: &[u8], count: usize) -> Words
+    requires few { count ≤ 64 }
+    ensures { result ≡ numbers_in count bytes.now }
+{
+    let mut words = Words::empty();
+    let mut rest = bytes;
+    let mut left = count;
+    while left > 0 {
+        let (word, later) = take_number(rest);
+        words.push(word);
+        rest = later;
+        left -= 1;
+    }
+    words
+}
+
+/// The given number of extended words at the front of bytes, at most seven.
+#[tactic(auto, using(crate::proofs::PackedNumbers::numbers_more))]
+pub(crate) fn take_ext(bytes: &[u8], count: usize) -> Extended
+    requires few { count ≤ 7 }
+    ensures { result ≡ numbers_in count bytes.now }
+{
+    let mut words = Extended::empty();
+    let mut rest = bytes;
+    let mut left = count;
+    while left > 0 {
+        let (word, later) = take_number(rest);
+        words.push(word);
+        rest = later;
+        left -= 1;
+    }
+    words
+}
