@@ -26,3 +26,10 @@ result_text (Unmet loads) = codes "unmet " ++ decimal loads
 abbrev pub result_line : Script → ℕ → ℕ → ℕ → StmtResult → List ℕ
 result_line script target thread place result =
     codes "result " ++ target_name script target ++ codes " " ++ decimal thread ++ codes " " ++ decimal place ++ codes " " ++ result_text result ++ codes "\n"
+
+-- what each line of the results of a thread begins with, and what follows
+abbrev pub result_start : Script → ℕ → ℕ → List ℕ
+result_start script target thread = codes "result " ++ target_name script target ++ codes " " ++ decimal thread ++ codes " "
+
+abbrev pub result_end : ℕ → StmtResult → List ℕ
+result_end place result = decimal place ++ codes " " ++ result_text result ++ codes "\n"

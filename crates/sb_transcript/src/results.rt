@@ -1,7 +1,7 @@
 // The line of a statement's result.
 ghost use Rattle.std.specs.Prelude.{◌≡◌, ◌++◌, codes, IfOk, OnOk};
 ghost use Rattle.std.specs.Fmt.{decimal};
-ghost use Rattle.sb_transcript.specs.ResultLines.{call_result_text, result_text, result_line};
+ghost use Rattle.sb_transcript.specs.ResultLines.{call_result_text, result_text, result_start, result_end, result_line};
 
 use crate::entries::{put_named, put_reply, put_target};
 use sb_items::NoMemory;
@@ -73,21 +73,39 @@ pub fn result_line(
     line_at(alloc, script, target, thread, place, result_)
 }
 
-/// Appends the line of a result, with its LF, for numbers as lists count them.
-pub fn put_result_line(
+/// Appends what each line of the results of a thread begins with, for numbers as lists count them.
+///
+/// # Errors
+/// `NoMemory` if there was none for it; then a part may have been appended.
+pub fn put_result_start(
     line: &mut Vec<u8>,
     script: &Script,
     target: usize,
     thread: usize,
-    place: usize,
-    result_: &StmtResult,
 ) -> Result<(), NoMemory>
-    ensures { OnOk result (line.new.items ≡ line.old.items ++ result_line script.now target thread place result_.now) }
+    ensures { OnOk result (line.new.items ≡ line.old.items ++ result_start script.now target thread) }
 {
     line.extend_from_slice(b"result ")?;
     put_target(line, script, target)?;
     put_named(line, b" ", thread as u64)?;
-    put_named(line, b" ", place as u64)?;
+    line.push(b' ')?;
+    Ok(())
+}
+
+/// Appends the line of a result, with its LF, which begins with `start`, for numbers as lists count them.
+///
+/// # Errors
+/// `NoMemory` if there was none for it; then a part may have been appended.
+pub fn put_result_line(
+    line: &mut Vec<u8>,
+    start: &[u8],
+    place: usize,
+    result_: &StmtResult,
+) -> Result<(), NoMemory>
+    ensures { OnOk result (line.new.items ≡ line.old.items ++ (start.now ++ result_end place result_.now)) }
+{
+    line.extend_from_slice(start)?;
+    put_decimal(line, place as u64)?;
     line.push(b' ')?;
     put_result(line, result_)?;
     line.push(b'\n')?;
@@ -105,7 +123,9 @@ pub fn line_at(
 ) -> Result<Vec<u8>, NoMemory>
     ensures { IfOk result (λ line. line.items ≡ result_line script.now target thread place result_.now) }
 {
+    let mut start = Vec::new(alloc);
+    put_result_start(&mut start, script, target, thread)?;
     let mut line = Vec::new(alloc);
-    put_result_line(&mut line, script, target, thread, place, result_)?;
+    put_result_line(&mut line, &start, place, result_)?;
     Ok(line)
 }

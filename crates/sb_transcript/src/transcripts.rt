@@ -3,13 +3,13 @@ ghost use Rattle.std.specs.Prelude.{◌≡◌, ◌++◌, ◌∷◌, ◌<◌, ◌
 ghost use Rattle.sb_book.specs.Reports.{result_count};
 ghost use Rattle.sb_transcript.specs.EntryLines.{entry_line};
 ghost use Rattle.sb_transcript.specs.LineBuffers.{cut_by, total};
-ghost use Rattle.sb_transcript.specs.ResultLines.{result_line};
+ghost use Rattle.sb_transcript.specs.ResultLines.{result_end};
 ghost use Rattle.sb_transcript.specs.Transcripts.{entry_lines, thread_lines, target_lines, result_lines, transcript_lines};
 
 use crate::counts::totals;
 use crate::entries::put_entry_line;
 use crate::line_buffers::LineBuffer;
-use crate::results::put_result_line;
+use crate::results::{put_result_line, put_result_start};
 use sb_book::{Entries, EntryView, Report, TargetResults, ThreadResults};
 use sb_items::NoMemory;
 use sb_statements::{Script, StmtResult};
@@ -58,29 +58,28 @@ fn put_entry_lines(
     Ok(())
 }
 
-// Appends the line of a result, and notes its length.
+// Appends the line of a result, which begins with `start`, and notes its length.
 #[tactic(auto, using(crate::proofs::CutLaws::cut_more, crate::proofs::CutLaws::total_more))]
 fn put_result(
     bytes: &mut Vec<u8>,
     lengths: &mut Vec<usize>,
-    script: &Script,
-    target: usize,
-    thread: usize,
+    start: &[u8],
     place: usize,
     result_: &StmtResult,
 ) -> Result<(), NoMemory>
     requires { total lengths.old.items ≡ length bytes.old.items }
     ensures whole { OnOk result (total lengths.new.items ≡ length bytes.new.items) }
     ensures lines { OnOk result (cut_by lengths.new.items bytes.new.items ≡ cut_by lengths.old.items bytes.old.items
-        ++ result_line script.now target thread place result_.now ∷ []) }
+        ++ (start.now ++ result_end place result_.now) ∷ []) }
 {
     let before = bytes.len();
-    put_result_line(bytes, script, target, thread, place, result_)?;
+    put_result_line(bytes, start, place, result_)?;
     lengths.push(bytes.len() - before)?;
     Ok(())
 }
 
 // Appends the lines of a thread.
+#[tactic(auto, using(crate::proofs::Beginnings::begun))]
 fn put_thread_lines(
     bytes: &mut Vec<u8>,
     lengths: &mut Vec<usize>,
@@ -94,8 +93,10 @@ fn put_thread_lines(
     ensures lines { OnOk result (cut_by lengths.new.items bytes.new.items ≡ cut_by lengths.old.items bytes.old.items
         ++ thread_lines script.now target thread 0 results.now) }
 {
+    let mut start = Vec::new(*bytes.allocator());
+    put_result_start(&mut start, script, target, thread)?;
     for (place, result_) in results.iter().enumerate() {
-        put_result(bytes, lengths, script, target, thread, place, result_)?;
+        put_result(bytes, lengths, &start, place, result_)?;
     }
     Ok(())
 }
