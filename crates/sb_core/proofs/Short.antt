@@ -3,7 +3,8 @@ use Rattle.std.proofs.Common.{◌≤◌, ℕ, List, [], ◌∷◌, length, subst
 use Rattle.sb_block.specs.declared.faults.BlockFault.{BlockFault}
 use Rattle.sb_block.specs.declared.faults.BlockFault.TheVariants.{TooManyParams, BadEnd, CountChanged, EndChanged, BadParamType, BadPlace, UnknownTag, WrongShape, BadSize, BadName}
 use Rattle.sb_block.specs.Copies.{mark_of}
-use Rattle.sb_book.specs.Histories.{IsLegalFrom, Setting, fault_words, reply_of, space_after}
+use Rattle.sb_book.specs.Histories.{IsLegalFrom, Setting, reply_of, space_after}
+use Rattle.sb_book.specs.Replies.{fault_words}
 use Rattle.sb_book.specs.declared.decisions.Decision.{Decision}
 use Rattle.sb_book.specs.declared.decisions.Decision.TheVariants.{Refused, Denied, Faked, Performed}
 use Rattle.sb_book.specs.declared.entries.Entry.{Entry}

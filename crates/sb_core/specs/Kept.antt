@@ -1,6 +1,7 @@
 -- What every world keeps: its numbers are in their ranges, each result is counted, and the turn is with the worker that is in Answer or
 -- Give. And what a world keeps of its script.
 use Rattle.std.specs.Prelude.{◌≡◌, ◌<◌, ◌≤◌, ℕ, ◌*◌, ◌==◌, Bool, true, false, is_none, List, length, map, slice_get, slice_index, Option, None, Some}
+pub use Rattle.sb_actor.specs.Places.{is_over}
 use Rattle.sb_actor.specs.Places.{statements_of, statement_at, block_of, mark_at, clean_channels, is_call}
 use Rattle.sb_actor.specs.Ranges.{IsSoundStage, IsSoundThreadStage}
 use Rattle.sb_actor.specs.ThreadStages.{ThreadStage, Try, Fill, Send, Wait, Fetch, Free, Abandon, Stray, Over, ThreadAt}
@@ -92,18 +93,6 @@ channel_in (Free c words) = Some c
 channel_in (Abandon c) = Some c
 channel_in (Stray loads most) = None
 channel_in Over = None
-
--- all statements have ended
-abbrev pub is_over : ThreadStage → Bool
-is_over (Try c rounds all_abandoned) = false
-is_over (Fill c i) = false
-is_over (Send c) = false
-is_over (Wait c loads) = false
-is_over (Fetch c words) = false
-is_over (Free c words) = false
-is_over (Abandon c) = false
-is_over (Stray loads most) = false
-is_over Over = true
 
 -- A thread is at a statement of its script, in a stage of that kind of statement, with the block of it if it is a call, or
 -- after the last one. It has the script's patience and its target's clean channels

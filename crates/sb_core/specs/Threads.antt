@@ -1,7 +1,8 @@
 -- A thread with the results of its statements that ended, and its step.
-use Rattle.std.specs.Prelude.{ℕ, ◌<◌, List, [], ◌∷◌, ◌++◌, length, Option, None, Some, IfSome, if◌then◌else◌}
+use Rattle.std.specs.Prelude.{ℕ, ◌<◌, Bool, List, [], ◌∷◌, ◌++◌, length, Option, None, Some, IfSome, if◌then◌else◌}
 use Rattle.std.specs.Option.{option_to_list}
-use Rattle.sb_actor.specs.Places.{is_finished}
+use Rattle.std.specs.List.{list_all}
+use Rattle.sb_actor.specs.Places.{is_finished, is_over}
 use Rattle.sb_actor.specs.ThreadStages.{ThreadAt, Over}
 use Rattle.sb_actor.specs.ThreadTable.{ThreadNext, thread_plan, thread_after}
 use Rattle.sb_statements.specs.Limits.{most_statements}
@@ -38,6 +39,10 @@ thread_step script s x = by_effect script x (on_word s (thread_plan script x.thr
 -- if the step of a thread ends its statement there is room for the result
 abbrev pub HasRoom : Script → SharedAt → RunAt → Type 0
 HasRoom script s x = IfSome (thread_after script x.thread (on_word s (thread_plan script x.thread)).seen).ended (λ r. length x.results < most_statements)
+
+-- each of a target's threads is after its last statement
+abbrev pub are_over : List RunAt → Bool
+are_over runs = list_all (λ x. is_over x.thread.stage) runs
 
 -- the first of a target's threads, in order, with a statement that has not ended, as target and thread
 abbrev pub unfinished_of : Script → List RunAt → Option (ℕ × ℕ)

@@ -1,6 +1,7 @@
 -- The world: what all actors share, and where each worker and each thread is, with the results so far. A step is one row of the
 -- worker's table or of the thread's, applied to the world.
 use Rattle.std.specs.Prelude.{ℕ, zero, suc, Bool, true, false, is_none, List, [], ◌∷◌, ◌++◌, length, map, slice_get, slice_index_or, slice_set, None}
+use Rattle.std.specs.List.{list_all}
 use Rattle.sb_actor.specs.Places.{thread_start}
 use Rattle.sb_actor.specs.WorkerStages.{WorkerAt, Look}
 use Rattle.sb_actor.specs.WorkerTable.{worker_plan, worker_after}
@@ -14,7 +15,7 @@ use Rattle.sb_statements.specs.declared.scripts.TargetScript.{TargetScript}
 use Rattle.sb_core.specs.Actors.{round_actors}
 use Rattle.sb_statements.specs.Actors.{thread_count}
 use Rattle.sb_core.specs.Shared.{SharedAt, Effect, on_worker}
-use Rattle.sb_core.specs.Threads.{RunAt, ThreadStep, no_run, thread_step, first_unfinished}
+use Rattle.sb_core.specs.Threads.{RunAt, ThreadStep, are_over, no_run, thread_step, first_unfinished}
 use Rattle.sb_core.specs.Words.{free_channels}
 
 -- the channel words, the holder of the turn and the book, which all share; the worker of each target; and the threads of each target
@@ -103,6 +104,10 @@ round script w = steps script (round_actors script.targets) w
 -- each statement of each thread has ended
 abbrev pub all_finished : Script → WorldAt → Bool
 all_finished script w = is_none (first_unfinished script w.threads)
+
+-- the same by the stages of the threads, in a world that runs its script
+abbrev pub all_over : WorldAt → Bool
+all_over w = list_all (λ runs. are_over runs) w.threads
 
 -- at most n rounds, while a thread is unfinished. A round is made whole before the threads are looked at again
 abbrev pub rounds : ℕ → Script → WorldAt → WorldAt

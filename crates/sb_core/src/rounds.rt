@@ -92,7 +92,7 @@ fn make_round<J: Judge>(
 ///
 /// # Errors
 /// `NoMemory` if there was none for a step.
-#[tactic(auto, using(crate::proofs::Folding::rounds_done, crate::proofs::Folding::rounds_more, crate::proofs::Stepping::rounds_there))]
+#[tactic(auto, using(crate::proofs::Finished::rounds_over, crate::proofs::Finished::rounds_busy, crate::proofs::Stepping::rounds_there))]
 pub(crate) fn make_rounds<J: Judge>(
     alloc: Global,
     judge: &J,
@@ -109,7 +109,7 @@ pub(crate) fn make_rounds<J: Judge>(
     ensures setting { world.new.shared.book.setting ≡ world.old.shared.book.setting }
 {
     let mut left = count;
-    while left > 0 && !world.all_finished(script) {
+    while left > 0 && !world.all_over() {
         make_round(alloc, judge, script, world, actors)?;
         left -= 1;
     }

@@ -4,7 +4,7 @@ ghost use Rattle.sb_actor.specs.ThreadTable.{thread_plan};
 ghost use Rattle.sb_statements.specs.CleanTables.{IsCleanTable};
 ghost use Rattle.sb_statements.specs.Actors.{thread_count};
 ghost use Rattle.sb_core.specs.Shared.{IsActThere};
-ghost use Rattle.sb_core.specs.Threads.{HasRoom, no_run, thread_step, unfinished_of};
+ghost use Rattle.sb_core.specs.Threads.{HasRoom, are_over, no_run, thread_step, unfinished_of};
 ghost use Rattle.sb_core.specs.Worlds.{first_run, first_runs};
 
 use crate::shared::Shared;
@@ -135,6 +135,13 @@ impl TargetThreads {
         ensures shared { shared.new ≡ (thread_step script.now shared.old (slice_index_or self.old thread no_run)).shared }
     {
         self.runs[thread as usize].step(script, shared);
+    }
+
+    /// Whether each thread is after its last statement.
+    pub(crate) fn are_over(&self) -> bool
+        ensures { result ≡ are_over self.now }
+    {
+        self.runs.iter().all(|run| run.state.is_over())
     }
 
     /// The first thread with a statement that has not ended, as target and thread.

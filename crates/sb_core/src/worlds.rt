@@ -11,7 +11,7 @@ ghost use Rattle.sb_core.specs.Drains.{IsBeginning, drained};
 ghost use Rattle.sb_core.specs.Kept.{IsRunning, IsWorld};
 ghost use Rattle.sb_core.specs.OfScripts.{IsOfScript};
 ghost use Rattle.sb_core.specs.Threads.{first_unfinished};
-ghost use Rattle.sb_core.specs.Worlds.{start_world, worker_at, worker_step, step, all_finished};
+ghost use Rattle.sb_core.specs.Worlds.{start_world, worker_at, worker_step, step, all_over};
 
 use crate::drains::settle;
 use crate::shared::Shared;
@@ -192,11 +192,11 @@ impl World {
         None
     }
 
-    /// Whether each statement of each thread has ended.
-    pub(crate) fn all_finished(&self, script: &SoundScript) -> bool
-        ensures { result ≡ all_finished script.now self.now }
+    /// Whether each thread is after its last statement.
+    pub(crate) fn all_over(&self) -> bool
+        ensures { result ≡ all_over self.now }
     {
-        self.unfinished(script).is_none()
+        self.threads.iter().all(|threads| threads.are_over())
     }
 
     // How many workers there are: one for each target, at most 8.
