@@ -9,7 +9,7 @@ ghost use Rattle.sb_names.specs.Numbers.{is_given};
 ghost use Rattle.sb_names.specs.Objects.{IsNameBy};
 ghost use Rattle.sb_event.specs.Kinds.{kind_number, state_number};
 ghost use Rattle.sb_event.specs.Laws.{is_granted};
-ghost use Rattle.sb_event.specs.Events.{AreEvents, no_events, number_of, on_event, create, create_by, open_by_name, can_start, started};
+ghost use Rattle.sb_event.specs.Events.{AreEvents, no_events, number_of, on_event, create, create_by, open_by_name, can_start, started, with_event};
 
 use crate::kinds::{EventKind, state_number};
 use crate::rows::EventRow;
@@ -120,6 +120,34 @@ impl EventService {
         }
     }
 
+    // Puts a new event under a name that is free, and returns its number, which is one more than the count of events made before.
+    fn put_new(&mut self, name: &[u16], kind: EventKind, initial: bool) -> Result<u64, NoMemory>
+        requires name { is_name_of name.now ≡ true }
+        requires absent { found self.old.rows name.now ≡ None }
+        requires made { self.old.made < 2 ^ 63 }
+        ensures number { IfOk result (λ number. number ≡ self.old.made + 1) }
+        ensures service { OnOk result (self.new ≡ with_event self.old name.now kind initial) }
+        ensures err { OnErr result (self.new ≡ self.old) }
+    {
+        names_fold();
+        numbers_are_kept::<EventRow>();
+        puts_are_found::<EventRow>();
+        puts_keep_rows::<EventRow>();
+        let alloc = *self.names.allocator();
+        let key = fold_name(alloc, name)?;
+        let kept = Wide::from_units(alloc, key.as_units())?;
+        self.names.reserve(1)?;
+        let number = self.made() + 1;
+        let row = EventRow {
+            number,
+            kind,
+            initial,
+        };
+        self.rows.add(name, key, row)?;
+        self.names.push_reserved(kept);
+        Ok(number)
+    }
+
     // Makes an event under a name that is free, and grants a handle on it.
     fn create_new(
         &mut self,
@@ -136,8 +164,7 @@ impl EventService {
         ensures err { OnErr result ((self.new ≡ self.old) × (handles.new.table ≡ handles.old.table)) }
     {
         handles.reserve()?;
-        self.start(name, kind, initial)?;
-        let number = self.made();
+        let number = self.put_new(name, kind, initial)?;
         let handle = handles.grant_reserved(target, on_event(number, Access::empty()));
         Ok(showing(SUCCESS, handle, kind, initial))
     }
@@ -224,24 +251,10 @@ impl EventService {
         ensures memory { OnErr result (can_start self.old name.now ≡ true) }
         ensures err { OnErr result (self.new ≡ self.old) }
     {
-        names_fold();
-        numbers_are_kept::<EventRow>();
-        puts_are_found::<EventRow>();
-        puts_keep_rows::<EventRow>();
         if !self.can_start(name) {
             return Ok(false);
         }
-        let alloc = *self.names.allocator();
-        let key = fold_name(alloc, name)?;
-        let kept = Wide::from_units(alloc, key.as_units())?;
-        self.names.reserve(1)?;
-        let row = EventRow {
-            number: self.made() + 1,
-            kind,
-            initial,
-        };
-        self.rows.add(name, key, row)?;
-        self.names.push_reserved(kept);
+        self.put_new(name, kind, initial)?;
         Ok(true)
     }
 }

@@ -1,65 +1,22 @@
 -- A handle fewer on the pipe of a number, which is found by its name.
 use Rattle.std.proofs.Common.{◌≡◌, ◌-◌, ℕ, Bool, true, false, cond, refl, sym, subst, ◌∙◌, ap, List, [], ◌∷◌, ◌==◌, nat_le, if◌then◌else◌}
 use Rattle.std.proofs.lemmas.Bool.{false≢true}
-use Rattle.std.proofs.lemmas.Map.Keys.{sorted_head, sorted_tail}
 use Rattle.std.specs.Prelude.{None, Some, not, ◌||◌, ◌&&◌}
-use Rattle.std.specs.List.{AllByRecursion, list_all}
-use Rattle.std.specs.Cmp.Lexicographic.{texts_ties}
-use Rattle.std.specs.Map.{keys_of, lookup, remove_entry, set_value}
-use Rattle.std.specs.Ordering.{is_eq}
-use Rattle.std.specs.declared.cmp.Ordering.TheVariants.{Less}
+use Rattle.std.specs.List.{list_all}
+use Rattle.std.specs.Map.{lookup, remove_entry, set_value}
 use Rattle.sb_names.specs.Keys.{key_of}
 use Rattle.sb_names.specs.Maps.{Rows, Rises, is_key, found, without, replaced}
-use Rattle.sb_pipe.specs.Keeping.{StandsUnder}
+use Rattle.sb_names.specs.Laws.{OutIsOut}
+use Rattle.sb_pipe.specs.Keeping.{StandsUnder, is_numbered}
 use Rattle.sb_pipe.specs.Pipes.{fewer}
 use Rattle.sb_pipe.specs.declared.rows.PipeRow.{PipeRow}
-use Rattle.sb_pipe.proofs.RowCases.{by_unit, equal_keys, some_of}
+use Rattle.sb_pipe.proofs.NamedLemmas.{own_key}
+use Rattle.sb_pipe.proofs.NumberedLemmas.{numbered_nowhere, numbered_there, numbered_replaced, stands_fewer}
+use Rattle.sb_pipe.proofs.RowCases.{some_of}
 
 module _ (key : List ℕ) (number : ℕ) where
   abbrev under : List ℕ × PipeRow → Bool
   under row = not (row.1.number == number) || is_key key row.0
-
-  absent : (rows : Rows PipeRow) → list_all under rows ≡ true → lookup (is_key key) rows ≡ None → fewer rows number ≡ rows
-  absent [] u f = refl
-  absent (row ∷ rows) u f = by (row.1.number == number) refl (is_key key row.0) u f (absent rows)
-    where
-      by : (s : Bool) → (row.1.number == number) ≡ s → (t : Bool) → ((not s || t) && list_all under rows) ≡ true
-          → cond t (Some row.1) (lookup (is_key key) rows) ≡ None
-          → (list_all under rows ≡ true → lookup (is_key key) rows ≡ None → fewer rows number ≡ rows)
-          → fewer (row ∷ rows) number ≡ row ∷ rows
-      by s e true u f i = absurd (cc)
-      by true e false u f i = absurd (false≢true u)
-      by false e false u f i = rw e (ap (λ more. row ∷ more) (i u f))
-
-  -- rows after that of the key have other keys
-  after : (rows : Rows PipeRow) → AllByRecursion (λ other. by_unit key other ≡ Less) (keys_of rows) → list_all under rows ≡ true → fewer rows number ≡ rows
-  after [] a u = refl
-  after (row ∷ rows) a u = by (row.1.number == number) refl (is_key key row.0) (texts_ties key row.0 ∙ ap is_eq a.0) u (after rows a.1)
-    where
-      by : (s : Bool) → (row.1.number == number) ≡ s → (t : Bool) → t ≡ false → ((not s || t) && list_all under rows) ≡ true
-          → (list_all under rows ≡ true → fewer rows number ≡ rows) → fewer (row ∷ rows) number ≡ row ∷ rows
-      by s e true t u i = absurd (false≢true (sym t))
-      by true e false t u i = absurd (false≢true u)
-      by false e false t u i = rw e (ap (λ more. row ∷ more) (i u))
-
-  other : (pipe : PipeRow) → (pipe.number == number) ≡ false → (rows : Rows PipeRow) → Rises rows → list_all under rows ≡ true
-      → lookup (is_key key) rows ≡ Some pipe → fewer rows number ≡ rows
-  other pipe n [] r u f = refl
-  other pipe n (row ∷ rows) r u f =
-      by (row.1.number == number) refl (is_key key row.0) refl u f (other pipe n rows (sorted_tail by_unit row.0 (keys_of rows) r))
-    where
-      by : (s : Bool) → (row.1.number == number) ≡ s → (t : Bool) → is_key key row.0 ≡ t → ((not s || t) && list_all under rows) ≡ true
-          → cond t (Some row.1) (lookup (is_key key) rows) ≡ Some pipe
-          → (list_all under rows ≡ true → lookup (is_key key) rows ≡ Some pipe → fewer rows number ≡ rows)
-          → fewer (row ∷ rows) number ≡ row ∷ rows
-      by true e true t u f i = absurd (false≢true (sym n ∙ ap (λ x. x.number == number) (sym (some_of row.1 pipe f)) ∙ e))
-      by true e false t u f i = absurd (false≢true u)
-      by false e true t u f i =
-          let same : row.0 ≡ key = sym (equal_keys key row.0 t) in
-          let rest : AllByRecursion (λ other. by_unit key other ≡ Less) (keys_of rows) =
-          subst (λ k. AllByRecursion (λ other. by_unit k other ≡ Less) (keys_of rows)) same (sorted_head by_unit row.0 (keys_of rows) r) in
-          rw e (ap (λ more. row ∷ more) (after rows rest u))
-      by false e false t u f i = rw e (ap (λ more. row ∷ more) (i u f))
 
   abbrev dropped : PipeRow → Rows PipeRow → Rows PipeRow
   dropped pipe rows =
@@ -86,15 +43,6 @@ module _ (key : List ℕ) (number : ℕ) where
           rw (e, t) (ap (λ more. row ∷ more) (i u f)
           ∙ behind (nat_le pipe.handles 1) (remove_entry (is_key key) rows) (set_value (is_key key) rows (record pipe { handles = pipe.handles - 1 })))
 
--- if no pipe has the name
-pub dropped_nowhere : (rows : Rows PipeRow) (name : List ℕ) (number : ℕ) → found rows name ≡ None → StandsUnder name number rows → fewer rows number ≡ rows
-dropped_nowhere rows name number f u = absent (key_of name) number rows u f
-
--- if the pipe of that name has another number
-pub dropped_for_another : (rows : Rows PipeRow) (name : List ℕ) (number : ℕ) (pipe : PipeRow) → found rows name ≡ Some pipe → (pipe.number == number) ≡ false
-    → Rises rows → StandsUnder name number rows → fewer rows number ≡ rows
-dropped_for_another rows name number pipe f n r u = other (key_of name) number pipe n rows r u f
-
 -- if it has more handles
 pub dropped_one : (rows : Rows PipeRow) (name : List ℕ) (number : ℕ) (pipe : PipeRow) → found rows name ≡ Some pipe → (pipe.number == number) ≡ true
     → nat_le pipe.handles 1 ≡ false → StandsUnder name number rows → fewer rows number ≡ replaced rows name (record pipe { handles = pipe.handles - 1 })
@@ -106,3 +54,21 @@ pub dropped_last : (rows : Rows PipeRow) (name : List ℕ) (number : ℕ) (pipe 
     → nat_le pipe.handles 1 ≡ true → StandsUnder name number rows → fewer rows number ≡ without rows name
 dropped_last rows name number pipe f n last u = own (key_of name) number pipe n rows u f
     ∙ ap (λ b. if b then without rows name else replaced rows name (record pipe { handles = pipe.handles - 1 })) last
+
+-- the pipe of the name is that of the number
+pub own_number : (rows : Rows PipeRow) (name : List ℕ) (number : ℕ) (pipe : PipeRow) → found rows name ≡ Some pipe → Rises rows → StandsUnder name number rows
+    → is_numbered rows number ≡ true → (pipe.number == number) ≡ true
+own_number rows name number pipe f r u there = sym (numbered_there rows name number pipe f r u) ∙ there
+
+-- it is there while it has handles
+pub there_still : (rows : Rows PipeRow) (name : List ℕ) (number : ℕ) (pipe : PipeRow) → found rows name ≡ Some pipe → is_numbered rows number ≡ true
+    → is_numbered (replaced rows name (record pipe { handles = pipe.handles - 1 })) number ≡ true
+there_still rows name number pipe f there = numbered_replaced rows name pipe (record pipe { handles = pipe.handles - 1 }) number f refl ∙ there
+
+-- and gone with its last one
+pub gone_with_last : OutIsOut PipeRow → (rows : Rows PipeRow) (name : List ℕ) (number : ℕ) → fewer rows number ≡ without rows name → Rises rows
+    → StandsUnder name number rows → is_numbered (without rows name) number ≡ false
+gone_with_last outs rows name number last r u =
+    numbered_nowhere (without rows name) name number
+    (outs rows name name r ∙ ap (λ b. if b then None else found rows name) (own_key (key_of name)))
+    (subst (StandsUnder name number) last (stands_fewer rows name number u))

@@ -100,7 +100,7 @@ numbered_put rows name value n f =
     later row rows more false i = i
 
 -- with another count of handles
-numbered_replaced : (rows : Rows PipeRow) (name : List ℕ) (old value : PipeRow) (n : ℕ) → found rows name ≡ Some old → value.number ≡ old.number
+pub numbered_replaced : (rows : Rows PipeRow) (name : List ℕ) (old value : PipeRow) (n : ℕ) → found rows name ≡ Some old → value.number ≡ old.number
     → is_numbered (replaced rows name value) n ≡ is_numbered rows n
 numbered_replaced rows name old value n f e =
     set_cases (λ rows more. is_numbered more n ≡ is_numbered rows n) (key_of name) old value

@@ -1,10 +1,10 @@
 // The pipes of the namespace.
-ghost use Rattle.std.specs.Prelude.{◌≡◌, ◌<◌, ◌≤◌, ◌+◌, ◌-◌, ◌^◌, true, false, None, Some, IfOk, OnOk, OnErr, MatchOption, is_some, length, slice_set, if◌then◌else◌};
+ghost use Rattle.std.specs.Prelude.{◌≡◌, ◌<◌, ◌≤◌, ◌+◌, ◌-◌, ◌^◌, true, false, None, Some, IfOk, OnOk, OnErr, MatchOption, is_some, not, length, slice_set, if◌then◌else◌};
 ghost use Rattle.sb_wide.specs.Names.{is_name_of};
 ghost use Rattle.sb_call.specs.Statuses.{success};
 ghost use Rattle.sb_handles.specs.Effects.{IsDone};
 ghost use Rattle.sb_handles.specs.Tables.{with_handle};
-ghost use Rattle.sb_names.specs.Maps.{found, put};
+ghost use Rattle.sb_names.specs.Maps.{found};
 ghost use Rattle.sb_pipe.specs.Keeping.{AreNames, is_numbered, name_at, StandsUnder};
 ghost use Rattle.sb_pipe.specs.Pipes.{Agrees, ArePipes, no_pipes, on_pipe, is_invalid, is_alike, create, fewer, closed, with_pipe, with_instance};
 
@@ -14,7 +14,7 @@ use bitflags::Flags;
 use sb_call::{ACCESS_DENIED, Answer, INSTANCE_NOT_AVAILABLE, INVALID_PARAMETER, SUCCESS};
 use sb_handles::{Access, HandleTable, Held, Object, Service, Sharing, pipe_handles_are_counted};
 use sb_items::NoMemory;
-use sb_names::{NameMap, names_fold};
+use sb_names::{NameMap, fold_name, names_fold, out_is_out};
 use sb_wide::Wide;
 use std::alloc::Global;
 use std::marker::Model;
@@ -97,61 +97,27 @@ fn forget(names: &mut Vec<Option<Wide>>, number: u64)
     names[(number - 1) as usize] = None;
 }
 
-// Adds a new pipe under its name, and grants a handle on it.
-fn put_pipe(
-    rows: &mut NameMap<PipeRow>,
-    handles: &mut HandleTable,
-    target: u32,
-    name: &[u16],
-    row: PipeRow,
-) -> Result<u64, NoMemory>
-    ensures handle { IfOk result (λ handle. handle ≡ handles.old.table.granted + 1) }
-    ensures rows { OnOk result (rows.new ≡ put rows.old name.now row) }
-    ensures handles { OnOk result (handles.new.table ≡ with_handle handles.old.table target (on_pipe row.number)) }
-    ensures err { OnErr result ((rows.new ≡ rows.old) × (handles.new.table ≡ handles.old.table)) }
-{
-    handles.reserve()?;
-    rows.insert(name, row)?;
-    Ok(handles.grant_reserved(target, on_pipe(row.number)))
-}
-
-// Takes one handle from the pipe of this number, which has this name if it is there.
-#[tactic(auto, using(crate::proofs::DropLemmas::dropped_nowhere, crate::proofs::DropLemmas::dropped_for_another, crate::proofs::DropLemmas::dropped_one, crate::proofs::DropLemmas::dropped_last))]
-fn drop_handle(rows: &mut NameMap<PipeRow>, name: &[u16], number: u64)
-    requires { StandsUnder name.now number rows.old }
-    ensures { rows.new ≡ fewer rows.old number }
+// Takes one handle from the pipe of this number, which is there under this name. Returns whether it was the last one, so that
+// the pipe is gone.
+#[tactic(auto, using(crate::proofs::NumberedLemmas::numbered_nowhere, crate::proofs::DropLemmas::own_number, crate::proofs::DropLemmas::dropped_one, crate::proofs::DropLemmas::there_still))]
+fn drop_handle(rows: &mut NameMap<PipeRow>, name: &[u16], number: u64) -> bool
+    requires under { StandsUnder name.now number rows.old }
+    requires there { is_numbered rows.old number ≡ true }
+    ensures rows { rows.new ≡ fewer rows.old number }
+    ensures gone { result ≡ not (is_numbered rows.new number) }
 {
     rows.establish_order();
+    out_is_out::<PipeRow>();
     let Some(row) = rows.find(name) else {
-        return;
+        return false;
     };
-    if row.number != number {
-        return;
-    }
     if row.handles > 1 {
-        let left = row.handles - 1;
-        rows.replace(
-            name,
-            PipeRow {
-                handles: left,
-                ..row
-            },
-        );
+        let handles = row.handles - 1;
+        rows.replace(name, PipeRow { handles, ..row });
+        false
     } else {
         rows.remove(name);
-    }
-}
-
-// Whether the pipe of this number is there, which then has this name.
-#[tactic(auto, using(crate::proofs::NumberedLemmas::numbered_nowhere, crate::proofs::NumberedLemmas::numbered_there))]
-fn is_there(rows: &NameMap<PipeRow>, name: &[u16], number: u64) -> bool
-    requires { StandsUnder name.now number rows.now }
-    ensures { result ≡ is_numbered rows.now number }
-{
-    rows.establish_order();
-    match rows.find(name) {
-        Some(row) => row.number == number,
-        None => false,
+        true
     }
 }
 
@@ -221,18 +187,21 @@ impl PipeService {
     {
         names_fold();
         let alloc = *self.names.allocator();
+        let key = fold_name(alloc, name)?;
         let kept = Wide::from_units(alloc, name)?;
         self.names.reserve(1)?;
+        handles.reserve()?;
+        let number = self.made() + 1;
         let row = PipeRow {
-            number: self.names.len() as u64 + 1,
+            number,
             mode,
             form,
             instances,
             handles: 1,
         };
-        let handle = put_pipe(&mut self.rows, handles, target, name, row)?;
+        self.rows.add(name, key, row)?;
         self.names.push_reserved(Some(kept));
-        Ok(handle)
+        Ok(handles.grant_reserved(target, on_pipe(number)))
     }
 
     /// Makes a pipe of this name and grants a handle on it, or grants one more handle on the pipe that is there. The statuses
@@ -292,8 +261,7 @@ impl PipeService {
         ensures { self.new ≡ closed self.old number }
     {
         if let Some(name) = name_of(&self.names, number) {
-            drop_handle(&mut self.rows, name, number);
-            if !is_there(&self.rows, name, number) {
+            if drop_handle(&mut self.rows, name, number) {
                 forget(&mut self.names, number);
             }
         }

@@ -4,15 +4,15 @@ use Rattle.sb_names.specs.Keys.{key_of}
 use Rattle.sb_names.specs.Maps.{found}
 use Rattle.sb_event.specs.declared.rows.EventRow.{EventRow}
 use Rattle.sb_event.proofs.KeptNames.{kept_more}
-use Rattle.sb_event.proofs.events.EventService.start.Goals as goal
+use Rattle.sb_event.proofs.events.EventService.put_new.Goals as goal
 
 pub invariant_of-self-3 : goal.invariant_of-self-3
 invariant_of-self-3 c =
     let rows = c.self.inside.rows in
     let names = c.self.inside.names.items in
     let name = c.args.name.now in
-    let row : EventRow = record { number = c.made.result + 1; kind = c.args.kind; initial = c.args.initial } in
-    let own : c.made.result + 1 ≡ length names + 1 = search rules in
+    let row : EventRow = record { number = c.made-number.result + 1; kind = c.args.kind; initial = c.args.initial } in
+    let own : c.made-number.result + 1 ≡ length names + 1 = search rules in
     let free : found rows name ≡ None = search rules in
     let after : c.push_reserved.new.self.items ≡ names ++ key_of name ∷ [] = search rules in
     kept_more c.puts_are_found.ensures c.puts_keep_rows.ensures c.numbers_are_kept.ensures.puts c.names_fold.ensures rows c.add.new.self names
