@@ -1,14 +1,14 @@
 -- The policies of targets, each with its program.
 use Rattle.std.specs.Prelude.{nat_le, slice_index_or}
 use Rattle.std.specs.List.{list_all}
-use Rattle.std.proofs.Common.{◌≡◌, ◌<◌, ℕ, zero, suc, true, List, [], ◌∷◌, ◌&&◌, length, map, refl, ap, arith}
+use Rattle.std.proofs.Common.{◌≡◌, ◌∙◌, ◌+◌, ◌<◌, ◌≤◌, ℕ, zero, suc, true, List, [], ◌∷◌, ◌++◌, ◌&&◌, drop, length, map, refl, sym, ap, arith}
 use Rattle.std.proofs.lemmas.Bool.{and_parts}
-use Rattle.std.proofs.lemmas.List.{length-map}
+use Rattle.std.proofs.lemmas.List.{append_assoc, drop_more, length-append, length-map}
 use Rattle.sb_statements.specs.declared.scripts.TargetScript.{TargetScript}
 use Rattle.sb_rule.specs.Verdicts.{policy_at}
 use Rattle.sb_rule.specs.WellMade.{is_well_made, are_well_made, are_named_apart}
 use Rattle.sb_rule.specs.declared.policies.Policy.{Policy}
-use Rattle.sb_compile.specs.Compiling.{program_of, policies_of_targets}
+use Rattle.sb_compile.specs.Compiling.{Compiled, program_of, policies_of_targets}
 use Rattle.sb_compile.specs.Targets.{nothing, policies_in}
 use Rattle.sb_compile.proofs.Members.{both}
 
@@ -46,3 +46,19 @@ numbered policies (t ∷ targets) = ap (λ l. policy_at policies t.policy ∷ l)
 
 pub each_made : (policies : List Policy) → are_well_made policies ≡ true → list_all is_well_made policies ≡ true
 each_made policies h = (and_parts (nat_le (length policies) 8 && are_named_apart policies) (list_all is_well_made policies) h).1
+
+-- a program more, of the first policy that is left
+pub next_compiled : (policies : List Policy) (before after whole : List Compiled) (policy : Policy) → length before < length policies
+    → policy ≡ slice_index_or policies (length before) policy → after ≡ before ++ program_of policy ∷ []
+    → before ++ map program_of (drop (length before) policies) ≡ whole
+    → (after ++ map program_of (drop (length after) policies) ≡ whole) × (length after ≤ length policies)
+next_compiled policies before after whole policy inside is pushed e =
+    let counted : length after ≡ length before + 1 = ap length pushed ∙ length-append before (program_of policy ∷ []) in
+    let left = map program_of (drop (length before + 1) policies) in (
+      (λ i. pushed i ++ map program_of (drop (counted i) policies))
+          ∙ append_assoc before (program_of policy ∷ []) left
+          ∙ ap (λ p. before ++ program_of p ∷ left) is
+          ∙ ap (λ l. before ++ map program_of l) (sym (drop_more policies (length before) policy inside))
+          ∙ e,
+      omega (arith, counted, inside),
+    )

@@ -1,9 +1,7 @@
 // The code of a call, judged by the rules that an index leaves.
 ghost use Rattle.std.specs.Prelude.{◌≡◌, ◌≤◌, true, length, IfOk, None, Some};
-ghost use Rattle.std.specs.List.{list_all};
 ghost use Rattle.sb_call.specs.Arguments.{fits};
 ghost use Rattle.sb_rule.specs.Limits.{most_rules};
-ghost use Rattle.sb_rule.specs.WellMade.{is_well_made_rule};
 ghost use Rattle.sb_opcode.specs.Faults.{fault_of};
 ghost use Rattle.sb_opcode.specs.Groups.{rules_of};
 ghost use Rattle.sb_opcode.specs.Meaning.{meaning};
@@ -15,7 +13,7 @@ use sb_call::{Arg, CallTag};
 use sb_index::{Index, RuleSet};
 use sb_items::NoMemory;
 use sb_opcode::{Code, RuleCodes, Verified};
-use sb_rule::{Rules, Verdict};
+use sb_rule::{Verdict, WellMadePolicy};
 use std::alloc::Global;
 use std::marker::Model;
 
@@ -48,20 +46,18 @@ impl Model for CallCode {
 // The index of the rules for a tag, if there are enough of them and it can leave out some.
 fn index_of(
     alloc: Global,
-    rules: &Rules,
+    policy: &WellMadePolicy<'_>,
     tag: CallTag,
     code: &RuleCodes,
 ) -> Result<Option<Index>, NoMemory>
-    requires few { length rules.now ≤ most_rules }
-    requires well_made { list_all is_well_made_rule rules.now ≡ true }
-    requires code { code.now.code ≡ code_of rules.now tag }
+    requires code { code.now.code ≡ code_of policy.now.rules tag }
     requires tag { code.now.tag ≡ tag }
     ensures { IfOk result (λ index. IsIndexed code.now index) }
 {
     if code.len() < FEWEST_INDEXED {
         return Ok(None);
     }
-    let index = Index::new(alloc, rules, tag)?;
+    let index = Index::new(alloc, &policy.policy().rules, tag)?;
     if index.is_empty() {
         Ok(None)
     } else {
@@ -70,20 +66,23 @@ fn index_of(
 }
 
 impl CallCode {
-    /// The code that was compiled of the rules for a tag.
+    /// The code that was compiled of the rules of a policy for a tag.
     ///
     /// # Errors
     /// `NoMemory` if there was none for the places of the rules or the index.
-    pub fn new(alloc: Global, rules: &Rules, tag: CallTag, code: Code) -> Result<CallCode, NoMemory>
-        requires few { length rules.now ≤ most_rules }
-        requires well_made { list_all is_well_made_rule rules.now ≡ true }
-        requires code { code ≡ code_of rules.now tag }
+    pub fn new(
+        alloc: Global,
+        policy: &WellMadePolicy<'_>,
+        tag: CallTag,
+        code: Code,
+    ) -> Result<CallCode, NoMemory>
+        requires code { code ≡ code_of policy.now.rules tag }
         requires faultless { fault_of tag code ≡ None }
         ensures code { IfOk result (λ call. call.code ≡ code) }
         ensures tag { IfOk result (λ call. call.tag ≡ tag) }
     {
         let code = RuleCodes::new(alloc, Verified::faultless(tag, code))?;
-        let index = index_of(alloc, rules, tag, &code)?;
+        let index = index_of(alloc, policy, tag, &code)?;
         Ok(CallCode { rules: code, index })
     }
 

@@ -15,7 +15,7 @@ use crate::rules::code_of;
 use sb_call::{Arg, CallTag, ShortName, every_tag, number_of, tags_and_numbers};
 use sb_items::NoMemory;
 use sb_opcode::Verified;
-use sb_rule::{Policy, Verdict};
+use sb_rule::{Verdict, WellMadePolicy};
 use std::alloc::Global;
 use std::marker::Model;
 
@@ -46,19 +46,22 @@ impl Model for Program {
 }
 
 // The code of a call, which has no fault by the law of compiled code. None if the call has no rules.
-fn compile_call(alloc: Global, policy: &Policy, tag: CallTag) -> Result<Option<CallCode>, NoMemory>
-    requires { is_well_made policy.now ≡ true }
+fn compile_call(
+    alloc: Global,
+    policy: &WellMadePolicy<'_>,
+    tag: CallTag,
+) -> Result<Option<CallCode>, NoMemory>
     ensures code { IfOk result (λ call. code_in_call call ≡ code_of policy.now.rules tag) }
     ensures tag { IfOk result (λ call. is_for_tag tag call ≡ true) }
     ensures memory { OnErr result (code_of policy.now.rules tag ≢ []) }
 {
     compiled_code_is_faultless();
-    let rules = &policy.rules;
-    let code = code_of(alloc, rules, tag)?;
+    policy.policy();
+    let code = code_of(alloc, policy, tag)?;
     if code.is_empty() {
         return Ok(None);
     }
-    Ok(Some(CallCode::new(alloc, rules, tag, code)?))
+    Ok(Some(CallCode::new(alloc, policy, tag, code)?))
 }
 
 /// The program of a well-made policy. Each condition becomes a group of opcodes; rules for a call keep their order, each
@@ -66,8 +69,7 @@ fn compile_call(alloc: Global, policy: &Policy, tag: CallTag) -> Result<Option<C
 ///
 /// # Errors
 /// `NoMemory` if there was none for the program.
-pub fn compile(alloc: Global, policy: &Policy) -> Result<Program, NoMemory>
-    requires { is_well_made policy.now ≡ true }
+pub fn compile(alloc: Global, policy: &WellMadePolicy<'_>) -> Result<Program, NoMemory>
     ensures { IfOk result (λ program. program ≡ program_of policy.now) }
 {
     let mut calls = Vec::new(alloc);
@@ -75,7 +77,7 @@ pub fn compile(alloc: Global, policy: &Policy) -> Result<Program, NoMemory>
         calls.push(compile_call(alloc, policy, *tag)?)?;
     }
     Ok(Program {
-        name: policy.name.copy(),
+        name: policy.policy().name.copy(),
         calls,
     })
 }

@@ -2,7 +2,6 @@
 ghost use Rattle.std.specs.Prelude.{◌≡◌, ◌≢◌, ◌+◌, ◌*◌, ◌<◌, ◌≤◌, ◌^◌, ◌++◌, ◌∷◌, [], true, bit_or, length, map, OnOk, OnErr, IfOk};
 ghost use Rattle.std.specs.List.{flat_map, list_all};
 ghost use Rattle.sb_pattern.specs.declared.cells.Cell.TheVariants.{Lit};
-ghost use Rattle.sb_rule.specs.Limits.{most_rules};
 ghost use Rattle.sb_rule.specs.WellMade.{is_sensible, is_well_made_rule};
 ghost use Rattle.sb_opcode.specs.Opcodes as op;
 ghost use Rattle.sb_opcode.specs.declared.opcodes.Seek.TheVariants.{Skip};
@@ -16,7 +15,7 @@ use bitflags::Flags;
 use sb_call::CallTag;
 use sb_items::NoMemory;
 use sb_opcode::{Code, OpKind, Options};
-use sb_rule::{Cond, Rule, Test};
+use sb_rule::{Cond, Rule, Test, WellMadePolicy};
 use std::alloc::Global;
 
 // Appends the opcodes of a test.
@@ -82,14 +81,16 @@ fn push_rule(code: &mut Code, rule: &Rule) -> Result<(), NoMemory>
 
 // The code of the rules that are for a call. If no rule is, it does not allocate.
 #[tactic(auto, using(crate::proofs::Steps::some_code))]
-pub(crate) fn code_of(alloc: Global, rules: &[Rule], tag: CallTag) -> Result<Code, NoMemory>
-    requires few { length rules.now ≤ most_rules }
-    requires made { list_all is_well_made_rule rules.now ≡ true }
-    ensures code { IfOk result (λ code. code ≡ code_of rules.now tag) }
-    ensures memory { OnErr result (code_of rules.now tag ≢ []) }
+pub(crate) fn code_of(
+    alloc: Global,
+    policy: &WellMadePolicy<'_>,
+    tag: CallTag,
+) -> Result<Code, NoMemory>
+    ensures code { IfOk result (λ code. code ≡ code_of policy.now.rules tag) }
+    ensures memory { OnErr result (code_of policy.now.rules tag ≢ []) }
 {
     let mut code = Code::new(alloc);
-    let mut rest = rules;
+    let mut rest = policy.policy().rules.as_slice();
     while let Some((rule, later)) = rest.split_first() {
         if rule.is_for(tag) {
             push_rule(&mut code, rule)?;

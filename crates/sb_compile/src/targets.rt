@@ -9,7 +9,7 @@ ghost use Rattle.sb_compile.specs.Targets.{nothing, policies_in};
 use crate::programs::{Program, compile};
 use sb_call::{Arg, CallTag};
 use sb_items::{Items, NoMemory};
-use sb_rule::{Judge, Policies, Policy, Verdict, WellMadePolicies};
+use sb_rule::{Judge, Policies, Verdict, WellMadePolicies};
 use sb_statements::{Script, TargetScript};
 use std::alloc::Global;
 use std::marker::Model;
@@ -43,15 +43,12 @@ impl<'a> Model for Programs<'a> {
 }
 
 // The programs of policies.
-fn compile_all(alloc: Global, policies: &[Policy]) -> Result<ProgramList, NoMemory>
-    requires { list_all is_well_made policies.now ≡ true }
-    ensures { IfOk result (λ programs. programs ≡ map program_of policies.now) }
+fn compile_all(alloc: Global, policies: &WellMadePolicies) -> Result<ProgramList, NoMemory>
+    ensures { IfOk result (λ programs. programs ≡ map program_of policies.now.list) }
 {
     let mut items = Vec::new(alloc);
-    let mut rest = policies;
-    while let Some((policy, later)) = rest.split_first() {
-        items.push(compile(alloc, policy)?)?;
-        rest = later;
+    while let Some(policy) = policies.get(items.len()) {
+        items.push(compile(alloc, &policy)?)?;
     }
     Ok(ProgramList::new(items))
 }
@@ -81,11 +78,10 @@ impl<'a> Programs<'a> {
     ) -> Result<Programs<'a>, NoMemory>
         ensures { IfOk result (λ programs. programs.policies ≡ policies_of_targets policies.now.list script.now.targets) }
     {
-        let policies = policies.policies();
-        let programs = compile_all(alloc, &policies.list)?;
+        let programs = compile_all(alloc, policies)?;
         let numbers = numbers_of(alloc, script.targets.as_slice())?;
         Ok(Programs {
-            policies,
+            policies: policies.policies(),
             programs,
             numbers,
         })

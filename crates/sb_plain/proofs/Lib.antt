@@ -5,7 +5,6 @@ pub mod Auditing
 pub mod Linking
 pub mod LocalRuns
 pub mod Readings
-pub mod Ready
 pub mod Texts
 pub mod Checking
 pub mod Replaying

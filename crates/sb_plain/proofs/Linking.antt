@@ -1,6 +1,6 @@
 -- What `linked` comes to.
 use Rattle.std.proofs.Common.{◌≡◌, refl, sym, subst, ℕ, inl, inr, List, Option, lit≤}
-use Rattle.std.specs.Prelude.{IfSome, Result, Ok, Err, ◌∷◌, []}
+use Rattle.std.specs.Prelude.{IfSome, Result, Ok, Err}
 use Rattle.sb_link.specs.LinkTexts.{LinkFault}
 use Rattle.sb_link.specs.declared.links.Link.{Link}
 use Rattle.sb_outside.specs.Outside.{Held}

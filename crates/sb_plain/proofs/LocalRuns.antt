@@ -27,7 +27,6 @@ use Rattle.sb_plain.specs.Ends.{Contents, End, Plain}
 use Rattle.sb_plain.specs.Local.{IsThinnedTo, LocalRunsAreSerial, local_end, local_run_end, reported_after, sent_schedule_after, text_after, thinned}
 use Rattle.sb_plain.specs.Replay.{listed, schedule_of, whole_run}
 use Rattle.sb_plain.specs.Sound.{AreEndsSound, IsSound, RunsAreSound}
-use Rattle.sb_plain.specs.declared.outcomes.Status.{Status}
 use Rattle.sb_plain.proofs.Readings.{bound, same_end, script_known, steps_there}
 use Rattle.sb_plain.proofs.Replaying.{two_or_more}
 use Rattle.sb_plain.proofs.ScriptEnds.{each_end}

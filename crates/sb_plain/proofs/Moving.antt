@@ -21,7 +21,6 @@ use Rattle.sb_plain.specs.Dup.{dup_end, moves_after, moves_by, moves_end, moves_
 use Rattle.sb_plain.specs.Ends.{End, Plain}
 use Rattle.sb_plain.specs.Replay.{whole_run}
 use Rattle.sb_plain.specs.Sound.{AreEndsSound, IsSound, RunsAreSound}
-use Rattle.sb_plain.specs.declared.outcomes.Status.{Status}
 use Rattle.sb_plain.proofs.Readings.{can_run}
 use Rattle.sb_plain.proofs.ScriptEnds.{each_end}
 use Rattle.sb_plain.proofs.Suiting.{EndsPlainly, IsPlainStatus, IsSuited, RefusesFor, next, of_text, script_suited, third_refuses, unfinished_plain}

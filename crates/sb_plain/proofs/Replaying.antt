@@ -10,7 +10,6 @@ use Rattle.sb_statements.specs.declared.scripts.Script.{Script}
 use Rattle.sb_plain.specs.Ends.{End, Plain}
 use Rattle.sb_plain.specs.Replay.{listed, replay_end, run_end, run_text, schedule_after, whole_run}
 use Rattle.sb_plain.specs.Sound.{AreEndsSound, IsSound, RunsAreSound}
-use Rattle.sb_plain.specs.declared.outcomes.Status.{Status}
 use Rattle.sb_plain.proofs.Readings.{can_run, steps_there}
 use Rattle.sb_plain.proofs.ScriptEnds.{each_end}
 use Rattle.sb_plain.proofs.Suiting.{EndsPlainly, IsPlainStatus, IsSuited, schedule_refuses, script_suited, unfinished_plain}

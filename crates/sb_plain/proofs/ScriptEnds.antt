@@ -8,7 +8,7 @@ use Rattle.sb_statements.specs.declared.scripts.Script.{Script}
 use Rattle.sb_text.specs.Steps.{◌>>=◌}
 use Rattle.sb_plain.specs.Coming.{IsFound, IsFoundFor, IsLater, IsLaterBy, IsOpened, IsOpenedBy, IsRead, IsReadBy, ReportedEnd, reported}
 use Rattle.sb_plain.specs.Contents.{Content, Refusal, policies_in, refused, script_in}
-use Rattle.sb_plain.specs.Ends.{Contents, End, IsHeld, without}
+use Rattle.sb_plain.specs.Ends.{Contents, End, without}
 use Rattle.sb_plain.specs.ScriptEnds.{opened_of, script_end, third_by}
 use Rattle.sb_plain.specs.declared.outcomes.Status.TheVariants.{Missing}
 use Rattle.sb_plain.proofs.Carrying.{Known}

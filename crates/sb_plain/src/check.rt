@@ -1,8 +1,6 @@
 // The command `check`: policies are read, and printed with the listings of their programs.
-ghost use Rattle.std.specs.Prelude.{◌≡◌, ◌≤◌, [], ◌∷◌, true, IfOk, OnOk};
-ghost use Rattle.std.specs.List.{list_all};
+ghost use Rattle.std.specs.Prelude.{◌≡◌, ◌≤◌, [], ◌∷◌, IfOk, OnOk};
 ghost use Rattle.sb_outside.specs.Outside.{Rose, joined};
-ghost use Rattle.sb_rule.specs.WellMade.{is_well_made};
 ghost use Rattle.sb_plain.specs.Check.{check_end, checked, listings};
 ghost use Rattle.sb_plain.specs.Coming.{IsEndCaused, IsFound};
 
@@ -12,32 +10,31 @@ use crate::refusals::Refused;
 use sb_compile::compile;
 use sb_items::{Items, NoMemory};
 use sb_outside::{Bytes, Files};
-use sb_rule::{Policy, WellMadePolicies};
+use sb_rule::WellMadePolicies;
 use sb_ruletext::print_policies;
 use std::alloc::Global;
 
 // The listings of the programs of policies, one after another.
-fn listings(alloc: Global, policies: &[Policy]) -> Result<Vec<u8>, NoMemory>
-    requires { list_all is_well_made policies.now ≡ true }
-    ensures { IfOk result (λ text. text.items ≡ listings policies.now) }
+fn listings(alloc: Global, policies: &WellMadePolicies) -> Result<Vec<u8>, NoMemory>
+    ensures { IfOk result (λ text. text.items ≡ listings policies.now.list) }
 {
+    policies.establish_well_made();
     let mut text = Vec::new(alloc);
-    let mut policies = policies;
-    while let Some((policy, later)) = policies.split_first() {
-        let listing = compile(alloc, policy)?.listing(alloc)?;
+    let mut number = 0;
+    while let Some(policy) = policies.get(number) {
+        let listing = compile(alloc, &policy)?.listing(alloc)?;
         text.extend_from_slice(&listing)?;
-        policies = later;
+        number += 1;
     }
     Ok(text)
 }
 
 // The two texts of a check: the policies, and the listings of their programs.
-#[tactic(auto, using(crate::proofs::Ready::each_made))]
 fn check_texts(alloc: Global, policies: &WellMadePolicies) -> Result<Items<Bytes>, NoMemory>
     ensures { IfOk result (λ texts. joined texts ≡ checked policies.now.list) }
 {
     let printed = print_policies(alloc, policies)?;
-    let listed = listings(alloc, policies.policies().list.as_slice())?;
+    let listed = listings(alloc, policies)?;
     let mut texts = Items::empty(alloc);
     texts.push(Bytes::new(printed))?;
     texts.push(Bytes::new(listed))?;

@@ -12,7 +12,7 @@ loop-rule-preserved-in_ok-push_rule c =
     let rest = c.loop-rule.rest.now in
     let cut : rest ≡ first ∷ later = search rules in
     let mine : eqb (number_of first.tag) (number_of c.args.tag) ≡ true = search rules in (
-      rule_pushed c.args.tag first later rest c.loop-rule.code c.push_rule.new.code (code_of c.args.rules.now c.args.tag) mine cut c.in_ok-push_rule.ensures.ok c.loop-rule.invariant.0,
+      rule_pushed c.args.tag first later rest c.loop-rule.code c.push_rule.new.code (code_of c.args.policy.now.rules c.args.tag) mine cut c.in_ok-push_rule.ensures.ok c.loop-rule.invariant.0,
       search rules,
       left_passes is_well_made_rule first later rest cut c.loop-rule.invariant.2,
     )

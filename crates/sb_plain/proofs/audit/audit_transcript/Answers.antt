@@ -3,7 +3,7 @@ use Rattle.sb_outside.specs.Outside.{Held, Rose}
 use Rattle.sb_plain.proofs.Carrying.{starved}
 use Rattle.sb_plain.proofs.ScriptEnds.{finished, third_read, third_unread, unfinished, unopened}
 use Rattle.sb_plain.specs.Audit.{answer_after, answer_in, audit_end, audited_end}
-use Rattle.sb_plain.specs.Coming.{IsFound, IsLater, IsRead, IsScheduled, IsTextCaused, ReportedEnd, reported}
+use Rattle.sb_plain.specs.Coming.{IsFound, IsRead, IsTextCaused, ReportedEnd}
 use Rattle.sb_plain.specs.Contents.{Refusal, refused}
 use Rattle.sb_plain.specs.Ends.{Plain}
 use Rattle.sb_plain.specs.declared.outcomes.Status.TheVariants.{NoMemory}

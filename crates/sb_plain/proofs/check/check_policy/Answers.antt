@@ -1,4 +1,4 @@
-use Rattle.std.proofs.Common.{◌≡◌, ◌∷◌, [], ap, refl, sym, subst, rules, List, ℕ, None}
+use Rattle.std.proofs.Common.{◌≡◌, ◌∷◌, [], refl, sym, subst, rules, None}
 use Rattle.std.specs.Prelude.{Result, Ok, Err, Some}
 use Rattle.sb_plain.specs.Check.{check_end}
 use Rattle.sb_plain.specs.Coming.{IsFound, ReportedEnd}

@@ -5,14 +5,14 @@ use Rattle.sb_statements.specs.declared.scripts.Script.{Script}
 use Rattle.sb_plain.proofs.Carrying.{starved}
 use Rattle.sb_plain.proofs.Moving.{dup_caused}
 use Rattle.sb_plain.proofs.ScriptEnds.{finished, third_read, third_unread, unfinished, unopened}
-use Rattle.sb_plain.specs.Coming.{IsFound, IsLater, IsRead, IsScheduled, IsTextCaused, ReportedEnd, reported}
+use Rattle.sb_plain.specs.Coming.{IsFound, IsRead, IsTextCaused, ReportedEnd}
 use Rattle.sb_plain.specs.Contents.{Refusal, refused}
 use Rattle.sb_plain.specs.Contents.{no_schedule}
 use Rattle.sb_plain.specs.Dup.{dup_end, moves_after, moves_end, moves_in}
 use Rattle.sb_plain.specs.Ends.{Plain}
 use Rattle.sb_plain.specs.Replay.{whole_run}
 use Rattle.sb_plain.specs.declared.outcomes.Status.TheVariants.{NoMemory}
-use Rattle.std.proofs.Common.{◌≡◌, ◌∷◌, [], ap, refl, sym, subst, rules, ℕ, List, Option}
+use Rattle.std.proofs.Common.{◌≡◌, ◌∷◌, [], ap, refl, sym, subst, rules, List, Option}
 use Rattle.std.specs.Prelude.{Result, Ok, Err}
 use Rattle.sb_plain.proofs.dup.dup_script.Goals as goal
 

@@ -2,12 +2,12 @@ use Rattle.sb_link.specs.declared.links.Link.{Link}
 use Rattle.sb_outside.specs.Outside.{Held, Rose}
 use Rattle.sb_plain.proofs.Carrying.{starved}
 use Rattle.sb_plain.proofs.ScriptEnds.{finished, third_read, third_unread, unfinished, unopened}
-use Rattle.sb_plain.specs.Coming.{IsFound, IsLater, IsRead, IsScheduled, IsTextCaused, ReportedEnd, reported}
+use Rattle.sb_plain.specs.Coming.{IsFound, IsRead, IsTextCaused, ReportedEnd}
 use Rattle.sb_plain.specs.Contents.{Refusal, refused}
 use Rattle.sb_plain.specs.Ends.{Plain}
 use Rattle.sb_plain.specs.Linked.{calls_end, linked_end, links_after, links_in}
 use Rattle.sb_plain.specs.declared.outcomes.Status.TheVariants.{NoMemory}
-use Rattle.std.proofs.Common.{◌≡◌, ◌∷◌, [], ap, refl, sym, subst, rules, ℕ, List, Option}
+use Rattle.std.proofs.Common.{◌≡◌, ◌∷◌, [], ap, refl, sym, subst, rules, List, Option}
 use Rattle.std.specs.Prelude.{Result, Ok, Err}
 use Rattle.sb_plain.proofs.linked.linked_script.Goals as goal
 

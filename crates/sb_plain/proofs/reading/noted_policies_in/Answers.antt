@@ -1,5 +1,5 @@
 use Rattle.std.proofs.Common.{◌≡◌, sym, subst, rules, List, ℕ}
-use Rattle.std.specs.Prelude.{Result, Ok, Err}
+use Rattle.std.specs.Prelude.{Ok, Err}
 use Rattle.sb_rule.specs.declared.policies.Policies.{Policies}
 use Rattle.sb_ruletext.specs.PolicyTexts.{reading}
 use Rattle.sb_outside.specs.Outside.{Rose}

@@ -3,13 +3,13 @@ use Rattle.sb_outside.specs.Outside.{Held, Rose}
 use Rattle.sb_statements.specs.declared.scripts.Script.{Script}
 use Rattle.sb_plain.proofs.Carrying.{starved}
 use Rattle.sb_plain.proofs.ReadFiles.{run_caused}
-use Rattle.sb_plain.proofs.ScriptEnds.{finished, third_read, third_unread, unfinished, unopened}
-use Rattle.sb_plain.specs.Coming.{IsFound, IsLater, IsRead, IsScheduled, IsTextCaused, ReportedEnd, reported}
+use Rattle.sb_plain.proofs.ScriptEnds.{finished, unfinished, unopened}
+use Rattle.sb_plain.specs.Coming.{IsFound, IsScheduled, IsTextCaused, ReportedEnd}
 use Rattle.sb_plain.specs.Contents.{Refusal, refused}
 use Rattle.sb_plain.specs.Ends.{Plain}
 use Rattle.sb_plain.specs.Replay.{listed, replay_end, run_end, schedule_after, whole_run}
 use Rattle.sb_plain.specs.declared.outcomes.Status.TheVariants.{NoMemory}
-use Rattle.std.proofs.Common.{◌≡◌, ◌∷◌, [], ap, refl, sym, subst, rules, ℕ, List, Option}
+use Rattle.std.proofs.Common.{◌≡◌, ◌∷◌, ap, refl, sym, subst, rules, Option}
 use Rattle.std.specs.Prelude.{Result, Ok, Err}
 use Rattle.sb_plain.proofs.replay.replay_script.Goals as goal
 

@@ -1,6 +1,5 @@
 use Rattle.std.proofs.Common.{◌≡◌, rules}
 use Rattle.sb_book.specs.Histories.{setting_of}
-use Rattle.sb_local.specs.Thinning.{thin}
 use Rattle.sb_plain.proofs.LocalRuns.{thinned_to}
 use Rattle.sb_plain.proofs.local.LocalScript.of.Goals as goal
 
