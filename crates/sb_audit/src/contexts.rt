@@ -1,10 +1,9 @@
 // What a transcript is audited against.
-ghost use Rattle.std.specs.Prelude.{◌≡◌, ◌<◌, length, slice_get, true};
+ghost use Rattle.std.specs.Prelude.{◌≡◌, ◌<◌, length};
 ghost use Rattle.sb_actor.specs.Places.{clean_channels};
 ghost use Rattle.sb_actor.specs.ThreadTable.{has_clean};
 ghost use Rattle.sb_statements.specs.Scripts.{is_clean};
-ghost use Rattle.sb_statements.specs.Soundness.{is_sound};
-ghost use Rattle.sb_statements.specs.Units.{script_has_units};
+ghost use Rattle.sb_statements.specs.SoundScripts.{IsSoundScript};
 ghost use Rattle.sb_audit.specs.Audited.{policy_of};
 ghost use Rattle.sb_audit.specs.Clauses.{has_channel};
 
@@ -57,8 +56,7 @@ impl<'a> Context<'a> {
 
     /// What holds of the script. It does nothing.
     pub(crate) fn establish_sound(&self)
-        ensures sound { is_sound self.now.script ≡ true }
-        ensures units { script_has_units self.now.script ≡ true }
+        ensures { IsSoundScript self.now.script }
     {
         self.script().establish_sound();
     }

@@ -1,6 +1,5 @@
 // The reply that a decision leads to.
-ghost use Rattle.std.specs.Prelude.{◌≡◌, ◌∷◌, [], Some, true, IfOk, OnOk};
-ghost use Rattle.sb_book.specs.Histories.{fault_words};
+ghost use Rattle.std.specs.Prelude.{◌≡◌, Some, true, IfOk, OnOk};
 ghost use Rattle.sb_call.specs.Arguments.{fits};
 ghost use Rattle.sb_kernel.specs.Namespaces.{perform};
 ghost use Rattle.sb_audit.specs.Before.{performed_of, space_with};
@@ -11,20 +10,11 @@ ghost use Rattle.sb_audit.specs.Kept.{shown_fits};
 
 use crate::arguments::same_numbers;
 use crate::dues::ReplyDue;
-use sb_block::BlockFault;
+use sb_book::{DENIED_OUTCOME, FAKED_OUTCOME, PERFORMED_OUTCOME, REFUSED_OUTCOME, fault_words};
 use sb_call::{ACCESS_DENIED, Arg, CallTag, Extended, INVALID_PARAMETER, SUCCESS};
 use sb_items::NoMemory;
 use sb_kernel::Kernel;
 use sb_lineread::{ShownDecision, ShownReply};
-
-// The outcome of a reply: to a call that was performed, to a block that was refused, to a call that was denied, and to one that was faked.
-const PERFORMED: u64 = 0;
-
-const REFUSED: u64 = 1;
-
-const DENIED: u64 = 2;
-
-const FAKED: u64 = 3;
 
 /// Whether lines show the same reply.
 pub(crate) fn same_reply(a: &ShownReply, b: &ShownReply) -> bool
@@ -34,52 +24,6 @@ pub(crate) fn same_reply(a: &ShownReply, b: &ShownReply) -> bool
         && a.status == b.status
         && a.handle == b.handle
         && same_numbers(a.ext.as_slice(), b.ext.as_slice())
-}
-
-// A fault's number and its value.
-fn two_words(number: u64, value: u64) -> Extended
-    ensures { result ≡ number ∷ value ∷ [] }
-{
-    let mut words = Extended::empty();
-    words.push(number);
-    words.push(value);
-    words
-}
-
-// A fault's number and its two values.
-fn three_words(number: u64, seen: u64, copied: u64) -> Extended
-    ensures { result ≡ number ∷ seen ∷ copied ∷ [] }
-{
-    let mut words = two_words(number, seen);
-    words.push(copied);
-    words
-}
-
-// The number of the fault that has no value.
-fn wrong_shape() -> Extended
-    ensures { result ≡ 8 ∷ [] }
-{
-    let mut words = Extended::empty();
-    words.push(8);
-    words
-}
-
-// The extended words of a reply to a block that was refused.
-fn fault_words(fault: BlockFault) -> Extended
-    ensures { result ≡ fault_words fault }
-{
-    match fault {
-        BlockFault::TooManyParams(count) => two_words(1, count),
-        BlockFault::BadEnd(end) => two_words(2, end),
-        BlockFault::CountChanged(seen, copied) => three_words(3, seen, copied),
-        BlockFault::EndChanged(seen, copied) => three_words(4, seen, copied),
-        BlockFault::BadParamType(param) => two_words(5, u64::from(param)),
-        BlockFault::BadPlace(param) => two_words(6, u64::from(param)),
-        BlockFault::UnknownTag(tag) => two_words(7, tag),
-        BlockFault::WrongShape => wrong_shape(),
-        BlockFault::BadSize(param) => two_words(9, u64::from(param)),
-        BlockFault::BadName(param) => two_words(10, u64::from(param)),
-    }
 }
 
 // A reply without a handle.
@@ -107,7 +51,7 @@ fn perform(
 {
     let answer = kernel.perform(target, tag, args)?;
     Ok(ShownReply {
-        outcome: PERFORMED,
+        outcome: PERFORMED_OUTCOME,
         status: u64::from(answer.status),
         handle: answer.handle,
         ext: answer.ext,
@@ -129,10 +73,14 @@ pub(crate) fn reply_due(
             let reply = perform(kernel, target, *tag, args.as_slice())?;
             Ok(reply)
         }
-        ShownDecision::Refused(fault) => Ok(fixed(REFUSED, INVALID_PARAMETER, fault_words(*fault))),
+        ShownDecision::Refused(fault) => Ok(fixed(
+            REFUSED_OUTCOME,
+            INVALID_PARAMETER,
+            fault_words(*fault),
+        )),
         ShownDecision::NoRule(_) | ShownDecision::Denied { .. } | ShownDecision::Alarmed { .. } =>
-            Ok(fixed(DENIED, ACCESS_DENIED, Extended::empty())),
-        ShownDecision::Faked { .. } => Ok(fixed(FAKED, SUCCESS, Extended::empty())),
+            Ok(fixed(DENIED_OUTCOME, ACCESS_DENIED, Extended::empty())),
+        ShownDecision::Faked { .. } => Ok(fixed(FAKED_OUTCOME, SUCCESS, Extended::empty())),
     }
 }
 
