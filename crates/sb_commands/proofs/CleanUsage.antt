@@ -1,5 +1,5 @@
 -- The message of arguments that are no command is clean.
-use Rattle.std.proofs.Common.{◌≡◌, ℕ, suc, ◌-◌, ◌==◌, Bool, true, false, cond, ◌&&◌, List, [], ◌∷◌, ◌++◌, length, drop, Option, None, Some, codes, refl, subst}
+use Rattle.std.proofs.Common.{◌≡◌, ℕ, suc, ◌-◌, ◌==◌, Bool, true, false, cond, ◌&&◌, List, [], ◌∷◌, ◌++◌, length, drop, Option, None, Some, codes, refl, subst, sym, inl, inr}
 use Rattle.std.specs.Prelude.{⊤, is_some, Result, Ok, Err}
 use Rattle.std.specs.List.{list_all}
 use Rattle.std.specs.Fmt.{decimal}
@@ -12,7 +12,7 @@ use Rattle.sb_glyphs.specs.Tokens.{quoted_bytes}
 use Rattle.sb_commands.specs.Commands.{Command, with_values, with_form, command_of}
 use Rattle.sb_commands.specs.Forms.{Bounded, Choice, Form, Place, File, Number, form_by}
 use Rattle.sb_commands.specs.NumberWords.{is_number}
-use Rattle.sb_commands.specs.Usage.{Fault, NoCommand, UnknownCommand, UnknownOption, OptionTwice, OptionBetween, NoOptionNumber, BadOptionNumber, NoFileName, BadNumber, ExtraWord, Missing, Values, FlagWord, Apart, Joined, Other, flag_word, Cut, cut_apart, cut_by, cut_option, dash_by, dash_fault, is_dash, kind_fault, place_fault, place_name, unless_fault, cut_places, last_by, cut_last, cut_end, extra_in, values_unless, with_end, with_last, with_places, with_option, read_by}
+use Rattle.sb_commands.specs.Usage.{Fault, NotUtf8, NoCommand, UnknownCommand, UnknownOption, OptionTwice, OptionBetween, NoOptionNumber, BadOptionNumber, NoFileName, BadNumber, ExtraWord, Missing, Values, FlagWord, Apart, Joined, Other, flag_word, Cut, cut_apart, cut_by, cut_option, dash_by, dash_fault, is_dash, kind_fault, place_fault, place_name, unless_fault, cut_places, last_by, cut_last, cut_end, extra_in, values_unless, with_end, with_last, with_places, with_option, read_by}
 use Rattle.sb_commands.specs.UsageLaws.{UsageMessagesAreClean}
 use Rattle.sb_commands.specs.UsageMessages.{word_at, quoted_word, command_text, bounds_text, name_text, wrong_text, flag_text, number_text, fault_text, usage_line, usage_message}
 
@@ -25,6 +25,7 @@ abbrev HasCleanChoice : Choice → Type 0
 HasCleanChoice choice = Spelled choice.flag × HasCleanNumber choice.number
 
 abbrev HasCleanNames : Fault → Type 0
+HasCleanNames NotUtf8 = ⊤
 HasCleanNames NoCommand = ⊤
 HasCleanNames UnknownCommand = ⊤
 HasCleanNames (UnknownOption at) = ⊤
@@ -63,6 +64,7 @@ number_clean : (choice : Choice) (why : List ℕ) → HasCleanChoice choice → 
 number_clean choice why h hw = three (flag_text choice) choice.number.name why (flag_clean choice h) h.1 hw
 
 text_clean : (fault : Fault) (words : List (List ℕ)) → HasCleanNames fault → Spelled (fault_text fault words)
+text_clean NotUtf8 words h = plain (codes "an argument is not UTF-8") refl
 text_clean NoCommand words h = plain (codes "a command is missing") refl
 text_clean UnknownCommand words h =
     both (codes "unknown command ") (quoted_word 0 words) (plain (codes "unknown command ") refl) (quoted_bytes_clean (word_at 0 words))
@@ -273,4 +275,5 @@ command_fine [] = tt
 command_fine (name ∷ words) = form_fine words (form_by name) (forms_clean name)
 
 pub usage_messages_clean : UsageMessagesAreClean
-usage_messages_clean words fault e = message_clean fault words (subst (Fine {A = Command}) e (command_fine words))
+usage_messages_clean words fault (inl is) = message_clean fault words (subst HasCleanNames (sym is) tt)
+usage_messages_clean words fault (inr is) = message_clean fault words (subst (Fine {A = Command}) is (command_fine words))

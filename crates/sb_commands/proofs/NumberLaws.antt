@@ -1,14 +1,14 @@
 -- What is read suits its form: names of files, and numbers within their bounds.
-use Rattle.std.proofs.Common.{◌≡◌, ◌∙◌, refl, sym, ap, subst, true, false, ℕ, ◌≤◌, Bool, List, [], ◌∷◌, Option, Some, None, if◌then◌else◌, ◌&&◌, not, ◌==◌, true≢false, arith, ◌-◌}
+use Rattle.std.proofs.Common.{◌≡◌, ◌∙◌, refl, sym, ap, subst, true, false, ℕ, ◌≤◌, Bool, List, [], ◌∷◌, Option, Some, None, if◌then◌else◌, ◌&&◌, not, true≢false, arith, ◌-◌}
 use Rattle.std.specs.Prelude.{⊤, Result, Ok, Err, nat_le, nat_lt, suc, length, is_some, ◌^◌}
 use Rattle.std.specs.Option.{option_or}
 use Rattle.std.proofs.lemmas.Bool.Decides.{nat_tests}
 use Rattle.clap.specs.Words.{Text}
 use Rattle.sb_text.specs.Numbers.{decimal_of}
 use Rattle.sb_commands.specs.CommandLaws.{is_file_name, suit_places, suits, suits_last, suits_option, suits_place}
-use Rattle.sb_commands.specs.Commands.{AreWithin, Command, HasNumbers, HasValues, IsOptionWithin, IsWithin, placed}
+use Rattle.sb_commands.specs.Commands.{AreWithin, Command, HasNumbers, IsOptionWithin, IsWithin, placed}
 use Rattle.sb_commands.specs.Forms.{Choice, File, Form, Number, Place, form_by, form_with}
-use Rattle.sb_commands.specs.NumberWords.{is_number, is_within, number_of, number_or_zero}
+use Rattle.sb_commands.specs.NumberWords.{is_number, is_within, number_or_zero}
 use Rattle.sb_commands.specs.Usage.{Apart, Cut, Fault, FlagWord, Joined, Other, Values, BadOptionNumber, at_place, cut_apart, cut_by, cut_end, cut_last, cut_option, cut_places, extra_in, flag_word, option_number, read_after, read_by, values_unless, with_end, with_last, with_option, with_places}
 use Rattle.sb_commands.proofs.Listed.{fits_places, form_is, is_regular, is_short, regular}
 use Rattle.sb_commands.proofs.ReadSteps.{IsKind, IsPlaced, IsPlainWord, OnLast, OnLeft, both, last_left, places_left}

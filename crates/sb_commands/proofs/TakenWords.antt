@@ -1,7 +1,6 @@
 -- The library takes arguments that are a command, and finds their values.
-use Rattle.std.proofs.Common.{◌≡◌, ◌⊎◌, inl, inr, ◌∙◌, refl, sym, ap, subst, codes, true, false, ℕ, Bool, List, [], ◌∷◌, ◌++◌, Option, Some, None, true≢false, nat_eq, if◌then◌else◌}
+use Rattle.std.proofs.Common.{◌≡◌, ◌⊎◌, inl, inr, ◌∙◌, refl, sym, ap, subst, codes, true, false, ℕ, Bool, List, [], ◌∷◌, ◌++◌, Option, Some, None, true≢false}
 use Rattle.std.specs.Prelude.{⊤, Result, Ok, Err, IsOk, length, suc}
-use Rattle.std.specs.Cmp.Lexicographic.{pointwise}
 use Rattle.clap.specs.Words.{App, HasMatchesOf, Text, first_of, first_value, found_of, is_simple, matches_of, takes}
 use Rattle.clap.proofs.WalkLemmas.{first_value-rows}
 use Rattle.clap.specs.declared.ArgMatches.{ArgMatches}

@@ -1,13 +1,13 @@
 -- Worked cases: which command arguments are, and the fault of others.
-use Rattle.std.proofs.Common.{◌≡◌, refl, ℕ, List, Option, codes, [], ◌∷◌, Some, None}
+use Rattle.std.proofs.Common.{◌≡◌, refl, ℕ, List, Option, codes, [], ◌∷◌, ◌++◌, Some, None}
 use Rattle.std.specs.Prelude.{Ok, Err}
 use Rattle.sb_commands.specs.Commands.{command_of}
 use Rattle.sb_commands.specs.Forms.{Choice}
-use Rattle.sb_commands.specs.Usage.{Values, NoCommand, UnknownCommand, UnknownOption, OptionTwice, OptionBetween, NoOptionNumber, BadOptionNumber, NoFileName, BadNumber, ExtraWord, Missing}
+use Rattle.sb_commands.specs.Usage.{Values, NotUtf8, NoCommand, UnknownCommand, UnknownOption, OptionTwice, OptionBetween, NoOptionNumber, BadOptionNumber, NoFileName, BadNumber, ExtraWord, Missing}
 use Rattle.sb_commands.specs.declared.works.PlainWork.TheVariants.{Audit, Check, Dup, Linked, Local, Replay}
 use Rattle.sb_commands.specs.declared.works.ThreadedWork.TheVariants.{Run}
 use Rattle.sb_commands.specs.declared.works.Work.TheVariants.{Plain, Threaded}
-use Rattle.sb_commands.specs.UsageMessages.{fault_text}
+use Rattle.sb_commands.specs.UsageMessages.{fault_text, usage_line, usage_message}
 
 abbrev workers : Choice
 workers = record { flag = codes "workers"; number = record { name = codes "N"; low = 1; high = 8 }; default = 2 }
@@ -83,3 +83,6 @@ too_many_targets = refl
 
 number_missing : fault_text (NoOptionNumber 3 workers) [] ≡ codes "--workers: N is missing"
 number_missing = refl
+
+not_utf8 : usage_message NotUtf8 [] ≡ codes "sandbox: an argument is not UTF-8\n" ++ usage_line
+not_utf8 = refl

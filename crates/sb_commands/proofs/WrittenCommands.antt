@@ -1,6 +1,6 @@
 -- What is written of a command is read back, and what is read can be written.
 use Rattle.std.proofs.Common.{◌≡◌, ◌∙◌, refl, sym, ap, subst, codes, true, false, ℕ, ◌≤◌, ◌<◌, ◌^◌, ◌-◌, Bool, List, [], ◌∷◌, ◌++◌, Option, Some, None, nat_eq, take, drop, if◌then◌else◌, ◌&&◌, not, ◌==◌, true≢false, arith}
-use Rattle.std.specs.Prelude.{⊤, Result, Ok, Err, nat_le, nat_lt, suc, length, option_to_list}
+use Rattle.std.specs.Prelude.{⊤, Result, Ok, Err, nat_le, nat_lt, suc, length, option_to_list, IsOkAnd}
 use Rattle.std.specs.Fmt.{decimal}
 use Rattle.std.specs.List.{list_all}
 use Rattle.std.specs.Option.{option_or}
@@ -10,11 +10,12 @@ use Rattle.std.proofs.lemmas.List.{drop_all, take_all}
 use Rattle.clap.specs.Words.{Text}
 use Rattle.sb_text.specs.NumberLaws.{DecimalsAreRead}
 use Rattle.sb_text.specs.Numbers.{decimal_of}
-use Rattle.sb_commands.specs.CommandLaws.{IsWritable, ReadCommandsAreWritable, WrittenCommandsAreRead, is_empty, is_file_name, suit_places, suits, suits_last, suits_option, suits_place, written_option, written_places, written_values}
-use Rattle.sb_commands.specs.Commands.{Command, command_of, placed, with_form, with_values}
+use Rattle.sb_commands.specs.CommandLaws.{IsMake, IsWritable, ReadCommandsAreWritable, WrittenCommandsAreRead, WrittenNumbersAreRead, is_empty, is_file_name, suit_places, suits, suits_last, suits_option, suits_place, written_option, written_places, written_values}
+use Rattle.sb_commands.specs.Commands.{Command, command_of, placed, threaded, with_form, with_values}
 use Rattle.sb_commands.specs.Forms.{Choice, File, Form, Number, Place, form_by, form_with}
 use Rattle.sb_commands.specs.NumberWords.{is_number, is_within, number_of, number_or_zero}
-use Rattle.sb_commands.specs.Usage.{Apart, BadNumber, BadOptionNumber, Cut, Fault, FlagWord, Other, Values, after_dashes, after_flag, at_place, cut_by, cut_end, cut_last, cut_option, cut_places, dash_fault, flag_word, is_dash, kind_fault, option_number, place_fault, read_after, read_by, unless_fault, with_end, with_last, with_option, with_places}
+use Rattle.sb_commands.specs.Usage.{Apart, BadNumber, BadOptionNumber, Cut, Fault, FlagWord, Other, Values, after_dashes, after_flag, at_place, cut_by, cut_last, cut_option, cut_places, dash_fault, flag_word, is_dash, kind_fault, option_number, place_fault, read_after, read_by, unless_fault, with_end, with_last, with_option, with_places}
+use Rattle.sb_commands.specs.declared.works.ThreadedWork.TheVariants.{Make}
 use Rattle.sb_commands.proofs.Listed.{fits_places, form_is, is_regular, is_short, listed, regular, work_of}
 use Rattle.sb_commands.proofs.NumberLaws.{joined, values_suit}
 use Rattle.sb_commands.proofs.ReadSteps.{IsPlainWord, both, number_is_plain}
@@ -227,3 +228,32 @@ writable name words = by (form_by name) refl
 pub read_are_writable : ReadCommandsAreWritable
 read_are_writable [] command h = subst OnCommand h tt
 read_are_writable (name ∷ words) command h = subst OnCommand h (writable name words)
+
+-- ---- the numbers of `make`
+
+number_fits : DecimalsAreRead → (low high n : ℕ) → low ≤ n → n ≤ high → n < 2 ^ 64 → is_number low high (decimal n) ≡ true
+number_fits decimals low high n l h b =
+    ap (is_within low high) (decimals n b).0 ∙ joined (nat_le low n) (nat_le n high) (grind (arith, nat_tests, l)) (grind (arith, nat_tests, h))
+
+number_back : DecimalsAreRead → (n : ℕ) → n < 2 ^ 64 → number_of (decimal n) ≡ n
+number_back decimals n b = ap number_or_zero (decimals n b).0
+
+abbrev make_of : ℕ → ℕ → ℕ → Command
+make_of seed targets calls =
+    threaded Make (record { first = decimal seed; second = decimal targets; third = decimal calls; last = None; option = 0 })
+
+pub numbers_are_read : DecimalsAreRead → WrittenNumbersAreRead
+numbers_are_read decimals seed targets calls s (t1, t8) (c1, c4096) =
+    let first : is_number 0 0xffffffffffffffff (decimal seed) ≡ true = number_fits decimals 0 0xffffffffffffffff seed (omega arith) (omega (arith, s)) s in
+    let second : is_number 1 8 (decimal targets) ≡ true = number_fits decimals 1 8 targets t1 t8 (omega (arith, t8)) in
+    let third : is_number 1 4096 (decimal calls) ≡ true = number_fits decimals 1 4096 calls c1 c4096 (omega (arith, c4096)) in
+    let places = joined (is_number 0 0xffffffffffffffff (decimal seed)) (is_number 1 8 (decimal targets) && (is_number 1 4096 (decimal calls) && true)) first
+    (joined (is_number 1 8 (decimal targets)) (is_number 1 4096 (decimal calls) && true) second (joined (is_number 1 4096 (decimal calls)) true third refl)) in
+    let fits : suits (form_with (make_of seed targets calls).work) (make_of seed targets calls).values ≡ true =
+    joined (suit_places (form_with (make_of seed targets calls).work).places (placed (make_of seed targets calls).values)) true places refl in
+    subst (λ (r : Result Command Fault). IsOkAnd r (IsMake seed targets calls)) (sym (written_are_read decimals (make_of seed targets calls) fits)) (record {
+      work = refl;
+      first = number_back decimals seed s;
+      second = number_back decimals targets (omega (arith, t8));
+      third = number_back decimals calls (omega (arith, c4096));
+    })

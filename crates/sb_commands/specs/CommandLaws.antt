@@ -1,11 +1,13 @@
--- How a command is written, and that exactly what can be written is read.
-use Rattle.std.specs.Prelude.{◌≡◌, ℕ, ◌==◌, ◌&&◌, not, Bool, true, false, List, [], ◌∷◌, ◌++◌, Option, None, Some, option_to_list, codes, Ok}
+-- How a command is written, that exactly what can be written is read, and that the numbers of `make` are read as these numbers.
+use Rattle.std.specs.Prelude.{◌≡◌, ◌<◌, ◌≤◌, ◌^◌, ℕ, ◌==◌, ◌&&◌, not, Bool, true, false, List, [], ◌∷◌, ◌++◌, Option, None, Some, option_to_list, codes, Ok, IsOkAnd}
 use Rattle.std.specs.Fmt.{decimal}
 use Rattle.std.specs.List.{list_all}
 use Rattle.sb_commands.specs.Commands.{Command, command_of, placed}
 use Rattle.sb_commands.specs.Forms.{Choice, File, Form, Number, Place, form_with}
-use Rattle.sb_commands.specs.NumberWords.{is_number, is_within}
+use Rattle.sb_commands.specs.NumberWords.{is_number, is_within, number_of}
 use Rattle.sb_commands.specs.Usage.{Values}
+use Rattle.sb_commands.specs.declared.works.ThreadedWork.TheVariants.{Make}
+use Rattle.sb_commands.specs.declared.works.Work.TheVariants.{Threaded}
 
 -- the name of a file on the command line: it is not empty, and does not begin with `-`
 abbrev pub is_file_name : List ℕ → Bool
@@ -73,3 +75,22 @@ WrittenCommandsAreRead = (command : Command) → IsWritable command → command_
 -- and every command that is read can be written
 abbrev pub ReadCommandsAreWritable : Type 0
 ReadCommandsAreWritable = (words : List (List ℕ)) (command : Command) → command_of words ≡ Ok command → IsWritable command
+
+-- ---- the numbers of `make`
+
+-- the command `make` with these numbers
+pub record IsMake (seed targets calls : ℕ) (command : Command) : Type 0 where
+  pub work : command.work ≡ Threaded Make
+  pub first : number_of command.values.first ≡ seed
+  pub second : number_of command.values.second ≡ targets
+  pub third : number_of command.values.third ≡ calls
+
+-- the arguments of `make` with the decimal digits of three numbers
+abbrev pub make_words : ℕ → ℕ → ℕ → List (List ℕ)
+make_words seed targets calls = codes "make" ∷ decimal seed ∷ decimal targets ∷ decimal calls ∷ []
+
+-- three numbers in their ranges, written in decimal, are read as the command with these numbers
+abbrev pub WrittenNumbersAreRead : Type 0
+WrittenNumbersAreRead =
+    (seed targets calls : ℕ) → seed < 2 ^ 64 → (1 ≤ targets) × (targets ≤ 8) → (1 ≤ calls) × (calls ≤ 4096)
+    → IsOkAnd (command_of (make_words seed targets calls)) (IsMake seed targets calls)

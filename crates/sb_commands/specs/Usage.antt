@@ -11,8 +11,10 @@ use Rattle.sb_commands.specs.declared.usage.OptionWord.TheVariants as word
 use Rattle.sb_commands.specs.declared.usage_faults.UsageFault.TheVariants as fault
 use Rattle.sb_commands.specs.declared.usage_faults.UsageFault.{UsageFault}
 
--- what is wrong, with the place of the word among the arguments, from 0, and what the message names
+-- what is wrong, with the place of the word among the arguments, from 0, and what the message names. `NotUtf8` is found where arguments are gathered, and
+-- by no test of arguments
 pub data Fault : Type 0 where
+  NotUtf8 : Fault
   NoCommand : Fault
   UnknownCommand : Fault
   UnknownOption : ℕ → Fault
@@ -202,6 +204,7 @@ abbrev pub texts : List (String Global) → List (List ℕ)
 texts words = map string_bytes words
 
 abbrev pub fault_of : UsageFault → Fault
+fault_of fault.NotUtf8 = NotUtf8
 fault_of fault.NoCommand = NoCommand
 fault_of fault.UnknownCommand = UnknownCommand
 fault_of (fault.UnknownOption at) = UnknownOption at

@@ -6,7 +6,7 @@ use Rattle.sb_glyphs.specs.Glyphs.{shown_bytes}
 use Rattle.sb_glyphs.specs.Tokens.{quoted_bytes}
 use Rattle.sb_commands.specs.CommandLine.{or_empty}
 use Rattle.sb_commands.specs.Forms.{Bounded, Choice, Form, Place, forms}
-use Rattle.sb_commands.specs.Usage.{Fault, NoCommand, UnknownCommand, UnknownOption, OptionTwice, OptionBetween, NoOptionNumber, BadOptionNumber, NoFileName, BadNumber, ExtraWord, Missing, place_name}
+use Rattle.sb_commands.specs.Usage.{Fault, NotUtf8, NoCommand, UnknownCommand, UnknownOption, OptionTwice, OptionBetween, NoOptionNumber, BadOptionNumber, NoFileName, BadNumber, ExtraWord, Missing, place_name}
 
 -- ---- the usage line
 
@@ -81,6 +81,7 @@ abbrev pub number_text : Choice → List ℕ → List ℕ
 number_text choice why = flag_text choice ++ choice.number.name ++ why
 
 abbrev pub fault_text : Fault → List (List ℕ) → List ℕ
+fault_text NotUtf8 words = codes "an argument is not UTF-8"
 fault_text NoCommand words = codes "a command is missing"
 fault_text UnknownCommand words = unknown_text (codes "unknown command ") 0 words
 fault_text (UnknownOption at) words = argument_text words (codes "unknown option ") at

@@ -1,6 +1,6 @@
 // Which command the arguments are.
-ghost use Rattle.std.specs.Prelude.{◌≡◌, ◌++◌, IfOk, MatchResult, Ok, Err, map, option_map};
-ghost use Rattle.sb_commands.specs.Commands.{HasNumbers, HasValues, IsCommandOf, command_of, files_by, files_of, name_at};
+ghost use Rattle.std.specs.Prelude.{◌≡◌, IfOk, MatchResult, Ok, Err};
+ghost use Rattle.sb_commands.specs.Commands.{HasNumbers, HasValues, IsCommandOf, command_of, files_of, name_at};
 ghost use Rattle.sb_commands.specs.Forms.{form_of};
 ghost use Rattle.sb_commands.specs.Usage.{fault_of, texts};
 ghost use Rattle.sb_commands.specs.Values.{values_of};

@@ -5,6 +5,8 @@ use crate::forms::{FormNumber, FormOption};
 /// argument itself is not kept.
 #[derive(Clone, Copy)]
 pub enum UsageFault {
+    /// An argument is not UTF-8. No argument is read then, so it is not known which.
+    NotUtf8,
     /// There are no arguments.
     NoCommand,
     /// The first argument is the name of no command.

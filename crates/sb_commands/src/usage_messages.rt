@@ -329,6 +329,7 @@ fn put_fault(out: &mut String, fault: UsageFault, words: &[String]) -> Result<()
     ensures { OnOk result (string_bytes out.new ≡ string_bytes out.old ++ fault_text (fault_of fault) (texts words.now)) }
 {
     match fault {
+        UsageFault::NotUtf8 => Ok(out.push_str("an argument is not UTF-8")?),
         UsageFault::NoCommand => Ok(out.push_str("a command is missing")?),
         UsageFault::UnknownCommand => put_unknown_command(out, words),
         UsageFault::UnknownOption(at) => put_unknown_option(out, at, words),

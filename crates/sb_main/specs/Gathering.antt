@@ -8,4 +8,4 @@ use Rattle.sb_plain.specs.declared.outcomes.Status.TheVariants.{Usage, NoMemory}
 -- what it comes to if the arguments were not gathered: they are not UTF-8, or there was no memory for them
 abbrev pub gathering_status : ErrorKind → Status
 gathering_status kind.OutOfMemory = NoMemory
-gathering_status _ = Usage fault.NoCommand
+gathering_status _ = Usage fault.NotUtf8

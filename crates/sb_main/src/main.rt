@@ -68,7 +68,7 @@ fn run<R: Env + rt::Files + Print + Eprint + AllocGlobal + Threads + Wait + Sync
 ) -> u8 {
     let arguments = match env::args(rt) {
         Ok(arguments) => arguments,
-        Err(error) => return refuse_unread(rt, error.kind()),
+        Err(error) => return refuse(rt, no_words(error.kind())),
     };
     let all: Result<Vec<String>, _> = arguments.collect(rt.alloc());
     let Ok(all) = all else {
@@ -107,27 +107,13 @@ fn refuse<R: Eprint + AllocGlobal>(rt: &R, status: Status) -> u8
     exit_code(status)
 }
 
-// Says why the arguments were not gathered: the exit code.
-fn refuse_unread<R: Eprint>(rt: &R, kind: ErrorKind) -> u8
-    ensures { result ≡ code_of (gathering_status kind) }
-{
-    let status = no_words(kind);
-    let complaint = Complaint { status };
-    if matches!(status, Status::Usage(_)) {
-        let _ = eprint!(rt; "sandbox: an argument is not UTF-8\n{complaint}\n");
-    } else {
-        let _ = rt.eprintln(complaint);
-    }
-    exit_code(status)
-}
-
 // Arguments that were not gathered are not UTF-8, or there was no memory for them.
 fn no_words(kind: ErrorKind) -> Status
     ensures { result ≡ gathering_status kind }
 {
     match kind {
         ErrorKind::OutOfMemory => Status::NoMemory,
-        _ => Status::Usage(UsageFault::NoCommand),
+        _ => Status::Usage(UsageFault::NotUtf8),
     }
 }
 
