@@ -1,5 +1,5 @@
 // The lines that tell how moves went.
-ghost use Rattle.std.specs.Prelude.{◌≡◌, ◌++◌, codes, IfOk, OnOk};
+ghost use Rattle.std.specs.Prelude.{◌≡◌, ◌++◌, OnOk};
 ghost use Rattle.std.specs.Fmt.{decimal};
 ghost use Rattle.std.specs.List.{count_by};
 ghost use Rattle.sb_dup.specs.MoveLines.{action_text, answer_text, giver_text, is_given, lines_of_moves, move_line, move_lines, move_text, target_name, totals_line, verdict_text};

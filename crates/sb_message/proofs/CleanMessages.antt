@@ -1,5 +1,5 @@
 -- Every message is clean.
-use Rattle.std.proofs.Common.{ℕ, Bool, true, false, cond, ◌==◌, List, [], ◌∷◌, Option, None, Some, codes, refl}
+use Rattle.std.proofs.Common.{ℕ, Bool, true, false, cond, List, [], ◌∷◌, Option, None, Some, codes, refl}
 use Rattle.std.specs.Fmt.{decimal}
 use Rattle.sb_audit.specs.declared.answers.Refuted.{Refuted}
 use Rattle.sb_audit.specs.declared.dues.Due.{Due}

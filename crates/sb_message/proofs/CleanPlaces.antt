@@ -1,5 +1,5 @@
 -- What a message shows of a line and of a place is clean.
-use Rattle.std.proofs.Common.{ℕ, zero, suc, List, [], ◌∷◌, ◌++◌, codes, refl}
+use Rattle.std.proofs.Common.{ℕ, zero, suc, List, [], ◌∷◌, codes, refl}
 use Rattle.std.specs.Fmt.{decimal}
 use Rattle.sb_glyphs.proofs.CleanLaws.{Spelled, clean_of, both, three, four, five, six, nothing, plain, decimal_clean, bytes_clean, token_clean, lines_clean, feed}
 use Rattle.sb_glyphs.specs.CleanTexts.{IsClean}

@@ -1,11 +1,12 @@
 // What is wrong, in words.
-ghost use Rattle.std.specs.Prelude.{◌≡◌, ◌++◌, OnOk, string_bytes};
+ghost use Rattle.std.specs.Prelude.{◌≡◌, ◌++◌, IfOk, OnOk, string_bytes};
 ghost use Rattle.sb_message.specs.Causes.{cause_text, two_text, no_target_text, word_words, names_word, pattern_words};
 
 use crate::messages::put_decimal;
 use sb_items::NoMemory;
 use sb_pattern::PatternFault;
 use sb_text::WordFault;
+use std::alloc::Global;
 
 /// Appends words.
 pub(crate) fn put_words(out: &mut String, words: &str) -> Result<(), NoMemory>
@@ -15,20 +16,21 @@ pub(crate) fn put_words(out: &mut String, words: &str) -> Result<(), NoMemory>
     Ok(())
 }
 
-/// Appends words, and after them the token if they name it.
-pub(crate) fn put_cause(
-    out: &mut String,
+/// Words, and after them the token if they name it.
+pub(crate) fn cause_text(
+    alloc: Global,
     words: &str,
     names_token: bool,
     named: &str,
-) -> Result<(), NoMemory>
-    ensures { OnOk result (string_bytes out.new ≡ string_bytes out.old ++ cause_text words.now names_token named.now) }
+) -> Result<String, NoMemory>
+    ensures { IfOk result (λ cause. string_bytes cause ≡ cause_text words.now names_token named.now) }
 {
-    out.push_str(words)?;
+    let mut cause = String::new(alloc);
+    cause.push_str(words)?;
     if names_token {
-        out.push_str(named)?;
+        cause.push_str(named)?;
     }
-    Ok(())
+    Ok(cause)
 }
 
 /// Appends words and a number, and again words and a number.

@@ -1,5 +1,5 @@
 // The messages of ends that are not the fault of a text.
-ghost use Rattle.std.specs.Prelude.{◌≡◌, ◌++◌, ◌∷◌, [], codes, OnOk, IfOk, string_bytes};
+ghost use Rattle.std.specs.Prelude.{◌≡◌, ◌++◌, codes, OnOk, IfOk, string_bytes};
 ghost use Rattle.sb_message.specs.EndMessages.{numbers_text, file_text, end_text, end_message};
 
 use crate::messages::put_decimal;

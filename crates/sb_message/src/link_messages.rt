@@ -1,9 +1,9 @@
 // The messages of files of links.
-ghost use Rattle.std.specs.Prelude.{◌≡◌, ◌++◌, OnOk, IfOk, string_bytes};
+ghost use Rattle.std.specs.Prelude.{◌≡◌, IfOk, string_bytes};
 ghost use Rattle.sb_message.specs.LinkMessages.{link_words, link_names, link_cause, link_message};
 
-use crate::causes::{names_word, put_cause, word_words};
-use crate::messages::{FaultyText, TextFault, put_text_fault};
+use crate::causes::{cause_text, names_word, word_words};
+use crate::messages::{FaultyText, TextFault, text_message};
 use crate::places::shown_place;
 use sb_items::NoMemory;
 use sb_link::{LinkFault, LinkKind};
@@ -33,10 +33,10 @@ fn link_names(kind: LinkKind) -> bool
     }
 }
 
-fn put_link_cause(out: &mut String, kind: LinkKind, named: &str) -> Result<(), NoMemory>
-    ensures { OnOk result (string_bytes out.new ≡ string_bytes out.old ++ link_cause kind named.now) }
+fn link_cause(alloc: Global, kind: LinkKind, named: &str) -> Result<String, NoMemory>
+    ensures { IfOk result (λ cause. string_bytes cause ≡ link_cause kind named.now) }
 {
-    put_cause(out, link_words(kind), link_names(kind), named)
+    cause_text(alloc, link_words(kind), link_names(kind), named)
 }
 
 /// The message of the fault of a file of links: what is wrong, the place in the file, whose name is as the user gave it, and the line that has the
@@ -59,15 +59,6 @@ pub fn link_message(
         kind: fault.kind.number(),
     };
     let shown = shown_place(alloc, place.text, place.column, line)?;
-    let mut cause = String::new(alloc);
-    put_link_cause(&mut cause, fault.kind, shown.named.as_str())?;
-    let mut message = String::new(alloc);
-    put_text_fault(
-        &mut message,
-        place,
-        cause.as_str(),
-        file,
-        shown.lines.as_str(),
-    )?;
-    Ok(message)
+    let cause = link_cause(alloc, fault.kind, shown.named.as_str())?;
+    text_message(alloc, place, cause.as_str(), file, shown.lines.as_str())
 }

@@ -1,10 +1,11 @@
 // The message of a fault of a text.
-ghost use Rattle.std.specs.Prelude.{◌≡◌, ◌++◌, OnOk, string_bytes};
+ghost use Rattle.std.specs.Prelude.{◌≡◌, ◌++◌, IfOk, OnOk, string_bytes};
 ghost use Rattle.std.specs.Fmt.{decimal};
 ghost use Rattle.sb_message.specs.Messages.{text_word, headline, first_line, column_text, place_line, message_with};
 
 use sb_glyphs::put_shown;
 use sb_items::NoMemory;
+use std::alloc::Global;
 
 /// A text that may have a fault.
 #[derive(Clone, Copy)]
@@ -106,19 +107,20 @@ pub(crate) fn put_place_line(
     Ok(())
 }
 
-/// Appends the message of a fault of a text: a line that names the fault with its cause, the place in the file, whose name is as the user gave it,
-/// and these lines.
-pub(crate) fn put_text_fault(
-    out: &mut String,
+/// The message of a fault of a text: a line that names the fault with its cause, the place in the file, whose name is as the user gave it, and these
+/// lines.
+pub(crate) fn text_message(
+    alloc: Global,
     fault: TextFault,
     cause: &str,
     file: &[u8],
     lines: &str,
-) -> Result<(), NoMemory>
-    ensures { OnOk result (string_bytes out.new ≡ string_bytes out.old ++ message_with fault cause.now file.now lines.now) }
+) -> Result<String, NoMemory>
+    ensures { IfOk result (λ message. string_bytes message ≡ message_with fault cause.now file.now lines.now) }
 {
-    put_first_line(out, fault, cause)?;
-    put_place_line(out, file, fault.line, fault.column)?;
-    out.push_str(lines)?;
-    Ok(())
+    let mut message = String::new(alloc);
+    put_first_line(&mut message, fault, cause)?;
+    put_place_line(&mut message, file, fault.line, fault.column)?;
+    message.push_str(lines)?;
+    Ok(message)
 }

@@ -3,7 +3,7 @@ ghost use Rattle.std.specs.Prelude.{◌≡◌, ◌++◌, OnOk, IfOk, string_byte
 ghost use Rattle.sb_message.specs.MoveMessages.{move_words, move_names, move_cause, move_message};
 
 use crate::causes::{names_word, put_no_target, put_words, word_words};
-use crate::messages::{FaultyText, TextFault, put_text_fault};
+use crate::messages::{FaultyText, TextFault, text_message};
 use crate::places::shown_place;
 use sb_dup::{MoveFault, MoveKind};
 use sb_items::NoMemory;
@@ -38,14 +38,15 @@ fn move_names(kind: MoveKind) -> bool
     }
 }
 
-fn put_move_cause(out: &mut String, kind: MoveKind, named: &str) -> Result<(), NoMemory>
-    ensures { OnOk result (string_bytes out.new ≡ string_bytes out.old ++ move_cause kind named.now) }
+fn move_cause(alloc: Global, kind: MoveKind, named: &str) -> Result<String, NoMemory>
+    ensures { IfOk result (λ cause. string_bytes cause ≡ move_cause kind named.now) }
 {
-    put_move_words(out, kind)?;
+    let mut cause = String::new(alloc);
+    put_move_words(&mut cause, kind)?;
     if move_names(kind) {
-        out.push_str(named)?;
+        cause.push_str(named)?;
     }
-    Ok(())
+    Ok(cause)
 }
 
 /// The message of the fault of a file of moves: what is wrong, the place in the file, whose name is as the user gave it, and the line that has the
@@ -68,15 +69,6 @@ pub fn move_message(
         kind: fault.kind.number(),
     };
     let shown = shown_place(alloc, place.text, place.column, line)?;
-    let mut cause = String::new(alloc);
-    put_move_cause(&mut cause, fault.kind, shown.named.as_str())?;
-    let mut message = String::new(alloc);
-    put_text_fault(
-        &mut message,
-        place,
-        cause.as_str(),
-        file,
-        shown.lines.as_str(),
-    )?;
-    Ok(message)
+    let cause = move_cause(alloc, fault.kind, shown.named.as_str())?;
+    text_message(alloc, place, cause.as_str(), file, shown.lines.as_str())
 }

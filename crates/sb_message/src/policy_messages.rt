@@ -1,9 +1,9 @@
 // The messages of policy texts.
-ghost use Rattle.std.specs.Prelude.{◌≡◌, ◌++◌, OnOk, IfOk, string_bytes};
+ghost use Rattle.std.specs.Prelude.{◌≡◌, IfOk, string_bytes};
 ghost use Rattle.sb_message.specs.PolicyMessages.{limit_words, policy_words, policy_names, policy_cause, policy_message};
 
-use crate::causes::{names_word, pattern_words, put_cause, word_words};
-use crate::messages::{FaultyText, TextFault, put_text_fault};
+use crate::causes::{cause_text, names_word, pattern_words, word_words};
+use crate::messages::{FaultyText, TextFault, text_message};
 use crate::places::shown_place;
 use sb_items::NoMemory;
 use sb_ruletext::{PolicyFault, PolicyFaultKind, PolicyLimit};
@@ -67,10 +67,10 @@ fn policy_names(kind: PolicyFaultKind) -> bool
     }
 }
 
-fn put_policy_cause(out: &mut String, kind: PolicyFaultKind, named: &str) -> Result<(), NoMemory>
-    ensures { OnOk result (string_bytes out.new ≡ string_bytes out.old ++ policy_cause kind named.now) }
+fn policy_cause(alloc: Global, kind: PolicyFaultKind, named: &str) -> Result<String, NoMemory>
+    ensures { IfOk result (λ cause. string_bytes cause ≡ policy_cause kind named.now) }
 {
-    put_cause(out, policy_words(kind), policy_names(kind), named)
+    cause_text(alloc, policy_words(kind), policy_names(kind), named)
 }
 
 /// The message of the fault of a policy file: what is wrong, the place in the file, whose name is as the user gave it, and the line that has the fault
@@ -93,15 +93,6 @@ pub fn policy_message(
         kind: fault.kind.number(),
     };
     let shown = shown_place(alloc, place.text, place.column, line)?;
-    let mut cause = String::new(alloc);
-    put_policy_cause(&mut cause, fault.kind, shown.named.as_str())?;
-    let mut message = String::new(alloc);
-    put_text_fault(
-        &mut message,
-        place,
-        cause.as_str(),
-        file,
-        shown.lines.as_str(),
-    )?;
-    Ok(message)
+    let cause = policy_cause(alloc, fault.kind, shown.named.as_str())?;
+    text_message(alloc, place, cause.as_str(), file, shown.lines.as_str())
 }

@@ -1,9 +1,9 @@
 // The messages of schedule texts.
-ghost use Rattle.std.specs.Prelude.{◌≡◌, ◌++◌, OnOk, IfOk, string_bytes};
+ghost use Rattle.std.specs.Prelude.{◌≡◌, IfOk, string_bytes};
 ghost use Rattle.sb_message.specs.ScheduleMessages.{schedule_words, schedule_names, schedule_cause, schedule_message};
 
-use crate::causes::{names_word, put_cause, word_words};
-use crate::messages::{FaultyText, TextFault, put_text_fault};
+use crate::causes::{cause_text, names_word, word_words};
+use crate::messages::{FaultyText, TextFault, text_message};
 use crate::places::shown_place;
 use sb_items::NoMemory;
 use sb_scheduletext::{ScheduleFault, ScheduleKind};
@@ -38,10 +38,10 @@ fn schedule_names(kind: ScheduleKind) -> bool
     }
 }
 
-fn put_schedule_cause(out: &mut String, kind: ScheduleKind, named: &str) -> Result<(), NoMemory>
-    ensures { OnOk result (string_bytes out.new ≡ string_bytes out.old ++ schedule_cause kind named.now) }
+fn schedule_cause(alloc: Global, kind: ScheduleKind, named: &str) -> Result<String, NoMemory>
+    ensures { IfOk result (λ cause. string_bytes cause ≡ schedule_cause kind named.now) }
 {
-    put_cause(out, schedule_words(kind), schedule_names(kind), named)
+    cause_text(alloc, schedule_words(kind), schedule_names(kind), named)
 }
 
 /// The message of the fault of a schedule file: what is wrong, the place in the file, whose name is as the user gave it, and the line that has the
@@ -64,15 +64,6 @@ pub fn schedule_message(
         kind: fault.kind.number(),
     };
     let shown = shown_place(alloc, place.text, place.column, line)?;
-    let mut cause = String::new(alloc);
-    put_schedule_cause(&mut cause, fault.kind, shown.named.as_str())?;
-    let mut message = String::new(alloc);
-    put_text_fault(
-        &mut message,
-        place,
-        cause.as_str(),
-        file,
-        shown.lines.as_str(),
-    )?;
-    Ok(message)
+    let cause = schedule_cause(alloc, fault.kind, shown.named.as_str())?;
+    text_message(alloc, place, cause.as_str(), file, shown.lines.as_str())
 }

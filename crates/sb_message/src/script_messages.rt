@@ -3,7 +3,7 @@ ghost use Rattle.std.specs.Prelude.{◌≡◌, ◌++◌, codes, OnOk, IfOk, stri
 ghost use Rattle.sb_message.specs.ScriptMessages.{limit_words, place_words, argument_words, start_words, three_text, kind_words, script_words, script_names, script_cause, script_message};
 
 use crate::causes::{names_word, put_no_target, put_two, put_words, word_words};
-use crate::messages::{FaultyText, TextFault, put_decimal, put_text_fault};
+use crate::messages::{FaultyText, TextFault, put_decimal, text_message};
 use crate::places::shown_place;
 use sb_items::NoMemory;
 use sb_scripttext::{ScriptFault, ScriptKind, ScriptLimit, StartFault};
@@ -164,14 +164,15 @@ fn script_names(kind: ScriptKind) -> bool
     }
 }
 
-fn put_script_cause(out: &mut String, kind: ScriptKind, named: &str) -> Result<(), NoMemory>
-    ensures { OnOk result (string_bytes out.new ≡ string_bytes out.old ++ script_cause kind named.now) }
+fn script_cause(alloc: Global, kind: ScriptKind, named: &str) -> Result<String, NoMemory>
+    ensures { IfOk result (λ cause. string_bytes cause ≡ script_cause kind named.now) }
 {
-    put_script_words(out, kind, named)?;
+    let mut cause = String::new(alloc);
+    put_script_words(&mut cause, kind, named)?;
     if script_names(kind) {
-        out.push_str(named)?;
+        cause.push_str(named)?;
     }
-    Ok(())
+    Ok(cause)
 }
 
 /// The message of the fault of a script file: what is wrong, the place in the file, whose name is as the user gave it, and the line that has the fault
@@ -194,15 +195,6 @@ pub fn script_message(
         kind: fault.kind.number(),
     };
     let shown = shown_place(alloc, place.text, place.column, line)?;
-    let mut cause = String::new(alloc);
-    put_script_cause(&mut cause, fault.kind, shown.named.as_str())?;
-    let mut message = String::new(alloc);
-    put_text_fault(
-        &mut message,
-        place,
-        cause.as_str(),
-        file,
-        shown.lines.as_str(),
-    )?;
-    Ok(message)
+    let cause = script_cause(alloc, fault.kind, shown.named.as_str())?;
+    text_message(alloc, place, cause.as_str(), file, shown.lines.as_str())
 }

@@ -1,7 +1,7 @@
 // Reading the lines below the first.
 ghost use Rattle.std.specs.Prelude.{◌≡◌, ◌∷◌, ◌≤◌, IfOk};
 ghost use Rattle.sb_scheduletext.specs.Drafts.{has_rounds};
-ghost use Rattle.sb_scheduletext.specs.Limits.{most_steps, most_rounds};
+ghost use Rattle.sb_scheduletext.specs.Limits.{most_steps};
 ghost use Rattle.sb_scheduletext.specs.Lines.{within, no_more, last_number, count_at, step, add_steps, rounds, line_with, line_of};
 ghost use Rattle.sb_items.specs.Refusals.{Gives};
 ghost use Rattle.sb_text.specs.Steps.{Becomes};
