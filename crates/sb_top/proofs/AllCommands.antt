@@ -1,6 +1,6 @@
 -- What holds of every command: the statuses with which it ends, and that the run of each of its ends is sound. A command has one line in each of the two.
 use Rattle.std.proofs.Common.{◌≡◌, ◌∙◌, ap, sym, subst, length}
-use Rattle.std.specs.Prelude.{IfSome, ℕ, ◌≤◌, Ok, Err}
+use Rattle.std.specs.Prelude.{IfSome, ◌≤◌, Ok, Err}
 use Rattle.sb_commands.specs.Commands.{Command, files_of}
 use Rattle.sb_commands.specs.NumberWords.{number_of}
 use Rattle.sb_commands.specs.Usage.{Values, fault_of}

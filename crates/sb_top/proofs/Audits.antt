@@ -9,13 +9,11 @@ use Rattle.sb_statements.specs.declared.scripts.Script.{Script}
 use Rattle.sb_audit.specs.Audited.{audited}
 use Rattle.sb_text.specs.Steps.{◌>>=◌}
 use Rattle.sb_top.specs.Audits.{IsAuditedAs, ReplaysAreAudited}
-use Rattle.sb_plain.specs.Contents.{Content, Refusal, policies_in, script_in}
-use Rattle.sb_plain.specs.Ends.{Contents, End, ScriptRun}
-use Rattle.sb_plain.specs.Replay.{ended_by, replay_end, run_end, run_text, schedule_of, whole_run}
+use Rattle.sb_plain.specs.Contents.{Refusal, policies_in, script_in}
+use Rattle.sb_plain.specs.Ends.{End}
+use Rattle.sb_plain.specs.Replay.{ended_by, run_text, schedule_of, whole_run}
 use Rattle.sb_plain.specs.Sound.{IsSound, IsSoundRun}
 use Rattle.sb_top.specs.Sound.{ReportsAreSound}
-use Rattle.sb_plain.specs.declared.outcomes.Status.{Status}
-use Rattle.sb_plain.specs.declared.outcomes.Status.TheVariants.{Unfinished}
 use Rattle.sb_transcript.specs.Transcripts.{transcript}
 
 -- a text that is written is the transcript, and no thread is unfinished

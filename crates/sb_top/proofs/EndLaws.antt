@@ -9,7 +9,6 @@ use Rattle.sb_plain.specs.Endings.{IsCaused, IsEndFor, IsMeant, IsRefused, IsUnr
 use Rattle.sb_plain.specs.Ends.{AreContents, Contents, End}
 use Rattle.sb_top.specs.Laws.{RefusalsAreMeant, WorkComesToItsEnd, contents_of}
 use Rattle.sb_plain.specs.Outcomes.{file_of}
-use Rattle.sb_plain.specs.declared.outcomes.Outcome.{Outcome}
 use Rattle.sb_plain.specs.declared.outcomes.Status.{Status}
 use Rattle.sb_plain.specs.declared.outcomes.Status.TheVariants.{NoMemory, WriteFault}
 

@@ -3,19 +3,16 @@ use Rattle.std.proofs.Common.{◌≡◌, ◌∙◌, refl, sym, ap, subst, ℕ, �
 use Rattle.std.specs.Prelude.{IsOk, IsOkAnd, IsSome, Result, Ok, Err}
 use Rattle.sb_book.specs.declared.reports.Report.{Report}
 use Rattle.sb_commands.specs.Commands.{Command}
-use Rattle.sb_commands.specs.Usage.{Fault, fault_of}
-use Rattle.sb_commands.specs.declared.usage_faults.UsageFault.{UsageFault}
+use Rattle.sb_commands.specs.Usage.{Fault}
 use Rattle.sb_outside.specs.Outside.{Rose}
 use Rattle.sb_plain.specs.Coming.{IsEndCaused, IsFoundBy, IsFoundFor, IsTextCaused, ReportedEnd, reported}
-use Rattle.sb_plain.specs.Contents.{Refusal, refused}
+use Rattle.sb_plain.specs.Contents.{Refusal}
 use Rattle.sb_plain.specs.Effects.{Effect}
 use Rattle.sb_plain.specs.Endings.{IsCaused, IsDone, IsEndFor, IsEnding, IsMeant, IsRefused, IsUnwritten, IsWritten}
 use Rattle.sb_plain.specs.Ends.{Contents, End, Meaning, OnThreads, Plain, report_of}
 use Rattle.sb_plain.specs.Putting.{IsFinished, IsPut}
-use Rattle.sb_top.specs.Top.{EndsAsMeant}
 use Rattle.sb_plain.specs.declared.outcomes.Outcome.{Outcome}
 use Rattle.sb_plain.specs.declared.outcomes.Status.{Status}
-use Rattle.sb_plain.specs.declared.outcomes.Status.TheVariants.{NoMemory, Usage}
 
 module _ {G S : Type 0} (e : Effect G S) (o : Outcome) where
   abbrev Finished : Result ReportedEnd Refusal → Type 0
@@ -100,21 +97,6 @@ module _ {G S : Type 0} (e : Effect G S) (o : Outcome) where
     ends = ends_for (m h.order) h.contents found h.is f;
     caused = caused (Rose e.reads e.reads') found c f;
   }
-
--- ---- arguments that are no command
-
-pub usage_ends : {G S : Type 0} (e : Effect G S) (o : Outcome) (wanted : Result Command Fault) (fault : UsageFault) → wanted ≡ Err (fault_of fault)
-    → ◌≡◌ {A = Outcome} o (record { status = Usage fault; shown = None; report = None }) → e.written' ≡ e.written → EndsAsMeant wanted e o
-usage_ends e o wanted fault is h w = subst (λ r. EndsAsMeant r e o) (sym is) (record {
-  found = fault;
-  same = refl;
-  is = record {
-    status = ap (λ (x : Outcome). x.status) h;
-    report = ap (λ (x : Outcome). x.report) h;
-    shown = ap (λ (x : Outcome). x.shown) h;
-    written = w;
-  };
-})
 
 -- ---- what a second call does after a first that changed nothing
 

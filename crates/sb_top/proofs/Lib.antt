@@ -1,4 +1,3 @@
-pub mod ByValues
 pub mod Audits
 pub mod EndLaws
 pub mod Finishing

@@ -4,7 +4,6 @@ use Rattle.std.specs.Prelude.{IfOk, IfSome, IsOkAnd, Ok, ◌∷◌, []}
 use Rattle.sb_book.specs.ReadyScripts.{Ready}
 use Rattle.sb_outside.specs.Outside.{Held}
 use Rattle.sb_rule.specs.declared.policies.Policy.{Policy}
-use Rattle.sb_statements.specs.declared.schedules.Schedule.{Schedule}
 use Rattle.sb_statements.specs.declared.scripts.Script.{Script}
 use Rattle.sb_plain.specs.Coming.{IsFoundOnThreads, IsOpened, ReportedEnd, reported}
 use Rattle.sb_plain.specs.Ends.{Contents, End, IsOrderOf, OnThreads}

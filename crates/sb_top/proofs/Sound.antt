@@ -1,5 +1,5 @@
 -- Runs are sound.
-use Rattle.std.proofs.Common.{◌≡◌, ℕ, ◌≤◌, List, sym, subst}
+use Rattle.std.proofs.Common.{◌≤◌, List, sym, subst}
 use Rattle.sb_audit.specs.Converse.{ReportsThatFitAreAudited}
 use Rattle.sb_book.specs.Reports.{result_count}
 use Rattle.sb_book.specs.declared.reports.Report.{Report}

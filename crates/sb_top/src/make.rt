@@ -1,5 +1,5 @@
 // The command `make`: a script is made from a seed and run on threads under a fixed policy, and what was made and its totals are put.
-ghost use Rattle.std.specs.Prelude.{◌≡◌, ◌≤◌, ◌<◌, ◌^◌, ◌++◌, [], IfOk};
+ghost use Rattle.std.specs.Prelude.{◌≡◌, ◌≤◌, ◌<◌, ◌^◌, ◌++◌, IfOk};
 ghost use Rattle.sb_book.specs.Reports.{result_count};
 ghost use Rattle.sb_outside.specs.Outside.{joined};
 ghost use Rattle.sb_transcript.specs.Totals.{totals_line};

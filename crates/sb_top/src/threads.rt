@@ -1,5 +1,5 @@
 // Runs on threads, in which calls are judged by the programs of the policies.
-ghost use Rattle.std.specs.Prelude.{◌≡◌, ◌≤◌, ◌<◌, ◌^◌, IfOk};
+ghost use Rattle.std.specs.Prelude.{◌≤◌, ◌<◌, ◌^◌, IfOk};
 ghost use Rattle.sb_book.specs.Reports.{result_count};
 ghost use Rattle.sb_core.specs.Runs.{IsSomeRun};
 

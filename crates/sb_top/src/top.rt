@@ -1,5 +1,5 @@
 // The top calls.
-ghost use Rattle.std.specs.Prelude.{◌≡◌, ◌≤◌, ◌<◌, ◌^◌, [], None, IfErr, IfOk, IsOk, OnErr, OnOk, Ok, is_err};
+ghost use Rattle.std.specs.Prelude.{◌≡◌, ◌≤◌, ◌<◌, ◌^◌, [], IfErr, IfOk, IsOk, OnErr, OnOk, Ok, is_err};
 ghost use Rattle.sb_commands.specs.Commands.{HasNumbers, command_of, files_of, needs_threads, plain_files, threaded, threaded_files};
 ghost use Rattle.sb_commands.specs.Usage.{texts};
 ghost use Rattle.sb_commands.specs.Values.{values_of};

@@ -1,4 +1,4 @@
-use Rattle.std.proofs.Common.{◌≡◌, ◌∷◌, [], refl, sym, subst, rules, List}
+use Rattle.std.proofs.Common.{◌≡◌, ◌∷◌, [], refl, sym, subst, rules}
 use Rattle.std.specs.Prelude.{Result, Err}
 use Rattle.sb_plain.specs.Coming.{IsFoundOnThreads, ReportedEnd}
 use Rattle.sb_plain.specs.Contents.{Refusal, no_schedule, refused}
