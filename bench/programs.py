@@ -1,10 +1,8 @@
 """The two programs that are measured, `sandbox` and `sb_bench`: building and running them."""
-import fcntl
 import os
 import resource
 import subprocess
 import sys
-import time
 
 TOP = os.path.dirname(os.path.dirname(os.path.realpath(__file__)))
 SANDBOX = os.path.join(TOP, "out", "sandbox")
@@ -104,28 +102,3 @@ def seconds_of(runs, work, rounds, told, folder):
 def seconds_spent(runs, work, rounds, told, told_of_none, folder=None):
     """The same, without the time of a run of no rounds, which makes what the work needs and tells `told_of_none`."""
     return seconds_of(runs, work, rounds, told, folder) - seconds_of(runs, work, 0, told_of_none, folder)
-
-
-def peak(work, rounds, told, folder):
-    """The bytes of `sb_bench`'s peak of memory at its one write, at which it is held by a pipe that is full.
-
-    What the system tells of a program that has ended is at least the peak of this one, from which it was started.
-    """
-    out, into = os.pipe()
-    fcntl.fcntl(into, fcntl.F_SETPIPE_SZ, 4096)
-    filled = os.write(into, bytes(fcntl.fcntl(into, fcntl.F_GETPIPE_SZ)))
-    child = subprocess.Popen(bench_words(work, rounds, folder), stdout=into)
-    os.close(into)
-    state = ""
-    while state != "S":
-        time.sleep(0.001)
-        with open("/proc/%d/status" % child.pid) as file:
-            status = dict(line.split(":", 1) for line in file)
-        state = status["State"].split()[0]
-        if state == "Z":
-            fail("%s in %d rounds put nothing" % (work, rounds))
-    with open(out, "rb") as file:
-        line = file.read()[filled:].decode()
-    child.wait()
-    check_line(work, rounds, line, told)
-    return int(status["VmHWM"].split()[0]) * 1024

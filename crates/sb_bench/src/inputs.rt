@@ -2,8 +2,6 @@
 
 use crate::failures::Failure;
 use sb_book::ReadyScript;
-use sb_call::Arg;
-use sb_items::NoMemory;
 use sb_ruletext::read_policies;
 use sb_scripttext::read_script;
 use sb_statements::{Script, Statement};
@@ -48,20 +46,4 @@ pub fn statements_of(script: &Script, thread: usize) -> &[Statement] {
         Some(statements) => statements.as_slice(),
         None => &[],
     }
-}
-
-/// The name that each of these calls begins with. A call of a number or of a handle has none.
-pub fn names_of<'a>(
-    alloc: Global,
-    statements: &'a [Statement],
-) -> Result<Vec<&'a [u16]>, NoMemory> {
-    let mut names = Vec::new(alloc);
-    for statement in statements {
-        if let Statement::Call { args, .. } = statement {
-            if let [Arg::Str(name), ..] = args.as_slice() {
-                names.push(name.as_units())?;
-            }
-        }
-    }
-    Ok(names)
 }

@@ -7,7 +7,7 @@ use crate::inputs::statements_of;
 use sb_book::ReadyScript;
 use sb_call::{Args, CallTag, fits};
 use sb_compile::{Program, compile};
-use sb_rule::{Action, Policy, Verdict, verdict_plain, well_made};
+use sb_rule::{Action, Policy, Verdict, verdict_plain};
 use sb_statements::Statement;
 use std::alloc::Global;
 
@@ -26,13 +26,10 @@ pub fn verdicts_by_code(
     rounds: u64,
 ) -> Result<String, Failure> {
     let calls = calls_of(alloc, statements_of(inputs.script(), 0))?;
-    let [policy, ..] = inputs.policies().policies().list.as_slice() else {
+    let Some(policy) = inputs.policies().get(0) else {
         return Err(Failure::BadInput);
     };
-    if !well_made(policy) {
-        return Err(Failure::BadInput);
-    }
-    let program = compile(alloc, policy)?;
+    let program = compile(alloc, &policy)?;
     let mut allowed: u64 = 0;
     for _round in 0..rounds {
         allowed = allowed.saturating_add(allowed_by_code(&program, &calls));

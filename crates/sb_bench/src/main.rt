@@ -3,16 +3,11 @@
 #![tactic(auto)]
 
 mod answering;
+mod copies;
 mod crowding;
-mod decoding;
 mod failures;
-mod holding;
 mod inputs;
 mod judging;
-mod matching;
-mod opening;
-mod outcomes;
-mod steps;
 mod works;
 mod writing;
 

@@ -1,18 +1,13 @@
 // The works by their words.
 
 use crate::failures::Failure;
-use crate::{answering, crowding, decoding, holding, judging, matching, opening, writing};
+use crate::{crowding, judging, writing};
 use sb_book::ReadyScript;
 use std::alloc::Global;
 
 /// Does a work that needs no policy and no script, in these rounds, and says what came of it.
 pub fn work_alone(alloc: Global, work: &str, rounds: u64) -> Result<String, Failure> {
     match work {
-        "handles-grant" => holding::grants(alloc, rounds),
-        "handles-lookup" => holding::lookups(alloc, rounds),
-        "handles-close" => holding::closes(alloc, rounds),
-        "opens-held" => opening::held(alloc, rounds),
-        "opens-closed" => opening::closed(alloc, rounds),
         "crowd-add" => crowding::adds(alloc, rounds),
         "crowd-find" => crowding::finds(alloc, rounds),
         "crowd-rename" => crowding::renames(alloc, rounds),
@@ -20,7 +15,7 @@ pub fn work_alone(alloc: Global, work: &str, rounds: u64) -> Result<String, Fail
     }
 }
 
-/// Does a work on a policy and a script, in these rounds, and says what came of it. A round of `book` is one answer.
+/// Does a work on a policy and a script, in these rounds, and says what came of it.
 pub fn work_on(
     alloc: Global,
     work: &str,
@@ -28,11 +23,8 @@ pub fn work_on(
     inputs: &ReadyScript,
 ) -> Result<String, Failure> {
     match work {
-        "pattern" => matching::matches(alloc, inputs, rounds),
-        "decode" => decoding::decodings(alloc, inputs, rounds),
         "judge" => judging::verdicts_by_code(alloc, inputs, rounds),
         "judge-plain" => judging::verdicts_by_rules(alloc, inputs, rounds),
-        "book" => answering::answers(alloc, inputs, rounds),
         "transcript" => writing::transcripts(alloc, inputs, rounds),
         _ => Err(Failure::Usage),
     }

@@ -3,9 +3,9 @@ ghost use Rattle.std.specs.Prelude.{◌<◌, ◌^◌, length, IfOk};
 ghost use Rattle.sb_book.specs.Reports.{result_count};
 
 use crate::answering::answered;
+use crate::copies::copies;
 use crate::failures::Failure;
 use crate::inputs::statements_of;
-use crate::steps::steps;
 use sb_book::{AllWords, EntrySlice, ReadyScript, Report, Results, TargetResults, ThreadResults};
 use sb_items::NoMemory;
 use sb_outside::MemSink;
@@ -31,8 +31,8 @@ pub fn transcripts(alloc: Global, inputs: &ReadyScript, rounds: u64) -> Result<S
 fn report_of_calls(alloc: Global, inputs: &ReadyScript) -> Result<Report, Failure>
     ensures { IfOk result (λ report. result_count report.results < 2 ^ 62) }
 {
-    let steps = steps(alloc, statements_of(inputs.script(), 0))?;
-    let book = answered(alloc, inputs, &steps, CALLS)?;
+    let copies = copies(alloc, statements_of(inputs.script(), 0))?;
+    let book = answered(alloc, inputs, &copies, CALLS)?;
     let (entries, kernel) = book.into_parts();
     let results = results_of(alloc, entries.as_slice())?;
     Ok(Report {

@@ -3,12 +3,10 @@
 // holds the same rows with the values that are right.
 #![tactic(auto)]
 
-mod blocks;
 mod bytes;
 mod host;
 mod indexes;
 mod messages;
-mod patterns;
 
 use sb_rows::{RowFault, Table, print_rows};
 use std::alloc::Global;
@@ -38,25 +36,13 @@ impl<R: Files> Table for Functions<'_, R> {
 fn plain_value(alloc: Global, name: &str, parts: &[&str]) -> Result<String, RowFault> {
     match parts {
         [text] => match name {
-            "Pattern::read" => patterns::cells(alloc, text),
             "messages" => messages::messages(alloc, text),
             _ => Err(RowFault::Unknown),
         },
-        [first, second] => value_of_two(alloc, name, first, second),
         [first, second, third] => match name {
-            "fault_of" => blocks::fault(alloc, first, second, third),
             "candidates" => indexes::candidates(alloc, first, second, third),
             _ => Err(RowFault::Unknown),
         },
-        _ => Err(RowFault::Unknown),
-    }
-}
-
-fn value_of_two(alloc: Global, name: &str, first: &str, second: &str) -> Result<String, RowFault> {
-    match name {
-        "Pattern::matches_plain" => patterns::matched(alloc, first, second),
-        "encode" => blocks::encoded(alloc, first, second),
-        "fault_of" => blocks::changed_fault(alloc, first, second),
         _ => Err(RowFault::Unknown),
     }
 }
