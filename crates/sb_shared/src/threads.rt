@@ -103,8 +103,13 @@ impl ThreadSeat {
     fn note_wait(&mut self, script: &SoundScript, act: Act)
         ensures { self.new ≡ record self.old { waiting = repeats act (thread_plan script.now self.old.run.thread) } }
     {
-        let direct = self.state.direct_statement(script);
-        self.waiting = repeats(act, self.state.plan(direct));
+        self.waiting = match act {
+            Act::Load { .. } | Act::Exchange { .. } => {
+                let direct = self.state.direct_statement(script);
+                repeats(act, self.state.plan(direct))
+            }
+            Act::Store { .. } | Act::Take | Act::Answer | Act::Give | Act::Idle => false,
+        };
     }
 
     /// Whether the last step found nothing to go on with: a word that is to be loaded again, or a round of channels of which none was free.

@@ -21,6 +21,21 @@ const LONGEST_SLEEP_MICROSECONDS: u64 = 800;
 // A wait follows at least this many passes that found no call. With one alone a thread sleeps soon after each call.
 const LEAST_PASSES: usize = 2;
 
+// A thread of the script yields at each of the first steps that find nothing to go on with, as many as this, since its reply may wait for this processor.
+const EAGER: u32 = 64;
+
+// After these it yields at one step of this many, so that a wait of millions of loads makes few system calls.
+const SPARSE: u32 = 16;
+
+/// Waits a little after a step that found nothing to go on with, which this many such steps in a row precede: yields the processor, or spins.
+pub(crate) fn rest(steps: u32) {
+    if steps < EAGER || steps % SPARSE == 0 {
+        yield_now();
+    } else {
+        hint::spin_loop();
+    }
+}
+
 // How many passes without a call come before a wait: as many as targets fall to each thread that serves. With fewer a thread waits while others of its
 // targets have calls.
 fn passes_of(targets: usize, serving: usize) -> usize {

@@ -3,14 +3,14 @@ ghost use Rattle.std.specs.Prelude.{◌≡◌, IfOk};
 ghost use Rattle.sb_shared.specs.Closing.{IsThreadSeat};
 ghost use Rattle.sb_task.specs.Threads.{HasEnded};
 
+use crate::pauses::rest;
 use sb_items::NoMemory;
 use sb_shared::{SharedWorld, ThreadSeat};
 use sb_statements::SoundScript;
 use std::sync::Wait;
-use std::thread::yield_now;
 
-/// Makes the steps of a thread until each of its statements has ended. After a step that found nothing to go on with, it looks at the stop word and yields
-/// the processor.
+/// Makes the steps of a thread until each of its statements has ended. After a step that found nothing to go on with, it looks at the stop word and waits a
+/// little.
 ///
 /// # Errors
 /// `NoMemory` if it found the stop word set. The seat is then dropped.
@@ -25,6 +25,7 @@ pub fn run_thread<R: Wait>(
     ensures { IfOk result (λ s. HasEnded seat s) }
 {
     let mut current = seat;
+    let mut waits = 0u32;
     for _ in rt.forever() {
         if current.is_finished(script) {
             break;
@@ -34,7 +35,10 @@ pub fn run_thread<R: Wait>(
             if current.stopped(world).is_some() {
                 return Err(NoMemory);
             }
-            yield_now();
+            rest(waits);
+            waits = waits.saturating_add(1);
+        } else {
+            waits = 0;
         }
     }
     Ok(current)
