@@ -146,7 +146,7 @@ def measure_made(runs):
 def measure_waiting(runs):
     """Processor seconds per second of a run in which one thread waits for more than a second, while there are eight targets and nobody else
     has anything to do. The least of the runs counts, of those by one, two and eight workers each."""
-    waits = 10
+    waits = 80
     script = ["sandbox-script 1"] + texts.target_lines("t0", 1, [["wait 0 0 63 1 %d" % stepping.LOADS_OF_A_WAIT] * waits])
     for target in range(1, 8):
         script += texts.target_lines("t%d" % target, 1, [])
