@@ -1,6 +1,7 @@
 // The forms of all commands, in one table.
-ghost use Rattle.std.specs.Prelude.{◌≡◌, map, option_map};
-ghost use Rattle.sb_commands.specs.Forms.{form_by, form_of, forms};
+ghost use Rattle.std.specs.Prelude.{◌≡◌, option_map};
+ghost use Rattle.sb_commands.specs.Forms.{form_by, form_of, form_with, forms, works};
+ghost use Rattle.sb_commands.specs.declared.works.Work.TheVariants.{Plain};
 ghost use Rattle.sb_commands.specs.UsageMessages.{forms_text};
 
 use crate::works::{PlainWork, ThreadedWork, Work};
@@ -175,19 +176,50 @@ const AUDIT: CommandForm<'static> = CommandForm {
     help: audit_help::HELP,
 };
 
-const FORMS: &'static [CommandForm<'static>] = &[
-    CHECK, REPLAY, RUN, MAKE, LINKED, DUP, LOCAL, AUDIT,
+const WORKS: &'static [Work] = &[
+    Work::Plain(PlainWork::Check),
+    Work::Plain(PlainWork::Replay),
+    Work::Threaded(ThreadedWork::Run),
+    Work::Threaded(ThreadedWork::Make),
+    Work::Plain(PlainWork::Linked),
+    Work::Plain(PlainWork::Dup),
+    Work::Plain(PlainWork::Local),
+    Work::Plain(PlainWork::Audit),
 ];
 
 // The forms of the table as they are written, one after another.
 const FORMS_TEXT: &str =
     "check POLICY, replay POLICY SCRIPT [SCHEDULE], run POLICY SCRIPT [--workers N], make SEED TARGETS CALLS, linked POLICY SCRIPT LINKS, dup POLICY SCRIPT MOVES, local POLICY SCRIPT [SCHEDULE], audit POLICY SCRIPT TRANSCRIPT";
 
-/// All commands.
-pub fn all_forms() -> &'static [CommandForm<'static>]
-    ensures { map form_of result.now ≡ forms }
+/// What commands do, in the order in which they are listed.
+pub fn all_works() -> &'static [Work]
+    ensures { result.now ≡ works }
 {
-    FORMS
+    WORKS
+}
+
+fn plain_form(work: PlainWork) -> CommandForm<'static>
+    ensures { form_of result ≡ form_with (Plain work) }
+{
+    match work {
+        PlainWork::Check => CHECK,
+        PlainWork::Replay => REPLAY,
+        PlainWork::Linked => LINKED,
+        PlainWork::Dup => DUP,
+        PlainWork::Local => LOCAL,
+        PlainWork::Audit => AUDIT,
+    }
+}
+
+/// The form of the command that does this.
+pub fn form_with(work: Work) -> CommandForm<'static>
+    ensures { form_of result ≡ form_with work }
+{
+    match work {
+        Work::Plain(work) => plain_form(work),
+        Work::Threaded(ThreadedWork::Run) => RUN,
+        Work::Threaded(ThreadedWork::Make) => MAKE,
+    }
 }
 
 /// All commands as they are written, in one line: what the usage line lists.
@@ -201,9 +233,10 @@ pub fn forms_text() -> &'static str
 pub fn form_by(name: &str) -> Option<CommandForm<'static>>
     ensures { option_map form_of result ≡ form_by name.now }
 {
-    for form in all_forms() {
+    for work in all_works() {
+        let form = form_with(*work);
         if name == form.name {
-            return Some(*form);
+            return Some(form);
         }
     }
     None

@@ -1,17 +1,18 @@
 // The arguments that ask the program about itself.
 ghost use Rattle.std.specs.Prelude.{◌≡◌, ◌++◌, map, option_map, OnOk, IfOk, string_bytes};
 ghost use Rattle.std.specs.List.{flat_map};
-ghost use Rattle.sb_commands.specs.Forms.{form_by, form_of, place_of};
+ghost use Rattle.sb_commands.specs.Forms.{form_by, form_of, form_with, place_of};
 ghost use Rattle.sb_commands.specs.Inquiries.{HelpOf, answer_text, asked, inquiry_alone, inquiry_by, asked_of, command_help, commands_text, entry_text, faults_of, help_text, is_help_flag, last_faults, part_text, place_faults};
 ghost use Rattle.sb_commands.specs.Usage.{texts};
 
-use crate::forms::{CommandForm, FormPlace, all_forms, form_by};
+use crate::forms::{CommandForm, FormPlace, all_works, form_by, form_with};
 use crate::help_texts::{
     AFTER, BEFORE, LINKS_FAULTS, MOVES_FAULTS, POLICY_FAULTS, SCHEDULE_FAULTS, SCRIPT_FAULTS,
     VERSION,
 };
 use crate::usage::place_name;
 use crate::usage_messages::put_form;
+use crate::works::Work;
 use sb_items::NoMemory;
 use std::alloc::Global;
 
@@ -90,11 +91,11 @@ fn put_entry(out: &mut String, form: CommandForm<'static>) -> Result<(), NoMemor
     Ok(())
 }
 
-fn put_entries(out: &mut String, forms: &[CommandForm<'static>]) -> Result<(), NoMemory>
-    ensures { OnOk result (string_bytes out.new ≡ string_bytes out.old ++ flat_map entry_text (map form_of forms.now)) }
+fn put_entries(out: &mut String, works: &[Work]) -> Result<(), NoMemory>
+    ensures { OnOk result (string_bytes out.new ≡ string_bytes out.old ++ flat_map entry_text (map form_with works.now)) }
 {
-    for form in forms {
-        put_entry(out, *form)?;
+    for work in works {
+        put_entry(out, form_with(*work))?;
     }
     Ok(())
 }
@@ -104,7 +105,7 @@ fn put_commands(out: &mut String, before: &str, after: &str) -> Result<(), NoMem
     ensures { OnOk result (string_bytes out.new ≡ string_bytes out.old ++ commands_text before.now after.now) }
 {
     out.push_str(before)?;
-    put_entries(out, all_forms())?;
+    put_entries(out, all_works())?;
     out.push_str(after)?;
     Ok(())
 }

@@ -26,7 +26,8 @@ mod works;
 pub use command_line::CommandValues;
 pub use commands::{CommandWords, ThreadedWords, command_of};
 pub use forms::{
-    CommandForm, CommandHelp, FormNumber, FormOption, FormPlace, all_forms, form_by, forms_text,
+    CommandForm, CommandHelp, FormNumber, FormOption, FormPlace, all_works, form_by, form_with,
+    forms_text,
 };
 pub use inquiries::{Inquiry, inquiry_of, inquiry_text};
 pub use laws::{commands_are_read, usage_messages_are_clean};
