@@ -15,7 +15,7 @@ use Rattle.std.specs.declared.cmp.Ordering.TheVariants.{Less, Equal, Greater}
 use Rattle.sb_names.specs.Entries.{AreApart, AreHashed, Entries, Entry, IsKept, is_hashed, is_of, place_in, place_of, rows_in, value_by}
 use Rattle.sb_names.specs.Hashes.{hash_of}
 use Rattle.sb_names.specs.Keys.{key_of}
-use Rattle.sb_names.specs.Maps.{Rises, Rows, found, is_key, is_there, put, replaced, without}
+use Rattle.sb_names.specs.Maps.{Rises, Rows, found, is_key, put, replaced, without}
 use Rattle.sb_names.specs.Orders.{by_pair}
 use Rattle.sb_names.proofs.Extent.{same_rows}
 use Rattle.sb_names.proofs.IndexLemmas.{in_range, same_pair, with_hash}
@@ -76,13 +76,6 @@ module _ {V : Type 0} where
   pub found_by_place : (es : Entries V) (name : List ℕ) → found (rows_in es) name ≡ value_by (place_of (key_of name) es)
   found_by_place es name = rows_found (key_of name) es ∙ value_at_place (key_of name) es
 
-  pub is_there_by_place : (es : Entries V) (name : List ℕ) → is_there (rows_in es) name ≡ is_some (place_of (key_of name) es)
-  is_there_by_place es name = ap is_some (found_by_place es name) ∙ by (place_of (key_of name) es)
-    where
-      by : (o : Option (ℕ × V)) → is_some (value_by o) ≡ is_some o
-      by None = refl
-      by (Some p) = refl
-
   -- a name without a value has no place
   pub no_place : (es : Entries V) (name : List ℕ) → found (rows_in es) name ≡ None → place_of (key_of name) es ≡ None
   no_place es name none = by (place_of (key_of name) es) (sym (found_by_place es name) ∙ none)
@@ -90,9 +83,6 @@ module _ {V : Type 0} where
       by : (o : Option (ℕ × V)) → value_by o ≡ None → o ≡ None
       by None e = refl
       by (Some p) e = absurd (cc)
-
-  pub not_there : (es : Entries V) (key : List ℕ) → is_some (place_of key es) ≡ false → place_of key es ≡ None
-  not_there es key e = none_of (place_of key es) e
 
   hash_is : (hash : ℕ) (e : Entry V) → is_hashed e ≡ true → e.0.0 ≡ hash_of None e.1.0
   hash_is hash e h =
@@ -192,13 +182,6 @@ module _ {V : Type 0} where
       let apart = subst (λ test. IsDistinct test (keys_of rows)) (λ i x y. sym (key_test x y) i) (IsDistinct-from_sorted by_unit (keys_of rows) rises) in
       lookup-remove_entry nat_list_eq_equiv (is_key key) (λ x y h. ap (λ a. is_key a y) (is_key_eq key x h)) k rows apart
       ∙ ap (λ b. cond b None (lookup (is_key k) rows)) (nat_list_eq_equiv.symm key k)
-
-  -- a row that is there is replaced by a put
-  pub put_there : (es : Entries V) (name : List ℕ) (w : V) → is_some (place_of (key_of name) es) ≡ true → replaced (rows_in es) name w ≡ put (rows_in es) name w
-  put_there es name w there =
-      same_rows (replaced (rows_in es) name w) (put (rows_in es) name w)
-      (rises_replaced (is_key (key_of name)) w (rows_in es) (rows_in_rise es)) (rises_put (key_of name) w (rows_in es) (rows_in_rise es))
-      (λ k. set_found (rows_in es) (key_of name) w (is_there_by_place es name ∙ there) k ∙ sym (is_found (key_of name) w k (rows_in es)))
 
   -- the row at the place of a key is that of the key
   row_at : (key : List ℕ) (q : ℕ × ℕ) (es : Entries V) → AreApart es → (has : HasAt key q es) → (lookup (is_at (by_pair q)) es ≡ Some has.0) × (key ≡ has.0.0)

@@ -1,5 +1,5 @@
 -- A finite map from folded names: its rows in strictly rising order, so that equal maps are equal lists.
-use Rattle.std.specs.Prelude.{ℕ, Bool, List, Option, is_some, nat_eq, if◌then◌else◌}
+use Rattle.std.specs.Prelude.{ℕ, Bool, List, Option, is_some, nat_eq}
 use Rattle.std.specs.BTreeMap.{insert_entry}
 use Rattle.std.specs.Cmp.Lexicographic.{pointwise, slice_cmp}
 use Rattle.std.specs.List.Sorted.{IsStrictlySortedBy}
@@ -31,10 +31,6 @@ module _ {V : Type 0} where
   -- with a value under a name, in the place of what stood there
   abbrev pub put : Rows V → List ℕ → V → Rows V
   put rows name value = insert_entry (slice_cmp nat_cmp) rows (key_of name) value
-
-  -- with a value under a name that has none
-  abbrev pub put_new : Rows V → List ℕ → V → Rows V
-  put_new rows name value = if is_there rows name then rows else put rows name value
 
   -- with another value in a row that is there
   abbrev pub replaced : Rows V → List ℕ → V → Rows V

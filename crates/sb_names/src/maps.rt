@@ -1,13 +1,12 @@
 // A map from names, compared folded, to values.
-ghost use Rattle.std.specs.Prelude.{◌≡◌, not, [], None, IfOk, IfSome, OnOk, OnErr};
+ghost use Rattle.std.specs.Prelude.{◌≡◌, [], None, IfSome, OnOk, OnErr};
 ghost use Rattle.std.specs.BTreeMap.{IsUnchanged, get};
 ghost use Rattle.sb_names.specs.Entries.{AreHashed, IsKept, place_of, rows_in, value_by};
 ghost use Rattle.sb_names.specs.Hashes.{hash_of};
 ghost use Rattle.sb_names.specs.Keys.{key_of};
-ghost use Rattle.sb_names.specs.Maps.{Rises, found, is_there, put, put_new, replaced, without};
+ghost use Rattle.sb_names.specs.Maps.{Rises, found, put, replaced, without};
 ghost use Rattle.sb_names.specs.Orders.{by_pair};
 
-use crate::folding::fold_name;
 use crate::hashes::hash_of;
 use crate::keys::is_key;
 use sb_items::NoMemory;
@@ -24,12 +23,11 @@ use std::marker::Model;
 pub struct NameMap<V> {
     // Each folded name with its value, under its hash and a number among the names with that hash.
     index: BTreeMap<(u64, u64), (Wide, V)>,
-    alloc: Global,
 }
 
 impl<V: Drop> Drop for NameMap<V> {
     fn drop(self) {
-        let NameMap { index: _, alloc: _ } = self;
+        let NameMap { index: _ } = self;
     }
 }
 
@@ -139,7 +137,6 @@ impl<V: Copy> NameMap<V> {
     {
         NameMap {
             index: BTreeMap::new(alloc),
-            alloc,
         }
     }
 
@@ -152,43 +149,6 @@ impl<V: Copy> NameMap<V> {
             Some((_, value)) => Some(value),
             None => None,
         }
-    }
-
-    /// Puts a value under a name; it replaces the value that was there.
-    ///
-    /// # Errors
-    /// `NoMemory` if there is none for the row; then nothing is changed.
-    #[tactic(auto, using(crate::proofs::EntryLemmas::put_there))]
-    pub fn insert(&mut self, name: &[u16], value: V) -> Result<(), NoMemory>
-        ensures ok { OnOk result (self.new ≡ put self.old name.now value) }
-        ensures err { OnErr result (self.new ≡ self.old) }
-    {
-        let hash = hash_of(None, name);
-        if place(&self.index, hash, name).is_none() {
-            let key = fold_name(self.alloc, name)?;
-            return add_row(&mut self.index, hash, name, key, value);
-        }
-        set_row(&mut self.index, hash, name, value);
-        Ok(())
-    }
-
-    /// Puts a value under a name that has none. Returns false, and changes nothing, if it has one.
-    ///
-    /// # Errors
-    /// `NoMemory` if there is none for the row; then nothing is changed.
-    #[tactic(auto, using(crate::proofs::EntryLemmas::is_there_by_place))]
-    pub fn insert_new(&mut self, name: &[u16], value: V) -> Result<bool, NoMemory>
-        ensures free { IfOk result (λ b. b ≡ not (is_there self.old name.now)) }
-        ensures ok { OnOk result (self.new ≡ put_new self.old name.now value) }
-        ensures err { OnErr result (self.new ≡ self.old) }
-    {
-        let hash = hash_of(None, name);
-        if place(&self.index, hash, name).is_some() {
-            return Ok(false);
-        }
-        let key = fold_name(self.alloc, name)?;
-        add_row(&mut self.index, hash, name, key, value)?;
-        Ok(true)
     }
 
     /// Puts a value under a name that has none, with the name folded by the caller.
