@@ -1,6 +1,5 @@
 // The message of arguments that are no command.
 ghost use Rattle.std.specs.Prelude.{◌≡◌, ◌++◌, [], drop, map, codes, option_map, OnOk, IfOk, string_bytes};
-ghost use Rattle.std.specs.Fmt.{decimal};
 ghost use Rattle.std.specs.List.{flat_map};
 ghost use Rattle.sb_commands.specs.Forms.{bounded_of, choice_of, form_of, place_of};
 ghost use Rattle.sb_commands.specs.Usage.{BadNumber, BadOptionNumber, ExtraWord, Missing, NoFileName, NoOptionNumber, OptionBetween, OptionTwice, UnknownCommand, UnknownOption, fault_of, texts};
@@ -9,18 +8,9 @@ ghost use Rattle.sb_commands.specs.UsageMessages.{argument_text, bounds_text, ch
 use crate::forms::{CommandForm, FormNumber, FormOption, FormPlace, forms_text};
 use crate::usage::place_name;
 use crate::usage_faults::UsageFault;
-use sb_glyphs::{put_quoted, put_shown};
+use sb_glyphs::{put_decimal_text, put_quoted, put_shown};
 use sb_items::NoMemory;
 use std::alloc::Global;
-
-// Appends a number in decimal.
-fn put_number(out: &mut String, number: u64) -> Result<(), NoMemory>
-    ensures { OnOk result (string_bytes out.new ≡ string_bytes out.old ++ decimal number) }
-{
-    let digits = number.to_string(*out.allocator())?;
-    out.push_str(digits.as_str())?;
-    Ok(())
-}
 
 // Appends the names of places.
 fn put_place(out: &mut String, place: FormPlace<'static>) -> Result<(), NoMemory>
@@ -115,9 +105,9 @@ fn put_bounds(out: &mut String, number: FormNumber<'static>) -> Result<(), NoMem
     ensures { OnOk result (string_bytes out.new ≡ string_bytes out.old ++ bounds_text (bounded_of number.entry)) }
 {
     out.push_str(" is not a number from ")?;
-    put_number(out, number.low)?;
+    put_decimal_text(out, number.low)?;
     out.push_str(" to ")?;
-    put_number(out, number.high)
+    put_decimal_text(out, number.high)
 }
 
 // Appends the command, words, and an argument.

@@ -1,12 +1,11 @@
 // The characters of bytes, and what is shown of them.
 ghost use Rattle.std.specs.Prelude.{◌≡◌, ◌<◌, ◌++◌, ◌∷◌, [], length, take, drop, min, IfOk, OnOk, IfSome, MatchOption, string_bytes};
-ghost use Rattle.sb_wide.specs.Numbers.{hexadecimal};
 ghost use Rattle.sb_glyphs.specs.Glyphs.{glyphs_of, is_hidden, is_tab, escaped, shown_glyph, shown, shown_bytes};
 
+use crate::numbers::put_hexadecimal_text;
 use bstr::decode_utf8;
 use sb_items::NoMemory;
 use std::alloc::Global;
-use std::fmt::Write;
 use ucd_category::GeneralCategory;
 
 /// A character, or a byte that is not part of one.
@@ -112,22 +111,12 @@ pub(crate) fn is_tab(glyph: Glyph) -> bool
     matches!(glyph, Glyph::Char('\t'))
 }
 
-/// Appends a number in lower-case hexadecimal digits.
-pub fn put_hexadecimal(out: &mut String, number: u64) -> Result<(), NoMemory>
-    ensures { OnOk result (string_bytes out.new ≡ string_bytes out.old ++ hexadecimal number) }
-{
-    match write!(out, "{number:x}") {
-        Ok(()) => Ok(()),
-        Err(_) => Err(NoMemory),
-    }
-}
-
 // Appends a backslash and a letter with `{`, a number and `}`.
 fn put_escaped(out: &mut String, opening: &str, number: u32) -> Result<(), NoMemory>
     ensures { OnOk result (string_bytes out.new ≡ string_bytes out.old ++ escaped opening.now number) }
 {
     out.push_str(opening)?;
-    put_hexadecimal(out, u64::from(number))?;
+    put_hexadecimal_text(out, u64::from(number))?;
     out.push('}')?;
     Ok(())
 }

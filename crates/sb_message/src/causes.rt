@@ -2,7 +2,7 @@
 ghost use Rattle.std.specs.Prelude.{◌≡◌, ◌++◌, IfOk, OnOk, string_bytes};
 ghost use Rattle.sb_message.specs.Causes.{cause_text, two_text, no_target_text, word_words, names_word, pattern_words};
 
-use crate::messages::put_decimal;
+use sb_glyphs::put_decimal_text;
 use sb_items::NoMemory;
 use sb_pattern::PatternFault;
 use sb_text::WordFault;
@@ -44,9 +44,9 @@ pub(crate) fn put_two(
     ensures { OnOk result (string_bytes out.new ≡ string_bytes out.old ++ two_text before.now first between.now second) }
 {
     out.push_str(before)?;
-    put_decimal(out, first)?;
+    put_decimal_text(out, first)?;
     out.push_str(between)?;
-    put_decimal(out, second)
+    put_decimal_text(out, second)
 }
 
 /// Appends that a script does not have this target, and how many it has.

@@ -9,10 +9,9 @@ ghost use Rattle.sb_wide.specs.Numbers.{hexadecimal};
 ghost use Rattle.sb_message.specs.DueTexts.{clause_words, due_text, entry_text, form_text, form_words, number_text, own_text, place_text, reply_text, result_text, rule_text, spot_text, status_text, totals_text, verdict_text};
 
 use crate::causes::put_two;
-use crate::messages::put_decimal;
 use sb_audit::{Due, FormDue, OwnDue, PlaceDue, ReplyDue, ResultDue, RuleDue, Spot};
 use sb_call::CallTag;
-use sb_glyphs::put_hexadecimal;
+use sb_glyphs::{put_decimal_text, put_hexadecimal_text};
 use sb_items::NoMemory;
 use sb_lineread::TotalsLine;
 use sb_rule::{Action, Verdict};
@@ -47,7 +46,7 @@ fn put_number(out: &mut String, before: &str, number: u64, after: &str) -> Resul
     ensures { OnOk result (string_bytes out.new ≡ string_bytes out.old ++ number_text before.now number after.now) }
 {
     out.push_str(before)?;
-    put_decimal(out, number)?;
+    put_decimal_text(out, number)?;
     out.push_str(after)?;
     Ok(())
 }
@@ -64,7 +63,7 @@ fn put_bits(out: &mut String, before: &str, bits: u64) -> Result<(), NoMemory>
     ensures { OnOk result (string_bytes out.new ≡ string_bytes out.old ++ before.now ++ hexadecimal bits) }
 {
     out.push_str(before)?;
-    put_hexadecimal(out, bits)
+    put_hexadecimal_text(out, bits)
 }
 
 // Appends the next entry, if it may follow.
@@ -204,7 +203,7 @@ fn put_number_and_bits(
     ensures { OnOk result (string_bytes out.new ≡ string_bytes out.old ++ (number_text before.now number between.now ++ hexadecimal bits)) }
 {
     put_number(out, before, number, between)?;
-    put_hexadecimal(out, bits)
+    put_hexadecimal_text(out, bits)
 }
 
 // Appends the outcome and the status of a reply.

@@ -2,8 +2,7 @@
 ghost use Rattle.std.specs.Prelude.{◌≡◌, ◌++◌, codes, OnOk, IfOk, string_bytes};
 ghost use Rattle.sb_message.specs.EndMessages.{numbers_text, file_text, end_text, end_message};
 
-use crate::messages::put_decimal;
-use sb_glyphs::put_shown;
+use sb_glyphs::{put_decimal_text, put_shown};
 use sb_items::NoMemory;
 use std::alloc::Global;
 
@@ -36,9 +35,9 @@ fn put_numbers(
     ensures { OnOk result (string_bytes out.new ≡ string_bytes out.old ++ numbers_text before.now first between.now second after.now) }
 {
     out.push_str(before)?;
-    put_decimal(out, first)?;
+    put_decimal_text(out, first)?;
     out.push_str(between)?;
-    put_decimal(out, second)?;
+    put_decimal_text(out, second)?;
     out.push_str(after)?;
     Ok(())
 }
@@ -55,7 +54,7 @@ fn put_file(
     ensures { OnOk result (string_bytes out.new ≡ string_bytes out.old ++ file_text before.now which between.now file.now after.now) }
 {
     out.push_str(before)?;
-    put_decimal(out, u64::from(which))?;
+    put_decimal_text(out, u64::from(which))?;
     out.push_str(between)?;
     put_shown(out, file)?;
     out.push_str(after)?;

@@ -1,9 +1,8 @@
 // The message of a fault of a text.
 ghost use Rattle.std.specs.Prelude.{◌≡◌, ◌++◌, IfOk, OnOk, string_bytes};
-ghost use Rattle.std.specs.Fmt.{decimal};
 ghost use Rattle.sb_message.specs.Messages.{text_word, headline, first_line, column_text, place_line, message_with};
 
-use sb_glyphs::put_shown;
+use sb_glyphs::{put_decimal_text, put_shown};
 use sb_items::NoMemory;
 use std::alloc::Global;
 
@@ -47,15 +46,6 @@ fn text_word(text: FaultyText) -> &'static str
     }
 }
 
-/// Appends a number in decimal.
-pub(crate) fn put_decimal(out: &mut String, number: u64) -> Result<(), NoMemory>
-    ensures { OnOk result (string_bytes out.new ≡ string_bytes out.old ++ decimal number) }
-{
-    let mut digits = itoa::Buffer::new();
-    out.push_str(digits.format(number))?;
-    Ok(())
-}
-
 // Appends the first line up to the cause.
 fn put_headline(out: &mut String, fault: TextFault) -> Result<(), NoMemory>
     ensures { OnOk result (string_bytes out.new ≡ string_bytes out.old ++ headline fault) }
@@ -63,9 +53,9 @@ fn put_headline(out: &mut String, fault: TextFault) -> Result<(), NoMemory>
     out.push_str("sandbox: ")?;
     out.push_str(text_word(fault.text))?;
     out.push_str(" line ")?;
-    put_decimal(out, u64::from(fault.line))?;
+    put_decimal_text(out, u64::from(fault.line))?;
     out.push_str(" fault ")?;
-    put_decimal(out, fault.kind)
+    put_decimal_text(out, fault.kind)
 }
 
 // Appends the first line.
@@ -84,7 +74,7 @@ fn put_column(out: &mut String, column: u32) -> Result<(), NoMemory>
 {
     if column > 0 {
         out.push(':')?;
-        put_decimal(out, u64::from(column))?;
+        put_decimal_text(out, u64::from(column))?;
     }
     Ok(())
 }
@@ -101,7 +91,7 @@ pub(crate) fn put_place_line(
     out.push_str("  --> ")?;
     put_shown(out, file)?;
     out.push(':')?;
-    put_decimal(out, u64::from(line))?;
+    put_decimal_text(out, u64::from(line))?;
     put_column(out, column)?;
     out.push('\n')?;
     Ok(())

@@ -3,8 +3,9 @@ ghost use Rattle.std.specs.Prelude.{◌≡◌, ◌++◌, codes, OnOk, IfOk, stri
 ghost use Rattle.sb_message.specs.ScriptMessages.{limit_words, place_words, argument_words, start_words, three_text, kind_words, script_words, script_names, script_cause, script_message};
 
 use crate::causes::{names_word, put_no_target, put_two, put_words, word_words};
-use crate::messages::{FaultyText, TextFault, put_decimal, text_message};
+use crate::messages::{FaultyText, TextFault, text_message};
 use crate::places::shown_place;
+use sb_glyphs::put_decimal_text;
 use sb_items::NoMemory;
 use sb_scripttext::{ScriptFault, ScriptKind, ScriptLimit, StartFault};
 use sb_text::WordFault;
@@ -68,7 +69,7 @@ fn put_three(
 {
     put_two(out, before, first, between, second)?;
     out.push_str(after)?;
-    put_decimal(out, third)
+    put_decimal_text(out, third)
 }
 
 fn put_no_channel(

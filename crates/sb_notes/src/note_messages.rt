@@ -1,11 +1,11 @@
 // Notes in words.
 ghost use Rattle.std.specs.Prelude.{◌≡◌, ◌++◌, ◌≤◌, length, take, IfOk, OnOk, string_bytes};
-ghost use Rattle.std.specs.Fmt.{decimal};
 ghost use Rattle.std.specs.List.{flat_map};
 ghost use Rattle.sb_notes.specs.NoteMessages.{line_or_empty, note_headline, note_text, note_words, notes_message, notes_text, number_text};
 
 use crate::kinds::NoteKind;
 use crate::notes::{Note, read_notes};
+use sb_glyphs::put_decimal_text;
 use sb_items::NoMemory;
 use sb_message::{FaultyText, put_place};
 use sb_text::line_numbered;
@@ -25,20 +25,12 @@ fn note_words(kind: NoteKind) -> &'static str
     }
 }
 
-fn put_decimal(out: &mut String, number: u64) -> Result<(), NoMemory>
-    ensures { OnOk result (string_bytes out.new ≡ string_bytes out.old ++ decimal number) }
-{
-    let mut digits = itoa::Buffer::new();
-    out.push_str(digits.format(number))?;
-    Ok(())
-}
-
 // Appends the first line of a note.
 fn put_note_headline(out: &mut String, note: Note) -> Result<(), NoMemory>
     ensures { OnOk result (string_bytes out.new ≡ string_bytes out.old ++ note_headline note) }
 {
     out.push_str("sandbox: note: policy line ")?;
-    put_decimal(out, u64::from(note.line))?;
+    put_decimal_text(out, u64::from(note.line))?;
     out.push_str(": ")?;
     out.push_str(note_words(note.kind))?;
     out.push('\n')?;
@@ -91,7 +83,7 @@ fn put_number(out: &mut String, number: usize) -> Result<(), NoMemory>
 {
     if number > MOST_TOLD {
         out.push_str("sandbox: note: ")?;
-        put_decimal(out, number as u64)?;
+        put_decimal_text(out, number as u64)?;
         out.push_str(" notes, of which the first 20 are shown\n")?;
     }
     Ok(())
