@@ -2,6 +2,7 @@
 use Rattle.std.proofs.Common.{◌≡◌, ◌∙◌, ℕ, suc, ◌+◌, ◌≤◌, nat_le, true, cond, List, [], ◌∷◌, ◌++◌, Some, None, Option, Ok, Err, Result, length, map, ap, refl, subst, sym, arith}
 use Rattle.std.specs.Fmt.{decimal}
 use Rattle.std.specs.List.{list_all}
+use Rattle.std.specs.Prelude.{codes}
 use Rattle.std.proofs.lemmas.Bool.Decides.{nat_tests}
 use Rattle.std.proofs.lemmas.List.{append_assoc, append-nil}
 use Rattle.std.proofs.lemmas.List.Folds.{list_all-append}
@@ -11,9 +12,9 @@ use Rattle.sb_scheduletext.specs.Limits.{most_steps, most_rounds}
 use Rattle.sb_scheduletext.specs.Lines.{no_more, count_at, step, rounds, line_by, line_of}
 use Rattle.sb_scheduletext.specs.Printing.{actor_word, version_words, step_words, rounds_words, schedule_lines, words_line, written, is_actor_of_values, is_made, in_order}
 use Rattle.sb_scheduletext.specs.PrintingLaws.{WrittenSchedulesAreRead, OrdersAreRead, ReadSchedulesAreReadAgain}
-use Rattle.sb_scheduletext.specs.ScheduleTexts.{ScheduleFault, version_line, grammar}
+use Rattle.sb_scheduletext.specs.ScheduleTexts.{ScheduleFault, grammar}
 use Rattle.sb_scheduletext.specs.declared.faults.ScheduleKind.{ScheduleKind}
-use Rattle.sb_scheduletext.specs.declared.faults.ScheduleKind.TheVariants.{UnknownActor, TooMany}
+use Rattle.sb_scheduletext.specs.declared.faults.ScheduleKind.TheVariants.{UnknownActor, UnknownWord, TooMany}
 use Rattle.sb_statements.specs.Actors.{is_there, is_step_there}
 use Rattle.sb_statements.specs.declared.schedules.Actor.{Actor}
 use Rattle.sb_statements.specs.declared.schedules.Schedule.{Schedule}
@@ -23,7 +24,9 @@ use Rattle.sb_text.specs.NumberLaws.{DecimalsAreRead}
 use Rattle.sb_text.specs.Readings.{on_line, read_lines, read_by}
 use Rattle.sb_text.specs.Spots.{by_words}
 use Rattle.sb_text.specs.Steps.{◌>>=◌, at_left, or_fault}
+use Rattle.sb_text.specs.WordVersions.{version_in_words}
 use Rattle.sb_text.specs.declared.refusals.TokenFault.{TokenFault}
+use Rattle.sb_text.specs.declared.refusals.WordFault.TheVariants.{NoVersion}
 use Rattle.sb_text.specs.PlainLines.{PlainLinesAreRead, PlainWordsAreRead}
 use Rattle.sb_scheduletext.proofs.Bounds.{actors_are_there, actors_make_steps, steps_are_counted, rounds_are_counted}
 use Rattle.sb_scheduletext.proofs.Conjunctions.{both, and_true}
@@ -151,7 +154,7 @@ written_read laws targets schedule there made few most =
     let below = numbered 2 (map step_words schedule.steps ++ rounds_words schedule.rounds ∷ []) in
     let count = length (raw_lines (written schedule)) in
     ap (λ (lines : List NumberedLine). read_by (grammar targets) lines >>= λ draft. finished count draft) (lines_back laws.lines (schedule_lines schedule) plain)
-    ∙ ap (λ (found : List (List ℕ)). (on_line by_words (record { number = 1; text = words_line version_words }) (version_line found)
+    ∙ ap (λ (found : List (List ℕ)). (on_line by_words (record { number = 1; text = words_line version_words }) (version_in_words (UnknownWord NoVersion) (codes "sandbox-schedule") found)
     >>= λ version. read_lines (grammar targets) version (drafted []) below) >>= λ draft. finished count draft)
     (laws.words version_words refl)
     ∙ ap (λ (read : Result Drafted ScheduleFault). read >>= λ draft. finished count draft) (body_read laws targets schedule.steps schedule.rounds there made few most)

@@ -1,6 +1,5 @@
 -- What a schedule text means: a schedule, or the first fault. A text is taken as bytes, each of which is a character.
-use Rattle.std.specs.Prelude.{ℕ, List, [], ◌∷◌, length, Result, Ok, if◌then◌else◌, codes}
-use Rattle.sb_call.specs.CallWords.{is_word}
+use Rattle.std.specs.Prelude.{ℕ, List, length, Result, codes}
 use Rattle.sb_scheduletext.specs.Drafts.{Drafted, nothing, finished}
 use Rattle.sb_scheduletext.specs.Lines.{line_of}
 use Rattle.sb_scheduletext.specs.declared.faults.ScheduleKind.{ScheduleKind}
@@ -9,8 +8,9 @@ use Rattle.sb_statements.specs.declared.schedules.Schedule.{Schedule}
 use Rattle.sb_statements.specs.declared.scripts.TargetScript.{TargetScript}
 use Rattle.sb_text.specs.Lines.{NumberedLine, raw_lines, lines_of}
 use Rattle.sb_text.specs.Readings.{Grammar, read_by}
-use Rattle.sb_text.specs.Spots.{by_words, fails_left}
+use Rattle.sb_text.specs.Spots.{by_words}
 use Rattle.sb_text.specs.Steps.{◌>>=◌}
+use Rattle.sb_text.specs.WordVersions.{version_in_words}
 use Rattle.sb_text.specs.Words.{words_of}
 use Rattle.sb_text.specs.declared.refusals.LineFault.{LineFault}
 use Rattle.sb_text.specs.declared.refusals.TokenFault.{TokenFault}
@@ -20,27 +20,9 @@ use Rattle.sb_text.specs.declared.refusals.WordFault.TheVariants.{NoVersion}
 abbrev pub ScheduleFault : Type 0
 ScheduleFault = LineFault ScheduleKind
 
--- a first line that is not `sandbox-schedule 1`, with the first word that departs
-abbrev pub no_version : {A : Type 0} → List (List ℕ) → Result A (TokenFault ScheduleKind)
-no_version words = fails_left (length words) (UnknownWord NoVersion)
-
--- the version line ends here
-abbrev pub version_end : List (List ℕ) → Result ℕ (TokenFault ScheduleKind)
-version_end [] = Ok 1
-version_end (word ∷ words) = no_version (word ∷ words)
-
--- the version is `1`
-abbrev pub version_one : List (List ℕ) → Result ℕ (TokenFault ScheduleKind)
-version_one [] = no_version []
-version_one (word ∷ words) = if is_word (codes "1") word then version_end words else no_version (word ∷ words)
-
 -- the version line is `sandbox-schedule 1`
-abbrev pub version_line : List (List ℕ) → Result ℕ (TokenFault ScheduleKind)
-version_line [] = no_version []
-version_line (word ∷ words) = if is_word (codes "sandbox-schedule") word then version_one words else no_version (word ∷ words)
-
 abbrev pub schedule_version : List ℕ → Result ℕ (TokenFault ScheduleKind)
-schedule_version line = version_line (words_of line)
+schedule_version line = version_in_words (UnknownWord NoVersion) (codes "sandbox-schedule") (words_of line)
 
 -- what was read so far, and what a line adds to it
 abbrev pub add_line : List TargetScript → Drafted → NumberedLine → Result Drafted (TokenFault ScheduleKind)

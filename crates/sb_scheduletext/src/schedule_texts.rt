@@ -4,7 +4,7 @@ ghost use Rattle.std.specs.List.{list_all};
 ghost use Rattle.sb_statements.specs.Actors.{is_step_there};
 ghost use Rattle.sb_scheduletext.specs.Drafts.{nothing, step_count};
 ghost use Rattle.sb_scheduletext.specs.Limits.{most_steps, most_rounds};
-ghost use Rattle.sb_scheduletext.specs.ScheduleTexts.{no_version, version_one, version_line, grammar, reading};
+ghost use Rattle.sb_scheduletext.specs.ScheduleTexts.{grammar, reading};
 ghost use Rattle.sb_scheduletext.specs.declared.faults.ScheduleKind.TheVariants.{UnknownWord};
 ghost use Rattle.sb_items.specs.Refusals.{Gives};
 ghost use Rattle.sb_text.specs.Spots.{by_words};
@@ -15,40 +15,10 @@ use crate::faults::{LineRefused, ScheduleKind, ScheduleRefused};
 use crate::laws::read_schedules_are_bounded;
 use crate::lines::line_of;
 use sb_statements::{Schedule, Script};
-use sb_text::{ByteLine, ByteLines, Layout, TextGrammar, WordFault, Words, line_count, read_by};
+use sb_text::{
+    ByteLine, ByteLines, Layout, TextGrammar, WordFault, line_count, read_by, version_in_words,
+};
 use std::alloc::Global;
-
-// A first line that is not `sandbox-schedule 1`, with the first word that departs.
-fn no_version(due: &Words) -> Result<u32, LineRefused>
-    ensures { Gives (no_version due.now) result }
-{
-    Err(due.fail(ScheduleKind::UnknownWord(WordFault::NoVersion)))
-}
-
-// The version is `1`, up to the end of the line.
-fn version_one(due: &Words) -> Result<u32, LineRefused>
-    ensures { Gives (version_one due.now) result }
-{
-    let mut words = due.copy();
-    match words.next_word() {
-        Some(word) if word == b"1".as_slice() => match words.copy().next_word() {
-            None => Ok(1),
-            Some(_) => no_version(&words),
-        },
-        _ => no_version(due),
-    }
-}
-
-// The version line is `sandbox-schedule 1`.
-fn version_line(due: &Words) -> Result<u32, LineRefused>
-    ensures { Gives (version_line due.now) result }
-{
-    let mut words = due.copy();
-    match words.next_word() {
-        Some(word) if word == b"sandbox-schedule".as_slice() => version_one(&words),
-        _ => no_version(due),
-    }
-}
 
 // Schedule texts, for the actors of a script.
 #[derive(Drop)]
@@ -71,7 +41,11 @@ impl<'a, 'b> TextGrammar<ByteLines<'b>> for ScheduleGrammar<'a> {
     }
 
     fn version(&self, line: &ByteLine<'b>) -> Result<u32, LineRefused> {
-        version_line(&line.words())
+        version_in_words(
+            ScheduleKind::UnknownWord(WordFault::NoVersion),
+            b"sandbox-schedule",
+            &line.words(),
+        )
     }
 
     fn no_version(&self) -> ScheduleKind

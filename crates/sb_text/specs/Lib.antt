@@ -4,6 +4,7 @@ pub mod Tokens
 pub mod Utf8
 pub mod Words
 pub mod Steps
+pub mod WordVersions
 pub mod Readings
 pub mod LineLaws
 pub mod TokenLaws

@@ -19,6 +19,7 @@ mod steps;
 mod text_lines;
 mod tokens;
 mod utf8;
+mod word_versions;
 mod words;
 
 pub use byte_lines::{ByteLine, ByteLines};
@@ -45,4 +46,5 @@ pub use steps::{end_at, or_fails, or_fault, quoted_at, version_at, version_digit
 pub use text_lines::TextLines;
 pub use tokens::{Token, Tokens};
 pub use utf8::{NotUtf8, string_of, text_of};
+pub use word_versions::version_in_words;
 pub use words::Words;
