@@ -12,7 +12,7 @@ use Rattle.std.proofs.lemmas.Str.Ascii.{IsAscii-cons, IsAscii-nil}
 use Rattle.sb_dup.specs.Lines.{MoveWords, access_at, end_at, has_quote, is_between, is_there, line_of, move_by, number_at, operands, with_move, word_at}
 use Rattle.sb_dup.specs.MoveLaws.{WrittenMovesAreRead}
 use Rattle.sb_dup.specs.MovePrinting.{is_of_values, line_text, move_words, version_words, words_line, written}
-use Rattle.sb_dup.specs.MoveTexts.{by_characters, grammar, version_line}
+use Rattle.sb_dup.specs.MoveTexts.{by_characters, grammar}
 use Rattle.sb_dup.specs.declared.faults.MoveKind.{MoveKind}
 use Rattle.sb_dup.specs.declared.faults.MoveKind.TheVariants.{TooMany, UnknownWord}
 use Rattle.sb_dup.specs.declared.moves.Move.{Move}
@@ -25,9 +25,10 @@ use Rattle.sb_text.specs.Readings.{on_line, read_by, read_lines}
 use Rattle.sb_text.specs.Spots.{by_words, fails_left}
 use Rattle.sb_text.specs.Steps.{◌>>=◌}
 use Rattle.sb_text.specs.Tokens.{Lexeme, Word}
+use Rattle.sb_text.specs.WordVersions.{version_in_words}
 use Rattle.sb_text.specs.Words.{is_some_word}
 use Rattle.sb_text.specs.declared.refusals.TokenFault.{TokenFault}
-use Rattle.sb_text.specs.declared.refusals.WordFault.TheVariants.{Broken, Quoted}
+use Rattle.sb_text.specs.declared.refusals.WordFault.TheVariants.{Broken, NoVersion, Quoted}
 
 -- the laws of texts that the proof stands on
 pub record Laws : Type 0 where
@@ -243,6 +244,6 @@ written_read laws targets moves there values few =
     let below = numbered 2 (map move_words moves) in
     ap (λ (lines : List NumberedLine). by_characters (written moves) (read_by (grammar targets) lines))
     (lines_back laws.lines (version_words ∷ map move_words moves) (and_from _ _ refl (lines_plain laws.numbers moves values)))
-    ∙ ap (λ (found : List (List ℕ)). by_characters (written moves) (on_line by_words (record { number = 1; text = words_line version_words }) (version_line found)
+    ∙ ap (λ (found : List (List ℕ)). by_characters (written moves) (on_line by_words (record { number = 1; text = words_line version_words }) (version_in_words (UnknownWord NoVersion) (codes "sandbox-moves") found)
     >>= λ version. read_lines (grammar targets) version [] below)) (laws.words version_words refl)
     ∙ ap (by_characters (written moves)) (moves_back laws targets [] 2 moves there values (omega (arith, few)))

@@ -1,13 +1,13 @@
 -- What a file of moves means: the moves, or the first fault. It is taken as bytes; a column counts characters, as in all files.
-use Rattle.std.specs.Prelude.{ℕ, zero, suc, ◌+◌, List, [], ◌∷◌, length, take, Option, None, Some, Result, Ok, Err, if◌then◌else◌, codes}
-use Rattle.sb_call.specs.CallWords.{is_word}
+use Rattle.std.specs.Prelude.{ℕ, zero, suc, ◌+◌, List, [], take, Option, None, Some, Result, Ok, Err, codes}
 use Rattle.sb_dup.specs.Lines.{line_of}
 use Rattle.sb_dup.specs.declared.faults.MoveKind.{MoveKind}
 use Rattle.sb_dup.specs.declared.faults.MoveKind.TheVariants.{UnknownWord}
 use Rattle.sb_dup.specs.declared.moves.Move.{Move}
 use Rattle.sb_text.specs.Lines.{NumberedLine, line_numbered, lines_of}
 use Rattle.sb_text.specs.Readings.{Grammar, read_by}
-use Rattle.sb_text.specs.Spots.{by_tokens, by_words, characters, fails_left}
+use Rattle.sb_text.specs.Spots.{by_tokens, by_words, characters}
+use Rattle.sb_text.specs.WordVersions.{version_in_words}
 use Rattle.sb_text.specs.Words.{words_of}
 use Rattle.sb_text.specs.declared.refusals.LineFault.{LineFault}
 use Rattle.sb_text.specs.declared.refusals.TokenFault.{TokenFault}
@@ -17,27 +17,9 @@ use Rattle.sb_text.specs.declared.refusals.WordFault.TheVariants.{NoVersion}
 abbrev pub MoveFault : Type 0
 MoveFault = LineFault MoveKind
 
--- a first line that is not `sandbox-moves 1`, with the first word that departs
-abbrev pub no_version : {A : Type 0} → List (List ℕ) → Result A (TokenFault MoveKind)
-no_version words = fails_left (length words) (UnknownWord NoVersion)
-
--- the version line ends here
-abbrev pub version_end : List (List ℕ) → Result ℕ (TokenFault MoveKind)
-version_end [] = Ok 1
-version_end (word ∷ words) = no_version (word ∷ words)
-
--- the version is `1`
-abbrev pub version_one : List (List ℕ) → Result ℕ (TokenFault MoveKind)
-version_one [] = no_version []
-version_one (word ∷ words) = if is_word (codes "1") word then version_end words else no_version (word ∷ words)
-
 -- the version line is `sandbox-moves 1`
-abbrev pub version_line : List (List ℕ) → Result ℕ (TokenFault MoveKind)
-version_line [] = no_version []
-version_line (word ∷ words) = if is_word (codes "sandbox-moves") word then version_one words else no_version (word ∷ words)
-
 abbrev pub moves_version : List ℕ → Result ℕ (TokenFault MoveKind)
-moves_version line = version_line (words_of line)
+moves_version line = version_in_words (UnknownWord NoVersion) (codes "sandbox-moves") (words_of line)
 
 -- what a line adds to the moves so far
 abbrev pub add_line : ℕ → List Move → NumberedLine → Result (List Move) (TokenFault MoveKind)

@@ -2,7 +2,7 @@
 ghost use Rattle.std.specs.Prelude.{◌≡◌, ◌+◌, ◌<◌, ◌≤◌, ◌^◌, [], length, true, IfOk};
 ghost use Rattle.std.specs.List.{list_all};
 ghost use Rattle.sb_dup.specs.Lines.{is_between, most_moves};
-ghost use Rattle.sb_dup.specs.MoveTexts.{column_on, grammar, in_characters, no_version, reading, version_line, version_one};
+ghost use Rattle.sb_dup.specs.MoveTexts.{column_on, grammar, in_characters, reading};
 ghost use Rattle.sb_dup.specs.declared.faults.MoveKind.TheVariants.{UnknownWord};
 ghost use Rattle.sb_items.specs.Refusals.{Gives};
 ghost use Rattle.sb_text.specs.Lines.{line_numbered};
@@ -13,40 +13,10 @@ use crate::faults::{LineRefused, MoveFault, MoveKind, MovesRefused};
 use crate::lines::line_of;
 use crate::moves::Moves;
 use sb_statements::SoundScript;
-use sb_text::{ByteLine, ByteLines, Layout, TextGrammar, WordFault, Words, line_numbered, read_by};
+use sb_text::{
+    ByteLine, ByteLines, Layout, TextGrammar, WordFault, line_numbered, read_by, version_in_words,
+};
 use std::alloc::Global;
-
-// A first line that is not `sandbox-moves 1`, with the first word that departs.
-fn no_version(due: &Words) -> Result<u32, LineRefused>
-    ensures { Gives (no_version due.now) result }
-{
-    Err(due.fail(MoveKind::UnknownWord(WordFault::NoVersion)))
-}
-
-// The version is `1`, up to the end of the line.
-fn version_one(due: &Words) -> Result<u32, LineRefused>
-    ensures { Gives (version_one due.now) result }
-{
-    let mut words = due.copy();
-    match words.next_word() {
-        Some(word) if word == b"1".as_slice() => match words.copy().next_word() {
-            None => Ok(1),
-            Some(_) => no_version(&words),
-        },
-        _ => no_version(due),
-    }
-}
-
-// The version line is `sandbox-moves 1`.
-fn version_line(due: &Words) -> Result<u32, LineRefused>
-    ensures { Gives (version_line due.now) result }
-{
-    let mut words = due.copy();
-    match words.next_word() {
-        Some(word) if word == b"sandbox-moves".as_slice() => version_one(&words),
-        _ => no_version(due),
-    }
-}
 
 // Files of moves between this number of targets.
 #[derive(Drop)]
@@ -69,7 +39,11 @@ impl<'b> TextGrammar<ByteLines<'b>> for MoveGrammar {
     }
 
     fn version(&self, line: &ByteLine<'b>) -> Result<u32, LineRefused> {
-        version_line(&line.words())
+        version_in_words(
+            MoveKind::UnknownWord(WordFault::NoVersion),
+            b"sandbox-moves",
+            &line.words(),
+        )
     }
 
     fn no_version(&self) -> MoveKind
