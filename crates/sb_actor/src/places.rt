@@ -19,28 +19,28 @@ pub fn mark_at(thread: u32, place: u32) -> u64
 }
 
 /// The statements of a thread, none if it is not there.
-pub(crate) fn statements_of(script: &SoundScript, target: u32, thread: u32) -> &[Statement]
+pub(crate) fn statements_of(script: &SoundScript, target: u32, thread: usize) -> &[Statement]
     ensures { result.now ≡ statements_of script.now target thread }
 {
     let Some(target) = script.targets.as_slice().get(target as usize) else {
         return &[];
     };
-    match target.threads.as_slice().get(thread as usize) {
+    match target.threads.as_slice().get(thread) {
         Some(statements) => statements.as_slice(),
         None => &[],
     }
 }
 
-/// The statement at a place.
-pub(crate) fn statement_at(
+/// The statement at a place of a thread of a target, if there is one. All are numbered from 0.
+pub fn statement_at(
     script: &SoundScript,
     target: u32,
-    thread: u32,
-    place: u32,
+    thread: usize,
+    place: usize,
 ) -> Option<&Statement>
     ensures { option_map (λ s. s.now) result ≡ statement_at script.now target thread place }
 {
-    statements_of(script, target, thread).get(place as usize)
+    statements_of(script, target, thread).get(place)
 }
 
 /// The statement at a place, which is sound, and at one of at most 4,096 places.
@@ -56,7 +56,7 @@ pub(crate) fn sound_statement_at(
 {
     sound_parts();
     script.establish_sound();
-    statement_at(script, target, thread, place)
+    statement_at(script, target, thread as usize, place as usize)
 }
 
 /// The block of a call.

@@ -23,6 +23,7 @@ use crate::phases::ThreadPhase;
 use crate::places::{
     block_of, clean_upto, mark_at, sound_statement_at, statement_at, statements_of,
 };
+use crate::words::clear;
 use arrayvec::ArrayVec;
 use sb_block::{Words, read_reply};
 use sb_call::Reply;
@@ -147,15 +148,6 @@ fn reply_by(channel: u32, mark: u64, reply: Reply) -> CallResult
             channel,
             mark: reply.mark,
         }
-    }
-}
-
-// Takes the words out of a block. One that has none is left as it is.
-fn clear(block: &mut Words)
-    ensures { block.new ≡ [] }
-{
-    if block.len() > 0 {
-        *block = Words::empty();
     }
 }
 
@@ -484,7 +476,12 @@ impl ThreadState {
         ensures { option_map (λ s. s.now) result ≡ direct_at script.now self.now }
     {
         match self.phase {
-            ThreadPhase::Stray => statement_at(script, self.target, self.thread, self.place),
+            ThreadPhase::Stray => statement_at(
+                script,
+                self.target,
+                self.thread as usize,
+                self.place as usize,
+            ),
             _ => None,
         }
     }
@@ -594,6 +591,6 @@ impl ThreadState {
     pub fn finished(&self, script: &SoundScript) -> bool
         ensures { result ≡ is_finished script.now self.now }
     {
-        self.place as usize >= statements_of(script, self.target, self.thread).len()
+        self.place as usize >= statements_of(script, self.target, self.thread as usize).len()
     }
 }

@@ -12,6 +12,7 @@ use crate::acts::{
     ACKNOWLEDGED, Act, Observed, READY, block_word, exchange, load, state_word, store,
 };
 use crate::phases::WorkerPhase;
+use crate::words::clear;
 use sb_block::{BlockCopy, MOST_PARAMETERS, Words, reply_words};
 use sb_call::Reply;
 use std::marker::Model;
@@ -88,15 +89,6 @@ fn end_without(taken: &mut BlockCopy, count: u64, end: u64)
     ensures { taken.new ≡ copied count end [] }
 {
     *taken = no_words(count, end);
-}
-
-// Takes the words out of a copy. One that has none is left as it is.
-fn clear(words: &mut Words)
-    ensures { words.new ≡ [] }
-{
-    if words.len() > 0 {
-        *words = Words::empty();
-    }
 }
 
 // A copy that ended before its first word.

@@ -2,13 +2,14 @@
 ghost use Rattle.std.specs.Prelude.{◌≡◌, ◌<◌, ◌++◌, ◌+◌, List, length, nat_eq, option_map, slice_get, Some, IfOk, IfErr, IfSome};
 ghost use Rattle.std.specs.Cmp.Lexicographic.{pointwise};
 ghost use Rattle.std.specs.List.{position};
-ghost use Rattle.sb_actor.specs.Places.{statement_at, statements_of};
+ghost use Rattle.sb_actor.specs.Places.{statement_at};
 ghost use Rattle.sb_audit.specs.Before.{target_of};
 ghost use Rattle.sb_audit.specs.Found.{IsFound};
 ghost use Rattle.sb_audit.specs.Spots.{thread_places, due_spot};
 ghost use Rattle.sb_audit.specs.declared.spots.Spot.{Spot};
 
 use crate::spots::Spot;
+use sb_actor::statement_at;
 use sb_call::ShortName;
 use sb_statements::{SoundScript, Statement, Statements, TargetScript, sound_parts};
 
@@ -27,31 +28,6 @@ pub(crate) fn target_of(script: &SoundScript, name: &ShortName) -> Option<u32>
     let _at_most_8 = script.target_count();
     let target = named(&script.targets, name)?;
     Some(target as u32)
-}
-
-// The statements of a thread, none if it is not there.
-fn statements_of(script: &SoundScript, target: u32, thread: usize) -> &[Statement]
-    ensures { result.now ≡ statements_of script.now target thread }
-{
-    let Some(target) = script.targets.as_slice().get(target as usize) else {
-        return &[];
-    };
-    match target.threads.as_slice().get(thread) {
-        Some(statements) => statements.as_slice(),
-        None => &[],
-    }
-}
-
-// The statement at a place of a thread of a target, if there is one.
-fn statement_at(
-    script: &SoundScript,
-    target: u32,
-    thread: usize,
-    place: usize,
-) -> Option<&Statement>
-    ensures { option_map (λ s. s.now) result ≡ statement_at script.now target thread place }
-{
-    statements_of(script, target, thread).get(place)
 }
 
 /// The statement at a place of a thread of a target, if there is one. It is sound, and its place is small.
