@@ -1,12 +1,16 @@
 -- The codes of a program stand at the numbers of their calls.
 use Rattle.std.specs.Prelude.{Option, None, slice_index_or}
-use Rattle.std.proofs.Common.{◌≡◌, ℕ, ◌-◌, zero, suc, true, List, [], ◌∷◌, ◌++◌, map, refl}
+use Rattle.std.proofs.Common.{◌≡◌, ◌∙◌, ℕ, ◌-◌, zero, suc, true, List, [], ◌∷◌, ◌++◌, map, refl, ap}
 use Rattle.std.proofs.lemmas.Bool.{and_parts, false≢true}
 use Rattle.sb_call.specs.Tags.{number_of}
 use Rattle.sb_call.specs.declared.tags.CallTag.{CallTag}
 use Rattle.sb_call.specs.declared.tags.CallTag.TheVariants.{Ping, FileCreate, FileOpen, FileQuery, FileRename, PipeCreate, KeyCreate, KeyOpen, EventCreate, EventOpen, HandleClose}
+use Rattle.sb_opcode.specs.Opcodes.{Opcode}
 use Rattle.sb_opcode.specs.Verified.{VerifiedCode}
+use Rattle.sb_rule.specs.declared.policies.Policy.{Policy}
 use Rattle.sb_call.specs.CallWords.{every_tag}
+use Rattle.sb_compile.specs.Compiling.{code_in, code_of, program_of}
+use Rattle.sb_compile.specs.Listing.{code_lines}
 use Rattle.sb_compile.specs.Programs.{code_in_call, is_for_tag, are_for}
 use Rattle.sb_compile.proofs.Members.{both}
 
@@ -47,3 +51,22 @@ pub code_at : (calls : List (Option VerifiedCode)) (i : ℕ) → slice_index_or 
 code_at [] i = refl
 code_at (c ∷ calls) zero = refl
 code_at (c ∷ calls) (suc i) = code_at calls i
+
+-- the code of a call in the program of a policy
+code_in_program : (policy : Policy) (tag : CallTag) → code_of policy.rules tag ≡ code_in (program_of policy) tag
+code_in_program policy Ping = refl
+code_in_program policy FileCreate = refl
+code_in_program policy FileOpen = refl
+code_in_program policy FileQuery = refl
+code_in_program policy FileRename = refl
+code_in_program policy PipeCreate = refl
+code_in_program policy KeyCreate = refl
+code_in_program policy KeyOpen = refl
+code_in_program policy EventCreate = refl
+code_in_program policy EventOpen = refl
+code_in_program policy HandleClose = refl
+
+-- and its lines
+pub code_listed : (policy : Policy) (tag : CallTag) (code : List Opcode) → code ≡ code_of policy.rules tag
+    → code_lines policy.name tag code ≡ code_lines policy.name tag (code_in (program_of policy) tag)
+code_listed policy tag code e = ap (code_lines policy.name tag) (e ∙ code_in_program policy tag)

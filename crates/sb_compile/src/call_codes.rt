@@ -86,13 +86,6 @@ impl CallCode {
         Ok(CallCode { rules: code, index })
     }
 
-    /// The code.
-    pub fn code(&self) -> &Verified
-        ensures { result.now ≡ self.now }
-    {
-        self.rules.code()
-    }
-
     /// The verdict of the code on a call whose arguments fit. Does not allocate.
     pub fn judge(&self, args: &[Arg]) -> Verdict
         requires { fits self.now.tag args.now ≡ true }

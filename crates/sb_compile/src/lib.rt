@@ -17,5 +17,5 @@ pub use laws::{
     groups_hold_where_conditions_do, letter_case_does_not_matter, listings_are_lines,
     listings_differ,
 };
-pub use programs::{Program, compile};
+pub use programs::{Program, compile, put_listing};
 pub use targets::{PolicyNumbers, ProgramList, Programs};

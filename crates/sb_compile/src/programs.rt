@@ -14,7 +14,6 @@ use crate::listing::put_code;
 use crate::rules::code_of;
 use sb_call::{Arg, CallTag, ShortName, every_tag, number_of, tags_and_numbers};
 use sb_items::NoMemory;
-use sb_opcode::Verified;
 use sb_rule::{Verdict, WellMadePolicy};
 use std::alloc::Global;
 use std::marker::Model;
@@ -107,50 +106,37 @@ impl Program {
             _ => None,
         }
     }
-
-    /// The code of a call. None exactly if the call has no rules.
-    pub fn code(&self, tag: CallTag) -> Option<&Verified>
-        ensures { MatchOption result (code_in self.now tag ≡ []) (λ code. (code.now.code ≡ code_in self.now tag) × (code.now.tag ≡ tag)) }
-    {
-        match self.call(tag) {
-            Some(call) => Some(call.code()),
-            None => None,
-        }
-    }
-
-    // Appends the listing of a call.
-    fn put_call(&self, text: &mut Vec<u8>, tag: CallTag) -> Result<(), NoMemory>
-        ensures { OnOk result (text.new.items ≡ text.old.items ++ code_lines self.now.name tag (code_in self.now tag)) }
-    {
-        match self.code(tag) {
-            Some(code) => {
-                put_code(text, self.name.bytes(), tag, code.code())?;
-                Ok(())
-            }
-            None => Ok(()),
-        }
-    }
-
-    /// The listing: for each call that has rules, in the order of their numbers, the line `code POLICY CALL` and a line for
-    /// each opcode, with its place, what it does and its options.
-    ///
-    /// # Errors
-    /// `NoMemory` if there was none for the text.
-    pub fn listing(&self, alloc: Global) -> Result<Vec<u8>, NoMemory>
-        ensures { IfOk result (λ text. text.items ≡ listing_of self.now) }
-    {
-        let mut text = Vec::new(alloc);
-        put_calls(&mut text, self)?;
-        Ok(text)
-    }
 }
 
-// Appends the listings of all calls of a program.
-fn put_calls(text: &mut Vec<u8>, program: &Program) -> Result<(), NoMemory>
-    ensures { OnOk result (text.new.items ≡ text.old.items ++ listing_of program.now) }
+// Appends the listing of the code of a policy for a call.
+#[tactic(auto, using(crate::proofs::Calls::code_listed))]
+fn put_call(
+    text: &mut Vec<u8>,
+    alloc: Global,
+    policy: &WellMadePolicy<'_>,
+    tag: CallTag,
+) -> Result<(), NoMemory>
+    ensures { OnOk result (text.new.items ≡ text.old.items ++ code_lines policy.now.name tag (code_in (program_of policy.now) tag)) }
+{
+    let code = code_of(alloc, policy, tag)?;
+    put_code(text, policy.policy().name.bytes(), tag, &code)
+}
+
+/// Appends the listing of the program of a policy: for each call that has rules, in the order of their numbers, the line
+/// `code POLICY CALL` and a line for each opcode, with its place, what it does and its options. The rules are compiled one call at a
+/// time, and nothing is made to judge by.
+///
+/// # Errors
+/// `NoMemory` if there was none for the text or the code of a call.
+pub fn put_listing(
+    text: &mut Vec<u8>,
+    alloc: Global,
+    policy: &WellMadePolicy<'_>,
+) -> Result<(), NoMemory>
+    ensures { OnOk result (text.new.items ≡ text.old.items ++ listing_of (program_of policy.now)) }
 {
     for tag in every_tag() {
-        program.put_call(text, *tag)?;
+        put_call(text, alloc, policy, *tag)?;
     }
     Ok(())
 }

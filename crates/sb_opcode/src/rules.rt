@@ -95,13 +95,6 @@ impl RuleCodes {
         Ok(RuleCodes { code, places })
     }
 
-    /// The code.
-    pub fn code(&self) -> &Verified
-        ensures { result.now ≡ self.now }
-    {
-        &self.code
-    }
-
     /// How many rules there are.
     pub fn len(&self) -> usize
         ensures { result ≡ length (rules_of self.now.code) }

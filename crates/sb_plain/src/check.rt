@@ -7,7 +7,7 @@ ghost use Rattle.sb_plain.specs.Coming.{IsEndCaused, IsFound};
 use crate::ends::{CommandEnd, Lines};
 use crate::reading::noted_policies_in;
 use crate::refusals::Refused;
-use sb_compile::compile;
+use sb_compile::put_listing;
 use sb_items::{Items, NoMemory};
 use sb_outside::{Bytes, Files};
 use sb_rule::WellMadePolicies;
@@ -22,8 +22,7 @@ fn listings(alloc: Global, policies: &WellMadePolicies) -> Result<Vec<u8>, NoMem
     let mut text = Vec::new(alloc);
     let mut number = 0;
     while let Some(policy) = policies.get(number) {
-        let listing = compile(alloc, &policy)?.listing(alloc)?;
-        text.extend_from_slice(&listing)?;
+        put_listing(&mut text, alloc, &policy)?;
         number += 1;
     }
     Ok(text)

@@ -19,7 +19,7 @@ loop-policy-preserved c =
     let inside : number < length policies = c.in-Some.ensures.0 in
     let listing = listing_of (program_of policy) in
     let left = listings (drop (number + 1) policies) in
-    let listed : c.extend_from_slice.new.self.items ≡ text ++ listing = search rules in (
+    let listed : c.put_listing.new.text.items ≡ text ++ listing = search rules in (
       ap (λ t. t ++ left) listed
           ∙ append_assoc text listing left
           ∙ ap (λ p. text ++ (listing_of (program_of p) ++ left)) (c.in-Some.ensures.1 policy)

@@ -1,9 +1,0 @@
-use Rattle.std.specs.List.{flat_map}
-use Rattle.std.proofs.Common.{◌≡◌, ◌++◌, take}
-use Rattle.sb_compile.specs.Compiling.{code_in}
-use Rattle.sb_compile.specs.Listing.{code_lines}
-use Rattle.sb_compile.proofs.programs.put_calls.Given as goal
-
-abbrev pub invariant-loop-tag : goal.invariant-loop-tag
-invariant-loop-tag l =
-    l.text.items ≡ l.fn.text.items ++ flat_map (λ tag. code_lines l.program.name tag (code_in l.program tag)) (take l.tag-index l.tag-items)
