@@ -3,6 +3,7 @@ ghost use Rattle.std.specs.Prelude.{◌≡◌};
 ghost use Rattle.sb_call.specs.CallWords.{call_word, every_tag, tag_of_word};
 
 use crate::tags::CallTag;
+use sb_wide::is_word;
 
 /// The word by which texts name a call, as `file.create`.
 pub fn call_word(tag: CallTag) -> &'static [u8]
@@ -47,7 +48,7 @@ pub fn tag_of_word(word: &[u8]) -> Option<CallTag>
     ensures { result ≡ tag_of_word word.now }
 {
     for tag in every_tag() {
-        if word == call_word(*tag) {
+        if is_word(word, call_word(*tag)) {
             return Some(*tag);
         }
     }

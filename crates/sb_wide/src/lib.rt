@@ -8,6 +8,7 @@ mod numbers;
 mod quoting;
 mod strings;
 mod surrogates;
+mod words;
 
 pub use laws::{
     characters_are_paired, dots_are_no_components, folds_once, names_are_paths, paths_are_names,
@@ -15,7 +16,8 @@ pub use laws::{
     tests_same, walks_find_pairs,
 };
 pub use names::{eq_ignore_ascii_case, is_component, is_name, to_ascii_uppercase};
-pub use numbers::{put_decimal, put_eight_digits, put_hexadecimal};
+pub use numbers::{put_decimal, put_eight_digits, put_hexadecimal, put_named};
 pub use quoting::quote_into;
 pub use strings::Wide;
 pub use surrogates::{is_high_surrogate, is_low_surrogate, is_well_formed_utf16};
+pub use words::is_word;

@@ -1,4 +1,5 @@
-// How numbers are written. After an error the bytes are of no use.
+// How numbers are written. After an error the bytes are of no use. Most numbers of a transcript have one digit, and most statuses are 0: these
+// are not formatted.
 ghost use Rattle.std.specs.Prelude.{◌≡◌, ◌++◌, OnOk};
 ghost use Rattle.std.specs.Fmt.{decimal};
 ghost use Rattle.sb_wide.specs.Numbers.{hexadecimal, eight_digits};
@@ -10,12 +11,27 @@ use std::io::Write;
 ///
 /// # Errors
 /// `NoMemory` if there was none for the digits.
+#[tactic(auto, using(crate::proofs::Digits::one_decimal))]
 pub fn put_decimal(out: &mut Vec<u8>, number: u64) -> Result<(), NoMemory>
     ensures { OnOk result (out.new.items ≡ out.old.items ++ decimal number) }
 {
+    if number < 10 {
+        return Ok(out.push(b'0' + number as u8)?);
+    }
     let mut digits = itoa::Buffer::new();
     out.extend_from_slice(digits.format(number).as_bytes())?;
     Ok(())
+}
+
+/// Appends a name and a number in decimal.
+///
+/// # Errors
+/// `NoMemory` if there was none for it; then a part may have been appended.
+pub fn put_named(out: &mut Vec<u8>, name: &[u8], number: u64) -> Result<(), NoMemory>
+    ensures { OnOk result (out.new.items ≡ out.old.items ++ (name.now ++ decimal number)) }
+{
+    out.extend_from_slice(name)?;
+    put_decimal(out, number)
 }
 
 /// Appends a number in lower-case hexadecimal digits, without zeros before them.
@@ -35,10 +51,13 @@ pub fn put_hexadecimal(out: &mut Vec<u8>, number: u64) -> Result<(), NoMemory>
 ///
 /// # Errors
 /// `NoMemory` if there was none for the digits.
-#[tactic(auto, using(crate::proofs::Padding::filled_to_eight))]
+#[tactic(auto, using(crate::proofs::Padding::filled_to_eight, crate::proofs::Digits::eight_zeros))]
 pub fn put_eight_digits(out: &mut Vec<u8>, number: u64) -> Result<(), NoMemory>
     ensures { OnOk result (out.new.items ≡ out.old.items ++ eight_digits number) }
 {
+    if number == 0 {
+        return Ok(out.extend_from_slice(b"00000000")?);
+    }
     match write!(out, "{number:08x}") {
         Ok(()) => Ok(()),
         Err(_) => Err(NoMemory),
