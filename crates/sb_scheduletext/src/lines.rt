@@ -12,6 +12,7 @@ use crate::faults::ScheduleKind::{BadNumber, UnknownActor, UnknownWord};
 use crate::faults::{KindRefused, LineRefused};
 use sb_statements::{Actor, Script};
 use sb_text::{TokenFault, WordFault, Words, number_of};
+use sb_wide::is_word;
 
 /// The most steps of a schedule.
 pub const MOST_STEPS: u32 = 100_000;
@@ -125,10 +126,10 @@ fn line_with(script: &Script, draft: &mut Draft, line: &Words) -> Result<(), Lin
     let Some(first) = words.next_word() else {
         return Err(line.fail(UnknownWord(WordFault::Missing)));
     };
-    if first == b"step".as_slice() {
+    if is_word(first, b"step") {
         return add_steps(script, draft, &words);
     }
-    if first == b"rounds".as_slice() {
+    if is_word(first, b"rounds") {
         let count = rounds(&words)?;
         draft.set_rounds(count);
         return Ok(());

@@ -10,7 +10,7 @@ use crate::steps::{BROKEN, name_at, number_at, number_within, string_at};
 use sb_block::encodes;
 use sb_call::{Arg, Args, CallTag, ParamKind, shape, tag_of_word};
 use sb_statements::Statement;
-use sb_text::{Tokens, WordFault, end_at, or_fails, word_at};
+use sb_text::{Tokens, WordFault, end_at, or_fails, word_due};
 use std::alloc::Global;
 
 /// The greatest number of 32 bits.
@@ -28,9 +28,10 @@ const MISSING: ScriptKind = WrongArgs(WordFault::Missing);
 fn tag_at(tokens: &mut Tokens) -> Result<CallTag, LineRefused>
     ensures { Reads (tag_at tokens.old) result tokens.new }
 {
-    let due = tokens.copy();
-    let word = word_at(UnknownCall, BROKEN, UnknownWord(WordFault::Missing), tokens)?;
-    or_fails(&due, UnknownCall, tag_of_word(word))
+    let word = word_due(UnknownCall, BROKEN, UnknownWord(WordFault::Missing), tokens)?;
+    let tag = or_fails(tokens, UnknownCall, tag_of_word(word))?;
+    tokens.pass();
+    Ok(tag)
 }
 
 // ARG: an argument of this kind.

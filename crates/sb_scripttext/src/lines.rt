@@ -23,6 +23,7 @@ use sb_call::ShortName;
 use sb_rule::Policy;
 use sb_statements::{MOST_CHANNELS, MOST_PATIENCE, StartLine, Statement};
 use sb_text::{Line, Tokens, WordFault, end_at, or_fails, word_at};
+use sb_wide::is_word;
 use std::alloc::Global;
 
 // The faults of a quoted token, of one that is not there, of an extra one, and of a line that is out of place.
@@ -214,13 +215,13 @@ fn refuse_start(others: &Tokens, refused: KindRefused) -> LineRefused
 fn start_line(alloc: Global, word: &[u8], tokens: &mut Tokens) -> Result<StartLine, LineRefused>
     ensures { Gives (start_line word.now tokens.old) result }
 {
-    if word == b"dir".as_slice() {
+    if is_word(word, b"dir") {
         dir(alloc, tokens)
-    } else if word == b"file".as_slice() {
+    } else if is_word(word, b"file") {
         file(alloc, tokens)
-    } else if word == b"key".as_slice() {
+    } else if is_word(word, b"key") {
         key(alloc, tokens)
-    } else if word == b"event".as_slice() {
+    } else if is_word(word, b"event") {
         event(alloc, tokens)
     } else {
         Err(tokens.fail_first(first_word_fault(word)))
@@ -232,15 +233,15 @@ fn start_line(alloc: Global, word: &[u8], tokens: &mut Tokens) -> Result<StartLi
 fn statement_line(alloc: Global, word: &[u8], tokens: &mut Tokens) -> Result<Statement, LineRefused>
     ensures { Gives (statement_line word.now tokens.old) result }
 {
-    if word == b"call".as_slice() {
+    if is_word(word, b"call") {
         call(alloc, tokens)
-    } else if word == b"store".as_slice() {
+    } else if is_word(word, b"store") {
         store(tokens)
-    } else if word == b"exchange".as_slice() {
+    } else if is_word(word, b"exchange") {
         exchange(tokens)
-    } else if word == b"load".as_slice() {
+    } else if is_word(word, b"load") {
         load(tokens)
-    } else if word == b"wait".as_slice() {
+    } else if is_word(word, b"wait") {
         wait(tokens)
     } else {
         Err(tokens.fail_first(first_word_fault(word)))
@@ -288,13 +289,13 @@ pub(crate) fn line_of(
 {
     let mut tokens = line.tokens();
     let word = word_at(QUOTED, BROKEN, MISSING, &mut tokens)?;
-    if word == b"patience".as_slice() {
+    if is_word(word, b"patience") {
         return set_patience(draft, &mut tokens);
     }
-    if word == b"target".as_slice() {
+    if is_word(word, b"target") {
         return add_target(alloc, policies, draft, &mut tokens);
     }
-    if word == b"thread".as_slice() {
+    if is_word(word, b"thread") {
         return add_thread(alloc, draft, &mut tokens);
     }
     plain_line(alloc, word, draft, line.number, &mut tokens)

@@ -9,7 +9,8 @@ use crate::faults::ScriptKind::{BadNumber, NoSuchWord, WrongArgs};
 use crate::faults::{KindRefused, LineRefused, ScriptKind};
 use crate::steps::{BROKEN, number_at, within};
 use sb_statements::{MOST_PATIENCE, Statement, Word};
-use sb_text::{Tokens, WordFault, end_at, number_of, word_at};
+use sb_text::{Tokens, WordFault, end_at, number_of, word_due};
+use sb_wide::is_word;
 
 const LAST_BLOCK_WORD: u64 = 63;
 
@@ -59,7 +60,7 @@ fn block_place(word: u64) -> Result<u32, KindRefused>
 fn place_of(word: &[u8]) -> Result<u32, KindRefused>
     ensures { Gives (place_of word.now) result }
 {
-    if word == b"state".as_slice() {
+    if is_word(word, b"state") {
         return Ok(0);
     }
     match number_of(word) {
@@ -73,10 +74,12 @@ fn place_of(word: &[u8]) -> Result<u32, KindRefused>
 fn place_at(tokens: &mut Tokens) -> Result<u32, LineRefused>
     ensures { Reads (place_at tokens.old) result tokens.new }
 {
-    let due = tokens.copy();
-    match place_of(word_at(BadNumber, BROKEN, MISSING, tokens)?) {
-        Ok(place) => Ok(place),
-        Err(refused) => Err(due.refuse(refused)),
+    match place_of(word_due(BadNumber, BROKEN, MISSING, tokens)?) {
+        Ok(place) => {
+            tokens.pass();
+            Ok(place)
+        }
+        Err(refused) => Err(tokens.refuse(refused)),
     }
 }
 

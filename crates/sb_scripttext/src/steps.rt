@@ -1,20 +1,41 @@
 // Reading a line from left to right: numbers, strings and names.
-ghost use Rattle.std.specs.Prelude.{◌≡◌, ◌≤◌, IfOk};
+ghost use Rattle.std.specs.Prelude.{◌≡◌, ◌≤◌, Ok, IfOk, IfSome};
 ghost use Rattle.sb_scripttext.specs.Steps.{number_at, within, number_within, string_at, name, name_at};
 ghost use Rattle.sb_items.specs.Refusals.{Gives};
-ghost use Rattle.sb_text.specs.Steps.{Reads};
+ghost use Rattle.sb_text.specs.Steps.{later, Reads};
 
 use crate::faults::{KindRefused, LineRefused, ScriptKind};
-use sb_text::{Tokens, WordFault, number_of, or_fails, quoted_at, string_of, word_at};
+use sb_text::{Token, Tokens, WordFault, number_of, or_fails, quoted_due, string_of, word_due};
 use sb_wide::{Wide, is_name};
 use std::alloc::Global;
 
 /// The fault of a token that breaks the rules.
 pub(crate) const BROKEN: ScriptKind = ScriptKind::UnknownWord(WordFault::Broken);
 
-/// N: a number. `quoted` is the fault of a quoted token in its place, `missing` that of none.
+// The number at hand, which is not passed, if there is one: most are read here, without a fault to hand on.
 #[inline(always)]
 #[tactic(auto, unfolding(crate::specs::Steps::number_at))]
+fn number_at_hand(tokens: &Tokens) -> Option<u64>
+    ensures { IfSome result (λ n. (quoted missing : ScriptKind) → number_at quoted missing tokens.now ≡ Ok (n, later tokens.now)) }
+{
+    match tokens.peek() {
+        Some(Token::Word(word)) => number_of(word),
+        Some(Token::Quoted(_)) | Some(Token::Bad) | None => None,
+    }
+}
+
+// N: the number at hand, which is not passed, with the faults of `number_at`.
+#[inline(always)]
+#[tactic(auto, unfolding(crate::specs::Steps::number_at))]
+fn number_due(quoted: ScriptKind, missing: ScriptKind, tokens: &Tokens) -> Result<u64, LineRefused>
+    ensures { Reads (number_at quoted missing tokens.now) result (later tokens.now) }
+{
+    let word = word_due(quoted, BROKEN, missing, tokens)?;
+    or_fails(tokens, ScriptKind::BadNumber, number_of(word))
+}
+
+/// N: a number. `quoted` is the fault of a quoted token in its place, `missing` that of none.
+#[inline(always)]
 pub(crate) fn number_at(
     quoted: ScriptKind,
     missing: ScriptKind,
@@ -22,9 +43,13 @@ pub(crate) fn number_at(
 ) -> Result<u64, LineRefused>
     ensures { Reads (number_at quoted missing tokens.old) result tokens.new }
 {
-    let due = tokens.copy();
-    let word = word_at(quoted, BROKEN, missing, tokens)?;
-    or_fails(&due, ScriptKind::BadNumber, number_of(word))
+    if let Some(number) = number_at_hand(tokens) {
+        tokens.pass();
+        return Ok(number);
+    }
+    let number = number_due(quoted, missing, tokens)?;
+    tokens.pass();
+    Ok(number)
 }
 
 /// A number from `lo` to `hi`.
@@ -52,17 +77,36 @@ pub(crate) fn number_within(
     ensures read { Reads (number_within lo hi quoted missing tokens.old) result tokens.new }
     ensures most { IfOk result (λ n. n ≤ hi) }
 {
-    let due = tokens.copy();
-    let number = number_at(quoted, missing, tokens)?;
+    let number = match number_at_hand(tokens) {
+        Some(number) => number,
+        None => number_due(quoted, missing, tokens)?,
+    };
     match within(lo, hi, number) {
-        Ok(number) => Ok(number),
-        Err(refused) => Err(due.refuse(refused)),
+        Ok(number) => {
+            tokens.pass();
+            Ok(number)
+        }
+        Err(refused) => Err(tokens.refuse(refused)),
     }
+}
+
+// "S": the string at hand, which is not passed, with the faults of `string_at`.
+#[inline(always)]
+#[tactic(auto, unfolding(crate::specs::Steps::string_at))]
+fn string_due(
+    alloc: Global,
+    unquoted: ScriptKind,
+    missing: ScriptKind,
+    tokens: &Tokens,
+) -> Result<Wide, LineRefused>
+    ensures { Reads (string_at unquoted missing tokens.now) result (later tokens.now) }
+{
+    let quoted = quoted_due(unquoted, BROKEN, missing, tokens)?;
+    Ok(string_of(alloc, quoted)?)
 }
 
 /// "S": a string. `unquoted` is the fault of a word in its place, `missing` that of none.
 #[inline(always)]
-#[tactic(auto, unfolding(crate::specs::Steps::string_at))]
 pub(crate) fn string_at(
     alloc: Global,
     unquoted: ScriptKind,
@@ -71,8 +115,9 @@ pub(crate) fn string_at(
 ) -> Result<Wide, LineRefused>
     ensures { Reads (string_at unquoted missing tokens.old) result tokens.new }
 {
-    let quoted = quoted_at(unquoted, BROKEN, missing, tokens)?;
-    Ok(string_of(alloc, quoted)?)
+    let string = string_due(alloc, unquoted, missing, tokens)?;
+    tokens.pass();
+    Ok(string)
 }
 
 /// "NAME": a name, with the faults of `string_at`.
@@ -86,11 +131,11 @@ pub(crate) fn name_at(
 ) -> Result<Wide, LineRefused>
     ensures { Reads (name_at unquoted missing tokens.old) result tokens.new }
 {
-    let due = tokens.copy();
-    let units = string_at(alloc, unquoted, missing, tokens)?;
+    let units = string_due(alloc, unquoted, missing, tokens)?;
     if is_name(units.as_units()) {
+        tokens.pass();
         Ok(units)
     } else {
-        Err(due.fail(ScriptKind::BadName))
+        Err(tokens.fail(ScriptKind::BadName))
     }
 }

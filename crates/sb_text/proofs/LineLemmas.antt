@@ -7,7 +7,7 @@ use Rattle.sb_text.proofs.LineLaws.{lines_some}
 use Rattle.std.proofs.lemmas.Grind.{common_steps}
 use Rattle.std.proofs.lemmas.Bool.Decides.{nat_tests}
 use Rattle.std.specs.List.{position_or_len}
-use Rattle.sb_text.specs.Lines.{raw_lines, is_ended, numbered_from, raw_lines_from}
+use Rattle.sb_text.specs.Lines.{lines_from, raw_lines, is_ended, numbered_from, raw_lines_from}
 
 pub lines_at_first : (bs : List ℕ) → 0 < length bs → raw_lines bs ≡ take (position_or_len (λ b. b == 10) bs) bs ∷ raw_lines (drop (position_or_len (λ b. b == 10) bs + 1) bs)
 lines_at_first [] h = absurd (omega arith)
@@ -17,6 +17,11 @@ lines_at_first (b ∷ c ∷ bs) h = grind (arith, nat_tests, common_steps, lines
 pub lf_at_first : (bs : List ℕ) → position_or_len (λ b. b == 10) bs < length bs → get_or bs (position_or_len (λ b. b == 10) bs) 0 ≡ 10
 lf_at_first [] h = absurd (omega arith)
 lf_at_first (b ∷ bs) h = grind (arith, nat_tests, common_steps, lf_at_first bs)
+
+-- an empty line is passed
+pub empty_line_passed : (n : ℕ) (bs : List ℕ) → 0 < length bs → (get_or bs 0 0 == 10) ≡ true → lines_from (n + 1) (raw_lines (drop 1 bs)) ≡ lines_from n (raw_lines bs)
+empty_line_passed n [] h k = absurd (omega arith)
+empty_line_passed n (b ∷ bs) h k = rw (k) refl
 
 untrue : (b : Bool) → ¬ (b ≡ true) → b ≡ false
 untrue true h = absurd (h refl)

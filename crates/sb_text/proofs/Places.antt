@@ -1,10 +1,15 @@
 -- One byte further in a line.
-use Rattle.std.proofs.Common.{◌≡◌, ◌∙◌, refl, sym, ap, ℕ, zero, suc, ◌+◌, ◌-◌, ◌<◌, ◌==◌, ◌&&◌, Bool, true, false, cond, List, [], ◌∷◌, length, slice_index, arith}
+use Rattle.std.proofs.Common.{◌≡◌, ◌∙◌, refl, sym, ap, not, is_some, true≢false, ℕ, zero, suc, ◌+◌, ◌-◌, ◌<◌, ◌==◌, ◌&&◌, ◌||◌, Bool, true, false, cond, List, [], ◌∷◌, Option, None, Some, length, slice_index, get_or, arith}
+use Rattle.memchr.specs.Find.{IsFirstByte, is_byte}
 use Rattle.std.proofs.lemmas.Bool.Decides.{nat_tests}
+use Rattle.std.proofs.lemmas.List.Folds.{list_any_at}
+use Rattle.std.specs.List.{list_any}
 use Rattle.sb_text.specs.Lines.{is_blank}
-use Rattle.sb_text.specs.Spots.{content_len, is_start, starts_from, within_after}
+use Rattle.sb_text.specs.Spots.{content_len, is_quote, is_start, starts_from, starts_of, within_after}
 use Rattle.sb_text.specs.declared.spots.Layout.{Layout}
+use Rattle.sb_text.specs.declared.spots.Layout.TheVariants.{Text, Bytes}
 use Rattle.sb_text.specs.declared.spots.Within.{Within}
+use Rattle.sb_text.specs.declared.spots.Within.TheVariants.{Gap, InWord}
 
 -- how many tokens begin does not depend on how many bytes are before
 pub starts_counted : (layout : Layout) (n m : ℕ) (place : Within) (bs : List ℕ) → length (starts_from layout n place bs) ≡ length (starts_from layout m place bs)
@@ -26,6 +31,56 @@ count_past layout place b bs = by_start (is_start place b) (starts_counted layou
         ≡ cond t 1 0 + length (starts_from layout 0 (within_after layout place b) bs)
     by_start true h = omega (arith, h)
     by_start false h = omega (arith, h)
+
+-- a word begins after a blank, or where the line begins
+pub word_past : (after : Bool) (b : ℕ) (bs : List ℕ)
+    → length (starts_from Bytes 0 (cond after Gap InWord) (b ∷ bs)) ≡ cond (after && not (is_blank b)) 1 0 + length (starts_from Bytes 0 (cond (is_blank b) Gap InWord) bs)
+word_past true b bs = count_past Bytes Gap b bs
+word_past false b bs = count_past Bytes InWord b bs
+
+-- a byte that is no quote is in a word, or ends it
+no_quote_past : (layout : Layout) (after : Bool) (b : ℕ) → is_quote layout b ≡ false → within_after layout (cond after Gap InWord) b ≡ cond (is_blank b) Gap InWord
+no_quote_past layout true b q = rw (q) refl
+no_quote_past layout false b q = rw (q) refl
+
+left_false : (a b : Bool) → (a || b) ≡ false → a ≡ false
+left_false true b h = h
+left_false false b h = refl
+
+right_false : (a b : Bool) → (a || b) ≡ false → b ≡ false
+right_false true b h = absurd (true≢false h)
+right_false false b h = h
+
+as_words : (layout : Layout) (n : ℕ) (after : Bool) (bs : List ℕ) → list_any (is_quote layout) bs ≡ false
+    → starts_from layout n (cond after Gap InWord) bs ≡ starts_from Bytes n (cond after Gap InWord) bs
+as_words layout n after [] h = refl
+as_words layout n after (b ∷ bs) h =
+    ap (λ later. cond (is_start (cond after Gap InWord) b) (n ∷ later) later) (
+    ap (λ place. starts_from layout (n + 1) place bs) (no_quote_past layout after b (left_false (is_quote layout b) (list_any (is_quote layout) bs) h))
+    ∙ as_words layout (n + 1) (is_blank b) bs (right_false (is_quote layout b) (list_any (is_quote layout) bs) h)
+    ∙ sym (ap (λ place. starts_from Bytes (n + 1) place bs) (no_quote_past Bytes after b refl)))
+
+-- without quotes the tokens are words
+pub words_alone : (layout : Layout) (line : List ℕ) → list_any (is_quote layout) line ≡ false → length (starts_of Bytes line) ≡ length (starts_of layout line)
+words_alone layout line h = ap length (sym (as_words layout 0 true line h))
+
+-- in bytes there are no quotes
+pub no_quotes : (bs : List ℕ) → list_any (is_quote Bytes) bs ≡ false
+no_quotes [] = refl
+no_quotes (b ∷ bs) = no_quotes bs
+
+untrue : (t : Bool) → ¬ (t ≡ true) → t ≡ false
+untrue true h = absurd (h refl)
+untrue false h = refl
+
+none_there : (a : ℕ) (bs : List ℕ) → ((k : ℕ) → k < length bs → ¬ ((get_or bs k 0 == a) ≡ true)) → list_any (λ b. b == a) bs ≡ false
+none_there a [] h = refl
+none_there a (b ∷ bs) h = ap (λ t. t || list_any (λ b. b == a) bs) (untrue (b == a) (h 0 (omega arith))) ∙ none_there a bs (λ k l. h (suc k) (omega arith))
+
+-- a search for a quote finds one if there is one
+pub any_quote : (bs : List ℕ) (found : Option ℕ) → IsFirstByte (is_byte 34) bs found → is_some found ≡ list_any (is_quote Text) bs
+any_quote bs None h = sym (none_there 34 bs (λ k l. h k (omega arith) l))
+any_quote bs (Some n) h = let first = h.0 in sym (list_any_at (λ b. b == 34) bs n 0 first.high h.1)
 
 index_past : (x : ℕ) (xs : List ℕ) (n : ℕ) → (n ≡ 0 → ⊥) → slice_index (x ∷ xs) n ≡ slice_index xs (n - 1)
 index_past x xs zero h = absurd (h refl)

@@ -1,5 +1,5 @@
 -- What stands between quotes is text.
-use Rattle.std.proofs.Common.{◌≡◌, refl, sym, ap, subst, ◌∙◌, arith, ℕ, ◌+◌, ◌-◌, ◌/◌, ◌%◌, ◌<◌, ◌≤◌, ◌⊎◌, ⊎_elim, suc, List, [], ◌∷◌, ◌++◌, slice_index, true, false, not, cond, ◌&&◌, ◌||◌, nat_lt}
+use Rattle.std.proofs.Common.{◌≡◌, refl, sym, ap, subst, ◌∙◌, arith, ℕ, zero, ◌+◌, ◌-◌, ◌/◌, ◌%◌, ◌<◌, ◌≤◌, ◌⊎◌, ⊎_elim, suc, List, [], ◌∷◌, ◌++◌, true, false, not, cond, ◌&&◌, ◌||◌, nat_lt}
 use Rattle.std.proofs.Math.Utf8.{scalar, scalars, scalar_cases, encode, encodes}
 use Rattle.std.proofs.lemmas.Bool.{and_parts, cases_lt}
 use Rattle.std.proofs.lemmas.Bool.Decides.{nat_tests}
@@ -26,8 +26,13 @@ units_of_ascii : (bs : List ℕ) → IsAscii bs → utf16_of bs ≡ bs
 units_of_ascii [] h = refl
 units_of_ascii (b ∷ bs) h = ap (λ us. us ++ utf16_of bs) (one_unit b (omega (arith, h 0))) ∙ ap (λ us. b ∷ us) (units_of_ascii bs (λ i. h (suc i)))
 
-pub string_of_ascii : (bs : List ℕ) → IsAscii bs → string_of bs ≡ bs
-string_of_ascii bs h = ap utf16_of (chars-IsAscii bs h) ∙ units_of_ascii bs h
+ascii_from_test : (bs : List ℕ) → list_all (λ b. nat_lt b 128) bs ≡ true → IsAscii bs
+ascii_from_test [] h i = omega arith
+ascii_from_test (b ∷ bs) h zero = let t : nat_lt b 128 ≡ true = (and_parts (nat_lt b 128) (list_all (λ b. nat_lt b 128) bs) h).0 in grind (arith, nat_tests, t)
+ascii_from_test (b ∷ bs) h (suc i) = ascii_from_test bs (and_parts (nat_lt b 128) (list_all (λ b. nat_lt b 128) bs) h).1 i
+
+pub string_of_ascii : (bs : List ℕ) → list_all (λ b. nat_lt b 128) bs ≡ true → string_of bs ≡ bs
+string_of_ascii bs t = let h = ascii_from_test bs t in ap utf16_of (chars-IsAscii bs h) ∙ units_of_ascii bs h
 
 ascii_text : (c : ℕ) → c < 128 → list_all is_quoted_byte (c ∷ []) ≡ true → list_all is_text_unit (c ∷ []) ≡ true
 ascii_text c a h = grind (arith, nat_tests)

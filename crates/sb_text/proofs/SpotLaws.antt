@@ -1,16 +1,15 @@
 -- The laws of the places of a line.
-use Rattle.std.proofs.Common.{◌≡◌, ◌∙◌, refl, sym, ap, ℕ, suc, ◌+◌, ◌-◌, ◌≤◌, ◌==◌, Bool, true, false, not, cond, nat_le, nat_lt, List, [], ◌∷◌, ◌++◌, length, take, drop, Option, None, Some, arith, take-append-drop}
+use Rattle.std.proofs.Common.{◌≡◌, ◌∙◌, refl, sym, ap, ℕ, ◌+◌, ◌-◌, ◌≤◌, ◌==◌, Bool, true, false, not, cond, nat_le, nat_lt, List, [], ◌∷◌, ◌++◌, length, take, drop, Option, None, Some, arith, take-append-drop}
 use Rattle.std.proofs.lemmas.List.{length-append}
 use Rattle.std.proofs.lemmas.List.Sums.{sum_by-cons}
 use Rattle.std.specs.List.{filter, onto_first, slice_split}
 use Rattle.sb_text.specs.Lines.{is_blank}
 use Rattle.sb_text.specs.SpotLaws.{ColumnsAreWithin, TokensHaveStarts}
-use Rattle.sb_text.specs.Spots.{before_unit, by_tokens, by_words, characters, characters_before, is_character, start_at, starts_from, starts_of, units_of, within_after}
+use Rattle.sb_text.specs.Spots.{before_unit, by_tokens, by_words, characters, characters_before, is_character, start_at, starts_from, units_of}
 use Rattle.sb_text.specs.Tokens.{Lexeme, Word, Quoted, Bad, Place, Between, InQuote, AfterQuote, scan, tokens_of}
 use Rattle.sb_text.specs.Tokens as tokens
 use Rattle.sb_text.specs.Words.{is_some_word, words_of}
 use Rattle.sb_text.specs.declared.spots.Layout.{Layout}
-use Rattle.sb_text.specs.declared.spots.Layout.TheVariants.{Text, Bytes}
 use Rattle.sb_text.specs.declared.spots.Within.{Within}
 use Rattle.sb_text.specs.declared.spots.Within.TheVariants.{Gap, InWord, InQuotes, Closed, Broken}
 

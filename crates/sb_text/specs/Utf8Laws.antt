@@ -1,5 +1,5 @@
 -- What is true of the place where bytes stop being UTF-8.
-use Rattle.std.specs.Prelude.{◌≡◌, ℕ, ◌+◌, ◌==◌, List, ◌++◌, [], ◌∷◌, take, count_by, None, Some, true}
+use Rattle.std.specs.Prelude.{◌≡◌, ℕ, ◌+◌, ◌==◌, List, ◌++◌, ◌∷◌, take, count_by, None, Some, true}
 use Rattle.std.specs.Str.{IsUtf8, IsValidUpTo}
 use Rattle.sb_text.specs.LineLaws.{is_line}
 use Rattle.sb_text.specs.Spots.{by_tokens, characters}

@@ -42,7 +42,9 @@ pub use reading::{on_line, read_by, read_text};
 pub use refusals::{LineFault, TokenFault, WordFault};
 pub use sb_items::Refused;
 pub use spots::{Layout, Within, column_at};
-pub use steps::{end_at, or_fails, or_fault, quoted_at, version_at, version_digit, word_at};
+pub use steps::{
+    end_at, or_fails, or_fault, quoted_at, quoted_due, version_at, version_digit, word_at, word_due,
+};
 pub use text_lines::TextLines;
 pub use tokens::{Token, Tokens};
 pub use utf8::{NotUtf8, string_of, text_of};

@@ -1,10 +1,10 @@
 // The lines of a text that are neither blank nor comments, one after another.
-ghost use Rattle.std.specs.Prelude.{◌≡◌, ◌∷◌, ◌+◌, ◌<◌, ◌≤◌, ◌^◌, [], length, IfSome, MatchOption};
+ghost use Rattle.std.specs.Prelude.{◌≡◌, ◌∷◌, ◌+◌, ◌<◌, ◌≤◌, ◌^◌, ◌==◌, ◌&&◌, [], length, nat_lt, slice_index, IfSome, MatchOption};
 ghost use Rattle.sb_text.specs.Lines.{NumberedLine, lines_of, lines_from, raw_lines};
 ghost use Rattle.sb_text.specs.Tokens.{tokens_of};
 
 use crate::blanks::is_skipped;
-use crate::cuts::{cut_text, text_without_cr};
+use crate::cuts::{after_ascii, cut_text, text_without_cr};
 use crate::tokens::Tokens;
 use std::marker::Model;
 
@@ -44,6 +44,33 @@ impl<'a> Model for Lines<'a> {
     ghost invariant = { λ l. l.passed + length l.rest.now + 1 < 2 ^ 32 };
 }
 
+// Whether a text begins with an empty line that ends with LF alone.
+fn starts_with_lf(text: &str) -> bool
+    ensures { result ≡ (nat_lt 0 (length text.now) && slice_index text.now 0 == 10) }
+{
+    match text.as_bytes() {
+        [first, ..] => *first == b'\n',
+        [] => false,
+    }
+}
+
+// What follows the empty lines that a text begins with, and the number of all lines before it, if this many are before the text.
+#[tactic(auto, using(crate::proofs::LineLemmas::empty_line_passed))]
+fn after_empty_lines(text: &str, passed: u32) -> (&str, u32)
+    requires { passed + length text.now + 1 < 2 ^ 32 }
+    ensures lines { lines_from (result.1 + 1) (raw_lines result.0.now) ≡ lines_from (passed + 1) (raw_lines text.now) }
+    ensures short { result.1 + length result.0.now ≤ passed + length text.now }
+    ensures within { length result.0.now ≤ length text.now }
+{
+    let mut rest = text;
+    let mut lines = passed;
+    while starts_with_lf(rest) {
+        rest = after_ascii(rest, 0);
+        lines += 1;
+    }
+    (rest, lines)
+}
+
 impl<'a> Lines<'a> {
     /// The lines of a text of fewer than 2^32 - 1 bytes.
     pub fn new(text: &'a str) -> Lines<'a>
@@ -63,14 +90,13 @@ impl<'a> Lines<'a> {
         ensures short { IfSome result (λ line. length line.text.now + 1 < 2 ^ 32) }
     {
         while let Some((line, later)) = cut_text(self.rest) {
-            self.rest = later;
-            self.passed += 1;
+            let number = self.passed + 1;
+            let (rest, passed) = after_empty_lines(later, number);
+            self.rest = rest;
+            self.passed = passed;
             let text = text_without_cr(line);
             if !is_skipped(text.as_bytes()) {
-                return Some(Line {
-                    number: self.passed,
-                    text,
-                });
+                return Some(Line { number, text });
             }
         }
         None

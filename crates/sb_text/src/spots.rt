@@ -1,8 +1,10 @@
 // Where on a line a fault is, and in which column that is.
-ghost use Rattle.std.specs.Prelude.{◌≡◌, ◌+◌, ◌<◌, ◌≤◌, ◌^◌, length, take, slice_index};
-ghost use Rattle.sb_text.specs.Spots.{before_unit, characters, characters_before, column_after, column_at, content_len, is_character, is_quote, is_start, start_at, starts_of, units_of, within_after};
+ghost use Rattle.std.specs.Prelude.{◌≡◌, ◌==◌, ◌+◌, ◌<◌, ◌≤◌, ◌^◌, length, take, slice_index};
+ghost use Rattle.std.specs.List.{list_any};
+ghost use Rattle.sb_text.specs.Spots.{before_unit, by_words, characters, characters_before, column_after, column_at, content_len, is_character, is_quote, is_start, start_at, starts_of, units_of, within_after};
 
 use crate::blanks::is_blank;
+use memchr::memchr;
 
 /// What the lines of a text are made of.
 #[derive(Clone, Copy, Debug)]
@@ -47,6 +49,14 @@ impl Layout {
             Layout::Text => byte == b'"',
             Layout::Bytes => false,
         }
+    }
+
+    // Whether a quoted token may begin on the line: one of its bytes is such a mark.
+    #[tactic(auto, using(crate::proofs::Places::any_quote, crate::proofs::Places::no_quotes))]
+    fn has_quote(self, line: &[u8]) -> bool
+        ensures { result ≡ list_any (is_quote self) line.now }
+    {
+        matches!(self, Layout::Text) && memchr(b'"', line).is_some()
     }
 
     // Where the next byte is, after this one.
@@ -130,9 +140,28 @@ fn before_unit(unit: Option<u32>, bytes: &[u8]) -> usize
     }
 }
 
-/// The number of tokens of a line.
+// The number of words of a line, whose quotes are bytes like any other.
+#[tactic(auto, using(crate::proofs::Places::word_past))]
+fn word_count(line: &[u8]) -> usize
+    ensures { result ≡ length (starts_of by_words line.now) }
+{
+    let mut rest = line;
+    let mut is_after_blank = true;
+    let mut count = 0;
+    while let Some((byte, later)) = rest.split_first() {
+        rest = later;
+        let is_blank = is_blank(*byte);
+        if is_after_blank && !is_blank {
+            count += 1;
+        }
+        is_after_blank = is_blank;
+    }
+    count
+}
+
+// The number of tokens of a line, some of which may be quoted.
 #[tactic(auto, using(crate::proofs::Places::count_past))]
-pub(crate) fn token_count(layout: Layout, line: &[u8]) -> usize
+fn quoted_count(layout: Layout, line: &[u8]) -> usize
     ensures { result ≡ length (starts_of layout line.now) }
 {
     let mut rest = line;
@@ -146,6 +175,18 @@ pub(crate) fn token_count(layout: Layout, line: &[u8]) -> usize
         place = layout.within_after(place, *byte);
     }
     count
+}
+
+/// The number of tokens of a line. Without quotes they are words.
+#[tactic(auto, using(crate::proofs::Places::words_alone))]
+pub(crate) fn token_count(layout: Layout, line: &[u8]) -> usize
+    ensures { result ≡ length (starts_of layout line.now) }
+{
+    if layout.has_quote(line) {
+        quoted_count(layout, line)
+    } else {
+        word_count(line)
+    }
 }
 
 // The number of bytes of a line before its token number n, from 0.

@@ -2,15 +2,33 @@
 ghost use Rattle.std.specs.Prelude.{◌≡◌, ◌≤◌, true, IfOk};
 ghost use Rattle.std.specs.List.{list_all};
 ghost use Rattle.sb_items.specs.Refusals.{Gives};
-ghost use Rattle.sb_text.specs.Steps.{word_at, quoted_at, end_at, or_fault, or_fails, version_at, version_digit, ReadsAs};
+ghost use Rattle.sb_text.specs.Steps.{later, word_at, quoted_at, end_at, or_fault, or_fails, version_at, version_digit, ReadsAs};
 ghost use Rattle.sb_text.specs.TokenLaws.{is_quoted_byte};
 
 use crate::refusals::TokenFault;
 use crate::tokens::{Token, Tokens};
 use sb_items::Refused;
 
-/// A word: its bytes. `quoted` is the fault of a quoted token in its place, `bad` that of one that breaks the rules, and
-/// `missing` that of none.
+/// The word at hand, which is not passed: its bytes. `quoted` is the fault of a quoted token in its place, `bad` that of one
+/// that breaks the rules, and `missing` that of none.
+#[inline(always)]
+pub fn word_due<'a, K: Drop>(
+    quoted: K,
+    bad: K,
+    missing: K,
+    tokens: &Tokens<'a>,
+) -> Result<&'a [u8], Refused<TokenFault<K>>>
+    ensures { ReadsAs (λ word. word.now) (word_at quoted bad missing tokens.now) result (later tokens.now) }
+{
+    match tokens.peek() {
+        Some(Token::Word(word)) => Ok(word),
+        Some(Token::Quoted(_)) => Err(tokens.fail(quoted)),
+        Some(Token::Bad) => Err(tokens.fail(bad)),
+        None => Err(tokens.fail(missing)),
+    }
+}
+
+/// A word: its bytes, with the faults of `word_due`.
 #[inline(always)]
 pub fn word_at<'a, K: Drop>(
     quoted: K,
@@ -20,17 +38,32 @@ pub fn word_at<'a, K: Drop>(
 ) -> Result<&'a [u8], Refused<TokenFault<K>>>
     ensures { ReadsAs (λ word. word.now) (word_at quoted bad missing tokens.old) result tokens.new }
 {
-    let due = tokens.copy();
-    match tokens.next_token() {
-        Some(Token::Word(word)) => Ok(word),
-        Some(Token::Quoted(_)) => Err(due.fail(quoted)),
-        Some(Token::Bad) => Err(due.fail(bad)),
-        None => Err(due.fail(missing)),
+    let word = word_due(quoted, bad, missing, tokens)?;
+    tokens.pass();
+    Ok(word)
+}
+
+/// The quoted token at hand, which is not passed: what is between its quotes. `word` is the fault of a word in its place,
+/// `bad` that of a token that breaks the rules, and `missing` that of none.
+#[inline(always)]
+pub fn quoted_due<'a, K: Drop>(
+    word: K,
+    bad: K,
+    missing: K,
+    tokens: &Tokens<'a>,
+) -> Result<&'a str, Refused<TokenFault<K>>>
+    ensures read { ReadsAs (λ quoted. quoted.now) (quoted_at word bad missing tokens.now) result (later tokens.now) }
+    ensures quotable { IfOk result (λ quoted. list_all is_quoted_byte quoted.now ≡ true) }
+{
+    match tokens.sound_token() {
+        Some(Token::Quoted(quoted)) => Ok(quoted),
+        Some(Token::Word(_)) => Err(tokens.fail(word)),
+        Some(Token::Bad) => Err(tokens.fail(bad)),
+        None => Err(tokens.fail(missing)),
     }
 }
 
-/// A quoted token: what is between its quotes. `word` is the fault of a word in its place, `bad` that of a token that
-/// breaks the rules, and `missing` that of none.
+/// A quoted token: what is between its quotes, with the faults of `quoted_due`.
 #[inline(always)]
 pub fn quoted_at<'a, K: Drop>(
     word: K,
@@ -41,13 +74,9 @@ pub fn quoted_at<'a, K: Drop>(
     ensures read { ReadsAs (λ quoted. quoted.now) (quoted_at word bad missing tokens.old) result tokens.new }
     ensures quotable { IfOk result (λ quoted. list_all is_quoted_byte quoted.now ≡ true) }
 {
-    let due = tokens.copy();
-    match tokens.next_token() {
-        Some(Token::Quoted(quoted)) => Ok(quoted),
-        Some(Token::Word(_)) => Err(due.fail(word)),
-        Some(Token::Bad) => Err(due.fail(bad)),
-        None => Err(due.fail(missing)),
-    }
+    let quoted = quoted_due(word, bad, missing, tokens)?;
+    tokens.pass();
+    Ok(quoted)
 }
 
 /// The line has to end here. `extra` is the fault of an extra token, `bad` that of one that breaks the rules.

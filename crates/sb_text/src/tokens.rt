@@ -86,6 +86,24 @@ impl<'a> Tokens<'a> {
         self.next
     }
 
+    // The same, with what quotes may hold.
+    #[inline(always)]
+    #[tactic(auto, using(crate::proofs::TokenLaws::sound_next))]
+    pub(crate) fn sound_token(&self) -> Option<Token<'a>>
+        ensures token { MatchOption result (self.now ≡ []) (λ token. self.now ≡ lexeme_of token ∷ later self.now) }
+        ensures sound { IfSome result (λ token. is_quotable (lexeme_of token) ≡ true) }
+    {
+        self.next
+    }
+
+    /// Passes the next token, if there is one.
+    #[inline(always)]
+    pub fn pass(&mut self)
+        ensures { self.new ≡ later self.old }
+    {
+        self.next_token();
+    }
+
     /// The number of tokens that are left. Looks at each byte of them.
     #[cold]
     #[inline(never)]

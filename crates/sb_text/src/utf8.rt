@@ -1,13 +1,14 @@
 // Where bytes are not UTF-8, and what quoted tokens mean.
-ghost use Rattle.std.specs.Prelude.{◌≡◌, ◌<◌, ◌≤◌, ◌^◌, ◌+◌, length, None, Some, IfOk, MatchResult};
+ghost use Rattle.std.specs.Prelude.{◌≡◌, ◌<◌, ◌≤◌, ◌^◌, ◌+◌, length, nat_lt, None, Some, IfOk, MatchResult};
+ghost use Rattle.std.specs.List.{list_all};
 ghost use Rattle.sb_text.specs.Utf8.{first_place, not_utf8_place, place_after};
 ghost use Rattle.sb_text.specs.Tokens.{string_of};
 
 use crate::spots::Layout;
 use sb_items::NoMemory;
 use sb_wide::Wide;
+use simdutf8::from_utf8_baseline;
 use std::alloc::Global;
-use std::str;
 use thiserror::Error;
 
 /// The bytes are not UTF-8.
@@ -28,7 +29,7 @@ pub fn text_of(bytes: &[u8]) -> Result<&str, NotUtf8>
     ensures { MatchResult result (λ text. (text.now ≡ bytes.now) × (not_utf8_place bytes.now ≡ None))
         (λ fault. not_utf8_place bytes.now ≡ Some (record { line = fault.line; column = fault.column })) }
 {
-    match str::from_utf8(bytes) {
+    match from_utf8_baseline(bytes) {
         Ok(text) => Ok(text),
         Err(error) => Err(place_after(&bytes[..error.valid_up_to()])),
     }
@@ -52,6 +53,19 @@ fn place_after(front: &[u8]) -> NotUtf8
     NotUtf8 { line, column }
 }
 
+fn is_ascii(byte: u8) -> bool
+    ensures { result ≡ nat_lt byte 128 }
+{
+    byte < 128
+}
+
+// Whether all bytes are ASCII. They are few, so that no search by words begins.
+fn are_ascii(bytes: &[u8]) -> bool
+    ensures { result ≡ list_all (λ b. nat_lt b 128) bytes.now }
+{
+    bytes.iter().all(|byte| is_ascii(*byte))
+}
+
 // The wide string of ASCII bytes: a unit for each.
 fn from_ascii(alloc: Global, bytes: &[u8]) -> Result<Wide, NoMemory>
     ensures { IfOk result (λ wide. wide ≡ bytes.now) }
@@ -68,7 +82,7 @@ fn from_ascii(alloc: Global, bytes: &[u8]) -> Result<Wide, NoMemory>
 pub fn string_of(alloc: Global, quoted: &str) -> Result<Wide, NoMemory>
     ensures { IfOk result (λ wide. wide ≡ string_of quoted.now) }
 {
-    if !quoted.is_ascii() {
+    if !are_ascii(quoted.as_bytes()) {
         return Wide::from_str(alloc, quoted);
     }
     let wide = from_ascii(alloc, quoted.as_bytes())?;

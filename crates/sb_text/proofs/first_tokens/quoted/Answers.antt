@@ -1,5 +1,4 @@
-use Rattle.std.proofs.Common.{arith, ap, subst, ◌∙◌, ◌≡◌, sym, get_or, take, drop, length, length-drop, ◌+◌, ◌-◌}
-use Rattle.sb_text.specs.Tokens.{AfterQuote, scan}
+use Rattle.std.proofs.Common.{arith, ap, ◌∙◌, ◌≡◌, sym, length, length-drop, ◌+◌, ◌-◌}
 use Rattle.sb_text.proofs.Scans.{quote_more, quote_ends, quote_bad, quote_open}
 use Rattle.sb_text.proofs.first_tokens.quoted.Goals as goal
 use Rattle.sb_text.proofs.first_tokens.quoted.Goals.{then-loop-n-test+else-bytes-n-ge32, else-loop-n-test}

@@ -1,6 +1,4 @@
-use Rattle.std.proofs.Common.{arith, ap, ◌∙◌, ◌≡◌, ◌<◌, sym, get_or}
-use Rattle.sb_text.specs.Lines.{is_blank}
-use Rattle.sb_text.specs.Tokens.{scan}
+use Rattle.std.proofs.Common.{arith, ◌∙◌, sym, get_or}
 use Rattle.sb_text.proofs.Scans.{word_more, word_bad, word_ends, word_last, blank_is_low}
 use Rattle.sb_text.proofs.first_tokens.word.Goals as goal
 use Rattle.sb_text.proofs.first_tokens.word.Goals.{then-loop-n-test+else-not-is_blank, else-loop-n-test}

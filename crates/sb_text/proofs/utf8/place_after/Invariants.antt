@@ -1,4 +1,4 @@
-use Rattle.std.proofs.Common.{◌≡◌, ◌+◌, ◌≤◌, drop, length}
+use Rattle.std.proofs.Common.{◌≡◌, ◌+◌, ◌≤◌, drop}
 use Rattle.sb_text.specs.Utf8.{first_place, place_after}
 use Rattle.sb_text.proofs.utf8.place_after.Given as goal
 

@@ -1,6 +1,6 @@
 use Rattle.std.proofs.Common.{◌≡◌, ◌+◌, ◌≤◌, length}
 use Rattle.sb_text.specs.Spots.{starts_from, starts_of}
-use Rattle.sb_text.proofs.spots.token_count.Given as goal
+use Rattle.sb_text.proofs.spots.quoted_count.Given as goal
 
 abbrev pub invariant-loop-byte : goal.invariant-loop-byte
 invariant-loop-byte l =
