@@ -55,7 +55,7 @@ fn compile_call(
     ensures memory { OnErr result (code_of policy.now.rules tag ≢ []) }
 {
     compiled_code_is_faultless();
-    policy.policy();
+    policy.establish_well_made();
     let code = code_of(alloc, policy, tag)?;
     if code.is_empty() {
         return Ok(None);

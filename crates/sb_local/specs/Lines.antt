@@ -1,21 +1,13 @@
 -- The lines of local denials.
-use Rattle.std.specs.Prelude.{ℕ, List, [], ◌++◌, codes, Option, None, Some, slice_get}
+use Rattle.std.specs.Prelude.{ℕ, List, ◌++◌, codes}
 use Rattle.std.specs.Fmt.{decimal}
 use Rattle.std.specs.List.{flat_map}
 use Rattle.sb_call.specs.CallWords.{call_word}
 use Rattle.sb_rule.specs.declared.verdicts.Verdict.{Verdict}
 use Rattle.sb_rule.specs.declared.verdicts.Verdict.TheVariants.{Rule, NoRule}
+use Rattle.sb_statements.specs.Scripts.{target_name}
 use Rattle.sb_statements.specs.declared.scripts.Script.{Script}
-use Rattle.sb_statements.specs.declared.scripts.TargetScript.{TargetScript}
 use Rattle.sb_local.specs.declared.denials.LocalDenial.{LocalDenial}
-
--- the name of a target; one that is not there has none
-abbrev pub name_by : Option TargetScript → List ℕ
-name_by None = []
-name_by (Some target) = target.name
-
-abbrev pub target_name : Script → ℕ → List ℕ
-target_name script target = name_by (slice_get script.targets target)
 
 -- no rule, or the line of the rule that denied
 abbrev pub verdict_text : Verdict → List ℕ

@@ -2,7 +2,7 @@
 ghost use Rattle.std.specs.Prelude.{◌≡◌, ◌++◌, IfOk, OnOk, codes};
 ghost use Rattle.std.specs.Fmt.{decimal};
 ghost use Rattle.std.specs.List.{flat_map};
-ghost use Rattle.sb_local.specs.Lines.{denial_line, denial_lines, place_text, target_name, verdict_text};
+ghost use Rattle.sb_local.specs.Lines.{denial_line, denial_lines, place_text, verdict_text};
 
 use crate::denials::LocalDenial;
 use sb_call::call_word;
@@ -11,15 +11,6 @@ use sb_rule::Verdict;
 use sb_statements::Script;
 use sb_wide::put_decimal;
 use std::alloc::Global;
-
-fn put_target(lines: &mut Vec<u8>, script: &Script, target: usize) -> Result<(), NoMemory>
-    ensures { OnOk result (lines.new.items ≡ lines.old.items ++ target_name script.now target) }
-{
-    if let Some(target) = script.targets.as_slice().get(target) {
-        lines.extend_from_slice(target.name.bytes())?;
-    }
-    Ok(())
-}
 
 fn put_verdict(lines: &mut Vec<u8>, verdict: Verdict) -> Result<(), NoMemory>
     ensures { OnOk result (lines.new.items ≡ lines.old.items ++ verdict_text verdict) }
@@ -48,7 +39,7 @@ fn put_denial(lines: &mut Vec<u8>, script: &Script, denial: &LocalDenial) -> Res
     ensures { OnOk result (lines.new.items ≡ lines.old.items ++ denial_line script.now denial.now) }
 {
     lines.extend_from_slice(b"local ")?;
-    put_target(lines, script, denial.target as usize)?;
+    lines.extend_from_slice(script.target_name(denial.target as usize))?;
     put_place(lines, denial.thread, denial.place)?;
     lines.extend_from_slice(call_word(denial.tag))?;
     put_verdict(lines, denial.verdict)?;

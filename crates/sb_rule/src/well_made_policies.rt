@@ -131,4 +131,11 @@ impl<'a> WellMadePolicy<'a> {
     {
         self.policy
     }
+
+    /// Establishes that the policy is well made, for a proof that needs it and no policy.
+    pub fn establish_well_made(&self)
+        ensures { is_well_made self.now ≡ true }
+    {
+        self.policy();
+    }
 }

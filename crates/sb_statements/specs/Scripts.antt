@@ -1,9 +1,18 @@
--- What a script says of its channels.
-use Rattle.std.specs.Prelude.{ℕ, Bool, false, not, ◌&&◌, ◌==◌, List}
+-- What a script says of its targets and their channels.
+use Rattle.std.specs.Prelude.{ℕ, Bool, false, not, ◌&&◌, ◌==◌, List, [], Option, None, Some, slice_get}
 use Rattle.std.specs.List.{list_any}
 use Rattle.sb_statements.specs.declared.scripts.Script.{Script}
+use Rattle.sb_statements.specs.declared.scripts.TargetScript.{TargetScript}
 use Rattle.sb_statements.specs.declared.statements.Statement.{Statement}
 use Rattle.sb_statements.specs.declared.statements.Statement.TheVariants.{Store, Exchange}
+
+-- the name of a target; one that is not there has none
+abbrev pub name_by : Option TargetScript → List ℕ
+name_by None = []
+name_by (Some target) = target.name
+
+abbrev pub target_name : Script → ℕ → List ℕ
+target_name script target = name_by (slice_get script.targets target)
 
 -- a store or an exchange that names a word of this channel
 abbrev pub writes_channel : ℕ → ℕ → Statement → Bool

@@ -1,7 +1,7 @@
 // A script: how it opens, and what its targets do.
 ghost use Rattle.std.specs.Prelude.{◌≡◌};
 ghost use Rattle.std.specs.List.{list_any};
-ghost use Rattle.sb_statements.specs.Scripts.{writes_channel, threads_write, is_clean};
+ghost use Rattle.sb_statements.specs.Scripts.{writes_channel, target_name, threads_write, is_clean};
 
 use crate::statements::{Statement, Statements, Threads};
 use sb_call::ShortName;
@@ -89,6 +89,18 @@ impl Drop for Script {
             start: _,
             targets: _,
         } = self;
+    }
+}
+
+impl Script {
+    /// The name of a target, numbered from 0. One that is not there has none.
+    pub fn target_name(&self, target: usize) -> &[u8]
+        ensures { result.now ≡ target_name self.now target }
+    {
+        match self.targets.as_slice().get(target) {
+            Some(target) => target.name.bytes(),
+            None => &[],
+        }
     }
 }
 
