@@ -3,8 +3,7 @@ ghost use Rattle.std.specs.Prelude.{◌≡◌, ◌≤◌, ◌+◌, ◌*◌, ◌+
 ghost use Rattle.std.specs.List.{list_all};
 ghost use Rattle.sb_book.specs.Packing.{after_number, after_numbers, is_word, number_in, numbers_in, packed, packed_all};
 
-use sb_block::Words;
-use sb_call::Extended;
+use arrayvec::ArrayVec;
 
 // Appends a number, for whose bytes there must be room.
 #[tactic(auto, using(crate::proofs::PackedNumbers::packed_last, crate::proofs::PackedNumbers::packed_more))]
@@ -69,38 +68,21 @@ pub(crate) fn after_numbers(bytes: &[u8], count: usize) -> &[u8]
     rest
 }
 
-/// The given number of words at the front of bytes, at most 64.
-#[tactic(auto, using(crate::proofs::PackedNumbers::numbers_more))]
-pub(crate) fn take_words(bytes: &[u8], count: usize) -> Words
-    requires few { count ≤ 64 }
-    ensures { result ≡ numbers_in count bytes.now }
+/// The given number of numbers at the front of bytes, in an array that has room for them, and the bytes after them.
+#[tactic(auto, using(crate::proofs::PackedNumbers::numbers_more, crate::proofs::PackedNumbers::afters_more))]
+pub(crate) fn take_numbers<const N: usize>(bytes: &[u8], count: usize) -> (ArrayVec<u64, N>, &[u8])
+    requires few { count ≤ N }
+    ensures numbers { result.0.items ≡ numbers_in count bytes.now }
+    ensures rest { result.1.now ≡ after_numbers count bytes.now }
 {
-    let mut words = Words::empty();
+    let mut numbers = ArrayVec::new();
     let mut rest = bytes;
     let mut left = count;
     while left > 0 {
-        let (word, later) = take_number(rest);
-        words.push(word);
+        let (number, later) = take_number(rest);
+        numbers.push(number);
         rest = later;
         left -= 1;
     }
-    words
-}
-
-/// The given number of extended words at the front of bytes, at most seven.
-#[tactic(auto, using(crate::proofs::PackedNumbers::numbers_more))]
-pub(crate) fn take_ext(bytes: &[u8], count: usize) -> Extended
-    requires few { count ≤ 7 }
-    ensures { result ≡ numbers_in count bytes.now }
-{
-    let mut words = Extended::empty();
-    let mut rest = bytes;
-    let mut left = count;
-    while left > 0 {
-        let (word, later) = take_number(rest);
-        words.push(word);
-        rest = later;
-        left -= 1;
-    }
-    words
+    (numbers, rest)
 }

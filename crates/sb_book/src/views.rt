@@ -1,15 +1,15 @@
 // An entry, borrowed from those that store it.
-ghost use Rattle.std.specs.Prelude.{◌≡◌, ◌≤◌, length, true};
+ghost use Rattle.std.specs.Prelude.{◌≡◌, ◌≤◌, length, slice_index, true};
 ghost use Rattle.sb_block.specs.Copies.{is_copy, mark_of};
 ghost use Rattle.sb_block.specs.Layout.{most_words};
-ghost use Rattle.sb_book.specs.Packing.{after_numbers};
-ghost use Rattle.sb_book.specs.Stores.{after_handle};
+ghost use Rattle.sb_book.specs.Packing.{after_numbers, numbers_in};
+ghost use Rattle.sb_book.specs.Stores.{after_handle, reply_in};
 
 use crate::decisions::Decision;
-use crate::packing::{after_numbers, take_ext, take_number, take_words};
+use crate::packing::{after_numbers, take_number, take_numbers};
 use crate::stores::EntryRow;
 use sb_block::{BlockCopy, Words};
-use sb_call::Reply;
+use sb_call::{Extended, Reply};
 use std::marker::Model;
 
 /// An entry that is borrowed from those that store it. Contracts see the entry.
@@ -53,6 +53,42 @@ fn word_bytes<'a>(row: &EntryRow, bytes: &'a [u8]) -> &'a [u8]
     after_numbers(after_head(bytes), usize::from(row.ext_len))
 }
 
+// The second word of the copy of a row, whose words begin there, or 0 if it has fewer.
+#[tactic(auto, using(crate::proofs::PackedNumbers::second_word, crate::proofs::PackedNumbers::no_second_word))]
+fn second_word(row: &EntryRow, words: &[u8]) -> u64
+    ensures { result ≡ slice_index (numbers_in row.now.len words.now) 1 }
+{
+    if row.len < 2 {
+        return 0;
+    }
+    let (_, rest) = take_number(words);
+    let (word, _) = take_number(rest);
+    word
+}
+
+// What was replied in the entry of a row whose bytes begin there, and the bytes of the words of its copy.
+fn reply_and_words<'a>(row: &EntryRow, bytes: &'a [u8]) -> (Reply, &'a [u8])
+    requires few { row.now.ext_len ≤ 7 }
+    ensures reply { result.0 ≡ reply_in row.now bytes.now }
+    ensures words { result.1.now ≡ after_numbers row.now.ext_len (after_handle bytes.now) }
+{
+    let (_, rest) = take_number(bytes);
+    let (_, rest) = take_number(rest);
+    let (mark, rest) = take_number(rest);
+    let (outcome, rest) = take_number(rest);
+    let (status, rest) = take_number(rest);
+    let (handle, rest) = take_number(rest);
+    let (ext, words) = take_numbers(rest, usize::from(row.ext_len));
+    let reply = Reply {
+        mark,
+        outcome,
+        status,
+        handle,
+        ext: Extended::new(ext),
+    };
+    (reply, words)
+}
+
 impl<'a> EntryView<'a> {
     /// The number of the target, from 0.
     pub fn target(&self) -> u32
@@ -90,20 +126,16 @@ impl<'a> EntryView<'a> {
         ensures value { result ≡ self.now.taken.words }
         ensures rule { is_copy self.now.taken ≡ true }
     {
-        take_words(word_bytes(self.row, self.bytes), usize::from(self.row.len))
+        let bytes = word_bytes(self.row, self.bytes);
+        let (words, _) = take_numbers(bytes, usize::from(self.row.len));
+        Words::new(words)
     }
 
     /// The caller's mark: word 1 of the copy, or 0 if the copy is empty.
-    #[tactic(auto, using(crate::proofs::PackedNumbers::second_word, crate::proofs::PackedNumbers::no_second_word))]
     pub fn mark(&self) -> u64
         ensures { result ≡ mark_of self.now.taken }
     {
-        if self.row.len < 2 {
-            return 0;
-        }
-        let (_, rest) = take_number(word_bytes(self.row, self.bytes));
-        let (mark, _) = take_number(rest);
-        mark
+        second_word(self.row, word_bytes(self.row, self.bytes))
     }
 
     /// The copy that was taken of the block. Does not allocate.
@@ -124,18 +156,16 @@ impl<'a> EntryView<'a> {
     pub fn reply(&self) -> Reply
         ensures { result ≡ self.now.reply }
     {
-        let (_, rest) = take_number(self.bytes);
-        let (_, rest) = take_number(rest);
-        let (mark, rest) = take_number(rest);
-        let (outcome, rest) = take_number(rest);
-        let (status, rest) = take_number(rest);
-        let (handle, rest) = take_number(rest);
-        Reply {
-            mark,
-            outcome,
-            status,
-            handle,
-            ext: take_ext(rest, usize::from(self.row.ext_len)),
-        }
+        let (reply, _) = reply_and_words(self.row, self.bytes);
+        reply
+    }
+
+    /// The caller's mark and what was replied, from one reading of the entry's bytes. Does not allocate.
+    pub fn mark_and_reply(&self) -> (u64, Reply)
+        ensures mark { result.0 ≡ mark_of self.now.taken }
+        ensures reply { result.1 ≡ self.now.reply }
+    {
+        let (reply, words) = reply_and_words(self.row, self.bytes);
+        (second_word(self.row, words), reply)
     }
 }

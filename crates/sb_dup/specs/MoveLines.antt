@@ -1,5 +1,5 @@
 -- The lines that tell how moves went.
-use Rattle.std.specs.Prelude.{ℕ, ◌+◌, Bool, true, false, List, [], ◌∷◌, ◌++◌, length, count_by, Option, None, Some, slice_get, codes}
+use Rattle.std.specs.Prelude.{ℕ, ◌+◌, Bool, true, false, List, [], ◌∷◌, ◌++◌, length, count_by, codes}
 use Rattle.std.specs.Fmt.{decimal}
 use Rattle.sb_dup.specs.declared.moves.Move.{Move}
 use Rattle.sb_dup.specs.declared.moves.MoveAnswer.{MoveAnswer}
@@ -8,17 +8,9 @@ use Rattle.sb_rule.specs.declared.actions.Action.{Action}
 use Rattle.sb_rule.specs.declared.actions.Action.TheVariants.{Allow, Deny, Alarm, Fake, ReadOnly}
 use Rattle.sb_rule.specs.declared.verdicts.Verdict.{Verdict}
 use Rattle.sb_rule.specs.declared.verdicts.Verdict.TheVariants as verdict
+use Rattle.sb_statements.specs.Scripts.{target_name}
 use Rattle.sb_statements.specs.declared.scripts.Script.{Script}
-use Rattle.sb_statements.specs.declared.scripts.TargetScript.{TargetScript}
 use Rattle.sb_wide.specs.Numbers.{hexadecimal}
-
--- the name of a target
-abbrev pub name_by : Option TargetScript → List ℕ
-name_by None = []
-name_by (Some target) = target.name
-
-abbrev pub target_name : Script → ℕ → List ℕ
-target_name script target = name_by (slice_get script.targets target)
 
 -- what comes before the line of a rule that denies
 abbrev pub action_text : Action → List ℕ

@@ -1,32 +1,13 @@
 // The lines that tell how moves went.
 ghost use Rattle.std.specs.Prelude.{◌≡◌, ◌++◌, OnOk};
-ghost use Rattle.std.specs.Fmt.{decimal};
 ghost use Rattle.std.specs.List.{count_by};
-ghost use Rattle.sb_dup.specs.MoveLines.{action_text, answer_text, giver_text, is_given, lines_of_moves, move_line, move_lines, move_text, target_name, totals_line, verdict_text};
+ghost use Rattle.sb_dup.specs.MoveLines.{action_text, answer_text, giver_text, is_given, lines_of_moves, move_line, move_lines, move_text, totals_line, verdict_text};
 
 use crate::moves::{Answered, Move, MoveAnswer};
 use sb_items::NoMemory;
 use sb_rule::{Action, Verdict};
 use sb_statements::Script;
-use sb_wide::{put_decimal, put_hexadecimal};
-
-// Appends the name of a target, and nothing if there is no such target.
-fn put_target(line: &mut Vec<u8>, script: &Script, target: u32) -> Result<(), NoMemory>
-    ensures { OnOk result (line.new.items ≡ line.old.items ++ target_name script.now target) }
-{
-    if let Some(target) = script.targets.as_slice().get(target as usize) {
-        line.extend_from_slice(target.name.bytes())?;
-    }
-    Ok(())
-}
-
-// Appends words and a number in decimal.
-fn put_named(line: &mut Vec<u8>, name: &[u8], value: u64) -> Result<(), NoMemory>
-    ensures { OnOk result (line.new.items ≡ line.old.items ++ (name.now ++ decimal value)) }
-{
-    line.extend_from_slice(name)?;
-    put_decimal(line, value)
-}
+use sb_wide::{put_hexadecimal, put_named};
 
 fn action_text(action: Action) -> &'static [u8]
     ensures { result.now ≡ action_text action }
@@ -67,7 +48,7 @@ fn put_answer(line: &mut Vec<u8>, script: &Script, answer: MoveAnswer) -> Result
         MoveAnswer::NoOpening => Ok(line.extend_from_slice(b"no-opening")?),
         MoveAnswer::Denied { target, verdict } => {
             line.extend_from_slice(b"denied ")?;
-            put_target(line, script, target)?;
+            line.extend_from_slice(script.target_name(target as usize))?;
             put_verdict(line, verdict)
         }
     }
@@ -77,7 +58,7 @@ fn put_answer(line: &mut Vec<u8>, script: &Script, answer: MoveAnswer) -> Result
 fn put_giver(line: &mut Vec<u8>, script: &Script, m: Move) -> Result<(), NoMemory>
     ensures { OnOk result (line.new.items ≡ line.old.items ++ giver_text script.now m) }
 {
-    put_target(line, script, m.from)?;
+    line.extend_from_slice(script.target_name(m.from as usize))?;
     put_named(line, b" ", m.handle)
 }
 
@@ -89,7 +70,8 @@ fn put_move(line: &mut Vec<u8>, script: &Script, n: u64, m: Move) -> Result<(), 
     line.push(b' ')?;
     put_giver(line, script, m)?;
     line.push(b' ')?;
-    put_target(line, script, m.to)
+    line.extend_from_slice(script.target_name(m.to as usize))?;
+    Ok(())
 }
 
 // Appends the line of a move.

@@ -7,7 +7,7 @@ use Rattle.std.proofs.lemmas.Bool.Decides.{nat_tests}
 use Rattle.sb_wide.specs.Numbers.{hexadecimal}
 use Rattle.sb_call.specs.declared.arguments.Arg.{Arg}
 use Rattle.sb_call.specs.declared.arguments.Arg.TheVariants.{Num, Str}
-use Rattle.sb_lineread.specs.Fields.{argument_field}
+use Rattle.sb_transcript.specs.EntryLines.{argument_field}
 use Rattle.sb_lineread.specs.Ranges.{is_word64, is_argument}
 use Rattle.sb_lineread.specs.Reading.{argument_of, with_argument, arguments_at}
 use Rattle.sb_lineread.proofs.NumbersBack.{number_back, hexadecimal_plain}

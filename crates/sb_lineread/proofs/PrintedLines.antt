@@ -13,7 +13,6 @@ use Rattle.sb_book.specs.declared.decisions.Decision.{Decision}
 use Rattle.sb_book.specs.declared.decisions.Decision.TheVariants as decision
 use Rattle.sb_call.specs.CallWords.{call_word}
 use Rattle.sb_call.specs.declared.arguments.Arg.{Arg}
-use Rattle.sb_call.specs.declared.arguments.Arg.TheVariants.{Num, Str}
 use Rattle.sb_call.specs.declared.replies.Reply.{Reply}
 use Rattle.sb_call.specs.declared.tags.CallTag.{CallTag}
 use Rattle.sb_rule.specs.declared.actions.Action.TheVariants as action
@@ -21,12 +20,11 @@ use Rattle.sb_rule.specs.declared.verdicts.Verdict.TheVariants as verdict
 use Rattle.sb_statements.specs.declared.results.CallResult.TheVariants as call
 use Rattle.sb_statements.specs.declared.results.StmtResult.{StmtResult}
 use Rattle.sb_statements.specs.declared.results.StmtResult.TheVariants as result
-use Rattle.sb_transcript.specs.CommaWords.{more_words}
-use Rattle.sb_transcript.specs.CommaWords as printed
-use Rattle.sb_transcript.specs.EntryLines.{fault_text, argument_text, decision_text, reply_text, target_name}
+use Rattle.sb_transcript.specs.CommaWords.{comma_words}
+use Rattle.sb_transcript.specs.EntryLines.{fault_text, argument_field, argument_text, decision_text, reply_text, target_name}
 use Rattle.sb_transcript.specs.ResultLines.{result_text}
 use Rattle.sb_transcript.specs.Totals.{counted, count_of, is_performed, is_faked, is_denied, is_refused}
-use Rattle.sb_lineread.specs.Fields.{after_separator, all_after, argument_field, comma_words, fault_fields, decision_fields, reply_fields, result_fields}
+use Rattle.sb_lineread.specs.Fields.{after_separator, all_after, fault_fields, decision_fields, reply_fields, result_fields}
 use Rattle.sb_lineread.specs.Printed.{shown_decision, shown_reply, shown_result, PrintedEntriesAreWritten, PrintedResultsAreWritten, PrintedTotalsAreWritten}
 
 -- one field at the end
@@ -38,21 +36,11 @@ two a b = ap (λ l. (32 ∷ a) ++ l) (one b)
 
 -- ---- replies
 
-more_same : (ws : List ℕ) → more_words ws ≡ all_after 44 (map decimal ws)
-more_same [] = refl
-more_same (w ∷ ws) = ap (λ l. 44 ∷ (decimal w ++ l)) (more_same ws)
-
-words_same : (ws : List ℕ) → printed.comma_words ws ≡ comma_words ws
-words_same [] = refl
-words_same (w ∷ ws) = ap (λ l. decimal w ++ l) (more_same ws)
-
 reply_parts : (o s h e : List ℕ) → 32 ∷ (o ++ codes " " ++ s ++ codes " " ++ h ++ codes " [" ++ e ++ codes "]") ≡ all_after 32 (o ∷ s ∷ h ∷ (91 ∷ (e ++ 93 ∷ [])) ∷ [])
 reply_parts o s h e = simp (append_assoc, append-nil) refl
 
 reply_same : (r : Reply) → 32 ∷ reply_text r ≡ all_after 32 (reply_fields (shown_reply r))
-reply_same r =
-    ap (λ e. 32 ∷ (decimal r.outcome ++ codes " " ++ eight_digits r.status ++ codes " " ++ decimal r.handle ++ codes " [" ++ e ++ codes "]")) (words_same r.ext)
-    ∙ reply_parts (decimal r.outcome) (eight_digits r.status) (decimal r.handle) (comma_words r.ext)
+reply_same r = reply_parts (decimal r.outcome) (eight_digits r.status) (decimal r.handle) (comma_words r.ext)
 
 -- ---- decisions
 
@@ -68,10 +56,15 @@ fault_same WrongShape = refl
 fault_same (BadSize i) = sym (two (codes "bad-size") (decimal i))
 fault_same (BadName i) = sym (two (codes "bad-name") (decimal i))
 
+pub refused_put : (old new : List ℕ) (fault : BlockFault) → new ≡ (old ++ codes " refused ") ++ fault_text fault → new ≡ old ++ all_after 32 (codes "refused" ∷ fault_fields fault)
+refused_put old new fault put = put ∙ append_assoc old (codes " refused ") (fault_text fault) ∙ ap (λ l. old ++ (codes " refused" ++ l)) (fault_same fault)
+
 arguments_same : (args : List Arg) → flat_map argument_text args ≡ all_after 32 (map argument_field args)
 arguments_same [] = refl
-arguments_same (Num n ∷ args) = ap (λ l. argument_text (Num n) ++ l) (arguments_same args)
-arguments_same (Str units ∷ args) = ap (λ l. argument_text (Str units) ++ l) (arguments_same args)
+arguments_same (arg ∷ args) = ap (λ l. argument_text arg ++ l) (arguments_same args)
+
+pub arguments_put : (old new : List ℕ) (args : List Arg) → new ≡ old ++ flat_map argument_text args → new ≡ old ++ all_after 32 (map argument_field args)
+arguments_put old new args put = put ∙ ap (λ l. old ++ l) (arguments_same args)
 
 performed_inner : (c a w n : List ℕ) → ((c ++ a) ++ (32 ∷ (w ++ 32 ∷ []))) ++ n ≡ c ++ (a ++ ((32 ∷ w) ++ (32 ∷ n)))
 performed_inner c a w n =

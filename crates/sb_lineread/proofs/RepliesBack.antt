@@ -8,7 +8,8 @@ use Rattle.std.proofs.lemmas.List.{length-append}
 use Rattle.std.proofs.lemmas.List.Folds.{list_all-append}
 use Rattle.sb_wide.specs.Numbers.{eight_digits}
 use Rattle.sb_lineread.specs.Cuts.{cut, fields_after}
-use Rattle.sb_lineread.specs.Fields.{all_after, comma_words, reply_fields}
+use Rattle.sb_transcript.specs.CommaWords.{comma_words, more_words}
+use Rattle.sb_lineread.specs.Fields.{all_after, reply_fields}
 use Rattle.sb_lineread.specs.Ranges.{is_word64, ReplyInRange}
 use Rattle.sb_lineread.specs.Reading.{words_within, ext_of, ext_at, decimal_at, status_at, reply_at}
 use Rattle.sb_lineread.specs.Steps.{◌>>=◌, Read}
@@ -21,6 +22,11 @@ word64 : (n : ℕ) → is_word64 n ≡ true → n < 2 ^ 64
 word64 n h = grind (arith, nat_tests)
 
 -- ---- extended words
+
+-- the words after the first are the fields after commas
+more_fields : (ws : List ℕ) → more_words ws ≡ all_after 44 (map decimal ws)
+more_fields [] = refl
+more_fields (w ∷ ws) = ap (λ l. 44 ∷ (decimal w ++ l)) (more_fields ws)
 
 words_back : (most : ℕ) (ws : List ℕ) → length ws ≤ most → list_all is_word64 ws ≡ true → words_within most (map decimal ws) ≡ Some ws
 words_back zero [] h k = refl
@@ -66,20 +72,21 @@ pub ext_back : (ext : List ℕ) → length ext ≤ 7 → list_all is_word64 ext 
 ext_back [] h k = refl
 ext_back (w ∷ ws) h k =
     let p = and_parts (is_word64 w) (list_all is_word64 ws) k in
-    inside (decimal w ++ all_after 44 (map decimal ws)) (some_first (decimal w) (all_after 44 (map decimal ws)) (decimal_some w (word64 w p.0)))
+    ap (λ l. ext_of (91 ∷ ((decimal w ++ l) ++ 93 ∷ []))) (more_fields ws)
+    ∙ inside (decimal w ++ all_after 44 (map decimal ws)) (some_first (decimal w) (all_after 44 (map decimal ws)) (decimal_some w (word64 w p.0)))
     ∙ ap (words_within 7) (words_cut w ws p.0 p.1) ∙ words_back 7 (w ∷ ws) h k
 
-more_plain : (ws : List ℕ) → list_all is_word64 ws ≡ true → list_all (is_plain 32) (all_after 44 (map decimal ws)) ≡ true
+more_plain : (ws : List ℕ) → list_all is_word64 ws ≡ true → list_all (is_plain 32) (more_words ws) ≡ true
 more_plain [] h = refl
 more_plain (w ∷ ws) h =
     let p = and_parts (is_word64 w) (list_all is_word64 ws) h in
-    list_all-append (is_plain 32) (decimal w) (all_after 44 (map decimal ws)) ∙ (λ i. decimal_plain w (word64 w p.0) i && more_plain ws p.1 i)
+    list_all-append (is_plain 32) (decimal w) (more_words ws) ∙ (λ i. decimal_plain w (word64 w p.0) i && more_plain ws p.1 i)
 
 words_plain : (ws : List ℕ) → list_all is_word64 ws ≡ true → list_all (is_plain 32) (comma_words ws) ≡ true
 words_plain [] h = refl
 words_plain (w ∷ ws) h =
     let p = and_parts (is_word64 w) (list_all is_word64 ws) h in
-    list_all-append (is_plain 32) (decimal w) (all_after 44 (map decimal ws)) ∙ (λ i. decimal_plain w (word64 w p.0) i && more_plain ws p.1 i)
+    list_all-append (is_plain 32) (decimal w) (more_words ws) ∙ (λ i. decimal_plain w (word64 w p.0) i && more_plain ws p.1 i)
 
 ext_plain : (ws : List ℕ) → list_all is_word64 ws ≡ true → list_all (is_plain 32) (91 ∷ (comma_words ws ++ 93 ∷ [])) ≡ true
 ext_plain ws h = list_all-append (is_plain 32) (comma_words ws) (93 ∷ []) ∙ (λ i. words_plain ws h i && true)

@@ -2,13 +2,12 @@
 use Rattle.std.specs.Prelude.{ℕ, List, [], ◌∷◌, ◌++◌, codes, map}
 use Rattle.std.specs.Fmt.{decimal}
 use Rattle.std.specs.List.{flat_map}
-use Rattle.sb_wide.specs.Numbers.{hexadecimal, eight_digits}
-use Rattle.sb_wide.specs.Quoting.{quoted}
+use Rattle.sb_wide.specs.Numbers.{eight_digits}
 use Rattle.sb_block.specs.declared.faults.BlockFault.{BlockFault}
 use Rattle.sb_block.specs.declared.faults.BlockFault.TheVariants.{TooManyParams, BadEnd, CountChanged, EndChanged, BadParamType, BadPlace, UnknownTag, WrongShape, BadSize, BadName}
 use Rattle.sb_call.specs.CallWords.{call_word}
-use Rattle.sb_call.specs.declared.arguments.Arg.{Arg}
-use Rattle.sb_call.specs.declared.arguments.Arg.TheVariants.{Num, Str}
+use Rattle.sb_transcript.specs.CommaWords.{comma_words}
+use Rattle.sb_transcript.specs.EntryLines.{argument_field}
 use Rattle.sb_lineread.specs.declared.lines.ShownDecision.{ShownDecision}
 use Rattle.sb_lineread.specs.declared.lines.ShownDecision.TheVariants.{Refused, NoRule, Denied, Alarmed, Faked, Allowed, ReadOnly}
 use Rattle.sb_lineread.specs.declared.lines.ShownReply.{ShownReply}
@@ -36,11 +35,6 @@ fault_fields WrongShape = codes "wrong-shape" ∷ []
 fault_fields (BadSize i) = counted (codes "bad-size") i
 fault_fields (BadName i) = counted (codes "bad-name") i
 
--- a number in hexadecimal after `0x`, or a string between quotes
-abbrev pub argument_field : Arg → List ℕ
-argument_field (Num n) = 48 ∷ 120 ∷ hexadecimal n
-argument_field (Str units) = quoted units
-
 -- a decision: its fault, or its call with the rule that decided
 abbrev pub decision_fields : ShownDecision → List (List ℕ)
 decision_fields (Refused fault) = codes "refused" ∷ fault_fields fault
@@ -58,11 +52,6 @@ after_separator separator field = separator ∷ field
 -- fields, each after a separator
 abbrev pub all_after : ℕ → List (List ℕ) → List ℕ
 all_after separator fields = flat_map (after_separator separator) fields
-
--- numbers in decimal with commas between them
-abbrev pub comma_words : List ℕ → List ℕ
-comma_words [] = []
-comma_words (w ∷ ws) = decimal w ++ all_after 44 (map decimal ws)
 
 -- the outcome, status, handle and extended words of a reply
 abbrev pub reply_fields : ShownReply → List (List ℕ)

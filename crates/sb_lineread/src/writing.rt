@@ -1,12 +1,13 @@
 // What is written of a line.
-ghost use Rattle.std.specs.Prelude.{◌≡◌, ◌++◌, ◌∷◌, [], codes, map, OnOk};
+ghost use Rattle.std.specs.Prelude.{◌≡◌, ◌++◌, ◌∷◌, [], codes, OnOk};
 ghost use Rattle.std.specs.Fmt.{decimal};
 ghost use Rattle.sb_wide.specs.Numbers.{eight_digits};
-ghost use Rattle.sb_lineread.specs.Fields.{after_separator, all_after, comma_words, counted, two_counts, reply_fields, result_fields, result_line_fields, totals_fields, written};
+ghost use Rattle.sb_lineread.specs.Fields.{after_separator, all_after, counted, two_counts, reply_fields, result_fields, result_line_fields, totals_fields, written};
 
 use crate::lines::{Line, ResultLine, ShownReply, ShownResult, TotalsLine};
 use crate::writing_entries::put_entry;
 use sb_items::NoMemory;
+use sb_transcript::put_comma_words;
 use sb_wide::{put_decimal, put_eight_digits};
 
 /// Appends a blank and a field.
@@ -32,26 +33,6 @@ pub fn put_counted(text: &mut Vec<u8>, word: &[u8], number: u64) -> Result<(), N
 {
     put_field(text, word)?;
     put_number(text, number)
-}
-
-fn put_more_words(text: &mut Vec<u8>, words: &[u64]) -> Result<(), NoMemory>
-    ensures { OnOk result (text.new.items ≡ text.old.items ++ all_after 44 (map decimal words.now)) }
-{
-    for word in words {
-        text.push(b',')?;
-        put_decimal(text, *word)?;
-    }
-    Ok(())
-}
-
-fn put_comma_words(text: &mut Vec<u8>, words: &[u64]) -> Result<(), NoMemory>
-    ensures { OnOk result (text.new.items ≡ text.old.items ++ comma_words words.now) }
-{
-    let Some((first, more)) = words.split_first() else {
-        return Ok(());
-    };
-    put_decimal(text, *first)?;
-    put_more_words(text, more)
 }
 
 /// Appends the fields of a reply.

@@ -1,7 +1,7 @@
 // What is written of an entry.
 ghost use Rattle.std.specs.Prelude.{◌≡◌, ◌++◌, ◌∷◌, [], codes, map, OnOk};
-ghost use Rattle.std.specs.Fmt.{decimal};
-ghost use Rattle.sb_lineread.specs.Fields.{all_after, after_separator, argument_field, counted, decision_fields, entry_fields, fault_fields, place_fields};
+ghost use Rattle.sb_transcript.specs.EntryLines.{argument_field};
+ghost use Rattle.sb_lineread.specs.Fields.{all_after, counted, decision_fields, entry_fields, fault_fields, place_fields};
 ghost use Rattle.sb_call.specs.CallWords.{call_word};
 
 use crate::lines::{EntryLine, ShownDecision};
@@ -9,54 +9,14 @@ use crate::writing::{put_counted, put_field, put_number, put_replied};
 use sb_block::BlockFault;
 use sb_call::{Arg, CallTag, call_word};
 use sb_items::NoMemory;
-use sb_wide::{put_hexadecimal, quote_into};
+use sb_transcript::{put_arguments, put_fault};
 
-fn put_change(text: &mut Vec<u8>, word: &[u8], seen: u64, copied: u64) -> Result<(), NoMemory>
-    ensures { OnOk result (text.new.items ≡ text.old.items ++ all_after 32 (word.now ∷ decimal seen ∷ decimal copied ∷ [])) }
+#[tactic(auto, using(crate::proofs::PrintedLines::refused_put))]
+fn put_refused(text: &mut Vec<u8>, fault: BlockFault) -> Result<(), NoMemory>
+    ensures { OnOk result (text.new.items ≡ text.old.items ++ all_after 32 (codes "refused" ∷ fault_fields fault)) }
 {
-    put_counted(text, word, seen)?;
-    put_number(text, copied)
-}
-
-fn put_fault(text: &mut Vec<u8>, fault: BlockFault) -> Result<(), NoMemory>
-    ensures { OnOk result (text.new.items ≡ text.old.items ++ all_after 32 (fault_fields fault)) }
-{
-    match fault {
-        BlockFault::TooManyParams(count) => put_counted(text, b"too-many-params", count),
-        BlockFault::BadEnd(end) => put_counted(text, b"bad-end", end),
-        BlockFault::CountChanged(seen, copied) => put_change(text, b"count-changed", seen, copied),
-        BlockFault::EndChanged(seen, copied) => put_change(text, b"end-changed", seen, copied),
-        BlockFault::BadParamType(param) => put_counted(text, b"bad-param-type", u64::from(param)),
-        BlockFault::BadPlace(param) => put_counted(text, b"bad-place", u64::from(param)),
-        BlockFault::UnknownTag(tag) => put_counted(text, b"unknown-tag", tag),
-        BlockFault::WrongShape => put_field(text, b"wrong-shape"),
-        BlockFault::BadSize(param) => put_counted(text, b"bad-size", u64::from(param)),
-        BlockFault::BadName(param) => put_counted(text, b"bad-name", u64::from(param)),
-    }
-}
-
-fn put_argument(text: &mut Vec<u8>, arg: &Arg) -> Result<(), NoMemory>
-    ensures { OnOk result (text.new.items ≡ text.old.items ++ after_separator 32 (argument_field arg.now)) }
-{
-    match arg {
-        Arg::Num(number) => {
-            text.extend_from_slice(b" 0x")?;
-            put_hexadecimal(text, *number)
-        }
-        Arg::Str(units) => {
-            text.push(b' ')?;
-            quote_into(text, units.as_units())
-        }
-    }
-}
-
-fn put_arguments(text: &mut Vec<u8>, args: &[Arg]) -> Result<(), NoMemory>
-    ensures { OnOk result (text.new.items ≡ text.old.items ++ all_after 32 (map argument_field args.now)) }
-{
-    for arg in args {
-        put_argument(text, arg)?;
-    }
-    Ok(())
+    text.extend_from_slice(b" refused ")?;
+    put_fault(text, fault)
 }
 
 fn put_call(text: &mut Vec<u8>, word: &[u8], tag: CallTag) -> Result<(), NoMemory>
@@ -85,10 +45,7 @@ fn put_decision(text: &mut Vec<u8>, decision: &ShownDecision) -> Result<(), NoMe
     ensures { OnOk result (text.new.items ≡ text.old.items ++ all_after 32 (decision_fields decision.now)) }
 {
     match decision {
-        ShownDecision::Refused(fault) => {
-            put_field(text, b"refused")?;
-            put_fault(text, *fault)
-        }
+        ShownDecision::Refused(fault) => put_refused(text, *fault),
         ShownDecision::NoRule(tag) => {
             put_call(text, b"denied", *tag)?;
             put_field(text, b"norule")

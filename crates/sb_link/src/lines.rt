@@ -1,12 +1,11 @@
 // How the answers of a book that resolves names are written.
 ghost use Rattle.std.specs.Prelude.{◌≡◌, ◌++◌, OnOk};
-ghost use Rattle.std.specs.Fmt.{decimal};
 ghost use Rattle.sb_link.specs.Lines.{linked_line, place_text, stop_text, stopped_line};
 
 use crate::stops::Stop;
 use sb_call::{CallTag, call_word};
 use sb_items::NoMemory;
-use sb_wide::put_decimal;
+use sb_wide::{put_decimal, put_named};
 
 // Appends why a call stopped.
 fn put_stop(line: &mut Vec<u8>, stop: Stop) -> Result<(), NoMemory>
@@ -20,14 +19,6 @@ fn put_stop(line: &mut Vec<u8>, stop: Stop) -> Result<(), NoMemory>
         Stop::TooBig => line.extend_from_slice(b"too-big")?,
     }
     Ok(())
-}
-
-// Appends a name and a number in decimal.
-fn put_named(line: &mut Vec<u8>, name: &[u8], value: u64) -> Result<(), NoMemory>
-    ensures { OnOk result (line.new.items ≡ line.old.items ++ (name.now ++ decimal value)) }
-{
-    line.extend_from_slice(name)?;
-    put_decimal(line, value)
 }
 
 // Appends `stopped`, the name of a target, a channel and a mark.

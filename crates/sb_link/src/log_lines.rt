@@ -1,7 +1,6 @@
 // The lines of the log of a book that resolves names.
 ghost use Rattle.std.specs.Prelude.{◌≡◌, ◌++◌, length, IfOk, OnOk};
 ghost use Rattle.std.specs.List.{count_by, flat_map};
-ghost use Rattle.sb_transcript.specs.EntryLines.{target_name};
 ghost use Rattle.sb_link.specs.LinkedHistories.{is_stopped};
 ghost use Rattle.sb_link.specs.Lines.{item_line, line_if, log_text, log_totals};
 
@@ -10,7 +9,7 @@ use crate::linked_books::{Linked, LinkedBook};
 use sb_book::{EntrySlice, EntryView};
 use sb_items::NoMemory;
 use sb_statements::Script;
-use sb_transcript::entry_line;
+use sb_transcript::put_entry_line;
 use std::alloc::Global;
 
 // Appends the line of an entry, if it is there.
@@ -23,20 +22,9 @@ fn put_entry(
     ensures { OnOk result (lines.new.items ≡ lines.old.items ++ line_if script.now n entry.entry) }
 {
     if let Some(entry) = entry {
-        let line = entry_line(*lines.allocator(), script, n as u64, &entry)?;
-        lines.extend_from_slice(&line)?;
+        put_entry_line(lines, script, n as u64, &entry)?;
     }
     Ok(())
-}
-
-// The name of a target; one that is not there has none.
-fn target_name(script: &Script, target: u32) -> &[u8]
-    ensures { result.now ≡ target_name script.now target }
-{
-    match script.targets.as_slice().get(target as usize) {
-        Some(target) => target.name.bytes(),
-        None => &[],
-    }
 }
 
 // Appends the line of an item.
@@ -59,7 +47,7 @@ fn put_item(
             ..
         } => put_stopped_line(
             lines,
-            target_name(script, *target),
+            script.target_name(*target as usize),
             *channel,
             taken.mark(),
             *tag,

@@ -1,5 +1,5 @@
 -- The line of an entry.
-use Rattle.std.specs.Prelude.{ℕ, List, [], ◌++◌, codes, Option, None, Some, slice_get}
+use Rattle.std.specs.Prelude.{ℕ, List, ◌++◌, codes}
 use Rattle.std.specs.List.{flat_map}
 use Rattle.std.specs.Fmt.{decimal}
 use Rattle.sb_wide.specs.Quoting.{quoted}
@@ -8,7 +8,7 @@ use Rattle.sb_call.specs.declared.arguments.Arg.{Arg}
 use Rattle.sb_call.specs.declared.arguments.Arg.TheVariants.{Num, Str}
 use Rattle.sb_call.specs.declared.replies.Reply.{Reply}
 use Rattle.sb_statements.specs.declared.scripts.Script.{Script}
-use Rattle.sb_statements.specs.declared.scripts.TargetScript.{TargetScript}
+pub use Rattle.sb_statements.specs.Scripts.{name_by, target_name}
 use Rattle.sb_block.specs.Copies.{mark_of}
 use Rattle.sb_block.specs.declared.faults.BlockFault.{BlockFault}
 use Rattle.sb_block.specs.declared.faults.BlockFault.TheVariants.{TooManyParams, BadEnd, CountChanged, EndChanged, BadParamType, BadPlace, UnknownTag, WrongShape, BadSize, BadName}
@@ -35,10 +35,14 @@ fault_text WrongShape = codes "wrong-shape"
 fault_text (BadSize i) = codes "bad-size " ++ decimal i
 fault_text (BadName i) = codes "bad-name " ++ decimal i
 
--- a blank, and a number in hexadecimal or a string between quotes
+-- a number in hexadecimal after `0x`, or a string between quotes
+abbrev pub argument_field : Arg → List ℕ
+argument_field (Num n) = codes "0x" ++ hexadecimal n
+argument_field (Str units) = quoted units
+
+-- an argument after a blank
 abbrev pub argument_text : Arg → List ℕ
-argument_text (Num n) = codes " 0x" ++ hexadecimal n
-argument_text (Str units) = codes " " ++ quoted units
+argument_text arg = codes " " ++ argument_field arg
 
 -- what comes before the line of a rule that denies
 abbrev pub denial_word : Action → List ℕ
@@ -72,14 +76,6 @@ decision_text (Performed tag line action args) =
 abbrev pub reply_text : Reply → List ℕ
 reply_text r =
     decimal r.outcome ++ codes " " ++ eight_digits r.status ++ codes " " ++ decimal r.handle ++ codes " [" ++ comma_words r.ext ++ codes "]"
-
-abbrev pub name_by : Option TargetScript → List ℕ
-name_by None = []
-name_by (Some target) = target.name
-
--- the name of a target
-abbrev pub target_name : Script → ℕ → List ℕ
-target_name script target = name_by (slice_get script.targets target)
 
 -- the line of entry n
 abbrev pub entry_line : Script → ℕ → Entry → List ℕ

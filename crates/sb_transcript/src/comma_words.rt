@@ -16,6 +16,9 @@ fn put_more_words(line: &mut Vec<u8>, words: &[u64]) -> Result<(), NoMemory>
 }
 
 /// Appends numbers in decimal with commas between them.
+///
+/// # Errors
+/// `NoMemory` if there was none for them; then a part may have been appended.
 pub fn put_comma_words(line: &mut Vec<u8>, words: &[u64]) -> Result<(), NoMemory>
     ensures { OnOk result (line.new.items ≡ line.old.items ++ comma_words words.now) }
 {

@@ -11,19 +11,8 @@ use sb_call::{Arg, Reply, call_word};
 use sb_items::NoMemory;
 use sb_rule::{Action, Verdict};
 use sb_statements::Script;
-use sb_wide::{put_decimal, put_eight_digits, put_hexadecimal, quote_into};
+use sb_wide::{put_decimal, put_eight_digits, put_hexadecimal, put_named, quote_into};
 use std::alloc::Global;
-
-/// Appends a name and a number in decimal.
-///
-/// # Errors
-/// `NoMemory` if there was none for it; then a part may have been appended.
-pub fn put_named(line: &mut Vec<u8>, name: &[u8], value: u64) -> Result<(), NoMemory>
-    ensures { OnOk result (line.new.items ≡ line.old.items ++ (name.now ++ decimal value)) }
-{
-    line.extend_from_slice(name)?;
-    put_decimal(line, value)
-}
 
 // The two values of a fault that is a change.
 fn put_change(line: &mut Vec<u8>, name: &[u8], seen: u64, copied: u64) -> Result<(), NoMemory>
@@ -34,7 +23,11 @@ fn put_change(line: &mut Vec<u8>, name: &[u8], seen: u64, copied: u64) -> Result
     put_decimal(line, copied)
 }
 
-fn put_fault(line: &mut Vec<u8>, fault: BlockFault) -> Result<(), NoMemory>
+/// Appends a fault of a block: its name, and its values.
+///
+/// # Errors
+/// `NoMemory` if there was none for it; then a part may have been appended.
+pub fn put_fault(line: &mut Vec<u8>, fault: BlockFault) -> Result<(), NoMemory>
     ensures { OnOk result (line.new.items ≡ line.old.items ++ fault_text fault) }
 {
     match fault {
@@ -66,7 +59,11 @@ fn put_argument(line: &mut Vec<u8>, arg: &Arg) -> Result<(), NoMemory>
     }
 }
 
-fn put_arguments(line: &mut Vec<u8>, args: &[Arg]) -> Result<(), NoMemory>
+/// Appends the arguments of a call, each after a blank: a number in hexadecimal after `0x`, a string between quotes.
+///
+/// # Errors
+/// `NoMemory` if there was none for them; then a part may have been appended.
+pub fn put_arguments(line: &mut Vec<u8>, args: &[Arg]) -> Result<(), NoMemory>
     ensures { OnOk result (line.new.items ≡ line.old.items ++ flat_map argument_text args.now) }
 {
     for arg in args {
@@ -155,19 +152,6 @@ pub fn put_reply(line: &mut Vec<u8>, reply: &Reply) -> Result<(), NoMemory>
     Ok(())
 }
 
-/// Appends the name of a target, and nothing if there is no such target.
-///
-/// # Errors
-/// `NoMemory` if there was none for it; then a part may have been appended.
-pub fn put_target(line: &mut Vec<u8>, script: &Script, target: usize) -> Result<(), NoMemory>
-    ensures { OnOk result (line.new.items ≡ line.old.items ++ target_name script.now target) }
-{
-    if let Some(target) = script.targets.as_slice().get(target) {
-        line.extend_from_slice(target.name.bytes())?;
-    }
-    Ok(())
-}
-
 // Appends the line of entry `n` with these parts.
 fn put_parts(
     line: &mut Vec<u8>,
@@ -184,7 +168,7 @@ fn put_parts(
 {
     put_named(line, b"entry ", n)?;
     line.push(b' ')?;
-    put_target(line, script, place.0 as usize)?;
+    line.extend_from_slice(script.target_name(place.0 as usize))?;
     put_named(line, b" ", u64::from(place.1))?;
     put_named(line, b" mark ", mark)?;
     line.push(b' ')?;
@@ -208,16 +192,8 @@ pub fn put_entry_line(
     ensures { OnOk result (line.new.items ≡ line.old.items ++ entry_line script.now n entry.now) }
 {
     let place = (entry.target(), entry.channel());
-    let reply = entry.reply();
-    put_parts(
-        line,
-        script,
-        n,
-        place,
-        entry.mark(),
-        entry.decision(),
-        &reply,
-    )
+    let (mark, reply) = entry.mark_and_reply();
+    put_parts(line, script, n, place, mark, entry.decision(), &reply)
 }
 
 /// The line of entry `n` of a history, counted from 0, with its LF.

@@ -11,8 +11,9 @@ mod places;
 mod results;
 mod transcripts;
 
+pub use comma_words::put_comma_words;
 pub use counts::totals;
-pub use entries::entry_line;
+pub use entries::{entry_line, put_arguments, put_entry_line, put_fault};
 pub use laws::{
     entries_come_first, lines_are_counted, lines_end_once, numbers_are_results,
     results_are_in_order, results_follow, totals_end, transcripts_tell_their_lines,

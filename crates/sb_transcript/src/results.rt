@@ -3,10 +3,10 @@ ghost use Rattle.std.specs.Prelude.{◌≡◌, ◌++◌, codes, IfOk, OnOk};
 ghost use Rattle.std.specs.Fmt.{decimal};
 ghost use Rattle.sb_transcript.specs.ResultLines.{call_result_text, result_text, result_start, result_end, result_line};
 
-use crate::entries::{put_named, put_reply, put_target};
+use crate::entries::put_reply;
 use sb_items::NoMemory;
 use sb_statements::{CallResult, Script, StmtResult};
-use sb_wide::put_decimal;
+use sb_wide::{put_decimal, put_named};
 use std::alloc::Global;
 
 // A channel and a value after it.
@@ -86,7 +86,7 @@ pub fn put_result_start(
     ensures { OnOk result (line.new.items ≡ line.old.items ++ result_start script.now target thread) }
 {
     line.extend_from_slice(b"result ")?;
-    put_target(line, script, target)?;
+    line.extend_from_slice(script.target_name(target))?;
     put_named(line, b" ", thread as u64)?;
     line.push(b' ')?;
     Ok(())
