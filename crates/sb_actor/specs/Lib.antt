@@ -16,6 +16,7 @@ pub mod ThreadFollowing
 pub mod ThreadStages
 pub mod ThreadTable
 pub mod Ties
+pub mod Waiting
 pub mod WorkerFields
 pub mod WorkerStages
 pub mod WorkerTable

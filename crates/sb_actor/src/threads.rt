@@ -12,6 +12,7 @@ ghost use Rattle.sb_actor.specs.Endings.{result_of};
 ghost use Rattle.sb_actor.specs.Places.{statement_at, begins, direct_at, thread_start, is_finished, is_over};
 ghost use Rattle.sb_actor.specs.Observations.{Done};
 ghost use Rattle.sb_actor.specs.ThreadFields.{is_free};
+ghost use Rattle.sb_actor.specs.Waiting.{moved_to, next_load, reply_channel};
 ghost use Rattle.sb_actor.specs.ThreadTable.{thread_plan, thread_after, stray_row, after_round, after_try, after_fill, after_send, after_wait, after_stray_load, reply_by, goes_on, ends, has_clean};
 
 use crate::acts::{
@@ -585,6 +586,43 @@ impl ThreadState {
         ensures { result ≡ is_over self.now.stage }
     {
         matches!(self.phase, ThreadPhase::Over)
+    }
+
+    /// The channel on which it waits for the reply to its call, from 0, if that channel is clean. The thread is then as it is until a load of
+    /// the channel's state finds 4.
+    #[inline(always)]
+    pub fn reply_channel(&self) -> Option<u32>
+        ensures { result ≡ reply_channel self.now }
+    {
+        match self.phase {
+            ThreadPhase::Wait => {
+                if is_clean(self.clean.as_slice(), self.channel) {
+                    Some(self.channel)
+                } else {
+                    None
+                }
+            }
+            _ => None,
+        }
+    }
+
+    /// Counts a load of a wait statement that did not find its value. False if that load is the last, which ends the statement, and if the
+    /// thread makes no statement that names a word: it then stays as it is.
+    #[inline(always)]
+    pub fn count_load(&mut self) -> bool
+        ensures counted { result ≡ is_some (next_load self.old.stage) }
+        ensures thread { self.new ≡ moved_to self.old (next_load self.old.stage) }
+    {
+        match self.phase {
+            ThreadPhase::Stray => {
+                if self.count + 1 == self.most {
+                    return false;
+                }
+                self.count += 1;
+                true
+            }
+            _ => false,
+        }
     }
 
     /// Whether each statement has ended. The script is that of `new`.

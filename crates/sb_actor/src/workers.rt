@@ -151,8 +151,9 @@ impl WorkerState {
         self.phase = WorkerPhase::Look;
     }
 
-    // By the state of its channel.
-    fn after_look(&mut self, state: u64)
+    /// Goes on from a look by the state of its channel: the same as `after`, for whoever knows that it looks.
+    #[inline(always)]
+    pub fn after_look(&mut self, state: u64)
         ensures { self.new ≡ after_look self.old state }
     {
         if state == READY {

@@ -1,5 +1,5 @@
 -- The step of a worker at Answer, and room for the result of a statement.
-use Rattle.std.proofs.Common.{◌≡◌, refl, ◌<◌, ◌≤◌, ℕ, Bool, true, false, sym, ap, set, ◌∙◌, arith}
+use Rattle.std.proofs.Common.{◌≡◌, refl, ◌<◌, ◌≤◌, ℕ, true, false, sym, ap, set, ◌∙◌, arith}
 use Rattle.std.specs.Prelude.{Option, None, Some, IfSome, is_some}
 use Rattle.sb_actor.specs.Observations.{Observation}
 use Rattle.sb_actor.specs.WorkerStages.{WorkerStage, WorkerAt, Look, Count, End, Copy, Take, Answer, Give, Reply, Ack}

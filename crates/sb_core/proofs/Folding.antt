@@ -1,10 +1,9 @@
 -- Folds of steps, one step at a time.
-use Rattle.std.proofs.Common.{◌≡◌, ℕ, zero, suc, ◌+◌, Bool, true, false, length, ◌++◌, List, [], ◌∷◌, replicate, refl, sym, ◌∙◌, ◌-◌, ◌<◌, arith, ap}
+use Rattle.std.proofs.Common.{◌≡◌, ℕ, zero, suc, ◌+◌, true, false, List, [], ◌∷◌, replicate, refl, sym, ◌∙◌, ◌-◌, ◌<◌, arith, ap}
 use native.Mathlib.Numerals.{unary_clauses}
 use Rattle.sb_statements.specs.declared.schedules.Actor.{Actor}
-use Rattle.sb_statements.specs.declared.schedules.Actor.TheVariants.{Worker}
 use Rattle.sb_statements.specs.declared.scripts.Script.{Script}
-use Rattle.sb_core.specs.Actors.{round_actors, scheduled}
+use Rattle.sb_core.specs.Actors.{scheduled}
 use Rattle.sb_core.specs.Drains.{is_settled, pass_below, one_pass, drained_by}
 use Rattle.sb_core.specs.Laws.{OrdersAreSchedules, StepsAreFolds}
 use Rattle.sb_core.specs.Worlds.{WorldAt, all_finished, round, rounds, step, steps, worker_step}

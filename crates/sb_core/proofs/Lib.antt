@@ -15,6 +15,7 @@ pub mod Folding
 pub mod Judging
 pub mod Keeping
 pub mod Learning
+pub mod Looking
 pub mod Naming
 pub mod Opening
 pub mod Passing
@@ -42,6 +43,7 @@ pub mod ThreadTallies
 pub mod Tidings
 pub mod Tracing
 pub mod ViewSteps
+pub mod Waiting
 pub mod WorkerRuling
 pub mod WorkerSources
 pub mod WorkerTallies

@@ -9,12 +9,11 @@ use Rattle.sb_actor.specs.WorkerStages.{WorkerStage, WorkerAt}
 use Rattle.sb_actor.specs.WorkerStages as worker
 use Rattle.sb_book.specs.Readiness.{IsReady}
 use Rattle.sb_rule.specs.declared.policies.Policy.{Policy}
-use Rattle.sb_statements.specs.declared.schedules.Actor.{Actor}
 use Rattle.sb_statements.specs.declared.scripts.Script.{Script}
 use Rattle.sb_statements.specs.Actors.{thread_count}
 use Rattle.sb_core.specs.Threads.{RunAt}
 use Rattle.sb_core.specs.Words.{words_of}
-use Rattle.sb_core.specs.Worlds.{WorldAt, steps, worker_at, threads_at, run_at}
+use Rattle.sb_core.specs.Worlds.{WorldAt, worker_at, threads_at, run_at}
 
 -- the worker is in Answer or Give
 abbrev pub has_turn : WorkerStage → Bool

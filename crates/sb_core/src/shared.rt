@@ -1,7 +1,7 @@
 // What all actors share, and one step there.
 ghost use Rattle.std.specs.Prelude.{◌≡◌, ◌<◌, true, false, length, slice_index, is_none, is_some, None, IfOk, IfSome, OnOk, OnErr};
 ghost use Rattle.sb_actor.specs.declared.acts.Act.TheVariants.{Answer};
-ghost use Rattle.sb_actor.specs.Acts.{observation};
+ghost use Rattle.sb_actor.specs.Acts.{observation, state_word};
 ghost use Rattle.sb_actor.specs.Observations.{Answered, Value, Done, Turn};
 ghost use Rattle.sb_actor.specs.WorkerStages.{WorkerAt};
 ghost use Rattle.sb_actor.specs.WorkerTable.{taken_in, IsAnswer};
@@ -41,7 +41,25 @@ impl Shared {
         requires { IsWordThere self.now.words target word }
         ensures { observation result ≡ Value (loaded (words_of self.now.words target) word) }
     {
-        Observed::Value(self.words[target as usize].load(word))
+        Observed::Value(self.value(target, word))
+    }
+
+    /// What a word of a target holds.
+    #[inline(always)]
+    pub(crate) fn value(&self, target: u32, word: Word) -> u64
+        requires { IsWordThere self.now.words target word }
+        ensures { result ≡ loaded (words_of self.now.words target) word }
+    {
+        self.words[target as usize].load(word)
+    }
+
+    /// The state of a channel of a target.
+    #[inline(always)]
+    pub(crate) fn state(&self, target: u32, channel: u32) -> u64
+        requires { IsWordThere self.now.words target (state_word channel) }
+        ensures { result ≡ loaded (words_of self.now.words target) (state_word channel) }
+    {
+        self.value(target, Word { channel, at: 0 })
     }
 
     // A store.

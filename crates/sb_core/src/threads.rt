@@ -1,5 +1,6 @@
 // The threads of a target, each with the results of its statements that ended.
-ghost use Rattle.std.specs.Prelude.{◌≡◌, ◌<◌, length, true, map, slice_get, slice_index_or, slice_set, IfOk};
+ghost use Rattle.std.specs.Prelude.{◌≡◌, ◌<◌, length, true, false, map, option_map, slice_get, slice_index_or, slice_set, IfOk};
+ghost use Rattle.sb_actor.specs.Places.{direct_at};
 ghost use Rattle.sb_actor.specs.ThreadTable.{thread_plan};
 ghost use Rattle.sb_statements.specs.CleanTables.{IsCleanTable};
 ghost use Rattle.sb_statements.specs.Actors.{thread_count};
@@ -8,10 +9,10 @@ ghost use Rattle.sb_core.specs.Threads.{HasRoom, are_over, no_run, thread_step, 
 ghost use Rattle.sb_core.specs.Worlds.{first_run, first_runs};
 
 use crate::shared::Shared;
-use sb_actor::ThreadState;
+use sb_actor::{ACKNOWLEDGED, ThreadState};
 use sb_book::{TargetResults, ThreadResults};
 use sb_items::NoMemory;
-use sb_statements::{CleanTable, MOST_STATEMENTS, SoundScript, StmtResult};
+use sb_statements::{CleanTable, MOST_STATEMENTS, SoundScript, Statement, StmtResult};
 use std::alloc::Global;
 use std::marker::Model;
 
@@ -56,19 +57,83 @@ impl ThreadRun {
         })
     }
 
-    /// One step. Does not allocate.
+    // Whether it waits for a reply that is not there, so that its step changes nothing. Most steps are such.
+    #[inline(always)]
+    #[tactic(auto, using(crate::proofs::Waiting::load_there, crate::proofs::Waiting::stays))]
+    fn only_waits(&self, script: &SoundScript, shared: &Shared) -> bool
+        requires there { IsActThere shared.now.words (thread_plan script.now self.now.thread) }
+        ensures { result ≡ true → thread_step script.now shared.now self.now ≡ record { shared = shared.now; run = self.now } }
+    {
+        let _script = script;
+        match self.state.reply_channel() {
+            Some(channel) => shared.state(self.state.target(), channel) != ACKNOWLEDGED,
+            None => false,
+        }
+    }
+
+    // Whether it makes a wait statement that goes on, since the value is not there and the load is not the last. The load is then counted.
+    #[inline(always)]
+    #[tactic(auto, using(crate::proofs::Waiting::value_there, crate::proofs::Waiting::goes_on_waiting))]
+    fn waits_on(
+        &mut self,
+        script: &SoundScript,
+        direct: Option<&Statement>,
+        shared: &Shared,
+    ) -> bool
+        requires direct { option_map (λ s. s.now) direct ≡ direct_at script.now self.old.thread }
+        requires there { IsActThere shared.now.words (thread_plan script.now self.old.thread) }
+        ensures made { result ≡ true → thread_step script.now shared.now self.old ≡ record { shared = shared.now; run = self.new } }
+        ensures none { result ≡ false → self.new ≡ self.old }
+    {
+        let _script = script;
+        match direct {
+            Some(
+                Statement::Wait {
+                    target,
+                    word,
+                    value,
+                    ..
+                },
+            ) => {
+                if shared.value(*target, *word) == *value {
+                    return false;
+                }
+                self.state.count_load()
+            }
+            _ => false,
+        }
+    }
+
+    // One step by the table of phases, of which `direct` is the direct statement.
     #[inline(always)]
     #[tactic(auto, using(crate::proofs::Answering::room_in))]
+    fn make_step(&mut self, script: &SoundScript, direct: Option<&Statement>, shared: &mut Shared)
+        requires direct { option_map (λ s. s.now) direct ≡ direct_at script.now self.old.thread }
+        requires there { IsActThere shared.old.words (thread_plan script.now self.old.thread) }
+        requires room { HasRoom script.now shared.old self.old }
+        ensures run { self.new ≡ (thread_step script.now shared.old self.old).run }
+        ensures shared { shared.new ≡ (thread_step script.now shared.old self.old).shared }
+    {
+        let observed = shared.perform(self.state.plan(direct));
+        self.state
+            .after(script, direct, observed, &mut self.results);
+    }
+
+    /// One step. Does not allocate.
+    #[inline(always)]
     pub(crate) fn step(&mut self, script: &SoundScript, shared: &mut Shared)
         requires there { IsActThere shared.old.words (thread_plan script.now self.old.thread) }
         requires room { HasRoom script.now shared.old self.old }
         ensures run { self.new ≡ (thread_step script.now shared.old self.old).run }
         ensures shared { shared.new ≡ (thread_step script.now shared.old self.old).shared }
     {
+        if self.only_waits(script, shared) {
+            return;
+        }
         let direct = self.state.direct_statement(script);
-        let observed = shared.perform(self.state.plan(direct));
-        self.state
-            .after(script, direct, observed, &mut self.results);
+        if !self.waits_on(script, direct, shared) {
+            self.make_step(script, direct, shared);
+        }
     }
 
     /// Where the thread is.

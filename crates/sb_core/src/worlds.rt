@@ -1,6 +1,6 @@
 // The world, and its steps.
 ghost use Rattle.std.specs.Prelude.{◌≡◌, ◌<◌, ◌≤◌, length, true, IfOk, OnOk, OnErr};
-ghost use Rattle.sb_actor.specs.WorkerTable.{worker_plan};
+ghost use Rattle.sb_actor.specs.WorkerTable.{is_looking, worker_plan};
 ghost use Rattle.sb_actor.specs.declared.acts.Act.TheVariants.{Answer};
 ghost use Rattle.sb_book.specs.Histories.{JudgesBy};
 ghost use Rattle.sb_statements.specs.declared.schedules.Actor.TheVariants.{Thread};
@@ -107,10 +107,25 @@ impl World {
         Ok(())
     }
 
-    // One step of the worker of a target.
+    // The step of the worker of a target that looks at the state of a channel. Many steps are such.
     #[inline(always)]
     #[tactic(auto, using(crate::proofs::Keeping::worker_setting))]
-    pub(crate) fn worker_step<J: Judge>(
+    fn look_step(&mut self, target: u32)
+        requires target { target < length self.old.workers }
+        requires looks { is_looking (worker_at self.old target).stage ≡ true }
+        ensures value { self.new ≡ worker_step self.old target }
+        ensures book { self.new.shared.book ≡ self.old.shared.book }
+        ensures workers { length self.new.workers ≡ length self.old.workers }
+    {
+        let at = target as usize;
+        let worker = &self.workers[at];
+        let state = self.shared.state(worker.target(), worker.channel());
+        self.workers[at].after_look(state);
+    }
+
+    // The step of the worker of a target by its table.
+    #[tactic(auto, using(crate::proofs::Keeping::worker_setting))]
+    fn table_step<J: Judge>(
         &mut self,
         alloc: Global,
         judge: &J,
@@ -130,6 +145,30 @@ impl World {
         };
         self.workers[at].after(observed);
         Ok(())
+    }
+
+    // One step of the worker of a target.
+    #[inline(always)]
+    #[tactic(auto, using(crate::proofs::Sets::at_place))]
+    pub(crate) fn worker_step<J: Judge>(
+        &mut self,
+        alloc: Global,
+        judge: &J,
+        target: u32,
+    ) -> Result<(), NoMemory>
+        requires judge { JudgesBy (J.policies judge.now) self.old.shared.book }
+        requires target { target < length self.old.workers }
+        ensures ok { OnOk result (self.new ≡ worker_step self.old target) }
+        ensures err { OnErr result (self.new ≡ self.old) }
+        ensures cause { OnErr result (worker_plan (worker_at self.old target) ≡ Answer) }
+        ensures setting { self.new.shared.book.setting ≡ self.old.shared.book.setting }
+        ensures workers { length self.new.workers ≡ length self.old.workers }
+    {
+        if self.workers[target as usize].looking() {
+            self.look_step(target);
+            return Ok(());
+        }
+        self.table_step(alloc, judge, target)
     }
 
     // One step of a thread of a target. Does not allocate.

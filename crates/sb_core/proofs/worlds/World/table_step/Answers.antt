@@ -4,12 +4,12 @@ use Rattle.sb_actor.specs.WorkerStages.{WorkerAt}
 use Rattle.sb_actor.specs.WorkerTable.{worker_plan}
 use Rattle.sb_core.specs.Kept.{IsWorld}
 use Rattle.sb_core.specs.Shared.{IsActThere, on_worker}
-use Rattle.sb_core.specs.Worlds.{WorldAt, no_worker, worker_at, worker_step}
+use Rattle.sb_core.specs.Worlds.{WorldAt, no_worker, worker_at}
 use Rattle.sb_core.proofs.Answering.{no_answer}
 use Rattle.sb_core.proofs.Keeping.{worker_keeps, worker_left, worker_setting}
 use Rattle.sb_core.proofs.Sets.{at_place}
 use Rattle.sb_core.proofs.There.{worker_there}
-use Rattle.sb_core.proofs.worlds.World.worker_step.Goals as goal
+use Rattle.sb_core.proofs.worlds.World.table_step.Goals as goal
 
 pub work-requires : goal.work-requires
 work-requires g c =
