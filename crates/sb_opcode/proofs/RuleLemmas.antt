@@ -1,20 +1,22 @@
 -- A code rule by rule: where its rules begin, and what one of them says.
 use Rattle.std.specs.Prelude.{not, None, Some, slice_index_or}
 use Rattle.std.specs.List.{flat_map, list_all, onto_first}
-use Rattle.std.proofs.Common.{◌≡◌, ◌≢◌, ◌∙◌, ◌≤◌, ◌<◌, ◌+◌, ◌-◌, ℕ, zero, suc, ltb, Bool, true, false, cond, List, [], ◌∷◌, ◌++◌, ◌&&◌, length, drop, refl, ap, sym, subst, arith}
+use Rattle.std.proofs.Common.{◌≡◌, ◌≢◌, ◌∙◌, ◌≤◌, ◌<◌, ◌+◌, ◌-◌, ℕ, zero, suc, ltb, eqb, Bool, true, false, cond, List, [], ◌∷◌, ◌++◌, ◌&&◌, length, drop, refl, ap, sym, subst, arith}
 use Rattle.std.proofs.lemmas.Bool.{and_parts, and_from, not-true, false≢true}
 use Rattle.std.proofs.lemmas.List.{append_assoc, length-append, drop-drop, drop_more, get_or_append_left, get_or_push}
+use Rattle.sb_call.specs.Arguments.{arg_at}
 use Rattle.sb_call.specs.declared.arguments.Arg.{Arg}
+use Rattle.sb_call.specs.declared.arguments.Arg.TheVariants as arg
 use Rattle.sb_call.specs.declared.tags.CallTag.{CallTag}
 use Rattle.sb_rule.specs.declared.verdicts.Verdict.{Verdict}
 use Rattle.sb_rule.specs.declared.verdicts.Verdict.TheVariants.{Rule, NoRule}
 use Rattle.sb_opcode.specs.Faults.{fault_of}
 use Rattle.sb_opcode.specs.Groups.{is_act, is_act_kind, rules_of, groups_of, after_action}
-use Rattle.sb_opcode.specs.Meaning.{action_of_rule, judged_by, rule_holds, rule_verdict}
+use Rattle.sb_opcode.specs.Meaning.{after_opcode, action_of_rule, judged_by, rule_holds, rule_verdict}
 use Rattle.sb_opcode.specs.Opcodes.{Opcode, OpKind, False, True, Num, Range, Mask, Text, Act}
 use Rattle.sb_rule.specs.declared.actions.Action.{Action}
 use Rattle.sb_opcode.specs.Options.{has_options}
-use Rattle.sb_opcode.specs.Walking.{Standing, Between, Failed, step, is_failed, walk, rule_walk}
+use Rattle.sb_opcode.specs.Walking.{Standing, Between, Failed, all_so_far, closed, group_end, is_number, number_opcode, step, is_failed, walk, rule_walk}
 use Rattle.sb_opcode.specs.WholeGroups.{PartsAreTheList, FaultlessCodesAreWhole, acts_at_end, is_whole_group, is_whole_rule}
 use Rattle.std.proofs.lemmas.Bool.Decides.{nat_tests}
 use Rattle.sb_opcode.specs.Beginnings.{AreBeginnings, AreFirst, IsBeginning}
@@ -52,6 +54,34 @@ failed_gives args (op ∷ ops) = by (is_act op) (step_failed op) (failed_gives a
 
 pub rule_failed : (args : List Arg) (t : Standing) (mid : List Opcode) (whole : Verdict) → is_failed t ≡ true → rule_walk args t mid ≡ whole → NoRule ≡ whole
 rule_failed args t mid whole f w = sym (failed_gives args mid) ∙ ap (λ u. rule_walk args u mid) (sym (failed_is t f)) ∙ w
+
+-- after a group that tests for a number
+number_step : (args : List Arg) (param number : ℕ) → step args Between (number_opcode param number) ≡ group_end (is_number (arg_at args param) number)
+number_step args param number = by (arg_at args param)
+  where
+    by : (a : Arg) → closed false (all_so_far (after_opcode (number_opcode param number) a)) ≡ group_end (is_number a number)
+    by (arg.Num value) = same (eqb value number)
+      where
+        same : (b : Bool) → closed false (all_so_far (cond b (Some (arg.Num value)) None)) ≡ group_end b
+        same true = refl
+        same false = refl
+    by (arg.Str units) = refl
+
+number_walk : (args : List Arg) (param number : ℕ) (before mid : List Opcode) (whole : Verdict) (holds : Bool)
+    → before ≡ number_opcode param number ∷ mid → is_number (arg_at args param) number ≡ holds
+    → rule_walk args Between before ≡ whole → rule_walk args (group_end holds) mid ≡ whole
+number_walk args param number before mid whole holds e h w =
+    rule_step args Between (group_end holds) (number_opcode param number) before mid whole e refl
+    (sym (number_step args param number ∙ ap group_end h)) w
+
+pub number_met : (args : List Arg) (param number : ℕ) (before mid : List Opcode) (whole : Verdict) → before ≡ number_opcode param number ∷ mid
+    → is_number (arg_at args param) number ≡ true → rule_walk args Between before ≡ whole → rule_walk args Between mid ≡ whole
+number_met args param number before mid whole e h w = number_walk args param number before mid whole true e h w
+
+pub number_missed : (args : List Arg) (param number : ℕ) (before mid : List Opcode) (whole : Verdict) → before ≡ number_opcode param number ∷ mid
+    → is_number (arg_at args param) number ≡ false → rule_walk args Between before ≡ whole → NoRule ≡ whole
+number_missed args param number before mid whole e h w =
+    rule_failed args Failed mid whole refl (number_walk args param number before mid whole false e h w)
 
 -- the walk over the first rule is the walk over it alone
 first_alone : (args : List Arg) (s : Standing) (rule later : List Opcode) → acts_at_end rule ≡ true → rule_walk args s (rule ++ later) ≡ walk args s rule

@@ -1,12 +1,12 @@
 -- Where a walk over opcodes stands, and what each opcode makes of it. Nothing of the meaning of codes stands on this:
 -- that the walk gives that meaning is proved.
-use Rattle.std.specs.Prelude.{Bool, true, false, not, ◌&&◌, List, [], ◌∷◌, Option, None, Some, if◌then◌else◌}
+use Rattle.std.specs.Prelude.{ℕ, ◌+◌, ◌*◌, ◌^◌, Bool, true, false, not, ◌&&◌, ◌==◌, List, [], ◌∷◌, Option, None, Some, if◌then◌else◌}
 use Rattle.sb_call.specs.Arguments.{arg_at}
 use Rattle.sb_call.specs.declared.arguments.Arg.{Arg}
 use Rattle.sb_call.specs.declared.arguments.Arg.TheVariants as arg
 use Rattle.sb_opcode.specs.Groups.{is_act, is_last}
-use Rattle.sb_opcode.specs.Options.{has, NEGATE, OR}
-use Rattle.sb_opcode.specs.Opcodes.{Opcode}
+use Rattle.sb_opcode.specs.Options.{options_of, has, NEGATE, CLEAR, OR}
+use Rattle.sb_opcode.specs.Opcodes.{Opcode, Num}
 use Rattle.sb_opcode.specs.Meaning.{after_opcode, negate_if, action_of_rule}
 use Rattle.sb_rule.specs.declared.verdicts.Verdict.{Verdict}
 use Rattle.sb_rule.specs.declared.verdicts.Verdict.TheVariants.{NoRule}
@@ -82,6 +82,20 @@ closed negated Failed = Failed
 abbrev pub step : List Arg → Standing → Opcode → Standing
 step args s op =
     if is_last op then closed (has op.options NEGATE) (looked_at (entered args s op) op) else looked_at (entered args s op) op
+
+-- a group of one opcode: that the argument of a parameter is this number
+abbrev pub number_opcode : ℕ → ℕ → Opcode
+number_opcode param number = record { kind = Num number; param = param; options = options_of CLEAR }
+
+-- packed words begin with such an opcode
+abbrev pub begins_with_number : List ℕ → Bool
+begins_with_number (head ∷ param ∷ first ∷ second ∷ later) = head == 2 + CLEAR * 2 ^ 8
+begins_with_number _ = false
+
+-- an argument is this number; no string is
+abbrev pub is_number : Arg → ℕ → Bool
+is_number (arg.Num value) number = value == number
+is_number (arg.Str units) number = false
 
 -- after an opcode; an action ends its rule
 abbrev pub moved : List Arg → Standing → Opcode → Standing

@@ -1,8 +1,9 @@
 // The records of opcodes in words.
-ghost use Rattle.std.specs.Prelude.{◌≡◌, ◌≤◌, ◌==◌, ◌∷◌, [], true, length, option_map, is_some, None, Some, MatchOption};
+ghost use Rattle.std.specs.Prelude.{◌≡◌, ◌≤◌, ◌==◌, ◌∷◌, [], true, false, length, option_map, is_some, None, Some, MatchOption};
 ghost use Rattle.std.specs.List.{list_all};
 ghost use Rattle.sb_opcode.specs.Unpacking.{kind_part, seek_in, plain_kind, plain_record, text_record, first_record, is_cell_word, is_packed, opcodes_of, seek_known, action_known, kind_known, after_known, does_known, first_known, passed_known};
 ghost use Rattle.sb_opcode.specs.Records.{kind_of, opcode_of, IsPassed};
+ghost use Rattle.sb_opcode.specs.Walking.{begins_with_number, number_opcode};
 
 use crate::opcodes::{OpKind, Opcode, Seek};
 use crate::options::Options;
@@ -12,6 +13,9 @@ use std::marker::Model;
 
 // The number of the kind of text opcodes. That of actions is the only one above it.
 const TEXT: u64 = 5;
+
+// The first word of an opcode that tests for one number and has CLEAR alone of the options.
+const NUMBER_HEAD: u64 = 0x202;
 
 // The highest word of a cell, that of `*`.
 const LAST_CELL: u64 = 65537;
@@ -182,6 +186,31 @@ fn first_known<'a>(words: &'a [u64]) -> Option<(Opcode<'a>, &'a [u64])>
     }
 }
 
+// That the argument of a parameter is this number: an opcode that is a group of its own and is not negated.
+#[derive(Clone, Copy)]
+pub(crate) struct NumberTest {
+    pub param: u32,
+    pub number: u64,
+}
+
+// The first opcode of packed words and the words after it, if it is a number test that is a group of its own.
+#[inline(always)]
+fn number_known(words: &[u64]) -> Option<(NumberTest, &[u64])>
+    ensures { MatchOption result (begins_with_number words.now ≡ false) (λ r. Some (number_opcode r.0.param r.0.number, r.1.now) ≡ first_known words.now) }
+{
+    match words {
+        [head, param, number, _, later @ ..] => {
+            if *head != NUMBER_HEAD {
+                return None;
+            }
+            let param = (*param & 0xffff_ffff) as u32;
+            let number = *number;
+            Some((NumberTest { param, number }, later))
+        }
+        _ => None,
+    }
+}
+
 // Whether the first opcode of packed words is an action, and the words after it.
 #[tactic(auto, using(crate::proofs::KnownLemmas::cells_there))]
 pub(crate) fn passed_known(words: &[u64]) -> Option<(bool, &[u64])>
@@ -232,6 +261,16 @@ impl<'a> Records<'a> {
         let (record, later) = first_known(self.rest)?;
         self.rest = later;
         Some(record)
+    }
+
+    // The next opcode, if it is a number test that is a group of its own. If it is not, nothing is passed.
+    #[inline(always)]
+    pub(crate) fn next_number(&mut self) -> Option<NumberTest>
+        ensures { MatchOption result (self.new ≡ self.old) (λ test. self.old ≡ number_opcode test.param test.number ∷ self.new) }
+    {
+        let (test, later) = number_known(self.rest)?;
+        self.rest = later;
+        Some(test)
     }
 
     #[tactic(auto, using(crate::proofs::KnownLemmas::no_passed))]

@@ -7,9 +7,9 @@ ghost use Rattle.sb_opcode.specs.WholeGroups.{is_whole_rule};
 ghost use Rattle.sb_opcode.specs.Unpacking.{is_packed, opcodes_of};
 
 use crate::laws::faultless_codes_are_whole;
-use crate::records::{Records, passed_known};
+use crate::records::passed_known;
 use crate::verified::Verified;
-use crate::walks::walk_rule;
+use crate::walks::walk_first_rule;
 use sb_call::Arg;
 use sb_items::NoMemory;
 use sb_rule::Verdict;
@@ -111,7 +111,7 @@ impl RuleCodes {
         faultless_codes_are_whole();
         let words = self.code.code().words();
         let place = self.places[number];
-        walk_rule(&mut Records::of(words_from(words, place)), args)
+        walk_first_rule(words_from(words, place), args)
     }
 
     #[tactic(auto, using(crate::proofs::RuleLemmas::held))]

@@ -4,7 +4,7 @@ ghost use Rattle.sb_call.specs.Arguments.{arg_at};
 ghost use Rattle.sb_opcode.specs.Groups.{is_last};
 ghost use Rattle.sb_opcode.specs.Records.{opcode_of};
 ghost use Rattle.sb_opcode.specs.Meaning.{negate_if};
-ghost use Rattle.sb_opcode.specs.Walking.{arg_from, standing_of, group_start, entered, looked_at, group_end, closed, step, is_failed, Between};
+ghost use Rattle.sb_opcode.specs.Walking.{arg_from, standing_of, group_start, entered, looked_at, group_end, closed, step, is_failed, is_number, Between};
 
 use crate::effects::{Place, after_opcode};
 use crate::opcodes::Opcode;
@@ -36,6 +36,17 @@ fn place_at(args: &[Arg], param: u32) -> Place<'_>
         Some(Arg::Num(number)) => Place::Number(*number),
         Some(Arg::Str(text)) => Place::Units(text.as_units()),
         None => Place::Number(0),
+    }
+}
+
+// Whether the argument of a parameter is this number.
+#[inline(always)]
+pub(crate) fn is_number(args: &[Arg], param: u32, number: u64) -> bool
+    ensures { result ≡ is_number (arg_at args.now param) number }
+{
+    match place_at(args, param) {
+        Place::Number(value) => value == number,
+        Place::Units(_) => false,
     }
 }
 

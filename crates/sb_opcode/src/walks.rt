@@ -3,13 +3,14 @@ ghost use Rattle.std.specs.Prelude.{◌≡◌, ◌≤◌, true, length};
 ghost use Rattle.sb_call.specs.Arguments.{fits};
 ghost use Rattle.sb_opcode.specs.Groups.{after_action};
 ghost use Rattle.sb_opcode.specs.Meaning.{meaning};
+ghost use Rattle.sb_opcode.specs.Unpacking.{is_packed, opcodes_of};
 ghost use Rattle.sb_opcode.specs.Walking.{walk, rule_walk, Between};
 
 use crate::codes::Code;
 use crate::laws::faultless_codes_are_whole;
 use crate::opcodes::OpKind;
 use crate::records::Records;
-use crate::states::{State, is_failed, step};
+use crate::states::{State, is_failed, is_number, step};
 use crate::verified::Verified;
 use sb_call::Arg;
 use sb_rule::Verdict;
@@ -67,8 +68,9 @@ pub fn eval(code: &Verified, args: &[Arg]) -> Verdict
 }
 
 // What the first of the rules gives if it does not fail.
+#[inline(always)]
 #[tactic(auto, using(crate::proofs::RuleLemmas::rule_step, crate::proofs::RuleLemmas::rule_failed))]
-pub(crate) fn walk_rule(records: &mut Records<'_>, args: &[Arg]) -> Verdict
+fn walk_rule(records: &mut Records<'_>, args: &[Arg]) -> Verdict
     ensures { result ≡ rule_walk args.now Between records.old }
 {
     let mut state = State::Between;
@@ -82,4 +84,20 @@ pub(crate) fn walk_rule(records: &mut Records<'_>, args: &[Arg]) -> Verdict
         }
     }
     Verdict::NoRule
+}
+
+// What the first of the rules in packed words gives if it does not fail. The number tests that it begins with are compared at once.
+#[inline(always)]
+#[tactic(auto, using(crate::proofs::RuleLemmas::number_met))]
+pub(crate) fn walk_first_rule(words: &[u64], args: &[Arg]) -> Verdict
+    requires { is_packed words.now ≡ true }
+    ensures { result ≡ rule_walk args.now Between (opcodes_of words.now) }
+{
+    let mut records = Records::of(words);
+    while let Some(test) = records.next_number() {
+        if !is_number(args, test.param, test.number) {
+            return Verdict::NoRule;
+        }
+    }
+    walk_rule(&mut records, args)
 }

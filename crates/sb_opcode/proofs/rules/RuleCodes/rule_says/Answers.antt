@@ -6,7 +6,6 @@ use Rattle.sb_opcode.specs.Groups.{rules_of}
 use Rattle.sb_opcode.specs.Meaning.{rule_verdict}
 use Rattle.sb_opcode.specs.Packing.{packed}
 use Rattle.sb_opcode.specs.Unpacking.{opcodes_of}
-use Rattle.sb_opcode.specs.Walking.{rule_walk, Between}
 use Rattle.sb_opcode.specs.WholeGroups.{is_whole_rule}
 use Rattle.sb_opcode.proofs.RuleLemmas.{begins, rule_says, rule_whole}
 use Rattle.sb_opcode.proofs.rules.RuleCodes.rule_says.Goals as goal
@@ -29,8 +28,8 @@ returns-clause-says c =
     let same : rest ≡ drop (slice_index_or places number 0) words =
     c.words_from.ensures ∙ ap (λ p. drop p words) (get_or_read places number c.index-place.result.now there c.index-place.ensures 0) in
     let tail = begins ops words rest places number 0 are back c.self.invariant.1 there same in
-    subst (λ v. c.walk_rule.result ≡ rule_verdict args (slice_index_or (rules_of v.code) number [])) c.self.view_is
-    (c.walk_rule.ensures ∙ ap (rule_walk args Between) c.of.ensures
+    subst (λ v. c.walk_first_rule.result ≡ rule_verdict args (slice_index_or (rules_of v.code) number [])) c.self.view_is
+    (c.walk_first_rule.ensures
     ∙ rule_says c.faultless_codes_are_whole.ensures.parts c.faultless_codes_are_whole.ensures.whole code.tag ops args number (opcodes_of rest) sound within tail)
 
 pub returns-clause-whole : goal.returns-clause-whole
