@@ -1,6 +1,7 @@
 -- A finished thread makes no step; and what the view of a seat tells of its actor.
-use Rattle.std.proofs.Common.{◌≡◌, ◌∙◌, refl, ap, subst, sym, ℕ, zero, suc, ◌<◌, ◌≤◌, true, false, List, [], ◌∷◌, length, Option, None, Some, slice_get, is_none, arith}
+use Rattle.std.proofs.Common.{◌≡◌, ◌∙◌, refl, ap, subst, sym, ℕ, zero, suc, ◌<◌, ◌≤◌, Bool, true, false, List, [], ◌∷◌, length, Option, None, Some, slice_get, is_none, arith}
 use Rattle.std.proofs.lemmas.Bool.Decides.{nat_tests}
+use Rattle.std.specs.Prelude.{nat_le}
 use Rattle.sb_actor.specs.Places.{is_call, is_finished, statement_at, statements_of}
 use Rattle.sb_actor.specs.ThreadStages.{ThreadStage, ThreadAt, Try, Fill, Send, Wait, Fetch, Free, Abandon, Stray, Over}
 use Rattle.sb_actor.specs.ThreadTable.{stray_row, thread_plan, thread_row}
@@ -80,3 +81,21 @@ module _ (script : Script) (x : ThreadAt) (stands : IsAtStatement script x) (unf
 
   pub unfinished_on_word : is_on_word (thread_plan script x) ≡ true
   unfinished_on_word = stage_on_word x.stage refl
+
+-- two tests that pass together are the same
+same_test : (a b : Bool) → (a ≡ true → b ≡ true) → (b ≡ true → a ≡ true) → a ≡ b
+same_test true true f g = refl
+same_test true false f g = sym (f refl)
+same_test false true f g = g refl
+same_test false false f g = refl
+
+none_after : (statements : List Statement) (i : ℕ) → is_none (slice_get statements i) ≡ nat_le (length statements) i
+none_after [] i = sym (grind (arith, nat_tests))
+none_after (s ∷ statements) zero = sym (grind (arith, nat_tests))
+none_after (s ∷ statements) (suc i) =
+    none_after statements i
+    ∙ same_test (nat_le (length statements) i) (nat_le (length (s ∷ statements)) (suc i)) (λ e. grind (arith, nat_tests, e)) (λ e. grind (arith, nat_tests, e))
+
+-- a thread is finished exactly if its stage is that after the last statement
+pub over_finished : (script : Script) (x : ThreadAt) → IsAtStatement script x → is_over x.stage ≡ is_finished script x
+over_finished script x stands = stands.over ∙ none_after (statements_of script x.target x.thread) x.place

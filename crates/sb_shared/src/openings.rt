@@ -3,6 +3,7 @@ ghost use Rattle.std.specs.Prelude.{◌≡◌, ◌<◌, ◌∷◌, List, length,
 ghost use Rattle.sb_actor.specs.Places.{statements_of};
 ghost use Rattle.sb_book.specs.Readiness.{IsReady};
 ghost use Rattle.sb_statements.specs.Actors.{thread_count};
+ghost use Rattle.sb_statements.specs.CleanTables.{IsCleanTable};
 ghost use Rattle.sb_statements.specs.declared.schedules.Actor.{Actor};
 ghost use Rattle.sb_statements.specs.declared.schedules.Actor.TheVariants.{Worker, Thread};
 ghost use Rattle.sb_shared.specs.Closing.{later_parts};
@@ -26,9 +27,10 @@ use sb_actor::{ThreadState, WorkerState};
 use sb_book::{Book, RunStart};
 use sb_core::worlds_keep;
 use sb_items::NoMemory;
-use sb_statements::{SoundScript, sound_parts};
+use sb_statements::{CleanTable, SoundScript, clean_table, sound_parts};
 use std::alloc::Global;
 use std::snapshot::Snapshot;
+use std::sync::atomic::AtomicU64;
 
 // The word at a place of the table: each state is free, and all else is 0.
 fn first_word(script: &SoundScript, place: usize) -> u64
@@ -68,6 +70,11 @@ pub fn script_of<'a>(start: &RunStart<'a>) -> &'a SoundScript
     ready.script()
 }
 
+// The count of threads that sleep, before the first step.
+fn nobody_idle() -> AtomicU64 {
+    AtomicU64::new(0)
+}
+
 // A table, and the seat from which all others are made.
 fn begin(
     alloc: Global,
@@ -92,8 +99,9 @@ fn begin(
     let book = BoxedBook::new(alloc, Book::new(alloc, start))?;
     let mut slots = Vec::with_capacity(alloc, 1)?;
     slots.push_reserved(Some(book));
+    let idle = nobody_idle();
     match Table::new(alloc, words.as_slice(), slots, &key) {
-        Ok((table, seat)) => Ok((SharedWorld { table, rooms }, Keeper { seat })),
+        Ok((table, seat)) => Ok((SharedWorld { table, rooms, idle }, Keeper { seat })),
         Err(Refused { slots: _ }) => Err(NoMemory),
     }
 }
@@ -158,17 +166,31 @@ fn statement_count(script: &SoundScript, target: u32, thread: u32) -> usize
     }
 }
 
-// The seat of the first thread that the keeper has, the one with this number of this target.
+// Whether each channel of a target is clean.
+fn is_all_clean(script: &SoundScript, table: &CleanTable, target: u32) -> bool
+    requires { target < length script.now.targets }
+{
+    for channel in 0..script.channel_count(target) {
+        if !table.is_clean(target, channel) {
+            return false;
+        }
+    }
+    true
+}
+
+// The seat of the first thread that the keeper has, the one with this number of this target. The table is that of the script.
 fn thread_seat(
     alloc: Global,
     words: &Words,
     keeper: &mut Keeper,
     script: &SoundScript,
+    table: &CleanTable,
     target: u32,
     thread: u32,
 ) -> Result<ThreadSeat, NoMemory>
     requires words { words.now.table_id.words ≡ word_count }
     requires opened { IsOpenedWith words.now.key script.now }
+    requires table { IsCleanTable script.now table.now }
     requires there { thread < thread_count (slice_get script.now.targets target) }
     requires first { (more : List Actor) × (keeper.old ≡ keeper_of words.now.table_id words.now.key (Thread target thread ∷ more)) }
     ensures keeper { OnOk result (keeper.new ≡ record keeper.old { parts = later_parts keeper.old.parts }) }
@@ -178,9 +200,10 @@ fn thread_seat(
     let seat = keeper.split(words);
     Ok(ThreadSeat {
         seat,
-        state: ThreadState::new(script, target, thread),
-        results,
         waiting: false,
+        all_clean: is_all_clean(script, table, target),
+        state: ThreadState::with_table(script, table, target, thread),
+        results,
     })
 }
 
@@ -199,10 +222,11 @@ fn thread_seats(
     ensures keeper { OnOk result (keeper.new ≡ fresh_keeper words.now.table_id words.now.key) }
     ensures seats { IfOk result (λ seats. seats.items ≡ map (fresh_thread words.now.table_id words.now.key) places.now) }
 {
+    let table = clean_table(script);
     let mut seats = Vec::new(alloc);
     for place in places {
         let (target, thread) = *place;
-        seats.push(thread_seat(alloc, words, keeper, script, target, thread)?)?;
+        seats.push(thread_seat(alloc, words, keeper, script, &table, target, thread)?)?;
     }
     Ok(seats)
 }

@@ -21,19 +21,22 @@ use std::marker::Model;
 /// world, with its results so far.
 pub struct ThreadSeat {
     pub(crate) seat: Seat<Slot, View>,
+    pub(crate) waiting: bool,
+    // Whether each channel of the target is clean.
+    pub(crate) all_clean: bool,
     pub(crate) state: ThreadState,
     // With room for a result of each statement.
     pub(crate) results: Vec<StmtResult>,
-    pub(crate) waiting: bool,
 }
 
 impl Drop for ThreadSeat {
     fn drop(self) {
         let ThreadSeat {
             seat: _,
+            waiting: _,
+            all_clean: _,
             state: _,
             results: _,
-            waiting: _,
         } = self;
     }
 }
@@ -119,11 +122,24 @@ impl ThreadSeat {
         self.waiting
     }
 
+    /// Whether the thread may sleep while it waits: it is in a call, and each channel of its target is clean, so that the wait has no bound. No
+    /// clause says this: only time depends on it.
+    pub fn is_patient(&self, script: &SoundScript) -> bool {
+        self.all_clean && self.state.direct_statement(script).is_none()
+    }
+
     /// Whether each statement of the thread has ended.
     pub fn is_finished(&self, script: &SoundScript) -> bool
         ensures { result ≡ is_finished script.now self.now.run.thread }
     {
         self.state.finished(script)
+    }
+
+    /// The same for the script of the run, without a look into it.
+    pub fn is_over(&self) -> bool
+        ensures { result ≡ is_finished self.now.key.script.value self.now.run.thread }
+    {
+        self.state.is_over()
     }
 
     /// Looks at the stop word: the stop that was set, if one was.
@@ -158,9 +174,10 @@ impl ThreadSeat {
     {
         let ThreadSeat {
             seat,
+            waiting: _,
+            all_clean: _,
             state: _,
             results,
-            waiting: _,
         } = self;
         (seat, results)
     }

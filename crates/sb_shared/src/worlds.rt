@@ -12,6 +12,7 @@ use atomic_table::Table;
 use std::alloc::Global;
 use std::marker::Model;
 use std::sync::Wait;
+use std::sync::atomic::{AtomicU64, Ordering};
 use std::time::Duration;
 
 /// What all actors of a run share: the words of all channels, the turn word, the stop word, and the place of the book. The script of the
@@ -20,11 +21,17 @@ pub struct SharedWorld {
     pub(crate) table: Table<Slot, View, Origin, World, Global>,
     // What `close` fills.
     pub(crate) rooms: Rooms,
+    // How many threads sleep in `doze_idle`.
+    pub(crate) idle: AtomicU64,
 }
 
 impl Drop for SharedWorld {
     fn drop(self) {
-        let SharedWorld { table: _, rooms: _ } = self;
+        let SharedWorld {
+            table: _,
+            rooms: _,
+            idle: _,
+        } = self;
     }
 }
 
@@ -59,12 +66,28 @@ impl SharedWorld {
         ensures slots { result.0.shared.table_id.slots ≡ 1 }
         ensures rooms { AreRooms self.key.script.value.targets result.1 }
     {
-        let SharedWorld { table, rooms } = self;
+        let SharedWorld {
+            table,
+            rooms,
+            idle: _,
+        } = self;
         (table, rooms)
     }
 
     /// Sleeps while the stop word is 0, for no longer than this time. It may also return sooner.
     pub fn doze<R: Wait>(&self, rt: &R, time: Duration) {
         self.table.shared.park_timeout(rt, STOP, 0, time);
+    }
+
+    /// Sleeps as `doze` does, and is counted meanwhile by `idle_count`.
+    pub fn doze_idle<R: Wait>(&self, rt: &R, time: Duration) {
+        self.idle.fetch_add(1, Ordering::SeqCst);
+        self.doze(rt, time);
+        self.idle.fetch_sub(1, Ordering::SeqCst);
+    }
+
+    /// How many threads sleep in `doze_idle`.
+    pub fn idle_count(&self) -> u64 {
+        self.idle.load(Ordering::SeqCst)
     }
 }

@@ -1,4 +1,4 @@
-// How a thread that serves targets waits for calls.
+// How a thread waits: one that serves targets for calls, and one of the script for what its next step needs.
 
 use sb_shared::SharedWorld;
 use std::hint;
@@ -9,8 +9,8 @@ use std::time::Duration;
 // A wait spins at first, this many times, each time for twice as long: the caller of a served call may run on another processor.
 const SPINS: u32 = 3;
 
-// It then yields, this many times: the next caller may wait for this processor.
-const YIELDS: u32 = 4;
+// It then yields, this many times: the next caller may wait for this processor, and makes its next call sooner than a sleep ends.
+const YIELDS: u32 = 16;
 
 // The first sleep is short beside a thread's share of a processor, and long beside a call.
 const FIRST_SLEEP_MICROSECONDS: u64 = 50;
@@ -21,18 +21,66 @@ const LONGEST_SLEEP_MICROSECONDS: u64 = 800;
 // A wait follows at least this many passes that found no call. With one alone a thread sleeps soon after each call.
 const LEAST_PASSES: usize = 2;
 
-// A thread of the script yields at each of the first steps that find nothing to go on with, as many as this, since its reply may wait for this processor.
+// The most threads that serve and stay awake without a call. If more are awake, one that finds no call sleeps at once: the others serve its
+// targets, and threads of the script need its processor.
+const MOST_AWAKE: u64 = 2;
+
+// A thread of the script yields after each of this many steps in vain, since its reply may wait for this processor.
 const EAGER: u32 = 64;
 
-// After these it yields at one step of this many, so that a wait of millions of loads makes few system calls.
+// A thread that is not patient then yields after one step in this many and spins after the others, so that a wait of millions of loads makes
+// few system calls.
 const SPARSE: u32 = 16;
 
-/// Waits a little after a step that found nothing to go on with, which this many such steps in a row precede: yields the processor, or spins.
-pub(crate) fn rest(steps: u32) {
-    if steps < EAGER || steps % SPARSE == 0 {
-        yield_now();
-    } else {
-        hint::spin_loop();
+// A patient thread yields this many times before it sleeps, which takes longer than the first sleeps of a thread that serves.
+const PATIENT: u32 = 256;
+
+// How long to sleep after a sleep of this time, in microseconds.
+fn next_sleep(microseconds: u64) -> u64 {
+    microseconds
+        .saturating_mul(2)
+        .min(LONGEST_SLEEP_MICROSECONDS)
+}
+
+/// How a thread of the script waits after steps in vain: it yields, and later sleeps, each time for twice as long, or spins if it is not
+/// patient.
+#[derive(Drop)]
+pub(crate) struct StepWait {
+    // How many steps were in vain since the last one that was not. Begins anew after a step in vain of the greatest number.
+    steps: u32,
+    sleep: u64,
+}
+
+impl StepWait {
+    /// Before the first step.
+    pub(crate) fn new() -> StepWait {
+        StepWait {
+            steps: 0,
+            sleep: FIRST_SLEEP_MICROSECONDS,
+        }
+    }
+
+    /// Begins anew, since a step was not in vain.
+    pub(crate) fn reset(&mut self) {
+        self.steps = 0;
+        self.sleep = FIRST_SLEEP_MICROSECONDS;
+    }
+
+    /// A step was in vain: waits a little. A sleep ends when the run stops.
+    pub(crate) fn pass<R: Wait>(&mut self, rt: &R, world: &SharedWorld, patient: bool) {
+        let steps = self.steps;
+        self.steps = steps.wrapping_add(1);
+        let eager = if patient { PATIENT } else { EAGER };
+        if steps < eager {
+            yield_now();
+        } else if patient {
+            world.doze(rt, Duration::from_micros(self.sleep));
+            self.sleep = next_sleep(self.sleep);
+        } else if steps % SPARSE == 0 {
+            yield_now();
+        } else {
+            hint::spin_loop();
+        }
     }
 }
 
@@ -49,6 +97,8 @@ fn passes_of(targets: usize, serving: usize) -> usize {
 /// twice as long.
 #[derive(Drop)]
 pub(crate) struct IdleWait {
+    // How many threads serve.
+    serving: usize,
     passes: usize,
     // How many passes since the last wait found no call.
     idle: usize,
@@ -61,6 +111,7 @@ impl IdleWait {
     /// Before the first pass of one of these threads, which serve this number of targets together.
     pub(crate) fn new(targets: usize, serving: usize) -> IdleWait {
         IdleWait {
+            serving,
             passes: passes_of(targets, serving),
             idle: 0,
             waits: 0,
@@ -75,6 +126,11 @@ impl IdleWait {
         self.sleep = FIRST_SLEEP_MICROSECONDS;
     }
 
+    // Whether enough of the others are awake.
+    fn is_spare(&self, world: &SharedWorld) -> bool {
+        (self.serving as u64).saturating_sub(world.idle_count()) > MOST_AWAKE
+    }
+
     /// A pass found no call: waits a little if it is the last of a few. A sleep ends when the run stops.
     pub(crate) fn pass<R: Wait>(&mut self, rt: &R, world: &SharedWorld) {
         self.idle = self.idle.saturating_add(1);
@@ -82,9 +138,9 @@ impl IdleWait {
             return;
         }
         self.idle = 0;
-        if self.waits >= SPINS + YIELDS {
-            world.doze(rt, Duration::from_micros(self.sleep));
-            self.sleep = self.sleep.saturating_mul(2).min(LONGEST_SLEEP_MICROSECONDS);
+        if self.waits >= SPINS + YIELDS || self.is_spare(world) {
+            world.doze_idle(rt, Duration::from_micros(self.sleep));
+            self.sleep = next_sleep(self.sleep);
             return;
         }
         if self.waits < SPINS {

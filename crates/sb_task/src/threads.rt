@@ -3,7 +3,7 @@ ghost use Rattle.std.specs.Prelude.{◌≡◌, IfOk};
 ghost use Rattle.sb_shared.specs.Closing.{IsThreadSeat};
 ghost use Rattle.sb_task.specs.Threads.{HasEnded};
 
-use crate::pauses::rest;
+use crate::pauses::StepWait;
 use sb_items::NoMemory;
 use sb_shared::{SharedWorld, ThreadSeat};
 use sb_statements::SoundScript;
@@ -25,9 +25,9 @@ pub fn run_thread<R: Wait>(
     ensures { IfOk result (λ s. HasEnded seat s) }
 {
     let mut current = seat;
-    let mut waits = 0u32;
+    let mut wait = StepWait::new();
     for _ in rt.forever() {
-        if current.is_finished(script) {
+        if current.is_over() {
             break;
         }
         current.step(world, script);
@@ -35,10 +35,9 @@ pub fn run_thread<R: Wait>(
             if current.stopped(world).is_some() {
                 return Err(NoMemory);
             }
-            rest(waits);
-            waits = waits.saturating_add(1);
+            wait.pass(rt, world, current.is_patient(script));
         } else {
-            waits = 0;
+            wait.reset();
         }
     }
     Ok(current)

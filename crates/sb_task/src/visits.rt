@@ -12,19 +12,33 @@ use sb_outside::Gate;
 use sb_rule::Judge;
 use sb_shared::{Stop, WorkerSeat};
 use std::alloc::Global;
+use std::hint;
 use std::sync::Wait;
 use std::thread::yield_now;
 
 // After this many calls others may draw the seat.
 const MOST_CALLS: u32 = 64;
 
-// A try to take the turn, after the decision on the copy and the gate. If the turn is held, it looks at the stop word and yields the
-// processor.
+// Of the tries that find the turn held, one of this many is followed by a yield, and each other one by a spin: the turn is held for a short time.
+const TRIES: u32 = 16;
+
+// Waits a little after a try that found the turn held, which this many such tries precede.
+fn rest(tries: u32) {
+    if tries % TRIES == TRIES - 1 {
+        yield_now();
+    } else {
+        hint::spin_loop();
+    }
+}
+
+// A try to take the turn, after the decision on the copy and the gate. If the turn is held, it looks at the stop word and waits a little, by the
+// number of tries before that missed.
 fn try_turn<J: Judge, G: Gate, R: Wait>(
     rt: &R,
     alloc: Global,
     context: &RunContext<'_, J, G>,
     seat: &mut WorkerSeat,
+    misses: &mut u32,
 ) -> Result<(), NoMemory>
     requires own { IsWorkerOf context.now.world seat.old }
     requires plan { worker_plan seat.old.state ≡ Take }
@@ -41,7 +55,8 @@ fn try_turn<J: Judge, G: Gate, R: Wait>(
     if let Some(Stop::OutOfMemory) = seat.stopped(context.world) {
         return Err(NoMemory);
     }
-    yield_now();
+    rest(*misses);
+    *misses = misses.saturating_add(1);
     Ok(())
 }
 
@@ -51,13 +66,14 @@ fn advance<J: Judge, G: Gate, R: Wait>(
     alloc: Global,
     context: &RunContext<'_, J, G>,
     seat: &mut WorkerSeat,
+    misses: &mut u32,
 ) -> Result<(), NoMemory>
     requires own { IsWorkerOf context.now.world seat.old }
     ensures same { IsSameWorker seat.old seat.new }
 {
     context.establish_kept();
     match seat.plan() {
-        Act::Take => try_turn(rt, alloc, context, seat)?,
+        Act::Take => try_turn(rt, alloc, context, seat, misses)?,
         Act::Answer => seat.answer(alloc, context.world, context.judge)?,
         Act::Give => seat.give_back(context.world),
         Act::Load { .. } | Act::Store { .. } | Act::Exchange { .. } | Act::Idle => {
@@ -86,9 +102,10 @@ pub(crate) fn visit<J: Judge, G: Gate, R: Wait>(
     let channels = seat.channels();
     let mut left = channels;
     let mut calls = 0;
+    let mut misses = 0u32;
     for _ in rt.forever() {
         let looked = seat.is_looking();
-        if advance(rt, alloc, context, seat).is_err() {
+        if advance(rt, alloc, context, seat, &mut misses).is_err() {
             seat.fail(context.world);
             return Err(NoMemory);
         }

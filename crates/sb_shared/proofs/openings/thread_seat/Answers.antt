@@ -26,7 +26,7 @@ invariant_of-result c =
     let size = ap (λ l. length l) seat.3 in (
       seat.0,
       seat.1,
-      c.new.ensures ∙ sym (ap (λ x. x.thread) seat.2),
+      c.with_table.ensures ∙ sym (ap (λ x. x.thread) seat.2),
       c.in_ok-results.ensures.items ∙ sym (ap (λ x. x.results) seat.2),
       omega (arith, room, count, size),
     )
