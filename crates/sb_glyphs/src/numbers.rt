@@ -1,4 +1,4 @@
-// How numbers are written into a text. After an error the text is of no use.
+// How numbers are written into a text. What the text is after an error is not specified.
 ghost use Rattle.std.specs.Prelude.{◌≡◌, ◌++◌, OnOk, string_bytes};
 ghost use Rattle.std.specs.Fmt.{decimal};
 ghost use Rattle.sb_wide.specs.Numbers.{hexadecimal};

@@ -86,7 +86,7 @@ impl<'a> Tokens<'a> {
         self.next
     }
 
-    // The same, with what quotes may hold.
+    // The same, with the fact that what is between quotes may be there.
     #[inline(always)]
     #[tactic(auto, using(crate::proofs::TokenLaws::sound_next))]
     pub(crate) fn sound_token(&self) -> Option<Token<'a>>

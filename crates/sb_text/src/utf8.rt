@@ -59,7 +59,7 @@ fn is_ascii(byte: u8) -> bool
     byte < 128
 }
 
-// Whether all bytes are ASCII. They are few, so that no search by words begins.
+// Whether all bytes are ASCII. Most strings are short: a loop over bytes is faster than std's test by words.
 fn are_ascii(bytes: &[u8]) -> bool
     ensures { result ≡ list_all (λ b. nat_lt b 128) bytes.now }
 {

@@ -1,5 +1,5 @@
-// How numbers are written. After an error the bytes are of no use. Most numbers of a transcript have one digit, and most statuses are 0: these
-// are not formatted.
+// How numbers are written. What the bytes are after an error is not specified. Most numbers of a transcript have one digit, and most statuses
+// are 0: these are written without formatting.
 ghost use Rattle.std.specs.Prelude.{◌≡◌, ◌++◌, OnOk};
 ghost use Rattle.std.specs.Fmt.{decimal};
 ghost use Rattle.sb_wide.specs.Numbers.{hexadecimal, eight_digits};
