@@ -1,6 +1,6 @@
--- Why a real file was not read, which faults are counted, and what a writer is given of the bytes that are due.
+-- Why a real file was not read, which faults are counted, what a read appends, and what a writer is given of the bytes that are due.
 use Rattle.std.specs.Prelude.{◌≡◌, ℕ, List, ◌++◌, Option}
-use Rattle.std.specs.Io.KnownBytes.{Appends}
+use Rattle.std.specs.Io.KnownBytes.{Appends, Consumes}
 use Rattle.std.specs.declared.io.ErrorKind.{ErrorKind}
 use Rattle.std.specs.declared.io.ErrorKind.TheVariants as kind
 use Rattle.sb_outside.specs.Outside.{next_count}
@@ -28,3 +28,7 @@ count_after NoMemory count = count
 -- of the bytes that were due the writer was given the first, where it tells what it has, and the others are left
 abbrev pub Gives : Option (List ℕ) → List ℕ → Option (List ℕ) → List ℕ → Type 0
 Gives old due new left = (part : List ℕ) × (due ≡ part ++ left) × Appends old new part
+
+-- what a reader gave was appended to the bytes, if it tells what it has
+abbrev pub Reads : Option (List ℕ) → List ℕ → Option (List ℕ) → List ℕ → Type 0
+Reads old before new after = (part : List ℕ) × (after ≡ before ++ part) × Consumes old new part

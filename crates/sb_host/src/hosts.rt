@@ -1,9 +1,9 @@
 // Real files and standard output. They tell no content. What is held back of an output is kept here and not by std's `BufWriter`, which does
 // not tell it.
-ghost use Rattle.std.specs.Prelude.{◌≡◌, ◌<◌, ◌≤◌, ◌+◌, ◌-◌, ◌++◌, [], None, length, vec_len, IfOk, IfSome, IsErrOf, OnOk, OnErr};
-ghost use Rattle.std.specs.Io.KnownBytes.{Appends};
+ghost use Rattle.std.specs.Prelude.{◌≡◌, ◌<◌, ◌≤◌, ◌+◌, ◌-◌, ◌++◌, [], None, false, length, vec_len, IfOk, IfSome, IsErrOf, OnOk, OnErr};
+ghost use Rattle.std.specs.Io.KnownBytes.{Appends, IsAtEnd};
 ghost use Rattle.sb_outside.specs.Outside.{next_count};
-ghost use Rattle.sb_host.specs.Hosts.{Gives, open_fault, read_fault, count_after};
+ghost use Rattle.sb_host.specs.Hosts.{Gives, Reads, open_fault, read_fault, count_after};
 
 use sb_items::NoMemory;
 use sb_outside::{FileFault, Files, Sink, SinkFault};
@@ -70,22 +70,54 @@ fn content_under<R: rt::Files>(
     }
 }
 
-// All that a reader has, if that is at most `most` bytes. One byte more is read to find more.
+// One read, whose bytes are appended. Whether there may be more: the end was not met. A read that a signal interrupts gives none.
+#[tactic(auto, using(crate::proofs::Wholes::reads_part, crate::proofs::Wholes::reads_none))]
+fn append_read<F: Read>(
+    file: &mut F,
+    room: &mut [u8],
+    bytes: &mut Vec<u8>,
+) -> Result<bool, FileFault>
+    requires { 0 < length room.old }
+    ensures read { OnOk result (Reads (F.remaining file.old) bytes.old.items (F.remaining file.new) bytes.new.items) }
+    ensures end { IfOk result (λ more. more ≡ false → IsAtEnd (F.remaining file.new)) }
+    ensures opened { IsErrOf result FileFault.Missing → ⊥ }
+    ensures short { IsErrOf result FileFault.TooLong → ⊥ }
+{
+    match file.read(room) {
+        Ok(0) => Ok(false),
+        Ok(count) => match bytes.extend_from_slice(&room[..count]) {
+            Ok(()) => Ok(true),
+            Err(_) => Err(FileFault::NoMemory),
+        },
+        Err(error) => match error.kind() {
+            ErrorKind::Interrupted => Ok(true),
+            kind => Err(read_fault(kind)),
+        },
+    }
+}
+
+// All that a reader has, if that is at most `most` bytes. It is read in pieces, since a buffer of the whole size would be filled with
+// zeros first.
+#[tactic(auto, using(crate::proofs::Wholes::reads_on, crate::proofs::Wholes::reads_all, crate::proofs::Wholes::reads_more))]
 fn content<F: Read + Drop>(alloc: Global, file: F, most: u64) -> Result<Vec<u8>, FileFault>
     ensures short { IfOk result (λ bytes. vec_len bytes ≤ most) }
     ensures whole { IfOk result (λ bytes. IfSome (F.remaining file) (λ all. bytes.items ≡ all)) }
     ensures opened { IsErrOf result FileFault.Missing → ⊥ }
     ensures too_long { IsErrOf result FileFault.TooLong → IfSome (F.remaining file) (λ all. most < length all) }
 {
-    let limit = most.saturating_add(1);
+    let mut file = file;
+    let mut room = [0; PIECE];
     let mut bytes = Vec::new(alloc);
-    if let Err(error) = file.take(limit).read_to_end(&mut bytes) {
-        return Err(read_fault(error.kind()));
+    for _ in 0..u64::MAX {
+        let may_have_more = append_read(&mut file, &mut room, &mut bytes)?;
+        if bytes.len() as u64 > most {
+            return Err(FileFault::TooLong);
+        }
+        if !may_have_more {
+            return Ok(bytes);
+        }
     }
-    if bytes.len() as u64 >= limit {
-        return Err(FileFault::TooLong);
-    }
-    Ok(bytes)
+    Err(FileFault::Failed)
 }
 
 fn open_fault(kind: ErrorKind) -> FileFault
@@ -107,7 +139,7 @@ fn read_fault(kind: ErrorKind) -> FileFault
     }
 }
 
-/// How many bytes a piece has in which a file or a pipe is written.
+/// How many bytes a piece has in which a file is read, and a file or a pipe written.
 pub const PIECE: usize = 65_536;
 
 /// A writer as an output, which holds back less than a piece.
