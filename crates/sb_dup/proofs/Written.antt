@@ -11,7 +11,7 @@ use Rattle.std.proofs.lemmas.Str.{IsUtf8-from_ascii, is_utf8-from_IsUtf8}
 use Rattle.std.proofs.lemmas.Str.Ascii.{IsAscii-cons, IsAscii-nil}
 use Rattle.sb_dup.specs.Lines.{MoveWords, access_at, end_at, has_quote, is_between, is_there, line_of, move_by, number_at, operands, with_move, word_at}
 use Rattle.sb_dup.specs.MoveLaws.{WrittenMovesAreRead}
-use Rattle.sb_dup.specs.MovePrinting.{is_of_values, line_text, move_words, version_words, words_line, written}
+use Rattle.sb_dup.specs.MovePrinting.{is_of_values, move_words, version_words, written}
 use Rattle.sb_dup.specs.MoveTexts.{by_characters, grammar}
 use Rattle.sb_dup.specs.declared.faults.MoveKind.{MoveKind}
 use Rattle.sb_dup.specs.declared.faults.MoveKind.TheVariants.{TooMany, UnknownWord}
@@ -20,7 +20,7 @@ use Rattle.sb_text.specs.Lines.{NumberedLine, lines_of}
 use Rattle.sb_text.specs.NumberLaws.{DecimalsAreRead}
 use Rattle.sb_text.specs.Numbers.{is_decimal_digit, number_of}
 use Rattle.sb_text.specs.PlainLines as plain
-use Rattle.sb_text.specs.PlainLines.{PlainLinesAreRead, PlainWordsAreRead, is_plain_byte}
+use Rattle.sb_text.specs.PlainLines.{PlainLinesAreRead, PlainWordsAreRead, is_plain_byte, words_line, words_text}
 use Rattle.sb_text.specs.Readings.{on_line, read_by, read_lines}
 use Rattle.sb_text.specs.Spots.{by_words, fails_left}
 use Rattle.sb_text.specs.Steps.{◌>>=◌}
@@ -190,9 +190,9 @@ tokens_of_lines lines = map (map Word) lines
 abbrev numbered : ℕ → List (List (List ℕ)) → List NumberedLine
 numbered n lines = plain.numbered n (tokens_of_lines lines)
 
-as_tokens : (lines : List (List (List ℕ))) → flat_map line_text lines ≡ flat_map plain.line_text (tokens_of_lines lines)
+as_tokens : (lines : List (List (List ℕ))) → flat_map words_text lines ≡ flat_map plain.line_text (tokens_of_lines lines)
 as_tokens [] = refl
-as_tokens (words ∷ lines) = ap (λ rest. line_text words ++ rest) (as_tokens lines)
+as_tokens (words ∷ lines) = ap (λ rest. words_text words ++ rest) (as_tokens lines)
 
 are_plain : (lines : List (List (List ℕ))) → list_all is_plain_line lines ≡ true → list_all plain.is_plain_line (tokens_of_lines lines) ≡ true
 are_plain [] h = refl
@@ -200,7 +200,7 @@ are_plain (words ∷ lines) h =
     let parts = and_parts (is_plain_line words) (list_all is_plain_line lines) h in
     and_from (is_plain_line words) _ parts.0 (are_plain lines parts.1)
 
-lines_back : PlainLinesAreRead → (lines : List (List (List ℕ))) → list_all is_plain_line lines ≡ true → lines_of (flat_map line_text lines) ≡ numbered 1 lines
+lines_back : PlainLinesAreRead → (lines : List (List (List ℕ))) → list_all is_plain_line lines ≡ true → lines_of (flat_map words_text lines) ≡ numbered 1 lines
 lines_back law lines h = ap lines_of (as_tokens lines) ∙ law (tokens_of_lines lines) (are_plain lines h)
 
 plain_word : (w : List ℕ) → IsDigits w → plain.is_plain (Word w) ≡ true

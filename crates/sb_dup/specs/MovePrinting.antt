@@ -3,9 +3,7 @@ use Rattle.std.specs.Prelude.{ℕ, ◌^◌, Bool, ◌&&◌, nat_lt, List, [], �
 use Rattle.std.specs.Fmt.{decimal}
 use Rattle.std.specs.List.{flat_map}
 use Rattle.sb_dup.specs.declared.moves.Move.{Move}
-use Rattle.sb_text.specs.LineLaws.{ended}
-use Rattle.sb_text.specs.TokenLaws.{written_line}
-use Rattle.sb_text.specs.Tokens.{Word}
+use Rattle.sb_text.specs.PlainLines.{words_text}
 
 -- the first line: `sandbox-moves 1`
 abbrev pub version_words : List (List ℕ)
@@ -15,17 +13,9 @@ version_words = codes "sandbox-moves" ∷ codes "1" ∷ []
 abbrev pub move_words : Move → List (List ℕ)
 move_words m = codes "move" ∷ decimal m.from ∷ decimal m.handle ∷ decimal m.to ∷ decimal m.access ∷ []
 
--- words with one space between each two
-abbrev pub words_line : List (List ℕ) → List ℕ
-words_line words = written_line (map Word words)
-
--- a line: its words and an LF
-abbrev pub line_text : List (List ℕ) → List ℕ
-line_text words = ended (words_line words)
-
 -- the file of moves
 abbrev pub written : List Move → List ℕ
-written moves = flat_map line_text (version_words ∷ map move_words moves)
+written moves = flat_map words_text (version_words ∷ map move_words moves)
 
 -- numbers of targets and accesses have 32 bits, and those of handles 64, as those of every move in memory have
 abbrev pub is_of_values : Move → Bool

@@ -10,7 +10,7 @@ use Rattle.std.proofs.lemmas.List.Sums.{sum_by-cons}
 use Rattle.sb_scheduletext.specs.Drafts.{Drafted, step_count, with_step, finished}
 use Rattle.sb_scheduletext.specs.Limits.{most_steps, most_rounds}
 use Rattle.sb_scheduletext.specs.Lines.{no_more, count_at, step, rounds, line_by, line_of}
-use Rattle.sb_scheduletext.specs.Printing.{actor_word, version_words, step_words, rounds_words, schedule_lines, words_line, written, is_actor_of_values, is_made, in_order}
+use Rattle.sb_scheduletext.specs.Printing.{actor_word, version_words, step_words, rounds_words, schedule_lines, written, is_actor_of_values, is_made, in_order}
 use Rattle.sb_scheduletext.specs.PrintingLaws.{WrittenSchedulesAreRead, OrdersAreRead, ReadSchedulesAreReadAgain}
 use Rattle.sb_scheduletext.specs.ScheduleTexts.{ScheduleFault, grammar}
 use Rattle.sb_scheduletext.specs.declared.faults.ScheduleKind.{ScheduleKind}
@@ -27,7 +27,7 @@ use Rattle.sb_text.specs.Steps.{◌>>=◌, at_left, or_fault}
 use Rattle.sb_text.specs.WordVersions.{version_in_words}
 use Rattle.sb_text.specs.declared.refusals.TokenFault.{TokenFault}
 use Rattle.sb_text.specs.declared.refusals.WordFault.TheVariants.{NoVersion}
-use Rattle.sb_text.specs.PlainLines.{PlainLinesAreRead, PlainWordsAreRead}
+use Rattle.sb_text.specs.PlainLines.{PlainLinesAreRead, PlainWordsAreRead, words_line}
 use Rattle.sb_scheduletext.proofs.Bounds.{actors_are_there, actors_make_steps, steps_are_counted, rounds_are_counted}
 use Rattle.sb_scheduletext.proofs.Conjunctions.{both, and_true}
 use Rattle.sb_scheduletext.proofs.Counts.{one_more}

@@ -9,8 +9,9 @@ use Rattle.std.proofs.lemmas.Fmt.{length-decimal-le, length-decimal-le_succ}
 use Rattle.std.proofs.lemmas.List.Sums.{sum_by-cons}
 use Rattle.sb_scheduletext.proofs.Printed.{as_many, each_made}
 use Rattle.sb_scheduletext.specs.Drafts.{step_count}
-use Rattle.sb_scheduletext.specs.Printing.{actor_word, in_order, is_actor_of_values, is_made, is_number_32, line_text, rounds_words, step_words, version_words}
+use Rattle.sb_scheduletext.specs.Printing.{actor_word, in_order, is_actor_of_values, is_made, is_number_32, rounds_words, step_words, version_words}
 use Rattle.sb_scheduletext.specs.PrintingLaws.{OrdersAreShort, WrittenSchedulesAreShort}
+use Rattle.sb_text.specs.PlainLines.{words_text}
 use Rattle.sb_statements.specs.declared.schedules.Actor.{Actor}
 use Rattle.sb_statements.specs.declared.schedules.Actor.TheVariants.{Worker, Thread}
 
@@ -48,7 +49,7 @@ actor_short (Thread target thread) h =
     omega (arith, first, second, both)
 
 -- the line of an entry has at most 31 bytes for each of its steps
-step_short : (step : Actor × ℕ) → is_made step ≡ true → step.1 < 18446744073709551616 → length (line_text (step_words step)) ≤ 31 * step.1
+step_short : (step : Actor × ℕ) → is_made step ≡ true → step.1 < 18446744073709551616 → length (words_text (step_words step)) ≤ 31 * step.1
 step_short step h l =
     let parts = and_parts (is_actor_of_values step.0) (nat_le 1 step.1) h in
     let some : 1 ≤ step.1 = grind (arith, nat_tests, parts) in
@@ -59,27 +60,27 @@ step_short step h l =
 
 -- the lines of all entries
 steps_short : (steps : List (Actor × ℕ)) (more : List (List (List ℕ))) → list_all is_made steps ≡ true → step_count steps < 18446744073709551616
-    → length (flat_map line_text (map step_words steps ++ more)) ≤ 31 * step_count steps + length (flat_map line_text more)
+    → length (flat_map words_text (map step_words steps ++ more)) ≤ 31 * step_count steps + length (flat_map words_text more)
 steps_short [] more h l = omega arith
 steps_short (step ∷ steps) more h l =
     let parts = and_parts (is_made step) (list_all is_made steps) h in
     let sum = sum_by-cons (λ (s : Actor × ℕ). s.1) step steps in
     let first = step_short step parts.0 (omega (arith, l, sum)) in
     let rest = steps_short steps more parts.1 (omega (arith, l, sum)) in
-    let both = length-append (line_text (step_words step)) (flat_map line_text (map step_words steps ++ more)) in
+    let both = length-append (words_text (step_words step)) (flat_map words_text (map step_words steps ++ more)) in
     omega (arith, sum, first, rest, both)
 
 -- the last line
-rounds_short : (n : ℕ) → n ≤ 20000000 → length (flat_map line_text (rounds_words n ∷ [])) ≤ 17
+rounds_short : (n : ℕ) → n ≤ 20000000 → length (flat_map words_text (rounds_words n ∷ [])) ≤ 17
 rounds_short n l =
     let digits = length-decimal-le 8 n (omega arith) (omega (arith, l)) (omega (arith, l)) in
     let line = two (codes "rounds") (decimal n) in
-    let all = length-append (line_text (rounds_words n)) [] in
+    let all = length-append (words_text (rounds_words n)) [] in
     omega (arith, digits, line, all)
 
 pub written_short : WrittenSchedulesAreShort
 written_short schedule made few rounds =
-    let first = length-append (line_text version_words) (flat_map line_text (map step_words schedule.steps ++ rounds_words schedule.rounds ∷ [])) in
+    let first = length-append (words_text version_words) (flat_map words_text (map step_words schedule.steps ++ rounds_words schedule.rounds ∷ [])) in
     let version = two (codes "sandbox-schedule") (codes "1") in
     let steps = steps_short schedule.steps (rounds_words schedule.rounds ∷ []) made (omega (arith, few)) in
     let last = rounds_short schedule.rounds rounds in

@@ -5,9 +5,7 @@ use Rattle.std.specs.List.{flat_map}
 use Rattle.sb_statements.specs.declared.schedules.Actor.{Actor}
 use Rattle.sb_statements.specs.declared.schedules.Actor.TheVariants.{Worker, Thread}
 use Rattle.sb_statements.specs.declared.schedules.Schedule.{Schedule}
-use Rattle.sb_text.specs.LineLaws.{ended}
-use Rattle.sb_text.specs.TokenLaws.{written_line}
-use Rattle.sb_text.specs.Tokens.{Word}
+use Rattle.sb_text.specs.PlainLines.{words_text}
 
 -- the name of an actor: `bT` names the worker of target T, and `tT.K` its thread K
 abbrev pub actor_word : Actor → List ℕ
@@ -30,17 +28,9 @@ rounds_words n = codes "rounds" ∷ decimal n ∷ []
 abbrev pub schedule_lines : Schedule → List (List (List ℕ))
 schedule_lines schedule = version_words ∷ (map step_words schedule.steps ++ rounds_words schedule.rounds ∷ [])
 
--- words with one space between each two
-abbrev pub words_line : List (List ℕ) → List ℕ
-words_line words = written_line (map Word words)
-
--- a line: its words and an LF
-abbrev pub line_text : List (List ℕ) → List ℕ
-line_text words = ended (words_line words)
-
 -- the text of a schedule
 abbrev pub written : Schedule → List ℕ
-written schedule = flat_map line_text (schedule_lines schedule)
+written schedule = flat_map words_text (schedule_lines schedule)
 
 -- a number of 32 bits
 abbrev pub is_number_32 : ℕ → Bool

@@ -1,7 +1,9 @@
 -- A scan at a place of the line.
-use Rattle.std.proofs.Common.{◌≡◌, ℕ, ◌+◌, ◌<◌, ◌==◌, nat_lt, ◌≤◌, false, true, refl, sym, ap, ◌∙◌, arith, List, [], ◌∷◌, ◌++◌, length, take, drop, get_or, if◌then◌else◌}
+use Rattle.std.proofs.Common.{◌≡◌, ℕ, ◌+◌, ◌<◌, ◌==◌, ◌||◌, ◌&&◌, not, nat_lt, ◌≤◌, false, true, refl, sym, ap, ◌∙◌, arith, List, [], ◌∷◌, ◌++◌, length, take, drop, get_or, if◌then◌else◌}
+use Rattle.std.proofs.lemmas.Bool.{false≢true}
 use Rattle.std.proofs.lemmas.Bool.Decides.{nat_tests}
 use Rattle.std.proofs.lemmas.List.{at_drop_more, drop_all, take_more}
+use Rattle.sb_text.proofs.Conjunctions.{both, and_true}
 use Rattle.sb_text.specs.Lines.{is_blank}
 use Rattle.sb_text.specs.Tokens.{Lexeme, Word, Bad, Between, InWord, InQuote, AfterQuote, scan}
 
@@ -47,6 +49,44 @@ module _ (s : List ℕ) (n : ℕ) (z : List Lexeme) (begun : scan (InWord (take 
 
   pub word_last : length s ≤ n → z ≡ Word (take n s) ∷ scan Between (drop n s)
   word_last h = sym begun ∙ rw (drop_all n s h) refl
+
+-- what one test of a byte tells, and another of the byte at a place
+in_word_not_blank : (b : ℕ) → not (is_blank b || b == 34) ≡ true → is_blank b ≡ false
+in_word_not_blank b h = grind (arith, nat_tests)
+
+in_word_no_quote : (b : ℕ) → not (is_blank b || b == 34) ≡ true → b ≡ 34 → ⊥
+in_word_no_quote b h e = false≢true (rw e at h)
+
+not_in_word_blank : (b : ℕ) → not (is_blank b || b == 34) ≡ false → (b ≡ 34 → ⊥) → is_blank b ≡ true
+not_in_word_blank b h m = grind (arith, nat_tests)
+
+pub stops_low : (b : ℕ) → not (is_blank b || b == 34) ≡ false → b < 128
+stops_low b h = grind (arith, nat_tests)
+
+is_less : (n m : ℕ) → n < m → nat_lt n m ≡ true
+is_less n m h = grind (arith, nat_tests)
+
+less : (n m : ℕ) → nat_lt n m ≡ true → n < m
+less n m h = grind (arith, nat_tests)
+
+equal : (b k : ℕ) → (b == k) ≡ true → b ≡ k
+equal b k h = grind (arith, nat_tests)
+
+pub no_quote_at : (s : List ℕ) (n : ℕ) → n < length s → (nat_lt n (length s) && get_or s n 0 == 34) ≡ false → get_or s n 0 ≡ 34 → ⊥
+no_quote_at s n h m e = false≢true (sym m ∙ and_true _ _ (is_less n (length s) h) (same _ 34 e))
+
+-- the same by these tests
+module _ (s : List ℕ) (n : ℕ) (z : List Lexeme) (begun : scan (InWord (take n s)) (drop n s) ≡ z) where
+  pub word_on : n < length s → not (is_blank (get_or s n 0) || get_or s n 0 == 34) ≡ true → scan (InWord (take (n + 1) s)) (drop (n + 1) s) ≡ z
+  word_on h k = word_more s n z begun h (in_word_not_blank (get_or s n 0) k) (in_word_no_quote (get_or s n 0) k)
+
+  pub word_quoted : (nat_lt n (length s) && get_or s n 0 == 34) ≡ true → z ≡ Bad ∷ []
+  word_quoted h =
+      let m = equal _ _ (both _ _ h).1 in
+      word_bad s n z begun (less _ _ (both _ _ h).0) (rw m refl) m
+
+  pub word_stops : n < length s → not (is_blank (get_or s n 0) || get_or s n 0 == 34) ≡ false → (get_or s n 0 ≡ 34 → ⊥) → z ≡ Word (take n s) ∷ scan Between (drop n s)
+  word_stops h k m = word_ends s n z begun h (not_in_word_blank (get_or s n 0) k m)
 
 -- a quoted token goes on, ends, or breaks the rules
 module _ (s : List ℕ) (n : ℕ) (z : List Lexeme) (begun : scan (InQuote (take n s)) (drop n s) ≡ z) where

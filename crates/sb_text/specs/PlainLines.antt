@@ -27,6 +27,13 @@ is_plain_line _ = false
 abbrev pub line_text : List Lexeme → List ℕ
 line_text tokens = ended (written_line tokens)
 
+-- a line of words, with one space between each two, and the same with an LF
+abbrev pub words_line : List (List ℕ) → List ℕ
+words_line words = written_line (map Word words)
+
+abbrev pub words_text : List (List ℕ) → List ℕ
+words_text words = line_text (map Word words)
+
 -- the lines of these tokens, the first of which has number n
 abbrev pub numbered : ℕ → List (List Lexeme) → List NumberedLine
 numbered n [] = []

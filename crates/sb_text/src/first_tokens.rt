@@ -1,5 +1,5 @@
 // The first token of a text, and what follows it.
-ghost use Rattle.std.specs.Prelude.{◌≡◌, ◌∷◌, ◌<◌, ◌≤◌, [], length, slice_index, false, nat_lt, ◌&&◌};
+ghost use Rattle.std.specs.Prelude.{◌≡◌, ◌∷◌, ◌<◌, ◌≤◌, ◌==◌, [], length, slice_index, false, nat_lt, not, ◌&&◌, ◌||◌};
 ghost use Rattle.sb_text.specs.Lines.{is_blank};
 ghost use Rattle.sb_text.specs.Tokens.{tokens_of, at_hand, lexeme_of, scan, InWord, InQuote, AfterQuote};
 
@@ -31,6 +31,23 @@ fn without_blanks(text: &str) -> &str
     rest
 }
 
+// Whether a word goes on with a byte. Most bytes of words are above `"`, the greatest that ends one.
+fn is_in_word(byte: u8) -> bool
+    ensures { result ≡ not (is_blank byte || byte == 34) }
+{
+    byte > b'"' || !matches!(byte, b' ' | b'\t' | b'"')
+}
+
+// Whether the byte at a place is a quote.
+fn is_quote_at(bytes: &[u8], n: usize) -> bool
+    ensures { result ≡ (nat_lt n (length bytes.now) && slice_index bytes.now n == 34) }
+{
+    match bytes.get(n) {
+        Some(byte) => *byte == b'"',
+        None => false,
+    }
+}
+
 // The word that the text begins with, and what follows it.
 fn word<'a>(text: &'a str) -> (Token<'a>, &'a str)
     requires some { 0 < length text.now }
@@ -40,11 +57,11 @@ fn word<'a>(text: &'a str) -> (Token<'a>, &'a str)
 {
     let bytes = text.as_bytes();
     let mut n = 0;
-    while n < bytes.len() && !is_blank(bytes[n]) {
-        if bytes[n] == b'"' {
-            return (Token::Bad, "");
-        }
+    while n < bytes.len() && is_in_word(bytes[n]) {
         n += 1;
+    }
+    if is_quote_at(bytes, n) {
+        return (Token::Bad, "");
     }
     (Token::Word(&bytes[..n]), &text[n..])
 }

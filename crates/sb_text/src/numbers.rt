@@ -1,5 +1,5 @@
 // Numbers below 2^64.
-ghost use Rattle.std.specs.Prelude.{◌≡◌, ◌≤◌, ◌<◌, ◌*◌, ◌+◌, length};
+ghost use Rattle.std.specs.Prelude.{◌≡◌, ◌∷◌, ◌≤◌, ◌<◌, ◌*◌, ◌+◌, [], length};
 ghost use Rattle.std.specs.List.{list_all};
 ghost use Rattle.sb_text.specs.Numbers.{number_of, decimal_of, hexadecimal_of, is_decimal_digit, is_hexadecimal_digit, digit_of, value_from, below_2_64};
 
@@ -57,10 +57,26 @@ fn are_hexadecimal_digits(word: &[u8]) -> bool
     word.iter().all(|byte| is_hexadecimal_digit(*byte))
 }
 
+// The value of one decimal digit.
+#[tactic(auto, using(crate::proofs::Values::one_decimal, crate::proofs::Values::no_decimal))]
+fn decimal_digit(digit: u8) -> Option<u64>
+    ensures { result ≡ decimal_of (digit ∷ []) }
+{
+    if is_decimal_digit(digit) {
+        Some(u64::from(digit) - 48)
+    } else {
+        None
+    }
+}
+
 /// The value of 1 to 20 decimal digits, if it is below 2^64.
 pub fn decimal_of(word: &[u8]) -> Option<u64>
     ensures { result ≡ decimal_of word.now }
 {
+    // Most numbers have one digit.
+    if let [digit] = word {
+        return decimal_digit(*digit);
+    }
     if word.is_empty() || word.len() > 20 || !are_decimal_digits(word) {
         return None;
     }
