@@ -17,6 +17,7 @@ pub mod ThreadStages
 pub mod ThreadTable
 pub mod Ties
 pub mod Waiting
+pub mod WordSteps
 pub mod WorkerFields
 pub mod WorkerStages
 pub mod WorkerTable

@@ -10,10 +10,11 @@ ghost use Rattle.sb_statements.specs.CleanTables.{IsCleanTable};
 ghost use Rattle.sb_actor.specs.Acts.{observation};
 ghost use Rattle.sb_actor.specs.Endings.{result_of};
 ghost use Rattle.sb_actor.specs.Places.{statement_at, begins, direct_at, thread_start, is_finished, is_over};
-ghost use Rattle.sb_actor.specs.Observations.{Done};
+ghost use Rattle.sb_actor.specs.Observations.{Done, Value};
 ghost use Rattle.sb_actor.specs.ThreadFields.{is_free};
 ghost use Rattle.sb_actor.specs.Waiting.{moved_to, next_load, reply_channel};
-ghost use Rattle.sb_actor.specs.ThreadTable.{thread_plan, thread_after, stray_row, after_round, after_try, after_fill, after_send, after_wait, after_stray_load, reply_by, goes_on, ends, has_clean};
+ghost use Rattle.sb_actor.specs.WordSteps.{thread_load, thread_store};
+ghost use Rattle.sb_actor.specs.ThreadTable.{thread_plan, thread_after, stray_row, after_round, after_try, after_send, after_wait, after_stray_load, reply_by, goes_on, ends, has_clean};
 
 use crate::acts::{
     ABANDONED, ACKNOWLEDGED, Act, BUSY, FREE, Observed, READY, block_word, exchange, load,
@@ -29,7 +30,7 @@ use arrayvec::ArrayVec;
 use sb_block::{Words, read_reply};
 use sb_call::Reply;
 use sb_statements::{
-    CallResult, CleanTable, SoundScript, Statement, StmtResult, clean_table, sound_parts,
+    CallResult, CleanTable, SoundScript, Statement, StmtResult, Word, sound_parts,
 };
 use std::marker::Model;
 
@@ -153,15 +154,7 @@ fn reply_by(channel: u32, mark: u64, reply: Reply) -> CallResult
 }
 
 impl ThreadState {
-    /// A thread before its first step. The target and the thread are there.
-    pub fn new(script: &SoundScript, target: u32, thread: u32) -> ThreadState
-        requires there { target < length script.now.targets }
-        ensures { result ≡ thread_start script.now target thread }
-    {
-        ThreadState::with_table(script, &clean_table(script), target, thread)
-    }
-
-    /// The same with the clean table of the script, for whoever makes several threads.
+    /// A thread before its first step, with the clean table of its script. The target and the thread are there.
     #[tactic(auto, using(crate::proofs::Soundness::few_targets, crate::proofs::Channels::clean_length))]
     pub fn with_table(
         script: &SoundScript,
@@ -342,24 +335,6 @@ impl ThreadState {
         self.try_at(channel + 1, rounds, all_abandoned)
     }
 
-    // After the block's word at this place was stored.
-    fn after_fill(&mut self, channel: u32, at: u32) -> bool
-        requires channel { channel < length self.old.clean }
-        requires at { at < length self.old.block }
-        requires place { self.old.place < most_statements }
-        ensures thread { self.new ≡ (goes_on self.old (after_fill self.old channel at)).thread }
-        ensures ended { result ≡ false }
-    {
-        self.channel = channel;
-        self.at = at + 1;
-        if self.at as usize == self.block.len() {
-            self.phase = ThreadPhase::Send;
-        } else {
-            self.phase = ThreadPhase::Fill;
-        }
-        false
-    }
-
     // By what the exchange from busy to ready found.
     fn after_send(
         &mut self,
@@ -472,7 +447,7 @@ impl ThreadState {
     }
 
     /// The statement that the thread makes by a step on a word which the statement names: a store, an exchange, a load or a wait. None in
-    /// a call, and after the last statement. The script is that of `new`.
+    /// a call, and after the last statement. The script is that of `with_table`.
     pub fn direct_statement<'s>(&self, script: &'s SoundScript) -> Option<&'s Statement>
         ensures { option_map (λ s. s.now) result ≡ direct_at script.now self.now }
     {
@@ -511,7 +486,7 @@ impl ThreadState {
     }
 
     /// Goes on by what the step found. If that ends a statement its result is put after `results`, which must have room for it, and the
-    /// answer is true. The script is that of `new`, and `direct` the `direct_statement` of the step.
+    /// answer is true. The script is that of `with_table`, and `direct` the `direct_statement` of the step.
     #[inline(always)]
     #[tactic(auto, using(crate::proofs::Replies::whole_reply))]
     pub fn after(
@@ -537,17 +512,13 @@ impl ThreadState {
                 self.after_try(script, results, channel, count, all_abandoned, found)
             }
             ThreadPhase::Fill => {
-                let at = self.at;
-                self.after_fill(channel, at)
+                self.after_store();
+                false
             }
             ThreadPhase::Send => self.after_send(script, results, channel, observed.value()),
             ThreadPhase::Wait => self.after_wait(channel, count, observed.value()),
             ThreadPhase::Fetch => {
-                self.reply[self.at as usize] = observed.value();
-                self.at += 1;
-                if self.at == 12 {
-                    self.phase = ThreadPhase::Free;
-                }
+                self.after_load(observed.value());
                 false
             }
             ThreadPhase::Free => self.after_free(script, results),
@@ -557,6 +528,67 @@ impl ThreadState {
                 self.after_stray(script, results, direct, count, most, observed)
             }
             ThreadPhase::Over => false,
+        }
+    }
+
+    /// The word of its block that its next step stores, and its value, if that is its next step.
+    #[inline(always)]
+    pub fn word_to_store(&self) -> Option<(Word, u64)>
+        ensures { result ≡ thread_store self.now }
+    {
+        match self.phase {
+            ThreadPhase::Fill => {
+                let value = self.block.as_slice()[self.at as usize];
+                Some((block_word(self.channel, self.at), value))
+            }
+            _ => None,
+        }
+    }
+
+    /// Goes on from the store of a word of its block: the same as `after`, for whoever knows that it fills a channel. No statement ends.
+    #[inline(always)]
+    pub fn after_store(&mut self)
+        requires { is_some (thread_store self.old) ≡ true }
+        ensures { (script : Script) → self.new ≡ (thread_after script self.old Done).thread }
+    {
+        match self.phase {
+            ThreadPhase::Fill => {
+                self.at += 1;
+                if self.at as usize == self.block.len() {
+                    self.phase = ThreadPhase::Send;
+                }
+            }
+            _ => unreachable!(),
+        }
+    }
+
+    /// The word of the reply that its next step loads, if that is its next step.
+    #[inline(always)]
+    pub fn word_to_load(&self) -> Option<Word>
+        ensures { result ≡ thread_load self.now }
+    {
+        match self.phase {
+            ThreadPhase::Fetch => Some(block_word(self.channel, 3 + self.at)),
+            _ => None,
+        }
+    }
+
+    /// Goes on from the load of a word of the reply by its value: the same as `after`, for whoever knows that it fetches the reply. No
+    /// statement ends.
+    #[inline(always)]
+    pub fn after_load(&mut self, value: u64)
+        requires { is_some (thread_load self.old) ≡ true }
+        ensures { (script : Script) → self.new ≡ (thread_after script self.old (Value value)).thread }
+    {
+        match self.phase {
+            ThreadPhase::Fetch => {
+                self.reply[self.at as usize] = value;
+                self.at += 1;
+                if self.at == 12 {
+                    self.phase = ThreadPhase::Free;
+                }
+            }
+            _ => unreachable!(),
         }
     }
 
@@ -625,7 +657,7 @@ impl ThreadState {
         }
     }
 
-    /// Whether each statement has ended. The script is that of `new`.
+    /// Whether each statement has ended. The script is that of `with_table`.
     pub fn finished(&self, script: &SoundScript) -> bool
         ensures { result ≡ is_finished script.now self.now }
     {

@@ -1,11 +1,12 @@
 // The worker of a target.
-ghost use Rattle.std.specs.Prelude.{◌≡◌, ◌+◌, ◌%◌, ◌<◌, ◌≤◌, [], length, true, option_map};
+ghost use Rattle.std.specs.Prelude.{◌≡◌, ◌+◌, ◌%◌, ◌<◌, ◌≤◌, [], length, true, is_some, option_map};
 ghost use Rattle.sb_block.specs.Copies.{copied, is_copy};
 ghost use Rattle.sb_actor.specs.Ranges.{IsSoundStage};
 ghost use Rattle.sb_actor.specs.WorkerStages.{Look};
 ghost use Rattle.sb_actor.specs.Acts.{observation};
-ghost use Rattle.sb_actor.specs.Observations.{Answered};
+ghost use Rattle.sb_actor.specs.Observations.{Answered, Done, Value};
 ghost use Rattle.sb_actor.specs.WorkerTable.{worker_plan, worker_after, after_look, after_count, after_end, look_next, at_stage, IsAnswer, taken_in, is_looking};
+ghost use Rattle.sb_actor.specs.WordSteps.{worker_load, worker_store};
 ghost use Rattle.sb_actor.specs.declared.acts.Act.TheVariants.{Answer};
 
 use crate::acts::{
@@ -15,6 +16,7 @@ use crate::phases::WorkerPhase;
 use crate::words::clear;
 use sb_block::{BlockCopy, MOST_PARAMETERS, Words, reply_words};
 use sb_call::Reply;
+use sb_statements::Word;
 use std::marker::Model;
 use std::mem;
 
@@ -205,14 +207,7 @@ impl WorkerState {
                 let count = self.count;
                 self.after_end(count, (observed.value() >> 16) & 0xffff);
             }
-            WorkerPhase::Copy => {
-                self.words.push(observed.value());
-                if self.words.len() as u64 == self.end {
-                    let (count, end) = (self.count, self.end);
-                    end_copy(&mut self.taken, &mut self.words, count, end);
-                    self.phase = WorkerPhase::Take;
-                }
-            }
+            WorkerPhase::Copy => self.after_load(observed.value()),
             WorkerPhase::Take => {
                 if observed.turn() {
                     self.phase = WorkerPhase::Answer;
@@ -226,6 +221,62 @@ impl WorkerState {
                 self.at = 0;
                 self.phase = WorkerPhase::Reply;
             }
+            WorkerPhase::Reply => self.after_store(),
+            WorkerPhase::Ack => self.look_next(),
+        }
+    }
+
+    /// The word of the block that its next step loads into the copy, if that is its next step.
+    #[inline(always)]
+    pub fn word_to_load(&self) -> Option<Word>
+        ensures { result ≡ worker_load self.now }
+    {
+        match self.phase {
+            WorkerPhase::Copy => Some(block_word(self.channel, self.words.len() as u32)),
+            _ => None,
+        }
+    }
+
+    /// Goes on from the load of a word of the block by its value: the same as `after`, for whoever knows that it copies.
+    #[inline(always)]
+    pub fn after_load(&mut self, value: u64)
+        requires { is_some (worker_load self.old) ≡ true }
+        ensures { self.new ≡ worker_after self.old (Value value) }
+    {
+        match self.phase {
+            WorkerPhase::Copy => {
+                self.words.push(value);
+                if self.words.len() as u64 == self.end {
+                    let (count, end) = (self.count, self.end);
+                    end_copy(&mut self.taken, &mut self.words, count, end);
+                    self.phase = WorkerPhase::Take;
+                }
+            }
+            _ => unreachable!(),
+        }
+    }
+
+    /// The word of the reply that its next step stores, and its value, if that is its next step.
+    #[inline(always)]
+    pub fn word_to_store(&self) -> Option<(Word, u64)>
+        ensures { result ≡ worker_store self.now }
+    {
+        match self.phase {
+            WorkerPhase::Reply => {
+                let value = self.reply[self.at as usize];
+                Some((block_word(self.channel, 3 + self.at), value))
+            }
+            _ => None,
+        }
+    }
+
+    /// Goes on from the store of a word of the reply: the same as `after`, for whoever knows that it replies.
+    #[inline(always)]
+    pub fn after_store(&mut self)
+        requires { is_some (worker_store self.old) ≡ true }
+        ensures { self.new ≡ worker_after self.old Done }
+    {
+        match self.phase {
             WorkerPhase::Reply => {
                 if self.at == 11 {
                     self.phase = WorkerPhase::Ack;
@@ -233,7 +284,7 @@ impl WorkerState {
                     self.at += 1;
                 }
             }
-            WorkerPhase::Ack => self.look_next(),
+            _ => unreachable!(),
         }
     }
 

@@ -16,6 +16,7 @@ pub mod Judging
 pub mod Keeping
 pub mod Learning
 pub mod Looking
+pub mod Moving
 pub mod Naming
 pub mod Opening
 pub mod Passing

@@ -62,8 +62,8 @@ impl Shared {
         self.value(target, Word { channel, at: 0 })
     }
 
-    // A store.
-    fn store(&mut self, target: u32, word: Word, value: u64) -> Observed
+    /// Stores a value into a word of a target.
+    pub(crate) fn store(&mut self, target: u32, word: Word, value: u64) -> Observed
         requires { IsWordThere self.old.words target word }
         ensures seen { observation result ≡ Done }
         ensures shared { self.new ≡ with_words self.old target (stored (words_of self.old.words target) word value) }

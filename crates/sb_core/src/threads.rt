@@ -104,6 +104,45 @@ impl ThreadRun {
         }
     }
 
+    // Whether it stores a word of its block. The word is then stored.
+    #[inline(always)]
+    #[tactic(auto, using(crate::proofs::Moving::store_there, crate::proofs::Moving::stores_word))]
+    fn stores(&mut self, script: &SoundScript, shared: &mut Shared) -> bool
+        requires there { IsActThere shared.old.words (thread_plan script.now self.old.thread) }
+        ensures made { result ≡ true → thread_step script.now shared.old self.old ≡ record { shared = shared.new; run = self.new } }
+        ensures none { result ≡ false → self.new ≡ self.old }
+        ensures shared { result ≡ false → shared.new ≡ shared.old }
+    {
+        let _script = script;
+        match self.state.word_to_store() {
+            Some((word, value)) => {
+                shared.store(self.state.target(), word, value);
+                self.state.after_store();
+                true
+            }
+            None => false,
+        }
+    }
+
+    // Whether it loads a word of the reply. The word is then fetched.
+    #[inline(always)]
+    #[tactic(auto, using(crate::proofs::Moving::load_there, crate::proofs::Moving::loads_word))]
+    fn loads(&mut self, script: &SoundScript, shared: &Shared) -> bool
+        requires there { IsActThere shared.now.words (thread_plan script.now self.old.thread) }
+        ensures made { result ≡ true → thread_step script.now shared.now self.old ≡ record { shared = shared.now; run = self.new } }
+        ensures none { result ≡ false → self.new ≡ self.old }
+    {
+        let _script = script;
+        match self.state.word_to_load() {
+            Some(word) => {
+                let value = shared.value(self.state.target(), word);
+                self.state.after_load(value);
+                true
+            }
+            None => false,
+        }
+    }
+
     // One step by the table of phases, of which `direct` is the direct statement.
     #[inline(always)]
     #[tactic(auto, using(crate::proofs::Answering::room_in))]
@@ -119,6 +158,20 @@ impl ThreadRun {
             .after(script, direct, observed, &mut self.results);
     }
 
+    // One step that may change words, of which `direct` is the direct statement. It is apart, so that the steps of threads that wait stay short.
+    #[inline(never)]
+    fn work(&mut self, script: &SoundScript, direct: Option<&Statement>, shared: &mut Shared)
+        requires direct { option_map (λ s. s.now) direct ≡ direct_at script.now self.old.thread }
+        requires there { IsActThere shared.old.words (thread_plan script.now self.old.thread) }
+        requires room { HasRoom script.now shared.old self.old }
+        ensures run { self.new ≡ (thread_step script.now shared.old self.old).run }
+        ensures shared { shared.new ≡ (thread_step script.now shared.old self.old).shared }
+    {
+        if !self.stores(script, shared) && !self.loads(script, shared) {
+            self.make_step(script, direct, shared);
+        }
+    }
+
     /// One step. Does not allocate.
     #[inline(always)]
     pub(crate) fn step(&mut self, script: &SoundScript, shared: &mut Shared)
@@ -131,7 +184,12 @@ impl ThreadRun {
             return;
         }
         let direct = self.state.direct_statement(script);
-        if !self.waits_on(script, direct, shared) {
+        if self.waits_on(script, direct, shared) {
+            return;
+        }
+        if self.state.word_to_store().is_some() || self.state.word_to_load().is_some() {
+            self.work(script, direct, shared);
+        } else {
             self.make_step(script, direct, shared);
         }
     }
