@@ -37,8 +37,21 @@ pub(crate) fn put_numbers(bytes: &mut Vec<u8>, numbers: &[u64])
     }
 }
 
-/// The number at the front of bytes, and the bytes after it.
+/// The number at the front of bytes, and the bytes after it. Most numbers have one byte.
 pub(crate) fn take_number(bytes: &[u8]) -> (u64, &[u8])
+    ensures number { result.0 ≡ number_in bytes.now }
+    ensures rest { result.1.now ≡ after_number bytes.now }
+{
+    if let Some((byte, rest)) = bytes.split_first() {
+        if *byte < 128 {
+            return (u64::from(*byte), rest);
+        }
+    }
+    take_long_number(bytes)
+}
+
+// The same, byte by byte.
+fn take_long_number(bytes: &[u8]) -> (u64, &[u8])
     ensures number { result.0 ≡ number_in bytes.now }
     ensures rest { result.1.now ≡ after_number bytes.now }
 {
@@ -49,7 +62,7 @@ pub(crate) fn take_number(bytes: &[u8]) -> (u64, &[u8])
     if low < 128 {
         return (low, rest);
     }
-    let (high, rest) = take_number(rest);
+    let (high, rest) = take_long_number(rest);
     (high.saturating_mul(128).saturating_add(low - 128), rest)
 }
 

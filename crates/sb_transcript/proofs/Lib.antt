@@ -4,3 +4,4 @@ pub mod EndLaws
 pub mod CutLaws
 pub mod Beginnings
 pub mod CountLaws
+pub mod HexDigits
