@@ -7,5 +7,6 @@ pub mod WholeLemmas
 pub mod Closed
 pub mod PassLemmas
 pub mod PlaceLemmas
+pub mod FrontLemmas
 pub mod WalkLemmas
 pub mod RuleLemmas

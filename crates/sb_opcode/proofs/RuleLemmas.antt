@@ -1,7 +1,7 @@
 -- A code rule by rule: where its rules begin, and what one of them says.
 use Rattle.std.specs.Prelude.{not, None, Some, slice_index_or}
 use Rattle.std.specs.List.{flat_map, list_all, onto_first}
-use Rattle.std.proofs.Common.{◌≡◌, ◌≢◌, ◌∙◌, ◌≤◌, ◌<◌, ◌+◌, ◌-◌, ℕ, zero, suc, ltb, eqb, Bool, true, false, cond, List, [], ◌∷◌, ◌++◌, ◌&&◌, length, drop, refl, ap, sym, subst, arith}
+use Rattle.std.proofs.Common.{◌≡◌, ◌≢◌, ◌∙◌, ◌≤◌, ◌<◌, ◌+◌, ◌-◌, ◌%◌, ◌^◌, ℕ, zero, suc, ltb, eqb, Bool, true, false, cond, List, [], ◌∷◌, ◌++◌, ◌&&◌, length, drop, refl, ap, sym, subst, arith}
 use Rattle.std.proofs.lemmas.Bool.{and_parts, and_from, not-true, false≢true}
 use Rattle.std.proofs.lemmas.List.{append_assoc, length-append, drop-drop, drop_more, get_or_append_left, get_or_push}
 use Rattle.sb_call.specs.Arguments.{arg_at}
@@ -16,13 +16,13 @@ use Rattle.sb_opcode.specs.Meaning.{after_opcode, action_of_rule, judged_by, rul
 use Rattle.sb_opcode.specs.Opcodes.{Opcode, OpKind, False, True, Num, Range, Mask, Text, Act}
 use Rattle.sb_rule.specs.declared.actions.Action.{Action}
 use Rattle.sb_opcode.specs.Options.{has_options}
-use Rattle.sb_opcode.specs.Walking.{Standing, Between, Failed, all_so_far, closed, group_end, is_number, number_opcode, step, is_failed, walk, rule_walk}
+use Rattle.sb_opcode.specs.Walking.{Standing, Between, Failed, all_so_far, closed, group_end, is_number, number_opcode, step, is_failed, walk, rule_walk, IsLone}
 use Rattle.sb_opcode.specs.WholeGroups.{PartsAreTheList, FaultlessCodesAreWhole, acts_at_end, is_whole_group, is_whole_rule}
 use Rattle.std.proofs.lemmas.Bool.Decides.{nat_tests}
 use Rattle.sb_opcode.specs.Beginnings.{AreBeginnings, AreFirst, IsBeginning}
 use Rattle.sb_opcode.specs.Packing.{packed, record_of}
-use Rattle.sb_opcode.specs.Unpacking.{is_packed, opcodes_of, passed_known}
-use Rattle.sb_opcode.proofs.KnownLemmas.{later_passed, opcode_passed}
+use Rattle.sb_opcode.specs.Unpacking.{is_packed, opcodes_of, action_known, first_known, opcode_known, passed_known}
+use Rattle.sb_opcode.proofs.KnownLemmas.{later_known, later_passed, opcode_known_first, opcode_passed}
 use Rattle.sb_opcode.proofs.PackingLemmas.{packing_of_opcodes}
 use Rattle.sb_opcode.proofs.Closed.{closed_by_rules, closed_from, rules_closed}
 use Rattle.sb_opcode.proofs.PassLemmas.{failed_is}
@@ -56,7 +56,7 @@ pub rule_failed : (args : List Arg) (t : Standing) (mid : List Opcode) (whole : 
 rule_failed args t mid whole f w = sym (failed_gives args mid) ∙ ap (λ u. rule_walk args u mid) (sym (failed_is t f)) ∙ w
 
 -- after a group that tests for a number
-number_step : (args : List Arg) (param number : ℕ) → step args Between (number_opcode param number) ≡ group_end (is_number (arg_at args param) number)
+pub number_step : (args : List Arg) (param number : ℕ) → step args Between (number_opcode param number) ≡ group_end (is_number (arg_at args param) number)
 number_step args param number = by (arg_at args param)
   where
     by : (a : Arg) → closed false (all_so_far (after_opcode (number_opcode param number) a)) ≡ group_end (is_number a number)
@@ -67,21 +67,50 @@ number_step args param number = by (arg_at args param)
         same false = refl
     by (arg.Str units) = refl
 
-number_walk : (args : List Arg) (param number : ℕ) (before mid : List Opcode) (whole : Verdict) (holds : Bool)
-    → before ≡ number_opcode param number ∷ mid → is_number (arg_at args param) number ≡ holds
-    → rule_walk args Between before ≡ whole → rule_walk args (group_end holds) mid ≡ whole
-number_walk args param number before mid whole holds e h w =
-    rule_step args Between (group_end holds) (number_opcode param number) before mid whole e refl
-    (sym (number_step args param number ∙ ap group_end h)) w
+-- after a first opcode that is a group of its own
+lone_walk : (args : List Arg) (words later : List ℕ) (op : Opcode) (whole : Verdict) (holds : Bool) → Some (op, later) ≡ first_known words
+    → is_act op ≡ false → step args Between op ≡ group_end holds → is_packed words ≡ true → rule_walk args Between (opcodes_of words) ≡ whole
+    → rule_walk args (group_end holds) (opcodes_of later) ≡ whole
+lone_walk args words later op whole holds e a s h w =
+    rule_step args Between (group_end holds) op (opcodes_of words) (opcodes_of later) whole (opcode_known_first words later op e h) a (sym s) w
 
-pub number_met : (args : List Arg) (param number : ℕ) (before mid : List Opcode) (whole : Verdict) → before ≡ number_opcode param number ∷ mid
-    → is_number (arg_at args param) number ≡ true → rule_walk args Between before ≡ whole → rule_walk args Between mid ≡ whole
-number_met args param number before mid whole e h w = number_walk args param number before mid whole true e h w
+-- the walk to where the lone opcodes end
+abbrev pub IsPast : List Arg → List ℕ → List ℕ → Type 0
+IsPast args words rest = (is_packed rest ≡ true) × (rule_walk args Between (opcodes_of rest) ≡ rule_walk args Between (opcodes_of words))
 
-pub number_missed : (args : List Arg) (param number : ℕ) (before mid : List Opcode) (whole : Verdict) → before ≡ number_opcode param number ∷ mid
-    → is_number (arg_at args param) number ≡ false → rule_walk args Between before ≡ whole → NoRule ≡ whole
-number_missed args param number before mid whole e h w =
-    rule_failed args Failed mid whole refl (number_walk args param number before mid whole false e h w)
+pub lone_met : (args : List Arg) (words rest later : List ℕ) (holds : Bool) → IsPast args words rest → IsLone args rest holds later → holds ≡ true
+    → IsPast args words later
+lone_met args words rest later holds past lone met = (
+  later_known rest later lone.0 lone.1 past.0,
+  ap (λ b. rule_walk args (group_end b) (opcodes_of later)) (sym met)
+      ∙ lone_walk args rest later lone.0 (rule_walk args Between (opcodes_of words)) holds lone.1 lone.2 lone.3 past.0 past.1,
+)
+
+pub lone_missed : (args : List Arg) (words rest later : List ℕ) (holds : Bool) → IsPast args words rest → IsLone args rest holds later → holds ≡ false
+    → NoRule ≡ rule_walk args Between (opcodes_of words)
+lone_missed args words rest later holds past lone missed =
+    rule_failed args Failed (opcodes_of later) (rule_walk args Between (opcodes_of words)) refl
+    (ap (λ b. rule_walk args (group_end b) (opcodes_of later)) (sym missed)
+    ∙ lone_walk args rest later lone.0 (rule_walk args Between (opcodes_of words)) holds lone.1 lone.2 lone.3 past.0 past.1)
+
+pub lone_shorter : (args : List Arg) (rest later : List ℕ) (holds : Bool) → is_packed rest ≡ true → IsLone args rest holds later
+    → length (opcodes_of later) < length (opcodes_of rest)
+lone_shorter args rest later holds h lone =
+    let e : opcodes_of rest ≡ lone.0 ∷ opcodes_of later = opcode_known_first rest later lone.0 lone.1 h in
+    omega (arith, ap length e)
+
+-- words that begin with an action without options
+pub act_says : (words : List ℕ) (args : List Arg) (line : ℕ) (action : Action) → 4 ≤ length words → slice_index_or words 0 0 ≡ 6
+    → line ≡ slice_index_or words 3 0 % 2 ^ 32 → action ≡ action_known (slice_index_or words 2 0) → is_packed words ≡ true
+    → Rule line action ≡ rule_walk args Between (opcodes_of words)
+act_says [] args line action n e l a h = absurd (omega (arith, n))
+act_says (w ∷ []) args line action n e l a h = absurd (omega (arith, n))
+act_says (w ∷ x ∷ []) args line action n e l a h = absurd (omega (arith, n))
+act_says (w ∷ x ∷ y ∷ []) args line action n e l a h = absurd (omega (arith, n))
+act_says (head ∷ param ∷ first ∷ second ∷ later) args line action n e l a h =
+    let op = opcode_known 6 param (Act (action_known first) (second % 2 ^ 32)) in
+    let known : Some (op, later) ≡ first_known (head ∷ param ∷ first ∷ second ∷ later) = ap (λ k. first_known (k ∷ param ∷ first ∷ second ∷ later)) (sym e) in
+    (λ i. Rule (l i) (a i)) ∙ sym (ap (rule_walk args Between) (opcode_known_first (head ∷ param ∷ first ∷ second ∷ later) later op known h))
 
 -- the walk over the first rule is the walk over it alone
 first_alone : (args : List Arg) (s : Standing) (rule later : List Opcode) → acts_at_end rule ≡ true → rule_walk args s (rule ++ later) ≡ walk args s rule

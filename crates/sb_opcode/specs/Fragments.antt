@@ -1,5 +1,5 @@
 -- Where a fragment stands in a string. A position in a string is what is left of the string from there on.
-use Rattle.std.specs.Prelude.{ℕ, ◌-◌, Bool, true, false, ◌==◌, nat_le, List, [], ◌∷◌, length, drop, Option, None, Some, option_and_then, if◌then◌else◌}
+use Rattle.std.specs.Prelude.{ℕ, ◌-◌, Bool, true, false, ◌==◌, nat_le, List, [], ◌∷◌, length, drop, Option, None, Some, option_and_then, is_some, if◌then◌else◌}
 use Rattle.std.specs.Option.{option_or}
 use Rattle.sb_wide.specs.Wide.{folded}
 use Rattle.sb_pattern.specs.declared.cells.Cell.{Cell}
@@ -44,3 +44,7 @@ abbrev pub at_end : Option (List ℕ) → Option (List ℕ)
 at_end None = None
 at_end (Some []) = Some []
 at_end (Some (u ∷ us)) = None
+
+-- a string begins with a fragment, folded, and has no unit after it if that is to be the whole
+abbrev pub has_front : List Cell → Bool → List ℕ → Bool
+has_front cells whole us = is_some (if whole then at_end (after_fragment true cells us) else after_fragment true cells us)

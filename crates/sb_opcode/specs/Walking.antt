@@ -1,12 +1,16 @@
 -- Where a walk over opcodes stands, and what each opcode makes of it. Nothing of the meaning of codes stands on this:
 -- that the walk gives that meaning is proved.
-use Rattle.std.specs.Prelude.{ℕ, ◌+◌, ◌*◌, ◌^◌, Bool, true, false, not, ◌&&◌, ◌==◌, List, [], ◌∷◌, Option, None, Some, if◌then◌else◌}
+use Rattle.std.specs.Prelude.{◌≡◌, ℕ, ◌+◌, ◌*◌, ◌^◌, Bool, true, false, not, ◌&&◌, ◌||◌, ◌==◌, List, [], ◌∷◌, Option, None, Some, if◌then◌else◌}
 use Rattle.sb_call.specs.Arguments.{arg_at}
 use Rattle.sb_call.specs.declared.arguments.Arg.{Arg}
 use Rattle.sb_call.specs.declared.arguments.Arg.TheVariants as arg
 use Rattle.sb_opcode.specs.Groups.{is_act, is_last}
-use Rattle.sb_opcode.specs.Options.{options_of, has, NEGATE, CLEAR, OR}
-use Rattle.sb_opcode.specs.Opcodes.{Opcode, Num}
+use Rattle.sb_opcode.specs.Options.{options_of, has, NEGATE, CLEAR, OR, FOLD, EXACT}
+use Rattle.sb_opcode.specs.Fragments.{has_front}
+use Rattle.sb_opcode.specs.Opcodes.{Opcode, Num, Text}
+use Rattle.sb_opcode.specs.Unpacking.{first_known}
+use Rattle.sb_opcode.specs.declared.opcodes.Seek.TheVariants.{Skip}
+use Rattle.sb_pattern.specs.declared.cells.Cell.{Cell}
 use Rattle.sb_opcode.specs.Meaning.{after_opcode, negate_if, action_of_rule}
 use Rattle.sb_rule.specs.declared.verdicts.Verdict.{Verdict}
 use Rattle.sb_rule.specs.declared.verdicts.Verdict.TheVariants.{NoRule}
@@ -92,6 +96,26 @@ abbrev pub begins_with_number : List ℕ → Bool
 begins_with_number (head ∷ param ∷ first ∷ second ∷ later) = head == 2 + CLEAR * 2 ^ 8
 begins_with_number _ = false
 
+-- a group of one opcode: that the string of a parameter begins with a fragment, folded, and has no unit after it if that is to be the whole
+abbrev pub front_opcode : ℕ → List Cell → Bool → Opcode
+front_opcode param cells whole =
+    record { kind = Text cells (Skip 0); param = param; options = options_of (if whole then CLEAR + FOLD + EXACT else CLEAR + FOLD) }
+
+-- packed words begin with such an opcode
+abbrev pub begins_with_front : List ℕ → Bool
+begins_with_front (head ∷ param ∷ first ∷ second ∷ later) = head == 5 + (CLEAR + FOLD) * 2 ^ 8 || head == 5 + (CLEAR + FOLD + EXACT) * 2 ^ 8
+begins_with_front _ = false
+
+-- packed words begin with an action without options
+abbrev pub begins_with_act : List ℕ → Bool
+begins_with_act (head ∷ param ∷ first ∷ second ∷ later) = head == 6
+begins_with_act _ = false
+
+-- an argument is a string that begins with a fragment; no number does
+abbrev pub is_front : Arg → List Cell → Bool → Bool
+is_front (arg.Num value) cells whole = false
+is_front (arg.Str units) cells whole = has_front cells whole units
+
 -- an argument is this number; no string is
 abbrev pub is_number : Arg → ℕ → Bool
 is_number (arg.Num value) number = value == number
@@ -117,3 +141,8 @@ walk args s (op ∷ ops) = if is_act op && not (is_failed s) then action_of_rule
 abbrev pub rule_walk : List Arg → Standing → List Opcode → Verdict
 rule_walk args s [] = NoRule
 rule_walk args s (op ∷ ops) = if is_act op then (if is_failed s then NoRule else action_of_rule (op ∷ [])) else rule_walk args (step args s op) ops
+
+-- packed words begin with an opcode that is a group of its own, which holds or does not, and after it come these words
+abbrev pub IsLone : List Arg → List ℕ → Bool → List ℕ → Type 0
+IsLone args words holds later =
+    (op : Opcode) × (Some (op, later) ≡ first_known words) × (is_act op ≡ false) × (step args Between op ≡ group_end holds)

@@ -1,8 +1,8 @@
 // Where a fragment is found in a string. The fragment's cells are packed words, and a position is what is left of the
 // string from there on.
-ghost use Rattle.std.specs.Prelude.{◌≡◌, false, map, option_map, None, Some};
+ghost use Rattle.std.specs.Prelude.{◌≡◌, true, false, is_some, map, option_map, None, Some};
 ghost use Rattle.sb_opcode.specs.Unpacking.{cell_of};
-ghost use Rattle.sb_opcode.specs.Fragments.{unit_fits, after_fragment, after_units, after_first, after_end, after_seek, at_end};
+ghost use Rattle.sb_opcode.specs.Fragments.{unit_fits, after_fragment, after_units, after_first, after_end, after_seek, at_end, has_front};
 
 use crate::opcodes::Seek;
 use sb_wide::to_ascii_uppercase;
@@ -21,6 +21,24 @@ fn unit_fits(folding: bool, cell: u64, unit: u16) -> bool
         return cell == ONE;
     }
     folding && to_ascii_uppercase(unit) == to_ascii_uppercase(cell as u16)
+}
+
+// The same folded. Most units that are not that of the cell are its letter in upper case.
+#[inline(always)]
+fn unit_fits_folded(cell: u64, unit: u16) -> bool
+    ensures { result ≡ unit_fits true (cell_of cell) unit }
+{
+    let unit = u64::from(unit);
+    if cell == unit {
+        return true;
+    }
+    if 97 <= cell && cell <= 122 {
+        return unit + 32 == cell;
+    }
+    if cell >= ONE {
+        return cell == ONE;
+    }
+    97 <= unit && unit <= 122 && unit - 32 == cell
 }
 
 // Whether the string is long enough and its unit at the place of the fragment's last cell fits. Names often begin alike, so this
@@ -73,6 +91,57 @@ fn after_fragment<'a>(folding: bool, cells: &[u64], units: &'a [u16]) -> Option<
         left = later_units;
     }
     Some(left)
+}
+
+// Whether a fragment fits a string from its beginning on, folded. It is no part of the code that calls it, which then needs less room.
+#[inline(never)]
+#[tactic(auto, using(crate::proofs::FrontLemmas::too_few, crate::proofs::FrontLemmas::front_alone))]
+fn fits_front(cells: &[u64], units: &[u16]) -> bool
+    ensures { result ≡ is_some (after_fragment true (map cell_of cells.now) units.now) }
+{
+    if cells.len() > units.len() || !may_stand(true, cells, units) {
+        return false;
+    }
+    let (front, _) = units.split_at(cells.len());
+    let mut wanted = cells;
+    let mut left = front;
+    while let [a, b, c, d, later_cells @ ..] = wanted {
+        let [p, q, r, s, later_units @ ..] = left else {
+            break;
+        };
+        if !unit_fits_folded(*a, *p)
+            || !unit_fits_folded(*b, *q)
+            || !unit_fits_folded(*c, *r)
+            || !unit_fits_folded(*d, *s)
+        {
+            return false;
+        }
+        wanted = later_cells;
+        left = later_units;
+    }
+    while let Some((cell, later_cells)) = wanted.split_first() {
+        let Some((unit, later_units)) = left.split_first() else {
+            return false;
+        };
+        if !unit_fits_folded(*cell, *unit) {
+            return false;
+        }
+        wanted = later_cells;
+        left = later_units;
+    }
+    true
+}
+
+// The same, and whether it has no unit after the fragment if that is to be the whole.
+#[inline(always)]
+#[tactic(auto, using(crate::proofs::FrontLemmas::whole_front, crate::proofs::FrontLemmas::whole_misses))]
+pub(crate) fn has_front(cells: &[u64], whole: bool, units: &[u16]) -> bool
+    ensures { result ≡ has_front (map cell_of cells.now) whole units.now }
+{
+    if whole && units.len() != cells.len() {
+        return false;
+    }
+    fits_front(cells, units)
 }
 
 fn after_units(count: u16, units: &[u16]) -> Option<&[u16]>

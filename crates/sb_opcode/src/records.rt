@@ -1,14 +1,15 @@
 // The records of opcodes in words.
-ghost use Rattle.std.specs.Prelude.{◌≡◌, ◌≤◌, ◌==◌, ◌∷◌, [], true, false, length, option_map, is_some, None, Some, MatchOption};
+ghost use Rattle.std.specs.Prelude.{◌≡◌, ◌≤◌, ◌%◌, ◌^◌, ◌==◌, ◌||◌, ◌∷◌, [], List, true, false, length, map, option_map, is_some, None, Some, MatchOption};
 ghost use Rattle.std.specs.List.{list_all};
-ghost use Rattle.sb_opcode.specs.Unpacking.{kind_part, seek_in, plain_kind, plain_record, text_record, first_record, is_cell_word, is_packed, opcodes_of, seek_known, action_known, kind_known, after_known, does_known, first_known, passed_known};
+ghost use Rattle.sb_call.specs.declared.arguments.Arg.{Arg};
+ghost use Rattle.sb_opcode.specs.Unpacking.{cell_of, kind_part, seek_in, plain_kind, plain_record, text_record, first_record, is_cell_word, is_packed, opcodes_of, seek_known, action_known, kind_known, after_known, does_known, first_known, passed_known};
 ghost use Rattle.sb_opcode.specs.Records.{kind_of, opcode_of, IsPassed};
-ghost use Rattle.sb_opcode.specs.Walking.{begins_with_number, number_opcode};
+ghost use Rattle.sb_opcode.specs.Walking.{Between, begins_with_act, begins_with_front, begins_with_number, front_opcode, number_opcode, rule_walk};
 
 use crate::opcodes::{OpKind, Opcode, Seek};
 use crate::options::Options;
 use bitflags::Flags;
-use sb_rule::Action;
+use sb_rule::{Action, Verdict};
 use std::marker::Model;
 
 // The number of the kind of text opcodes. That of actions is the only one above it.
@@ -16,6 +17,15 @@ const TEXT: u64 = 5;
 
 // The first word of an opcode that tests for one number and has CLEAR alone of the options.
 const NUMBER_HEAD: u64 = 0x202;
+
+// The first word of a text opcode that compares its fragment at the beginning of the string and has CLEAR and FOLD of the options.
+const FRONT_HEAD: u64 = 0xa05;
+
+// The same with EXACT.
+const WHOLE_HEAD: u64 = 0x1a05;
+
+// The first word of an action without options.
+const ACT_HEAD: u64 = 6;
 
 // The highest word of a cell, that of `*`.
 const LAST_CELL: u64 = 65537;
@@ -118,6 +128,13 @@ fn action_known(number: u64) -> Action
 }
 
 #[inline(always)]
+fn line_known(word: u64) -> u32
+    ensures { result ≡ word % 2 ^ 32 }
+{
+    (word & 0xffff_ffff) as u32
+}
+
+#[inline(always)]
 fn kind_known<'a>(kind: u64, first: u64, second: u64) -> OpKind<'a>
     ensures { kind_of result ≡ kind_known kind first second }
 {
@@ -132,7 +149,7 @@ fn kind_known<'a>(kind: u64, first: u64, second: u64) -> OpKind<'a>
         4 => OpKind::Mask(first),
         _ => OpKind::Act {
             action: action_known(first),
-            line: (second & 0xffff_ffff) as u32,
+            line: line_known(second),
         },
     }
 }
@@ -195,7 +212,7 @@ pub(crate) struct NumberTest {
 
 // The first opcode of packed words and the words after it, if it is a number test that is a group of its own.
 #[inline(always)]
-fn number_known(words: &[u64]) -> Option<(NumberTest, &[u64])>
+pub(crate) fn number_known(words: &[u64]) -> Option<(NumberTest, &[u64])>
     ensures { MatchOption result (begins_with_number words.now ≡ false) (λ r. Some (number_opcode r.0.param r.0.number, r.1.now) ≡ first_known words.now) }
 {
     match words {
@@ -206,6 +223,77 @@ fn number_known(words: &[u64]) -> Option<(NumberTest, &[u64])>
             let param = (*param & 0xffff_ffff) as u32;
             let number = *number;
             Some((NumberTest { param, number }, later))
+        }
+        _ => None,
+    }
+}
+
+// That the string of a parameter begins with these cells, folded, and has no unit after them if it is to be the whole: an opcode that
+// is a group of its own and is not negated.
+#[derive(Clone, Copy)]
+pub(crate) struct FrontTest<'a> {
+    pub param: u32,
+    pub cells: &'a [u64],
+    pub whole: bool,
+}
+
+// The first opcode of packed words and the words after it, if it is a test for the front of a string that is a group of its own.
+#[inline(always)]
+#[tactic(auto, using(crate::proofs::KnownLemmas::cells_there))]
+pub(crate) fn front_known<'a>(words: &'a [u64]) -> Option<(FrontTest<'a>, &'a [u64])>
+    requires { is_packed words.now ≡ true }
+    ensures { MatchOption result (begins_with_front words.now ≡ false)
+        (λ r. Some (front_opcode r.0.param (map cell_of r.0.cells.now) r.0.whole, r.1.now) ≡ first_known words.now) }
+{
+    match words {
+        [head, param, count, _, later @ ..] => {
+            if *head != FRONT_HEAD && *head != WHOLE_HEAD {
+                return None;
+            }
+            let param = (*param & 0xffff_ffff) as u32;
+            let (cells, later) = later.split_at(*count as usize);
+            let whole = *head == WHOLE_HEAD;
+            Some((
+                FrontTest {
+                    param,
+                    cells,
+                    whole,
+                },
+                later,
+            ))
+        }
+        _ => None,
+    }
+}
+
+// Whether packed words begin with a test for a number or for the front of a string that is a group of its own.
+#[inline(always)]
+pub(crate) fn begins_with_lone(words: &[u64]) -> bool
+    ensures { result ≡ (begins_with_number words.now || begins_with_front words.now) }
+{
+    match words {
+        [head, _, _, _, ..] => {
+            *head == NUMBER_HEAD || *head == FRONT_HEAD || *head == WHOLE_HEAD
+        }
+        _ => false,
+    }
+}
+
+// What the first opcode of packed words says if it is an action without options.
+#[inline(always)]
+pub(crate) fn act_known(words: &[u64]) -> Option<Verdict>
+    requires { is_packed words.now ≡ true }
+    ensures { MatchOption result (begins_with_act words.now ≡ false)
+        (λ verdict. (args : List Arg) → verdict ≡ rule_walk args Between (opcodes_of words.now)) }
+{
+    match words {
+        [head, _, first, second, ..] => {
+            if *head != ACT_HEAD {
+                return None;
+            }
+            let action = action_known(*first);
+            let line = line_known(*second);
+            Some(Verdict::Rule { line, action })
         }
         _ => None,
     }
@@ -261,16 +349,6 @@ impl<'a> Records<'a> {
         let (record, later) = first_known(self.rest)?;
         self.rest = later;
         Some(record)
-    }
-
-    // The next opcode, if it is a number test that is a group of its own. If it is not, nothing is passed.
-    #[inline(always)]
-    pub(crate) fn next_number(&mut self) -> Option<NumberTest>
-        ensures { MatchOption result (self.new ≡ self.old) (λ test. self.old ≡ number_opcode test.param test.number ∷ self.new) }
-    {
-        let (test, later) = number_known(self.rest)?;
-        self.rest = later;
-        Some(test)
     }
 
     #[tactic(auto, using(crate::proofs::KnownLemmas::no_passed))]

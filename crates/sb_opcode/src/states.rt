@@ -1,12 +1,14 @@
 // Where the walk over a code is within a rule, and what an opcode makes of it.
-ghost use Rattle.std.specs.Prelude.{◌≡◌, true};
+ghost use Rattle.std.specs.Prelude.{◌≡◌, true, map};
 ghost use Rattle.sb_call.specs.Arguments.{arg_at};
 ghost use Rattle.sb_opcode.specs.Groups.{is_last};
 ghost use Rattle.sb_opcode.specs.Records.{opcode_of};
 ghost use Rattle.sb_opcode.specs.Meaning.{negate_if};
-ghost use Rattle.sb_opcode.specs.Walking.{arg_from, standing_of, group_start, entered, looked_at, group_end, closed, step, is_failed, is_number, Between};
+ghost use Rattle.sb_opcode.specs.Walking.{arg_from, standing_of, group_start, entered, looked_at, group_end, closed, step, is_failed, is_front, is_number, Between};
+ghost use Rattle.sb_opcode.specs.Unpacking.{cell_of};
 
 use crate::effects::{Place, after_opcode};
+use crate::fragments::has_front;
 use crate::opcodes::Opcode;
 use crate::options::Options;
 use bitflags::Flags;
@@ -47,6 +49,17 @@ pub(crate) fn is_number(args: &[Arg], param: u32, number: u64) -> bool
     match place_at(args, param) {
         Place::Number(value) => value == number,
         Place::Units(_) => false,
+    }
+}
+
+// Whether the argument of a parameter is a string that begins with a fragment.
+#[inline(always)]
+pub(crate) fn is_front(args: &[Arg], param: u32, cells: &[u64], whole: bool) -> bool
+    ensures { result ≡ is_front (arg_at args.now param) (map cell_of cells.now) whole }
+{
+    match place_at(args, param) {
+        Place::Number(_) => false,
+        Place::Units(units) => has_front(cells, whole, units),
     }
 }
 

@@ -1,16 +1,16 @@
 // The walk over the opcodes of a code.
-ghost use Rattle.std.specs.Prelude.{◌≡◌, ◌≤◌, true, length};
+ghost use Rattle.std.specs.Prelude.{◌≡◌, ◌≤◌, true, false, length, MatchOption};
 ghost use Rattle.sb_call.specs.Arguments.{fits};
 ghost use Rattle.sb_opcode.specs.Groups.{after_action};
 ghost use Rattle.sb_opcode.specs.Meaning.{meaning};
 ghost use Rattle.sb_opcode.specs.Unpacking.{is_packed, opcodes_of};
-ghost use Rattle.sb_opcode.specs.Walking.{walk, rule_walk, Between};
+ghost use Rattle.sb_opcode.specs.Walking.{walk, rule_walk, begins_with_front, begins_with_number, Between, IsLone};
 
 use crate::codes::Code;
 use crate::laws::faultless_codes_are_whole;
 use crate::opcodes::OpKind;
-use crate::records::Records;
-use crate::states::{State, is_failed, is_number, step};
+use crate::records::{Records, act_known, begins_with_lone, front_known, number_known};
+use crate::states::{State, is_failed, is_front, is_number, step};
 use crate::verified::Verified;
 use sb_call::Arg;
 use sb_rule::Verdict;
@@ -86,18 +86,58 @@ fn walk_rule(records: &mut Records<'_>, args: &[Arg]) -> Verdict
     Verdict::NoRule
 }
 
-// What the first of the rules in packed words gives if it does not fail. The number tests that it begins with are compared at once.
+// The same for packed words. It is no part of the code for rules of lone tests, which needs no room for a state.
+#[inline(never)]
+fn walk_states(words: &[u64], args: &[Arg]) -> Verdict
+    requires { is_packed words.now ≡ true }
+    ensures { result ≡ rule_walk args.now Between (opcodes_of words.now) }
+{
+    walk_rule(&mut Records::of(words), args)
+}
+
+// Whether the first opcode of packed words holds, and the words after it, if it tests for a number or for the front of a string and is a
+// group of its own.
 #[inline(always)]
-#[tactic(auto, using(crate::proofs::RuleLemmas::number_met))]
+fn lone_known<'a>(words: &'a [u64], args: &[Arg]) -> Option<(bool, &'a [u64])>
+    requires { is_packed words.now ≡ true }
+    ensures { MatchOption result ((begins_with_number words.now ≡ false) × (begins_with_front words.now ≡ false)) (λ r. IsLone args.now words.now r.0 r.1.now) }
+{
+    if let Some((test, later)) = number_known(words) {
+        return Some((is_number(args, test.param, test.number), later));
+    }
+    let (test, later) = front_known(words)?;
+    Some((is_front(args, test.param, test.cells, test.whole), later))
+}
+
+// What the first of the rules in packed words gives if it does not fail. Tests for a number or for the front of a string that it begins with,
+// each a group of its own, are made at once, as is its action if nothing else comes before it.
+#[inline(never)]
+fn walk_lone(words: &[u64], args: &[Arg]) -> Verdict
+    requires { is_packed words.now ≡ true }
+    ensures { result ≡ rule_walk args.now Between (opcodes_of words.now) }
+{
+    let mut rest = words;
+    while let Some((holds, later)) = lone_known(rest, args) {
+        if !holds {
+            return Verdict::NoRule;
+        }
+        rest = later;
+    }
+    match act_known(rest) {
+        Some(verdict) => verdict,
+        None => walk_states(rest, args),
+    }
+}
+
+// The same, by the walk that is faster for what the rule begins with.
+#[inline(always)]
 pub(crate) fn walk_first_rule(words: &[u64], args: &[Arg]) -> Verdict
     requires { is_packed words.now ≡ true }
     ensures { result ≡ rule_walk args.now Between (opcodes_of words.now) }
 {
-    let mut records = Records::of(words);
-    while let Some(test) = records.next_number() {
-        if !is_number(args, test.param, test.number) {
-            return Verdict::NoRule;
-        }
+    if begins_with_lone(words) {
+        walk_lone(words, args)
+    } else {
+        walk_states(words, args)
     }
-    walk_rule(&mut records, args)
 }
