@@ -1,7 +1,6 @@
 -- Seats of the pool after targets were served with them.
-use Rattle.std.proofs.Common.{◌≡◌, refl, sym, subst, ap, ◌∙◌, ℕ, zero, suc, ◌+◌, ◌==◌, List, [], ◌∷◌, ◌++◌, length, length-append, Option, None, Some, inl, inr}
+use Rattle.std.proofs.Common.{◌≡◌, refl, sym, subst, ap, ◌∙◌, ℕ, zero, suc, ◌+◌, ◌==◌, List, [], ◌∷◌, ◌++◌, length, length-append, Option, None, Some, inl, inr, ◌⊎◌, cond, is_some, slice_get}
 use Rattle.std.specs.List.{AllZip}
-use Rattle.std.specs.Prelude.{◌⊎◌, cond, is_some, slice_get}
 use Rattle.sb_pool.specs.Pools.{AreSeats, IsSeatOf, PoolValue, seen}
 use Rattle.sb_pool.specs.Views.{fresh_view}
 use Rattle.sb_pool.specs.declared.protocol.PoolView.{PoolView}

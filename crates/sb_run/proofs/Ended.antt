@@ -1,17 +1,16 @@
 -- The seats with which a run is closed, and its report.
-use Rattle.std.proofs.Common.{◌≡◌, refl, sym, subst, ap, ◌∙◌, ℕ, true, List, [], ◌∷◌, map}
+use Rattle.std.proofs.Common.{◌≡◌, refl, sym, subst, ap, ◌∙◌, ℕ, true, List, [], ◌∷◌, map, IfOk, Result, Ok, Err}
 use Rattle.std.proofs.lemmas.List.Elements.{All-cons, All-head, All-nil, All-tail}
 use Rattle.std.specs.List.{All, AllZip}
 use Rattle.atomic_table.specs.Seated.{TableId}
 use Rattle.sb_actor.specs.Places.{is_finished}
-use Rattle.sb_actor.specs.WorkerStages.{WorkerAt, WorkerStage, Look, Count, End, Copy, Take, Answer, Give, Reply, Ack}
+use Rattle.sb_actor.specs.WorkerStages.{WorkerAt, WorkerStage, Look}
 use Rattle.sb_actor.specs.WorkerTable.{is_looking}
 use Rattle.sb_book.specs.Readiness.{IsReady}
 use Rattle.sb_shared.specs.Closing.{AreFinished, AreWorkers, IsClosed, IsThreadSeat, IsWorkerSeat}
 use Rattle.sb_shared.specs.Opening.{target_places}
 use Rattle.sb_core.specs.Runs.{IsSomeRun, finished}
 use Rattle.sb_book.specs.declared.reports.Report.{Report}
-use Rattle.std.specs.Prelude.{IfOk, Result, Ok, Err}
 use Rattle.sb_shared.specs.Runs.{AreLooking, ClosedRunsAreRuns}
 use Rattle.sb_shared.specs.Seats.{SharedValue, ThreadSeatValue, WorkerSeatValue, fresh_thread, fresh_worker}
 use Rattle.sb_shared.specs.declared.closings.ClosedRun.{ClosedRun}
@@ -87,14 +86,7 @@ workers_placed table key (t ∷ ts) (s ∷ seats) e =
 
 looks_at : (stage : WorkerStage) → is_looking stage ≡ true → stage ≡ Look
 looks_at Look e = refl
-looks_at Count e = absurd (cc)
-looks_at (End count) e = absurd (cc)
-looks_at (Copy count end words) e = absurd (cc)
-looks_at (Take taken) e = absurd (cc)
-looks_at (Answer taken) e = absurd (cc)
-looks_at (Give taken reply) e = absurd (cc)
-looks_at (Reply taken reply at) e = absurd (cc)
-looks_at (Ack taken reply) e = absurd (cc)
+looks_at _ e = absurd (cc)
 
 workers_look : (seats : List WorkerSeatValue) → All IsWork seats → AreLooking (map (λ (s : WorkerSeatValue). s.state) seats)
 workers_look [] kept = All-nil (λ (x : WorkerAt). x.stage ≡ Look)

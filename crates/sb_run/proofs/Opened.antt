@@ -1,8 +1,7 @@
 -- The seats with which a run is opened.
-use Rattle.std.proofs.Common.{◌≡◌, refl, sym, subst, ap, ◌∙◌, ℕ, zero, suc, ◌+◌, ◌<◌, true, List, [], ◌∷◌, ◌++◌, length, map, Some, arith}
+use Rattle.std.proofs.Common.{◌≡◌, refl, sym, subst, ap, ◌∙◌, ℕ, zero, suc, ◌+◌, ◌<◌, true, List, [], ◌∷◌, ◌++◌, length, map, Some, arith, slice_get, slice_index_or}
 use Rattle.std.proofs.lemmas.List.Elements.{All-cons, All-nil}
 use Rattle.std.specs.List.{All, range_with_len}
-use Rattle.std.specs.Prelude.{slice_get, slice_index_or}
 use Rattle.atomic_table.specs.Seated.{TableId}
 use Rattle.sb_actor.specs.WorkerStages.{WorkerAt}
 use Rattle.sb_actor.specs.WorkerTable.{is_looking}
@@ -57,14 +56,6 @@ fresh_numbered table key count n s e = numbered_from table key 0 count n s e ∙
   where
     zero_plus : (k : ℕ) → 0 + k ≡ k
     zero_plus k = omega arith
-
-pub places_length : (from count : ℕ) → length (range_with_len from count) ≡ count
-places_length from zero = refl
-places_length from (suc count) = ap suc (places_length (from + 1) count)
-
-pub map_length : {X Y : Type 0} (f : X → Y) (xs : List X) → length (map f xs) ≡ length xs
-map_length f [] = refl
-map_length f (x ∷ xs) = ap suc (map_length f xs)
 
 -- all that is known of a run that was opened
 module _ (policies : List Policy) (script : Script) (world : SharedValue) (keeper : KeeperValue) (threads : List ThreadSeatValue) (works : List WorkerSeatValue) (pool : PoolValue) (servers : List ServerAt) (last : ServerAt) where

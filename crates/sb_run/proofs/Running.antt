@@ -1,5 +1,5 @@
 -- A run from its start to its end, and one of a script without targets.
-use Rattle.std.proofs.Common.{◌≡◌, refl, sym, subst, ap, ◌∙◌, ℕ, zero, suc, ◌<◌, true, List, [], length, map, None, arith}
+use Rattle.std.proofs.Common.{◌≡◌, refl, sym, subst, ap, ◌∙◌, ℕ, zero, suc, ◌<◌, List, [], length, map, None, arith}
 use Rattle.std.specs.List.{All, AllZip}
 use Rattle.sb_book.specs.Histories.{setting_of}
 use Rattle.sb_book.specs.Readiness.{IsReady}
@@ -7,7 +7,7 @@ use Rattle.sb_core.specs.Runs.{CanRun, IsSomeRun, ended, ran}
 use Rattle.sb_core.specs.Threads.{first_unfinished}
 use Rattle.sb_core.specs.Worlds.{start_threads, start_world}
 use Rattle.sb_rule.specs.declared.policies.Policy.{Policy}
-use Rattle.sb_shared.specs.Closing.{IsThreadSeat}
+use Rattle.sb_shared.specs.Closing.{IsKeeper, IsThreadSeat}
 use Rattle.sb_shared.specs.Opening.{thread_places}
 use Rattle.sb_shared.specs.Origins.{setting_in}
 use Rattle.sb_shared.specs.Seats.{KeeperValue, ThreadSeatValue, fresh_thread}
@@ -16,7 +16,6 @@ use Rattle.sb_statements.specs.declared.scripts.Script.{Script}
 use Rattle.sb_task.specs.Contexts.{ContextAt, IsContext}
 use Rattle.sb_task.specs.Servers.{IsSameServer, IsServer, ServerAt}
 use Rattle.sb_task.specs.Threads.{HasEnded}
-use Rattle.sb_run.specs.Crews.{IsKeeperOf}
 use Rattle.sb_run.specs.Endings.{CanEnd}
 use Rattle.sb_run.specs.Openings.{IsOpened, OpenedAt, worker_homes}
 use Rattle.sb_run.proofs.Crewed.{pairs_length, still_seats}
@@ -43,15 +42,15 @@ module _ (policies : List Policy) (script : Script) (judges : List Policy) (x : 
   pub all_servers_ready : All (IsServer (context_of script judges x)) x.servers
   all_servers_ready = servers_ready (context_of script judges x) (worker_homes x.world) x.servers x.last refl is.seats
 
-  pub keeper_ready : IsKeeperOf (context_of script judges x) x.keeper
+  pub keeper_ready : IsKeeper x.world x.keeper
   keeper_ready = record {
-    own = ap (λ (k : KeeperValue). k.table) is.its_keeper;
+    table = ap (λ (k : KeeperValue). k.table) is.its_keeper;
     key = ap (λ (k : KeeperValue). k.key) is.its_keeper;
-    none = ap (λ (k : KeeperValue). k.parts) is.its_keeper;
+    empty = ap (λ (k : KeeperValue). k.parts) is.its_keeper;
   }
 
   module _ (finished : List ThreadSeatValue) (back : List ServerAt) (keeper : KeeperValue) (all : AllZip HasEnded x.threads finished) (served : AllZip IsSameServer x.servers back)
-      (kept : IsKeeperOf (context_of script judges x) keeper) where
+      (kept : IsKeeper x.world keeper) where
     pairs : AllZip HasEnded (map (fresh_thread x.world.table x.world.key) (thread_places x.world.key.script.value.targets)) finished
     pairs = subst (λ (ts : List ThreadSeatValue). AllZip HasEnded ts finished) is.its_threads all
 
@@ -60,7 +59,7 @@ module _ (policies : List Policy) (script : Script) (judges : List Policy) (x : 
 
     pub can_end : CanEnd (record { world = x.world; keeper = keeper; threads = finished; pool = x.pool; servers = back; last = x.last })
     can_end = record {
-      its_keeper = (kept.own, kept.key, kept.none);
+      its_keeper = kept;
       its_threads = record {
         each = threads_own x.world (thread_places x.world.key.script.value.targets) finished pairs;
         places = threads_placed x.world (thread_places x.world.key.script.value.targets) finished pairs;

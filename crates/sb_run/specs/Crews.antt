@@ -1,11 +1,11 @@
 -- The threads of a run, as the one that starts them has them.
-use Rattle.std.specs.Prelude.{◌≡◌, ⊤, List, []}
+use Rattle.std.specs.Prelude.{◌≡◌, ⊤, List}
 use Rattle.std.specs.List.{All, AllZip}
-use Rattle.sb_shared.specs.Closing.{IsThreadSeat}
-use Rattle.sb_shared.specs.Seats.{KeeperValue, ThreadSeatValue}
+use Rattle.sb_shared.specs.Closing.{IsKeeper, IsThreadSeat}
+use Rattle.sb_shared.specs.Seats.{IsSameThread, KeeperValue, ThreadSeatValue}
 use Rattle.sb_task.specs.Contexts.{ContextAt, IsContext}
 use Rattle.sb_task.specs.Servers.{IsSameServer, IsServer, ServerAt}
-use Rattle.sb_task.specs.Threads.{HasEnded, IsSameThread}
+use Rattle.sb_task.specs.Threads.{HasEnded}
 use Rattle.sb_run.specs.declared.promises.ServerHost.{ServerHost}
 use Rattle.sb_run.specs.declared.promises.ServerHost.TheVariants as server
 use Rattle.sb_run.specs.declared.promises.ThreadHost.{ThreadHost}
@@ -22,21 +22,15 @@ IsServerHostOf x (server.Thread h) = h.promise.server.value ≡ x
 IsServerHostOf x (server.Caller y) = IsSameServer x y
 IsServerHostOf x server.Stopped = ⊤
 
--- the caller's seat is of the shared world, and has no part of it
-pub record IsKeeperOf (x : ContextAt) (k : KeeperValue) : Type 0 where
-  pub own : k.table ≡ x.world.table
-  pub key : k.key ≡ x.world.key
-  pub none : k.parts ≡ []
-
 -- a run can begin
 pub record CanRun (x : ContextAt) (threads : List ThreadSeatValue) (servers : List ServerAt) (keeper : KeeperValue) : Type 0 where
   pub context : IsContext x
   pub its_threads : All (IsThreadSeat x.world) threads
   pub its_servers : All (IsServer x) servers
-  pub its_keeper : IsKeeperOf x keeper
+  pub its_keeper : IsKeeper x.world keeper
 
 -- it has ended: each thread has, the seats of the pool are what they were, and the caller's seat is still of the world
 pub record HasRun (x : ContextAt) (threads : List ThreadSeatValue) (servers : List ServerAt) (ended : List ThreadSeatValue) (back : List ServerAt) (keeper : KeeperValue) : Type 0 where
   pub all_ended : AllZip HasEnded threads ended
   pub served : AllZip IsSameServer servers back
-  pub its_keeper : IsKeeperOf x keeper
+  pub its_keeper : IsKeeper x.world keeper

@@ -1,7 +1,7 @@
 -- The end of a run by threads.
 use Rattle.std.specs.Prelude.{◌≡◌, ◌<◌, [], ◌∷◌, ◌++◌, length}
 use Rattle.sb_pool.specs.Pools.{AreSeats}
-use Rattle.sb_shared.specs.Closing.{AreFinished, AreThreads}
+use Rattle.sb_shared.specs.Closing.{AreFinished, AreThreads, IsKeeper}
 use Rattle.sb_shared.specs.Origins.{setting_in}
 use Rattle.sb_shared.specs.Runs.{IsRun}
 use Rattle.sb_shared.specs.declared.closings.ClosedRun.{ClosedRun}
@@ -10,7 +10,7 @@ use Rattle.sb_run.specs.Openings.{OpenedAt, worker_homes}
 
 -- Each thread of the script has ended, and all seats came back: those of the threads in order, and those of the pool, out of which no work is
 pub record CanEnd (x : OpenedAt) : Type 0 where
-  pub its_keeper : (x.keeper.table ≡ x.world.table) × (x.keeper.key ≡ x.world.key) × (x.keeper.parts ≡ [])
+  pub its_keeper : IsKeeper x.world x.keeper
   pub its_threads : AreThreads x.world x.threads
   pub finished : AreFinished x.world.key x.threads
   pub some : 0 < length x.servers

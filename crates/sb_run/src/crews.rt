@@ -1,8 +1,8 @@
 // The threads of a run: they are started, the caller has what could not be started, and all are joined.
 ghost use Rattle.std.specs.Prelude.{◌≡◌, IfOk};
 ghost use Rattle.std.specs.List.{All, AllZip};
-ghost use Rattle.sb_run.specs.Crews.{CanRun, HasRun, IsKeeperOf};
-ghost use Rattle.sb_shared.specs.Closing.{IsThreadSeat};
+ghost use Rattle.sb_run.specs.Crews.{CanRun, HasRun};
+ghost use Rattle.sb_shared.specs.Closing.{IsKeeper, IsThreadSeat};
 ghost use Rattle.sb_task.specs.Servers.{IsSameServer, IsServer};
 ghost use Rattle.sb_task.specs.Threads.{HasEnded};
 
@@ -36,10 +36,10 @@ fn look_after<J: Judge, G: Gate, R: Wait>(
 ) -> Result<(), NoMemory>
     requires threads { All (IsThreadSeat context.now.world) threads.old.items }
     requires servers { All (IsServer context.now) servers.old.items }
-    requires keeper { IsKeeperOf context.now keeper.old }
+    requires keeper { IsKeeper context.now.world keeper.old }
     ensures threads { threads.new.items ≡ threads.old.items }
     ensures servers { servers.new.items ≡ servers.old.items }
-    ensures keeper { IsKeeperOf context.now keeper.new }
+    ensures keeper { IsKeeper context.now.world keeper.new }
 {
     let serves = is_any_with_caller(servers);
     for _ in rt.forever() {
@@ -70,10 +70,10 @@ fn work<'s, 'e, J: Judge, G: Gate, R: Threads + Wait + Sync>(
 ) -> Result<(Vec<ThreadSeat>, Vec<Server>), NoMemory>
     requires threads { All (IsThreadSeat context.now.world) threads.items }
     requires servers { All (IsServer context.now) servers.items }
-    requires keeper { IsKeeperOf context.now keeper.old }
+    requires keeper { IsKeeper context.now.world keeper.old }
     ensures ended { IfOk result (λ r. AllZip HasEnded threads.items r.0.items) }
     ensures served { IfOk result (λ r. AllZip IsSameServer servers.items r.1.items) }
-    ensures keeper { IsKeeperOf context.now keeper.new }
+    ensures keeper { IsKeeper context.now.world keeper.new }
 {
     let mut flags = Flags::new(flags);
     let mut threads = start_threads(scope, rt, alloc, context, &mut flags, running, threads)?;
@@ -144,10 +144,10 @@ pub(crate) fn run_crew<J: Judge, G: Gate, R: Threads + Wait + Sync>(
 ) -> Result<(Vec<ThreadSeat>, Vec<Server>, Keeper), NoMemory>
     requires threads { All (IsThreadSeat context.now.world) threads.items }
     requires servers { All (IsServer context.now) servers.items }
-    requires keeper { IsKeeperOf context.now keeper }
+    requires keeper { IsKeeper context.now.world keeper }
     ensures ended { IfOk result (λ r. AllZip HasEnded threads.items r.0.items) }
     ensures served { IfOk result (λ r. AllZip IsSameServer servers.items r.1.items) }
-    ensures keeper { IfOk result (λ r. IsKeeperOf context.now r.2) }
+    ensures keeper { IfOk result (λ r. IsKeeper context.now.world r.2) }
 {
     context.establish_kept();
     let flags = make_flags(alloc, threads.len() + servers.len())?;

@@ -1,10 +1,9 @@
 // The end of a run: the pool and the shared world are closed, and the report is made.
-ghost use Rattle.std.specs.Prelude.{◌≡◌, [], map, true, IfOk};
-ghost use Rattle.std.specs.List.{All};
+ghost use Rattle.std.specs.Prelude.{◌≡◌, map, IfOk, All};
 ghost use Rattle.sb_core.specs.Runs.{IsSomeRun};
 ghost use Rattle.sb_run.specs.Endings.{CanEnd, HasClosed};
 ghost use Rattle.sb_run.specs.Openings.{worker_homes};
-ghost use Rattle.sb_shared.specs.Closing.{AreFinished, AreThreads};
+ghost use Rattle.sb_shared.specs.Closing.{AreFinished, AreThreads, IsKeeper};
 ghost use Rattle.sb_shared.specs.Origins.{setting_in};
 ghost use Rattle.sb_task.specs.Works.{IsWork, home_of};
 
@@ -40,7 +39,7 @@ fn close_run(
     threads: Vec<ThreadSeat>,
     works: Vec<Work>,
 ) -> Result<ClosedRun, NoMemory>
-    requires keeper { (keeper.table ≡ world.table) × (keeper.key ≡ world.key) × (keeper.parts ≡ []) }
+    requires keeper { IsKeeper world keeper }
     requires threads { AreThreads world threads.items }
     requires finished { AreFinished world.key threads.items }
     requires homes { map home_of works.items ≡ worker_homes world }

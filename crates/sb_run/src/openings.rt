@@ -1,6 +1,5 @@
 // A run before its first step.
-ghost use Rattle.std.specs.Prelude.{◌≡◌, ◌<◌, ◌≤◌, ◌++◌, ◌∷◌, [], true, length, map, IfOk};
-ghost use Rattle.std.specs.List.{All};
+ghost use Rattle.std.specs.Prelude.{◌≡◌, ◌<◌, ◌≤◌, ◌++◌, ◌∷◌, [], true, length, map, IfOk, All};
 ghost use Rattle.sb_actor.specs.WorkerTable.{is_looking};
 ghost use Rattle.sb_pool.specs.Pools.{AreNumbered, AreSeats};
 ghost use Rattle.sb_run.specs.Openings.{IsOpened};

@@ -1,6 +1,5 @@
 // The end of a run: the seats of the pool come together again, and the pool is closed.
-ghost use Rattle.std.specs.Prelude.{◌≡◌, ◌<◌, ◌++◌, ◌∷◌, [], length, map};
-ghost use Rattle.std.specs.List.{All};
+ghost use Rattle.std.specs.Prelude.{◌≡◌, ◌<◌, ◌++◌, ◌∷◌, [], length, map, All};
 ghost use Rattle.sb_pool.specs.Pools.{AreNumbered, AreSeats, IsSeatOf, seen};
 ghost use Rattle.sb_run.specs.Pooling.{with_seats};
 ghost use Rattle.sb_task.specs.Works.{home_of, number_of};

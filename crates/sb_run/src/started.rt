@@ -59,7 +59,7 @@ impl StartedThread {
         context.establish_kept();
         match &mut self.host {
             ThreadHost::Caller(seat) => {
-                if seat.is_finished(context.script) {
+                if seat.is_finished() {
                     return false;
                 }
                 seat.step(context.world, context.script);
@@ -92,7 +92,7 @@ impl StartedThread {
                 ThreadReturn::Back(_) | ThreadReturn::Stopped => Err(NoMemory),
             },
             ThreadHost::Caller(seat) => {
-                if !seat.is_finished(context.script) {
+                if !seat.is_finished() {
                     return Err(NoMemory);
                 }
                 Ok(seat)

@@ -100,7 +100,4 @@ module _ (laws : Laws) (key : Origin) (slots id : â„•) (v : View) (out : List (â
   may_step (act.Load t word) e = may_load t word e
   may_step (act.Store t word x) e = may_store t word x e
   may_step (act.Exchange t word from to) e = may_exchange t word from to e
-  may_step act.Take e = tt
-  may_step act.Answer e = tt
-  may_step act.Give e = tt
-  may_step act.Idle e = tt
+  may_step _ e = tt

@@ -1,10 +1,8 @@
 -- The table as it is opened.
-use Rattle.std.proofs.Common.{◌≡◌, ◌∙◌, refl, ap, subst, sym, inl, ℕ, zero, suc, ◌/◌, ◌%◌, ◌<◌, ◌≤◌, Bool, true, false, ◌&&◌, eqb, cond, List, [], ◌∷◌, map, length, get_or, slice_get, Some, arith}
-use Rattle.std.specs.Prelude.{nat_lt, slice_index}
+use Rattle.std.proofs.Common.{◌≡◌, ◌∙◌, refl, ap, subst, sym, inl, ℕ, zero, suc, ◌/◌, ◌%◌, ◌<◌, ◌≤◌, Bool, true, false, ◌&&◌, eqb, cond, List, [], ◌∷◌, map, length, get_or, slice_get, Some, arith, nat_lt, slice_index}
 use Rattle.std.proofs.lemmas.Bool.Decides.{nat_tests}
 use Rattle.std.proofs.lemmas.List.{get_or_past}
 use mathlib.Core.Option as raw
-use mathlib.Core.Option.{some-injective, some-ne-none}
 use Rattle.sb_actor.specs.Moves.{at}
 use Rattle.sb_book.specs.Histories.{History, new_history, setting_of}
 use Rattle.sb_book.specs.Readiness.{IsReady}

@@ -1,9 +1,8 @@
 -- What the closed table and the seats tell is the world at the end.
-use Rattle.std.proofs.Common.{◌≡◌, ◌∙◌, refl, ap, subst, sym, ℕ, zero, suc, ◌+◌, ◌*◌, ◌/◌, ◌%◌, ◌<◌, ◌++◌, Bool, true, eq-eqb, cond, List, [], ◌∷◌, map, length, get_or, slice_get, Option, None, Some, arith}
+use Rattle.std.proofs.Common.{◌≡◌, ◌∙◌, refl, ap, subst, sym, ℕ, zero, suc, ◌+◌, ◌*◌, ◌/◌, ◌%◌, ◌<◌, ◌++◌, Bool, true, eq-eqb, cond, List, [], ◌∷◌, map, length, get_or, slice_get, Option, None, Some, arith, slice_index}
 use Rattle.std.proofs.lemmas.List.{length-map}
 use Rattle.std.proofs.lemmas.List.FromFn.{get_or-map-range_with_len, length-range_with_len}
 use Rattle.std.specs.List.{All, range_with_len}
-use Rattle.std.specs.Prelude.{slice_index}
 use mathlib.Core.List.{map-map}
 use mathlib.Core.Option as raw
 use mathlib.Core.Option.{some-injective}

@@ -1,5 +1,5 @@
 -- The first seat is cut, seats are taken in, and the table is closed.
-use Rattle.std.proofs.Common.{◌≡◌, ◌≢◌, ◌∙◌, refl, ap, subst, sym, ⊎_elim, ℕ, suc, ◌+◌, ◌<◌, Bool, true, false, eqb, eq-eqb, ne_eqb, cond, ◌&&◌, List, [], ◌∷◌, length, length-set, set, get_or, Some, arith}
+use Rattle.std.proofs.Common.{◌≡◌, ◌≢◌, ◌∙◌, refl, ap, subst, sym, ⊎_elim, ℕ, suc, ◌+◌, ◌<◌, Bool, true, false, eqb, eq-eqb, ne_eqb, cond, ◌&&◌, List, [], ◌∷◌, length, length-set, set, get_or, Some, arith, slice_index}
 use Rattle.std.proofs.lemmas.Bool.{and_parts}
 use Rattle.std.proofs.lemmas.Bool.Decides.{nat_tests}
 use mathlib.Core.Option as raw
@@ -7,7 +7,6 @@ use mathlib.Core.Option.{some-injective, some-ne-none}
 use lib.ListN.{get_elem?}
 use Rattle.atomic_table.specs.Table.{Splits, Joins, Final, Seen}
 use Rattle.atomic_table.proofs.Lists.{at_set, set_else}
-use Rattle.std.specs.Prelude.{slice_index}
 use Rattle.sb_actor.specs.Moves.{at}
 use Rattle.sb_core.specs.Words.{words_of}
 use Rattle.sb_statements.specs.declared.schedules.Actor.{Actor}

@@ -1,7 +1,6 @@
 -- One list cut into several, and lists joined to one.
-use Rattle.std.proofs.Common.{◌≡◌, ◌∙◌, ◌⊎◌, inl, inr, ⊎_elim, refl, ap, sym, ℕ, zero, suc, ◌+◌, ◌++◌, List, [], ◌∷◌, map, length, arith}
+use Rattle.std.proofs.Common.{◌≡◌, ◌∙◌, ◌⊎◌, inl, inr, ⊎_elim, refl, ap, sym, ℕ, zero, suc, ◌+◌, ◌++◌, List, [], ◌∷◌, map, length, arith, flat_map}
 use Rattle.std.proofs.lemmas.List.{drop_at, length-map, map-append, take_at}
-use Rattle.std.specs.List.{flat_map}
 use mathlib.Core.Option as raw
 use mathlib.Core.Option.{some-injective, some-ne-none}
 use lib.ListN.{get_elem?}

@@ -1,7 +1,7 @@
 -- What the memory of a worker's seat holds after each step.
 use Rattle.std.proofs.Common.{◌≡◌, ◌≢◌, ◌∙◌, refl, ap, subst, sym, ℕ, Bool, true, false, eqb, eq-eqb, ne_eqb, List, [], ◌∷◌, map, Option, None, Some, is_some}
 use Rattle.atomic_table.specs.Table.{Step, rest}
-use Rattle.sb_actor.specs.WorkerStages.{WorkerAt, WorkerStage, Look, Count, End, Copy, Take, Answer, Give, Reply, Ack}
+use Rattle.sb_actor.specs.WorkerStages.{WorkerAt, WorkerStage, Take, Answer, Give}
 use Rattle.sb_actor.specs.WorkerTable.{after_take, worker_plan, worker_row, worker_after, taken_in}
 use Rattle.sb_actor.specs.declared.acts.Act.{Act}
 use Rattle.sb_actor.specs.declared.acts.Act.TheVariants as act
@@ -28,21 +28,13 @@ abbrev Facts : Act → WorkerStage → Type 0
 Facts act.Take stage = (taken : Copied) × (stage ≡ Take taken)
 Facts act.Answer stage = (taken : Copied) × (stage ≡ Answer taken)
 Facts act.Give stage = has_turn stage ≡ true
-Facts (act.Load t word) stage = Unit {0}
-Facts (act.Store t word value) stage = Unit {0}
-Facts (act.Exchange t word from to) stage = Unit {0}
-Facts act.Idle stage = Unit {0}
+Facts _ stage = Unit {0}
 
 facts_at : (x : WorkerAt) (stage : WorkerStage) → Facts (worker_row x stage).step stage
-facts_at x Look = tt
-facts_at x Count = tt
-facts_at x (End count) = tt
-facts_at x (Copy count end words) = tt
 facts_at x (Take taken) = (taken, refl)
 facts_at x (Answer taken) = (taken, refl)
 facts_at x (Give taken reply) = refl
-facts_at x (Reply taken reply at) = tt
-facts_at x (Ack taken reply) = tt
+facts_at x _ = tt
 
 facts : (x : WorkerAt) (a : Act) → worker_plan x ≡ a → Facts a x.stage
 facts x a plan = subst (λ z. Facts z x.stage) plan (facts_at x x.stage)

@@ -1,12 +1,10 @@
 -- Lists that grow by one element at a time.
-use Rattle.std.proofs.Common.{◌≡◌, ◌∙◌, refl, ap, subst, sym, ℕ, zero, suc, ◌+◌, ◌<◌, ◌≤◌, ◌++◌, List, [], ◌∷◌, map, drop, take, get_or, length, length-append, append_assoc, slice_get, Option, None, Some, arith}
+use Rattle.std.proofs.Common.{◌≡◌, ◌∙◌, refl, ap, subst, sym, ℕ, zero, suc, ◌+◌, ◌<◌, ◌≤◌, ◌++◌, List, [], ◌∷◌, map, drop, take, get_or, length, length-append, append_assoc, slice_get, Option, None, Some, arith, ◌↔◌, IsSome, option_to_list}
 use Rattle.std.proofs.lemmas.List.FromFn.{map-range_with_len_more}
 use mathlib.Core.Option.{some, some-injective, some-ne-none}
 use lib.ListN.{get_elem?}
 use Rattle.std.proofs.lemmas.List.{append-nil, drop_more, get_or_at, map-append}
 use Rattle.std.specs.List.{All, range_with_len}
-use Rattle.std.specs.Prelude.{◌↔◌, IsSome}
-use Rattle.std.specs.Option.{option_to_list}
 use Rattle.sb_statements.specs.Actors.{thread_count}
 use Rattle.sb_statements.specs.declared.scripts.TargetScript.{TargetScript}
 use Rattle.sb_shared.specs.Opening.{places_from}

@@ -1,7 +1,5 @@
 -- Room for the result of a statement.
-use Rattle.std.proofs.Common.{◌<◌, ◌≤◌, ℕ, List, [], ◌∷◌, ◌++◌, length, arith, length-append}
-use Rattle.std.specs.Option.{option_to_list}
-use Rattle.std.specs.Prelude.{Option, None, Some, IfSome}
+use Rattle.std.proofs.Common.{◌<◌, ◌≤◌, ℕ, List, [], ◌∷◌, ◌++◌, length, arith, length-append, option_to_list, Option, None, Some, IfSome}
 use Rattle.sb_statements.specs.declared.results.StmtResult.{StmtResult}
 
 -- a list in which its results and that of the statement that ended fit has room for it

@@ -1,7 +1,6 @@
 -- Where actors stand after a step.
-use Rattle.std.proofs.Common.{◌≡◌, ◌≢◌, ◌∙◌, refl, ap, subst, sym, ℕ, zero, suc, map, ◌<◌, ◌++◌, Bool, true, false, eqb, List, [], ◌∷◌, length, set, get_or, get_or-set_same, Option, None, Some, IfSome, is_some, if◌then◌else◌, slice_index, arith}
+use Rattle.std.proofs.Common.{◌≡◌, ◌≢◌, ◌∙◌, refl, ap, subst, sym, ℕ, zero, suc, map, ◌<◌, ◌++◌, Bool, true, false, eqb, List, [], ◌∷◌, length, set, get_or, get_or-set_same, Option, None, Some, IfSome, is_some, if◌then◌else◌, slice_index, arith, option_to_list}
 use Rattle.std.proofs.lemmas.Bool.Decides.{nat_tests}
-use Rattle.std.specs.Option.{option_to_list}
 use Rattle.sb_actor.specs.ThreadTable.{thread_after}
 use Rattle.sb_actor.specs.WorkerStages.{WorkerAt}
 use Rattle.sb_actor.specs.WorkerTable.{worker_plan, worker_after}
@@ -60,28 +59,15 @@ pub on_worker_word : (s : SharedAt) (t : ℕ) (x : WorkerAt) (a : Act) → is_on
 on_worker_word s t x (act.Load u word) on = refl
 on_worker_word s t x (act.Store u word v) on = refl
 on_worker_word s t x (act.Exchange u word from to) on = refl
-on_worker_word s t x act.Take on = absurd cc
-on_worker_word s t x act.Answer on = absurd cc
-on_worker_word s t x act.Give on = absurd cc
-on_worker_word s t x act.Idle on = absurd cc
+on_worker_word s t x _ on = absurd cc
 
 pub word_turn : (s : SharedAt) (a : Act) → (on_word s a).shared.turn ≡ s.turn
 word_turn s (act.Load u word) = refl
-word_turn s (act.Store u word v) = refl
-word_turn s (act.Exchange u word from to) = refl
-word_turn s act.Take = refl
-word_turn s act.Answer = refl
-word_turn s act.Give = refl
-word_turn s act.Idle = refl
+word_turn s _ = refl
 
 pub word_book : (s : SharedAt) (a : Act) → (on_word s a).shared.book ≡ s.book
 word_book s (act.Load u word) = refl
-word_book s (act.Store u word v) = refl
-word_book s (act.Exchange u word from to) = refl
-word_book s act.Take = refl
-word_book s act.Answer = refl
-word_book s act.Give = refl
-word_book s act.Idle = refl
+word_book s _ = refl
 
 -- what all share after a step on a word
 pub shared_after : (script : Script) (w : WorldAt) (a : Actor) → is_on_word (plan_of script w a) ≡ true → (step script w a).shared ≡ (on_word w.shared (plan_of script w a)).shared

@@ -1,10 +1,9 @@
 -- Steps on the turn keep the rule of the table.
-use Rattle.std.proofs.Common.{◌≡◌, ◌≢◌, ◌∙◌, refl, ap, subst, sym, ℕ, ◌+◌, ◌*◌, ◌<◌, ◌++◌, Bool, true, false, eqb, eq-eqb, ne_eqb, List, [], ◌∷◌, map, length-set, set, get_or, get_or-set_same, get_or-set_other, Option, None, Some, is_none, if◌then◌else◌, arith}
-use Rattle.std.specs.Prelude.{MatchBool}
+use Rattle.std.proofs.Common.{◌≡◌, ◌≢◌, ◌∙◌, refl, ap, subst, sym, ℕ, ◌+◌, ◌*◌, ◌<◌, ◌++◌, Bool, true, false, eqb, eq-eqb, ne_eqb, List, [], ◌∷◌, map, length-set, set, get_or, get_or-set_same, get_or-set_other, Option, None, Some, is_none, if◌then◌else◌, arith, MatchBool}
 use Rattle.std.proofs.lemmas.Bool.Decides.{nat_tests}
 use Rattle.std.proofs.lemmas.List.{set-get_or}
 use mathlib.Core.Option as raw
-use mathlib.Core.Option.{some-injective, some-ne-none}
+use mathlib.Core.Option.{some-ne-none}
 use prog.Atomic.{either}
 use lib.ListN.{get_elem?}
 use Rattle.atomic_table.specs.Table.{State, Act as TableAct, keeps, takes, gives, Allows, Valid, stepped, carried_after, step as made}

@@ -1,6 +1,5 @@
 -- Seats are made of one and taken in by one; and what is known once all were taken in.
-use Rattle.std.specs.Prelude.{◌≡◌, ◌<◌, ℕ, max, true, None, Some, List, [], ◌∷◌, ◌++◌, map, slice_index}
-use Rattle.std.specs.List.{All}
+use Rattle.std.specs.Prelude.{◌≡◌, ◌<◌, ℕ, max, true, None, Some, List, [], ◌∷◌, ◌++◌, map, slice_index, All}
 use mathlib.Core.Option as raw
 use lib.ListN.{get_elem?}
 use Rattle.sb_actor.specs.Moves.{at}
@@ -16,7 +15,7 @@ use Rattle.sb_shared.specs.Opening.{target_places, thread_places}
 use Rattle.sb_shared.specs.Origins.{setting_in, start_of}
 use Rattle.sb_shared.specs.Parts.{actor_in, part_of}
 use Rattle.sb_shared.specs.Rule.{Slot, spot}
-use Rattle.sb_shared.specs.Seats.{SharedValue, ThreadSeatValue, WorkerSeatValue}
+use Rattle.sb_shared.specs.Seats.{KeeperValue, SharedValue, ThreadSeatValue, WorkerSeatValue}
 use Rattle.sb_shared.specs.declared.closings.ClosedRun.{ClosedRun}
 use Rattle.sb_shared.specs.declared.views.Origin.{Origin}
 use Rattle.sb_shared.specs.declared.views.Part.{Part}
@@ -66,6 +65,12 @@ pub record Ends (key : Origin) (parts : List Part) (rows : List ℕ) (slot : Slo
   pub words : (t c j : ℕ) → t < 8 → c < 8 → j < 65 → slice_index rows (spot t c j) ≡ slice_index (words_of world.shared.words t) (at c j)
   pub book : world.shared.turn ≡ None → slot ≡ Some world.shared.book
   pub stand : (n : ℕ) (p : Part) → get_elem? parts n ≡ raw.some p → p ≡ part_of world (actor_in p)
+
+-- the seat that takes in all others, and has no part yet
+pub record IsKeeper (world : SharedValue) (keeper : KeeperValue) : Type 0 where
+  pub table : keeper.table ≡ world.table
+  pub key : keeper.key ≡ world.key
+  pub empty : keeper.parts ≡ []
 
 -- the seat of a worker of this world that does not have the turn
 pub record IsWorkerSeat (world : SharedValue) (s : WorkerSeatValue) : Type 0 where

@@ -1,6 +1,5 @@
 -- The parts of a world that seats hold: each is where one actor is. And what a step on a word does to a part.
-use Rattle.std.specs.Prelude.{ℕ, ◌+◌, max, Bool, true, false, ◌==◌, ◌&&◌, List, [], ◌++◌, map, Option, None, Some, if◌then◌else◌}
-use Rattle.std.specs.Option.{option_to_list}
+use Rattle.std.specs.Prelude.{ℕ, ◌+◌, max, Bool, true, false, ◌==◌, ◌&&◌, List, [], ◌++◌, map, Option, None, Some, if◌then◌else◌, option_to_list}
 use Rattle.sb_actor.specs.ThreadTable.{thread_plan, thread_after}
 use Rattle.sb_actor.specs.WorkerTable.{worker_plan, worker_after, taken_in}
 use Rattle.sb_actor.specs.declared.acts.Act.{Act}
@@ -41,12 +40,8 @@ plan_in script (part.Thread target thread state results) = thread_plan script st
 -- what the actor sees of a step that found n in its word
 abbrev pub seen_of : Act → ℕ → Observation
 seen_of (act.Load t word) n = seen.Value n
-seen_of (act.Store t word value) n = seen.Done
 seen_of (act.Exchange t word from to) n = seen.Value n
-seen_of act.Take n = seen.Done
-seen_of act.Answer n = seen.Done
-seen_of act.Give n = seen.Done
-seen_of act.Idle n = seen.Done
+seen_of _ n = seen.Done
 
 -- the part after its next step, if that is on a word and finds n there
 abbrev pub part_after : Script → Part → ℕ → Part
@@ -104,10 +99,7 @@ abbrev pub is_on_word : Act → Bool
 is_on_word (act.Load t word) = true
 is_on_word (act.Store t word value) = true
 is_on_word (act.Exchange t word from to) = true
-is_on_word act.Take = false
-is_on_word act.Answer = false
-is_on_word act.Give = false
-is_on_word act.Idle = false
+is_on_word _ = false
 
 -- the same actor
 abbrev pub is_same : Actor → Actor → Bool

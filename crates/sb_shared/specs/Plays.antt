@@ -65,7 +65,4 @@ MayStep key slots id me (act.Store t word x) =
     (k : ℕ) → IsSpot t word k → Allows (Holds key) slots id me k (λ _. x) (λ _. Stepped (step slots k x 0 raw.none) me x)
 MayStep key slots id me (act.Exchange t word from to) =
     (k : ℕ) → IsSpot t word k → Allows (Holds key) slots id me k (λ n. either (n == from) to n) (Stepped (step slots k from to raw.none) me)
-MayStep key slots id me act.Take = Unit {0}
-MayStep key slots id me act.Answer = Unit {0}
-MayStep key slots id me act.Give = Unit {0}
-MayStep key slots id me act.Idle = Unit {0}
+MayStep key slots id me _ = Unit {0}

@@ -1,6 +1,5 @@
 -- A run by threads is a run of the core.
-use Rattle.std.specs.Prelude.{◌≡◌, true, List, None}
-use Rattle.std.specs.List.{All}
+use Rattle.std.specs.Prelude.{◌≡◌, List, None, All}
 use Rattle.sb_actor.specs.WorkerStages.{WorkerAt, Look}
 use Rattle.sb_book.specs.Readiness.{IsReady}
 use Rattle.sb_statements.specs.declared.schedules.Schedule.{Schedule}

@@ -1,7 +1,6 @@
 -- Seats, as contracts see them.
-use Rattle.std.specs.Prelude.{◌≡◌, ℕ, ◌+◌, ◌++◌, max, Bool, false, List, [], ◌∷◌, Option, None, Some, is_some}
+use Rattle.std.specs.Prelude.{◌≡◌, ℕ, ◌+◌, ◌++◌, max, Bool, false, List, [], ◌∷◌, Option, None, Some, is_some, option_to_list}
 use Rattle.atomic_table.specs.Seated.{TableId}
-use Rattle.std.specs.Option.{option_to_list}
 use Rattle.sb_actor.specs.ThreadTable.{thread_plan, thread_after}
 use Rattle.sb_actor.specs.WorkerTable.{taken_in, worker_plan, worker_after}
 use Rattle.sb_actor.specs.WorkerStages.{WorkerAt}
@@ -194,6 +193,19 @@ keeper_looked s stop = record s { seen = max s.seen (stop_number stop); looks = 
 
 abbrev pub keeper_stopped : KeeperValue → Stop → KeeperValue
 keeper_stopped s stop = record s { stop = max s.stop (stop_number (Some stop)) }
+
+-- what no step of a thread's seat changes
+pub record IsSameThread (old new : ThreadSeatValue) : Type 0 where
+  pub table : new.table ≡ old.table
+  pub key : new.key ≡ old.key
+  pub target : new.target ≡ old.target
+  pub thread : new.thread ≡ old.thread
+
+-- and of a worker's
+pub record IsSameWorker (old new : WorkerSeatValue) : Type 0 where
+  pub table : new.table ≡ old.table
+  pub key : new.key ≡ old.key
+  pub target : new.target ≡ old.target
 
 -- a seat of a thread before its first step
 abbrev pub fresh_thread : TableId → Origin → ℕ × ℕ → ThreadSeatValue

@@ -1,5 +1,5 @@
 -- What holds of an actor of a run wherever it is.
-use Rattle.std.specs.Prelude.{◌≡◌, ◌<◌, ℕ, true, List, [], ◌∷◌, length, slice_index, Option, IfSome, is_some}
+use Rattle.std.specs.Prelude.{◌≡◌, ◌<◌, ℕ, List, [], ◌∷◌, length, slice_index, Option, IfSome, is_some}
 use Rattle.sb_actor.specs.WorkerStages.{WorkerAt}
 use Rattle.sb_book.specs.Histories.{History}
 use Rattle.sb_core.specs.Kept.{IsAtStatement, has_turn}

@@ -1,8 +1,7 @@
 // A shared world is closed.
-ghost use Rattle.std.specs.Prelude.{◌≡◌, ◌≤◌, ◌++◌, ℕ, List, [], length, map};
+ghost use Rattle.std.specs.Prelude.{◌≡◌, ◌≤◌, ◌++◌, ℕ, List, length, map, All};
 ghost use Rattle.core.specs.Mem.Slots.{IsFull, slots_items, slots_len};
-ghost use Rattle.std.specs.List.{All};
-ghost use Rattle.sb_shared.specs.Closing.{AreThreads, AreWorkers, Ends, IsClosed, IsThreadSeat, IsWorkerSeat, part_of_thread, part_of_worker};
+ghost use Rattle.sb_shared.specs.Closing.{AreThreads, AreWorkers, Ends, IsClosed, IsKeeper, IsThreadSeat, IsWorkerSeat, part_of_thread, part_of_worker};
 ghost use Rattle.sb_shared.specs.Rooms.{IsRoom, all_words_from, grouped};
 ghost use Rattle.sb_shared.specs.Rule.{word_count};
 
@@ -143,7 +142,7 @@ impl SharedWorld {
         workers: Vec<WorkerSeat>,
         threads: Vec<ThreadSeat>,
     ) -> ClosedRun
-        requires keeper { (keeper.table ≡ self.table) × (keeper.key ≡ self.key) × (keeper.parts ≡ []) }
+        requires keeper { IsKeeper self keeper }
         requires workers { AreWorkers self workers.items }
         requires threads { AreThreads self threads.items }
         ensures closed { IsClosed self.key threads.items result }

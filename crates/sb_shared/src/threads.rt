@@ -97,6 +97,8 @@ impl ThreadSeat {
             .after(script, direct, observed, &mut self.results)
         {
             self.waiting = false;
+        } else if direct.is_some() {
+            self.waiting = true;
         } else {
             self.note_wait(script, act);
         }
@@ -129,14 +131,7 @@ impl ThreadSeat {
     }
 
     /// Whether each statement of the thread has ended.
-    pub fn is_finished(&self, script: &SoundScript) -> bool
-        ensures { result ≡ is_finished script.now self.now.run.thread }
-    {
-        self.state.finished(script)
-    }
-
-    /// The same for the script of the run, without a look into it.
-    pub fn is_over(&self) -> bool
+    pub fn is_finished(&self) -> bool
         ensures { result ≡ is_finished self.now.key.script.value self.now.run.thread }
     {
         self.state.is_over()

@@ -1,6 +1,5 @@
 -- Seats that are made, make a step among others, and are left at the end.
-use Rattle.std.proofs.Common.{◌≡◌, ◌∙◌, ◌<◌, refl, sym, ap, subst, ℕ, Bool, true, false, List, [], ◌∷◌, ◌++◌, map, length, take}
-use Rattle.std.specs.Prelude.{None, Option, Some, is_some, slice_index_or}
+use Rattle.std.proofs.Common.{◌≡◌, ◌∙◌, ◌<◌, refl, sym, ap, subst, ℕ, Bool, true, false, List, [], ◌∷◌, ◌++◌, map, length, take, None, Option, Some, is_some, slice_index_or}
 use Rattle.std.proofs.Math.ListN.{set, get_or, get_or-map}
 use Rattle.std.proofs.Math.Seq.{map-set_same, take-append_seam}
 use Rattle.std.proofs.lemmas.Bool.{or_parts}
@@ -15,9 +14,9 @@ use Rattle.sb_book.specs.Histories.{History}
 use Rattle.sb_core.specs.Kept.{has_turn}
 use Rattle.sb_shared.specs.Closing.{AreThreads, AreWorkers, IsThreadSeat}
 use Rattle.sb_shared.specs.Opening.{target_places, thread_places}
-use Rattle.sb_shared.specs.Seats.{SharedValue, ThreadSeatValue, WorkerSeatValue, fresh_thread, fresh_worker}
+use Rattle.sb_shared.specs.Seats.{IsSameThread, IsSameWorker, SharedValue, ThreadSeatValue, WorkerSeatValue, fresh_thread, fresh_worker}
 use Rattle.sb_statements.specs.declared.scripts.Script.{Script}
-use Rattle.sb_tables_shared.specs.Players.{AreHere, IsHere, IsSameThread, IsSameWorker}
+use Rattle.sb_tables_shared.specs.Players.{AreHere, IsHere}
 
 abbrev target_of : WorkerSeatValue → ℕ
 target_of s = s.target

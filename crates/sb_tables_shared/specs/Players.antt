@@ -1,9 +1,8 @@
 -- The actors of a run on the seats of one shared world.
-use Rattle.std.specs.Prelude.{◌≡◌, List, [], map}
-use Rattle.std.specs.List.{All}
+use Rattle.std.specs.Prelude.{◌≡◌, List, map, All}
 use Rattle.sb_shared.specs.Closing.{AreThreads}
 use Rattle.sb_shared.specs.Opening.{target_places}
-use Rattle.sb_shared.specs.Seats.{KeeperValue, SharedValue, ThreadSeatValue, WorkerSeatValue}
+use Rattle.sb_shared.specs.Seats.{SharedValue, ThreadSeatValue, WorkerSeatValue}
 use Rattle.sb_tables_shared.specs.declared.players.Players.{Players}
 
 -- the seat of a worker of this world, with the turn or without
@@ -20,25 +19,6 @@ pub record AreHere (world : SharedValue) (seats : List WorkerSeatValue) : Type 0
 pub record ArePlayers (world : SharedValue) (players : Players) : Type 0 where
   pub workers : AreHere world players.workers.items
   pub threads : AreThreads world players.threads.items
-
--- the seat that takes in all others
-pub record IsKeeper (world : SharedValue) (keeper : KeeperValue) : Type 0 where
-  pub table : keeper.table ≡ world.table
-  pub key : keeper.key ≡ world.key
-  pub empty : keeper.parts ≡ []
-
--- steps of a worker leave the seat if it is
-pub record IsSameWorker (old new : WorkerSeatValue) : Type 0 where
-  pub table : new.table ≡ old.table
-  pub key : new.key ≡ old.key
-  pub target : new.target ≡ old.target
-
--- so do steps of a thread
-pub record IsSameThread (old new : ThreadSeatValue) : Type 0 where
-  pub table : new.table ≡ old.table
-  pub key : new.key ≡ old.key
-  pub target : new.target ≡ old.target
-  pub thread : new.thread ≡ old.thread
 
 -- seats of workers on the table of this world
 abbrev pub AreOnTable : SharedValue → List WorkerSeatValue → Type 0

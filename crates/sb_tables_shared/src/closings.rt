@@ -1,7 +1,8 @@
 // A shared world is closed, whatever its actors were doing.
 ghost use Rattle.std.specs.Prelude.{◌≡◌, is_some};
 ghost use Rattle.std.specs.List.{list_any};
-ghost use Rattle.sb_tables_shared.specs.Players.{ArePlayers, IsKeeper};
+ghost use Rattle.sb_shared.specs.Closing.{IsKeeper};
+ghost use Rattle.sb_tables_shared.specs.Players.{ArePlayers};
 
 use crate::players::Players;
 use sb_actor::{Act, WorkerState};

@@ -1,8 +1,9 @@
 // Each actor of a run makes its steps by a thread of its own.
 ghost use Rattle.std.specs.Prelude.{◌≡◌};
-ghost use Rattle.sb_shared.specs.Closing.{AreThreads, IsThreadSeat};
+ghost use Rattle.sb_shared.specs.Closing.{AreThreads, IsKeeper, IsThreadSeat};
 ghost use Rattle.sb_shared.specs.Origins.{setting_in};
-ghost use Rattle.sb_tables_shared.specs.Players.{AreHere, ArePlayers, IsHere, IsKeeper, IsSameThread, IsSameWorker};
+ghost use Rattle.sb_shared.specs.Seats.{IsSameThread, IsSameWorker};
+ghost use Rattle.sb_tables_shared.specs.Players.{AreHere, ArePlayers, IsHere};
 
 use crate::closings::{Left, left_by};
 use crate::inputs::Inputs;
@@ -22,8 +23,8 @@ use std::thread::Threads;
 
 // As many steps as an actor makes at most.
 const MOST_STEPS: u64 = 1_000_000_000_000;
-// After as many steps others may go on.
-const TURN: u64 = 1024;
+// After as many steps others may go on. With fewer, threads that share a processor spend much of their time in yields.
+const TURN: u64 = 8192;
 // As many rounds as a replay without a schedule makes at most.
 const MOST_ROUNDS: u32 = 20_000_000;
 
@@ -35,7 +36,7 @@ fn finish(world: &SharedWorld, script: &SoundScript, seat: &mut ThreadSeat, step
 {
     let mut made: u64 = 0;
     for step in 0..MOST_STEPS {
-        if seat.is_finished(script) {
+        if seat.is_finished() {
             break;
         }
         walk(world, script, seat);

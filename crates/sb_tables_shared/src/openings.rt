@@ -1,6 +1,7 @@
 // A run is opened.
 ghost use Rattle.std.specs.Prelude.{◌≡◌, IfOk, IfSome};
-ghost use Rattle.sb_tables_shared.specs.Players.{AreHere, AreOnTable, ArePlayers, IsKeeper};
+ghost use Rattle.sb_shared.specs.Closing.{IsKeeper};
+ghost use Rattle.sb_tables_shared.specs.Players.{AreHere, AreOnTable, ArePlayers};
 
 use crate::inputs::Inputs;
 use crate::players::Players;

@@ -2,7 +2,8 @@
 ghost use Rattle.std.specs.Prelude.{◌≡◌, OnOk};
 ghost use Rattle.sb_shared.specs.Origins.{setting_in};
 ghost use Rattle.sb_shared.specs.Closing.{IsThreadSeat};
-ghost use Rattle.sb_tables_shared.specs.Players.{ArePlayers, IsHere, IsSameThread, IsSameWorker};
+ghost use Rattle.sb_shared.specs.Seats.{IsSameThread, IsSameWorker};
+ghost use Rattle.sb_tables_shared.specs.Players.{ArePlayers, IsHere};
 
 use sb_actor::Act;
 use sb_items::NoMemory;

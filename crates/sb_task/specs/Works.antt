@@ -16,9 +16,3 @@ number_of x = x.target
 -- what stays of a seat: the table, the key with which it was opened, and the target
 abbrev pub home_of : WorkerSeatValue → WorkerSeatValue
 home_of x = record x { state = no_worker; book = None; decided = false; steps = 0; found = 0; stop = 0; seen = 0; looks = 0 }
-
--- what no step of a worker changes
-pub record IsSameWorker (old new : WorkerSeatValue) : Type 0 where
-  pub table : new.table ≡ old.table
-  pub key : new.key ≡ old.key
-  pub target : new.target ≡ old.target

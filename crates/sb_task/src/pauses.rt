@@ -28,8 +28,7 @@ const MOST_AWAKE: u64 = 2;
 // A thread of the script yields after each of this many steps in vain, since its reply may wait for this processor.
 const EAGER: u32 = 64;
 
-// A thread that is not patient then yields after one step in this many and spins after the others, so that a wait of millions of loads makes
-// few system calls.
+// One rest in this many yields, so that a wait of millions of loads makes few system calls.
 const SPARSE: u32 = 16;
 
 // A patient thread yields this many times before it sleeps, which takes longer than the first sleeps of a thread that serves.
@@ -42,7 +41,16 @@ fn next_sleep(microseconds: u64) -> u64 {
         .min(LONGEST_SLEEP_MICROSECONDS)
 }
 
-/// How a thread of the script waits after steps in vain: it yields, and later sleeps, each time for twice as long, or spins if it is not
+/// Spins, or yields if the number of rests before it says so.
+pub(crate) fn rest(before: u32) {
+    if before % SPARSE == SPARSE - 1 {
+        yield_now();
+    } else {
+        hint::spin_loop();
+    }
+}
+
+/// How a thread of the script waits after steps in vain: it yields, and later sleeps, each time for twice as long, or rests if it is not
 /// patient.
 #[derive(Drop)]
 pub(crate) struct StepWait {
@@ -76,10 +84,8 @@ impl StepWait {
         } else if patient {
             world.doze(rt, Duration::from_micros(self.sleep));
             self.sleep = next_sleep(self.sleep);
-        } else if steps % SPARSE == 0 {
-            yield_now();
         } else {
-            hint::spin_loop();
+            rest(steps);
         }
     }
 }

@@ -27,7 +27,7 @@ pub fn run_thread<R: Wait>(
     let mut current = seat;
     let mut wait = StepWait::new();
     for _ in rt.forever() {
-        if current.is_over() {
+        if current.is_finished() {
             break;
         }
         current.step(world, script);

@@ -2,37 +2,24 @@
 ghost use Rattle.std.specs.Prelude.{◌≡◌, true, OnOk};
 ghost use Rattle.sb_actor.specs.WorkerTable.{is_looking, worker_plan};
 ghost use Rattle.sb_actor.specs.declared.acts.Act.TheVariants.{Take};
+ghost use Rattle.sb_shared.specs.Seats.{IsSameWorker};
 ghost use Rattle.sb_task.specs.Contexts.{IsWorkerOf};
-ghost use Rattle.sb_task.specs.Works.{IsSameWorker, IsWork};
 
 use crate::contexts::RunContext;
+use crate::pauses::rest;
 use sb_actor::Act;
 use sb_items::NoMemory;
 use sb_outside::Gate;
 use sb_rule::Judge;
 use sb_shared::{Stop, WorkerSeat};
 use std::alloc::Global;
-use std::hint;
 use std::sync::Wait;
-use std::thread::yield_now;
 
 // After this many calls others may draw the seat.
 const MOST_CALLS: u32 = 64;
 
-// Of the tries that find the turn held, one of this many is followed by a yield, and each other one by a spin: the turn is held for a short time.
-const TRIES: u32 = 16;
-
-// Waits a little after a try that found the turn held, which this many such tries precede.
-fn rest(tries: u32) {
-    if tries % TRIES == TRIES - 1 {
-        yield_now();
-    } else {
-        hint::spin_loop();
-    }
-}
-
-// A try to take the turn, after the decision on the copy and the gate. If the turn is held, it looks at the stop word and waits a little, by the
-// number of tries before that missed.
+// A try to take the turn, after the decision on the copy and the gate. If the turn is held, it looks at the stop word and rests, since it is held for a
+// short time. Before it this many tries missed.
 fn try_turn<J: Judge, G: Gate, R: Wait>(
     rt: &R,
     alloc: Global,

@@ -1,10 +1,9 @@
-use Rattle.std.proofs.Common.{◌≡◌, sym, subst}
+use Rattle.std.proofs.Common.{◌≡◌, sym, subst, All}
 use Rattle.std.proofs.lemmas.Result.{IfOk-weaker}
-use Rattle.std.specs.List.{All}
-use Rattle.sb_shared.specs.Closing.{IsThreadSeat}
+use Rattle.sb_shared.specs.Closing.{IsKeeper, IsThreadSeat}
 use Rattle.sb_task.specs.Contexts.{ContextAt}
 use Rattle.sb_task.specs.Servers.{IsServer}
-use Rattle.sb_run.specs.Crews.{CanRun, IsKeeperOf}
+use Rattle.sb_run.specs.Crews.{CanRun}
 use Rattle.sb_run.proofs.crews.run_crew.Goals as goal
 
 pub scoped-requires : goal.scoped-requires
@@ -16,7 +15,7 @@ scoped-requires g c =
       context = c.context.invariant;
       its_threads = subst (λ (z : ContextAt). All (IsThreadSeat z.world) c.args.threads.items) (sym is) c.requires.threads;
       its_servers = subst (λ (z : ContextAt). All (IsServer z) c.args.servers.items) (sym is) c.requires.servers;
-      its_keeper = subst (λ (z : ContextAt). IsKeeperOf z c.args.keeper) (sym is) c.requires.keeper;
+      its_keeper = subst (λ (z : ContextAt). IsKeeper z.world c.args.keeper) (sym is) c.requires.keeper;
     } in
     record {
       at = λ s. (can, (record { shared = c.type_bounds.sync-J.shared }, record { shared = c.type_bounds.sync-G.shared }, record { shared = c.type_bounds.sync-R.shared }));
@@ -26,4 +25,4 @@ pub returns-clause-keeper : goal.returns-clause-keeper
 returns-clause-keeper g c =
     let x : ContextAt = record { script = c.context.inside.script.now; world = c.context.inside.world.now; pool = c.context.inside.pool.now; policies = g.J.Judge.policies c.context.inside.judge.now } in
     let is : x ≡ c.args.context.now = c.context.view_is in
-    IfOk-weaker c.scoped.result _ _ (λ r h. subst (λ (z : ContextAt). IsKeeperOf z r.2) is h.its_keeper) c.scoped.ensures.1
+    IfOk-weaker c.scoped.result _ _ (λ r h. subst (λ (z : ContextAt). IsKeeper z.world r.2) is h.its_keeper) c.scoped.ensures.1

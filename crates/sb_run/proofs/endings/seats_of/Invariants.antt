@@ -1,5 +1,4 @@
-use Rattle.std.proofs.Common.{◌≡◌}
-use Rattle.std.specs.List.{All}
+use Rattle.std.proofs.Common.{◌≡◌, All}
 use Rattle.sb_task.specs.Works.{IsWork}
 use Rattle.sb_run.proofs.endings.seats_of.Given as goal
 

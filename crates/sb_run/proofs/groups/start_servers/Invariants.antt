@@ -1,5 +1,4 @@
-use Rattle.std.proofs.Common.{◌≡◌}
-use Rattle.std.specs.List.{All}
+use Rattle.std.proofs.Common.{◌≡◌, All}
 use Rattle.std.specs.Vec.Iter.{into_iter_items}
 use Rattle.sb_task.specs.Servers.{IsServer}
 use Rattle.sb_run.proofs.groups.start_servers.Given as goal

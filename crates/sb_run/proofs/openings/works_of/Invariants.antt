@@ -1,5 +1,4 @@
-use Rattle.std.proofs.Common.{◌≡◌, true}
-use Rattle.std.specs.List.{All}
+use Rattle.std.proofs.Common.{◌≡◌, true, All}
 use Rattle.std.specs.Vec.Iter.{into_iter_items}
 use Rattle.sb_actor.specs.WorkerTable.{is_looking}
 use Rattle.sb_shared.specs.Seats.{WorkerSeatValue}

@@ -1,5 +1,4 @@
-use Rattle.std.proofs.Common.{◌≡◌, []}
-use Rattle.std.specs.List.{All}
+use Rattle.std.proofs.Common.{◌≡◌, [], All}
 use Rattle.std.specs.Vec.Iter.{into_iter_items}
 use Rattle.sb_pool.specs.Pools.{IsSeatOf, seen}
 use Rattle.sb_run.specs.Pooling.{with_seats}

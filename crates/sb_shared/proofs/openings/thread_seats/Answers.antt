@@ -1,7 +1,6 @@
-use Rattle.std.proofs.Common.{◌≡◌, ◌∙◌, ◌<◌, ◌+◌, ℕ, List, ap, subst, drop, length, map, rules}
+use Rattle.std.proofs.Common.{◌≡◌, ◌∙◌, ◌<◌, ◌+◌, ℕ, List, ap, subst, drop, length, map, rules, slice_index_or}
 use mathlib.Core.Option as raw
 use lib.ListN.{get_elem?}
-use Rattle.std.specs.Prelude.{slice_index_or}
 use Rattle.sb_shared.specs.Making.{keeper_of}
 use Rattle.sb_shared.specs.Opening.{thread_of}
 use Rattle.sb_shared.proofs.Places.{places_there}

@@ -1,4 +1,4 @@
-use Rattle.sb_tables_shared.specs.Players.{IsSameWorker}
+use Rattle.sb_shared.specs.Seats.{IsSameWorker}
 use Rattle.sb_tables_shared.proofs.crews.attend.Given as goal
 
 -- the seat is that of the same worker

@@ -1,10 +1,9 @@
 use contract.Lifetimes.{Lfts}
 use denote.Param.Send.{IsSync, param_sync, sendable}
-use Rattle.std.proofs.Common.{rules, ◌≡◌, ◌<◌, ℕ, drop, length, subst}
+use Rattle.std.proofs.Common.{rules, ◌≡◌, ◌<◌, ℕ, drop, length, subst, slice_index_or}
 use Rattle.std.proofs.Crossing.{crosses}
-use Rattle.std.specs.Prelude.{slice_index_or}
-use Rattle.sb_shared.specs.Seats.{WorkerSeatValue}
-use Rattle.sb_tables_shared.specs.Players.{AreHere, IsSameWorker}
+use Rattle.sb_shared.specs.Seats.{IsSameWorker, WorkerSeatValue}
+use Rattle.sb_tables_shared.specs.Players.{AreHere}
 use Rattle.sb_tables_shared.proofs.Crossing.{crew_crosses}
 use Rattle.sb_tables_shared.proofs.Playing.{whole, workers_same}
 use Rattle.sb_tables_shared.specs.contracts.crews.attend_all.{J-row}

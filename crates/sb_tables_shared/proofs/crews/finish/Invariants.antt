@@ -1,4 +1,4 @@
-use Rattle.sb_tables_shared.specs.Players.{IsSameThread}
+use Rattle.sb_shared.specs.Seats.{IsSameThread}
 use Rattle.sb_tables_shared.proofs.crews.finish.Given as goal
 
 -- the seat stays if it is

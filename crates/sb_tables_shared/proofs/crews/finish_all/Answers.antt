@@ -1,10 +1,8 @@
 use denote.Param.Send.{sendable}
-use Rattle.std.proofs.Common.{rules, ◌≡◌, ◌<◌, ℕ, drop, length, subst}
+use Rattle.std.proofs.Common.{rules, ◌≡◌, ◌<◌, ℕ, drop, length, subst, slice_index_or}
 use Rattle.std.proofs.Crossing.{crosses}
-use Rattle.std.specs.Prelude.{slice_index_or}
 use Rattle.sb_shared.specs.Closing.{AreThreads}
-use Rattle.sb_shared.specs.Seats.{ThreadSeatValue}
-use Rattle.sb_tables_shared.specs.Players.{IsSameThread}
+use Rattle.sb_shared.specs.Seats.{IsSameThread, ThreadSeatValue}
 use Rattle.sb_tables_shared.proofs.Crossing.{crew_crosses}
 use Rattle.sb_tables_shared.proofs.Playing.{threads_same, whole}
 use Rattle.sb_tables_shared.proofs.crews.finish_all.Goals as goal

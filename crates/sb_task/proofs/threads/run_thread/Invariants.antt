@@ -1,4 +1,4 @@
-use Rattle.sb_task.specs.Threads.{IsSameThread}
+use Rattle.sb_shared.specs.Seats.{IsSameThread}
 use Rattle.sb_task.proofs.threads.run_thread.Given as goal
 
 abbrev pub invariant-loop : goal.invariant-loop

@@ -1,5 +1,5 @@
 use Rattle.std.proofs.Common.{◌<◌}
-use Rattle.sb_task.specs.Works.{IsSameWorker}
+use Rattle.sb_shared.specs.Seats.{IsSameWorker}
 use Rattle.sb_task.proofs.visits.visit.Given as goal
 
 abbrev pub invariant-loop : goal.invariant-loop

@@ -1,5 +1,4 @@
-use Rattle.std.proofs.Common.{◌≡◌, ◌∙◌, ◌++◌, ap, sym, append-nil, None, [], arith, vec_capacity}
-use Rattle.std.specs.Option.{option_to_list}
+use Rattle.std.proofs.Common.{◌≡◌, ◌∙◌, ◌++◌, ap, sym, append-nil, None, [], arith, vec_capacity, option_to_list}
 use Rattle.std.specs.Vec.Iter.{into_iter_items, into_iter_len}
 use Rattle.sb_shared.proofs.Ranges.{length_next, none_next, taken_more}
 use Rattle.sb_shared.proofs.rooms.ResultRoom.fill.Goals as goal

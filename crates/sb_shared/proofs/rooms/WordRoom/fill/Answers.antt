@@ -1,5 +1,4 @@
-use Rattle.std.proofs.Common.{◌∙◌, ◌+◌, ◌*◌, ◌/◌, ◌%◌, ap, length, length-append, [], ◌∷◌, arith}
-use Rattle.std.specs.Prelude.{slice_index}
+use Rattle.std.proofs.Common.{◌∙◌, ◌+◌, ◌*◌, ◌/◌, ◌%◌, ap, length, length-append, [], ◌∷◌, arith, slice_index}
 use Rattle.core.specs.Mem.Slots.{slots_items}
 use Rattle.sb_shared.specs.Rule.{spot}
 use Rattle.sb_shared.proofs.Ranges.{range_more, read_at}

@@ -1,5 +1,4 @@
-use Rattle.std.proofs.Common.{◌≡◌, ◌≤◌, ◌*◌, ◌/◌, ◌%◌, map, length, vec_capacity}
-use Rattle.std.specs.Prelude.{slice_index}
+use Rattle.std.proofs.Common.{◌≡◌, ◌≤◌, ◌*◌, ◌/◌, ◌%◌, map, length, vec_capacity, slice_index}
 use Rattle.std.specs.List.{range_with_len}
 use Rattle.core.specs.Mem.Slots.{slots_items}
 use Rattle.sb_shared.specs.Rule.{spot}

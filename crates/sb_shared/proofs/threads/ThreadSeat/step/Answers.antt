@@ -1,10 +1,10 @@
-use Rattle.std.proofs.Common.{◌≡◌, true, false, sym, ap, ◌∙◌}
+use Rattle.std.proofs.Common.{◌≡◌, true, false, not, sym, ap, ◌∙◌}
 use Rattle.sb_actor.specs.Places.{is_finished}
 use Rattle.sb_actor.specs.ThreadTable.{thread_plan}
 use Rattle.sb_shared.specs.Parts.{is_on_word}
 use Rattle.sb_shared.specs.Seats.{thread_in, thread_part}
 use Rattle.sb_shared.proofs.Allowing.{may_step}
-use Rattle.sb_shared.proofs.Finishing.{finished_idle, thread_here, unfinished_on_word}
+use Rattle.sb_shared.proofs.Finishing.{on_word_by}
 use Rattle.sb_shared.proofs.threads.ThreadSeat.step.Goals as goal
 
 pub perform-requires-clause-may : goal.perform-requires-clause-may
@@ -16,16 +16,26 @@ perform-requires-clause-may c =
     let plan : thread_plan seat.me.0.key.script.value x.run.thread ≡ c.plan-act.result = (λ i. thread_plan (same i) (sym c.self.invariant.2 i)) ∙ sym (c.plan-act.ensures.plan c.args.script.now c.direct_statement-direct.ensures) in
     may_step c.core_laws.ensures shared.key shared.table_id.slots seat.id seat.me.0 seat.me.1 (thread_part x) c.self.invariant.0.one c.plan-act.result plan
 
-pub returns-else-after-clause-finished : goal.returns-else-after-clause-finished
-returns-else-after-clause-finished c h =
+pub returns-then-is_some-clause-finished : goal.returns-then-is_some-clause-finished
+returns-then-is_some-clause-finished c h =
     let seat = c.self.inside.seat in
     let x = thread_in seat.me.0.parts in
     let same : seat.me.0.key.script.value ≡ c.args.script.now = ap (λ z. z.key.script.value) c.self.view_is ∙ c.requires.script in
-    let finished : is_finished seat.me.0.key.script.value x.run.thread ≡ true = (λ i. is_finished (same i) ((ap (λ z. z.run.thread) c.self.view_is) i)) ∙ h in
-    let idle = finished_idle seat.me.0.key.script.value x.run.thread (thread_here seat.me.0 c.self.invariant.0).stands finished in
+    let done : is_finished seat.me.0.key.script.value x.run.thread ≡ true = (λ i. is_finished (same i) ((ap (λ z. z.run.thread) c.self.view_is) i)) ∙ h in
     let plan : thread_plan seat.me.0.key.script.value x.run.thread ≡ c.plan-act.result = (λ i. thread_plan (same i) (sym c.self.invariant.2 i)) ∙ sym (c.plan-act.ensures.plan c.args.script.now c.direct_statement-direct.ensures) in
-    let on : is_on_word c.plan-act.result ≡ true = c.in-Some.ensures.moved.0 in
-    let off : is_on_word c.plan-act.result ≡ false = ap is_on_word (sym plan ∙ idle) in
+    let is : is_on_word c.plan-act.result ≡ false = on_word_by seat.me.0 c.self.invariant.0 c.plan-act.result true plan done in
+    let made : is_on_word c.plan-act.result ≡ true = c.in-Some.ensures.moved.0 in
+    absurd cc
+
+pub returns-else-is_some-clause-finished : goal.returns-else-is_some-clause-finished
+returns-else-is_some-clause-finished c h =
+    let seat = c.self.inside.seat in
+    let x = thread_in seat.me.0.parts in
+    let same : seat.me.0.key.script.value ≡ c.args.script.now = ap (λ z. z.key.script.value) c.self.view_is ∙ c.requires.script in
+    let done : is_finished seat.me.0.key.script.value x.run.thread ≡ true = (λ i. is_finished (same i) ((ap (λ z. z.run.thread) c.self.view_is) i)) ∙ h in
+    let plan : thread_plan seat.me.0.key.script.value x.run.thread ≡ c.plan-act.result = (λ i. thread_plan (same i) (sym c.self.invariant.2 i)) ∙ sym (c.plan-act.ensures.plan c.args.script.now c.direct_statement-direct.ensures) in
+    let is : is_on_word c.plan-act.result ≡ false = on_word_by seat.me.0 c.self.invariant.0 c.plan-act.result true plan done in
+    let made : is_on_word c.plan-act.result ≡ true = c.in-Some.ensures.moved.0 in
     absurd cc
 
 pub returns-in_default-clause-step : goal.returns-in_default-clause-step
@@ -33,9 +43,8 @@ returns-in_default-clause-step c h =
     let seat = c.self.inside.seat in
     let x = thread_in seat.me.0.parts in
     let same : seat.me.0.key.script.value ≡ c.args.script.now = ap (λ z. z.key.script.value) c.self.view_is ∙ c.requires.script in
-    let unfinished : is_finished seat.me.0.key.script.value x.run.thread ≡ false = (λ i. is_finished (same i) ((ap (λ z. z.run.thread) c.self.view_is) i)) ∙ h in
-    let moves = unfinished_on_word seat.me.0.key.script.value x.run.thread (thread_here seat.me.0 c.self.invariant.0).stands unfinished in
+    let done : is_finished seat.me.0.key.script.value x.run.thread ≡ false = (λ i. is_finished (same i) ((ap (λ z. z.run.thread) c.self.view_is) i)) ∙ h in
     let plan : thread_plan seat.me.0.key.script.value x.run.thread ≡ c.plan-act.result = (λ i. thread_plan (same i) (sym c.self.invariant.2 i)) ∙ sym (c.plan-act.ensures.plan c.args.script.now c.direct_statement-direct.ensures) in
-    let on : is_on_word c.plan-act.result ≡ true = ap is_on_word (sym plan) ∙ moves in
-    let off : is_on_word c.plan-act.result ≡ false = c.in_default.ensures.moved.0 in
+    let is : is_on_word c.plan-act.result ≡ true = on_word_by seat.me.0 c.self.invariant.0 c.plan-act.result false plan done in
+    let made : is_on_word c.plan-act.result ≡ false = c.in_default.ensures.moved.0 in
     absurd cc

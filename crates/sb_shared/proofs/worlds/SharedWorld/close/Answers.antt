@@ -36,7 +36,7 @@ unreachable-requires c =
     let slot = c.end_table-words.result.1 in
     let ends = subst (λ k. Ends k parts end.0 slot) c.into_parts-table.ensures.key end.2 in
     let parts_are : parts ≡ map part_of_worker ws ++ map part_of_thread ts =
-    c.join_threads-results.ensures.parts ∙ ap (λ l. l ++ map part_of_thread ts) (c.join_workers-states.ensures.parts ∙ ap (λ l. l ++ map part_of_worker ws) c.requires.keeper.2) in
+    c.join_threads-results.ensures.parts ∙ ap (λ l. l ++ map part_of_thread ts) (c.join_workers-states.ensures.parts ∙ ap (λ l. l ++ map part_of_worker ws) c.requires.keeper.empty) in
     let is = book_is c.plans_are_there.ensures.targets key parts end.0 slot ends ws ts parts_are c.requires.workers.places c.requires.threads.places in
     let none = c.in_default.is in
     absurd cc
@@ -59,7 +59,7 @@ returns-clause-closed c =
     let slot = c.end_table-words.result.1 in
     let ends = subst (λ k. Ends k parts end.0 slot) c.into_parts-table.ensures.key end.2 in
     let parts_are : parts ≡ map part_of_worker ws ++ map part_of_thread ts =
-    c.join_threads-results.ensures.parts ∙ ap (λ l. l ++ map part_of_thread ts) (c.join_workers-states.ensures.parts ∙ ap (λ l. l ++ map part_of_worker ws) c.requires.keeper.2) in
+    c.join_threads-results.ensures.parts ∙ ap (λ l. l ++ map part_of_thread ts) (c.join_workers-states.ensures.parts ∙ ap (λ l. l ++ map part_of_worker ws) c.requires.keeper.empty) in
     closed_run c.plans_are_there.ensures.targets key parts end.0 slot ends ws ts parts_are c.requires.workers.places c.requires.threads.places
     (record { words = c.new.result; workers = c.join_workers-states.result; book = c.into_book.result; results = c.group.result })
     (c.new.ensures ∙ end.1 ∙ ap (all_words_from end.0 0) rooms.words) c.join_workers-states.ensures.states (c.in-Some.is ∙ ap (λ (b : History). Some b) (sym c.into_book.ensures))

@@ -2,7 +2,7 @@ use Rattle.std.proofs.Common.{◌∙◌, ap}
 use Rattle.sb_actor.specs.Places.{is_finished, is_over}
 use Rattle.sb_shared.specs.Seats.{thread_in}
 use Rattle.sb_shared.proofs.Finishing.{over_finished, thread_here}
-use Rattle.sb_shared.proofs.threads.ThreadSeat.is_over.Goals as goal
+use Rattle.sb_shared.proofs.threads.ThreadSeat.is_finished.Goals as goal
 
 pub returns : goal.returns
 returns c =
