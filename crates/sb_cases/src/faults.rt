@@ -44,3 +44,12 @@ impl From<NoMemory> for RowFault {
         RowFault::NoMemory
     }
 }
+
+impl From<sb_rows::RowFault> for RowFault {
+    fn from(fault: sb_rows::RowFault) -> RowFault {
+        match fault {
+            sb_rows::RowFault::NoMemory => RowFault::NoMemory,
+            _ => RowFault::BadEscape,
+        }
+    }
+}

@@ -9,7 +9,7 @@
 //     words replay policy script   the words of the command line; `word TEXT` is one word, with its blanks, or empty
 //     file policy                  a file, of the rows below it
 //     | TEXT                       a line as it stands, with a line feed
-//     % TEXT                       bytes without a line feed: `\n` is one, `\\` a backslash, `\xHH` the byte of this number
+//     % TEXT                       bytes without a line feed, except the escapes `\n`, `\r`, `\t`, `\\` and `\xHH`, the byte of this number
 //     * N | TEXT                   a row of one of both forms, N times
 //     same policy                  the file of this name of the case before
 //     fails-read N, fails-put N    this read or put fails, from 1, where the finish counts as a put; `room N`: the output takes N bytes
