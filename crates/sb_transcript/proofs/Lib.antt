@@ -4,4 +4,3 @@ pub mod EndLaws
 pub mod CutLaws
 pub mod Beginnings
 pub mod CountLaws
-pub mod HexDigits

@@ -5,14 +5,13 @@ ghost use Rattle.std.specs.List.{flat_map};
 ghost use Rattle.sb_transcript.specs.EntryLines.{fault_text, argument_text, denial_word, grant_word, verdict_text, decision_text, reply_text, target_name, entry_line};
 
 use crate::comma_words::put_comma_words;
-use crate::hexadecimals::{put_number, put_status};
 use sb_block::BlockFault;
 use sb_book::{Decision, EntryView};
 use sb_call::{Arg, Reply, call_word};
 use sb_items::NoMemory;
 use sb_rule::{Action, Verdict};
 use sb_statements::Script;
-use sb_wide::{put_decimal, put_named, quote_into};
+use sb_wide::{put_decimal, put_eight_digits, put_hexadecimal, put_named, quote_into};
 use std::alloc::Global;
 
 // The two values of a fault that is a change.
@@ -51,7 +50,7 @@ fn put_argument(line: &mut Vec<u8>, arg: &Arg) -> Result<(), NoMemory>
     match arg {
         Arg::Num(number) => {
             line.extend_from_slice(b" 0x")?;
-            put_number(line, *number)
+            put_hexadecimal(line, *number)
         }
         Arg::Str(text) => {
             line.push(b' ')?;
@@ -144,7 +143,7 @@ pub fn put_reply(line: &mut Vec<u8>, reply: &Reply) -> Result<(), NoMemory>
 {
     put_decimal(line, reply.outcome)?;
     line.push(b' ')?;
-    put_status(line, reply.status)?;
+    put_eight_digits(line, reply.status)?;
     line.push(b' ')?;
     put_decimal(line, reply.handle)?;
     line.extend_from_slice(b" [")?;

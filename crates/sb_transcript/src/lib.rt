@@ -4,7 +4,6 @@
 mod comma_words;
 mod counts;
 mod entries;
-mod hexadecimals;
 mod laws;
 mod line_buffers;
 mod lines;

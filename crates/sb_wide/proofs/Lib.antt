@@ -4,5 +4,6 @@ pub mod Printable
 pub mod Quotes
 pub mod Padding
 pub mod Digits
+pub mod HexDigits
 pub mod Kept
 pub mod Pairs
