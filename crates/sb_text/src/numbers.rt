@@ -1,5 +1,5 @@
 // Numbers below 2^64.
-ghost use Rattle.std.specs.Prelude.{◌≡◌, ◌∷◌, ◌≤◌, ◌<◌, ◌*◌, ◌+◌, [], length};
+ghost use Rattle.std.specs.Prelude.{◌≡◌, ◌∷◌, ◌≤◌, ◌<◌, ◌*◌, ◌+◌, [], length, None, Some, if◌then◌else◌};
 ghost use Rattle.std.specs.List.{list_all};
 ghost use Rattle.sb_text.specs.Numbers.{number_of, decimal_of, hexadecimal_of, is_decimal_digit, is_hexadecimal_digit, digit_of, value_from, below_2_64};
 
@@ -69,18 +69,35 @@ fn decimal_digit(digit: u8) -> Option<u64>
     }
 }
 
+// The value of at most 19 decimal digits, which is below 2^64. None exactly if a byte is no digit.
+#[tactic(auto, using(crate::proofs::Values::digits_past, crate::proofs::Values::no_digits, crate::proofs::Values::digit_added, crate::proofs::Values::digit_fits))]
+fn short_decimal(digits: &[u8]) -> Option<u64>
+    requires { length digits.now ≤ 19 }
+    ensures { result ≡ (if list_all is_decimal_digit digits.now then Some (value_from 10 0 digits.now) else None) }
+{
+    let mut value = 0u64;
+    for digit in digits {
+        if !is_decimal_digit(*digit) {
+            return None;
+        }
+        value = value * 10 + u64::from(*digit - b'0');
+    }
+    Some(value)
+}
+
 /// The value of 1 to 20 decimal digits, if it is below 2^64.
+#[tactic(auto, using(crate::proofs::Values::below_some))]
 pub fn decimal_of(word: &[u8]) -> Option<u64>
     ensures { result ≡ decimal_of word.now }
 {
     // Most numbers have one digit.
-    if let [digit] = word {
-        return decimal_digit(*digit);
+    match word {
+        [] => None,
+        [digit] => decimal_digit(*digit),
+        _ if word.len() <= 19 => short_decimal(word),
+        _ if word.len() == 20 && are_decimal_digits(word) => value_of(10, word),
+        _ => None,
     }
-    if word.is_empty() || word.len() > 20 || !are_decimal_digits(word) {
-        return None;
-    }
-    value_of(10, word)
 }
 
 // The value of 1 to 16 hexadecimal digits in either case.
