@@ -7,7 +7,8 @@ pub mod TokenLaws
 pub mod QuotedText
 pub mod Utf8Laws
 pub mod Values
-pub mod WordLemmas
+pub mod WordCounts
+mod WordLemmas
 mod ReadingLaws
 pub mod PlainLines
 pub mod WrittenStrings

@@ -32,12 +32,6 @@ count_past layout place b bs = by_start (is_start place b) (starts_counted layou
     by_start true h = omega (arith, h)
     by_start false h = omega (arith, h)
 
--- a word begins after a blank, or where the line begins
-pub word_past : (after : Bool) (b : ℕ) (bs : List ℕ)
-    → length (starts_from Bytes 0 (cond after Gap InWord) (b ∷ bs)) ≡ cond (after && not (is_blank b)) 1 0 + length (starts_from Bytes 0 (cond (is_blank b) Gap InWord) bs)
-word_past true b bs = count_past Bytes Gap b bs
-word_past false b bs = count_past Bytes InWord b bs
-
 -- a byte that is no quote is in a word, or ends it
 no_quote_past : (layout : Layout) (after : Bool) (b : ℕ) → is_quote layout b ≡ false → within_after layout (cond after Gap InWord) b ≡ cond (is_blank b) Gap InWord
 no_quote_past layout true b q = rw (q) refl

@@ -85,6 +85,11 @@ starts_from layout n place (b ∷ bs) =
 abbrev pub starts_of : Layout → List ℕ → List ℕ
 starts_of layout line = starts_from layout 0 Gap line
 
+-- how many words of a line begin after the first of these bytes, with which its rest begins
+abbrev pub words_after : List ℕ → ℕ
+words_after [] = 0
+words_after (b ∷ bs) = length (starts_from by_words 0 (if is_blank b then Gap else InWord) bs)
+
 -- how many bytes of a line are before the blanks at its end
 abbrev pub content_len : List ℕ → ℕ
 content_len [] = 0

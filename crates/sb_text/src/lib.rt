@@ -19,6 +19,7 @@ mod steps;
 mod text_lines;
 mod tokens;
 mod utf8;
+mod word_counts;
 mod word_versions;
 mod words;
 

@@ -4,6 +4,7 @@ ghost use Rattle.std.specs.List.{list_any};
 ghost use Rattle.sb_text.specs.Spots.{before_unit, by_words, characters, characters_before, column_after, column_at, content_len, is_character, is_quote, is_start, start_at, starts_of, units_of, within_after};
 
 use crate::blanks::is_blank;
+use crate::word_counts::word_count;
 use memchr::memchr;
 
 /// What the lines of a text are made of.
@@ -138,25 +139,6 @@ fn before_unit(unit: Option<u32>, bytes: &[u8]) -> usize
         (Some(unit), [b'"', quoted @ ..]) => 1 + characters_before(unit, quoted),
         _ => 0,
     }
-}
-
-// The number of words of a line, whose quotes are bytes like any other.
-#[tactic(auto, using(crate::proofs::Places::word_past))]
-fn word_count(line: &[u8]) -> usize
-    ensures { result ≡ length (starts_of by_words line.now) }
-{
-    let mut rest = line;
-    let mut is_after_blank = true;
-    let mut count = 0;
-    while let Some((byte, later)) = rest.split_first() {
-        rest = later;
-        let is_blank = is_blank(*byte);
-        if is_after_blank && !is_blank {
-            count += 1;
-        }
-        is_after_blank = is_blank;
-    }
-    count
 }
 
 // The number of tokens of a line, some of which may be quoted.
