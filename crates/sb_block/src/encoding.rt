@@ -182,10 +182,19 @@ pub fn encode(tag: CallTag, args: &[Arg], mark: u64) -> Result<Words, TooBig>
     Ok(words)
 }
 
+/// Whether a call encodes whose arguments fit it: its block has at most 64 words, whatever its mark
+/// is. The arguments are not tested again.
+pub fn has_small_block(tag: CallTag, args: &[Arg]) -> bool
+    requires { fits tag args.now ≡ true }
+    ensures { result ≡ encodes tag args.now }
+{
+    is_small(args)
+}
+
 /// Whether a call encodes: its arguments fit it, and its block has at most 64 words, whatever its
 /// mark is. It does not allocate and lays out no block.
 pub fn encodes(tag: CallTag, args: &[Arg]) -> bool
     ensures { result ≡ encodes tag args.now }
 {
-    fits(tag, args) && is_small(args)
+    fits(tag, args) && has_small_block(tag, args)
 }

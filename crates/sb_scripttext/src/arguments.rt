@@ -1,5 +1,6 @@
 // `call CALL ARG ..`: a call with its arguments.
-ghost use Rattle.std.specs.Prelude.{◌≡◌};
+ghost use Rattle.std.specs.Prelude.{◌≡◌, true};
+ghost use Rattle.sb_call.specs.Arguments.{fits};
 ghost use Rattle.sb_scripttext.specs.Arguments.{tag_at, arg_at, args_at, fitting, call};
 ghost use Rattle.sb_items.specs.Refusals.{Gives};
 ghost use Rattle.sb_text.specs.Steps.{Reads};
@@ -7,7 +8,7 @@ ghost use Rattle.sb_text.specs.Steps.{Reads};
 use crate::faults::ScriptKind::{TooBig, UnknownCall, UnknownWord, WrongArgs};
 use crate::faults::{KindRefused, LineRefused, ScriptKind};
 use crate::steps::{BROKEN, name_at, number_at, number_within, string_at};
-use sb_block::encodes;
+use sb_block::has_small_block;
 use sb_call::{Arg, Args, CallTag, ParamKind, shape, tag_of_word};
 use sb_statements::Statement;
 use sb_text::{Tokens, WordFault, end_at, or_fails, word_due};
@@ -64,11 +65,12 @@ fn args_at(alloc: Global, kinds: &[ParamKind], tokens: &mut Tokens) -> Result<Ar
     Ok(args)
 }
 
-// The statement of a call, if its block has at most 64 words.
+// The statement of a call whose arguments fit it, if its block has at most 64 words.
 fn fitting(tag: CallTag, args: Args) -> Result<Statement, KindRefused>
+    requires { fits tag args ≡ true }
     ensures { Gives (fitting tag args) result }
 {
-    if encodes(tag, args.as_slice()) {
+    if has_small_block(tag, args.as_slice()) {
         Ok(Statement::Call { tag, args })
     } else {
         Err(KindRefused::Fault(TooBig))
