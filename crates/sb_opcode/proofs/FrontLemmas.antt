@@ -1,14 +1,13 @@
 -- A fragment at the front of a string, folded.
 use Rattle.std.specs.Prelude.{Option, None, Some, is_some, nat_le, option_map, option_and_then}
-use Rattle.std.proofs.Common.{◌≡◌, ◌∙◌, ◌<◌, ℕ, suc, Bool, true, false, cond, List, [], ◌∷◌, length, map, take, drop, refl, ap, arith}
+use Rattle.std.proofs.Common.{◌≡◌, ◌∙◌, ◌<◌, ℕ, suc, Bool, true, false, cond, List, [], ◌∷◌, length, map, take, refl, ap, arith}
 use Rattle.std.proofs.lemmas.Bool.Decides.{nat_tests}
 use Rattle.sb_call.specs.Arguments.{arg_at}
 use Rattle.sb_call.specs.declared.arguments.Arg.{Arg}
 use Rattle.sb_call.specs.declared.arguments.Arg.TheVariants as arg
 use Rattle.sb_pattern.specs.declared.cells.Cell.{Cell}
 use Rattle.sb_opcode.specs.Fragments.{unit_fits, after_fragment, after_units, at_end, has_front}
-use Rattle.sb_opcode.specs.Meaning.{after_opcode, after_text}
-use Rattle.sb_opcode.specs.Options.{options_of}
+use Rattle.sb_opcode.specs.Meaning.{after_opcode}
 use Rattle.sb_opcode.specs.Unpacking.{cell_of}
 use Rattle.sb_opcode.specs.Walking.{Between, all_so_far, closed, front_opcode, group_end, is_front, step}
 
