@@ -1,14 +1,18 @@
 -- What is known of a sound script.
 use Rattle.std.proofs.Common.{◌≡◌, refl, sym, subst, ◌<◌, ◌≤◌, ℕ, zero, suc, List, [], ◌∷◌, Bool, true, ◌&&◌, length, arith}
-use Rattle.std.proofs.lemmas.Bool.{and_parts}
+use Rattle.std.proofs.lemmas.Bool.{and_from, and_parts}
 use Rattle.std.proofs.lemmas.Bool.Decides.{nat_tests}
 use Rattle.std.specs.Prelude.{nat_le, Option, None, Some, option_map, slice_get, IfSome}
 use Rattle.std.specs.List.{list_all}
+use Rattle.sb_block.specs.Blocks.{encodes, has_units}
 use Rattle.sb_statements.specs.Limits.{most_statements}
 use Rattle.sb_statements.specs.Soundness.{is_patience, is_start, is_statement, is_thread, is_target, are_targets, names_differ, is_sound, channels_of, SoundTargets, SoundStatements}
+use Rattle.sb_statements.specs.Units.{script_has_units, statement_has_units, target_has_units, thread_has_units}
 use Rattle.sb_statements.specs.declared.scripts.Script.{Script}
 use Rattle.sb_statements.specs.declared.scripts.TargetScript.{TargetScript}
 use Rattle.sb_statements.specs.declared.statements.Statement.{Statement}
+use Rattle.sb_statements.specs.declared.statements.Statement.TheVariants.{Call, Store, Exchange, Load, Wait}
+use Rattle.sb_actor.specs.Found.{AreFound, IsFound, is_encoded}
 use Rattle.sb_actor.specs.Places.{threads_of, or_none, statement_at}
 
 pub sound_patience : (script : Script) → is_sound script ≡ true → 0 < script.patience
@@ -77,41 +81,70 @@ thread_length targets target k statements h e =
     let low = (and_parts (nat_le (length statements) 4096) (list_all (is_statement targets) statements) one).0 in
     grind (arith, nat_tests, low)
 
+-- and at most 4 threads
+few_threads : (targets : List TargetScript) (target : TargetScript) → is_target targets target ≡ true → length target.threads ≤ 4
+few_threads targets target h =
+    let few = nat_le 1 target.channels && nat_le target.channels 8 in
+    let all = and_parts (few && nat_le (length target.threads) 4) (list_all (is_thread targets) target.threads) h in
+    let low = (and_parts few (nat_le (length target.threads) 4) all.0).1 in
+    grind (arith, nat_tests, low)
+
 -- what holds of what is found holds of what was given
 pub lifted : {X Y : Type 0} (f : X → Y) (P : Y → Type 0) (o : Option X) (p : Option Y) → option_map f o ≡ p → IfSome p P → IfSome o (λ x. P (f x))
 lifted f P None p e h = tt
 lifted f P (Some x) p e h = subst (λ q. IfSome q P) (sym e) h
 
-module _ (script : Script) (t k i : ℕ) (h : is_sound script ≡ true) where
-  pub sound_at : SoundStatements → IfSome (statement_at script t k i) (λ s. is_statement script.targets s ≡ true)
-  sound_at law = by_target (slice_get script.targets t) refl
+-- what holds of each statement of a thread that is there holds of the one at a place
+module _ (script : Script) (t k i : ℕ) (P : Statement → Type 0)
+    (each : (target : TargetScript) (statements : List Statement) (s : Statement) → slice_get script.targets t ≡ Some target
+    → slice_get target.threads k ≡ Some statements → slice_get statements i ≡ Some s → P s) where
+  at_place : IfSome (statement_at script t k i) P
+  at_place = by_target (slice_get script.targets t) refl
     where
       by_statement : (target : TargetScript) (statements : List Statement) → slice_get script.targets t ≡ Some target → slice_get target.threads k ≡ Some statements
-          → (o : Option Statement) → slice_get statements i ≡ o → IfSome o (λ s. is_statement script.targets s ≡ true)
+          → (o : Option Statement) → slice_get statements i ≡ o → IfSome o P
       by_statement target statements e f None g = tt
-      by_statement target statements e f (Some s) g = law script t k i target statements s h e f g
+      by_statement target statements e f (Some s) g = each target statements s e f g
 
       by_thread : (target : TargetScript) → slice_get script.targets t ≡ Some target → (o : Option (List Statement)) → slice_get target.threads k ≡ o
-          → IfSome (slice_get (or_none o) i) (λ s. is_statement script.targets s ≡ true)
+          → IfSome (slice_get (or_none o) i) P
       by_thread target e None f = tt
       by_thread target e (Some statements) f = by_statement target statements e f (slice_get statements i) refl
 
-      by_target : (o : Option TargetScript) → slice_get script.targets t ≡ o → IfSome (slice_get (or_none (slice_get (threads_of o) k)) i) (λ s. is_statement script.targets s ≡ true)
+      by_target : (o : Option TargetScript) → slice_get script.targets t ≡ o → IfSome (slice_get (or_none (slice_get (threads_of o) k)) i) P
       by_target None e = tt
       by_target (Some target) e = by_thread target e (slice_get target.threads k) refl
 
-  pub place_at : SoundTargets → IfSome (statement_at script t k i) (λ s. i < most_statements)
-  place_at law = by_target (slice_get script.targets t) refl
-    where
-      by_statement : (statements : List Statement) → length statements ≤ most_statements → (o : Option Statement) → slice_get statements i ≡ o → IfSome o (λ s. i < most_statements)
-      by_statement statements l None g = tt
-      by_statement statements l (Some s) g = let w = within statements i s g in omega arith
+pub sound_at : (script : Script) (t k i : ℕ) → is_sound script ≡ true → SoundStatements → IfSome (statement_at script t k i) (λ s. is_statement script.targets s ≡ true)
+sound_at script t k i h law =
+    at_place script t k i (λ s. is_statement script.targets s ≡ true) (λ target statements s e f g. law script t k i target statements s h e f g)
 
-      by_thread : (target : TargetScript) → slice_get script.targets t ≡ Some target → (o : Option (List Statement)) → slice_get target.threads k ≡ o
-          → IfSome (slice_get (or_none o) i) (λ s. i < most_statements)
-      by_thread target e None f = tt
-      by_thread target e (Some statements) f = by_statement statements (thread_length script.targets target k statements (law script t target h e) f) (slice_get statements i) refl
+encoded : (targets : List TargetScript) (s : Statement) → is_statement targets s ≡ true → statement_has_units s ≡ true → is_encoded s ≡ true
+encoded targets (Call tag args) h u = and_from (encodes tag args) (list_all has_units args) h u
+encoded targets (Store target word value) h u = refl
+encoded targets (Exchange target word from to) h u = refl
+encoded targets (Load target word) h u = refl
+encoded targets (Wait target word value most) h u = refl
 
-      by_target : (o : Option TargetScript) → slice_get script.targets t ≡ o → IfSome (slice_get (or_none (slice_get (threads_of o) k)) i) (λ s. i < most_statements)
-      by_target None e = tt
-      by_target (Some target) e = by_thread target e (slice_get target.threads k) refl
+-- a sound script whose strings are made of units
+module _ (script : Script) (t k i : ℕ) (h : is_sound script ≡ true) (u : script_has_units script ≡ true) where
+  found_at : SoundTargets → SoundStatements → (target : TargetScript) (statements : List Statement) (s : Statement) → slice_get script.targets t ≡ Some target
+      → slice_get target.threads k ≡ Some statements → slice_get statements i ≡ Some s → IsFound script.targets t k i s
+  found_at targets_law law target statements s e f g =
+      let there = within script.targets t target e in
+      let thread = within target.threads k statements f in
+      let place = within statements i s g in
+      let eight = few_targets script h in
+      let sound = targets_law script t target h e in
+      let four = few_threads script.targets target sound in
+      let most = thread_length script.targets target k statements sound f in
+      let statement = law script t k i target statements s h e f g in
+      let target_units = one_of_all target_has_units script.targets t target u e in
+      let thread_units = one_of_all thread_has_units target.threads k statements target_units f in
+      let units = one_of_all statement_has_units statements i s thread_units g in
+      record { of_target = omega arith; of_thread = omega arith; at_place = omega arith; sound = statement; encoded = encoded script.targets s statement units }
+
+pub are_found : SoundTargets → SoundStatements → (script : Script) → is_sound script ≡ true → script_has_units script ≡ true → AreFound script
+are_found targets_law law script h u = record {
+  each = λ t k i. at_place script t k i (λ s. IsFound script.targets t k i s) (found_at script t k i h u targets_law law);
+}

@@ -12,7 +12,8 @@ use Rattle.sb_block.specs.Copies.{Copied, copied, is_end, whole, mark_of}
 use Rattle.sb_block.specs.Packing.{offset_of}
 use Rattle.sb_actor.specs.Views.{Served, Had, ThreadPlace, Try, Fill, Wait, Fetch, ThreadView, WorkerPlace, Look, Count, End, Copy, Whole, Reply, WorkerView}
 use Rattle.sb_actor.specs.Moves.{at, is_clean, next, IsBlock, Deed, met, wrote, counted, ended_at, copied_to, worker_result, WorkerMay, look, load_count, load_end, copy, answer, acknowledge}
-use Rattle.sb_actor.specs.Rule.{Mid, idle, filling, ready, acked, owner, Row, row, sees, Stands, Chan, Reads, IsReply, is_of, calls_of, as_served, place, served_at, waiting, Agrees, Replies, is_on, Last, FitsThread, FitsWorker, Rule}
+use Rattle.sb_actor.specs.Ranges.{IsReplyTo}
+use Rattle.sb_actor.specs.Rule.{Mid, idle, filling, ready, acked, owner, Row, row, sees, Stands, Chan, Reads, is_of, calls_of, as_served, place, served_at, waiting, Agrees, Replies, is_on, Last, FitsThread, FitsWorker, Rule}
 use Rattle.sb_actor.proofs.Lists.{at_snoc, take_snoc}
 use Rattle.sb_actor.proofs.Rows.{put, put_here, put_else, upd, upd_here, upd_else, row_else, row_here, row_at, stands_more, stands_else}
 use Rattle.sb_actor.proofs.Parts.{off, thread_else}
@@ -305,9 +306,9 @@ module _ (clean : List Bool) (words : List ℕ) (threads : List ThreadView) (w :
       unclean_call : (q : ℕ) → is_clean clean c ≡ false → is_of clean q (serve c t a) ≡ false
       unclean_call q un = rw un refl
 
-      replied_at : length a ≡ 12 → (z : ℕ) (x : Served) → get_elem? served z ≡ some x → IsReply x.taken x.reply
+      replied_at : length a ≡ 12 → (z : ℕ) (x : Served) → get_elem? served z ≡ some x → IsReplyTo x.taken x.reply
       replied_at la z x e = ⊎_elim (λ (o : get_elem? sv z ≡ some x). r.fits_worker.replied z x o)
-          (λ (o : (z ≡ length sv) × (serve c t a ≡ x)). subst (λ (y : Served). IsReply y.taken y.reply) o.1 record { size = la; mark = r.fits_worker.replies.2 }) (at_snoc sv (serve c t a) x z e)
+          (λ (o : (z ≡ length sv) × (serve c t a ≡ x)). subst (λ (y : Served). IsReplyTo y.taken y.reply) o.1 record { size = la; mark = r.fits_worker.replies.2 }) (at_snoc sv (serve c t a) x z e)
 
       borne_at : (is_clean clean c ≡ true → (k : ℕ) × (k < n) × (mark_of t / 65536 ≡ k + 1)) → (z : ℕ) (x : Served) → get_elem? served z ≡ some x → is_clean clean x.channel ≡ true → (k : ℕ) × (k < n) × (mark_of x.taken / 65536 ≡ k + 1)
       borne_at mine z x e cl = ⊎_elim (λ (o : get_elem? sv z ≡ some x). r.fits_worker.borne z x o cl)

@@ -4,6 +4,7 @@ pub mod Endings
 pub mod Findings
 pub mod Fitting
 pub mod Following
+pub mod Found
 pub mod Laws
 pub mod Moves
 pub mod Observations

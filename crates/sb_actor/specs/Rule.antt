@@ -15,6 +15,7 @@ use lib.ListN.{get_elem?}
 use Rattle.sb_block.specs.Copies.{Copied, whole, mark_of}
 use Rattle.sb_actor.specs.Views.{Served, Had, ThreadPlace, Try, Fill, Wait, Fetch, ThreadView, WorkerPlace, Look, Count, End, Copy, Whole, Reply, WorkerView}
 use Rattle.sb_actor.specs.Moves.{IsBlock, is_clean}
+use Rattle.sb_actor.specs.Ranges.{IsReplyTo}
 
 -- what the rule knows of a clean channel: who is at it, by number, with what
 pub data Mid : Type 0 where
@@ -44,11 +45,6 @@ Stands words n j f = (i : ℕ) → i < n → f (j + i) ≡ slice_index words i
 abbrev pub sees : ℕ → WorkerView → WorkerPlace
 sees c v = cond (c == v.channel) v.place Look
 
--- a reply of twelve words, which bears the mark of its copy
-pub record IsReply (taken : Copied) (reply : List ℕ) : Type 0 where
-  pub size : length reply ≡ 12
-  pub mark : slice_index reply 0 ≡ mark_of taken
-
 -- what the worker has loaded and stored at a channel in state 3 with this block
 abbrev pub Reads : List ℕ → Row → WorkerPlace → Type 0
 Reads block f Look = Stands block (length block) 1 f
@@ -63,7 +59,7 @@ abbrev pub Chan : Mid → WorkerPlace → Row → Type 0
 Chan idle p f = (f 0 ≡ 1) × (p ≡ Look)
 Chan (filling k words) p f = (f 0 ≡ 2) × (p ≡ Look) × (length words ≤ 64) × Stands words (length words) 1 f
 Chan (ready k block) p f = (f 0 ≡ 3) × IsBlock k block × Reads block f p
-Chan (acked k block reply) p f = (f 0 ≡ 4) × IsBlock k block × (p ≡ Look) × IsReply (whole block) reply × Stands reply 12 4 f
+Chan (acked k block reply) p f = (f 0 ≡ 4) × IsBlock k block × (p ≡ Look) × IsReplyTo (whole block) reply × Stands reply 12 4 f
 
 -- a served call on a clean channel whose mark bears the number k
 abbrev pub is_of : List Bool → ℕ → Served → Bool
@@ -142,7 +138,7 @@ module _ (clean : List Bool) (mids : ℕ → Mid) (threads : ℕ) where
     pub owners : (c k : ℕ) → is_clean clean c ≡ true → owner (mids c) ≡ some k → k < threads
     pub bearers : (k : ℕ) → threads ≤ k → calls_of clean k v.served ≡ []
     pub borne : (n : ℕ) (x : Served) → get_elem? v.served n ≡ some x → is_clean clean x.channel ≡ true → (k : ℕ) × (k < threads) × (mark_of x.taken / 65536 ≡ k + 1)
-    pub replied : (n : ℕ) (x : Served) → get_elem? v.served n ≡ some x → IsReply x.taken x.reply
+    pub replied : (n : ℕ) (x : Served) → get_elem? v.served n ≡ some x → IsReplyTo x.taken x.reply
     pub replies : Replies v.place
 
 -- a call served on channel c

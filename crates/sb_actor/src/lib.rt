@@ -25,6 +25,6 @@ pub use laws::{
     results_have_causes, results_have_steps, starts_in_rule, stray_keeps_rule, thread_follows,
     thread_keeps_rule, waits_end_for_cause, worker_follows, worker_keeps_rule,
 };
-pub use places::{mark_at, statement_at};
+pub use places::{establish_found, mark_at, sound_statement_at, statement_at};
 pub use threads::ThreadState;
 pub use workers::WorkerState;

@@ -1,7 +1,6 @@
 // The statements of a thread.
 ghost use Rattle.std.specs.Prelude.{◌≡◌, ◌<◌, ◌≤◌, length, true, option_map, IfSome};
-ghost use Rattle.sb_statements.specs.Limits.{most_statements};
-ghost use Rattle.sb_statements.specs.Soundness.{is_statement};
+ghost use Rattle.sb_actor.specs.Found.{AreFound, IsFound};
 ghost use Rattle.sb_actor.specs.Places.{statements_of, statement_at, mark_at, clean_upto};
 ghost use Rattle.sb_block.specs.Blocks.{block, encodes};
 ghost use Rattle.sb_statements.specs.CleanTables.{IsCleanTable};
@@ -43,20 +42,27 @@ pub fn statement_at(
     statements_of(script, target, thread).get(place)
 }
 
-/// The statement at a place, which is sound, and at one of at most 4,096 places.
-pub(crate) fn sound_statement_at(
-    script: &SoundScript,
-    target: u32,
-    thread: u32,
-    place: u32,
-) -> Option<&Statement>
-    ensures value { option_map (λ s. s.now) result ≡ statement_at script.now target thread place }
-    ensures statement { IfSome result (λ s. is_statement script.now.targets s.now ≡ true) }
-    ensures place { IfSome result (λ s. place < most_statements) }
+/// What holds of each statement of a script by its place: it is sound, and one of at most 4,096 of one of at most 4 threads of one of at
+/// most 8 targets. It does nothing.
+pub fn establish_found(script: &SoundScript)
+    ensures { AreFound script.now }
 {
     sound_parts();
     script.establish_sound();
-    statement_at(script, target, thread as usize, place as usize)
+}
+
+/// The statement at a place of a thread of a target, if there is one, with what is known of it.
+pub fn sound_statement_at(
+    script: &SoundScript,
+    target: u32,
+    thread: usize,
+    place: usize,
+) -> Option<&Statement>
+    ensures value { option_map (λ s. s.now) result ≡ statement_at script.now target thread place }
+    ensures found { IfSome result (λ s. IsFound script.now.targets target thread place s.now) }
+{
+    establish_found(script);
+    statement_at(script, target, thread, place)
 }
 
 /// The block of a call.

@@ -192,7 +192,7 @@ impl ThreadState {
         ensures { self.new ≡ begins script.now self.old place }
     {
         self.place = place;
-        match sound_statement_at(script, self.target, self.thread, place) {
+        match sound_statement_at(script, self.target, self.thread as usize, place as usize) {
             Some(Statement::Call { tag, args }) => {
                 self.block = block_of(*tag, args.as_slice(), mark_at(self.thread, place));
                 self.channel = 0;
