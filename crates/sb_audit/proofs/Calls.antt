@@ -20,7 +20,7 @@ use Rattle.std.specs.Prelude.{Some, nat_le, length}
 use Rattle.sb_block.specs.Layout.{most_words}
 use Rattle.sb_audit.specs.Clauses.{has_rule, is_allow, is_decided, only_reads, shows_rule}
 use Rattle.sb_audit.specs.Comparing.{same_decision}
-use Rattle.sb_audit.specs.Found.{is_encoded}
+use Rattle.sb_actor.specs.Found.{is_encoded}
 use Rattle.sb_audit.specs.Kept.{shown_fits}
 
 pub call_decided : BlocksComeBack → (policy : Policy) (tag : CallTag) (args : List Arg) (mark : ℕ) (d : ShownDecision) → is_encoded (Call tag args) ≡ true

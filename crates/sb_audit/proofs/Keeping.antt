@@ -6,13 +6,13 @@ use Rattle.std.proofs.lemmas.List.Folds.{list_any-append}
 use Rattle.std.proofs.lemmas.List.Sums.{sum_by-append, sum_by-cons}
 use Rattle.std.specs.Prelude.{Option, None, Some, IfSome, is_some, cond, nat_le}
 use Rattle.std.specs.List.{count_by, list_any, sum_by}
+use Rattle.sb_actor.specs.Found.{AreFound, IsFound}
 use Rattle.sb_actor.specs.Places.{mark_at, statement_at}
 use Rattle.sb_kernel.specs.Namespaces.{Space}
 use Rattle.sb_kernel.specs.Openings.{opening}
 use Rattle.sb_rule.specs.declared.policies.Policy.{Policy}
+use Rattle.sb_statements.specs.Limits.{most_statements}
 use Rattle.sb_statements.specs.Scripts.{is_clean}
-use Rattle.sb_statements.specs.Soundness.{is_sound}
-use Rattle.sb_statements.specs.Units.{script_has_units}
 use Rattle.sb_statements.specs.declared.scripts.Script.{Script}
 use Rattle.sb_statements.specs.declared.statements.Statement.{Statement}
 use Rattle.sb_lineread.specs.declared.lines.EntryLine.{EntryLine}
@@ -28,13 +28,11 @@ use Rattle.sb_audit.specs.Before.{entries_of, entry_count, has_totals, is_result
 use Rattle.sb_audit.specs.Clauses.{answers_call, count_of, fits_entries, has_channel, has_entry, is_above, is_answered, is_denied, is_due, is_due_after, is_faked, is_fitting, is_of_call, is_own, is_performed, is_refused, needs_entry, place_of, reply_due, same_totals, shows_rule, suits, thread_of, totals_due}
 use Rattle.sb_audit.specs.Comparing.{same_reply}
 use Rattle.sb_audit.specs.Dues.{due_after, due_call, due_channel, due_form, due_reply, due_result, due_rule}
-use Rattle.sb_audit.specs.Found.{IsFound}
 use Rattle.sb_audit.specs.Kept.{EntryFollows, Follows, KeptAt, Keeps, after_result, after_totals, clause_kept, decision_kept, due_kept, entry_kept, failing_kept, is_call_kept, is_fitting_kept, is_own_kept, no_totals, one_if, result_due_kept, result_kept, suits_slot, totals_kept, with_entry, with_result}
 use Rattle.sb_audit.specs.Rows.{KeepsRows, fits_slot, has_slot, row_at, slot_at}
 use Rattle.sb_audit.specs.declared.dues.Due.{Due}
 use Rattle.sb_audit.specs.declared.dues.Due.TheVariants as due
 use Rattle.sb_audit.specs.declared.slots.OwnReply.{OwnReply}
-use Rattle.sb_audit.proofs.FoundLemmas.{found}
 use Rattle.sb_audit.proofs.RowSteps.{rows_follow}
 
 -- ---- the clauses, as they look at what is kept
@@ -56,6 +54,10 @@ none_answers script target mark (e ∷ es) =
     by_answer : (a f more : Bool) → f ≡ not more → ((not a || false) && f) ≡ not (a || more)
     by_answer true f more h = refl
     by_answer false f more h = h
+
+-- a thread has fewer statements than marks
+small : (place : ℕ) → place < most_statements → place < 65536
+small place l = omega arith
 
 module _ (policies : List Policy) (script : Script) (before : List Line) (kept : KeptAt) (keeps : Keeps script before kept) where
   own_is : (policy : Policy) (target : ℕ) (e : EntryLine) → is_own_kept policy script kept.rows target e ≡ is_own policy script (entries_of before) target e
@@ -87,14 +89,14 @@ module _ (policies : List Policy) (script : Script) (before : List Line) (kept :
       by_tests false true = refl
       by_tests false false = refl
 
-  fitting_is : is_sound script ≡ true → script_has_units script ≡ true → (target : ℕ) (r : ResultLine)
+  fitting_is : AreFound script → (target : ℕ) (r : ResultLine)
       → is_fitting_kept script kept.rows target r ≡ is_fitting script (entries_of before) target r
-  fitting_is sound units target r = by_statement (statement_at script target r.thread r.place) (found script target r.thread r.place sound units)
+  fitting_is found target r = by_statement (statement_at script target r.thread r.place) (found.each target r.thread r.place)
     where
       mark : ℕ
       mark = mark_at r.thread r.place
 
-      by_statement : (s : Option Statement) → IfSome s (λ x. IsFound target r.thread r.place x)
+      by_statement : (s : Option Statement) → IfSome s (λ x. IsFound script.targets target r.thread r.place x)
           → (suits script target (mark_at r.thread r.place) r.result s && suits_slot script target r.result (slot_at kept.rows target r.thread r.place))
           ≡ (suits script target (mark_at r.thread r.place) r.result s
           && (not (needs_entry script target r.result) || has_entry script (entries_of before) target (mark_at r.thread r.place) r.result)
@@ -111,7 +113,7 @@ module _ (policies : List Policy) (script : Script) (before : List Line) (kept :
           (has_entry script (entries_of before) target (mark_at r.thread r.place) r.result) (has_slot r.result (slot_at kept.rows target r.thread r.place))
           (fits_entries script (entries_of before) target (mark_at r.thread r.place) r.result) (fits_slot r.result (slot_at kept.rows target r.thread r.place))
           (suits_slot script target r.result (slot_at kept.rows target r.thread r.place))
-          (keeps.rows.has target r.thread r.place r.result h.at_place) (keeps.rows.fits target r.thread r.place r.result h.at_place)
+          (keeps.rows.has target r.thread r.place r.result (small r.place h.at_place)) (keeps.rows.fits target r.thread r.place r.result (small r.place h.at_place))
           (slot_is target r.result (slot_at kept.rows target r.thread r.place))
         where
           joined : (s n h h' f f' x : Bool) → h ≡ h' → f ≡ f' → ((n || h') && f') ≡ x → (s && x) ≡ (s && (n || h) && f)
@@ -131,28 +133,28 @@ module _ (policies : List Policy) (script : Script) (before : List Line) (kept :
       by_slot (Some own) true h = refl
       by_slot (Some own) false h = h
 
-  result_due_is : is_sound script ≡ true → script_has_units script ≡ true → (target : ℕ) (r : ResultLine)
+  result_due_is : AreFound script → (target : ℕ) (r : ResultLine)
       → due.Result (result_due_kept script kept.rows target r) ≡ result_due script (entries_of before) target r
-  result_due_is sound units target r = by_statement (statement_at script target r.thread r.place) (found script target r.thread r.place sound units)
+  result_due_is found target r = by_statement (statement_at script target r.thread r.place) (found.each target r.thread r.place)
     where
-      by_statement : (s : Option Statement) → IfSome s (λ x. IsFound target r.thread r.place x)
+      by_statement : (s : Option Statement) → IfSome s (λ x. IsFound script.targets target r.thread r.place x)
           → due.Result (due_result script (is_some (slot_at kept.rows target r.thread r.place)) target (mark_at r.thread r.place) r.result s)
           ≡ due.Result (due_result script (is_answered script (entries_of before) target (mark_at r.thread r.place)) target (mark_at r.thread r.place) r.result s)
       by_statement None h = refl
       by_statement (Some s) h =
-          ap (λ answered. due.Result (due_result script answered target (mark_at r.thread r.place) r.result (Some s))) (answered_is target r.thread r.place h.at_place)
+          ap (λ answered. due.Result (due_result script answered target (mark_at r.thread r.place) r.result (Some s))) (answered_is target r.thread r.place (small r.place h.at_place))
 
-  result_is : is_sound script ≡ true → script_has_units script ≡ true → (r : ResultLine) (named : Option ℕ)
+  result_is : AreFound script → (r : ResultLine) (named : Option ℕ)
       → result_kept script kept.rows r named ≡ result_clause script (entries_of before) r named
-  result_is sound units r None = refl
-  result_is sound units r (Some target) =
-      ap (λ b. if b then None else Some (due.Result (result_due_kept script kept.rows target r))) (fitting_is sound units target r)
-      ∙ ap (λ d. if is_fitting script (entries_of before) target r then None else Some d) (result_due_is sound units target r)
+  result_is found r None = refl
+  result_is found r (Some target) =
+      ap (λ b. if b then None else Some (due.Result (result_due_kept script kept.rows target r))) (fitting_is found target r)
+      ∙ ap (λ d. if is_fitting script (entries_of before) target r then None else Some d) (result_due_is found target r)
 
-  clause_is : is_sound script ≡ true → script_has_units script ≡ true → (l : Line) → clause_kept policies script kept l ≡ clause_at policies script before l
-  clause_is sound units (line.Entry e) = entry_is e (target_of script e.target)
-  clause_is sound units (line.Result r) = result_is sound units r (target_of script r.target)
-  clause_is sound units (line.Totals t) = ap (λ totals. if same_totals t totals then None else Some (due.Totals totals)) keeps.totals
+  clause_is : AreFound script → (l : Line) → clause_kept policies script kept l ≡ clause_at policies script before l
+  clause_is found (line.Entry e) = entry_is e (target_of script e.target)
+  clause_is found (line.Result r) = result_is found r (target_of script r.target)
+  clause_is found (line.Totals t) = ap (λ totals. if same_totals t totals then None else Some (due.Totals totals)) keeps.totals
 
   due_is : (l : Line) → is_due_after script kept.ended kept.totals.entries kept.totals.results l ≡ is_due script before l
   due_is l = ap (λ ended. is_due_after script ended kept.totals.entries kept.totals.results l) keeps.ended
@@ -162,10 +164,10 @@ module _ (policies : List Policy) (script : Script) (before : List Line) (kept :
   after_is = ap (λ ended. due.Form (due_form script ended kept.totals.entries kept.totals.results)) keeps.ended
       ∙ ap (λ (totals : TotalsLine). due.Form (due_form script (has_totals before) totals.entries totals.results)) keeps.totals
 
-  pub failing_is : is_sound script ≡ true → script_has_units script ≡ true → (l : Line) → failing_kept policies script kept l ≡ failing policies script before l
-  failing_is sound units l =
+  pub failing_is : AreFound script → (l : Line) → failing_kept policies script kept l ≡ failing policies script before l
+  failing_is found l =
       ap (λ here. if here then clause_kept policies script kept l else Some (due_kept script kept)) (due_is l)
-      ∙ (ap (λ clause. if is_due script before l then clause else Some (due_kept script kept)) (clause_is sound units l)
+      ∙ (ap (λ clause. if is_due script before l then clause else Some (due_kept script kept)) (clause_is found l)
       ∙ ap (λ after. if is_due script before l then clause_at policies script before l else Some after) after_is)
 
 -- ---- one line more

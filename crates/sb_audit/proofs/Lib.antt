@@ -1,7 +1,6 @@
 pub mod Calls
 pub mod Clean
 pub mod Converse
-pub mod FoundLemmas
 pub mod Keeping
 pub mod Policies
 pub mod Printing

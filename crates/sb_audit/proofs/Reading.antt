@@ -3,9 +3,8 @@ use Rattle.std.proofs.Common.{◌≡◌, refl, sym, subst, ap, ◌∙◌, ◌<�
 use Rattle.std.proofs.lemmas.List.Sums.{count_by-le-length}
 use Rattle.std.specs.Prelude.{Option, None, Some, ⊤}
 use Rattle.std.specs.List.{onto_first}
+use Rattle.sb_actor.specs.Found.{AreFound}
 use Rattle.sb_rule.specs.declared.policies.Policy.{Policy}
-use Rattle.sb_statements.specs.Soundness.{is_sound}
-use Rattle.sb_statements.specs.Units.{script_has_units}
 use Rattle.sb_statements.specs.declared.scripts.Script.{Script}
 use Rattle.sb_text.specs.Lines.{NumberedRawLine, is_ended, numbered_from, numbered_raw_lines, raw_lines}
 use Rattle.sb_lineread.specs.declared.lines.EntryLine.{EntryLine}
@@ -109,7 +108,7 @@ start_read policies script kept text keeps = record {
   count = refl;
 }
 
-module _ (policies : List Policy) (script : Script) (sound : is_sound script ≡ true) (units : script_has_units script ≡ true) (whole : AuditAnswer) (most : ℕ)
+module _ (policies : List Policy) (script : Script) (found : AreFound script) (whole : AuditAnswer) (most : ℕ)
     (kept : KeptAt) (last : ℕ) (raw : NumberedRawLine) (rest : List NumberedRawLine) (read : IsRead policies script whole most kept last (raw ∷ rest)) where
   pub small_enough : most + 1 < 2 ^ 32 → AreAtMost (2 ^ 32) kept.totals
   small_enough short =
@@ -120,7 +119,7 @@ module _ (policies : List Policy) (script : Script) (sound : is_sound script ≡
 
   line_is : (l : Option Line) → failing_line_kept policies script kept raw.is_ended l ≡ failing_line policies script read.before raw.is_ended l
   line_is None = ap (λ after. Some (due_unread raw.is_ended after)) (after_is policies script read.before kept read.keeps)
-  line_is (Some l) = failing_is policies script read.before kept read.keeps sound units l
+  line_is (Some l) = failing_is policies script read.before kept read.keeps found l
 
   answered : audited_from policies script read.before last (raw ∷ rest)
       ≡ answer_at (failing_line_kept policies script kept raw.is_ended (ended_line raw)) raw.number (audited_from policies script (with_line read.before (ended_line raw)) raw.number rest)

@@ -5,7 +5,6 @@ pub mod Clauses
 pub mod Comparing
 pub mod Converse
 pub mod Dues
-pub mod Found
 pub mod Kept
 pub mod Laws
 pub mod Rows

@@ -72,7 +72,7 @@ fn answer<J: Judge>(
     requires short { length text.now + 1 < 2 ^ 32 }
     ensures { IfOk result (λ a. a ≡ audited context.now.policies context.now.script text.now) }
 {
-    context.establish_sound();
+    context.establish_found();
     let mut lines = RawLines::new(text);
     let mut last = 0;
     while let Some(raw) = lines.next_line() {

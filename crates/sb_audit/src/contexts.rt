@@ -1,12 +1,13 @@
 // What a transcript is audited against.
 ghost use Rattle.std.specs.Prelude.{◌≡◌, ◌<◌, length};
+ghost use Rattle.sb_actor.specs.Found.{AreFound};
 ghost use Rattle.sb_actor.specs.Places.{clean_channels};
 ghost use Rattle.sb_actor.specs.ThreadTable.{has_clean};
 ghost use Rattle.sb_statements.specs.Scripts.{is_clean};
-ghost use Rattle.sb_statements.specs.SoundScripts.{IsSoundScript};
 ghost use Rattle.sb_audit.specs.Audited.{policy_of};
 ghost use Rattle.sb_audit.specs.Clauses.{has_channel};
 
+use sb_actor::establish_found;
 use sb_book::ReadyScript;
 use sb_rule::Policy;
 use sb_statements::{CleanTable, SoundScript, clean_table, sound_parts};
@@ -54,11 +55,11 @@ impl<'a> Context<'a> {
         self.ready.script()
     }
 
-    /// What holds of the script. It does nothing.
-    pub(crate) fn establish_sound(&self)
-        ensures { IsSoundScript self.now.script }
+    /// What holds of each statement of the script by its place. It does nothing.
+    pub(crate) fn establish_found(&self)
+        ensures { AreFound self.now.script }
     {
-        self.script().establish_sound();
+        establish_found(self.script());
     }
 
     /// The policy of a target, which must be there.

@@ -9,15 +9,15 @@ ghost use Rattle.sb_audit.specs.Audited.{policy_of};
 ghost use Rattle.sb_audit.specs.Clauses.{is_decided};
 ghost use Rattle.sb_audit.specs.Comparing.{same_decision};
 ghost use Rattle.sb_audit.specs.Dues.{due_call, due_decision};
-ghost use Rattle.sb_audit.specs.Found.{is_encoded};
+ghost use Rattle.sb_actor.specs.Found.{is_encoded};
 ghost use Rattle.sb_audit.specs.Kept.{IsOwnPlace};
 
 use crate::arguments::{same_arguments, same_read_only, same_tag};
 use crate::contexts::Context;
 use crate::dues::OwnDue;
 use crate::own_places::OwnPlace;
-use crate::places::sound_statement_at;
 use crate::rows::Rows;
+use sb_actor::sound_statement_at;
 use sb_block::blocks_come_back;
 use sb_call::{Arg, CallTag};
 use sb_lineread::{EntryLine, ShownDecision};

@@ -1,17 +1,14 @@
 // Where a script has its targets and its statements.
-ghost use Rattle.std.specs.Prelude.{◌≡◌, ◌<◌, ◌++◌, ◌+◌, List, length, nat_eq, option_map, slice_get, Some, IfOk, IfErr, IfSome};
+ghost use Rattle.std.specs.Prelude.{◌≡◌, ◌<◌, ◌++◌, ◌+◌, List, length, nat_eq, slice_get, Some, IfOk, IfErr, IfSome};
 ghost use Rattle.std.specs.Cmp.Lexicographic.{pointwise};
 ghost use Rattle.std.specs.List.{position};
-ghost use Rattle.sb_actor.specs.Places.{statement_at};
 ghost use Rattle.sb_audit.specs.Before.{target_of};
-ghost use Rattle.sb_audit.specs.Found.{IsFound};
 ghost use Rattle.sb_audit.specs.Spots.{thread_places, due_spot};
 ghost use Rattle.sb_audit.specs.declared.spots.Spot.{Spot};
 
 use crate::spots::Spot;
-use sb_actor::statement_at;
 use sb_call::ShortName;
-use sb_statements::{SoundScript, Statement, Statements, TargetScript, sound_parts};
+use sb_statements::{SoundScript, Statements, TargetScript};
 
 fn named(targets: &[TargetScript], name: &ShortName) -> Option<usize>
     ensures number { result ≡ position (λ target. pointwise nat_eq target.name name.now) targets.now }
@@ -28,21 +25,6 @@ pub(crate) fn target_of(script: &SoundScript, name: &ShortName) -> Option<u32>
     let _at_most_8 = script.target_count();
     let target = named(&script.targets, name)?;
     Some(target as u32)
-}
-
-/// The statement at a place of a thread of a target, if there is one. It is sound, and its place is small.
-pub(crate) fn sound_statement_at(
-    script: &SoundScript,
-    target: u32,
-    thread: usize,
-    place: usize,
-) -> Option<&Statement>
-    ensures value { option_map (λ s. s.now) result ≡ statement_at script.now target thread place }
-    ensures found { IfSome result (λ s. IsFound target thread place s.now) }
-{
-    sound_parts();
-    script.establish_sound();
-    statement_at(script, target, thread, place)
 }
 
 // Statement `n` of these threads of a target, counted from 0 over all of them, or how far `n` is past the last.

@@ -6,11 +6,10 @@ ghost use Rattle.sb_audit.specs.Kept.{is_fitting_kept, result_due_kept, suits_sl
 
 use crate::contexts::Context;
 use crate::dues::ResultDue;
-use crate::places::sound_statement_at;
 use crate::replies::same_reply;
 use crate::rows::Rows;
 use crate::slots::OwnReply;
-use sb_actor::{BUSY, mark_at};
+use sb_actor::{BUSY, mark_at, sound_statement_at};
 use sb_lineread::{ResultLine, ShownReply, ShownResult};
 use sb_statements::Statement;
 

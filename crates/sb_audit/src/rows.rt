@@ -4,13 +4,12 @@ ghost use Rattle.sb_audit.specs.Rows.{IsPut, IsPutInto, row_at, slot_at};
 
 use crate::slots::OwnReply;
 use sb_items::NoMemory;
+use sb_statements::MOST_THREADS;
 use std::alloc::Global;
 use std::marker::Model;
 
-// The most threads of all targets of a script, and of one.
+// The most threads of all targets of a script.
 const MOST_ROWS: usize = 32;
-
-const MOST_THREADS: usize = 4;
 
 /// The replies of the entries on clean channels that have marks of one thread: each at the place of its call, up to the last place that
 /// has one. Contracts see the list.

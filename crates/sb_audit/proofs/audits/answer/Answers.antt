@@ -22,7 +22,7 @@ failing-requires-clause-small g c κs within =
     let script = c.args.context.now.script in
     let text = c.args.text.now in
     let raw : NumberedRawLine = record { number = c.in-Some.raw.number; bytes = c.in-Some.raw.bytes.now; is_ended = c.in-Some.raw.is_ended } in
-    small_enough policies script c.establish_sound.ensures.sound c.establish_sound.ensures.units (audited policies script text) (length text) c.loop-raw.walk c.loop-raw.last
+    small_enough policies script c.establish_found.ensures (audited policies script text) (length text) c.loop-raw.walk c.loop-raw.last
     raw c.next_line.new.self
     (subst (λ (lines : List NumberedRawLine). IsRead policies script (audited policies script text) (length text) c.loop-raw.walk c.loop-raw.last lines) c.in-Some.ensures c.loop-raw.invariant)
     c.requires.short
@@ -34,7 +34,7 @@ returns-in-Some-2 g c =
     let text = c.args.text.now in
     let raw : NumberedRawLine = record { number = c.in-Some.raw.number; bytes = c.in-Some.raw.bytes.now; is_ended = c.in-Some.raw.is_ended } in
     c.refutation.ensures
-    ∙ stopped policies script c.establish_sound.ensures.sound c.establish_sound.ensures.units (audited policies script text) (length text) c.loop-raw.walk c.loop-raw.last
+    ∙ stopped policies script c.establish_found.ensures (audited policies script text) (length text) c.loop-raw.walk c.loop-raw.last
     raw c.next_line.new.self
     (subst (λ (lines : List NumberedRawLine). IsRead policies script (audited policies script text) (length text) c.loop-raw.walk c.loop-raw.last lines) c.in-Some.ensures c.loop-raw.invariant)
     c.in-Some-2.due (sym c.in_ok-due.ensures.clause ∙ c.in-Some-2.is)
@@ -49,7 +49,7 @@ loop-raw-preserved g c =
     let text = c.args.text.now in
     let raw : NumberedRawLine = record { number = c.in-Some.raw.number; bytes = c.in-Some.raw.bytes.now; is_ended = c.in-Some.raw.is_ended } in
     let none : c.in_ok-due.field-0 ≡ None = no_clause c.in_ok-due.field-0 c.in_default-2.not-Some in
-    next_read policies script c.establish_sound.ensures.sound c.establish_sound.ensures.units (audited policies script text) (length text) c.loop-raw.walk c.loop-raw.last
+    next_read policies script c.establish_found.ensures (audited policies script text) (length text) c.loop-raw.walk c.loop-raw.last
     raw c.next_line.new.self
     (subst (λ (lines : List NumberedRawLine). IsRead policies script (audited policies script text) (length text) c.loop-raw.walk c.loop-raw.last lines) c.in-Some.ensures c.loop-raw.invariant)
     c.failing.new.walk (sym c.in_ok-due.ensures.clause ∙ none) (c.in_ok-due.ensures.kept none)

@@ -1,7 +1,7 @@
 use Rattle.std.proofs.Common.{◌≡◌, sym, subst, true}
 use Rattle.sb_call.specs.Arguments.{fits}
 use Rattle.sb_statements.specs.declared.statements.Statement.{Statement}
-use Rattle.sb_audit.specs.Found.{is_encoded}
+use Rattle.sb_actor.specs.Found.{is_encoded}
 use Rattle.sb_audit.proofs.Calls.{call_fits}
 use Rattle.sb_audit.proofs.decisions.due_decision.Goals as goal
 

@@ -9,7 +9,7 @@ use Rattle.sb_rule.specs.declared.verdicts.Verdict.{Verdict}
 use Rattle.sb_statements.specs.declared.statements.Statement.{Statement}
 use Rattle.sb_audit.specs.Clauses.{is_decided}
 use Rattle.sb_audit.specs.Comparing.{same_decision}
-use Rattle.sb_audit.specs.Found.{is_encoded}
+use Rattle.sb_actor.specs.Found.{is_encoded}
 use Rattle.sb_audit.proofs.Calls.{call_decided, call_fits}
 use Rattle.sb_audit.proofs.decisions.is_decided.Goals as goal
 
