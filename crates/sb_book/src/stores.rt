@@ -14,6 +14,12 @@ use std::marker::Model;
 /// The most bytes of an entry: of 64 words of a copy, 7 extended words of a reply, and six numbers more, ten of each.
 const MOST_ENTRY_BYTES: usize = 770;
 
+/// For how many entries room is made at once, if there is memory for them.
+const MANY_ENTRIES: usize = 8192;
+
+/// How many bytes room is made for with each of these. Most entries have fewer.
+const ENTRY_BYTES: usize = 96;
+
 /// What is stored of an entry beside the numbers of its copy and its reply.
 pub(crate) struct EntryRow {
     // Where its bytes begin in the buffer.
@@ -93,6 +99,20 @@ impl EntryStore {
         }
     }
 
+    // Makes room for many entries once there is none for one more, so that they are seldom moved to larger buffers. If there is no memory for
+    // many, entries get their room one by one.
+    fn reserve_many(&mut self)
+        ensures { self.new.entries ≡ self.old.entries }
+    {
+        let count = self.rows.len();
+        if count < self.rows.capacity() {
+            return;
+        }
+        let many = count.saturating_mul(3).saturating_add(MANY_ENTRIES);
+        let _rows = self.rows.reserve(many);
+        let _bytes = self.bytes.reserve(many.saturating_mul(ENTRY_BYTES));
+    }
+
     /// Makes room for one more entry. Whatever the result, the entries stay.
     ///
     /// # Errors
@@ -102,6 +122,7 @@ impl EntryStore {
         ensures entries { self.new.entries ≡ self.old.entries }
         ensures room { OnOk result (self.new.room ≡ true) }
     {
+        self.reserve_many();
         self.rows.reserve(1)?;
         self.bytes.reserve(MOST_ENTRY_BYTES)?;
         Ok(())
