@@ -6,7 +6,7 @@ ghost use Rattle.sb_transcript.specs.LineBuffers.{cut_by, total};
 ghost use Rattle.sb_transcript.specs.ResultLines.{result_end};
 ghost use Rattle.sb_transcript.specs.Transcripts.{entry_lines, thread_lines, target_lines, result_lines, transcript_lines};
 
-use crate::counts::totals;
+use crate::counts::{result_count, totals};
 use crate::entries::put_entry_line;
 use crate::line_buffers::LineBuffer;
 use crate::results::{put_result_line, put_result_start};
@@ -14,6 +14,9 @@ use sb_book::{Entries, EntryView, Report, TargetResults, ThreadResults};
 use sb_items::NoMemory;
 use sb_statements::{Script, StmtResult};
 use std::alloc::Global;
+
+// For how many bytes of each line room is made at once. Most lines have fewer.
+const LINE_BYTES: usize = 96;
 
 // Appends the line of an entry, and notes its length.
 #[tactic(auto, using(crate::proofs::CutLaws::cut_more, crate::proofs::CutLaws::total_more))]
@@ -164,8 +167,15 @@ pub fn transcript_lines(
     requires { result_count report.now.results < 2 ^ 62 }
     ensures { IfOk result (λ lines. lines ≡ transcript_lines script.now report.now) }
 {
+    let count = report
+        .entries
+        .len()
+        .saturating_add(result_count(report.results.as_slice()));
     let mut bytes = Vec::new(alloc);
     let mut lengths = Vec::new(alloc);
+    // If there is no memory for all at once the buffers grow as lines are put.
+    let _bytes = bytes.reserve(count.saturating_mul(LINE_BYTES));
+    let _lengths = lengths.reserve(count);
     put_entry_lines(&mut bytes, &mut lengths, script, &report.entries)?;
     put_result_lines(&mut bytes, &mut lengths, script, report.results.as_slice())?;
     let last = totals(alloc, report)?;
