@@ -9,12 +9,13 @@ use Rattle.sb_core.specs.Worlds.{first_worker, first_workers, no_worker}
 use Rattle.sb_pool.specs.Pools.{AreNumbered, AreSeats, PoolValue, seen}
 use Rattle.sb_pool.specs.declared.protocol.PoolView.{PoolView}
 use Rattle.sb_rule.specs.declared.policies.Policy.{Policy}
+use Rattle.sb_shared.specs.Closing.{IsWorkerOf}
 use Rattle.sb_shared.specs.Opening.{target_places, thread_places}
 use Rattle.sb_shared.specs.Seats.{KeeperValue, SharedValue, ThreadSeatValue, WorkerSeatValue, fresh_keeper, fresh_thread, fresh_worker}
 use Rattle.sb_shared.specs.declared.views.Origin.{Origin}
 use Rattle.sb_statements.specs.declared.scripts.Script.{Script}
 use Rattle.sb_statements.specs.declared.scripts.TargetScript.{TargetScript}
-use Rattle.sb_task.specs.Contexts.{ContextAt, IsWorkerOf}
+use Rattle.sb_task.specs.Contexts.{ContextAt}
 use Rattle.sb_task.specs.Servers.{IsServer, ServerAt}
 use Rattle.sb_task.specs.Works.{home_of, number_of}
 use Rattle.sb_run.specs.Openings.{IsOpened, worker_homes}
@@ -80,7 +81,7 @@ module _ (policies : List Policy) (script : Script) (world : SharedValue) (keepe
 -- the homes of the pool are seats of the world
 home_own : (world : SharedValue) (ts : List ℕ) (n : ℕ) (h : WorkerSeatValue) → slice_get (map home_of (map (fresh_worker world.table world.key) ts)) n ≡ Some h → IsWorkerOf world h
 home_own world [] n h e = absurd (cc)
-home_own world (t ∷ ts) zero h e = let same : home_of (fresh_worker world.table world.key t) ≡ h = cc in subst (IsWorkerOf world) same (record { own = refl; key = refl })
+home_own world (t ∷ ts) zero h e = let same : home_of (fresh_worker world.table world.key t) ≡ h = cc in subst (IsWorkerOf world) same (record { table = refl; key = refl })
 home_own world (t ∷ ts) (suc n) h e = home_own world ts n h e
 
 -- so it can begin

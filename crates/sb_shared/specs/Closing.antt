@@ -78,6 +78,11 @@ pub record IsWorkerSeat (world : SharedValue) (s : WorkerSeatValue) : Type 0 whe
   pub key : s.key ≡ world.key
   pub without : s.book ≡ None
 
+-- the same, with the turn or without
+pub record IsWorkerOf (world : SharedValue) (s : WorkerSeatValue) : Type 0 where
+  pub table : s.table ≡ world.table
+  pub key : s.key ≡ world.key
+
 -- the seat of a thread of this world
 pub record IsThreadSeat (world : SharedValue) (s : ThreadSeatValue) : Type 0 where
   pub table : s.table ≡ world.table

@@ -12,11 +12,11 @@ use Rattle.sb_actor.specs.declared.acts.Act.{Act}
 use Rattle.sb_actor.specs.declared.acts.Act.TheVariants as act
 use Rattle.sb_book.specs.Histories.{History}
 use Rattle.sb_core.specs.Kept.{has_turn}
-use Rattle.sb_shared.specs.Closing.{AreThreads, AreWorkers, IsThreadSeat}
+use Rattle.sb_shared.specs.Closing.{AreThreads, AreWorkers, IsThreadSeat, IsWorkerOf}
 use Rattle.sb_shared.specs.Opening.{target_places, thread_places}
 use Rattle.sb_shared.specs.Seats.{IsSameThread, IsSameWorker, SharedValue, ThreadSeatValue, WorkerSeatValue, fresh_thread, fresh_worker}
 use Rattle.sb_statements.specs.declared.scripts.Script.{Script}
-use Rattle.sb_tables_shared.specs.Players.{AreHere, IsHere}
+use Rattle.sb_tables_shared.specs.Players.{AreHere}
 
 abbrev target_of : WorkerSeatValue → ℕ
 target_of s = s.target
@@ -38,7 +38,7 @@ fresh_places world (p ∷ ps) = ap (λ l. p ∷ l) (fresh_places world ps)
 
 workers_on : (world : SharedValue) (ts : List ℕ) → ts ≡ target_places world.key.script.value.targets → AreHere world (map (fresh_worker world.table world.key) ts)
 workers_on world ts e = record {
-  each = All-map (IsHere world) (fresh_worker world.table world.key) ts (λ k d l. record { table = refl; key = refl });
+  each = All-map (IsWorkerOf world) (fresh_worker world.table world.key) ts (λ k d l. record { table = refl; key = refl });
   places = fresh_targets world ts ∙ e;
 }
 
@@ -62,9 +62,9 @@ fresh_threads world script seats key made =
 pub worker_set : (world : SharedValue) (seats : List WorkerSeatValue) (at : ℕ) (old new : WorkerSeatValue) → AreHere world seats → at < length seats
     → old ≡ get_or seats at old → IsSameWorker old new → AreHere world (set seats at new)
 worker_set world seats at old new h low read same =
-    let here : IsHere world old = subst (λ s. IsHere world s) (sym read) (h.each at old low) in
+    let here : IsWorkerOf world old = subst (λ s. IsWorkerOf world s) (sym read) (h.each at old low) in
     record {
-      each = All-set (IsHere world) seats at new (record { table = same.table ∙ here.table; key = same.key ∙ here.key }) h.each;
+      each = All-set (IsWorkerOf world) seats at new (record { table = same.table ∙ here.table; key = same.key ∙ here.key }) h.each;
       places = map-set_same target_of seats at new old (same.target ∙ ap target_of read) ∙ h.places;
     }
 

@@ -1,18 +1,13 @@
 -- The actors of a run on the seats of one shared world.
 use Rattle.std.specs.Prelude.{◌≡◌, List, map, All}
-use Rattle.sb_shared.specs.Closing.{AreThreads}
+use Rattle.sb_shared.specs.Closing.{AreThreads, IsWorkerOf}
 use Rattle.sb_shared.specs.Opening.{target_places}
 use Rattle.sb_shared.specs.Seats.{SharedValue, ThreadSeatValue, WorkerSeatValue}
 use Rattle.sb_tables_shared.specs.declared.players.Players.{Players}
 
--- the seat of a worker of this world, with the turn or without
-pub record IsHere (world : SharedValue) (s : WorkerSeatValue) : Type 0 where
-  pub table : s.table ≡ world.table
-  pub key : s.key ≡ world.key
-
--- the seats of all workers, by target
+-- the seats of all workers, by target, each with the turn or without
 pub record AreHere (world : SharedValue) (seats : List WorkerSeatValue) : Type 0 where
-  pub each : All (IsHere world) seats
+  pub each : All (IsWorkerOf world) seats
   pub places : map (λ s. s.target) seats ≡ target_places world.key.script.value.targets
 
 -- the seats of all actors

@@ -1,9 +1,9 @@
 // Each actor of a run makes its steps by a thread of its own.
 ghost use Rattle.std.specs.Prelude.{◌≡◌};
-ghost use Rattle.sb_shared.specs.Closing.{AreThreads, IsKeeper, IsThreadSeat};
+ghost use Rattle.sb_shared.specs.Closing.{AreThreads, IsKeeper, IsThreadSeat, IsWorkerOf};
 ghost use Rattle.sb_shared.specs.Origins.{setting_in};
 ghost use Rattle.sb_shared.specs.Seats.{IsSameThread, IsSameWorker};
-ghost use Rattle.sb_tables_shared.specs.Players.{AreHere, ArePlayers, IsHere};
+ghost use Rattle.sb_tables_shared.specs.Players.{AreHere, ArePlayers};
 
 use crate::closings::{Left, left_by};
 use crate::inputs::Inputs;
@@ -53,7 +53,7 @@ fn finish(world: &SharedWorld, script: &SoundScript, seat: &mut ThreadSeat, step
 
 // The steps of a worker until all threads have ended, or memory ran out.
 fn attend<J: Judge>(alloc: Global, world: &SharedWorld, judge: &J, seat: &mut WorkerSeat)
-    requires here { IsHere world.now seat.old }
+    requires here { IsWorkerOf world.now seat.old }
     requires judge { J.policies judge.now ≡ (setting_in world.now.key).policies }
     ensures { IsSameWorker seat.old seat.new }
 {
@@ -139,7 +139,7 @@ fn attend_all<R: Threads + Sync, J: Judge>(
         workers.as_mut_slice(),
         8,
         &|_place: usize, seat: &mut WorkerSeat|
-            requires { IsHere world.now seat.now × (J.policies judge.now ≡ (setting_in world.now.key).policies) }
+            requires { IsWorkerOf world.now seat.now × (J.policies judge.now ≡ (setting_in world.now.key).policies) }
             ensures { IsSameWorker seat.entry.now seat.exit.now }
         { attend(alloc, world, judge, seat) },
     );

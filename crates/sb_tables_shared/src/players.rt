@@ -1,9 +1,9 @@
 // The actors of a run on the seats of one shared world, one step at a time.
 ghost use Rattle.std.specs.Prelude.{◌≡◌, OnOk};
 ghost use Rattle.sb_shared.specs.Origins.{setting_in};
-ghost use Rattle.sb_shared.specs.Closing.{IsThreadSeat};
+ghost use Rattle.sb_shared.specs.Closing.{IsThreadSeat, IsWorkerOf};
 ghost use Rattle.sb_shared.specs.Seats.{IsSameThread, IsSameWorker};
-ghost use Rattle.sb_tables_shared.specs.Players.{ArePlayers, IsHere};
+ghost use Rattle.sb_tables_shared.specs.Players.{ArePlayers};
 
 use sb_actor::Act;
 use sb_items::NoMemory;
@@ -29,7 +29,7 @@ pub fn serve<J: Judge>(
     judge: &J,
     seat: &mut WorkerSeat,
 ) -> Result<(), NoMemory>
-    requires here { IsHere world.now seat.old }
+    requires here { IsWorkerOf world.now seat.old }
     requires judge { J.policies judge.now ≡ (setting_in world.now.key).policies }
     ensures { IsSameWorker seat.old seat.new }
 {

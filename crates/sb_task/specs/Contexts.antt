@@ -2,6 +2,7 @@
 use Rattle.std.specs.Prelude.{◌≡◌, ℕ, List, slice_get, Some}
 use Rattle.sb_pool.specs.Pools.{PoolValue}
 use Rattle.sb_rule.specs.declared.policies.Policy.{Policy}
+use Rattle.sb_shared.specs.Closing.{IsWorkerOf}
 use Rattle.sb_shared.specs.Origins.{setting_in}
 use Rattle.sb_shared.specs.Seats.{SharedValue, WorkerSeatValue}
 use Rattle.sb_statements.specs.declared.scripts.Script.{Script}
@@ -18,11 +19,6 @@ pub record IsContext (x : ContextAt) : Type 0 where
   pub its_script : x.world.key.script.value ≡ x.script
   pub judges : x.policies ≡ (setting_in x.world.key).policies
 
--- the seat of a worker of this world
-pub record IsWorkerOf (world : SharedValue) (s : WorkerSeatValue) : Type 0 where
-  pub own : s.table ≡ world.table
-  pub key : s.key ≡ world.key
-
--- each work is such a seat
+-- each work is the seat of a worker of this world
 abbrev pub AreHomes : SharedValue → List WorkerSeatValue → Type 0
 AreHomes world homes = (t : ℕ) (h : WorkerSeatValue) → slice_get homes t ≡ Some h → IsWorkerOf world h

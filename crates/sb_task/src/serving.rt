@@ -1,6 +1,6 @@
 // What a thread does that serves targets: it draws the seat of a worker, serves its target for a while, and hands it back.
 ghost use Rattle.std.specs.Prelude.{◌≡◌, ◌<◌, IfOk, OnOk};
-ghost use Rattle.sb_task.specs.Contexts.{IsWorkerOf};
+ghost use Rattle.sb_shared.specs.Closing.{IsWorkerOf};
 ghost use Rattle.sb_task.specs.Servers.{IsSameServer, IsServer};
 ghost use Rattle.sb_task.specs.Works.{home_of};
 ghost use Rattle.sb_task.specs.declared.serving.Attendance.TheVariants.{Stopped};

@@ -2,8 +2,8 @@
 ghost use Rattle.std.specs.Prelude.{◌≡◌, true, OnOk};
 ghost use Rattle.sb_actor.specs.WorkerTable.{is_looking, worker_plan};
 ghost use Rattle.sb_actor.specs.declared.acts.Act.TheVariants.{Take};
+ghost use Rattle.sb_shared.specs.Closing.{IsWorkerOf};
 ghost use Rattle.sb_shared.specs.Seats.{IsSameWorker};
-ghost use Rattle.sb_task.specs.Contexts.{IsWorkerOf};
 
 use crate::contexts::RunContext;
 use crate::pauses::rest;
