@@ -21,8 +21,8 @@ const LONGEST_SLEEP_MICROSECONDS: u64 = 800;
 // A wait follows at least this many passes that found no call. With one alone a thread sleeps soon after each call.
 const LEAST_PASSES: usize = 2;
 
-// The most threads that serve and stay awake without a call. If more are awake, one that finds no call sleeps at once: the others serve its
-// targets, and threads of the script need its processor.
+// The most threads that serve and stay awake without a call. If more are awake, one that finds no call sleeps at once, and as long as a sleep may be:
+// the others serve its targets, and threads of the script need its processor.
 const MOST_AWAKE: u64 = 2;
 
 // A thread of the script yields after each of this many steps in vain, since its reply may wait for this processor.
@@ -144,7 +144,12 @@ impl IdleWait {
             return;
         }
         self.idle = 0;
-        if self.waits >= SPINS + YIELDS || self.is_spare(world) {
+        let is_spare = self.is_spare(world);
+        if is_spare {
+            // The others serve its targets meanwhile.
+            self.sleep = LONGEST_SLEEP_MICROSECONDS;
+        }
+        if is_spare || self.waits >= SPINS + YIELDS {
             world.doze_idle(rt, Duration::from_micros(self.sleep));
             self.sleep = next_sleep(self.sleep);
             return;
