@@ -8,6 +8,7 @@ use Rattle.sb_gen.specs.Calls.{call_of, statement_of, statements_of}
 use Rattle.sb_gen.specs.Generator.{after, kind_of, next, number_of}
 use Rattle.sb_gen.specs.Policies.{AreMade}
 use Rattle.sb_gen.specs.Scripts.{script_of, targets_of, threads_of}
+use Rattle.sb_local.specs.Serial.{is_call}
 use Rattle.sb_outside.specs.Outside.{Held}
 use Rattle.sb_rule.specs.declared.policies.Policy.{Policy}
 use Rattle.sb_statements.specs.declared.scripts.Script.{Script}
@@ -18,7 +19,7 @@ use Rattle.sb_top.specs.Make.{IsMadeEnd, IsMadeReport, made_line, made_end, made
 use Rattle.sb_plain.specs.Ends.{Contents, End, IsOrderOf, OnThreads}
 use Rattle.sb_plain.specs.Replay.{whole_run}
 use Rattle.sb_plain.specs.Sound.{AreEndsSound, IsSound, RunsAreSound}
-use Rattle.sb_top.specs.Totals.{AllClean, TotalsAreOfVerdicts, are_calls, is_call, totals_by}
+use Rattle.sb_top.specs.Totals.{AllClean, TotalsAreOfVerdicts, are_calls, totals_by}
 use Rattle.sb_plain.proofs.Readings.{same_end}
 use Rattle.sb_top.proofs.Sound.{some_run_fits}
 use Rattle.sb_plain.proofs.Suiting.{AreSuited, EndsPlainly, RefusesFor}

@@ -26,6 +26,7 @@ use Rattle.sb_core.specs.Results.{AreAllResults}
 use Rattle.sb_core.specs.Runs.{most_results}
 use Rattle.sb_kernel.specs.Namespaces.{Space}
 use Rattle.sb_kernel.specs.Openings.{opened, opening}
+use Rattle.sb_local.specs.Serial.{is_call}
 use Rattle.sb_rule.specs.Verdicts.{policy_at, verdict_of}
 use Rattle.sb_rule.specs.WellMade.{are_well_made}
 use Rattle.sb_rule.specs.declared.actions.Action.TheVariants as action
@@ -41,7 +42,7 @@ use Rattle.sb_statements.specs.declared.scripts.TargetScript.{TargetScript}
 use Rattle.sb_statements.specs.declared.statements.Statement.{Statement}
 use Rattle.sb_statements.specs.declared.statements.Statement.TheVariants.{Call, Store, Exchange, Load, Wait}
 use Rattle.sb_transcript.specs.Totals.{count_of, counted, is_denied, is_faked, is_performed, is_refused}
-use Rattle.sb_top.specs.Totals.{AllClean, TotalsAreOfVerdicts, are_calls, decided, decided_in, is_call, is_decided, statement_count, statements_in}
+use Rattle.sb_top.specs.Totals.{AllClean, TotalsAreOfVerdicts, are_calls, decided, decided_in, is_decided, statement_count, statements_in}
 use Rattle.sb_top.proofs.Sums.{Placed, count_first, counted_once, same_both, same_upto, sum_list, tally, upto, within_length}
 use Rattle.sb_top.proofs.Verdicts.{AreTrue, IsCall, both_true, leads, length_upto, some_same, some_true, thread_leads, true_at, true_upto}
 

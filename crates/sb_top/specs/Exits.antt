@@ -14,7 +14,7 @@ use Rattle.sb_message.specs.PolicyMessages.{policy_message}
 use Rattle.sb_message.specs.ScheduleMessages.{schedule_message}
 use Rattle.sb_message.specs.ScriptMessages.{script_message}
 use Rattle.sb_message.specs.declared.end_messages.EndFault.TheVariants as end
-use Rattle.sb_notes.specs.NoteMessages.{notes_message}
+use Rattle.sb_notes.specs.NoteMessages.{notes_message, or_empty}
 use Rattle.sb_ruletext.specs.Kinds.{kind_number}
 use Rattle.sb_scripttext.specs.Kinds as script
 use Rattle.sb_scheduletext.specs.Kinds as schedule
@@ -61,11 +61,6 @@ abbrev pub line_of : Status → List ℕ
 line_of status = codes "sandbox: " ++ text_of status
 
 -- ---- messages
-
--- nothing, if there is none
-abbrev pub or_empty : Option (List ℕ) → List ℕ
-or_empty None = []
-or_empty (Some bytes) = bytes
 
 -- the notes of a policy text in the file of this name, if they are told
 abbrev pub notes_by : List ℕ → Option (List ℕ) → List ℕ

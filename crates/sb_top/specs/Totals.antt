@@ -6,6 +6,7 @@ use Rattle.sb_book.specs.Readiness.{IsReady}
 use Rattle.sb_book.specs.declared.decisions.Decision.{Decision}
 use Rattle.sb_book.specs.declared.reports.Report.{Report}
 use Rattle.sb_core.specs.Fits.{Fits}
+use Rattle.sb_local.specs.Serial.{is_call}
 use Rattle.sb_rule.specs.Verdicts.{policy_at, verdict_of}
 use Rattle.sb_rule.specs.declared.policies.Policy.{Policy}
 use Rattle.sb_statements.specs.Scripts.{is_clean}
@@ -49,13 +50,6 @@ totals_by policies script =
     ++ codes "\n"
 
 -- each statement is a call
-abbrev pub is_call : Statement → Bool
-is_call (Call tag args) = true
-is_call (Store target word value) = false
-is_call (Exchange target word from to) = false
-is_call (Load target word) = false
-is_call (Wait target word value most) = false
-
 abbrev pub are_calls : Script → Bool
 are_calls script = list_all (λ target. list_all (λ statements. list_all is_call statements) target.threads) script.targets
 
