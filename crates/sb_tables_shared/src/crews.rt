@@ -14,6 +14,7 @@ use sb_compile::Programs;
 use sb_core::run;
 use sb_rows::RowFault;
 use sb_rule::Judge;
+use sb_scheduletext::MOST_ROUNDS;
 use sb_shared::{Keeper, SharedWorld, Stop, ThreadSeat, WorkerSeat};
 use sb_statements::{Schedule, SoundScript, Steps};
 use std::alloc::Global;
@@ -25,8 +26,6 @@ use std::thread::Threads;
 const MOST_STEPS: u64 = 1_000_000_000_000;
 // After as many steps others may go on. With fewer, threads that share a processor spend much of their time in yields.
 const TURN: u64 = 8192;
-// As many rounds as a replay without a schedule makes at most.
-const MOST_ROUNDS: u32 = 20_000_000;
 
 // The steps of a thread to its end, or until memory ran out. Adds their number to `steps`.
 fn finish(world: &SharedWorld, script: &SoundScript, seat: &mut ThreadSeat, steps: &AtomicU64)
