@@ -25,7 +25,8 @@ use Rattle.sb_opcode.specs.declared.opcodes.Seek.TheVariants.{Skip, Forward, ToE
 use Rattle.sb_opcode.specs.declared.options.Options.{Options}
 use Rattle.sb_compile.specs.Compiling.{Compiled, code_in}
 use Rattle.sb_compile.specs.Listing.{seek_text, number_text, kind_text, word_if, options_text, opcode_line, opcode_lines, code_lines}
-use Rattle.sb_compile.specs.ListingLines.{is_no_lf, is_one_line, heading, lines_from, lines_of, ListingsAreLines}
+use Rattle.sb_compile.specs.ListingLines.{heading, lines_from, lines_of, ListingsAreLines}
+use Rattle.sb_wide.specs.OneLine.{is_no_lf, is_one_line}
 
 abbrev joined : List (List ℕ) → List ℕ
 joined lines = flat_map (λ line. line) lines

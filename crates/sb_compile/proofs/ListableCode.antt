@@ -29,7 +29,7 @@ use Rattle.sb_opcode.specs.declared.opcodes.Seek.TheVariants.{Skip, Forward, ToE
 use Rattle.sb_compile.specs.Compiling.{opcode, is_one, here, first_code, later_code, or_true, runs_code, test_code, with_options, end_bits, closed, cond_code, rule_code, code_of, code_in, program_of}
 use Rattle.sb_rule.specs.Verdicts.{is_for}
 use Rattle.sb_compile.specs.ListingLaws.{is_sized_number, is_told_before, is_fragment, is_listable_kind, has_param, is_listable, AreListable, is_sized_test, is_sized_rule, DifferentCodeIsListedDifferently}
-use Rattle.sb_compile.specs.ListingLines.{is_no_lf}
+use Rattle.sb_wide.specs.OneLine.{is_no_lf}
 use Rattle.sb_compile.proofs.Cuts.{act_of, is_formed}
 use Rattle.sb_compile.proofs.Members.{both, is_placed_well}
 use Rattle.sb_compile.proofs.Runs.{joined, are_free, runs_of}

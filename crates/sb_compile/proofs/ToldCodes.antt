@@ -14,7 +14,8 @@ use Rattle.sb_opcode.specs.Opcodes.{Opcode}
 use Rattle.sb_compile.specs.Compiling.{Compiled, code_in}
 use Rattle.sb_compile.specs.Listing.{kind_text, opcode_line, listing_of}
 use Rattle.sb_compile.specs.ListingLaws.{is_listable, AreListable, ListingsDiffer}
-use Rattle.sb_compile.specs.ListingLines.{is_no_lf, is_one_line, heading, lines_from, lines_of, listing_lines}
+use Rattle.sb_compile.specs.ListingLines.{heading, lines_from, lines_of, listing_lines}
+use Rattle.sb_wide.specs.OneLine.{is_no_lf, is_one_line}
 use Rattle.sb_compile.proofs.Lines.{listings_are_lines}
 use Rattle.sb_compile.proofs.Splits.{apart, clash, same_head, cancel, is_letter, split_word}
 use Rattle.sb_compile.proofs.ToldOpcodes.{line_parts, same_opcode}

@@ -17,7 +17,7 @@ use Rattle.sb_rule.specs.declared.policies.Policy.{Policy}
 use Rattle.sb_rule.specs.declared.policies.Rule.{Rule}
 use Rattle.sb_compile.specs.Compiling.{Compiled, code_in, program_of}
 use Rattle.sb_compile.specs.Listing.{listing_of}
-use Rattle.sb_compile.specs.ListingLines.{is_no_lf}
+use Rattle.sb_wide.specs.OneLine.{is_no_lf}
 
 -- a number of 64 bits
 abbrev pub is_sized_number : ℕ → Bool

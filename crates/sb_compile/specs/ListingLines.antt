@@ -1,21 +1,12 @@
 -- A listing line by line.
-use Rattle.std.specs.Prelude.{◌≡◌, ◌+◌, ◌&&◌, ◌==◌, ℕ, Bool, true, false, not, List, [], ◌∷◌, ◌++◌, codes}
+use Rattle.std.specs.Prelude.{◌≡◌, ◌+◌, ℕ, true, List, [], ◌∷◌, ◌++◌, codes}
 use Rattle.std.specs.List.{flat_map, list_all}
 use Rattle.sb_call.specs.CallWords.{call_word, every_tag}
 use Rattle.sb_call.specs.declared.tags.CallTag.{CallTag}
 use Rattle.sb_opcode.specs.Opcodes.{Opcode}
+use Rattle.sb_wide.specs.OneLine.{is_no_lf, is_one_line}
 use Rattle.sb_compile.specs.Compiling.{Compiled, code_in}
 use Rattle.sb_compile.specs.Listing.{opcode_line, listing_of}
-
--- a byte that is no LF
-abbrev pub is_no_lf : ℕ → Bool
-is_no_lf b = not (b == 10)
-
--- a text that ends with an LF and holds no other
-abbrev pub is_one_line : List ℕ → Bool
-is_one_line [] = false
-is_one_line (b ∷ []) = b == 10
-is_one_line (b ∷ c ∷ bs) = is_no_lf b && is_one_line (c ∷ bs)
 
 -- the line above the code of a call
 abbrev pub heading : List ℕ → CallTag → List ℕ

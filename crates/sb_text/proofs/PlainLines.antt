@@ -10,7 +10,8 @@ use Rattle.std.specs.List.{flat_map, list_all}
 use Rattle.std.specs.Str.{IsUtf8, IsAscii}
 use Rattle.sb_text.proofs.LineLaws.{written_lines}
 use Rattle.sb_text.proofs.TokenLaws.{plain, written}
-use Rattle.sb_text.specs.LineLaws.{is_line_byte, is_line, ended}
+use Rattle.sb_text.specs.LineLaws.{is_line, ended}
+use Rattle.sb_wide.specs.OneLine.{is_no_lf}
 use Rattle.sb_text.specs.Lines.{is_blank, is_skipped, has_cr, without_cr, lines_from, lines_of}
 use Rattle.sb_text.specs.PlainLines.{is_plain_byte, is_plain, is_plain_line, line_text, numbered, PlainLinesAreUtf8, PlainLinesAreRead, PlainTokensAreRead, PlainWordsAreRead}
 use Rattle.sb_text.specs.TokenLaws.{is_word_byte, is_quoted_byte, is_writable, written_token, written_line}
@@ -68,7 +69,7 @@ tokens_text (token ∷ next ∷ tokens) h =
     list_all-append is_text_byte (written_token token) (32 ∷ written_line (next ∷ tokens))
     ∙ and_true _ _ (token_text token (both _ _ h).0) (tokens_text (next ∷ tokens) (both _ _ h).1)
 
-line_byte : (b : ℕ) → is_text_byte b ≡ true → is_line_byte b ≡ true
+line_byte : (b : ℕ) → is_text_byte b ≡ true → is_no_lf b ≡ true
 line_byte b h = grind (arith, nat_tests)
 
 no_cr : (b : ℕ) → is_text_byte b ≡ true → not (b == 13) ≡ true
@@ -157,7 +158,7 @@ flat_as_map (tokens ∷ lines) = ap (λ rest. line_text tokens ++ rest) (flat_as
 are_lines : (lines : List (List Lexeme)) → list_all is_plain_line lines ≡ true → list_all is_line (map written_line lines) ≡ true
 are_lines [] h = refl
 are_lines (tokens ∷ lines) h =
-    and_true _ _ (all_more is_text_byte is_line_byte line_byte (written_line tokens) (tokens_text tokens (plain_tokens tokens (both _ _ h).0))) (are_lines lines (both _ _ h).1)
+    and_true _ _ (all_more is_text_byte is_no_lf line_byte (written_line tokens) (tokens_text tokens (plain_tokens tokens (both _ _ h).0))) (are_lines lines (both _ _ h).1)
 
 numbered_lines : (n : ℕ) (lines : List (List Lexeme)) → list_all is_plain_line lines ≡ true → lines_from n (map written_line lines) ≡ numbered n lines
 numbered_lines n [] h = refl

@@ -1,15 +1,12 @@
 -- What is true of the lines of each text.
-use Rattle.std.specs.Prelude.{◌≡◌, ℕ, ◌+◌, Bool, true, false, not, ◌&&◌, nat_le, ◌==◌, List, [], ◌∷◌, ◌++◌, length, map, count_by, if◌then◌else◌}
+use Rattle.std.specs.Prelude.{◌≡◌, ℕ, ◌+◌, Bool, true, false, ◌&&◌, nat_le, ◌==◌, List, [], ◌∷◌, ◌++◌, length, map, count_by, if◌then◌else◌}
 use Rattle.std.specs.List.{flat_map, list_all}
+use Rattle.sb_wide.specs.OneLine.{is_no_lf}
 use Rattle.sb_text.specs.Lines.{raw_lines, is_ended, without_cr, NumberedRawLine, numbered_from, numbered_raw_lines, lines_from, lines_of}
-
--- any byte but LF
-abbrev pub is_line_byte : ℕ → Bool
-is_line_byte b = not (b == 10)
 
 -- bytes without LF
 abbrev pub is_line : List ℕ → Bool
-is_line line = list_all is_line_byte line
+is_line line = list_all is_no_lf line
 
 -- a line and its LF
 abbrev pub ended : List ℕ → List ℕ

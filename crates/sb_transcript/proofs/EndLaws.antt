@@ -38,7 +38,8 @@ use Rattle.sb_transcript.specs.EntryLines.{fault_text, argument_text, denial_wor
 use Rattle.sb_transcript.specs.ResultLines.{call_result_text, result_text, result_line}
 use Rattle.sb_transcript.specs.Totals.{counted, decisions_text, totals_line, count_of, is_performed, is_faked, is_denied, is_refused}
 use Rattle.sb_transcript.specs.Transcripts.{entry_lines, thread_lines, target_lines, result_lines, transcript_lines}
-use Rattle.sb_transcript.specs.Laws.{is_no_lf, is_one_line, cut_after_lf, LinesEndOnce, TranscriptsTellTheirLines}
+use Rattle.sb_transcript.specs.Laws.{cut_after_lf, LinesEndOnce, TranscriptsTellTheirLines}
+use Rattle.sb_wide.specs.OneLine.{is_no_lf, is_one_line}
 use Rattle.sb_statements.specs.SoundScripts.{has_short_name, has_short_names}
 use Rattle.sb_outside.specs.Outside.{joined}
 

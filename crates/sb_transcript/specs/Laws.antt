@@ -1,5 +1,5 @@
 -- Laws of the transcript: its lines are those of the entries, then those of the results, then the totals, each once and in order.
-use Rattle.std.specs.Prelude.{◌≡◌, ℕ, ◌+◌, ◌<◌, ◌⊎◌, Bool, true, false, not, ◌&&◌, ◌==◌, List, [], ◌∷◌, length, Some, IsSome, slice_get, if◌then◌else◌}
+use Rattle.std.specs.Prelude.{◌≡◌, ℕ, ◌+◌, ◌<◌, ◌⊎◌, true, ◌==◌, List, [], ◌∷◌, length, Some, IsSome, slice_get, if◌then◌else◌}
 use Rattle.std.specs.List.{list_all, onto_first}
 use Rattle.sb_rule.specs.declared.policies.Policy.{Policy}
 use Rattle.sb_statements.specs.declared.results.StmtResult.{StmtResult}
@@ -8,6 +8,7 @@ use Rattle.sb_book.specs.Readiness.{IsReady}
 use Rattle.sb_book.specs.Reports.{result_count}
 use Rattle.sb_book.specs.declared.entries.Entry.{Entry}
 use Rattle.sb_book.specs.declared.reports.Report.{Report}
+use Rattle.sb_wide.specs.OneLine.{is_one_line}
 use Rattle.sb_transcript.specs.EntryLines.{entry_line}
 use Rattle.sb_transcript.specs.ResultLines.{result_line}
 use Rattle.sb_transcript.specs.Totals.{totals_line}
@@ -48,16 +49,6 @@ ComesBefore a b = (a.0 < b.0) ⊎ ((a.0 ≡ b.0) × ((a.1 < b.1) ⊎ ((a.1 ≡ b
 abbrev pub ResultsAreInOrder : Type 0
 ResultsAreInOrder = (results : List (List (List StmtResult))) (a b : ℕ × ℕ × ℕ) → IsSome (result_at results a.0 a.1 a.2) → ComesBefore a b
     → results_before results a.0 a.1 a.2 < results_before results b.0 b.1 b.2
-
--- a byte that is no LF
-abbrev pub is_no_lf : ℕ → Bool
-is_no_lf b = not (b == 10)
-
--- whether bytes end with LF and hold no other
-abbrev pub is_one_line : List ℕ → Bool
-is_one_line [] = false
-is_one_line (b ∷ []) = b == 10
-is_one_line (b ∷ c ∷ bs) = is_no_lf b && is_one_line (c ∷ bs)
 
 -- each line ends with LF and holds no other
 abbrev pub LinesEndOnce : Type 0

@@ -3,3 +3,4 @@ pub mod Names
 pub mod Quoting
 pub mod Surrogates
 pub mod Numbers
+pub mod OneLine
