@@ -10,7 +10,8 @@ use Rattle.std.specs.Ordering.{nat_cmp, match_ordering}
 use Rattle.std.specs.declared.cmp.Ordering.{Ordering}
 use Rattle.std.specs.declared.cmp.Ordering.TheVariants.{Less, Equal, Greater}
 use Rattle.sb_wide.specs.Names.{is_name_of}
-use Rattle.sb_handles.specs.Shares.{Shares, by_object, left, opened}
+use Rattle.sb_handles.specs.Shares.{Shares, left, opened}
+use Rattle.sb_items.specs.Orders.{by_pair}
 use Rattle.sb_handles.specs.declared.objects.Held.{Held}
 use Rattle.sb_handles.specs.declared.objects.Share.{Share}
 use Rattle.sb_names.specs.Keys.{key_of, parent_of, is_below}
@@ -64,7 +65,7 @@ files_opened files shares object handle share e low high are =
 
     with_share : (rows : Shares) → list_all (on_made (length files.objects)) rows ≡ true → list_all (on_made (length files.objects)) (opened rows object handle share) ≡ true
     with_share [] all = rw own refl
-    with_share (row ∷ rows) all = by (by_object (object, handle) row.0) (with_share rows (others_of (on_made (length files.objects)) row rows all))
+    with_share (row ∷ rows) all = by (by_pair (object, handle) row.0) (with_share rows (others_of (on_made (length files.objects)) row rows all))
       where
         by : (o : Ordering) → list_all (on_made (length files.objects)) (opened rows object handle share) ≡ true
             → list_all (on_made (length files.objects)) (match_ordering o (((object, handle), share) ∷ row ∷ rows) ((row.0, share) ∷ rows) (row ∷ opened rows object handle share)) ≡ true

@@ -9,7 +9,8 @@ use Rattle.std.specs.Map.{keys_of}
 use Rattle.std.specs.declared.cmp.Ordering.TheVariants.{Less}
 use Rattle.sb_handles.specs.Agreements.{file_share_by, is_file}
 use Rattle.sb_handles.specs.Laws.{ConflictsAreHeld, ConflictsAreOpen, ConflictsAreLowest, HeldHandlesConflict, IsConflicting, NoConflictMeansNone}
-use Rattle.sb_handles.specs.Shares.{Shares, SharesRise, by_object, conflicts, conflict_of, is_conflict, share_on}
+use Rattle.sb_handles.specs.Shares.{Shares, SharesRise, conflicts, conflict_of, is_conflict, share_on}
+use Rattle.sb_items.specs.Orders.{by_pair}
 use Rattle.sb_handles.specs.declared.objects.OpenHandle.{OpenHandle}
 use Rattle.sb_handles.specs.declared.objects.Share.{Share}
 
@@ -27,11 +28,11 @@ abbrev number_of : Option ℕ → ℕ
 number_of None = 0
 number_of (Some n) = n
 
-not_later : (o h object lower : ℕ) (key : ℕ × ℕ) → by_object (o, h) key ≡ Less → object ≡ o → lower ≤ h → is_at object lower key ≡ false
+not_later : (o h object lower : ℕ) (key : ℕ × ℕ) → by_pair (o, h) key ≡ Less → object ≡ o → lower ≤ h → is_at object lower key ≡ false
 not_later o h object lower key e same l = grind (arith, nat_tests, e, same, l)
 
 -- after a handle, no lower handle of its object is open
-pub none_lower : (o h lower : ℕ) (rows : Shares) → AllByRecursion (λ key. by_object (o, h) key ≡ Less) (keys_of rows) → lower ≤ h → share_on rows o lower ≡ None
+pub none_lower : (o h lower : ℕ) (rows : Shares) → AllByRecursion (λ key. by_pair (o, h) key ≡ Less) (keys_of rows) → lower ≤ h → share_on rows o lower ≡ None
 none_lower o h lower [] all l = refl
 none_lower o h lower (row ∷ rows) all l = rw (not_later o h o lower row.0 all.0 refl l) (none_lower o h lower rows all.1 l)
 

@@ -5,7 +5,8 @@ use Rattle.std.proofs.lemmas.Bool.Decides.{nat_tests}
 use Rattle.std.specs.Prelude.{Option, None, Some, is_some, not, ◌&&◌, ◌||◌}
 use Rattle.std.specs.BTreeMap.{get, is_at}
 use Rattle.sb_call.specs.Statuses.{meets}
-use Rattle.sb_handles.specs.Shares.{by_object, conflicts, exceeds, takes_part, read_bits, write_bits, delete_bits, share_read, share_write, share_delete}
+use Rattle.sb_handles.specs.Shares.{conflicts, exceeds, takes_part, read_bits, write_bits, delete_bits, share_read, share_write, share_delete}
+use Rattle.sb_items.specs.Orders.{by_pair}
 use Rattle.sb_handles.specs.Sets.{HasShare, HasShares, conflicts_by, is_exceeding, is_unshared}
 use Rattle.sb_handles.specs.declared.objects.Share.{Share}
 use Rattle.sb_handles.specs.declared.sets.Sets.{Sets}
@@ -56,12 +57,12 @@ module _ (sets : Sets) (key : ℕ × ℕ) (access sharing : ℕ) where
   none_listed : is_listed false ≡ false
   none_listed =
       rw (
-        unmet (meets access read_bits) (is_some (get by_object sets.unread key)),
-        unmet (meets access write_bits) (is_some (get by_object sets.unwritten key)),
-        unmet (meets access delete_bits) (is_some (get by_object sets.undeleted key)),
-        unmet (not (meets sharing share_read)) (is_some (get by_object sets.reading key)),
-        unmet (not (meets sharing share_write)) (is_some (get by_object sets.writing key)),
-        unmet (not (meets sharing share_delete)) (is_some (get by_object sets.deleting key)),
+        unmet (meets access read_bits) (is_some (get by_pair sets.unread key)),
+        unmet (meets access write_bits) (is_some (get by_pair sets.unwritten key)),
+        unmet (meets access delete_bits) (is_some (get by_pair sets.undeleted key)),
+        unmet (not (meets sharing share_read)) (is_some (get by_pair sets.reading key)),
+        unmet (not (meets sharing share_write)) (is_some (get by_pair sets.writing key)),
+        unmet (not (meets sharing share_delete)) (is_some (get by_pair sets.deleting key)),
       ) refl
 
   listed_so : (share : Share) → HasShare sets key share → conflicts access sharing share ≡ true → is_listed true ≡ true
@@ -70,13 +71,13 @@ module _ (sets : Sets) (key : ℕ × ℕ) (access sharing : ℕ) where
       let part : takes_part share.access.0 ≡ true = (and_parts (takes_part access) (takes_part share.access.0) outer.0).1 in
       one_of_two (exceeds access share.sharing.0) (exceeds share.access.0 sharing) (is_unshared sets key access true) (is_exceeding sets key sharing true)
       (one_of_three _ _ _ _ _ _
-      (asked_unshared (meets access read_bits) (meets share.sharing.0 share_read) (takes_part share.access.0) (is_some (get by_object sets.unread key)) part has.unread)
-      (asked_unshared (meets access write_bits) (meets share.sharing.0 share_write) (takes_part share.access.0) (is_some (get by_object sets.unwritten key)) part has.unwritten)
-      (asked_unshared (meets access delete_bits) (meets share.sharing.0 share_delete) (takes_part share.access.0) (is_some (get by_object sets.undeleted key)) part has.undeleted))
+      (asked_unshared (meets access read_bits) (meets share.sharing.0 share_read) (takes_part share.access.0) (is_some (get by_pair sets.unread key)) part has.unread)
+      (asked_unshared (meets access write_bits) (meets share.sharing.0 share_write) (takes_part share.access.0) (is_some (get by_pair sets.unwritten key)) part has.unwritten)
+      (asked_unshared (meets access delete_bits) (meets share.sharing.0 share_delete) (takes_part share.access.0) (is_some (get by_pair sets.undeleted key)) part has.undeleted))
       (one_of_three _ _ _ _ _ _
-      (asked_done (meets share.access.0 read_bits) (meets sharing share_read) (is_some (get by_object sets.reading key)) has.reads)
-      (asked_done (meets share.access.0 write_bits) (meets sharing share_write) (is_some (get by_object sets.writing key)) has.writes)
-      (asked_done (meets share.access.0 delete_bits) (meets sharing share_delete) (is_some (get by_object sets.deleting key)) has.deletes))
+      (asked_done (meets share.access.0 read_bits) (meets sharing share_read) (is_some (get by_pair sets.reading key)) has.reads)
+      (asked_done (meets share.access.0 write_bits) (meets sharing share_write) (is_some (get by_pair sets.writing key)) has.writes)
+      (asked_done (meets share.access.0 delete_bits) (meets sharing share_delete) (is_some (get by_pair sets.deleting key)) has.deletes))
       outer.1
 
   -- a handle conflicts exactly if it stands in a set that is asked, and conflicts
@@ -101,11 +102,11 @@ value_of d (Some share) = share
 module _ (shares : ℕ × ℕ → Option Share) (sets sets' : Sets) (object handle : ℕ) (has : HasShares shares sets) where
   -- a handle that is opened
   pub listed_more : (shares' : ℕ × ℕ → Option Share) (share : Share) → handle < 2 ^ 64
-      → ((q : ℕ × ℕ) → shares' q ≡ cond (is_at (by_object (object, handle)) q) (Some share) (shares q))
+      → ((q : ℕ × ℕ) → shares' q ≡ cond (is_at (by_pair (object, handle)) q) (Some share) (shares q))
       → ((q : ℕ × ℕ) (other : Share) → HasShare sets q other → HasShare sets' q other) → HasShare sets' (object, handle) share → HasShares shares' sets'
   listed_more shares' share fits update kept there = record {
-    listed = λ q other e. listed_by q other (is_at (by_object (object, handle)) q) (same_pair object handle q.0 q.1) (sym (update q) ∙ e);
-    words = λ q e. words_by q (is_at (by_object (object, handle)) q) (same_pair object handle q.0 q.1) (ap is_some (sym (update q)) ∙ e);
+    listed = λ q other e. listed_by q other (is_at (by_pair (object, handle)) q) (same_pair object handle q.0 q.1) (sym (update q) ∙ e);
+    words = λ q e. words_by q (is_at (by_pair (object, handle)) q) (same_pair object handle q.0 q.1) (ap is_some (sym (update q)) ∙ e);
   }
     where
       listed_by : (q : ℕ × ℕ) (other : Share) (s : Bool) → s ≡ (object == q.0 && handle == q.1) → cond s (Some share) (shares q) ≡ Some other → HasShare sets' q other
@@ -120,14 +121,14 @@ module _ (shares : ℕ × ℕ → Option Share) (sets sets' : Sets) (object hand
       words_by q true same e = grind (arith, nat_tests, same, fits)
 
   -- one that is taken out
-  pub listed_fewer : (shares' : ℕ × ℕ → Option Share) → ((q : ℕ × ℕ) → shares' q ≡ cond (is_at (by_object (object, handle)) q) None (shares q))
-      → ((q : ℕ × ℕ) (share : Share) → is_at (by_object (object, handle)) q ≡ false → HasShare sets q share → HasShare sets' q share) → HasShares shares' sets'
+  pub listed_fewer : (shares' : ℕ × ℕ → Option Share) → ((q : ℕ × ℕ) → shares' q ≡ cond (is_at (by_pair (object, handle)) q) None (shares q))
+      → ((q : ℕ × ℕ) (share : Share) → is_at (by_pair (object, handle)) q ≡ false → HasShare sets q share → HasShare sets' q share) → HasShares shares' sets'
   listed_fewer shares' update kept = record {
-    listed = λ q share e. listed_by q share (is_at (by_object (object, handle)) q) refl (sym (update q) ∙ e);
-    words = λ q e. words_by q (is_at (by_object (object, handle)) q) (ap is_some (sym (update q)) ∙ e);
+    listed = λ q share e. listed_by q share (is_at (by_pair (object, handle)) q) refl (sym (update q) ∙ e);
+    words = λ q e. words_by q (is_at (by_pair (object, handle)) q) (ap is_some (sym (update q)) ∙ e);
   }
     where
-      listed_by : (q : ℕ × ℕ) (share : Share) (s : Bool) → is_at (by_object (object, handle)) q ≡ s → cond s None (shares q) ≡ Some share → HasShare sets' q share
+      listed_by : (q : ℕ × ℕ) (share : Share) (s : Bool) → is_at (by_pair (object, handle)) q ≡ s → cond s None (shares q) ≡ Some share → HasShare sets' q share
       listed_by q share true same e = absurd (false≢true (ap is_some e))
       listed_by q share false same e = kept q share same (has.listed q share e)
 

@@ -11,7 +11,8 @@ use Rattle.std.specs.declared.ops.Bound.TheVariants.{Included}
 use Rattle.std.specs.List.{AllByRecursion, find}
 use Rattle.std.specs.List.Sorted.{IsStrictlySortedBy}
 use Rattle.std.specs.Map.{keys_of, lookup}
-use Rattle.sb_handles.specs.Shares.{Shares, SharesRise, by_object, conflicts, conflict_of, share_on}
+use Rattle.sb_handles.specs.Shares.{Shares, SharesRise, conflicts, conflict_of, share_on}
+use Rattle.sb_items.specs.Orders.{by_pair}
 use Rattle.sb_handles.specs.Sets.{IsLowest, conflicts_by, is_met, lower_of}
 use Rattle.sb_handles.specs.declared.objects.Share.{Share}
 use Rattle.sb_handles.proofs.ConflictLaws.{is_lowest, is_open, none_conflicts}
@@ -21,7 +22,7 @@ use Rattle.sb_handles.proofs.ShareLemmas.{find_restricted, handles_of, in_range}
 abbrev top : ℕ
 top = 2 ^ 64 - 1
 
-not_later : (o h n : ℕ) (key : ℕ × ℕ) → by_object (o, h) key ≡ Less → n ≤ h → is_at (by_object (o, n)) key ≡ false
+not_later : (o h n : ℕ) (key : ℕ × ℕ) → by_pair (o, h) key ≡ Less → n ≤ h → is_at (by_pair (o, n)) key ≡ false
 not_later o h n key e l = same_pair o n key.0 key.1 ∙ grind (arith, nat_tests, e, l)
 
 module _ {V : Type 0} (object : ℕ) (p : ℕ → Bool) where
@@ -29,7 +30,7 @@ module _ {V : Type 0} (object : ℕ) (p : ℕ → Bool) where
   hit row = (row.0.0 == object && nat_le row.0.1 top) && p row.0.1
 
   abbrev at : ℕ → List ((ℕ × ℕ) × V) → Option V
-  at n es = lookup (is_at (by_object (object, n))) es
+  at n es = lookup (is_at (by_pair (object, n))) es
 
   -- a row that is not hit, at the place of a number, is of one that does not pass
   unmet : (row : (ℕ × ℕ) × V) (n : ℕ) → n < 2 ^ 64 → true ≡ (object == row.0.0 && n == row.0.1) → hit row ≡ false → p n ≡ false
@@ -40,7 +41,7 @@ module _ {V : Type 0} (object : ℕ) (p : ℕ → Bool) where
 
   none_met : (es : List ((ℕ × ℕ) × V)) (n : ℕ) → n < 2 ^ 64 → find hit es ≡ None → (is_some (at n es) && p n) ≡ false
   none_met [] n f e = refl
-  none_met (row ∷ es) n f e = by (is_at (by_object (object, n)) row.0) (same_pair object n row.0.0 row.0.1) (hit row) refl e (none_met es n f)
+  none_met (row ∷ es) n f e = by (is_at (by_pair (object, n)) row.0) (same_pair object n row.0.0 row.0.1) (hit row) refl e (none_met es n f)
     where
       by : (s : Bool) → s ≡ (object == row.0.0 && n == row.0.1) → (t : Bool) → hit row ≡ t → (if t then Some row else find hit es) ≡ None
           → (find hit es ≡ None → (is_some (at n es) && p n) ≡ false) → (is_some (cond s (Some row.1) (at n es)) && p n) ≡ false
@@ -49,7 +50,7 @@ module _ {V : Type 0} (object : ℕ) (p : ℕ → Bool) where
       by true same false h e again = unmet row n f same h
 
   -- after a handle, no lower handle of its object is there
-  none_lower : (h n : ℕ) (es : List ((ℕ × ℕ) × V)) → AllByRecursion (λ key. by_object (object, h) key ≡ Less) (keys_of es) → n ≤ h → at n es ≡ None
+  none_lower : (h n : ℕ) (es : List ((ℕ × ℕ) × V)) → AllByRecursion (λ key. by_pair (object, h) key ≡ Less) (keys_of es) → n ≤ h → at n es ≡ None
   none_lower h n [] all l = refl
   none_lower h n (row ∷ es) all l = rw (not_later object h n row.0 all.0 l) (none_lower h n es all.1 l)
 
@@ -60,7 +61,7 @@ module _ {V : Type 0} (object : ℕ) (p : ℕ → Bool) where
   row_of d None = d
   row_of d (Some row) = row
 
-  some_met : (es : List ((ℕ × ℕ) × V)) (found : (ℕ × ℕ) × V) → IsStrictlySortedBy by_object (keys_of es) → found.0.1 < 2 ^ 64
+  some_met : (es : List ((ℕ × ℕ) × V)) (found : (ℕ × ℕ) × V) → IsStrictlySortedBy by_pair (keys_of es) → found.0.1 < 2 ^ 64
       → find hit es ≡ Some found → IsFirst es found.0.1
   unfolding IsStrictlySortedBy
   some_met [] found rise f e = absurd (false≢true (ap is_some e))
@@ -70,21 +71,21 @@ module _ {V : Type 0} (object : ℕ) (p : ℕ → Bool) where
       here h =
           let parts = and_parts (row.0.0 == object && nat_le row.0.1 top) (p row.0.1) h in
           let same : object ≡ row.0.0 = grind (arith, nat_tests, parts.0) in
-          let own : is_at (by_object (object, row.0.1)) row.0 ≡ true = same_pair object row.0.1 row.0.0 row.0.1 ∙ grind (arith, nat_tests, same) in
+          let own : is_at (by_pair (object, row.0.1)) row.0 ≡ true = same_pair object row.0.1 row.0.0 row.0.1 ∙ grind (arith, nat_tests, same) in
           let first : is_some (at row.0.1 (row ∷ es)) ≡ true = ap (λ s. is_some (cond s (Some row.1) (at row.0.1 es))) own in (
             ap (λ b. b && p row.0.1) first ∙ parts.1,
             λ n l.
-                let other : is_at (by_object (object, n)) row.0 ≡ false = same_pair object n row.0.0 row.0.1 ∙ grind (arith, nat_tests, l) in
-                let all : AllByRecursion (λ key. by_object (object, row.0.1) key ≡ Less) (keys_of es) =
-                subst (λ o. AllByRecursion (λ key. by_object (o, row.0.1) key ≡ Less) (keys_of es)) (sym same) rise.0 in
+                let other : is_at (by_pair (object, n)) row.0 ≡ false = same_pair object n row.0.0 row.0.1 ∙ grind (arith, nat_tests, l) in
+                let all : AllByRecursion (λ key. by_pair (object, row.0.1) key ≡ Less) (keys_of es) =
+                subst (λ o. AllByRecursion (λ key. by_pair (o, row.0.1) key ≡ Less) (keys_of es)) (sym same) rise.0 in
                 let gone : at n (row ∷ es) ≡ None = ap (λ s. cond s (Some row.1) (at n es)) other ∙ none_lower row.0.1 n es all (omega (arith, l)) in
                 ap (λ o. is_some o && p n) gone,
           )
 
       later : hit row ≡ false → IsFirst es found.0.1 → IsFirst (row ∷ es) found.0.1
       later h got = (
-        still (is_at (by_object (object, found.0.1)) row.0) (and_parts (is_some (at found.0.1 es)) (p found.0.1) got.0),
-        λ n l. lower n l (is_at (by_object (object, n)) row.0) (same_pair object n row.0.0 row.0.1),
+        still (is_at (by_pair (object, found.0.1)) row.0) (and_parts (is_some (at found.0.1 es)) (p found.0.1) got.0),
+        λ n l. lower n l (is_at (by_pair (object, n)) row.0) (same_pair object n row.0.0 row.0.1),
       )
         where
           still : (s : Bool) → (is_some (at found.0.1 es) ≡ true) × (p found.0.1 ≡ true) → (is_some (cond s (Some row.1) (at found.0.1 es)) && p found.0.1) ≡ true
@@ -99,8 +100,8 @@ module _ {V : Type 0} (object : ℕ) (p : ℕ → Bool) where
       by true h e again = subst (λ r. IsFirst (row ∷ es) r.0.1) (ap (row_of row) e) (here h)
       by false h e again = later h (again e)
 
-  module _ (m : BTreeMap (ℕ × ℕ) V) (rest range : List ((ℕ × ℕ) × V)) (ordered : IsOrdered by_object m)
-      (between : range ≡ entries_between by_object (Included (object, 0)) (Included (object, top)) m.entries)
+  module _ (m : BTreeMap (ℕ × ℕ) V) (rest range : List ((ℕ × ℕ) × V)) (ordered : IsOrdered by_pair m)
+      (between : range ≡ entries_between by_pair (Included (object, 0)) (Included (object, top)) m.entries)
       (same : find (λ row. p row.0.1) rest ≡ find (λ row. p row.0.1) range) where
     -- what is left of the handles of the object has the first that is hit
     restricted : find hit m.entries ≡ find (λ row. p row.0.1) rest
@@ -122,12 +123,12 @@ module _ {V : Type 0} (object : ℕ) (p : ℕ → Bool) where
         narrowed row h = ap (λ b. b && p row.0.1) (sym (in_range (object, 0) (object, 0) (object, top) row.0 refl refl refl) ∙ h)
 
     pub first_some : (found : (ℕ × ℕ) × V) → found.0.1 < 2 ^ 64 → find (λ row. p row.0.1) rest ≡ Some found
-        → IsLowest (λ n. is_met true (get by_object m (object, n)) (p n)) (Some found.0.1)
+        → IsLowest (λ n. is_met true (get by_pair m (object, n)) (p n)) (Some found.0.1)
     first_some found f e =
         let got = some_met m.entries found ordered f (restricted ∙ e) in
         (f, got.0, got.1)
 
-    pub first_none : find (λ row. p row.0.1) rest ≡ None → IsLowest (λ n. is_met true (get by_object m (object, n)) (p n)) None
+    pub first_none : find (λ row. p row.0.1) rest ≡ None → IsLowest (λ n. is_met true (get by_pair m (object, n)) (p n)) None
     first_none e n f = none_met m.entries n f (restricted ∙ e)
 
 -- the lower of two is the lowest that passes one of their tests
@@ -159,33 +160,33 @@ pub lowest_none : (p : ℕ → Bool) → ((n : ℕ) → p n ≡ false) → IsLow
 lowest_none p none = λ n f. none n
 
 -- what is open on an object under a handle
-share_at : (object handle : ℕ) (es : Shares) → lookup (is_at (by_object (object, handle))) es ≡ share_on es object handle
+share_at : (object handle : ℕ) (es : Shares) → lookup (is_at (by_pair (object, handle))) es ≡ share_on es object handle
 share_at object handle [] = refl
-share_at object handle (row ∷ es) = by (is_at (by_object (object, handle)) row.0) (same_pair object handle row.0.0 row.0.1) (share_at object handle es)
+share_at object handle (row ∷ es) = by (is_at (by_pair (object, handle)) row.0) (same_pair object handle row.0.0 row.0.1) (share_at object handle es)
   where
-    by : (s : Bool) → s ≡ (object == row.0.0 && handle == row.0.1) → lookup (is_at (by_object (object, handle))) es ≡ share_on es object handle
-        → cond s (Some row.1) (lookup (is_at (by_object (object, handle))) es) ≡ cond (row.0.0 == object && row.0.1 == handle) (Some row.1) (share_on es object handle)
+    by : (s : Bool) → s ≡ (object == row.0.0 && handle == row.0.1) → lookup (is_at (by_pair (object, handle))) es ≡ share_on es object handle
+        → cond s (Some row.1) (lookup (is_at (by_pair (object, handle))) es) ≡ cond (row.0.0 == object && row.0.1 == handle) (Some row.1) (share_on es object handle)
     by s e i =
         let turned : s ≡ (row.0.0 == object && row.0.1 == handle) = e ∙ grind (arith, nat_tests) in
         ap (λ rest. cond s (Some row.1) rest) i ∙ ap (λ b. cond b (Some row.1) (share_on es object handle)) turned
 
 -- the lowest that conflicts is the conflict
 pub lowest_is_conflict : (m : BTreeMap (ℕ × ℕ) Share) (object access sharing : ℕ) (a : Option ℕ) → SharesRise m.entries
-    → ((key : ℕ × ℕ) → is_some (get by_object m key) ≡ true → key.1 < 2 ^ 64)
-    → IsLowest (λ n. conflicts_by access sharing (get by_object m (object, n))) a → a ≡ conflict_of m.entries object access sharing
+    → ((key : ℕ × ℕ) → is_some (get by_pair m key) ≡ true → key.1 < 2 ^ 64)
+    → IsLowest (λ n. conflicts_by access sharing (get by_pair m (object, n))) a → a ≡ conflict_of m.entries object access sharing
 lowest_is_conflict m object access sharing a rise words low = by a low (conflict_of m.entries object access sharing) refl
   where
     -- what conflicts is open
-    open_so : (n : ℕ) (o : Option Share) → get by_object m (object, n) ≡ o → conflicts_by access sharing o ≡ true
+    open_so : (n : ℕ) (o : Option Share) → get by_pair m (object, n) ≡ o → conflicts_by access sharing o ≡ true
         → (share : Share) × (share_on m.entries object n ≡ Some share) × (conflicts access sharing share ≡ true)
     open_so n None e c = absurd (false≢true c)
     open_so n (Some share) e c = (share, sym (share_at object n m.entries) ∙ e, c)
 
     -- what is open and conflicts passes the test
     passes : (n : ℕ) (share : Share) → share_on m.entries object n ≡ Some share → conflicts access sharing share ≡ true
-        → (conflicts_by access sharing (get by_object m (object, n)) ≡ true) × (n < 2 ^ 64)
+        → (conflicts_by access sharing (get by_pair m (object, n)) ≡ true) × (n < 2 ^ 64)
     passes n share e c =
-        let there : get by_object m (object, n) ≡ Some share = share_at object n m.entries ∙ e in
+        let there : get by_pair m (object, n) ≡ Some share = share_at object n m.entries ∙ e in
         (ap (conflicts_by access sharing) there ∙ c, words (object, n) (ap is_some there))
 
     order : (n c : ℕ) (lt gt : Bool) → nat_lt n c ≡ lt → nat_lt c n ≡ gt → (n < c → ⊥) → (c < n → ⊥) → n ≡ c
@@ -193,10 +194,10 @@ lowest_is_conflict m object access sharing a rise words low = by a low (conflict
     order n c false true e f below above = absurd (above (grind (arith, nat_tests, f)))
     order n c false false e f below above = grind (arith, nat_tests, e, f)
 
-    by : (a : Option ℕ) → IsLowest (λ n. conflicts_by access sharing (get by_object m (object, n))) a → (o : Option ℕ) → conflict_of m.entries object access sharing ≡ o → a ≡ o
+    by : (a : Option ℕ) → IsLowest (λ n. conflicts_by access sharing (get by_pair m (object, n))) a → (o : Option ℕ) → conflict_of m.entries object access sharing ≡ o → a ≡ o
     by None low None e = refl
     by (Some n) low None e =
-        let found = open_so n (get by_object m (object, n)) refl low.1 in
+        let found = open_so n (get by_pair m (object, n)) refl low.1 in
         absurd (false≢true (sym (none_conflicts object access sharing m.entries n found.0 e found.1) ∙ found.2))
     by None low (Some c) e =
         let found = is_open object access sharing m.entries c rise e in
@@ -205,7 +206,7 @@ lowest_is_conflict m object access sharing a rise words low = by a low (conflict
     by (Some n) low (Some c) e =
         let found = is_open object access sharing m.entries c rise e in
         let got = passes c found.0 found.1 found.2 in
-        let mine = open_so n (get by_object m (object, n)) refl low.1 in
+        let mine = open_so n (get by_pair m (object, n)) refl low.1 in
         ap Some (order n c (nat_lt n c) (nat_lt c n) refl refl
         (λ l. absurd (false≢true (sym (is_lowest object access sharing m.entries c n mine.0 rise e l mine.1) ∙ mine.2)))
         (λ l. absurd (false≢true (sym (low.2 c l) ∙ got.0))))

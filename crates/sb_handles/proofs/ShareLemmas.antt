@@ -9,11 +9,12 @@ use Rattle.std.specs.Cmp.{IsTotalOrder, nat_cmp_total, on_total, then_total}
 use Rattle.std.specs.declared.ops.Bound.TheVariants.{Included}
 use Rattle.std.specs.List.{filter, find, list_all}
 use Rattle.std.specs.Map.{remove_entry}
-use Rattle.sb_handles.specs.Shares.{by_object, left}
+use Rattle.sb_handles.specs.Shares.{left}
+use Rattle.sb_items.specs.Orders.{by_pair}
 use Rattle.sb_handles.specs.declared.objects.Share.{Share}
 use Rattle.sb_handles.proofs.IndexLemmas.{same_pair}
 
-pub pairs_total : IsTotalOrder by_object
+pub pairs_total : IsTotalOrder by_pair
 pairs_total = then_total (on_total (λ p. p.0) nat_cmp_total) (on_total (λ p. p.1) nat_cmp_total)
 
 module _ {X : Type 0} (p q r : X → Bool) where
@@ -37,20 +38,20 @@ module _ {X : Type 0} (p q r : X → Bool) where
       narrow x (q x) (find p xs) xs refl parts.0 (f x) (find_restricted xs parts.1 f)
 
 abbrev pub handles_of : ℕ → ℕ × ℕ → Bool
-handles_of object key = range_contains by_object (Included (object, 0)) (Included (object, 2 ^ 64 - 1)) key
+handles_of object key = range_contains by_pair (Included (object, 0)) (Included (object, 2 ^ 64 - 1)) key
 
 -- the keys of an object with handles of 64 bits
 pub in_range : (object low high : ℕ × ℕ) (key : ℕ × ℕ) → low ≡ object → high ≡ (object.0, 2 ^ 64 - 1) → object.1 ≡ 0
-    → range_contains by_object (Included low) (Included high) key ≡ (key.0 == object.0 && nat_le key.1 (2 ^ 64 - 1))
+    → range_contains by_pair (Included low) (Included high) key ≡ (key.0 == object.0 && nat_le key.1 (2 ^ 64 - 1))
 in_range object low high key l h z = rw (l, h, z) (grind (arith, nat_tests))
 
 -- a share of a handle that is taken out is none of the others
-pub left_removed : (object handle : ℕ) (es : List ((ℕ × ℕ) × Share)) → left (remove_entry (is_at (by_object (object, handle))) es) handle ≡ left es handle
+pub left_removed : (object handle : ℕ) (es : List ((ℕ × ℕ) × Share)) → left (remove_entry (is_at (by_pair (object, handle))) es) handle ≡ left es handle
 left_removed object handle [] = refl
-left_removed object handle (e ∷ es) = by (is_at (by_object (object, handle)) e.0) (same_pair object handle e.0.0 e.0.1) (left_removed object handle es)
+left_removed object handle (e ∷ es) = by (is_at (by_pair (object, handle)) e.0) (same_pair object handle e.0.0 e.0.1) (left_removed object handle es)
   where
-    by : (s : Bool) → s ≡ (object == e.0.0 && handle == e.0.1) → left (remove_entry (is_at (by_object (object, handle))) es) handle ≡ left es handle
-        → left (cond s es (e ∷ remove_entry (is_at (by_object (object, handle))) es)) handle ≡ left (e ∷ es) handle
+    by : (s : Bool) → s ≡ (object == e.0.0 && handle == e.0.1) → left (remove_entry (is_at (by_pair (object, handle))) es) handle ≡ left es handle
+        → left (cond s es (e ∷ remove_entry (is_at (by_pair (object, handle))) es)) handle ≡ left (e ∷ es) handle
     by true h i =
         let same : (e.0.1 == handle) ≡ true = grind (arith, nat_tests, h) in
         rw same refl

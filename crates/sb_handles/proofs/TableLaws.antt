@@ -13,7 +13,8 @@ use Rattle.std.specs.Map.{lookup}
 use Rattle.std.specs.Ordering.{match_ordering, is_eq}
 use Rattle.std.specs.declared.cmp.Ordering.{Ordering}
 use Rattle.sb_handles.specs.Agreements.{is_file, is_pipe, file_share, file_share_by}
-use Rattle.sb_handles.specs.Shares.{Shares, SharesRise, by_object, left, left_on, opened, share_on}
+use Rattle.sb_handles.specs.Shares.{Shares, SharesRise, left, left_on, opened, share_on}
+use Rattle.sb_items.specs.Orders.{by_pair}
 use Rattle.sb_handles.specs.declared.objects.Share.{Share}
 use Rattle.sb_handles.proofs.ConflictLaws.{none_lower}
 use Rattle.sb_handles.proofs.IndexLemmas.{same_pair}
@@ -277,7 +278,7 @@ closes_count table target number pipe held h found = fewer target number held (�
 abbrev on_key : ℕ → ℕ → ℕ × ℕ → Bool
 on_key object number key = key.0 == object && key.1 == number
 
-both_on : (object number : ℕ) (a b : ℕ × ℕ) → on_key object number a ≡ true → on_key object number b ≡ true → is_at (by_object a) b ≡ true
+both_on : (object number : ℕ) (a b : ℕ × ℕ) → on_key object number a ≡ true → on_key object number b ≡ true → is_at (by_pair a) b ≡ true
 both_on object number a b h k =
     let l = and_parts (a.0 == object) (a.1 == number) h in
     let r = and_parts (b.0 == object) (b.1 == number) k in
@@ -285,7 +286,7 @@ both_on object number a b h k =
     let j : (a.1 == b.1) ≡ true = grind (arith, nat_tests, l.1, r.1) in
     same_pair a.0 a.1 b.0 b.1 ∙ (λ n. i n && j n)
 
-same_on : (object number : ℕ) (a b : ℕ × ℕ) → by_object a b ≡ Equal → on_key object number a ≡ on_key object number b
+same_on : (object number : ℕ) (a b : ℕ × ℕ) → by_pair a b ≡ Equal → on_key object number a ≡ on_key object number b
 same_on object number a b h =
     let parts = and_parts (a.0 == b.0) (a.1 == b.1) (sym (same_pair a.0 a.1 b.0 b.1) ∙ ap is_eq h) in
     let i : a.0 ≡ b.0 = grind (arith, nat_tests, parts.0) in
@@ -293,9 +294,9 @@ same_on object number a b h =
     λ k. i k == object && j k == number
 
 share_put : (object number : ℕ) (key : ℕ × ℕ) (share : Share) (shares : Shares)
-    → share_on (insert_entry by_object shares key share) object number ≡ (if on_key object number key then Some share else share_on shares object number)
+    → share_on (insert_entry by_pair shares key share) object number ≡ (if on_key object number key then Some share else share_on shares object number)
 share_put object number key share [] = refl
-share_put object number key share (row ∷ shares) = by (by_object key row.0) refl (share_put object number key share shares)
+share_put object number key share (row ∷ shares) = by (by_pair key row.0) refl (share_put object number key share shares)
   where
     replaced : (b c : Bool) → b ≡ c → cond c (Some share) (share_on shares object number) ≡ (if b then Some share else cond c (Some row.1) (share_on shares object number))
     replaced true true e = refl
@@ -309,9 +310,9 @@ share_put object number key share (row ∷ shares) = by (by_object key row.0) re
     further false true f = refl
     further false false f = refl
 
-    by : (o : Ordering) → by_object key row.0 ≡ o
-        → share_on (insert_entry by_object shares key share) object number ≡ (if on_key object number key then Some share else share_on shares object number)
-        → share_on (match_ordering o ((key, share) ∷ row ∷ shares) ((row.0, share) ∷ shares) (row ∷ insert_entry by_object shares key share)) object number
+    by : (o : Ordering) → by_pair key row.0 ≡ o
+        → share_on (insert_entry by_pair shares key share) object number ≡ (if on_key object number key then Some share else share_on shares object number)
+        → share_on (match_ordering o ((key, share) ∷ row ∷ shares) ((row.0, share) ∷ shares) (row ∷ insert_entry by_pair shares key share)) object number
         ≡ (if on_key object number key then Some share else cond (on_key object number row.0) (Some row.1) (share_on shares object number))
     by Less e i = refl
     by Equal e i = replaced (on_key object number key) (on_key object number row.0) (same_on object number key row.0 e)
@@ -430,7 +431,7 @@ abbrev other_handle : ℕ → (ℕ × ℕ) × Share → Bool
 other_handle number row = not (row.0.1 == number)
 
 -- a pair stands at its own place
-own_place : (object number : ℕ) → is_at (by_object (object, number)) (object, number) ≡ true
+own_place : (object number : ℕ) → is_at (by_pair (object, number)) (object, number) ≡ true
 own_place object number = same_pair object number object number ∙ grind (arith, nat_tests)
 
 -- a handle that has no share of any object is in no row
@@ -454,9 +455,9 @@ opened_out : (object number : ℕ) (share : Share) (shares : Shares) → list_al
     → left_on (opened shares object number share) object number ≡ shares
 opened_out object number share [] h = rw (own_place object number) refl
 opened_out object number share (row ∷ shares) h =
-    by (by_object (object, number) row.0) refl (and_parts (other_handle number row) (list_all (other_handle number) shares) h) (opened_out object number share shares)
+    by (by_pair (object, number) row.0) refl (and_parts (other_handle number row) (list_all (other_handle number) shares) h) (opened_out object number share shares)
   where
-    by : (o : Ordering) → by_object (object, number) row.0 ≡ o → (other_handle number row ≡ true) × (list_all (other_handle number) shares ≡ true)
+    by : (o : Ordering) → by_pair (object, number) row.0 ≡ o → (other_handle number row ≡ true) × (list_all (other_handle number) shares ≡ true)
         → (list_all (other_handle number) shares ≡ true → left_on (opened shares object number share) object number ≡ shares)
         → left_on (match_ordering o (((object, number), share) ∷ row ∷ shares) ((row.0, share) ∷ shares) (row ∷ opened shares object number share)) object number ≡ row ∷ shares
     by Less e parts i = rw (own_place object number) refl
@@ -508,7 +509,7 @@ others_left : (object handle : ℕ) (shares : Shares) → SharesRise shares → 
 unfolding IsStrictlySortedBy
 others_left object handle [] rise on = refl
 others_left object handle (row ∷ shares) rise on =
-    by (is_at (by_object (object, handle)) row.0) (same_pair object handle row.0.0 row.0.1) (others_left object handle shares rise.1 (still_on shares row object handle on))
+    by (is_at (by_pair (object, handle)) row.0) (same_pair object handle row.0.0 row.0.1) (others_left object handle shares rise.1 (still_on shares row object handle on))
   where
     gone : object ≡ row.0.0 → handle ≡ row.0.1 → (other : ℕ) (o : Option Share) → share_on shares other handle ≡ o → share_on shares other handle ≡ None
     gone same same' other None e = e

@@ -2,7 +2,8 @@
 use Rattle.std.specs.Prelude.{◌≡◌, ◌<◌, ◌^◌, ℕ, Bool, true, false, ◌&&◌, ◌||◌, not, Option, None, Some, is_some, nat_lt, if◌then◌else◌}
 use Rattle.std.specs.BTreeMap.{get}
 use Rattle.sb_call.specs.Statuses.{meets}
-use Rattle.sb_handles.specs.Shares.{by_object, conflicts, takes_part, read_bits, write_bits, delete_bits, share_read, share_write, share_delete}
+use Rattle.sb_handles.specs.Shares.{conflicts, takes_part, read_bits, write_bits, delete_bits, share_read, share_write, share_delete}
+use Rattle.sb_items.specs.Orders.{by_pair}
 use Rattle.sb_handles.specs.declared.objects.Share.{Share}
 use Rattle.sb_handles.specs.declared.sets.Sets.{Sets}
 
@@ -28,12 +29,12 @@ is_met asked entry hit = asked && (is_some entry && hit)
 
 -- the sets of its share have a handle of an object
 pub record HasShare (sets : Sets) (key : ℕ × ℕ) (share : Share) : Type 0 where
-  pub reads : meets share.access.0 read_bits ≡ true → is_some (get by_object sets.reading key) ≡ true
-  pub writes : meets share.access.0 write_bits ≡ true → is_some (get by_object sets.writing key) ≡ true
-  pub deletes : meets share.access.0 delete_bits ≡ true → is_some (get by_object sets.deleting key) ≡ true
-  pub unread : (takes_part share.access.0 && not (meets share.sharing.0 share_read)) ≡ true → is_some (get by_object sets.unread key) ≡ true
-  pub unwritten : (takes_part share.access.0 && not (meets share.sharing.0 share_write)) ≡ true → is_some (get by_object sets.unwritten key) ≡ true
-  pub undeleted : (takes_part share.access.0 && not (meets share.sharing.0 share_delete)) ≡ true → is_some (get by_object sets.undeleted key) ≡ true
+  pub reads : meets share.access.0 read_bits ≡ true → is_some (get by_pair sets.reading key) ≡ true
+  pub writes : meets share.access.0 write_bits ≡ true → is_some (get by_pair sets.writing key) ≡ true
+  pub deletes : meets share.access.0 delete_bits ≡ true → is_some (get by_pair sets.deleting key) ≡ true
+  pub unread : (takes_part share.access.0 && not (meets share.sharing.0 share_read)) ≡ true → is_some (get by_pair sets.unread key) ≡ true
+  pub unwritten : (takes_part share.access.0 && not (meets share.sharing.0 share_write)) ≡ true → is_some (get by_pair sets.unwritten key) ≡ true
+  pub undeleted : (takes_part share.access.0 && not (meets share.sharing.0 share_delete)) ≡ true → is_some (get by_pair sets.undeleted key) ≡ true
 
 -- so they have each handle that is open, and handles have 64 bits
 pub record HasShares (shares : ℕ × ℕ → Option Share) (sets : Sets) : Type 0 where
@@ -43,11 +44,11 @@ pub record HasShares (shares : ℕ × ℕ → Option Share) (sets : Sets) : Type
 -- a handle conflicts and stands among those that do not share what an access does
 abbrev pub is_unshared : Sets → ℕ × ℕ → ℕ → Bool → Bool
 is_unshared sets key access hit =
-    is_met (meets access read_bits) (get by_object sets.unread key) hit
-    || (is_met (meets access write_bits) (get by_object sets.unwritten key) hit || is_met (meets access delete_bits) (get by_object sets.undeleted key) hit)
+    is_met (meets access read_bits) (get by_pair sets.unread key) hit
+    || (is_met (meets access write_bits) (get by_pair sets.unwritten key) hit || is_met (meets access delete_bits) (get by_pair sets.undeleted key) hit)
 
 -- a handle conflicts and stands among those that do what a sharing does not share
 abbrev pub is_exceeding : Sets → ℕ × ℕ → ℕ → Bool → Bool
 is_exceeding sets key sharing hit =
-    is_met (not (meets sharing share_read)) (get by_object sets.reading key) hit
-    || (is_met (not (meets sharing share_write)) (get by_object sets.writing key) hit || is_met (not (meets sharing share_delete)) (get by_object sets.deleting key) hit)
+    is_met (not (meets sharing share_read)) (get by_pair sets.reading key) hit
+    || (is_met (not (meets sharing share_write)) (get by_pair sets.writing key) hit || is_met (not (meets sharing share_delete)) (get by_pair sets.deleting key) hit)

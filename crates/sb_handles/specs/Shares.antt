@@ -1,13 +1,12 @@
 -- Which accesses to one object may be open at the same time.
 use Rattle.std.specs.Prelude.{ℕ, Bool, ◌&&◌, ◌||◌, not, ◌==◌, List, Option, option_map}
 use Rattle.std.specs.BTreeMap.{insert_entry, is_at}
-use Rattle.std.specs.declared.cmp.Ordering.{Ordering}
 use Rattle.std.specs.List.{filter, find}
 use Rattle.std.specs.List.Sorted.{IsStrictlySortedBy}
 use Rattle.std.specs.Map.{keys_of, lookup, remove_entry}
-use Rattle.std.specs.Ordering.{nat_cmp, ordering_then}
 use Rattle.sb_call.specs.Statuses.{meets}
 use Rattle.sb_handles.specs.declared.objects.Share.{Share}
+use Rattle.sb_items.specs.Orders.{by_pair}
 
 -- reads data or executes, by itself or by a generic right
 abbrev pub read_bits : ℕ
@@ -50,13 +49,9 @@ conflicts access sharing share =
 abbrev pub Shares : Type 0
 Shares = List ((ℕ × ℕ) × Share)
 
--- by object, and then by handle
-abbrev pub by_object : ℕ × ℕ → ℕ × ℕ → Ordering
-by_object a b = ordering_then (nat_cmp a.0 b.0) (nat_cmp a.1 b.1)
-
 -- objects and handles rise strictly
 abbrev pub SharesRise : Shares → Type 0
-SharesRise shares = IsStrictlySortedBy by_object (keys_of shares)
+SharesRise shares = IsStrictlySortedBy by_pair (keys_of shares)
 
 -- an open handle of this object conflicts
 abbrev pub is_conflict : ℕ → ℕ → ℕ → (ℕ × ℕ) × Share → Bool
@@ -68,7 +63,7 @@ conflict_of shares object access sharing = option_map (λ row. row.0.1) (find (i
 
 -- with a handle open on an object
 abbrev pub opened : Shares → ℕ → ℕ → Share → Shares
-opened shares object handle share = insert_entry by_object shares (object, handle) share
+opened shares object handle share = insert_entry by_pair shares (object, handle) share
 
 -- without a handle
 abbrev pub left : Shares → ℕ → Shares
@@ -76,7 +71,7 @@ left shares handle = filter (λ row. not (row.0.1 == handle)) shares
 
 -- without the share that a handle has of an object
 abbrev pub left_on : Shares → ℕ → ℕ → Shares
-left_on shares object handle = remove_entry (is_at (by_object (object, handle))) shares
+left_on shares object handle = remove_entry (is_at (by_pair (object, handle))) shares
 
 -- how a handle is open on an object
 abbrev pub share_on : Shares → ℕ → ℕ → Option Share

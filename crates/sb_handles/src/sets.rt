@@ -1,7 +1,8 @@
 // The handles of each object by what they do and do not share, so that a conflict is found without a look at all of them.
 ghost use Rattle.std.specs.Prelude.{◌≡◌, ℕ, Bool, Option, true, false, is_some, OnOk};
 ghost use Rattle.std.specs.BTreeMap.{get, is_at};
-ghost use Rattle.sb_handles.specs.Shares.{by_object, takes_part, exceeds, conflicts};
+ghost use Rattle.sb_handles.specs.Shares.{takes_part, exceeds, conflicts};
+ghost use Rattle.sb_items.specs.Orders.{by_pair};
 ghost use Rattle.sb_handles.specs.Sets.{HasShare, HasShares, IsLowest, conflicts_by, is_exceeding, is_met, is_unshared, lower_of};
 ghost use Rattle.sb_handles.specs.declared.objects.Share.{Share};
 
@@ -47,7 +48,7 @@ fn conflicts_at(
     access: Access,
     sharing: Sharing,
 ) -> bool
-    ensures { result ≡ conflicts_by access.0 sharing.0 (get by_object shares.now (object, handle)) }
+    ensures { result ≡ conflicts_by access.0 sharing.0 (get by_pair shares.now (object, handle)) }
 {
     match shares.get(&(object, handle)) {
         Some(share) => conflicts(access, sharing, *share),
@@ -57,8 +58,8 @@ fn conflicts_at(
 
 // Puts a handle of an object into a set, if it belongs there.
 fn note(set: &mut BTreeMap<(u64, u64), ()>, key: (u64, u64), belongs: bool) -> Result<(), NoMemory>
-    ensures kept { (q : ℕ × ℕ) → is_some (get by_object set.old q) ≡ true → is_some (get by_object set.new q) ≡ true }
-    ensures there { OnOk result (belongs ≡ true → is_some (get by_object set.new key) ≡ true) }
+    ensures kept { (q : ℕ × ℕ) → is_some (get by_pair set.old q) ≡ true → is_some (get by_pair set.new q) ≡ true }
+    ensures there { OnOk result (belongs ≡ true → is_some (get by_pair set.new key) ≡ true) }
 {
     if belongs {
         set.insert(key, ())?;
@@ -75,7 +76,7 @@ fn first_in(
     access: Access,
     sharing: Sharing,
 ) -> Option<u64>
-    ensures { IsLowest (λ handle. is_met is_searched (get by_object set.now (object, handle)) (conflicts_by access.0 sharing.0 (get by_object shares.now (object, handle)))) result }
+    ensures { IsLowest (λ handle. is_met is_searched (get by_pair set.now (object, handle)) (conflicts_by access.0 sharing.0 (get by_pair shares.now (object, handle)))) result }
 {
     if !is_searched {
         return None;
@@ -166,7 +167,7 @@ impl Sets {
 
     // Takes a handle of an object out of all sets.
     pub(crate) fn forget(&mut self, key: (u64, u64))
-        ensures { (q : ℕ × ℕ) (share : Share) → is_at (by_object key) q ≡ false → HasShare self.old q share → HasShare self.new q share }
+        ensures { (q : ℕ × ℕ) (share : Share) → is_at (by_pair key) q ≡ false → HasShare self.old q share → HasShare self.new q share }
     {
         self.reading.remove(&key);
         self.writing.remove(&key);
@@ -184,7 +185,7 @@ impl Sets {
         access: Access,
         sharing: Sharing,
     ) -> Option<u64>
-        ensures { IsLowest (λ handle. is_unshared self.now (object, handle) access.0 (conflicts_by access.0 sharing.0 (get by_object shares.now (object, handle)))) result }
+        ensures { IsLowest (λ handle. is_unshared self.now (object, handle) access.0 (conflicts_by access.0 sharing.0 (get by_pair shares.now (object, handle)))) result }
     {
         let read = first_in(
             access.intersects(Access::READS),
@@ -221,7 +222,7 @@ impl Sets {
         access: Access,
         sharing: Sharing,
     ) -> Option<u64>
-        ensures { IsLowest (λ handle. is_exceeding self.now (object, handle) sharing.0 (conflicts_by access.0 sharing.0 (get by_object shares.now (object, handle)))) result }
+        ensures { IsLowest (λ handle. is_exceeding self.now (object, handle) sharing.0 (conflicts_by access.0 sharing.0 (get by_pair shares.now (object, handle)))) result }
     {
         let read = first_in(
             !sharing.intersects(Sharing::READ),
@@ -258,8 +259,8 @@ impl Sets {
         access: Access,
         sharing: Sharing,
     ) -> Option<u64>
-        requires { HasShares (get by_object shares.now) self.now }
-        ensures { IsLowest (λ handle. conflicts_by access.0 sharing.0 (get by_object shares.now (object, handle))) result }
+        requires { HasShares (get by_pair shares.now) self.now }
+        ensures { IsLowest (λ handle. conflicts_by access.0 sharing.0 (get by_pair shares.now (object, handle))) result }
     {
         if !takes_part(access) {
             return None;

@@ -32,13 +32,14 @@ impl Drop for ShareTable {
 impl Model for ShareTable {
     ghost use Rattle.std.specs.BTreeMap.{get};
     ghost use Rattle.sb_handles.specs.Sets.{HasShares};
-    ghost use Rattle.sb_handles.specs.Shares.{Shares, by_object};
+    ghost use Rattle.sb_handles.specs.Shares.{Shares};
+    ghost use Rattle.sb_items.specs.Orders.{by_pair};
 
     ghost Value = { Shares };
 
     ghost view = { λ t. t.shares.entries };
 
-    ghost invariant = { λ t. HasShares (get by_object t.shares) t.sets };
+    ghost invariant = { λ t. HasShares (get by_pair t.shares) t.sets };
 }
 
 impl ShareTable {

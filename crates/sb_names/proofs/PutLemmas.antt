@@ -8,7 +8,7 @@ use Rattle.sb_wide.specs.Names.{is_component}
 use Rattle.sb_names.specs.Hashes.{hash_of}
 use Rattle.sb_names.specs.Keys.{key_of}
 use Rattle.sb_names.specs.Nodes.{Nodes, HasNames, HasNoChild, IsChanged, IsIndexed, IsThere, name_of, rows_of}
-use Rattle.sb_names.specs.Orders.{by_pair}
+use Rattle.sb_items.specs.Orders.{by_pair}
 use Rattle.sb_names.specs.declared.nodes.NameNode.{NameNode}
 use Rattle.sb_names.proofs.Changes.{indexed_changed, names_changed, rows_added}
 use Rattle.sb_names.proofs.IndexLemmas.{same_pair}

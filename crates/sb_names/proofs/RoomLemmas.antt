@@ -11,7 +11,7 @@ use Rattle.sb_names.specs.Hashes.{hash_of}
 use Rattle.sb_names.specs.Keys.{key_of}
 use Rattle.sb_names.specs.Maps.{is_key}
 use Rattle.sb_names.specs.Nodes.{Nodes, HasNames, HasNoChild, IsChanged, IsIndexed, IsThere, IsUnnamed, KeepsNodes, key_by, name_of, number_of, rows_of}
-use Rattle.sb_names.specs.Orders.{by_pair}
+use Rattle.sb_items.specs.Orders.{by_pair}
 use Rattle.sb_names.specs.Rooms.{HasRoomFor}
 use Rattle.sb_names.specs.declared.rooms.NewName.{NewName}
 use Rattle.sb_names.specs.declared.nodes.NameNode.{NameNode}

@@ -6,7 +6,6 @@ pub mod Maps
 pub mod Nodes
 pub mod Numbers
 pub mod Objects
-pub mod Orders
 pub mod Renames
 pub mod Rooms
 pub mod Seeks

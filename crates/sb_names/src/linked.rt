@@ -48,7 +48,7 @@ impl Model for NameTree {
     ghost use Rattle.std.specs.BTreeMap.{get};
     ghost use Rattle.sb_names.specs.Nodes.{HasNames, IsIndexed};
     ghost use Rattle.sb_names.specs.Objects.{HasObjects};
-    ghost use Rattle.sb_names.specs.Orders.{by_pair};
+    ghost use Rattle.sb_items.specs.Orders.{by_pair};
     ghost use Rattle.sb_names.specs.Rooms.{Tree};
 
     ghost Value = { Tree };

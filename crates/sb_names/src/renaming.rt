@@ -5,7 +5,7 @@ ghost use Rattle.sb_arena.specs.Forests.{IsLive};
 ghost use Rattle.sb_wide.specs.Names.{is_component, is_name_of};
 ghost use Rattle.sb_names.specs.Keys.{is_below, key_of, parent_of};
 ghost use Rattle.sb_names.specs.Maps.{found};
-ghost use Rattle.sb_names.specs.Orders.{by_pair};
+ghost use Rattle.sb_items.specs.Orders.{by_pair};
 ghost use Rattle.sb_names.specs.Renames.{collected, renamed_key, renamed_rows, renamed_tree};
 ghost use Rattle.sb_names.specs.Nodes.{HasNoChild, IsApart, IsAt, IsChanged, IsThere, KeepsAllBut, KeepsEntries, KeepsOtherNodes, KeepsRows, name_of, number_of, rows_of};
 
