@@ -4,13 +4,13 @@ use Rattle.std.proofs.lemmas.Bool.{false≢true}
 use Rattle.std.proofs.lemmas.Bool.Decides.{nat_tests}
 use Rattle.std.specs.Prelude.{Option, None, Some, not}
 use Rattle.sb_call.specs.Statuses.{name_exists, type_mismatch}
-use Rattle.sb_handles.specs.Effects.{Effect, grants, refused}
+use Rattle.sb_handles.specs.Effects.{Effect, grants, refused, is_done}
 use Rattle.sb_names.specs.Keys.{key_of}
 use Rattle.sb_names.specs.Laws.{PutsAreFound}
 use Rattle.sb_names.specs.Maps.{found, is_key}
 use Rattle.sb_event.specs.Events.{Events, create_by, on_event, open_by, shown}
 use Rattle.sb_event.specs.Kinds.{kind_number}
-use Rattle.sb_event.specs.Laws.{CreatesGrantTheirEvent, IsGrantedOn, OpensGrantTheirEvent, is_granted}
+use Rattle.sb_event.specs.Laws.{CreatesGrantTheirEvent, IsGrantedOn, OpensGrantTheirEvent}
 use Rattle.sb_event.specs.declared.rows.EventRow.{EventRow}
 
 pub own_key : (key : List ℕ) → is_key key key ≡ true
@@ -23,7 +23,7 @@ pub creates_grant_their_event : PutsAreFound EventRow → CreatesGrantTheirEvent
 creates_grant_their_event puts events handles target name kind initial = by (found events.rows name) refl
   where
     P : Effect Events → Type 0
-    P effect = is_granted effect.answer.status ≡ true → IsGrantedOn effect handles target name 0
+    P effect = is_done effect.answer.status ≡ true → IsGrantedOn effect handles target name 0
 
     new : EventRow
     new = record { number = events.made + 1; kind = kind; initial = initial }
@@ -42,7 +42,7 @@ creates_grant_their_event puts events handles target name kind initial = by (fou
 pub opens_grant_their_event : OpensGrantTheirEvent
 opens_grant_their_event events handles target name access = by (found events.rows name) refl
   where
-    by : (row : Option EventRow) → found events.rows name ≡ row → is_granted (open_by row events handles target access).answer.status ≡ true
+    by : (row : Option EventRow) → found events.rows name ≡ row → is_done (open_by row events handles target access).answer.status ≡ true
         → IsGrantedOn (open_by row events handles target access) handles target name access
     by None f h = absurd (false≢true h)
     by (Some row) f h = (row, f, refl)

@@ -1,8 +1,8 @@
 -- Laws of events.
-use Rattle.std.specs.Prelude.{◌≡◌, ◌+◌, ℕ, Bool, true, false, ◌&&◌, ◌||◌, ◌==◌, List, Some, if◌then◌else◌}
+use Rattle.std.specs.Prelude.{◌≡◌, ◌+◌, ℕ, Bool, true, false, ◌&&◌, ◌==◌, List, Some, if◌then◌else◌}
 use Rattle.std.specs.Map.{lookup}
-use Rattle.sb_call.specs.Statuses.{success, name_exists}
-use Rattle.sb_handles.specs.Effects.{Effect}
+use Rattle.sb_call.specs.Statuses.{success}
+use Rattle.sb_handles.specs.Effects.{Effect, is_done}
 use Rattle.sb_handles.specs.Tables.{Table, with_handle}
 use Rattle.sb_names.specs.Keys.{key_of}
 use Rattle.sb_names.specs.Maps.{is_key, found}
@@ -10,22 +10,18 @@ use Rattle.sb_event.specs.Events.{Events, create, on_event, open_by_name}
 use Rattle.sb_event.specs.declared.kinds.EventKind.{EventKind}
 use Rattle.sb_event.specs.declared.rows.EventRow.{EventRow}
 
--- something was made or opened
-abbrev pub is_granted : ℕ → Bool
-is_granted status = status == success || status == name_exists
-
 -- a call leaves all as it was
 abbrev pub ChangesNothing : Events → Table → Effect Events → Type 0
 ChangesNothing events handles effect = (effect.service ≡ events) × (effect.handles ≡ handles)
 
 abbrev pub RefusedCreatesChangeNothing : Type 0
 RefusedCreatesChangeNothing = (events : Events) (handles : Table) (target : ℕ) (name : List ℕ) (kind : EventKind) (initial : Bool)
-    → is_granted (create events handles target name kind initial).answer.status ≡ false
+    → is_done (create events handles target name kind initial).answer.status ≡ false
     → ChangesNothing events handles (create events handles target name kind initial)
 
 abbrev pub RefusedOpensChangeNothing : Type 0
 RefusedOpensChangeNothing = (events : Events) (handles : Table) (target : ℕ) (name : List ℕ) (access : ℕ)
-    → is_granted (open_by_name events handles target name access).answer.status ≡ false
+    → is_done (open_by_name events handles target name access).answer.status ≡ false
     → ChangesNothing events handles (open_by_name events handles target name access)
 
 -- an event that was made is found under its name with its kind and initial state, and under every other name what was before
@@ -53,10 +49,10 @@ IsGrantedOn effect handles target name access =
 
 abbrev pub CreatesGrantTheirEvent : Type 0
 CreatesGrantTheirEvent = (events : Events) (handles : Table) (target : ℕ) (name : List ℕ) (kind : EventKind) (initial : Bool)
-    → is_granted (create events handles target name kind initial).answer.status ≡ true
+    → is_done (create events handles target name kind initial).answer.status ≡ true
     → IsGrantedOn (create events handles target name kind initial) handles target name 0
 
 abbrev pub OpensGrantTheirEvent : Type 0
 OpensGrantTheirEvent = (events : Events) (handles : Table) (target : ℕ) (name : List ℕ) (access : ℕ)
-    → is_granted (open_by_name events handles target name access).answer.status ≡ true
+    → is_done (open_by_name events handles target name access).answer.status ≡ true
     → IsGrantedOn (open_by_name events handles target name access) handles target name access

@@ -2,13 +2,12 @@
 ghost use Rattle.std.specs.Prelude.{◌≡◌, ◌+◌, ◌-◌, ◌<◌, ◌^◌, ◌∷◌, [], true, false, Some, None, IfSome, IfNone, IfOk, OnOk, OnErr, length};
 ghost use Rattle.std.specs.List.{slice_get};
 ghost use Rattle.sb_wide.specs.Names.{is_name_of};
-ghost use Rattle.sb_handles.specs.Effects.{IsDone};
+ghost use Rattle.sb_handles.specs.Effects.{IsDone, is_done};
 ghost use Rattle.sb_call.specs.Statuses.{granting};
 ghost use Rattle.sb_names.specs.Maps.{found};
 ghost use Rattle.sb_names.specs.Numbers.{is_given};
 ghost use Rattle.sb_names.specs.Objects.{IsNameBy};
 ghost use Rattle.sb_event.specs.Kinds.{kind_number, state_number};
-ghost use Rattle.sb_event.specs.Laws.{is_granted};
 ghost use Rattle.sb_event.specs.Events.{AreEvents, no_events, number_of, on_event, create, create_by, open_by_name, can_start, started, with_event};
 
 use crate::kinds::{EventKind, state_number};
@@ -190,7 +189,7 @@ impl EventService {
         requires name { is_name_of name.now ≡ true }
         requires made { self.old.made < 2 ^ 63 }
         ensures effect { IfOk result (λ a. IsDone (create self.old handles.old.table target name.now kind initial) self.new handles.new.table a) }
-        ensures memory { OnErr result (is_granted (create self.old handles.old.table target name.now kind initial).answer.status ≡ true) }
+        ensures memory { OnErr result (is_done (create self.old handles.old.table target name.now kind initial).answer.status ≡ true) }
         ensures err { OnErr result ((self.new ≡ self.old) × (handles.new.table ≡ handles.old.table)) }
     {
         match self.rows.find(name) {
@@ -218,7 +217,7 @@ impl EventService {
     ) -> Result<Answer, NoMemory>
         requires name { is_name_of name.now ≡ true }
         ensures effect { IfOk result (λ a. IsDone (open_by_name self.old handles.old.table target name.now access.0) self.new handles.new.table a) }
-        ensures memory { OnErr result (is_granted (open_by_name self.old handles.old.table target name.now access.0).answer.status ≡ true) }
+        ensures memory { OnErr result (is_done (open_by_name self.old handles.old.table target name.now access.0).answer.status ≡ true) }
         ensures service { self.new ≡ self.old }
         ensures err { OnErr result (handles.new.table ≡ handles.old.table) }
     {

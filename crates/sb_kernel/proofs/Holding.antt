@@ -263,12 +263,12 @@ module _ (grants : event_laws.CreatesGrantTheirEvent) (refuses : event_laws.Refu
   events_keep service.Event number (key, row, there, own) = (key, row, stays ns.events ns.handles target name key kind initial row there, own)
 
   events_granted : IsGrantOn events_after ns.handles raised.handles
-  events_granted = by (event_laws.is_granted raised.answer.status) refl
+  events_granted = by (effects.is_done raised.answer.status) refl
     where
       granted : event_laws.IsGrantedOn raised ns.handles target name 0 → IsGrantOn events_after ns.handles raised.handles
       granted (row, there, more) = inr (target, events.on_event row.number 0, (key_of name, row, there, refl), refl, more)
 
-      by : (b : Bool) → event_laws.is_granted raised.answer.status ≡ b → IsGrantOn events_after ns.handles raised.handles
+      by : (b : Bool) → effects.is_done raised.answer.status ≡ b → IsGrantOn events_after ns.handles raised.handles
       by true e = granted (grants ns.events ns.handles target name kind initial e)
       by false e = inl (refuses ns.events ns.handles target name kind initial e).1
 
@@ -292,13 +292,13 @@ module _ (grants : event_laws.OpensGrantTheirEvent) (refuses : event_laws.Refuse
       subst (λ events. HasRow (record ns { events = events }) service.Event number) (sym (leaves ns.events ns.handles target name access)) h
 
   found_granted : IsGrantOn found_after ns.handles found_event.handles
-  found_granted = by (event_laws.is_granted found_event.answer.status) refl
+  found_granted = by (effects.is_done found_event.answer.status) refl
     where
       granted : event_laws.IsGrantedOn found_event ns.handles target name access → IsGrantOn found_after ns.handles found_event.handles
       granted (row, there, more) =
           inr (target, events.on_event row.number access, (key_of name, row, there, refl), narrow_of (events.on_event row.number access) narrow refl, more)
 
-      by : (b : Bool) → event_laws.is_granted found_event.answer.status ≡ b → IsGrantOn found_after ns.handles found_event.handles
+      by : (b : Bool) → effects.is_done found_event.answer.status ≡ b → IsGrantOn found_after ns.handles found_event.handles
       by true e = granted (grants ns.events ns.handles target name access e)
       by false e = inl (refuses ns.events ns.handles target name access e).1
 
