@@ -11,7 +11,7 @@ use Rattle.sb_text.specs.Lines.{NumberedLine, lines_of}
 use Rattle.sb_text.specs.Readings.{on_line, read_by, read_lines, where_utf8}
 use Rattle.sb_text.specs.Spots.{by_tokens}
 use Rattle.sb_text.specs.Steps.{◌>>=◌, end_at, unless_fails}
-use Rattle.sb_text.specs.Strings.{QuotedStringsAreText}
+use Rattle.sb_text.specs.Strings.{QuotedStringsAreText, is_text}
 use Rattle.sb_text.specs.TokenLaws.{QuotedTokensAreText, has_quoted_text, is_quoted_byte, is_quoted_text}
 use Rattle.sb_text.specs.Tokens.{Lexeme, Word, Quoted, Bad, string_of, tokens_of}
 use Rattle.sb_text.specs.Utf8.{Place, not_utf8_place}
@@ -19,7 +19,7 @@ use Rattle.sb_text.specs.declared.refusals.TokenFault.{TokenFault}
 use Rattle.sb_text.specs.declared.refusals.WordFault.TheVariants as word
 use Rattle.sb_link.specs.LinkTexts.{add_line, grammar, link_version, new_link, read_link, string_at}
 use Rattle.sb_link.specs.Links.{AreLinks, is_from, is_link_name, most_links}
-use Rattle.sb_link.specs.Writing.{ReadLinksAreLinks, is_text, is_writable}
+use Rattle.sb_link.specs.Writing.{ReadLinksAreLinks, is_writable}
 use Rattle.sb_link.specs.declared.faults.LinkKind.{LinkKind}
 use Rattle.sb_link.specs.declared.faults.LinkKind.TheVariants.{NotUtf8, UnknownWord, BadName, SameName, TooMany}
 use Rattle.sb_link.specs.declared.links.Link.{Link}

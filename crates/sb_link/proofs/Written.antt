@@ -11,7 +11,7 @@ use Rattle.sb_text.specs.PlainLines.{PlainLinesAreRead, PlainLinesAreUtf8, Plain
 use Rattle.sb_text.specs.Readings.{on_line, read_by, read_lines, where_utf8}
 use Rattle.sb_text.specs.Spots.{by_tokens, fails_left}
 use Rattle.sb_text.specs.Steps.{◌>>=◌, version_at}
-use Rattle.sb_text.specs.Strings.{ComesBack, StringsComeBack}
+use Rattle.sb_text.specs.Strings.{ComesBack, StringsComeBack, is_text, string_token}
 use Rattle.sb_text.specs.TokenLaws.{is_quoted_byte, written_line}
 use Rattle.sb_text.specs.Tokens.{Lexeme, utf8_of}
 use Rattle.sb_text.specs.Utf8.{Place}
@@ -20,7 +20,7 @@ use Rattle.sb_text.specs.declared.refusals.TokenFault.{TokenFault}
 use Rattle.sb_text.specs.declared.refusals.WordFault.TheVariants.{NoVersion}
 use Rattle.sb_link.specs.LinkTexts.{grammar, new_link, read_link, string_at}
 use Rattle.sb_link.specs.Links.{AreLinks, are_distinct, is_from, is_link, is_link_name, most_links}
-use Rattle.sb_link.specs.Writing.{WrittenLinksAreRead, is_text, is_writable, link_lines, link_tokens, string_token, version_tokens, written}
+use Rattle.sb_link.specs.Writing.{WrittenLinksAreRead, is_writable, link_lines, link_tokens, version_tokens, written}
 use Rattle.sb_link.specs.declared.faults.LinkKind.{LinkKind}
 use Rattle.sb_link.specs.declared.faults.LinkKind.TheVariants.{NotUtf8, UnknownWord, BadName, SameName, TooMany}
 use Rattle.sb_link.specs.declared.links.Link.{Link}

@@ -2,16 +2,11 @@
 use Rattle.std.specs.Prelude.{◌≡◌, ℕ, Bool, true, ◌&&◌, List, [], ◌∷◌, map, codes, Ok}
 use Rattle.std.specs.List.{flat_map, list_all}
 use Rattle.sb_text.specs.PlainLines.{line_text}
-use Rattle.sb_text.specs.Tokens.{Lexeme, Word, Quoted, utf8_of}
-use Rattle.sb_wide.specs.Surrogates.{is_paired}
-use Rattle.sb_wide.specs.Wide.{is_text_unit}
+use Rattle.sb_text.specs.Strings.{is_text, string_token}
+use Rattle.sb_text.specs.Tokens.{Lexeme, Word}
 use Rattle.sb_link.specs.LinkTexts.{reading}
 use Rattle.sb_link.specs.Links.{AreLinks}
 use Rattle.sb_link.specs.declared.links.Link.{Link}
-
--- a string, between quotes
-abbrev pub string_token : List ℕ → Lexeme
-string_token units = Quoted (utf8_of units)
 
 -- a link: `link "FROM" "TO"`
 abbrev pub link_tokens : Link → List Lexeme
@@ -28,10 +23,6 @@ link_lines links = version_tokens ∷ map link_tokens links
 -- the text of links
 abbrev pub written : List Link → List ℕ
 written links = flat_map line_text (link_lines links)
-
--- text that can be written between quotes: well-formed UTF-16 without control units and `"`
-abbrev pub is_text : List ℕ → Bool
-is_text units = list_all is_text_unit units && is_paired units
 
 -- both names of a link are such text
 abbrev pub is_writable : Link → Bool

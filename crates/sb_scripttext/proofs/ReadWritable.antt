@@ -22,7 +22,7 @@ use Rattle.sb_statements.specs.declared.scripts.StartLine.TheVariants.{Dir, File
 use Rattle.sb_statements.specs.declared.scripts.TargetScript.{TargetScript}
 use Rattle.sb_statements.specs.declared.statements.Statement.{Statement}
 use Rattle.sb_statements.specs.declared.statements.Statement.TheVariants.{Call, Store, Exchange, Load, Wait}
-use Rattle.sb_text.specs.Strings.{QuotedStringsAreText}
+use Rattle.sb_text.specs.Strings.{QuotedStringsAreText, is_text}
 use Rattle.sb_scripttext.proofs.LastChanged.{changed_all}
 use Rattle.sb_scripttext.proofs.Ready.{all_more, on_this, start_made}
 use Rattle.sb_scripttext.proofs.Sound.{at_made, both, made, ok_same, passed, branches}
@@ -35,7 +35,7 @@ use Rattle.sb_scripttext.specs.Readiness.{ReadScriptsHaveUnits}
 use Rattle.sb_scripttext.specs.ScriptTexts.{Absence, ScriptFault, absence_fault, script_version, add_line, grammar, first_absence, script_of, finished, reading}
 use Rattle.sb_scripttext.specs.Statements.{value_at, target_word_at, store, exchange, load, wait}
 use Rattle.sb_scripttext.specs.Steps.{number_at, within, number_within, string_at, name, name_at}
-use Rattle.sb_scripttext.specs.Writable.{is_text, is_number, is_writable_start, is_writable_arg, is_writable_statement, is_writable_thread, is_writable_target, is_writable}
+use Rattle.sb_scripttext.specs.Writable.{is_number, is_writable_start, is_writable_arg, is_writable_statement, is_writable_thread, is_writable_target, is_writable}
 use Rattle.sb_scripttext.specs.WritingLaws.{ReadScriptsCanBeWritten}
 use Rattle.sb_scripttext.specs.declared.faults.ScriptKind.{ScriptKind}
 use Rattle.sb_scripttext.specs.declared.faults.ScriptKind.TheVariants.{NotUtf8, UnknownWord, UnknownCall, WrongArgs, BadNumber, BadName, SameName, TooBig, TooMany, BadStart}

@@ -9,8 +9,9 @@ use Rattle.sb_scripttext.proofs.WrittenWords.{Texts, at_most, within_read, short
 use Rattle.sb_scripttext.specs.Arguments.{most_32}
 use Rattle.sb_scripttext.specs.Openings.{dir, file, key, event}
 use Rattle.sb_scripttext.specs.Steps.{number_within}
-use Rattle.sb_scripttext.specs.Writable.{is_number, is_text, is_writable_start}
-use Rattle.sb_scripttext.specs.Writing.{string_token, number_token, start_tokens}
+use Rattle.sb_scripttext.specs.Writable.{is_number, is_writable_start}
+use Rattle.sb_text.specs.Strings.{is_text, string_token}
+use Rattle.sb_scripttext.specs.Writing.{number_token, start_tokens}
 use Rattle.sb_scripttext.specs.declared.faults.ScriptKind.{ScriptKind}
 use Rattle.sb_scripttext.specs.declared.faults.ScriptKind.TheVariants.{UnknownWord, BadNumber}
 use Rattle.sb_text.specs.Steps.{◌>>=◌, Read, later, end_at}

@@ -11,13 +11,13 @@ use Rattle.sb_call.specs.declared.tags.CallTag.{CallTag}
 use Rattle.sb_call.specs.declared.tags.CallTag.TheVariants.{Ping, FileCreate, FileOpen, FileQuery, FileRename, PipeCreate, KeyCreate, KeyOpen, EventCreate, EventOpen, HandleClose}
 use Rattle.sb_rule.specs.WellMade.{is_named, are_named_apart}
 use Rattle.sb_rule.specs.declared.policies.Policy.{Policy}
-use Rattle.sb_text.specs.Strings.{ComesBack, StringsComeBack}
+use Rattle.sb_text.specs.Strings.{ComesBack, StringsComeBack, is_text, string_token}
 use Rattle.sb_scripttext.specs.Arguments.{most_32, tag_at}
 use Rattle.sb_scripttext.specs.Lines.{policy_number, policy_at}
 use Rattle.sb_scripttext.specs.Statements.{short, short_at, block_place, place_of, place_at}
 use Rattle.sb_scripttext.specs.Steps.{number_at, within, number_within, string_at, name, name_at}
-use Rattle.sb_scripttext.specs.Writable.{is_number, is_text}
-use Rattle.sb_scripttext.specs.Writing.{string_token, number_token, place_word, policy_name}
+use Rattle.sb_scripttext.specs.Writable.{is_number}
+use Rattle.sb_scripttext.specs.Writing.{number_token, place_word, policy_name}
 use Rattle.sb_scripttext.specs.declared.faults.ScriptKind.{ScriptKind}
 use Rattle.sb_scripttext.specs.declared.faults.ScriptKind.TheVariants.{UnknownCall, WrongArgs, BadNumber, BadName, NoSuchPolicy, NoSuchWord}
 use Rattle.sb_text.specs.NumberLaws.{DecimalsAreRead}

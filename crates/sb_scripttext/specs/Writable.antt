@@ -4,8 +4,7 @@ use Rattle.std.specs.List.{list_all}
 use Rattle.sb_call.specs.ShortNames.{is_short_name}
 use Rattle.sb_call.specs.declared.arguments.Arg.{Arg}
 use Rattle.sb_call.specs.declared.arguments.Arg.TheVariants.{Num, Str}
-use Rattle.sb_wide.specs.Surrogates.{is_paired}
-use Rattle.sb_wide.specs.Wide.{is_text_unit}
+use Rattle.sb_text.specs.Strings.{is_text}
 use Rattle.sb_rule.specs.declared.policies.Policy.{Policy}
 use Rattle.sb_statements.specs.declared.scripts.Script.{Script}
 use Rattle.sb_statements.specs.declared.scripts.StartLine.{StartLine}
@@ -13,10 +12,6 @@ use Rattle.sb_statements.specs.declared.scripts.StartLine.TheVariants.{Dir, File
 use Rattle.sb_statements.specs.declared.scripts.TargetScript.{TargetScript}
 use Rattle.sb_statements.specs.declared.statements.Statement.{Statement}
 use Rattle.sb_statements.specs.declared.statements.Statement.TheVariants.{Call, Store, Exchange, Load, Wait}
-
--- a string that can stand between quotes: no unit below 32, no `"`, and well-formed UTF-16
-abbrev pub is_text : List ℕ → Bool
-is_text units = list_all is_text_unit units && is_paired units
 
 -- a number of 64 bits
 abbrev pub is_number : ℕ → Bool

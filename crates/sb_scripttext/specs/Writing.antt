@@ -13,11 +13,8 @@ use Rattle.sb_statements.specs.declared.scripts.TargetScript.{TargetScript}
 use Rattle.sb_statements.specs.declared.statements.Statement.{Statement}
 use Rattle.sb_statements.specs.declared.statements.Statement.TheVariants.{Call, Store, Exchange, Load, Wait}
 use Rattle.sb_text.specs.PlainLines.{line_text}
-use Rattle.sb_text.specs.Tokens.{Lexeme, Word, Quoted, utf8_of}
-
--- a string, between quotes
-abbrev pub string_token : List ℕ → Lexeme
-string_token units = Quoted (utf8_of units)
+use Rattle.sb_text.specs.Strings.{string_token}
+use Rattle.sb_text.specs.Tokens.{Lexeme, Word}
 
 -- a number, in decimal digits
 abbrev pub number_token : ℕ → Lexeme

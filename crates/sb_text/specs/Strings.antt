@@ -1,11 +1,19 @@
 -- Strings as they stand between quotes: what is written of one, and what it means.
-use Rattle.std.specs.Prelude.{◌≡◌, ℕ, true, List}
+use Rattle.std.specs.Prelude.{◌≡◌, ◌&&◌, ℕ, Bool, true, List}
 use Rattle.std.specs.List.{list_all}
 use Rattle.std.specs.Str.{IsUtf8}
 use Rattle.sb_wide.specs.Wide.{is_text_unit}
 use Rattle.sb_wide.specs.Surrogates.{is_paired}
-use Rattle.sb_text.specs.Tokens.{utf8_of, string_of}
+use Rattle.sb_text.specs.Tokens.{Lexeme, Quoted, utf8_of, string_of}
 use Rattle.sb_text.specs.TokenLaws.{is_quoted_byte}
+
+-- text that can be written between quotes: well-formed UTF-16 without control units and `"`
+abbrev pub is_text : List ℕ → Bool
+is_text units = list_all is_text_unit units && is_paired units
+
+-- a string between quotes
+abbrev pub string_token : List ℕ → Lexeme
+string_token units = Quoted (utf8_of units)
 
 -- a string comes back, and what is written of it is UTF-8 and can stand between quotes
 pub record ComesBack (units : List ℕ) : Type 0 where
