@@ -6,7 +6,8 @@ use Rattle.clap.proofs.WalkLemmas.{first_value-rows}
 use Rattle.clap.specs.declared.ArgMatches.{ArgMatches}
 use Rattle.sb_commands.specs.Commands.{HasNumbers, HasValues, IsCommandOf, command_in, command_of, files_by, files_of, values_in, values_or_none, with_form, with_values}
 use Rattle.sb_commands.specs.CommandLaws.{suits}
-use Rattle.sb_commands.specs.CommandLine.{found_values, line_of, or_empty}
+use Rattle.sb_commands.specs.CommandLine.{found_values, line_of}
+use Rattle.sb_text.specs.MissingTexts.{or_empty}
 use Rattle.sb_commands.specs.Forms.{Choice, Form, Help, Place, form_by, form_with}
 use Rattle.sb_commands.specs.NumberWords.{is_number}
 use Rattle.sb_commands.specs.Usage.{Cut, Fault, IsTested, Values, cut_last, cut_option, cut_places, fault_of, option_number, read_after, read_by, with_end, with_last, with_option, with_places}

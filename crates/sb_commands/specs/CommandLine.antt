@@ -2,6 +2,7 @@
 use Rattle.std.specs.Prelude.{true, false, List, [], ◌∷◌, Option, Some, None, codes}
 use Rattle.clap.specs.Words.{App, Rule, Text, new_app, new_rule, with_rule}
 use Rattle.clap.specs.declared.builder.ArgAction.TheVariants.{Set}
+use Rattle.sb_text.specs.MissingTexts.{or_empty}
 use Rattle.sb_commands.specs.Forms.{Choice, Form, Place}
 use Rattle.sb_commands.specs.Usage.{Values, option_number}
 
@@ -41,11 +42,6 @@ with_choice (Some choice) app = with_rule app (option_argument choice.flag)
 -- the command line of a form
 abbrev pub line_of : Form → App
 line_of form = with_choice form.option (with_last form.last (with_required (names_of form.places) (new_app (codes "sandbox"))))
-
--- what is found under a name, or nothing
-abbrev pub or_empty : Option Text → Text
-or_empty None = []
-or_empty (Some text) = text
 
 -- the values by what is found under each name
 abbrev pub found_values : Form → (Text → Option Text) → Values

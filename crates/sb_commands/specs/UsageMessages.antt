@@ -4,7 +4,7 @@ use Rattle.std.specs.Fmt.{decimal}
 use Rattle.std.specs.List.{flat_map}
 use Rattle.sb_glyphs.specs.Glyphs.{shown_bytes}
 use Rattle.sb_glyphs.specs.Tokens.{quoted_bytes}
-use Rattle.sb_commands.specs.CommandLine.{or_empty}
+use Rattle.sb_text.specs.MissingTexts.{or_empty}
 use Rattle.sb_commands.specs.Forms.{Bounded, Choice, Form, Place, forms}
 use Rattle.sb_commands.specs.Usage.{Fault, NotUtf8, NoCommand, UnknownCommand, UnknownOption, OptionTwice, OptionBetween, NoOptionNumber, BadOptionNumber, NoFileName, BadNumber, ExtraWord, Missing, place_name}
 

@@ -1,7 +1,8 @@
 // The command lines as the library that reads them sees them: each for the arguments of one command, whose name is where the name of a program would be.
 ghost use Rattle.std.specs.Prelude.{◌≡◌, IfOk, false, map, option_map};
 ghost use Rattle.clap.specs.Words.{app_of, first_value, found_of, rule_of, with_rule};
-ghost use Rattle.sb_commands.specs.CommandLine.{option_argument, found_values, optional_argument, line_of, names_of, required_argument, or_empty, with_choice, with_last, with_required};
+ghost use Rattle.sb_commands.specs.CommandLine.{option_argument, found_values, optional_argument, line_of, names_of, required_argument, with_choice, with_last, with_required};
+ghost use Rattle.sb_text.specs.MissingTexts.{or_empty};
 ghost use Rattle.sb_commands.specs.Forms.{choice_of, form_of, place_of};
 ghost use Rattle.sb_commands.specs.Usage.{option_number};
 ghost use Rattle.sb_commands.specs.Values.{values_of};

@@ -9,7 +9,7 @@ use Rattle.std.proofs.lemmas.Bool.Decides.{nat_tests}
 use Rattle.std.proofs.lemmas.List.{append_assoc, append-nil, length_push}
 use Rattle.std.proofs.lemmas.Str.{IsUtf8-from_ascii, is_utf8-from_IsUtf8}
 use Rattle.std.proofs.lemmas.Str.Ascii.{IsAscii-cons, IsAscii-nil}
-use Rattle.sb_dup.specs.Lines.{MoveWords, access_at, end_at, has_quote, is_between, is_there, line_of, move_by, number_at, operands, with_move, word_at}
+use Rattle.sb_dup.specs.Lines.{MoveWords, access_at, has_quote, is_between, is_there, line_of, move_by, number_at, operands, with_move, word_at}
 use Rattle.sb_dup.specs.MoveLaws.{WrittenMovesAreRead}
 use Rattle.sb_dup.specs.MovePrinting.{is_of_values, move_words, version_words, written}
 use Rattle.sb_dup.specs.MoveTexts.{by_characters, grammar}
@@ -23,12 +23,12 @@ use Rattle.sb_text.specs.PlainLines as plain
 use Rattle.sb_text.specs.PlainLines.{PlainLinesAreRead, PlainWordsAreRead, is_plain_byte, words_line, words_text}
 use Rattle.sb_text.specs.Readings.{on_line, read_by, read_lines}
 use Rattle.sb_text.specs.Spots.{by_words, fails_left}
-use Rattle.sb_text.specs.Steps.{◌>>=◌}
+use Rattle.sb_text.specs.Steps.{◌>>=◌, words_end}
 use Rattle.sb_text.specs.Tokens.{Lexeme, Word}
 use Rattle.sb_text.specs.WordVersions.{version_in_words}
 use Rattle.sb_text.specs.Words.{is_some_word}
 use Rattle.sb_text.specs.declared.refusals.TokenFault.{TokenFault}
-use Rattle.sb_text.specs.declared.refusals.WordFault.TheVariants.{Broken, NoVersion, Quoted}
+use Rattle.sb_text.specs.declared.refusals.WordFault.TheVariants.{Broken, Extra, NoVersion, Quoted}
 
 -- the laws of texts that the proof stands on
 pub record Laws : Type 0 where
@@ -109,7 +109,7 @@ abbrev At : Type 0
 At = List ℕ × List (List ℕ)
 
 abbrev last : List ℕ → List ℕ → List ℕ → At → Result MoveWords (TokenFault MoveKind)
-last a b c d = end_at d.1 >>= λ end. Ok (record { from = a; handle = b; to = c; access = d.0 })
+last a b c d = words_end (UnknownWord Extra) d.1 >>= λ end. Ok (record { from = a; handle = b; to = c; access = d.0 })
 
 operands_back : (a b c d : List ℕ) → IsDigits a → IsDigits b → IsDigits c → IsDigits d
     → operands (codes "move" ∷ a ∷ b ∷ c ∷ d ∷ []) ≡ Ok (record { from = a; handle = b; to = c; access = d })

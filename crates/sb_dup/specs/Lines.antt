@@ -10,7 +10,7 @@ use Rattle.sb_items.specs.declared.refusals.Refused.{Refused}
 use Rattle.sb_items.specs.declared.refusals.Refused.TheVariants.{Fault, NoMemory}
 use Rattle.sb_text.specs.Numbers.{number_of}
 use Rattle.sb_text.specs.Spots.{fails_left}
-use Rattle.sb_text.specs.Steps.{◌>>=◌}
+use Rattle.sb_text.specs.Steps.{◌>>=◌, words_end}
 use Rattle.sb_text.specs.declared.refusals.TokenFault.{TokenFault}
 use Rattle.sb_text.specs.declared.refusals.WordFault.TheVariants.{Unknown, Missing, Extra, Broken, Quoted}
 
@@ -39,11 +39,6 @@ abbrev pub first_word : List (List ℕ) → Result (List (List ℕ)) (TokenFault
 first_word [] = fails_left 0 (UnknownWord Missing)
 first_word (word ∷ words) = if is_word (codes "move") word then Ok words else fails_left (length (word ∷ words)) (UnknownWord Unknown)
 
--- the line ends here
-abbrev pub end_at : List (List ℕ) → Result ⊤ (TokenFault MoveKind)
-end_at [] = Ok tt
-end_at (word ∷ words) = fails_left (length (word ∷ words)) (UnknownWord Extra)
-
 -- the four words after `move`
 pub record MoveWords : Type 0 where
   pub from : List ℕ
@@ -59,7 +54,7 @@ operands words = do
   (handle, after_handle) ← word_at after_from
   (to, after_to) ← word_at after_handle
   (access, after_access) ← word_at after_to
-  end ← end_at after_access
+  end ← words_end (UnknownWord Extra) after_access
   Ok (record { from = from; handle = handle; to = to; access = access })
 
 -- ---- their values; FROM is the fourth word from the line's end, HANDLE the third, TO the second and ACCESS the last

@@ -1,7 +1,7 @@
 // Reading the lines below the first.
 ghost use Rattle.std.specs.Prelude.{◌≡◌, None, Ok};
 ghost use Rattle.std.specs.Str.{is_utf8};
-ghost use Rattle.sb_dup.specs.Lines.{ReadsWord, access_at, end_at, first_word, has_quote, is_there, line_of, move_by, number_at, operands, with_move, word_at};
+ghost use Rattle.sb_dup.specs.Lines.{ReadsWord, access_at, first_word, has_quote, is_there, line_of, move_by, number_at, operands, with_move, word_at};
 ghost use Rattle.sb_items.specs.Refusals.{Gives, GivesAs};
 ghost use Rattle.sb_text.specs.Steps.{Becomes};
 ghost use Rattle.sb_items.specs.declared.refusals.Refused.TheVariants.{Fault};
@@ -73,16 +73,6 @@ fn first_word(words: &mut Words) -> Result<(), LineRefused>
     }
 }
 
-// The line ends here.
-fn end_at(words: &Words) -> Result<(), LineRefused>
-    ensures { Gives (end_at words.now) result }
-{
-    match words.copy().next_word() {
-        None => Ok(()),
-        Some(_) => Err(words.fail(UnknownWord(WordFault::Extra))),
-    }
-}
-
 // The words after `move`.
 #[derive(Clone, Copy)]
 pub(crate) struct MoveWords<'a> {
@@ -102,7 +92,7 @@ fn operands<'a>(line: &Words<'a>) -> Result<MoveWords<'a>, LineRefused>
     let handle = word_at(&mut words)?;
     let to = word_at(&mut words)?;
     let access = word_at(&mut words)?;
-    end_at(&words)?;
+    words.expect_end(UnknownWord(WordFault::Extra))?;
     Ok(MoveWords {
         from,
         handle,

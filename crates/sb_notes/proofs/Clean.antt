@@ -8,7 +8,8 @@ use Rattle.sb_message.specs.Messages.{place_line}
 use Rattle.sb_message.specs.Places.{shown_line}
 use Rattle.sb_message.specs.declared.messages.FaultyText.TheVariants.{Policy}
 use Rattle.sb_notes.specs.Laws.{NotesAreClean}
-use Rattle.sb_notes.specs.NoteMessages.{line_or_empty, note_headline, note_text, note_words, notes_message, notes_text, number_text}
+use Rattle.sb_notes.specs.NoteMessages.{note_headline, note_text, note_words, notes_message, notes_text, number_text}
+use Rattle.sb_text.specs.MissingTexts.{line_or_empty}
 use Rattle.sb_notes.specs.Notes.{notes_of}
 use Rattle.sb_notes.specs.declared.kinds.NoteKind.{NoteKind}
 use Rattle.sb_notes.specs.declared.kinds.NoteKind.TheVariants.{UnescapedPrefix, MatchesNoName}

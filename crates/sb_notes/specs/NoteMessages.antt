@@ -1,5 +1,5 @@
 -- The notes of a policy text in words.
-use Rattle.std.specs.Prelude.{ℕ, nat_lt, List, [], ◌∷◌, ◌++◌, length, take, Option, None, Some, if◌then◌else◌, codes}
+use Rattle.std.specs.Prelude.{ℕ, nat_lt, List, [], ◌∷◌, ◌++◌, length, take, if◌then◌else◌, codes}
 use Rattle.std.specs.Fmt.{decimal}
 use Rattle.std.specs.List.{flat_map}
 use Rattle.sb_message.specs.Messages.{place_line}
@@ -9,7 +9,7 @@ use Rattle.sb_notes.specs.Notes.{notes_of}
 use Rattle.sb_notes.specs.declared.kinds.NoteKind.{NoteKind}
 use Rattle.sb_notes.specs.declared.kinds.NoteKind.TheVariants.{UnescapedPrefix, MatchesNoName}
 use Rattle.sb_notes.specs.declared.notes.Note.{Note}
-use Rattle.sb_text.specs.Lines.{line_numbered}
+use Rattle.sb_text.specs.MissingTexts.{line_or_empty}
 
 -- what is noted
 abbrev pub note_words : NoteKind → List ℕ
@@ -19,15 +19,6 @@ note_words MatchesNoName = codes "the pattern matches no name: each name begins 
 -- the first line of a note
 abbrev pub note_headline : Note → List ℕ
 note_headline note = codes "sandbox: note: policy line " ++ decimal note.line ++ codes ": " ++ note_words note.kind ++ 10 ∷ []
-
--- nothing, if there is no line
-abbrev pub or_empty : Option (List ℕ) → List ℕ
-or_empty None = []
-or_empty (Some line) = line
-
--- the line of this number
-abbrev pub line_or_empty : ℕ → List ℕ → List ℕ
-line_or_empty number text = or_empty (line_numbered number text)
 
 -- a note: what is noted, the place, and the line with a caret
 unfoldable pub note_text : List ℕ → List ℕ → Note → List ℕ

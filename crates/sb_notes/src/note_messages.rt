@@ -1,14 +1,14 @@
 // Notes in words.
 ghost use Rattle.std.specs.Prelude.{◌≡◌, ◌++◌, ◌≤◌, length, take, IfOk, OnOk, string_bytes};
 ghost use Rattle.std.specs.List.{flat_map};
-ghost use Rattle.sb_notes.specs.NoteMessages.{line_or_empty, note_headline, note_text, note_words, notes_message, notes_text, number_text};
+ghost use Rattle.sb_notes.specs.NoteMessages.{note_headline, note_text, note_words, notes_message, notes_text, number_text};
 
 use crate::kinds::NoteKind;
 use crate::notes::{Note, read_notes};
 use sb_glyphs::put_decimal_text;
 use sb_items::NoMemory;
 use sb_message::{FaultyText, put_place};
-use sb_text::line_numbered;
+use sb_text::line_or_empty;
 use std::alloc::Global;
 
 /// The number of notes that are told one by one. If there are more, their number follows.
@@ -35,16 +35,6 @@ fn put_note_headline(out: &mut String, note: Note) -> Result<(), NoMemory>
     out.push_str(note_words(note.kind))?;
     out.push('\n')?;
     Ok(())
-}
-
-// The line of this number, from 1, or nothing if there is none.
-fn line_or_empty(number: u32, text: &[u8]) -> &[u8]
-    ensures { result.now ≡ line_or_empty number text.now }
-{
-    match line_numbered(number, text) {
-        Some(line) => line,
-        None => &[],
-    }
 }
 
 // Appends a note: what is noted, the place, and the line with a caret.

@@ -15,7 +15,7 @@ use Rattle.sb_scheduletext.specs.Drafts.{Drafted, step_count, nothing, has_round
 use Rattle.sb_scheduletext.specs.Laws.{ActorsAreThere, StepsAreCounted, RoundsAreCounted}
 use Rattle.sb_scheduletext.specs.PrintingLaws.{ActorsMakeSteps}
 use Rattle.sb_scheduletext.specs.Limits.{most_steps, most_rounds}
-use Rattle.sb_scheduletext.specs.Lines.{within, no_more, count_at, step, add_steps, rounds, line_by, line_with, line_of}
+use Rattle.sb_scheduletext.specs.Lines.{within, count_at, step, add_steps, rounds, line_by, line_with, line_of}
 use Rattle.sb_scheduletext.specs.ScheduleTexts.{ScheduleFault, schedule_version, add_line, grammar, reading}
 use Rattle.sb_scheduletext.specs.declared.faults.ScheduleKind.{ScheduleKind}
 use Rattle.sb_scheduletext.specs.declared.faults.ScheduleKind.TheVariants.{UnknownWord, UnknownActor, BadNumber, TooMany}
@@ -27,9 +27,9 @@ use Rattle.sb_text.specs.Numbers.{number_of}
 use Rattle.sb_text.specs.Readings.{on_line, read_lines, read_by}
 use Rattle.sb_items.specs.Refusals.{Gives}
 use Rattle.sb_text.specs.Spots.{by_words, fails_left}
-use Rattle.sb_text.specs.Steps.{◌>>=◌, at_left, or_fault}
+use Rattle.sb_text.specs.Steps.{◌>>=◌, at_left, or_fault, words_end}
 use Rattle.sb_text.specs.declared.refusals.TokenFault.{TokenFault}
-use Rattle.sb_text.specs.declared.refusals.WordFault.TheVariants.{Misplaced, Unknown}
+use Rattle.sb_text.specs.declared.refusals.WordFault.TheVariants.{Extra, Misplaced, Unknown}
 use Rattle.sb_items.specs.declared.refusals.Refused.{Refused}
 use Rattle.sb_text.specs.Words.{words_of}
 
@@ -71,8 +71,8 @@ step_there targets (word ∷ words) s h =
 rounds_most : (words : List (List ℕ)) (n : ℕ) → rounds words ≡ Ok n → n ≤ most_rounds
 rounds_most [] n h = absurd cc
 rounds_most (word ∷ words) n h =
-    let m = made (at_left (length (word ∷ words)) (within 0 most_rounds word)) (λ m. no_more words >>= λ end. Ok m) n h in
-    let e = made (no_more words) (λ end. Ok m.0) n m.2 in
+    let m = made (at_left (length (word ∷ words)) (within 0 most_rounds word)) (λ m. words_end (UnknownWord Extra) words >>= λ end. Ok m) n h in
+    let e = made (words_end (UnknownWord Extra) words) (λ end. Ok m.0) n m.2 in
     subst (λ k. k ≤ most_rounds) (ok_same m.0 n e.2) (within_most 0 most_rounds word m.0 (at_made (length (word ∷ words)) (within 0 most_rounds word) m.0 m.1))
 
 -- what was read is within its bounds

@@ -5,16 +5,16 @@ use Rattle.sb_scheduletext.specs.Actors.{number_32, worker_at, thread_at, thread
 use Rattle.std.specs.List.{before_first, after_first}
 use Rattle.sb_scheduletext.specs.Actors.{is_dot}
 use Rattle.sb_scheduletext.specs.Limits.{most_steps}
-use Rattle.sb_scheduletext.specs.Lines.{within, no_more, last_number, count_at, step}
+use Rattle.sb_scheduletext.specs.Lines.{within, last_number, count_at, step}
 use Rattle.sb_scheduletext.specs.Printing.{is_number_32, is_actor_of_values, is_made}
 use Rattle.sb_scheduletext.specs.declared.faults.ScheduleKind.{ScheduleKind}
-use Rattle.sb_scheduletext.specs.declared.faults.ScheduleKind.TheVariants.{UnknownActor, BadNumber}
+use Rattle.sb_scheduletext.specs.declared.faults.ScheduleKind.TheVariants.{UnknownWord, UnknownActor, BadNumber}
 use Rattle.sb_statements.specs.Actors.{is_there}
 use Rattle.sb_statements.specs.declared.schedules.Actor.{Actor}
 use Rattle.sb_statements.specs.declared.schedules.Actor.TheVariants.{Worker, Thread}
 use Rattle.sb_statements.specs.declared.scripts.TargetScript.{TargetScript}
 use Rattle.sb_text.specs.Numbers.{decimal_of, number_of}
-use Rattle.sb_text.specs.Steps.{◌>>=◌, at_left, or_fault}
+use Rattle.sb_text.specs.Steps.{◌>>=◌, at_left, or_fault, words_end}
 use Rattle.sb_scheduletext.proofs.Conjunctions.{and_true}
 use Rattle.sb_scheduletext.proofs.PrintedActors.{below_2_32}
 use Rattle.sb_scheduletext.proofs.Passing.{at_made, made, ok_same, passed, was_there}
@@ -74,8 +74,8 @@ within_least lo hi word n h = by_number (number_of word) h
 
 last_least : (lo hi : ℕ) (word : List ℕ) (words : List (List ℕ)) (n : ℕ) → last_number lo hi word words ≡ Ok n → nat_le lo n ≡ true
 last_least lo hi word words n h =
-    let m = made (at_left (length (word ∷ words)) (within lo hi word)) (λ m. no_more words >>= λ end. Ok m) n h in
-    let e = made (no_more words) (λ end. Ok m.0) n m.2 in
+    let m = made (at_left (length (word ∷ words)) (within lo hi word)) (λ m. words_end (UnknownWord Extra) words >>= λ end. Ok m) n h in
+    let e = made (words_end (UnknownWord Extra) words) (λ end. Ok m.0) n m.2 in
     subst (λ k. nat_le lo k ≡ true) (ok_same m.0 n e.2) (within_least lo hi word m.0 (at_made (length (word ∷ words)) (within lo hi word) m.0 m.1))
 
 count_least : (words : List (List ℕ)) (n : ℕ) → count_at words ≡ Ok n → nat_le 1 n ≡ true

@@ -9,7 +9,7 @@ use Rattle.std.proofs.lemmas.List.Folds.{list_all-append}
 use Rattle.std.proofs.lemmas.List.Sums.{sum_by-cons}
 use Rattle.sb_scheduletext.specs.Drafts.{Drafted, step_count, with_step, finished}
 use Rattle.sb_scheduletext.specs.Limits.{most_steps, most_rounds}
-use Rattle.sb_scheduletext.specs.Lines.{no_more, count_at, step, rounds, line_by, line_of}
+use Rattle.sb_scheduletext.specs.Lines.{count_at, step, rounds, line_by, line_of}
 use Rattle.sb_scheduletext.specs.Printing.{actor_word, version_words, step_words, rounds_words, schedule_lines, written, is_actor_of_values, is_made, in_order}
 use Rattle.sb_scheduletext.specs.PrintingLaws.{WrittenSchedulesAreRead, OrdersAreRead, ReadSchedulesAreReadAgain}
 use Rattle.sb_scheduletext.specs.ScheduleTexts.{ScheduleFault, grammar}
@@ -23,10 +23,10 @@ use Rattle.sb_text.specs.Lines.{NumberedLine, raw_lines}
 use Rattle.sb_text.specs.NumberLaws.{DecimalsAreRead}
 use Rattle.sb_text.specs.Readings.{on_line, read_lines, read_by}
 use Rattle.sb_text.specs.Spots.{by_words}
-use Rattle.sb_text.specs.Steps.{◌>>=◌, at_left, or_fault}
+use Rattle.sb_text.specs.Steps.{◌>>=◌, at_left, or_fault, words_end}
 use Rattle.sb_text.specs.WordVersions.{version_in_words}
 use Rattle.sb_text.specs.declared.refusals.TokenFault.{TokenFault}
-use Rattle.sb_text.specs.declared.refusals.WordFault.TheVariants.{NoVersion}
+use Rattle.sb_text.specs.declared.refusals.WordFault.TheVariants.{Extra, NoVersion}
 use Rattle.sb_text.specs.PlainLines.{PlainLinesAreRead, PlainWordsAreRead, words_line}
 use Rattle.sb_scheduletext.proofs.Bounds.{actors_are_there, actors_make_steps, steps_are_counted, rounds_are_counted}
 use Rattle.sb_scheduletext.proofs.Conjunctions.{both, and_true}
@@ -55,7 +55,7 @@ at_most n most h = grind (arith, nat_tests)
 
 count_read : DecimalsAreRead → (n : ℕ) → nat_le 1 n ≡ true → n ≤ 100000 → count_at (decimal n ∷ []) ≡ Ok n
 count_read law n one most =
-    ap (λ (read : Result ℕ ScheduleKind). at_left 1 read >>= λ n. no_more [] >>= λ end. Ok n)
+    ap (λ (read : Result ℕ ScheduleKind). at_left 1 read >>= λ n. words_end (UnknownWord Extra) [] >>= λ end. Ok n)
     (within_back law 1 most_steps n (omega (arith, most)) (and_true (nat_le 1 n) (nat_le n most_steps) one (at_most n most_steps most)))
 
 least : (n : ℕ) → nat_le 0 n ≡ true
@@ -63,7 +63,7 @@ least n = grind (arith, nat_tests)
 
 rounds_read : DecimalsAreRead → (n : ℕ) → n ≤ 20000000 → rounds (decimal n ∷ []) ≡ Ok n
 rounds_read law n most =
-    ap (λ (read : Result ℕ ScheduleKind). at_left 1 read >>= λ n. no_more [] >>= λ end. Ok n)
+    ap (λ (read : Result ℕ ScheduleKind). at_left 1 read >>= λ n. words_end (UnknownWord Extra) [] >>= λ end. Ok n)
     (within_back law 0 most_rounds n (omega (arith, most)) (and_true (nat_le 0 n) (nat_le n most_rounds) (least n) (at_most n most_rounds most)))
 
 -- an actor and its count

@@ -1,5 +1,5 @@
 -- The lines of a schedule text below its first, as lists of words.
-use Rattle.std.specs.Prelude.{⊤, ℕ, ◌&&◌, nat_le, List, [], ◌∷◌, length, None, Some, Result, Ok, Err, if◌then◌else◌, codes}
+use Rattle.std.specs.Prelude.{ℕ, ◌&&◌, nat_le, List, [], ◌∷◌, length, None, Some, Result, Ok, Err, if◌then◌else◌, codes}
 use Rattle.sb_call.specs.CallWords.{is_word}
 use Rattle.sb_scheduletext.specs.Actors.{actor_of}
 use Rattle.sb_scheduletext.specs.Drafts.{Drafted, has_rounds, with_step, with_rounds}
@@ -10,7 +10,7 @@ use Rattle.sb_statements.specs.declared.schedules.Actor.{Actor}
 use Rattle.sb_statements.specs.declared.scripts.TargetScript.{TargetScript}
 use Rattle.sb_text.specs.Numbers.{number_of}
 use Rattle.sb_text.specs.Spots.{fails_left}
-use Rattle.sb_text.specs.Steps.{◌>>=◌, at_left, or_fault}
+use Rattle.sb_text.specs.Steps.{◌>>=◌, at_left, or_fault, words_end}
 use Rattle.sb_text.specs.declared.refusals.TokenFault.{TokenFault}
 use Rattle.sb_text.specs.declared.refusals.WordFault.TheVariants.{Unknown, Missing, Extra, Misplaced}
 
@@ -22,14 +22,9 @@ within lo hi word = elim (number_of word) [ None ↦ Err BadNumber | Some n ↦ 
 abbrev pub missing : {A : Type 0} → Result A (TokenFault ScheduleKind)
 missing = fails_left 0 (UnknownWord Missing)
 
--- the line ends here
-abbrev pub no_more : List (List ℕ) → Result ⊤ (TokenFault ScheduleKind)
-no_more [] = Ok tt
-no_more (word ∷ words) = fails_left (length (word ∷ words)) (UnknownWord Extra)
-
 -- N from lo to hi, the last word of its line
 abbrev pub last_number : ℕ → ℕ → List ℕ → List (List ℕ) → Result ℕ (TokenFault ScheduleKind)
-last_number lo hi word words = at_left (length (word ∷ words)) (within lo hi word) >>= λ n. no_more words >>= λ end. Ok n
+last_number lo hi word words = at_left (length (word ∷ words)) (within lo hi word) >>= λ n. words_end (UnknownWord Extra) words >>= λ end. Ok n
 
 -- how many steps, after the actor: one if the line does not say
 abbrev pub count_at : List (List ℕ) → Result ℕ (TokenFault ScheduleKind)

@@ -2,7 +2,7 @@
 ghost use Rattle.std.specs.Prelude.{◌≡◌, ◌∷◌, ◌≤◌, IfOk};
 ghost use Rattle.sb_scheduletext.specs.Drafts.{has_rounds};
 ghost use Rattle.sb_scheduletext.specs.Limits.{most_steps};
-ghost use Rattle.sb_scheduletext.specs.Lines.{within, no_more, last_number, count_at, step, add_steps, rounds, line_with, line_of};
+ghost use Rattle.sb_scheduletext.specs.Lines.{within, last_number, count_at, step, add_steps, rounds, line_with, line_of};
 ghost use Rattle.sb_items.specs.Refusals.{Gives};
 ghost use Rattle.sb_text.specs.Steps.{Becomes};
 
@@ -31,16 +31,6 @@ fn within(lo: u32, hi: u32, word: &[u8]) -> Result<u32, KindRefused>
     }
 }
 
-// The line ends here.
-fn no_more(words: &Words) -> Result<(), LineRefused>
-    ensures { Gives (no_more words.now) result }
-{
-    match words.copy().next_word() {
-        None => Ok(()),
-        Some(_) => Err(words.fail(UnknownWord(WordFault::Extra))),
-    }
-}
-
 // N from `lo` to `hi`, the last word of its line, where these words are due.
 fn last_number(
     lo: u32,
@@ -55,7 +45,7 @@ fn last_number(
 {
     match within(lo, hi, word) {
         Ok(count) => {
-            no_more(words)?;
+            words.expect_end(UnknownWord(WordFault::Extra))?;
             Ok(count)
         }
         Err(refused) => Err(due.refuse(refused)),

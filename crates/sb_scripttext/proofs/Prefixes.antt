@@ -8,7 +8,8 @@ use Rattle.sb_statements.specs.declared.scripts.TargetScript.{TargetScript}
 use Rattle.sb_rule.specs.declared.policies.Policy.{Policy}
 use Rattle.sb_scripttext.specs.SoFar.{SoFar}
 use Rattle.sb_scripttext.specs.Laws.{is_looked_for_last, FirstFaultsStay}
-use Rattle.sb_scripttext.specs.ScriptTexts.{Absence, ScriptFault, with_number, absence_fault, no_channel, no_target, grammar, line_on, first_absence, script_of, finished, reading}
+use Rattle.sb_scripttext.specs.ScriptTexts.{Absence, ScriptFault, with_number, absence_fault, no_channel, no_target, grammar, first_absence, script_of, finished, reading}
+use Rattle.sb_text.specs.MissingTexts.{line_or_empty}
 use Rattle.sb_text.specs.Steps.{◌>>=◌}
 use Rattle.sb_scripttext.specs.declared.drafts.Named.{Named}
 use Rattle.sb_scripttext.specs.declared.faults.ScriptKind.{ScriptKind}
@@ -73,7 +74,7 @@ finished_last text sofar fault h = by_absence (first_absence sofar.targets sofar
         → ◌≡◌ {A = Result Script ScriptFault} (elim absent [ None ↦ Ok (script_of sofar) | Some absence ↦ Err (absence_fault text absence) ]) (Err fault)
         → is_looked_for_last fault.kind ≡ true
     by_absence None l h = absurd cc
-    by_absence (Some absence) l h = same_last (absence_fault text absence) fault h ∙ with_number_last (words_of (line_on absence.0 text)) absence.1.kind (l absence refl)
+    by_absence (Some absence) l h = same_last (absence_fault text absence) fault h ∙ with_number_last (words_of (line_or_empty absence.0 text)) absence.1.kind (l absence refl)
 
 abbrev fault_in : {A : Type 0} → Result A ScriptFault → Option ScriptFault
 fault_in (Ok x) = None

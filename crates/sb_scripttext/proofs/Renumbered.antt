@@ -14,7 +14,8 @@ use Rattle.sb_scripttext.specs.SoFar.{SoFar, change_last, is_opening, is_in_thre
 use Rattle.sb_scripttext.specs.Laws.{SkippedLinesCountAlone}
 use Rattle.sb_scripttext.specs.Lines.{at_start, heading, misplaced, patience, set_patience, add_target, add_thread, start_line, statement_line, plain_line, line_of}
 use Rattle.sb_scripttext.specs.Openings.{can_place}
-use Rattle.sb_scripttext.specs.ScriptTexts.{Absence, ScriptFault, absence_on, absence_fault, grammar, absence, first_absence, line_on, script_of, finished}
+use Rattle.sb_scripttext.specs.ScriptTexts.{Absence, ScriptFault, absence_on, absence_fault, grammar, absence, first_absence, script_of, finished}
+use Rattle.sb_text.specs.MissingTexts.{line_or_empty, or_empty}
 use Rattle.sb_text.specs.Steps.{◌>>=◌, at_left, on_value, end_at, with_first}
 use Rattle.sb_scripttext.specs.declared.drafts.Named.{Named}
 use Rattle.sb_scripttext.specs.declared.faults.ScriptKind.{ScriptKind}
@@ -137,7 +138,7 @@ absence_moves f targets (x ∷ xs) = by_first (absence_moves f targets xs) (abse
 
 -- a line of the same text has its other number in the other text
 abbrev IsOtherText : (ℕ → ℕ) → List ℕ → List ℕ → Type 0
-IsOtherText f text other = (number : ℕ) → line_on (f number) other ≡ line_on number text
+IsOtherText f text other = (number : ℕ) → line_or_empty (f number) other ≡ line_or_empty number text
 
 finished_moves : (f : ℕ → ℕ) (text other : List ℕ) (sofar : SoFar) → IsOtherText f text other
     → renumbered f (λ script. script) (finished text sofar) ≡ finished other (renumbered_sofar f sofar)
@@ -190,13 +191,10 @@ other_text appended written front line rest i s number =
     let alone : raw_lines (ended line) ≡ line ∷ [] = ap raw_lines (sym (append-nil (ended line))) ∙ written (line ∷ []) (and_true (is_line line) i) in
     let whole : raw_lines (ended front ++ (ended line ++ rest)) ≡ raw ++ line ∷ raw_lines rest =
     appended front (ended line ++ rest) ∙ ap (λ lines. raw ++ lines) (appended line rest ∙ ap (λ lines. lines ++ raw_lines rest) alone) in
-    ap (λ lines. found (slice_get (map without_cr lines) (behind (length raw) number - 1))) whole
-    ∙ ap found (put_in without_cr raw (raw_lines rest) line number (some_raw 1 raw s))
-    ∙ ap (λ lines. found (slice_get (map without_cr lines) (number - 1))) (sym (appended front rest))
+    ap (λ lines. or_empty (slice_get (map without_cr lines) (behind (length raw) number - 1))) whole
+    ∙ ap or_empty (put_in without_cr raw (raw_lines rest) line number (some_raw 1 raw s))
+    ∙ ap (λ lines. or_empty (slice_get (map without_cr lines) (number - 1))) (sym (appended front rest))
   where
-    found : Option (List ℕ) → List ℕ
-    found line = elim line [ None ↦ [] | Some line ↦ line ]
-
     and_true : (b : Bool) → b ≡ true → (b && true) ≡ true
     and_true true h = refl
     and_true false h = h

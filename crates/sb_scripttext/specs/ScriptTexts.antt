@@ -10,7 +10,8 @@ use Rattle.sb_text.specs.Steps.{◌>>=◌, version_at}
 use Rattle.sb_scripttext.specs.declared.drafts.Named.{Named}
 use Rattle.sb_scripttext.specs.declared.faults.ScriptKind.{ScriptKind}
 use Rattle.sb_scripttext.specs.declared.faults.ScriptKind.TheVariants.{NotUtf8, UnknownWord, NoSuchTarget, NoSuchChannel}
-use Rattle.sb_text.specs.Lines.{NumberedLine, line_numbered}
+use Rattle.sb_text.specs.Lines.{NumberedLine}
+use Rattle.sb_text.specs.MissingTexts.{line_or_empty}
 use Rattle.sb_text.specs.Numbers.{number_of}
 use Rattle.sb_text.specs.Readings.{Grammar, fault_on, read_text}
 use Rattle.sb_text.specs.Spots.{by_tokens}
@@ -39,10 +40,6 @@ add_line policies sofar line = line_of policies sofar line.number (tokens_of lin
 -- script texts, for targets of these policies
 abbrev pub grammar : List Policy → Grammar SoFar ScriptKind
 grammar policies = record { layout = by_tokens; version = script_version; no_version = UnknownWord NoVersion; start = nothing; add = λ version. add_line policies }
-
--- the line of this number in a text, and no bytes if there is none
-abbrev pub line_on : ℕ → List ℕ → List ℕ
-line_on number text = elim (line_numbered number text) [ None ↦ [] | Some line ↦ line ]
 
 -- there is no such target among this many
 abbrev pub no_target : Named → ℕ → TokenFault ScriptKind
@@ -84,7 +81,7 @@ absence_on number fault line = fault_on by_tokens number line (numbered_fault li
 
 -- the same as a fault of this text
 abbrev pub absence_fault : List ℕ → Absence → ScriptFault
-absence_fault text absence = absence_on absence.0 absence.1 (line_on absence.0 text)
+absence_fault text absence = absence_on absence.0 absence.1 (line_or_empty absence.0 text)
 
 -- the first of these that names what is not there
 abbrev pub first_absence : List TargetScript → List Named → Option Absence

@@ -2,7 +2,8 @@
 ghost use Rattle.std.specs.Prelude.{◌≡◌, ◌+◌, ◌<◌, ◌≤◌, ◌^◌, drop, length, IfOk};
 ghost use Rattle.sb_kernel.specs.Openings.{opening};
 ghost use Rattle.sb_scripttext.specs.SoFar.{nothing};
-ghost use Rattle.sb_scripttext.specs.ScriptTexts.{grammar, absence, line_on, first_number, with_number, absence_on, first_absence, finished, reading};
+ghost use Rattle.sb_scripttext.specs.ScriptTexts.{grammar, absence, first_number, with_number, absence_on, first_absence, finished, reading};
+ghost use Rattle.sb_text.specs.MissingTexts.{line_or_empty};
 ghost use Rattle.sb_scripttext.specs.declared.faults.ScriptKind.TheVariants.{UnknownWord};
 ghost use Rattle.sb_items.specs.Refusals.{GivesAs};
 ghost use Rattle.sb_text.specs.Spots.{by_tokens};
@@ -18,7 +19,7 @@ use sb_kernel::Kernel;
 use sb_rule::{Policy, WellMadePolicies};
 use sb_statements::{Script, SoundScript, TargetScript};
 use sb_text::{
-    Layout, Line, Lines, TextGrammar, TokenFault, WordFault, Words, column_at, line_numbered,
+    Layout, Line, Lines, TextGrammar, TokenFault, WordFault, Words, column_at, line_or_empty,
     number_of, read_text, version_at,
 };
 use std::alloc::Global;
@@ -95,17 +96,6 @@ fn absence(targets: &[TargetScript], named: &Named) -> Option<TokenFault<ScriptK
     }
 }
 
-// The line of this number in a text, and no bytes if there is none.
-fn line_on(number: u32, text: &[u8]) -> &[u8]
-    ensures value { result.now ≡ line_on number text.now }
-    ensures within { length result.now ≤ length text.now }
-{
-    match line_numbered(number, text) {
-        Some(line) => line,
-        None => &[],
-    }
-}
-
 fn pass_word(words: &mut Words)
     ensures { words.new ≡ drop 1 words.old }
 {
@@ -154,9 +144,9 @@ fn with_number(line: &[u8], kind: ScriptKind) -> ScriptKind
 // What is not there, as a fault on the line of this number in a text.
 fn absence_at(text: &[u8], number: u32, fault: TokenFault<ScriptKind>) -> ScriptFault
     requires { length text.now + 1 < 2 ^ 32 }
-    ensures { result ≡ absence_on number fault (line_on number text.now) }
+    ensures { result ≡ absence_on number fault (line_or_empty number text.now) }
 {
-    let line = line_on(number, text);
+    let line = line_or_empty(number, text);
     ScriptFault {
         line: number,
         column: column_at(Layout::Text, line, fault.left, fault.unit),

@@ -15,3 +15,4 @@ pub mod PlainLines
 pub mod Strings
 pub mod Spots
 pub mod SpotLaws
+pub mod MissingTexts

@@ -76,6 +76,11 @@ end_at extra bad (Word w ∷ tokens) = fails (Word w ∷ tokens) extra
 end_at extra bad (Quoted q ∷ tokens) = fails (Quoted q ∷ tokens) extra
 end_at extra bad (Bad ∷ tokens) = fails (Bad ∷ tokens) bad
 
+-- a line of words ends here. The fault of an extra word
+abbrev pub words_end : {K : Type 0} → K → List (List ℕ) → Result ⊤ (TokenFault K)
+words_end extra [] = Ok tt
+words_end extra (word ∷ words) = fails_left (length (word ∷ words)) extra
+
 -- the line goes on with this word
 abbrev pub begins_with : List ℕ → List Lexeme → Bool
 begins_with expected (Word w ∷ tokens) = pointwise nat_eq w expected

@@ -10,6 +10,7 @@ mod first_tokens;
 mod grammars;
 mod laws;
 mod lines;
+mod missing_texts;
 mod numbers;
 mod raw_lines;
 mod reading;
@@ -37,6 +38,7 @@ pub use laws::{
     written_raw_lines_are_read, written_tokens_are_read,
 };
 pub use lines::{Line, Lines};
+pub use missing_texts::line_or_empty;
 pub use numbers::{decimal_of, number_of};
 pub use raw_lines::{RawLine, RawLines};
 pub use reading::{on_line, read_by, read_text};

@@ -3,7 +3,8 @@ ghost use Rattle.std.specs.Prelude.{◌≡◌, ◌∷◌, ◌<◌, ◌≤◌, []
 ghost use Rattle.std.specs.List.{position_or_len};
 ghost use Rattle.sb_text.specs.Lines.{is_blank};
 ghost use Rattle.sb_items.specs.declared.refusals.Refused.TheVariants.{Fault};
-ghost use Rattle.sb_text.specs.Steps.{refused_left};
+ghost use Rattle.sb_items.specs.Refusals.{Gives};
+ghost use Rattle.sb_text.specs.Steps.{refused_left, words_end};
 ghost use Rattle.sb_text.specs.Words.{words_of};
 
 use crate::blanks::is_blank;
@@ -125,5 +126,15 @@ impl<'a> Words<'a> {
             unit: None,
             kind,
         })
+    }
+
+    /// The line has to end here. `extra` is the fault of an extra word.
+    pub fn expect_end<K: Drop>(&self, extra: K) -> Result<(), Refused<TokenFault<K>>>
+        ensures { Gives (words_end extra self.now) result }
+    {
+        match self.copy().next_word() {
+            None => Ok(()),
+            Some(_) => Err(self.fail(extra)),
+        }
     }
 }

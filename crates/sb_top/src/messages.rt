@@ -2,7 +2,7 @@
 ghost use Rattle.std.specs.Prelude.{◌≡◌, IfOk, option_map, string_bytes};
 ghost use Rattle.sb_commands.specs.Commands.{command_of, name_at};
 ghost use Rattle.sb_commands.specs.Usage.{texts};
-ghost use Rattle.sb_notes.specs.NoteMessages.{or_empty};
+ghost use Rattle.sb_text.specs.MissingTexts.{or_empty};
 ghost use Rattle.sb_top.specs.Exits.{message_of, notes_by};
 ghost use Rattle.sb_top.specs.Top.{files_for};
 
