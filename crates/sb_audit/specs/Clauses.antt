@@ -15,6 +15,7 @@ use Rattle.sb_call.specs.declared.arguments.Arg.TheVariants.{Num}
 use Rattle.sb_call.specs.declared.replies.Answer.{Answer}
 use Rattle.sb_call.specs.declared.tags.CallTag.{CallTag}
 use Rattle.sb_kernel.specs.Namespaces.{Space, perform}
+use Rattle.sb_rule.specs.Accesses.{writing_bits}
 use Rattle.sb_rule.specs.Actions.{action_number}
 use Rattle.sb_rule.specs.Verdicts.{is_for, verdict_of}
 use Rattle.sb_rule.specs.declared.actions.Action.{Action}
@@ -86,11 +87,7 @@ is_rule tag n action rule = is_for tag rule && rule.line == n && action_number r
 abbrev pub has_rule : Policy → CallTag → ℕ → Action → Bool
 has_rule policy tag n action = list_any (is_rule tag n action) policy.rules
 
--- the bits of an access that do more than read
-abbrev pub writing_bits : ℕ
-writing_bits = 0x5FEDFF56
-
--- the access, the second argument, has none of them
+-- the access, the second argument, has no bit that does more than read
 abbrev pub only_reads : List Arg → Bool
 only_reads (first ∷ Num access ∷ more) = bit_and access writing_bits == 0
 only_reads args = true

@@ -21,7 +21,8 @@ use Rattle.sb_lineread.specs.declared.lines.ShownReply.{ShownReply}
 use Rattle.sb_lineread.specs.declared.lines.ShownResult.{ShownResult}
 use Rattle.sb_lineread.specs.declared.lines.ShownResult.TheVariants as result
 use Rattle.sb_audit.specs.Before.{entry_count, has_totals, result_count}
-use Rattle.sb_audit.specs.Clauses.{has_rule, is_decided, place_of, thread_of, writing_bits}
+use Rattle.sb_audit.specs.Clauses.{has_rule, is_decided, place_of, thread_of}
+use Rattle.sb_rule.specs.Accesses.{writing_bits}
 use Rattle.sb_audit.specs.Spots.{due_spot}
 use Rattle.sb_audit.specs.declared.dues.Due.{Due}
 use Rattle.sb_audit.specs.declared.dues.Due.TheVariants as due

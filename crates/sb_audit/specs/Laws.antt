@@ -1,13 +1,12 @@
 -- What holds of each audit.
-use Rattle.std.specs.Prelude.{◌≡◌, ◌+◌, ◌^◌, ◌-◌, ◌<◌, ℕ, ⊤, Bool, true, List, [], ◌∷◌, ◌++◌, Option, None, Some, bit_and}
+use Rattle.std.specs.Prelude.{◌≡◌, ◌+◌, ◌^◌, ◌-◌, ℕ, ⊤, true, List, [], ◌∷◌, ◌++◌, None, Some}
 use Rattle.std.specs.List.{flat_map}
-use Rattle.sb_book.specs.Decisions.{read_only_bits}
+use Rattle.sb_rule.specs.Accesses.{read_only_bits, writing_bits}
 use Rattle.sb_call.specs.Arguments.{fits}
 use Rattle.sb_rule.specs.Verdicts.{verdict_of}
 use Rattle.sb_rule.specs.declared.actions.Action.TheVariants.{Allow, ReadOnly}
 use Rattle.sb_rule.specs.declared.policies.Policy.{Policy}
 use Rattle.sb_rule.specs.declared.verdicts.Verdict.TheVariants.{Rule}
-use Rattle.sb_statements.specs.Scripts.{is_clean}
 use Rattle.sb_statements.specs.declared.scripts.Script.{Script}
 use Rattle.sb_text.specs.LineLaws.{ended}
 use Rattle.sb_lineread.specs.Fields.{written}
@@ -18,7 +17,7 @@ use Rattle.sb_lineread.specs.declared.lines.ShownDecision.{ShownDecision}
 use Rattle.sb_lineread.specs.declared.lines.ShownDecision.TheVariants as shown
 use Rattle.sb_audit.specs.Audited.{audited, failing, policy_of}
 use Rattle.sb_audit.specs.Before.{entries_of, entry_count, has_totals, result_count, space_after, target_of}
-use Rattle.sb_audit.specs.Clauses.{has_channel, has_rule, is_own, only_reads, reply_due, writing_bits}
+use Rattle.sb_audit.specs.Clauses.{has_channel, has_rule, is_own, only_reads, reply_due}
 use Rattle.sb_audit.specs.Answers.{refutation}
 use Rattle.sb_audit.specs.Spots.{due_spot}
 use Rattle.sb_audit.specs.declared.answers.AuditAnswer.TheVariants.{Yes}

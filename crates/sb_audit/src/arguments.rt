@@ -1,13 +1,12 @@
 // Whether arguments are the same.
 ghost use Rattle.std.specs.Prelude.{◌≡◌, ◌∷◌, bit_and};
-ghost use Rattle.sb_book.specs.Decisions.{read_only_args, read_only_bits};
+ghost use Rattle.sb_book.specs.Decisions.{read_only_args};
+ghost use Rattle.sb_rule.specs.Accesses.{read_only_bits};
 ghost use Rattle.sb_call.specs.declared.arguments.Arg.TheVariants.{Num};
 ghost use Rattle.sb_audit.specs.Comparing.{same_numbers, same_tag, same_argument, same_arguments};
 
 use sb_call::{Arg, CallTag, number_of};
-
-// Read data, execute, read EA, read attributes, read control, synchronize, and generic read and execute.
-const READ_ONLY_BITS: u64 = 0xA012_00A9;
+use sb_rule::READ_ONLY_BITS;
 
 /// Whether lists of numbers are the same.
 pub(crate) fn same_numbers(a: &[u64], b: &[u64]) -> bool

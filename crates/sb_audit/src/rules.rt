@@ -9,10 +9,7 @@ ghost use Rattle.sb_audit.specs.Clauses.{is_rule, has_rule, is_allow, only_reads
 use crate::dues::RuleDue;
 use sb_call::{Arg, CallTag, fits};
 use sb_lineread::ShownDecision;
-use sb_rule::{Action, Judge, Policy, Rule, Verdict};
-
-// The bits of an access that do more than read.
-const WRITING_BITS: u64 = 0x5FED_FF56;
+use sb_rule::{Action, Judge, Policy, Rule, Verdict, WRITING_BITS};
 
 fn is_rule(rule: &Rule, tag: CallTag, line: u32, action: Action) -> bool
     ensures { result ≡ is_rule tag line action rule.now }

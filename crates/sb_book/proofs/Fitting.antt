@@ -21,7 +21,8 @@ use Rattle.sb_rule.specs.declared.actions.Action.TheVariants.{Allow, Deny, Alarm
 use Rattle.sb_rule.specs.declared.policies.Policy.{Policy}
 use Rattle.sb_rule.specs.declared.verdicts.Verdict.{Verdict}
 use Rattle.sb_rule.specs.declared.verdicts.Verdict.TheVariants as verdict
-use Rattle.sb_book.specs.Decisions.{by_decoded, by_verdict, decision_of, is_fitting, read_only_args, read_only_bits}
+use Rattle.sb_book.specs.Decisions.{by_decoded, by_verdict, decision_of, is_fitting, read_only_args}
+use Rattle.sb_rule.specs.Accesses.{read_only_bits}
 
 -- a number with fewer bits is of the same kind
 cut_kind : (kind : ParamKind) (n : ℕ) → fits_kind kind (arg.Num n) ≡ true → fits_kind kind (arg.Num (bit_and n read_only_bits)) ≡ true

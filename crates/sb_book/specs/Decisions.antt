@@ -1,5 +1,5 @@
 -- What the broker decides of a copy.
-use Rattle.std.specs.Prelude.{ℕ, Bool, true, List, ◌∷◌, Result, Ok, Err, bit_and}
+use Rattle.std.specs.Prelude.{Bool, true, List, ◌∷◌, Result, Ok, Err, bit_and}
 use Rattle.sb_call.specs.Arguments.{fits}
 use Rattle.sb_call.specs.declared.tags.CallTag.{CallTag}
 use Rattle.sb_call.specs.declared.arguments.Arg.{Arg}
@@ -8,6 +8,7 @@ use Rattle.sb_block.specs.Copies.{Copied}
 use Rattle.sb_block.specs.Calls.{decoded}
 use Rattle.sb_block.specs.declared.faults.BlockFault.{BlockFault}
 use Rattle.sb_block.specs.declared.calls.Call.{Call}
+use Rattle.sb_rule.specs.Accesses.{read_only_bits}
 use Rattle.sb_rule.specs.Verdicts.{verdict_of}
 use Rattle.sb_rule.specs.declared.actions.Action.TheVariants.{Allow, Deny, Alarm, Fake, ReadOnly}
 use Rattle.sb_rule.specs.declared.policies.Policy.{Policy}
@@ -15,10 +16,6 @@ use Rattle.sb_rule.specs.declared.verdicts.Verdict.{Verdict}
 use Rattle.sb_rule.specs.declared.verdicts.Verdict.TheVariants as verdict
 use Rattle.sb_book.specs.declared.decisions.Decision.{Decision}
 use Rattle.sb_book.specs.declared.decisions.Decision.TheVariants.{Refused, Denied, Faked, Performed}
-
--- the bits of an access that only read
-abbrev pub read_only_bits : ℕ
-read_only_bits = 0xA01200A9
 
 -- the arguments with the access, the second of them, cut to the bits that only read
 abbrev pub read_only_args : List Arg → List Arg

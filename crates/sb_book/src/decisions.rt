@@ -8,7 +8,7 @@ ghost use Rattle.sb_book.specs.Decisions.{decision_of, by_verdict, read_only_arg
 use sb_block::{BlockCopy, BlockFault, BlockRefused, Call, decode};
 use sb_call::{Arg, Args, CallTag};
 use sb_items::NoMemory;
-use sb_rule::{Action, Judge, Verdict};
+use sb_rule::{Action, Judge, READ_ONLY_BITS, Verdict};
 use std::alloc::Global;
 
 /// What the broker decides of the copy of a parameter block.
@@ -51,9 +51,6 @@ impl Drop for Decision {
         }
     }
 }
-
-// Read data, execute, read EA, read attributes, read control, synchronize, and generic read and execute.
-const READ_ONLY_BITS: u64 = 0xA012_00A9;
 
 /// Decides by the rules of a target's policy, on the copy alone. Nothing is performed. The judge must know the target.
 ///

@@ -3,7 +3,7 @@ use Rattle.std.proofs.Common.{◌≡◌, ◌∙◌, ℕ, Bool, true, false, ap, 
 use Rattle.std.specs.Prelude.{bit_and, ◌||◌, if◌then◌else◌}
 use Rattle.std.proofs.lemmas.Nat.{and_assoc, and_comm}
 use Rattle.std.proofs.lemmas.Nat.Bits.{bit_at_and, same_from_bits}
-use Rattle.sb_book.specs.Decisions.{read_only_bits}
+use Rattle.sb_rule.specs.Accesses.{read_only_bits}
 use Rattle.sb_dup.specs.Passes.{access_granted, is_cut}
 use Rattle.sb_rule.specs.declared.verdicts.Verdict.{Verdict}
 

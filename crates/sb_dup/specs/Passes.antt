@@ -1,6 +1,6 @@
 -- What a move does.
 use Rattle.std.specs.Prelude.{ℕ, ◌+◌, Bool, true, false, not, ◌||◌, ◌==◌, bit_and, List, Option, None, Some, if◌then◌else◌}
-use Rattle.sb_book.specs.Decisions.{read_only_bits}
+use Rattle.sb_rule.specs.Accesses.{read_only_bits}
 use Rattle.sb_dup.specs.Openings.{opening_of}
 use Rattle.sb_dup.specs.declared.moves.Move.{Move}
 use Rattle.sb_dup.specs.declared.moves.MoveAnswer.{MoveAnswer}

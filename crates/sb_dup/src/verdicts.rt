@@ -2,10 +2,7 @@
 ghost use Rattle.std.specs.Prelude.{◌≡◌, ℕ, bit_and};
 ghost use Rattle.sb_dup.specs.Passes.{access_granted, has_more, is_cut, is_granted};
 
-use sb_rule::{Action, Verdict};
-
-// Read data, execute, read EA, read attributes, read control, synchronize, and generic read and execute.
-const READ_ONLY_BITS: u32 = 0xA012_00A9;
+use sb_rule::{Action, READ_ONLY_BITS, Verdict};
 
 /// Whether a verdict lets a call be performed.
 pub(crate) fn is_granted(verdict: Verdict) -> bool
@@ -40,7 +37,7 @@ pub(crate) fn access_granted(giver: Verdict, taker: Verdict, access: u32) -> u32
     ensures within { (held : ℕ) → bit_and access held ≡ access → bit_and result held ≡ result }
 {
     if is_cut(giver) || is_cut(taker) {
-        access & READ_ONLY_BITS
+        access & READ_ONLY_BITS as u32
     } else {
         access
     }

@@ -1,3 +1,4 @@
+pub mod Accesses
 pub mod Actions
 pub mod Limits
 pub mod Verdicts

@@ -4,6 +4,7 @@
 // policy_low_level.h).
 #![tactic(auto)]
 
+mod accesses;
 mod actions;
 mod checks;
 mod conditions;
@@ -14,6 +15,7 @@ mod policies;
 mod verdicts;
 mod well_made_policies;
 
+pub use accesses::{READ_ONLY_BITS, WRITING_BITS};
 pub use actions::Action;
 pub use checks::{all_well_made, is_for_readers, well_made};
 pub use conditions::{Cond, Conds, Numbers, Test};

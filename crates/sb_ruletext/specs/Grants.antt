@@ -3,6 +3,7 @@ use Rattle.std.specs.Prelude.{ℕ, true, false, List, [], ◌∷◌, Option, cod
 use Rattle.sb_call.specs.declared.tags.CallTag.{CallTag}
 use Rattle.sb_call.specs.declared.tags.CallTag.TheVariants.{FileCreate, FileOpen, FileQuery, FileRename, PipeCreate, KeyCreate, KeyOpen, EventCreate, EventOpen}
 use Rattle.sb_pattern.specs.declared.cells.Cell.{Cell}
+use Rattle.sb_rule.specs.Accesses.{writing_bits}
 use Rattle.sb_rule.specs.declared.actions.Action.TheVariants.{Allow}
 use Rattle.sb_rule.specs.declared.conditions.Cond.{Cond}
 use Rattle.sb_rule.specs.declared.conditions.Test.TheVariants.{OneOf, Mask, Like}
@@ -30,17 +31,13 @@ grants = FilesAny ∷ FilesReadonly ∷ FilesQuery ∷ PipesAny ∷ RegistryAny 
 abbrev pub grant_of : List ℕ → Option Grant
 grant_of word = named grant_word grants word
 
--- the access bits that are refused to a reader: all that write, delete or change
-abbrev pub restricted_mask : ℕ
-restricted_mask = 0x5FEDFF56
-
 -- `name like P`, and for `file.rename` also `to like P`
 abbrev pub like_at : ℕ → List Cell → Cond
 like_at param pattern = record { param = param; negated = false; test = Like pattern }
 
 -- `not access has M`, where access is this parameter
 abbrev pub reads_at : ℕ → Cond
-reads_at param = record { param = param; negated = true; test = Mask restricted_mask }
+reads_at param = record { param = param; negated = true; test = Mask writing_bits }
 
 -- `disposition is 1`, where disposition is this parameter: the file is to be there
 abbrev pub opens_at : ℕ → Cond

@@ -7,11 +7,8 @@ ghost use Rattle.sb_ruletext.specs.Grants.{grant_word, grants, grant_of, like_at
 use sb_call::CallTag;
 use sb_items::NoMemory;
 use sb_pattern::Pattern;
-use sb_rule::{Action, Cond, Conds, Numbers, Rule, Rules, Test};
+use sb_rule::{Action, Cond, Conds, Numbers, Rule, Rules, Test, WRITING_BITS};
 use std::alloc::Global;
-
-/// The access bits that a reader is refused: all but those that read, as in Chromium's Windows sandbox.
-const RESTRICTED_MASK: u64 = 0x5FED_FF56;
 
 /// The disposition with which `file.create` opens a file that is there.
 const OPEN: u64 = 1;
@@ -98,7 +95,7 @@ fn reads_at(param: u32) -> Cond
     Cond {
         param,
         negated: true,
-        test: Test::Mask(RESTRICTED_MASK),
+        test: Test::Mask(WRITING_BITS),
     }
 }
 

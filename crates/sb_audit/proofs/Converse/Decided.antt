@@ -12,7 +12,8 @@ use Rattle.sb_block.specs.Copies.{Copied}
 use Rattle.sb_block.specs.Faults.{fault}
 use Rattle.sb_block.specs.Laws.{FaultlessCopiesFit}
 use Rattle.sb_block.specs.declared.faults.BlockFault.{BlockFault}
-use Rattle.sb_book.specs.Decisions.{by_decoded, by_verdict, decision_of, read_only_args, read_only_bits}
+use Rattle.sb_book.specs.Decisions.{by_decoded, by_verdict, decision_of, read_only_args}
+use Rattle.sb_rule.specs.Accesses.{read_only_bits, writing_bits}
 use Rattle.sb_book.specs.Histories.{fault_words, reply_of, space_after}
 use Rattle.sb_book.specs.declared.decisions.Decision.{Decision}
 use Rattle.sb_book.specs.declared.decisions.Decision.TheVariants as decision
@@ -40,7 +41,7 @@ use Rattle.sb_rule.specs.declared.verdicts.Verdict.TheVariants as verdict
 use Rattle.sb_statements.specs.declared.scripts.Script.{Script}
 use Rattle.sb_transcript.specs.Totals as totals
 use Rattle.sb_audit.specs.Before.{performed_of, space_with}
-use Rattle.sb_audit.specs.Clauses.{has_rule, is_allow, is_denied, is_faked, is_performed, is_refused, is_rule, count_of, only_reads, reply_due, shows_rule, writing_bits}
+use Rattle.sb_audit.specs.Clauses.{has_rule, is_allow, is_denied, is_faked, is_performed, is_refused, is_rule, count_of, only_reads, reply_due, shows_rule}
 use Rattle.sb_audit.specs.Comparing.{same_argument, same_arguments, same_decision, same_numbers, same_reply, same_tag}
 use Rattle.sb_audit.proofs.Converse.Lists.{any_true, at_seam}
 use Rattle.sb_audit.proofs.Converse.ShownLines.{shown_entries}
