@@ -57,6 +57,10 @@ space_after ns target (Denied tag verdict) = ns
 space_after ns target (Faked tag line) = ns
 space_after ns target (Performed tag line action args) = (perform ns target tag args).space
 
+-- what the policy of a target decides on a copy
+abbrev pub target_decision : History → ℕ → Copied → Decision
+target_decision h target copy = decision_of (policy_at h.setting.policies target) copy
+
 -- the entry of a copy and its decision
 abbrev pub entry_of : Space → ℕ → ℕ → Copied → Decision → Entry
 entry_of ns target channel taken decision =

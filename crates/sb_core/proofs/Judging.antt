@@ -11,12 +11,12 @@ use Rattle.sb_actor.specs.WorkerStages as worker
 use Rattle.sb_actor.specs.WorkerTable.{worker_after, worker_plan}
 use Rattle.sb_actor.specs.Observations.{Observation}
 use Rattle.sb_block.specs.Copies.{Copied}
-use Rattle.sb_book.specs.Histories.{answered}
+use Rattle.sb_book.specs.Histories.{answered, target_decision}
 use Rattle.sb_statements.specs.declared.scripts.Script.{Script}
 use Rattle.sb_core.specs.Changes.{is_load}
 use Rattle.sb_core.specs.Kept.{is_holder, is_over}
 use Rattle.sb_core.specs.Laws.{CopiesAreJudged, FinishedThreadsStay, CopiesAreAnswered, TurnsAreHeld, copy_in}
-use Rattle.sb_core.specs.Shared.{SharedAt, decided, on_worker}
+use Rattle.sb_core.specs.Shared.{SharedAt, on_worker}
 use Rattle.sb_core.specs.Threads.{RunAt, ThreadStep, no_run, thread_step}
 use Rattle.sb_core.specs.Worlds.{run_at, thread_goes, threads_at, worker_at}
 use Rattle.sb_core.proofs.Sets.{set_same}
@@ -53,10 +53,10 @@ copies_are_answered script w target taken e = at_stage (worker_at w target) (wor
   where
     at_stage : (x : WorkerAt) (stage : WorkerStage) → stage ≡ worker.Answer taken
         → (on_worker w.shared target (record x { stage = stage }) (worker_plan (record x { stage = stage }))).shared.book
-        ≡ answered w.shared.book target x.channel taken (decided w.shared.book target taken)
+        ≡ answered w.shared.book target x.channel taken (target_decision w.shared.book target taken)
     at_stage x stage e =
         subst (λ z. (on_worker w.shared target (record x { stage = z }) (worker_plan (record x { stage = z }))).shared.book
-        ≡ answered w.shared.book target x.channel taken (decided w.shared.book target taken)) (sym e) refl
+        ≡ answered w.shared.book target x.channel taken (target_decision w.shared.book target taken)) (sym e) refl
 
 -- a stage after the last statement
 pub over_is : (stage : ThreadStage) → is_over stage ≡ true → stage ≡ Over

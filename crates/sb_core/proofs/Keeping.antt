@@ -11,13 +11,13 @@ use Rattle.sb_actor.specs.Observations.{Observation}
 use Rattle.sb_actor.specs.WorkerTable.{worker_plan, worker_after, look_next, after_reply}
 use Rattle.sb_block.specs.Copies.{Copied, copied, is_copy, is_end, mark_of}
 use Rattle.sb_block.specs.Packing.{offset_of}
-use Rattle.sb_book.specs.Histories.{reply_of}
+use Rattle.sb_book.specs.Histories.{reply_of, target_decision}
 use Rattle.sb_book.specs.declared.decisions.Decision.{Decision}
 use Rattle.sb_book.specs.declared.decisions.Decision.TheVariants.{Refused, Denied, Faked, Performed}
 use Rattle.sb_kernel.specs.Namespaces.{Space}
 use Rattle.sb_statements.specs.declared.statements.Word.{Word}
 use Rattle.sb_core.specs.Kept.{IsRunOf, IsWorkerOf, IsWorld, channels_at, has_turn, is_holder}
-use Rattle.sb_core.specs.Shared.{SharedAt, decided, on_worker}
+use Rattle.sb_core.specs.Shared.{SharedAt, on_worker}
 use Rattle.sb_core.specs.Words.{exchanged, loaded, stored, words_of}
 use Rattle.sb_statements.specs.Words.{place_of}
 use Rattle.sb_core.specs.Worlds.{WorldAt, no_worker, run_at, threads_at, worker_at, worker_goes, worker_step}
@@ -310,7 +310,7 @@ module _ (w : WorldAt) (t channels c : ℕ) (kept : IsWorld w) (there : t < leng
     its_channels = its;
     within = within;
     few = few;
-    sound = record { size = refl; mark = replies_bear w.shared.book.space t (mark_of taken) (decided w.shared.book t taken) };
+    sound = record { size = refl; mark = replies_bear w.shared.book.space t (mark_of taken) (target_decision w.shared.book t taken) };
     turn = turn;
     others = λ u n. refl;
     holder = kept.holder;

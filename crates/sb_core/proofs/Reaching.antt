@@ -8,7 +8,7 @@ use Rattle.sb_actor.specs.Ranges.{IsSoundStage}
 use Rattle.sb_actor.specs.ThreadTable.{thread_after, thread_plan}
 use Rattle.sb_actor.specs.WorkerStages.{WorkerStage, WorkerAt, Look, Count, End, Copy, Take, Answer, Give, Reply, Ack}
 use Rattle.sb_actor.specs.WorkerTable.{worker_plan}
-use Rattle.sb_book.specs.Histories.{IsHistory, Setting}
+use Rattle.sb_book.specs.Histories.{IsHistory, Setting, target_decision}
 use Rattle.sb_book.specs.Laws.{AnswersKeepHistories}
 use Rattle.sb_statements.specs.Soundness.{SoundStatements}
 use Rattle.sb_statements.specs.declared.results.StmtResult.{StmtResult}
@@ -19,7 +19,7 @@ use Rattle.sb_statements.specs.declared.statements.Statement.{Statement}
 use Rattle.sb_statements.specs.Actors.{is_there}
 use Rattle.sb_core.specs.Kept.{IsRunning, IsWorld}
 use Rattle.sb_core.specs.Results.{is_result_of}
-use Rattle.sb_core.specs.Shared.{decided, on_word, on_worker}
+use Rattle.sb_core.specs.Shared.{on_word, on_worker}
 use Rattle.sb_core.specs.Threads.{RunAt, no_run}
 use Rattle.sb_core.specs.Worlds.{WorldAt, run_at, step, threads_at, worker_at, worker_step}
 use Rattle.sb_core.proofs.Running.{step_keeps, thread_is_there, worker_is_there, worker_runs}
@@ -62,7 +62,7 @@ module _ (statements : SoundStatements) (answers : AnswersKeepHistories) (script
   history_after w t x h p c (End count) s = h
   history_after w t x h p c (Copy count end words) s = h
   history_after w t x h p c (Take taken) s = h
-  history_after w t x h p c (Answer taken) s = answers w.shared.book t x.channel taken (decided w.shared.book t taken) p c s refl h
+  history_after w t x h p c (Answer taken) s = answers w.shared.book t x.channel taken (target_decision w.shared.book t taken) p c s refl h
   history_after w t x h p c (Give taken reply) s = h
   history_after w t x h p c (Reply taken reply at) s = h
   history_after w t x h p c (Ack taken reply) s = h

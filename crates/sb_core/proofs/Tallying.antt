@@ -14,7 +14,7 @@ use Rattle.sb_actor.specs.WorkerStages.{WorkerStage, WorkerAt, Look, Count, End,
 use Rattle.sb_actor.specs.WorkerTable.{worker_plan}
 use Rattle.sb_actor.specs.declared.acts.Act.{Act}
 use Rattle.sb_actor.specs.declared.acts.Act.TheVariants as act
-use Rattle.sb_book.specs.Histories.{entry_of}
+use Rattle.sb_book.specs.Histories.{entry_of, target_decision}
 use Rattle.sb_book.specs.Readiness.{IsReady}
 use Rattle.sb_book.specs.declared.entries.Entry.{Entry}
 use Rattle.sb_rule.specs.declared.policies.Policy.{Policy}
@@ -29,7 +29,7 @@ use Rattle.sb_core.specs.Drains.{drained}
 use Rattle.sb_core.specs.Kept.{IsRunning, IsWorkerOf, IsWorld}
 use Rattle.sb_core.specs.Reports.{results_of}
 use Rattle.sb_core.specs.Runs.{CanRun, ended, played}
-use Rattle.sb_core.specs.Shared.{IsActThere, SharedAt, decided, on_word, on_worker}
+use Rattle.sb_core.specs.Shared.{IsActThere, SharedAt, on_word, on_worker}
 use Rattle.sb_core.specs.Tallies.{WorldsAreFew, has_sent, tally_all, tally_row, tally_so_far, EntriesAreFew, entries_on, is_state, one_if, tally_from, tally_targets, tally_threads}
 use Rattle.sb_core.specs.Threads.{RunAt, first_unfinished, no_run}
 use Rattle.sb_core.specs.Words.{free_channels, loaded, stored, words_of}
@@ -116,7 +116,7 @@ module _ (w : WorldAt) (t u c : ℕ) (x : WorkerAt) (ne : u ≢ t) where
   other_entries (Copy count end words) = refl
   other_entries (Take taken) = refl
   other_entries (Answer taken) =
-      let e = entry_of w.shared.book.space t x.channel taken (decided w.shared.book t taken) in
+      let e = entry_of w.shared.book.space t x.channel taken (target_decision w.shared.book t taken) in
       let more = entries_more u c w.shared.book.entries e in
       let none : one_if (t == u && x.channel == c) ≡ 0 = ap (λ b. one_if (b && x.channel == c)) (apart t u ne) in
       omega (arith, more, none)

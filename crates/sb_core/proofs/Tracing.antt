@@ -15,7 +15,7 @@ use Rattle.sb_actor.specs.ThreadStages as thread
 use Rattle.sb_actor.specs.ThreadTable.{stray_row, thread_after, thread_plan}
 use Rattle.sb_actor.specs.WorkerStages.{WorkerStage, WorkerAt, Look, Count, End, Copy, Take, Answer, Give, Reply, Ack}
 use Rattle.sb_actor.specs.WorkerTable.{worker_after, worker_plan}
-use Rattle.sb_book.specs.Histories.{entry_of}
+use Rattle.sb_book.specs.Histories.{entry_of, target_decision}
 use Rattle.sb_book.specs.Readiness.{IsReady}
 use Rattle.sb_book.specs.declared.entries.Entry.{Entry}
 use Rattle.sb_rule.specs.declared.policies.Policy.{Policy}
@@ -37,7 +37,7 @@ use Rattle.sb_core.specs.Origins.{WorldsAreSourced, AreSourcedCopies, AreSourced
 use Rattle.sb_core.specs.Reports.{report_of, results_of}
 use Rattle.sb_core.specs.Results.{result_at}
 use Rattle.sb_core.specs.Runs.{ended, played}
-use Rattle.sb_core.specs.Shared.{Effect, IsActThere, decided, on_word, on_worker}
+use Rattle.sb_core.specs.Shared.{Effect, IsActThere, on_word, on_worker}
 use Rattle.sb_core.specs.Threads.{RunAt, first_unfinished, no_run}
 use Rattle.sb_core.specs.Words.{free_channels}
 use Rattle.sb_core.specs.Worlds.{WorldAt, first_worker, first_workers, no_worker, rounds, run_at, start_world, step, threads_at, worker_at, worker_step}
@@ -132,7 +132,7 @@ module _ (script : Script) (w : WorldAt) (t channels c : ℕ) where
   grown_at (End count) = inl refl
   grown_at (Copy count end words) = inl refl
   grown_at (Take taken) = inl refl
-  grown_at (Answer taken) = inr (entry_of w.shared.book.space t c taken (decided w.shared.book t taken), refl)
+  grown_at (Answer taken) = inr (entry_of w.shared.book.space t c taken (target_decision w.shared.book t taken), refl)
   grown_at (Give taken reply) = inl refl
   grown_at (Reply taken reply i) = inl refl
   grown_at (Ack taken reply) = inl refl

@@ -16,11 +16,11 @@ use Rattle.sb_actor.specs.Views.{Served}
 use Rattle.sb_actor.specs.Views as place
 use Rattle.sb_block.specs.Copies.{Copied, copied, is_end}
 use Rattle.sb_block.specs.Packing.{offset_of}
-use Rattle.sb_book.specs.Histories.{entry_of}
+use Rattle.sb_book.specs.Histories.{entry_of, target_decision}
 use Rattle.sb_book.specs.declared.entries.Entry.{Entry}
 use Rattle.sb_statements.specs.declared.scripts.Script.{Script}
 use Rattle.sb_core.specs.Kept.{IsWorkerOf, IsWorld}
-use Rattle.sb_core.specs.Shared.{Effect, decided, on_word, on_worker}
+use Rattle.sb_core.specs.Shared.{Effect, on_word, on_worker}
 use Rattle.sb_book.specs.Targets.{is_of_target}
 use Rattle.sb_core.specs.Views.{AreViews, InRule, TargetViews, as_call, calls_at, in_work}
 use Rattle.sb_core.specs.Words.{loaded, words_of}
@@ -140,7 +140,7 @@ module _ (laws : RuleLaws) (script : Script) (w : WorldAt) (t channels c : ℕ) 
   )
   own_target (Answer taken) s before =
       let es = w.shared.book.entries in
-      let e = entry_of w.shared.book.space t c taken (decided w.shared.book t taken) in (
+      let e = entry_of w.shared.book.space t c taken (target_decision w.shared.book t taken) in (
         before.0,
         worker_stays script t (words_of w.shared.words t) (calls_at t w.shared.book.entries) (at_this (Answer taken)) (threads_at w t) before.0 before.1
             (worker_after (at_this (Answer taken)) (effect (Answer taken)).seen) (calls_at t (es ++ e ∷ [])) refl refl refl
@@ -168,7 +168,7 @@ module _ (w : WorldAt) (t u : ℕ) (x : WorkerAt) (ne : u ≢ t) where
   other_calls (Copy count end words) = refl
   other_calls (Take taken) = refl
   other_calls (Answer taken) =
-      let e = entry_of w.shared.book.space t x.channel taken (decided w.shared.book t taken) in
+      let e = entry_of w.shared.book.space t x.channel taken (target_decision w.shared.book t taken) in
       calls_more u w.shared.book.entries e false (apart t u ne) ∙ append-nil (calls_at u w.shared.book.entries)
   other_calls (Give taken reply) = refl
   other_calls (Reply taken reply i) = refl

@@ -12,12 +12,12 @@ use Rattle.sb_actor.specs.WorkerTable.{look_next, worker_after, worker_plan}
 use Rattle.sb_block.specs.Copies.{copied, is_end}
 use Rattle.sb_block.specs.Packing.{offset_of}
 use Rattle.sb_block.specs.Replies.{reply_words}
-use Rattle.sb_book.specs.Histories.{entry_of}
+use Rattle.sb_book.specs.Histories.{entry_of, target_decision}
 use Rattle.sb_book.specs.declared.entries.Entry.{Entry}
 use Rattle.sb_statements.specs.declared.scripts.Script.{Script}
 use Rattle.sb_core.specs.Kept.{IsWorld}
 use Rattle.sb_core.specs.Origins.{AreSourcedCopies, AreSourcedWords, HasBlockSource, IsSourcedCopy}
-use Rattle.sb_core.specs.Shared.{Effect, decided, on_worker}
+use Rattle.sb_core.specs.Shared.{Effect, on_worker}
 use Rattle.sb_core.specs.Words.{loaded, words_of}
 use Rattle.sb_core.specs.Worlds.{WorldAt}
 use Rattle.sb_core.proofs.Sourcing.{at_last, block_source, more_copies, more_words, sourced_words, state_source}
@@ -110,7 +110,7 @@ module _ (script : Script) (w : WorldAt) (t channels c : ℕ) (kept : IsWorld w)
       two (length (words ++ x ∷ []) == end) (Take (copied count end (words ++ x ∷ []))) (Copy count end (words ++ x ∷ [])) all_of all_of
   own_traced (Take taken) s h = two (is_none w.shared.turn) (Answer taken) (Take taken) h h
   own_traced (Answer taken) s h =
-      let e = entry_of w.shared.book.space t c taken (decided w.shared.book t taken) in (length es, e, at_last es e, refl, refl, refl)
+      let e = entry_of w.shared.book.space t c taken (target_decision w.shared.book t taken) in (length es, e, at_last es e, refl, refl, refl)
   own_traced (Give taken reply) s h = h
   own_traced (Reply taken reply i) s h = two (i == 11) (Ack taken reply) (Reply taken reply (i + 1)) tt h
   own_traced (Ack taken reply) s h = tt
@@ -122,7 +122,7 @@ module _ (script : Script) (w : WorldAt) (t channels c : ℕ) (kept : IsWorld w)
   own_words (End count) s h = all
   own_words (Copy count end words) s h = all
   own_words (Take taken) s h = all
-  own_words (Answer taken) s h = more_words script es (entry_of w.shared.book.space t c taken (decided w.shared.book t taken)) w.shared.words all
+  own_words (Answer taken) s h = more_words script es (entry_of w.shared.book.space t c taken (target_decision w.shared.book t taken)) w.shared.words all
   own_words (Give taken reply) s h = all
   own_words (Reply taken reply i) s h =
       let low = s.0 in
@@ -142,7 +142,7 @@ module _ (script : Script) (w : WorldAt) (t channels c : ℕ) (kept : IsWorld w)
   own_copies (End count) h = copies
   own_copies (Copy count end words) h = copies
   own_copies (Take taken) h = copies
-  own_copies (Answer taken) h = more_copies script es (entry_of w.shared.book.space t c taken (decided w.shared.book t taken)) copies h
+  own_copies (Answer taken) h = more_copies script es (entry_of w.shared.book.space t c taken (target_decision w.shared.book t taken)) copies h
   own_copies (Give taken reply) h = copies
   own_copies (Reply taken reply i) h = copies
   own_copies (Ack taken reply) h = copies

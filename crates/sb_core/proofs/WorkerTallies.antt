@@ -9,10 +9,10 @@ use Rattle.sb_actor.specs.WorkerStages.{WorkerStage, WorkerAt, Look, Count, End,
 use Rattle.sb_actor.specs.WorkerTable.{look_next, worker_after, worker_plan}
 use Rattle.sb_block.specs.Copies.{copied, is_end}
 use Rattle.sb_block.specs.Packing.{offset_of}
-use Rattle.sb_book.specs.Histories.{entry_of}
+use Rattle.sb_book.specs.Histories.{entry_of, target_decision}
 use Rattle.sb_book.specs.declared.entries.Entry.{Entry}
 use Rattle.sb_core.specs.Kept.{IsWorld}
-use Rattle.sb_core.specs.Shared.{Effect, decided, on_worker}
+use Rattle.sb_core.specs.Shared.{Effect, on_worker}
 use Rattle.sb_core.specs.Tallies.{entries_on, one_if}
 use Rattle.sb_core.specs.Words.{exchanged, loaded, stored, words_of}
 use Rattle.sb_core.specs.Worlds.{WorldAt}
@@ -159,7 +159,7 @@ module _ (w : WorldAt) (t channels d : ℕ) (kept : IsWorld w) (there : t < leng
       let x = loaded words (record { channel = d; at = 1 + length copy }) in
       plus (entries_on t c w.shared.book.entries) _ _ (two (length (copy ++ x ∷ []) == end) (Take (copied count end (copy ++ x ∷ []))) (Copy count end (copy ++ x ∷ [])) (Copy count end copy) refl refl)
   own_owed (Take taken) s = plus (entries_on t c w.shared.book.entries) _ _ (two (is_none w.shared.turn) (Answer taken) (Take taken) (Take taken) refl refl)
-  own_owed (Answer taken) s = marks w.shared.book.entries (entry_of w.shared.book.space t d taken (decided w.shared.book t taken)) refl refl
+  own_owed (Answer taken) s = marks w.shared.book.entries (entry_of w.shared.book.space t d taken (target_decision w.shared.book t taken)) refl refl
   own_owed (Give taken reply) s = plus (entries_on t c w.shared.book.entries) _ _ (same_owed (d == c) (Reply taken reply 0) (Give taken reply) refl)
   own_owed (Reply taken reply i) s =
       let low = s.0 in

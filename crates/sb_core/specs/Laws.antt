@@ -5,7 +5,7 @@ use Rattle.sb_actor.specs.WorkerStages.{WorkerStage, WorkerAt, Look, Count, End,
 use Rattle.sb_actor.specs.WorkerTable.{worker_plan, worker_after}
 use Rattle.sb_actor.specs.Observations.{Observation}
 use Rattle.sb_block.specs.Copies.{Copied}
-use Rattle.sb_book.specs.Histories.{IsHistory, answered, setting_of}
+use Rattle.sb_book.specs.Histories.{IsHistory, answered, setting_of, target_decision}
 use Rattle.sb_book.specs.Readiness.{IsReady}
 use Rattle.sb_rule.specs.declared.policies.Policy.{Policy}
 use Rattle.sb_statements.specs.declared.schedules.Actor.{Actor}
@@ -22,7 +22,7 @@ use Rattle.sb_core.specs.Reports.{report_of, results_of}
 use Rattle.sb_core.specs.Results.{AreAllResults, ResultsFit}
 use Rattle.sb_core.specs.Threads.{first_unfinished}
 use Rattle.sb_core.specs.Runs.{CanFinish, CanRun, finished, ran, schedule_of}
-use Rattle.sb_core.specs.Shared.{IsActThere, decided}
+use Rattle.sb_core.specs.Shared.{IsActThere}
 use Rattle.sb_core.specs.Words.{some_ready, words_of}
 use Rattle.sb_core.specs.Worlds.{WorldAt, all_finished, start_world, step, steps, rounds, run_at, threads_at, worker_at}
 
@@ -69,7 +69,7 @@ StepsChangeLittle = (script : Script) (w : WorldAt) (actor : Actor) → IsWorld 
 abbrev pub CopiesAreAnswered : Type 0
 CopiesAreAnswered = (script : Script) (w : WorldAt) (target : ℕ) (taken : Copied) → (worker_at w target).stage ≡ Answer taken
     → (step script w (Worker target)).shared.book
-    ≡ answered w.shared.book target (worker_at w target).channel taken (decided w.shared.book target taken)
+    ≡ answered w.shared.book target (worker_at w target).channel taken (target_decision w.shared.book target taken)
 
 -- if nobody has the turn no worker is in Answer or Give, and if one has it that worker alone is: so a worker that tries to take it finds it
 -- held exactly if another worker is in Answer or Give

@@ -7,10 +7,7 @@ use Rattle.sb_actor.specs.declared.acts.Act.TheVariants as act
 use Rattle.sb_actor.specs.Observations.{Observation}
 use Rattle.sb_actor.specs.Observations as seen
 use Rattle.sb_block.specs.Copies.{Copied, mark_of}
-use Rattle.sb_book.specs.Decisions.{decision_of}
-use Rattle.sb_book.specs.Histories.{History, answered, reply_of}
-use Rattle.sb_book.specs.declared.decisions.Decision.{Decision}
-use Rattle.sb_rule.specs.Verdicts.{policy_at}
+use Rattle.sb_book.specs.Histories.{History, answered, reply_of, target_decision}
 use Rattle.sb_core.specs.Words.{loaded, stored, exchanged, words_of, IsWordThere}
 
 -- for each target its channel words, the target whose worker has the turn, and the book with entries and namespace
@@ -47,15 +44,11 @@ abbrev pub turn_taken : ℕ → Option ℕ → Option ℕ
 turn_taken target None = Some target
 turn_taken target (Some holder) = Some holder
 
--- what the policy of a target decides of a copy
-abbrev pub decided : History → ℕ → Copied → Decision
-decided book target taken = decision_of (policy_at book.setting.policies target) taken
-
 -- the book answers the copy of a target's worker: by the decision of the target's policy, with one entry
 abbrev pub on_answer : SharedAt → ℕ → WorkerAt → Option Copied → Effect
 on_answer s target w (Some taken) =
-    finds (seen.Answered (reply_of s.book.space target (mark_of taken) (decided s.book target taken)))
-    (record s { book = answered s.book target w.channel taken (decided s.book target taken) })
+    finds (seen.Answered (reply_of s.book.space target (mark_of taken) (target_decision s.book target taken)))
+    (record s { book = answered s.book target w.channel taken (target_decision s.book target taken) })
 on_answer s target w None = finds seen.Done s
 
 -- a step of the worker of a target: on a word, or on the turn

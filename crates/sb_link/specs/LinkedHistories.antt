@@ -3,9 +3,7 @@ use Rattle.std.specs.Prelude.{◌≡◌, ⊤, ℕ, ◌+◌, Bool, true, false, L
 use Rattle.sb_call.specs.Tags.{shape_of}
 use Rattle.sb_call.specs.declared.replies.Reply.{Reply}
 use Rattle.sb_block.specs.Copies.{Copied, mark_of}
-use Rattle.sb_rule.specs.Verdicts.{policy_at}
-use Rattle.sb_book.specs.Decisions.{decision_of}
-use Rattle.sb_book.specs.Histories.{History, Setting, answered, new_history, reply_of}
+use Rattle.sb_book.specs.Histories.{History, Setting, answered, new_history, reply_of, target_decision}
 use Rattle.sb_book.specs.declared.decisions.Decision.{Decision}
 use Rattle.sb_book.specs.declared.decisions.Decision.TheVariants.{Refused, Denied, Faked, Performed}
 use Rattle.sb_book.specs.declared.entries.Entry.{Entry}
@@ -30,15 +28,11 @@ pub record LinkedHistory : Type 0 where
 abbrev pub new_linked : List Link → Setting → LinkedHistory
 new_linked links setting = record { links = links; history = new_history setting; log = [] }
 
--- what the policy of a target decides on a copy
-abbrev pub decided : History → ℕ → Copied → Decision
-decided h target copy = decision_of (policy_at h.setting.policies target) copy
-
 -- the history after the answer to a copy, by what becomes of it: the book answers the copy with resolved names, or the call stops and changes
 -- nothing but the log
 abbrev pub answered_by : LinkedHistory → ℕ → ℕ → Copied → Result Copied StoppedCall → LinkedHistory
 answered_by s target channel taken (Ok copy) = record s {
-  history = answered s.history target channel copy (decided s.history target copy);
+  history = answered s.history target channel copy (target_decision s.history target copy);
   log = s.log ++ item.Entry taken (length s.history.entries) ∷ [];
 }
 answered_by s target channel taken (Err stopped) =
@@ -61,7 +55,7 @@ all_answered s (a ∷ asked) = all_answered (answered_linked s a.target a.channe
 
 -- the reply to a copy, by what becomes of it
 abbrev pub reply_by : LinkedHistory → ℕ → Copied → Result Copied StoppedCall → Reply
-reply_by s target taken (Ok copy) = reply_of s.history.space target (mark_of copy) (decided s.history target copy)
+reply_by s target taken (Ok copy) = reply_of s.history.space target (mark_of copy) (target_decision s.history target copy)
 reply_by s target taken (Err stopped) = stopped_reply (mark_of taken)
 
 -- the reply to a copy

@@ -1,8 +1,8 @@
 // A book that resolves the names of each copy first.
 ghost use Rattle.std.specs.Prelude.{◌≡◌, ◌<◌, length, slice_index, IfOk, OnErr, OnOk};
 ghost use Rattle.sb_block.specs.Copies.{mark_of};
-ghost use Rattle.sb_book.specs.Histories.{JudgesBy, answered, reply_of, setting_of};
-ghost use Rattle.sb_link.specs.LinkedHistories.{IsLinkedHistory, answered_linked, decided, linked_reply, new_linked};
+ghost use Rattle.sb_book.specs.Histories.{JudgesBy, answered, reply_of, setting_of, target_decision};
+ghost use Rattle.sb_link.specs.LinkedHistories.{IsLinkedHistory, answered_linked, linked_reply, new_linked};
 
 use crate::links::Links;
 use crate::stops::{Stop, link, stopped_reply};
@@ -96,8 +96,8 @@ fn answer_copy<J: Judge>(
     requires target_there { target < length book.old.setting.policies }
     requires channel_there { channel < slice_index book.old.setting.channels target }
     requires judges { JudgesBy (J.policies judge.now) book.old }
-    ensures reply { IfOk result (λ r. r ≡ reply_of book.old.space target (mark_of copy.now) (decided book.old target copy.now)) }
-    ensures ok { OnOk result (book.new ≡ answered book.old target channel copy.now (decided book.old target copy.now)) }
+    ensures reply { IfOk result (λ r. r ≡ reply_of book.old.space target (mark_of copy.now) (target_decision book.old target copy.now)) }
+    ensures ok { OnOk result (book.new ≡ answered book.old target channel copy.now (target_decision book.old target copy.now)) }
     ensures err { OnErr result (book.new ≡ book.old) }
 {
     let decision = decide(alloc, judge, target, copy)?;

@@ -13,10 +13,10 @@ use Rattle.sb_actor.specs.declared.acts.Act.{Act}
 use Rattle.sb_actor.specs.declared.acts.Act.TheVariants as act
 use Rattle.sb_actor.specs.Observations as seen
 use Rattle.sb_block.specs.Copies.{Copied, mark_of}
-use Rattle.sb_book.specs.Histories.{History, answered, reply_of}
+use Rattle.sb_book.specs.Histories.{History, answered, reply_of, target_decision}
 use Rattle.sb_statements.specs.declared.schedules.Actor.{Actor}
 use Rattle.sb_statements.specs.declared.schedules.Actor.TheVariants.{Worker}
-use Rattle.sb_core.specs.Shared.{SharedAt, Effect, finds, on_worker, turn_taken, on_answer, decided}
+use Rattle.sb_core.specs.Shared.{SharedAt, Effect, finds, on_worker, turn_taken, on_answer}
 use Rattle.sb_core.specs.Worlds.{WorldAt, worker_at, step}
 use Rattle.sb_shared.specs.Laws.{Laws}
 use Rattle.sb_shared.specs.Parts.{answer_to, given_view, held_by, marked_part, marked_view, missed_view, moved_view, part_of, shown_part, taken_view}
@@ -85,11 +85,11 @@ stop_kept words n = get_or-set_other words turn_word stop_word n 0 (λ e. absurd
 -- what the book answers depends on the book alone
 answer_seen : (s u : SharedAt) (t : ℕ) (x : WorkerAt) (c : Option Copied) → s.book ≡ u.book → (on_answer s t x c).seen ≡ (on_answer u t x c).seen
 answer_seen s u t x None e = refl
-answer_seen s u t x (Some taken) e = ap (λ (b : History). seen.Answered (reply_of b.space t (mark_of taken) (decided b t taken))) e
+answer_seen s u t x (Some taken) e = ap (λ (b : History). seen.Answered (reply_of b.space t (mark_of taken) (target_decision b t taken))) e
 
 answer_book : (s u : SharedAt) (t : ℕ) (x : WorkerAt) (c : Option Copied) → s.book ≡ u.book → (on_answer s t x c).shared.book ≡ (on_answer u t x c).shared.book
 answer_book s u t x None e = e
-answer_book s u t x (Some taken) e = ap (λ (b : History). answered b t x.channel taken (decided b t taken)) e
+answer_book s u t x (Some taken) e = ap (λ (b : History). answered b t x.channel taken (target_decision b t taken)) e
 
 answer_turn : (s : SharedAt) (t : ℕ) (x : WorkerAt) (c : Option Copied) → (on_answer s t x c).shared.turn ≡ s.turn
 answer_turn s t x None = refl

@@ -1,9 +1,9 @@
 use Rattle.std.proofs.Common.{rules, ◌≡◌, ◌∙◌, ◌++◌, ◌∷◌, [], length, subst, sym, ap}
 use Rattle.std.specs.Prelude.{Ok, Err}
 use Rattle.sb_block.specs.Copies.{mark_of}
-use Rattle.sb_book.specs.Histories.{answered}
+use Rattle.sb_book.specs.Histories.{answered, target_decision}
 use Rattle.sb_link.specs.Answers.{linked, stopped_reply}
-use Rattle.sb_link.specs.LinkedHistories.{IsLinkedHistory, LinkedHistory, answered_by, answered_linked, decided, linked_reply, reply_by}
+use Rattle.sb_link.specs.LinkedHistories.{IsLinkedHistory, LinkedHistory, answered_by, answered_linked, linked_reply, reply_by}
 use Rattle.sb_link.specs.declared.linked_books.Linked.TheVariants as item
 use Rattle.sb_link.proofs.Linking.{entry_is_linked, stop_is_linked}
 use Rattle.sb_link.proofs.linked_books.LinkedBook.answer.Goals as goal
@@ -15,7 +15,7 @@ invariant_of-self-in-Ok g c =
     let channel = c.args.channel in
     let taken = c.args.taken.now in
     let copy = c.in-Ok.copy in
-    let book : c.answer_copy.new.book ≡ answered old.history target channel copy (decided old.history target copy) = search rules in
+    let book : c.answer_copy.new.book ≡ answered old.history target channel copy (target_decision old.history target copy) = search rules in
     let log : c.push_reserved.new.self.items ≡ old.log ++ item.Entry taken (length old.history.entries) ∷ [] = search rules in
     let new : LinkedHistory = record { links = c.self.inside.links; history = c.answer_copy.new.book; log = c.push_reserved.new.self.items } in
     let whole : new ≡ answered_by old target channel taken (Ok copy) = λ i. record { links = c.self.inside.links; history = book i; log = log i } in
@@ -36,7 +36,7 @@ returns-in-Ok-clause-ok g c =
     let channel = c.args.channel in
     let taken = c.args.taken.now in
     let copy = c.in-Ok.copy in
-    let book : c.answer_copy.new.book ≡ answered old.history target channel copy (decided old.history target copy) = search rules in
+    let book : c.answer_copy.new.book ≡ answered old.history target channel copy (target_decision old.history target copy) = search rules in
     let log : c.push_reserved.new.self.items ≡ old.log ++ item.Entry taken (length old.history.entries) ∷ [] = search rules in
     let new : LinkedHistory = record { links = c.self.inside.links; history = c.answer_copy.new.book; log = c.push_reserved.new.self.items } in
     let whole : new ≡ answered_by old target channel taken (Ok copy) = λ i. record { links = c.self.inside.links; history = book i; log = log i } in
