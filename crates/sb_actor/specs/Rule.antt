@@ -12,7 +12,7 @@ use Rattle.std.specs.Prelude.{◌≡◌, ◌⊎◌, ℕ, ◌+◌, ◌*◌, ◌/�
 use Rattle.std.specs.List.{filter}
 use mathlib.Core.Option.{Option, none, some}
 use lib.ListN.{get_elem?}
-use Rattle.sb_block.specs.Copies.{Copied, whole, mark_of}
+use Rattle.sb_block.specs.Copies.{whole, mark_of}
 use Rattle.sb_actor.specs.Views.{Served, Had, ThreadPlace, Try, Fill, Wait, Fetch, ThreadView, WorkerPlace, Look, Count, End, Copy, Whole, Reply, WorkerView}
 use Rattle.sb_actor.specs.Moves.{IsBlock, is_clean}
 use Rattle.sb_actor.specs.Ranges.{IsReplyTo}

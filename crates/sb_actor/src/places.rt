@@ -42,8 +42,8 @@ pub fn statement_at(
     statements_of(script, target, thread).get(place)
 }
 
-/// What holds of each statement of a script by its place: it is sound, and one of at most 4,096 of one of at most 4 threads of one of at
-/// most 8 targets. It does nothing.
+/// What holds of each statement of a script by its place: it is sound, a call encodes, and it is one of at most 4,096 of one of at most 4
+/// threads of one of at most 8 targets. It does nothing.
 pub fn establish_found(script: &SoundScript)
     ensures { AreFound script.now }
 {

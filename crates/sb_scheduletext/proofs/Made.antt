@@ -15,6 +15,7 @@ use Rattle.sb_statements.specs.declared.schedules.Actor.TheVariants.{Worker, Thr
 use Rattle.sb_statements.specs.declared.scripts.TargetScript.{TargetScript}
 use Rattle.sb_text.specs.Numbers.{decimal_of, number_of}
 use Rattle.sb_text.specs.Steps.{◌>>=◌, at_left, or_fault, words_end}
+use Rattle.sb_text.specs.declared.refusals.WordFault.TheVariants.{Extra}
 use Rattle.sb_scheduletext.proofs.Conjunctions.{and_true}
 use Rattle.sb_scheduletext.proofs.PrintedActors.{below_2_32}
 use Rattle.sb_scheduletext.proofs.Passing.{at_made, made, ok_same, passed, was_there}
