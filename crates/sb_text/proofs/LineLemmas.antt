@@ -1,12 +1,15 @@
 -- The lines of a text, cut at its first LF.
-use Rattle.std.proofs.Common.{nat_lt, ◌≡◌, ◌∙◌, ap, refl, sym, subst, suc, not, Bool, true, false, cond, ℕ, ◌+◌, ◌<◌, ◌==◌, List, [], ◌∷◌, Option, None, Some, unwrap_or, length, take, drop, get_or, arith}
-use Rattle.std.proofs.lemmas.List.{length-drop, length-take-le}
+use Rattle.std.proofs.Common.{inl, inr, nat_lt, ◌≡◌, ◌∙◌, ap, refl, sym, subst, suc, not, Bool, true, false, cond, ℕ, ◌+◌, ◌-◌, ◌<◌, ◌≤◌, ◌==◌, List, [], ◌∷◌, Option, None, Some, unwrap_or, length, take, drop, get_or, arith}
+use Rattle.std.proofs.Math.ListN.{drop_of_length-le}
+use Rattle.std.proofs.Math.Seq.{drop-length}
+use Rattle.std.proofs.lemmas.List.{drop-drop, drop-take, length-drop, length-take-le, take-take}
 use Rattle.std.proofs.lemmas.List.Sums.{position_or_len_is}
 use Rattle.memchr.specs.Find.{IsFirstByte, is_byte}
 use Rattle.sb_text.proofs.LineLaws.{lines_some}
 use Rattle.std.proofs.lemmas.Grind.{common_steps}
-use Rattle.std.proofs.lemmas.Bool.Decides.{nat_tests}
+use Rattle.std.proofs.lemmas.Bool.Decides.{leb_tells, nat_tests}
 use Rattle.std.specs.List.{position_or_len}
+use Rattle.std.specs.Prelude.{slice_range}
 use Rattle.sb_text.specs.Lines.{lines_from, raw_lines, is_ended, numbered_from, raw_lines_from}
 
 pub lines_at_first : (bs : List ℕ) → 0 < length bs → raw_lines bs ≡ take (position_or_len (λ b. b == 10) bs) bs ∷ raw_lines (drop (position_or_len (λ b. b == 10) bs + 1) bs)
@@ -85,3 +88,29 @@ raw_lines_at_first bs n h =
         one_more n (is_ended bs) line (raw_lines (c ∷ cs)) (lines_some c cs)
         ∙ ap (λ ends. record { number = n; bytes = line; is_ended = ends } ∷ numbered_from (n + 1) (is_ended bs) (raw_lines (c ∷ cs))) (sym (less (omega arith)))
         ∙ ap (λ ends. record { number = n; bytes = line; is_ended = nat_lt (length line) (length bs) } ∷ numbered_from (n + 1) ends (raw_lines (c ∷ cs))) (later (omega arith))
+
+dropped : (xs : List ℕ) (n : ℕ) → drop (length xs - length (drop n xs)) xs ≡ drop n xs
+dropped xs n = elim (leb_tells n (length xs)) [
+  | inl h ↦ let e : length xs - length (drop n xs) ≡ n = omega (arith, length-drop n xs, h.1) in ap (λ k. drop k xs) e
+  | inr h ↦ let e : length xs - length (drop n xs) ≡ length xs = omega (arith, length-drop n xs, h.1) in
+      ap (λ k. drop k xs) e ∙ drop-length xs ∙ sym (drop_of_length-le xs (omega (arith, h.1)))
+]
+
+-- what is left of a text is what follows the bytes before it, also after more of them
+pub rest_kept : (text rest : List ℕ) (n : ℕ) → drop (length text - length rest) text ≡ rest → drop (length text - length (drop n rest)) text ≡ drop n rest
+rest_kept text rest n e =
+    let at : drop n rest ≡ drop (length text - length rest + n) text = ap (drop n) (sym e) ∙ drop-drop n (length text - length rest) text in
+    ap (λ xs. drop (length text - length xs) text) at ∙ dropped text (length text - length rest + n) ∙ sym at
+
+-- the first bytes of a line that what is left of a text begins with, as bytes of the text
+pub line_in_text : (text rest line : List ℕ) (start n : ℕ) → drop start text ≡ rest → line ≡ take (length line) rest → n ≤ length line
+    → take n line ≡ slice_range text start (start + n)
+line_in_text text rest line start n e f h =
+    let size : start + n - start ≡ n = omega arith in
+    ap (take n) f ∙ take-take n (length line) rest h ∙ ap (take n) (sym e) ∙ ap (λ k. take k (drop start text)) (sym size)
+
+-- a text cut off at the end of a part is that part from its start on
+pub cut_at_end : (text : List ℕ) (start end : ℕ) → start ≤ end → drop start (take end text) ≡ slice_range text start end
+cut_at_end text start end h =
+    let e : end ≡ start + (end - start) = omega arith in
+    ap (λ n. drop start (take n text)) e ∙ drop-take start (end - start) text

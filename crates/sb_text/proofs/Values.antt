@@ -21,8 +21,8 @@ value_past base n bs i h l k =
     ap below_2_64 (at_drop_more (value_from base n) bs i 0 l) ∙ below_none _ (omega (arith, k, value_least base (n * base + digit_of (get_or bs i 0)) (drop (i + 1) bs) h))
 
 -- one decimal digit
-digit_is : (d : ℕ) → is_decimal_digit d ≡ true → 0 * 10 + digit_of d ≡ d - 48
-digit_is d h = grind (arith, nat_tests)
+digit_value : (d : ℕ) → is_decimal_digit d ≡ true → digit_of d ≡ d - 48
+digit_value d h = grind (arith, nat_tests)
 
 digit_small : (d : ℕ) → is_decimal_digit d ≡ true → d - 48 < 2 ^ 64
 digit_small d h = grind (arith, nat_tests)
@@ -34,15 +34,14 @@ abbrev of_digit : ℕ → Bool → Option ℕ
 of_digit d t = if t && true then below_2_64 (0 * 10 + digit_of d) else None
 
 pub one_decimal : (d : ℕ) → is_decimal_digit d ≡ true → decimal_of (d ∷ []) ≡ Some (d - 48)
-one_decimal d h = ap (of_digit d) h ∙ ap below_2_64 (digit_is d h) ∙ below_some (d - 48) (digit_small d h)
+one_decimal d h =
+    let value : 0 * 10 + digit_of d ≡ d - 48 = omega (arith, digit_value d h) in
+    ap (of_digit d) h ∙ ap below_2_64 value ∙ below_some (d - 48) (digit_small d h)
 
 pub no_decimal : (d : ℕ) → is_decimal_digit d ≡ false → decimal_of (d ∷ []) ≡ None
 no_decimal d h = ap (of_digit d) h
 
 -- at most 19 digits
-digit_value : (d : ℕ) → is_decimal_digit d ≡ true → digit_of d ≡ d - 48
-digit_value d h = grind (arith, nat_tests)
-
 digit_most : (d : ℕ) → is_decimal_digit d ≡ true → d - 48 ≤ 9
 digit_most d h = grind (arith, nat_tests)
 

@@ -1,9 +1,10 @@
 // How a text is cut into lines.
-ghost use Rattle.std.specs.Prelude.{◌≡◌, ◌∷◌, ◌==◌, ◌<◌, ◌≤◌, ◌+◌, ◌^◌, [], length, take, drop, slice_index, ℕ, nat_lt, None, Some, IfSome, MatchOption};
+ghost use Rattle.std.specs.Prelude.{◌≡◌, ◌∷◌, ◌==◌, ◌<◌, ◌≤◌, ◌+◌, ◌^◌, [], length, take, drop, slice_index, slice_range, ℕ, nat_lt, None, Some, IfSome, MatchOption};
 ghost use Rattle.std.specs.List.{position_or_len};
 ghost use Rattle.sb_text.specs.Lines.{line_numbered, raw_lines, raw_lines_from, without_cr};
 
 use memchr::memchr;
+use std::ops::Range;
 
 // How many bytes precede the first LF, all if there is none.
 fn lf_place(bytes: &[u8]) -> usize
@@ -87,6 +88,7 @@ pub fn cut_bytes(bytes: &[u8]) -> Option<(&[u8], &[u8])>
     ensures line { MatchOption result (bytes.now ≡ []) (λ cut. raw_lines bytes.now ≡ cut.0.now ∷ raw_lines cut.1.now) }
     ensures raw { IfSome result (λ cut. (n : ℕ) → raw_lines_from n bytes.now
         ≡ record { number = n; bytes = cut.0.now; is_ended = nat_lt (length cut.0.now) (length bytes.now) } ∷ raw_lines_from (n + 1) cut.1.now) }
+    ensures parts { IfSome result (λ cut. (cut.0.now ≡ take (length cut.0.now) bytes.now) × (cut.1.now ≡ drop (length cut.0.now + 1) bytes.now)) }
     ensures within { IfSome result (λ cut. length cut.0.now ≤ length bytes.now) }
     ensures shorter { IfSome result (λ cut. length cut.1.now < length bytes.now) }
 {
@@ -127,19 +129,30 @@ pub fn line_count(bytes: &[u8]) -> u32
     count
 }
 
-/// The line of this number, from 1 among all lines, without its LF and without one CR at its end; None if there is no such line.
-pub fn line_numbered(number: u32, text: &[u8]) -> Option<&[u8]>
-    ensures line { MatchOption result (line_numbered number text.now ≡ None) (λ line. line_numbered number text.now ≡ Some line.now) }
-    ensures within { IfSome result (λ line. length line.now ≤ length text.now) }
+/// Where the line of this number, from 1 among all lines, is in a text, without its LF and without one CR at its end; None if there is no such line.
+#[tactic(auto, using(crate::proofs::LineLemmas::rest_kept, crate::proofs::LineLemmas::line_in_text))]
+pub fn line_place(number: u32, text: &[u8]) -> Option<Range<usize>>
+    ensures line { MatchOption result (line_numbered number text.now ≡ None) (λ place. line_numbered number text.now ≡ Some (slice_range text.now place.start place.end)) }
+    ensures within { IfSome result (λ place. (place.start ≤ place.end) × (place.end ≤ length text.now)) }
 {
     let mut rest = text;
     let mut before = number.saturating_sub(1);
     while let Some((line, later)) = cut_bytes(rest) {
         if before == 0 {
-            return Some(bytes_without_cr(line));
+            let start = text.len() - rest.len();
+            return Some(start..start + text_len(line));
         }
         rest = later;
         before -= 1;
     }
     None
+}
+
+/// The line of this number, from 1 among all lines, without its LF and without one CR at its end; None if there is no such line.
+pub fn line_numbered(number: u32, text: &[u8]) -> Option<&[u8]>
+    ensures line { MatchOption result (line_numbered number text.now ≡ None) (λ line. line_numbered number text.now ≡ Some line.now) }
+    ensures within { IfSome result (λ line. length line.now ≤ length text.now) }
+{
+    let place = line_place(number, text)?;
+    Some(&text[place])
 }

@@ -18,6 +18,7 @@ mod refusals;
 mod spots;
 mod steps;
 mod text_lines;
+mod text_parts;
 mod tokens;
 mod utf8;
 mod word_counts;
@@ -49,6 +50,7 @@ pub use steps::{
     end_at, or_fails, or_fault, quoted_at, quoted_due, version_at, version_digit, word_at, word_due,
 };
 pub use text_lines::TextLines;
+pub use text_parts::TextPart;
 pub use tokens::{Token, Tokens};
 pub use utf8::{NotUtf8, string_of, text_of};
 pub use word_versions::version_in_words;

@@ -90,9 +90,9 @@ fn short_decimal(digits: &[u8]) -> Option<u64>
 pub fn decimal_of(word: &[u8]) -> Option<u64>
     ensures { result ≡ decimal_of word.now }
 {
-    // Most numbers have one digit.
     match word {
         [] => None,
+        // Most numbers have one digit.
         [digit] => decimal_digit(*digit),
         _ if word.len() <= 19 => short_decimal(word),
         _ if word.len() == 20 && are_decimal_digits(word) => value_of(10, word),
