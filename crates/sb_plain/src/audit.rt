@@ -14,8 +14,8 @@ use sb_audit::{AuditAnswer, Refuted, audit};
 use sb_book::{OpenedScript, ReadyScript};
 use sb_compile::Programs;
 use sb_items::NoMemory;
-use sb_outside::{Bytes, Files};
-use sb_text::RawLines;
+use sb_outside::Files;
+use sb_text::{RawLines, TextPart};
 use std::alloc::Global;
 
 /// The most bytes that a transcript may have.
@@ -45,7 +45,7 @@ fn refuted_at(alloc: Global, refuted: Refuted, text: &[u8]) -> Refused
     let status = Status::AuditNo(refuted);
     match raw_line(refuted.line, text) {
         Some(shown) => match Vec::from_slice(alloc, shown) {
-            Ok(shown) => Refused::at(status, Bytes::new(shown)),
+            Ok(shown) => Refused::at(status, TextPart::whole(shown)),
             Err(_) => Refused::new(Status::NoMemory),
         },
         None => Refused::new(status),

@@ -14,7 +14,7 @@ ghost use Rattle.sb_plain.specs.Putting.{EndsSilently, text_of};
 
 use crate::ends::{CommandEnd, Lines, two_texts};
 use crate::outcomes::Status;
-use crate::reading::{no_schedule, opened_in, refused_at, text_in};
+use crate::reading::{no_schedule, opened_in, text_in};
 use crate::refusals::Refused;
 use sb_book::{OpenedScript, Report, RunStart};
 use sb_compile::Programs;
@@ -27,18 +27,17 @@ use sb_transcript::transcript_lines;
 use std::alloc::Global;
 
 // The moves of a text, between targets of this script.
-fn moves_by(alloc: Global, script: &SoundScript, text: &[u8]) -> Result<Moves, Refused>
-    requires { length text.now + 1 < 2 ^ 32 }
-    ensures given { GivesBy (λ m. m) (moves_by text.now (reading (length script.now.targets) text.now)) result }
+fn moves_by(alloc: Global, script: &SoundScript, text: Vec<u8>) -> Result<Moves, Refused>
+    requires { length text.items + 1 < 2 ^ 32 }
+    ensures given { GivesBy (λ m. m) (moves_by text.items (reading (length script.now.targets) text.items)) result }
     ensures between { IfOk result (λ moves. list_all (is_between (length script.now.targets)) moves ≡ true) }
 {
-    match read_moves(alloc, text, script) {
+    match read_moves(alloc, &text, script) {
         Ok(moves) => Ok(moves),
-        Err(MovesRefused::Fault(fault)) => Err(refused_at(
-            alloc,
+        Err(MovesRefused::Fault(fault)) => Err(Refused::at_line(
+            Status::MovesRefused(fault),
             fault.line,
             text,
-            Status::MovesRefused(fault),
         )),
         Err(MovesRefused::NoMemory) => Err(Refused::new(Status::NoMemory)),
     }
@@ -59,7 +58,7 @@ fn moves_in<F: Files>(
     ensures caused { IsCausedBy (F.held files.old) (Rose (F.faults files.old) (F.faults files.new)) result }
 {
     let text = text_in(alloc, files, name, 3)?;
-    moves_by(alloc, script, &text)
+    moves_by(alloc, script, text)
 }
 
 // How moves are answered after a run, one after another, from the namespace and the handles that it reports.

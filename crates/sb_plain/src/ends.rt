@@ -8,6 +8,7 @@ use crate::outcomes::{Outcome, Status};
 use sb_book::Report;
 use sb_items::{Items, NoMemory};
 use sb_outside::{Bytes, Sink, put_lines};
+use sb_text::TextPart;
 use sb_transcript::LineBuffer;
 use std::alloc::Global;
 use std::marker::Model;
@@ -83,7 +84,7 @@ pub fn two_texts(alloc: Global, first: Vec<u8>, second: Vec<u8>) -> Result<Items
 pub struct CommandEnd {
     pub(crate) lines: Result<Lines, Status>,
     pub(crate) report: Option<Report>,
-    pub(crate) noted: Option<Bytes>,
+    pub(crate) noted: Option<TextPart>,
 }
 
 impl Drop for CommandEnd {

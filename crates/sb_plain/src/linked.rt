@@ -8,7 +8,7 @@ ghost use Rattle.sb_plain.specs.Linked.{calls_end, calls_text, linked_end, links
 
 use crate::ends::{CommandEnd, Lines, one_text};
 use crate::outcomes::Status;
-use crate::reading::{opened_in, refused_at, text_in};
+use crate::reading::{opened_in, text_in};
 use crate::refusals::Refused;
 use sb_book::{OpenedScript, RunStart};
 use sb_compile::Programs;
@@ -18,17 +18,16 @@ use sb_outside::Files;
 use std::alloc::Global;
 
 // The links of a text.
-fn links_by(alloc: Global, text: &[u8]) -> Result<Links, Refused>
-    requires { length text.now + 1 < 2 ^ 32 }
-    ensures { GivesBy (λ l. l) (links_by text.now (reading text.now)) result }
+fn links_by(alloc: Global, text: Vec<u8>) -> Result<Links, Refused>
+    requires { length text.items + 1 < 2 ^ 32 }
+    ensures { GivesBy (λ l. l) (links_by text.items (reading text.items)) result }
 {
-    match read_links(alloc, text) {
+    match read_links(alloc, &text) {
         Ok(links) => Ok(links),
-        Err(LinksRefused::Fault(fault)) => Err(refused_at(
-            alloc,
+        Err(LinksRefused::Fault(fault)) => Err(Refused::at_line(
+            Status::LinksRefused(fault),
             fault.line,
             text,
-            Status::LinksRefused(fault),
         )),
         Err(LinksRefused::NoMemory) => Err(Refused::new(Status::NoMemory)),
     }
@@ -43,7 +42,7 @@ fn links_in<F: Files>(alloc: Global, files: &mut F, name: &str) -> Result<Links,
     ensures caused { IsCausedBy (F.held files.old) (Rose (F.faults files.old) (F.faults files.new)) result }
 {
     let text = text_in(alloc, files, name, 3)?;
-    links_by(alloc, &text)
+    links_by(alloc, text)
 }
 
 // The lines of the answers to the calls of a script that was read, which are judged by the programs of the policies.

@@ -5,10 +5,10 @@ use sb_book::Report;
 use sb_commands::UsageFault;
 use sb_dup::MoveFault;
 use sb_link::LinkFault;
-use sb_outside::Bytes;
 use sb_ruletext::PolicyFault;
 use sb_scheduletext::ScheduleFault;
 use sb_scripttext::ScriptFault;
+use sb_text::TextPart;
 
 /// How a command ended. Files are numbered by their place in the command, from 1.
 #[derive(Clone, Copy)]
@@ -48,7 +48,7 @@ pub struct Outcome {
     /// How the command ended.
     pub status: Status,
     /// The line of a refused text that has the fault, without its line end; or the policy text whose notes are told, if the command has an end.
-    pub shown: Option<Bytes>,
+    pub shown: Option<TextPart>,
     /// What its run gave.
     pub report: Option<Report>,
 }

@@ -1,5 +1,5 @@
 // The files of commands, read and found to be policies, a script for targets of these, and a schedule of its actors.
-ghost use Rattle.std.specs.Prelude.{◌≡◌, ◌≤◌, ◌<◌, ◌+◌, ◌^◌, ◌⊎◌, length, true, IfOk, OnOk, Some};
+ghost use Rattle.std.specs.Prelude.{◌≡◌, ◌≤◌, ◌<◌, ◌+◌, ◌^◌, length, true, IfOk, OnOk, Some};
 ghost use Rattle.std.specs.List.{list_all};
 ghost use Rattle.sb_outside.specs.Outside.{Rose};
 ghost use Rattle.sb_ruletext.specs.PolicyTexts.{reading};
@@ -8,21 +8,18 @@ ghost use Rattle.sb_scripttext.specs.ScriptTexts as scripts;
 ghost use Rattle.sb_statements.specs.Actors.{is_step_there};
 ghost use Rattle.sb_commands.specs.Commands.{named};
 ghost use Rattle.sb_plain.specs.Coming.{GivesBy, IsCausedBy, IsOpened, IsRead, IsScheduled};
-ghost use Rattle.sb_plain.specs.Contents.{most_bytes, no_schedule, noted_policies_in, policies_by, policies_in, refused, refused_at, schedule_by, schedule_in, script_by, script_in, status_of, text_in, text_within};
-ghost use Rattle.sb_plain.specs.Outcomes.{IsRefusal};
+ghost use Rattle.sb_plain.specs.Contents.{most_bytes, no_schedule, noted_policies_in, policies_by, policies_in, refused, schedule_by, schedule_in, script_by, script_in, status_of, text_in, text_within};
 ghost use Rattle.sb_plain.specs.Replay.{listed};
-ghost use Rattle.sb_plain.specs.declared.outcomes.Status.TheVariants.{NoMemory};
 
 use crate::outcomes::Status;
 use crate::refusals::Refused;
 use sb_book::OpenedScript;
-use sb_outside::{Bytes, FileFault, Files};
+use sb_outside::{FileFault, Files};
 use sb_rule::WellMadePolicies;
 use sb_ruletext::{TextRefused, read_policies};
 use sb_scheduletext::{MOST_ROUNDS, ScheduleRefused, read_schedule};
 use sb_scripttext::{ScriptRefused, read_script};
 use sb_statements::{Schedule, Script, Steps};
-use sb_text::line_numbered;
 use std::alloc::Global;
 
 /// The most bytes that a file may have.
@@ -37,20 +34,6 @@ fn refused_by(fault: FileFault, which: u8) -> Refused
         FileFault::TooLong => Refused::new(Status::TooLong { which }),
         FileFault::Failed => Refused::new(Status::ReadFault { which }),
         FileFault::NoMemory => Refused::new(Status::NoMemory),
-    }
-}
-
-/// The refusal at a line of a text, which is shown with it.
-pub fn refused_at(alloc: Global, line: u32, text: &[u8], status: Status) -> Refused
-    requires { IsRefusal status }
-    ensures { (result ≡ refused_at line text.now status) ⊎ (result ≡ refused NoMemory) }
-{
-    match line_numbered(line, text) {
-        Some(shown) => match Vec::from_slice(alloc, shown) {
-            Ok(shown) => Refused::at(status, Bytes::new(shown)),
-            Err(_) => Refused::new(Status::NoMemory),
-        },
-        None => Refused::new(status),
     }
 }
 
@@ -92,18 +75,18 @@ pub fn text_in<F: Files>(
     text_within(alloc, files, name, which, MOST_BYTES)
 }
 
-// The policies of a text.
-fn policies_by(alloc: Global, text: &[u8]) -> Result<WellMadePolicies, Refused>
-    requires { length text.now + 1 < 2 ^ 32 }
-    ensures { GivesBy (λ p. p.list) (policies_by text.now (reading text.now)) result }
+// A text, and its policies.
+fn policies_by(alloc: Global, text: Vec<u8>) -> Result<(Vec<u8>, WellMadePolicies), Refused>
+    requires { length text.items + 1 < 2 ^ 32 }
+    ensures policies { GivesBy (λ r. r.1.list) (policies_by text.items (reading text.items)) result }
+    ensures text { IfOk result (λ r. r.0.items ≡ text.items) }
 {
-    match read_policies(alloc, text) {
-        Ok(policies) => Ok(policies),
-        Err(TextRefused::Fault(fault)) => Err(refused_at(
-            alloc,
+    match read_policies(alloc, &text) {
+        Ok(policies) => Ok((text, policies)),
+        Err(TextRefused::Fault(fault)) => Err(Refused::at_line(
+            Status::PolicyRefused(fault),
             fault.line,
             text,
-            Status::PolicyRefused(fault),
         )),
         Err(TextRefused::NoMemory) => Err(Refused::new(Status::NoMemory)),
     }
@@ -122,7 +105,8 @@ pub fn policies_in<F: Files>(
     ensures caused { IsCausedBy (F.held files.old) (Rose (F.faults files.old) (F.faults files.new)) result }
 {
     let text = text_in(alloc, files, name, 1)?;
-    policies_by(alloc, &text)
+    let (_, policies) = policies_by(alloc, text)?;
+    Ok(policies)
 }
 
 /// The text of the first file, and its policies.
@@ -139,7 +123,7 @@ pub fn noted_policies_in<F: Files>(
     ensures caused { IsCausedBy (F.held files.old) (Rose (F.faults files.old) (F.faults files.new)) result }
 {
     let text = text_in(alloc, files, name, 1)?;
-    let policies = policies_by(alloc, &text)?;
+    let (text, policies) = policies_by(alloc, text)?;
     Ok((text, policies))
 }
 
@@ -147,19 +131,18 @@ pub fn noted_policies_in<F: Files>(
 fn script_by(
     alloc: Global,
     policies: WellMadePolicies,
-    text: &[u8],
+    text: Vec<u8>,
 ) -> Result<OpenedScript, Refused>
-    requires short { length text.now + 1 < 2 ^ 32 }
-    ensures script { GivesBy (λ s. s.script) (script_by text.now (scripts.reading policies.list text.now)) result }
+    requires short { length text.items + 1 < 2 ^ 32 }
+    ensures script { GivesBy (λ s. s.script) (script_by text.items (scripts.reading policies.list text.items)) result }
     ensures policies { IfOk result (λ s. s.policies ≡ policies.list) }
 {
-    match read_script(alloc, text, policies) {
+    match read_script(alloc, &text, policies) {
         Ok(opened) => Ok(opened),
-        Err(ScriptRefused::Fault(fault)) => Err(refused_at(
-            alloc,
+        Err(ScriptRefused::Fault(fault)) => Err(Refused::at_line(
+            Status::ScriptRefused(fault),
             fault.line,
             text,
-            Status::ScriptRefused(fault),
         )),
         Err(ScriptRefused::NoMemory) => Err(Refused::new(Status::NoMemory)),
     }
@@ -180,7 +163,7 @@ fn script_in<F: Files>(
     ensures caused { IsCausedBy (F.held files.old) (Rose (F.faults files.old) (F.faults files.new)) result }
 {
     let text = text_in(alloc, files, name, 2)?;
-    script_by(alloc, policies, &text)
+    script_by(alloc, policies, text)
 }
 
 /// The policies of the first file, and the script of the second for targets of these. The second is read once the first was read and has no fault.
@@ -212,18 +195,17 @@ pub fn no_schedule(alloc: Global) -> Schedule
 }
 
 // The schedule of a text, for the actors of this script.
-fn schedule_by(alloc: Global, script: &Script, text: &[u8]) -> Result<Schedule, Refused>
-    requires { length text.now + 1 < 2 ^ 32 }
-    ensures given { GivesBy (λ s. s) (schedule_by text.now (schedules.reading script.now.targets text.now)) result }
+fn schedule_by(alloc: Global, script: &Script, text: Vec<u8>) -> Result<Schedule, Refused>
+    requires { length text.items + 1 < 2 ^ 32 }
+    ensures given { GivesBy (λ s. s) (schedule_by text.items (schedules.reading script.now.targets text.items)) result }
     ensures there { IfOk result (λ s. list_all (is_step_there script.now.targets) s.steps ≡ true) }
 {
-    match read_schedule(alloc, text, script) {
+    match read_schedule(alloc, &text, script) {
         Ok(schedule) => Ok(schedule),
-        Err(ScheduleRefused::Fault(fault)) => Err(refused_at(
-            alloc,
+        Err(ScheduleRefused::Fault(fault)) => Err(Refused::at_line(
+            Status::ScheduleRefused(fault),
             fault.line,
             text,
-            Status::ScheduleRefused(fault),
         )),
         Err(ScheduleRefused::NoMemory) => Err(Refused::new(Status::NoMemory)),
     }
@@ -244,7 +226,7 @@ fn schedule_in<F: Files>(
     ensures caused { IsCausedBy (F.held files.old) (Rose (F.faults files.old) (F.faults files.new)) result }
 {
     let text = text_in(alloc, files, name, 3)?;
-    schedule_by(alloc, script, &text)
+    schedule_by(alloc, script, text)
 }
 
 /// The schedule of the third file, if one is named. If none is named no file is read.

@@ -1,17 +1,17 @@
 // Why commands are not carried out.
 ghost use Rattle.std.specs.Prelude.{◌≡◌, None, Some};
-ghost use Rattle.sb_plain.specs.Contents.{refused};
+ghost use Rattle.sb_plain.specs.Contents.{refused, refused_at};
 ghost use Rattle.sb_plain.specs.Outcomes.{IsRefusal};
 
 use crate::outcomes::{Outcome, Status};
 use sb_items::NoMemory;
-use sb_outside::Bytes;
+use sb_text::TextPart;
 use std::marker::Model;
 
 /// Why a command is not carried out: its status, which is one of those before anything is put, and the line of a text that is shown with it.
 pub struct Refused {
     status: Status,
-    shown: Option<Bytes>,
+    shown: Option<TextPart>,
 }
 
 impl Drop for Refused {
@@ -47,13 +47,24 @@ impl Refused {
     }
 
     /// A refusal that shows this line.
-    pub fn at(status: Status, line: Bytes) -> Refused
+    pub fn at(status: Status, line: TextPart) -> Refused
         requires { IsRefusal status }
         ensures { result ≡ record { status = status; shown = Some line } }
     {
         Refused {
             status,
             shown: Some(line),
+        }
+    }
+
+    /// A refusal at the line of this number of a text, which is shown. Does not allocate: the line stays in the memory of the text.
+    pub fn at_line(status: Status, line: u32, text: Vec<u8>) -> Refused
+        requires { IsRefusal status }
+        ensures { result ≡ refused_at line text.items status }
+    {
+        Refused {
+            status,
+            shown: TextPart::line(line, text),
         }
     }
 

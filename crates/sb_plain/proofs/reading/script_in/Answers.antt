@@ -5,5 +5,5 @@ use Rattle.sb_plain.proofs.reading.script_in.Goals as goal
 
 pub returns-clause-caused : goal.returns-clause-caused
 returns-clause-caused g c =
-    script_caused (λ s. s.script) c.deref.result.now (g.F.Files.held c.args.files.now) (Rose (g.F.Files.faults c.args.files.now) (g.F.Files.faults c.text_in.new.files))
-    (reading c.args.policies.list c.deref.result.now) c.script_by.result c.script_by.ensures.script
+    script_caused (λ s. s.script) c.in_ok-text.text.items (g.F.Files.held c.args.files.now) (Rose (g.F.Files.faults c.args.files.now) (g.F.Files.faults c.text_in.new.files))
+    (reading c.args.policies.list c.in_ok-text.text.items) c.script_by.result c.script_by.ensures.script
