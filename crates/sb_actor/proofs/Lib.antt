@@ -20,5 +20,6 @@ pub mod ThreadSteps
 pub mod ThreadTies
 pub mod Ties
 pub mod WaitCauses
+pub mod Waiting
 pub mod Worker
 pub mod WorkerSteps

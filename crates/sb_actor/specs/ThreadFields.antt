@@ -1,5 +1,5 @@
 -- How the fields of a thread are read.
-use Rattle.std.specs.Prelude.{ℕ, Bool, true, false, ◌&&◌, ◌==◌, nat_lt, List, length, take}
+use Rattle.std.specs.Prelude.{ℕ, Bool, true, false, ◌&&◌, ◌==◌, nat_lt, List, length, slice_index_or, take}
 use Rattle.sb_statements.specs.Limits.{most_statements}
 use Rattle.sb_actor.specs.ThreadStages.{ThreadStage, Try, Fill, Send, Wait, Fetch, Free, Abandon, Stray, Over}
 use Rattle.sb_actor.specs.declared.phases.ThreadPhase.{ThreadPhase}
@@ -39,6 +39,18 @@ is_placed phase.Fetch place = nat_lt place most_statements
 is_placed phase.Free place = nat_lt place most_statements
 is_placed phase.Abandon place = nat_lt place most_statements
 is_placed phase.Stray place = nat_lt place most_statements
+
+-- the thread waits for the reply on a clean channel
+abbrev pub is_waiting : ThreadPhase → ℕ → List Bool → Bool
+is_waiting phase.Wait c clean = slice_index_or clean c true
+is_waiting phase.Try c clean = false
+is_waiting phase.Fill c clean = false
+is_waiting phase.Send c clean = false
+is_waiting phase.Fetch c clean = false
+is_waiting phase.Free c clean = false
+is_waiting phase.Abandon c clean = false
+is_waiting phase.Stray c clean = false
+is_waiting phase.Over c clean = false
 
 -- the thread frees its channel
 abbrev pub is_free : ThreadStage → Bool

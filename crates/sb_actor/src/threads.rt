@@ -44,6 +44,8 @@ pub struct ThreadState {
     clean: ArrayVec<bool, 8>,
     place: u32,
     phase: ThreadPhase,
+    // Whether it waits for the reply on a clean channel. Most steps are such, and ask no more.
+    waits: bool,
     channel: u32,
     count: u32,
     all_abandoned: bool,
@@ -56,7 +58,7 @@ pub struct ThreadState {
 impl Model for ThreadState {
     ghost use Rattle.std.specs.Prelude.{◌≡◌, ◌<◌, ◌≤◌, length, true};
     ghost use Rattle.sb_actor.specs.ThreadStages.{ThreadAt};
-    ghost use Rattle.sb_actor.specs.ThreadFields.{thread_stage, is_thread_sound, is_placed};
+    ghost use Rattle.sb_actor.specs.ThreadFields.{thread_stage, is_thread_sound, is_placed, is_waiting};
 
     ghost Value = { ThreadAt };
 
@@ -71,7 +73,7 @@ impl Model for ThreadState {
     } };
 
     ghost invariant = { λ x. (x.channel < length x.clean.items) × (length x.clean.items ≤ 8) × (0 < x.patience)
-        × (length x.block ≤ 64) × (length x.reply ≡ 12) × (is_placed x.phase x.place ≡ true)
+        × (length x.block ≤ 64) × (length x.reply ≡ 12) × (x.waits ≡ is_waiting x.phase x.channel x.clean.items) × (is_placed x.phase x.place ≡ true)
         × (is_thread_sound x.phase x.count x.at x.most x.patience x.block ≡ true) };
 }
 
@@ -175,6 +177,7 @@ impl ThreadState {
             clean: clean_upto(table, script, target, channels),
             place: 0,
             phase: ThreadPhase::Over,
+            waits: false,
             channel: 0,
             count: 0,
             all_abandoned: true,
@@ -192,6 +195,7 @@ impl ThreadState {
         ensures { self.new ≡ begins script.now self.old place }
     {
         self.place = place;
+        self.waits = false;
         match sound_statement_at(script, self.target, self.thread as usize, place as usize) {
             Some(Statement::Call { tag, args }) => {
                 self.block = block_of(*tag, args.as_slice(), mark_at(self.thread, place));
@@ -268,6 +272,7 @@ impl ThreadState {
         self.count = rounds;
         self.all_abandoned = all_abandoned;
         self.phase = ThreadPhase::Try;
+        self.waits = false;
         false
     }
 
@@ -326,6 +331,7 @@ impl ThreadState {
             self.channel = channel;
             self.at = 0;
             self.phase = ThreadPhase::Fill;
+            self.waits = false;
             return false;
         }
         let all_abandoned = all_abandoned && found == ABANDONED;
@@ -357,6 +363,7 @@ impl ThreadState {
         self.channel = channel;
         self.count = 0;
         self.phase = ThreadPhase::Wait;
+        self.waits = is_clean(self.clean.as_slice(), channel);
         false
     }
 
@@ -370,11 +377,13 @@ impl ThreadState {
     {
         self.channel = channel;
         self.count = loads;
+        self.waits = false;
         if state == ACKNOWLEDGED {
             self.at = 0;
             self.phase = ThreadPhase::Fetch;
         } else if is_clean(self.clean.as_slice(), channel) {
             self.phase = ThreadPhase::Wait;
+            self.waits = true;
         } else if loads + 1 == self.patience {
             self.phase = ThreadPhase::Abandon;
         } else {
@@ -412,6 +421,7 @@ impl ThreadState {
         self.count = loads;
         self.most = most;
         self.phase = ThreadPhase::Stray;
+        self.waits = false;
         false
     }
 
@@ -623,19 +633,11 @@ impl ThreadState {
     /// The channel on which it waits for the reply to its call, from 0, if that channel is clean. The thread is then as it is until a load of
     /// the channel's state finds 4.
     #[inline(always)]
+    #[tactic(auto, using(crate::proofs::Waiting::channel_by_phase))]
     pub fn reply_channel(&self) -> Option<u32>
         ensures { result ≡ reply_channel self.now }
     {
-        match self.phase {
-            ThreadPhase::Wait => {
-                if is_clean(self.clean.as_slice(), self.channel) {
-                    Some(self.channel)
-                } else {
-                    None
-                }
-            }
-            _ => None,
-        }
+        if self.waits { Some(self.channel) } else { None }
     }
 
     /// Counts a load of a wait statement that did not find its value. False if that load is the last, which ends the statement, and if the
