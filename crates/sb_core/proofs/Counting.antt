@@ -4,7 +4,6 @@ use native.Mathlib.Numerals.{unary_clauses}
 use Rattle.std.specs.Prelude.{slice_get}
 use Rattle.sb_statements.specs.declared.scripts.Script.{Script}
 use Rattle.sb_statements.specs.declared.scripts.TargetScript.{TargetScript}
-use Rattle.sb_core.specs.Actors.{first_actors, target_actors}
 use Rattle.sb_statements.specs.Actors.{thread_count}
 use Rattle.sb_core.specs.Words.{free_channel, free_channels}
 use Rattle.sb_core.specs.Worlds.{first_run, first_runs, first_worker, first_workers, start_threads}
@@ -14,12 +13,6 @@ channels_next n = refl
 
 pub channels_more : (n : ℕ) → free_channels (n + 1) ≡ free_channels n ++ free_channel
 channels_more n = simp unary_clauses (channels_next n)
-
-actors_next : (targets : List TargetScript) (n : ℕ) → first_actors targets (suc n) ≡ first_actors targets n ++ target_actors targets n
-actors_next targets n = refl
-
-pub actors_more : (targets : List TargetScript) (n : ℕ) → first_actors targets (n + 1) ≡ first_actors targets n ++ target_actors targets n
-actors_more targets n = simp unary_clauses (actors_next targets n)
 
 -- a list of the first this many
 listed_next : {X : Type 0} (f : ℕ → X) (g : ℕ → List X) → ((m : ℕ) → g (suc m) ≡ g m ++ f m ∷ []) → (n : ℕ) → g (n + 1) ≡ g n ++ f n ∷ []

@@ -1,9 +1,11 @@
 -- Folds of steps, one step at a time.
-use Rattle.std.proofs.Common.{◌≡◌, ℕ, zero, suc, ◌+◌, true, false, List, [], ◌∷◌, replicate, refl, sym, ◌∙◌, ◌-◌, ◌<◌, arith, ap}
+use Rattle.std.proofs.Common.{◌≡◌, ℕ, zero, suc, ◌+◌, true, false, List, [], ◌∷◌, replicate, slice_get, refl, sym, ◌∙◌, ◌-◌, ◌<◌, arith, ap}
 use native.Mathlib.Numerals.{unary_clauses}
+use Rattle.sb_statements.specs.Actors.{thread_count}
 use Rattle.sb_statements.specs.declared.schedules.Actor.{Actor}
+use Rattle.sb_statements.specs.declared.schedules.Actor.TheVariants.{Thread, Worker}
 use Rattle.sb_statements.specs.declared.scripts.Script.{Script}
-use Rattle.sb_core.specs.Actors.{scheduled}
+use Rattle.sb_core.specs.Actors.{first_actors, first_threads, scheduled, target_actors}
 use Rattle.sb_core.specs.Drains.{is_settled, pass_below, one_pass, drained_by}
 use Rattle.sb_core.specs.Laws.{OrdersAreSchedules, StepsAreFolds}
 use Rattle.sb_core.specs.Worlds.{WorldAt, all_finished, round, rounds, step, steps, worker_step}
@@ -15,6 +17,23 @@ steps_append script (actor ∷ first) later w = steps_append script first later 
 pub scheduled_more : (script : Script) (entry : Actor × ℕ) (later : List (Actor × ℕ)) (w : WorldAt)
     → steps script (scheduled (entry ∷ later)) w ≡ steps script (scheduled later) (steps script (replicate entry.1 entry.0) w)
 scheduled_more script entry later w = steps_append script (replicate entry.1 entry.0) (scheduled later) w
+
+-- one thread more of a target, and one target more
+thread_next : (script : Script) (target n : ℕ) (w : WorldAt)
+    → steps script (first_threads target (suc n)) w ≡ step script (steps script (first_threads target n) w) (Thread target n)
+thread_next script target n w = steps_append script (first_threads target n) (Thread target n ∷ []) w
+
+pub threads_more : (script : Script) (target n : ℕ) (w : WorldAt)
+    → steps script (first_threads target (n + 1)) w ≡ step script (steps script (first_threads target n) w) (Thread target n)
+threads_more script target n w = simp unary_clauses (thread_next script target n w)
+
+target_next : (script : Script) (n : ℕ) (w : WorldAt) → steps script (first_actors script.targets (suc n)) w
+    ≡ steps script (first_threads n (thread_count (slice_get script.targets n))) (step script (steps script (first_actors script.targets n) w) (Worker n))
+target_next script n w = steps_append script (first_actors script.targets n) (target_actors script.targets n) w
+
+pub targets_more : (script : Script) (n : ℕ) (w : WorldAt) → steps script (first_actors script.targets (n + 1)) w
+    ≡ steps script (first_threads n (thread_count (slice_get script.targets n))) (step script (steps script (first_actors script.targets n) w) (Worker n))
+targets_more script n w = simp unary_clauses (target_next script n w)
 
 pub orders_are_schedules : OrdersAreSchedules
 orders_are_schedules [] = refl

@@ -10,7 +10,6 @@
 // every thread is finished, its report is that of a run by a schedule (`ends_are_runs`), so that all of this holds of it.
 #![tactic(auto)]
 
-mod actors;
 mod drains;
 mod finishes;
 mod laws;

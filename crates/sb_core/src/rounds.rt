@@ -1,11 +1,11 @@
 // Steps in turn: those of a schedule, and rounds.
-ghost use Rattle.std.specs.Prelude.{◌≡◌, replicate, true, OnOk};
+ghost use Rattle.std.specs.Prelude.{◌≡◌, ◌<◌, length, replicate, slice_get, true, OnOk};
 ghost use Rattle.std.specs.List.{list_all};
 ghost use Rattle.sb_book.specs.Histories.{JudgesBy};
-ghost use Rattle.sb_core.specs.Actors.{are_there, round_actors, scheduled};
-ghost use Rattle.sb_statements.specs.Actors.{is_step_there, is_there};
+ghost use Rattle.sb_core.specs.Actors.{first_threads, scheduled};
+ghost use Rattle.sb_statements.specs.Actors.{is_step_there, is_there, thread_count};
 ghost use Rattle.sb_core.specs.Kept.{IsRunning};
-ghost use Rattle.sb_core.specs.Worlds.{steps, rounds};
+ghost use Rattle.sb_core.specs.Worlds.{steps, round, rounds};
 
 use crate::worlds::World;
 use sb_items::NoMemory;
@@ -64,25 +64,45 @@ pub(crate) fn make_steps<J: Judge>(
     Ok(())
 }
 
-// One step of each of these actors, in turn.
+// One step of each thread of a target, in order.
+#[tactic(auto, using(crate::proofs::Folding::threads_more))]
+fn make_thread_steps<J: Judge>(
+    alloc: Global,
+    judge: &J,
+    script: &SoundScript,
+    world: &mut World,
+    target: u32,
+) -> Result<(), NoMemory>
+    requires judge { JudgesBy (J.policies judge.now) world.old.shared.book }
+    requires running { IsRunning script.now world.old }
+    requires there { target < length script.now.targets }
+    ensures ok { OnOk result (world.new ≡ steps script.now (first_threads target (thread_count (slice_get script.now.targets target))) world.old) }
+    ensures running { IsRunning script.now world.new }
+    ensures setting { world.new.shared.book.setting ≡ world.old.shared.book.setting }
+{
+    for thread in 0..script.thread_count(target) {
+        world.step(alloc, judge, script, Actor::Thread { target, thread })?;
+    }
+    Ok(())
+}
+
+// One step of each actor: for each target its worker, then its threads in order.
+#[tactic(auto, using(crate::proofs::Folding::targets_more))]
 fn make_round<J: Judge>(
     alloc: Global,
     judge: &J,
     script: &SoundScript,
     world: &mut World,
-    actors: &[Actor],
 ) -> Result<(), NoMemory>
     requires judge { JudgesBy (J.policies judge.now) world.old.shared.book }
     requires running { IsRunning script.now world.old }
-    requires there { are_there script.now.targets actors.now ≡ true }
-    ensures ok { OnOk result (world.new ≡ steps script.now actors.now world.old) }
+    ensures ok { OnOk result (world.new ≡ round script.now world.old) }
     ensures running { IsRunning script.now world.new }
     ensures setting { world.new.shared.book.setting ≡ world.old.shared.book.setting }
 {
-    let mut rest = actors;
-    while let Some((actor, later)) = rest.split_first() {
-        world.step(alloc, judge, script, *actor)?;
-        rest = later;
+    for target in 0..script.target_count() {
+        world.step(alloc, judge, script, Actor::Worker { target })?;
+        make_thread_steps(alloc, judge, script, world, target)?;
     }
     Ok(())
 }
@@ -92,25 +112,23 @@ fn make_round<J: Judge>(
 ///
 /// # Errors
 /// `NoMemory` if there was none for a step.
-#[tactic(auto, using(crate::proofs::Finished::rounds_over, crate::proofs::Finished::rounds_busy, crate::proofs::Stepping::rounds_there))]
+#[tactic(auto, using(crate::proofs::Finished::rounds_over, crate::proofs::Finished::rounds_busy))]
 pub(crate) fn make_rounds<J: Judge>(
     alloc: Global,
     judge: &J,
     script: &SoundScript,
     world: &mut World,
-    actors: &[Actor],
     count: u32,
 ) -> Result<(), NoMemory>
     requires judge { JudgesBy (J.policies judge.now) world.old.shared.book }
     requires running { IsRunning script.now world.old }
-    requires actors { actors.now ≡ round_actors script.now.targets }
     ensures ok { OnOk result (world.new ≡ rounds count script.now world.old) }
     ensures running { IsRunning script.now world.new }
     ensures setting { world.new.shared.book.setting ≡ world.old.shared.book.setting }
 {
     let mut left = count;
     while left > 0 && !world.all_over() {
-        make_round(alloc, judge, script, world, actors)?;
+        make_round(alloc, judge, script, world)?;
         left -= 1;
     }
     Ok(())

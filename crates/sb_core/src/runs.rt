@@ -8,7 +8,6 @@ ghost use Rattle.sb_statements.specs.Actors.{is_step_there};
 ghost use Rattle.sb_core.specs.Reports.{report_of, results_of};
 ghost use Rattle.sb_core.specs.Runs.{ended_from, ran, most_results};
 
-use crate::actors::round_actors;
 use crate::lists::{results_from, words_into};
 use crate::rounds::{make_rounds, make_steps};
 use crate::shared::Shared;
@@ -116,8 +115,7 @@ pub fn run<J: Judge>(
 {
     let script = start.ready().script();
     let mut world = World::start(alloc, start)?;
-    let actors = round_actors(alloc, script)?;
     make_steps(alloc, judge, script, &mut world, schedule.steps.as_slice())?;
-    make_rounds(alloc, judge, script, &mut world, &actors, schedule.rounds)?;
+    make_rounds(alloc, judge, script, &mut world, schedule.rounds)?;
     ended(alloc, judge, script, world)
 }

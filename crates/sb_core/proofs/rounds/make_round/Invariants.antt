@@ -1,13 +1,11 @@
-use Rattle.std.proofs.Common.{◌≡◌, true, length}
-use Rattle.sb_core.specs.Actors.{are_there}
+use Rattle.std.proofs.Common.{◌≡◌}
+use Rattle.sb_core.specs.Actors.{first_actors}
 use Rattle.sb_core.specs.Kept.{IsRunning}
 use Rattle.sb_core.specs.Worlds.{steps}
 use Rattle.sb_core.proofs.rounds.make_round.Given as goal
 
-abbrev pub invariant-loop-actor : goal.invariant-loop-actor
-invariant-loop-actor g l =
-    (steps l.script l.rest l.world ≡ steps l.script l.actors l.fn.world) × (are_there l.script.targets l.rest ≡ true)
+-- the actors of the targets before this one made their steps
+abbrev pub invariant-loop-target : goal.invariant-loop-target
+invariant-loop-target g l =
+    (l.world ≡ steps l.script (first_actors l.script.targets l.target) l.fn.world)
     × IsRunning l.script l.world × (l.world.shared.book.setting ≡ l.fn.world.shared.book.setting)
-
-abbrev pub decreases-loop-actor : goal.decreases-loop-actor
-decreases-loop-actor g l = length l.rest
