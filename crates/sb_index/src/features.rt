@@ -88,7 +88,7 @@ pub fn bounds_of(
     Bounds::new(alloc, &bounds, bounds_for(rules, tag))
 }
 
-// The front of a parameter that has the most bounds.
+// The front of a parameter that has the most bounds: the first, if several have as many.
 fn best_front(
     alloc: Global,
     rules: &[Rule],
@@ -97,7 +97,11 @@ fn best_front(
 ) -> Result<Feature, NoMemory> {
     let mut best = Feature::Front { param, skip: 0 };
     let mut most = 0;
+    let full = bounds_for(rules, tag);
     for skip in 0..MOST_SKIPPED {
+        if most >= full {
+            break;
+        }
         let feature = Feature::Front { param, skip };
         let count = bounds_of(alloc, rules, tag, feature)?.len();
         if count > most {
