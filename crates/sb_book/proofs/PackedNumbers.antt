@@ -3,9 +3,10 @@ use Rattle.std.proofs.Common.{◌≡◌, ◌∙◌, ℕ, zero, suc, ◌+◌, ◌
 use Rattle.std.proofs.lemmas.Bool.{and_parts, false≢true}
 use Rattle.std.proofs.lemmas.Bool.Decides.{nat_tests}
 use Rattle.std.proofs.lemmas.Nat.{div_below}
-use Rattle.std.specs.Prelude.{nat_lt, slice_index, min, ◌&&◌}
+use Rattle.std.specs.Prelude.{nat_lt, slice_index}
 use Rattle.std.specs.List.{list_all}
-use Rattle.sb_book.specs.Packing.{after_number, after_numbers, greatest_word, has_number, has_numbers, is_word, number_in, numbers_in, packed, packed_all, packed_by, with_low}
+use Rattle.sb_book.specs.Packing.{after_number, after_numbers, has_number, has_numbers, number_in, numbers_in, packed, packed_all, packed_by, with_low}
+use Rattle.sb_wide.specs.Numbers.{is_word64}
 
 -- ---- the bytes of a number
 
@@ -109,10 +110,10 @@ unfolding packed
 has_back n rest = has_back_by n n rest (omega arith)
 
 -- numbers, one after another
-pub numbers_back : (ns rest : List ℕ) → list_all is_word ns ≡ true → numbers_in (length ns) (packed_all ns ++ rest) ≡ ns
+pub numbers_back : (ns rest : List ℕ) → list_all is_word64 ns ≡ true → numbers_in (length ns) (packed_all ns ++ rest) ≡ ns
 numbers_back [] rest h = refl
 numbers_back (n ∷ ns) rest h =
-    let words = and_parts (is_word n) (list_all is_word ns) h in
+    let words = and_parts (is_word64 n) (list_all is_word64 ns) h in
     let whole : (packed n ++ packed_all ns) ++ rest ≡ packed n ++ (packed_all ns ++ rest) = append_assoc (packed n) (packed_all ns) rest in
     let one = words.0 in
     rw (whole, number_back n (packed_all ns ++ rest) (grind (arith, nat_tests, one)), after_back n (packed_all ns ++ rest))

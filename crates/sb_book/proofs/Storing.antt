@@ -11,10 +11,10 @@ use Rattle.std.proofs.Math.Seq.{drop-append_seam}
 use Rattle.sb_call.specs.declared.replies.Reply.{Reply}
 use Rattle.sb_block.specs.Copies.{Copied, is_copy}
 use Rattle.sb_block.specs.Layout.{most_words}
-use Rattle.sb_book.specs.Packing.{after_numbers, has_numbers, is_word, number_in, numbers_in, packed_all}
+use Rattle.sb_book.specs.Packing.{after_numbers, has_numbers, number_in, numbers_in, packed_all}
+use Rattle.sb_wide.specs.Numbers.{is_word64}
 use Rattle.sb_book.specs.Stores.{IsCut, after_count, after_end, after_handle, after_mark, after_outcome, after_status, copy_in, entry_with, ext_in, head_of, is_room, reply_in, row_entry, stored_entry, words_in}
 use Rattle.sb_book.specs.declared.decisions.Decision.{Decision}
-use Rattle.sb_book.specs.declared.entries.Entry.{Entry}
 use Rattle.sb_book.specs.declared.stores.EntryRow.{EntryRow}
 use Rattle.sb_book.proofs.PackedNumbers.{afters_back, afters_stay, all_back, all_stay, numbers_back, numbers_stay}
 
@@ -130,9 +130,9 @@ entry_bytes taken reply = packed_all (head_of taken reply) ++ (packed_all reply.
 
 -- all its numbers are words
 record AreWords (taken : Copied) (reply : Reply) : Type 0 where
-  head : list_all is_word (head_of taken reply) ≡ true
-  ext : list_all is_word reply.ext ≡ true
-  words : list_all is_word taken.words ≡ true
+  head : list_all is_word64 (head_of taken reply) ≡ true
+  ext : list_all is_word64 reply.ext ≡ true
+  words : list_all is_word64 taken.words ≡ true
 
 -- a row with the lengths of an entry
 record IsRowOf (r : EntryRow) (taken : Copied) (reply : Reply) : Type 0 where
@@ -214,18 +214,18 @@ appended xs head ext copy more taken reply bytes head_is ext_is copy_is =
     ∙ ap (λ c. xs ++ (packed_all (head_of taken reply) ++ (packed_all reply.ext ++ packed_all c))) copy_is
 
 all_words : (head ext copy : List ℕ) (taken : Copied) (reply : Reply) → head ≡ head_of taken reply → ext ≡ reply.ext → copy ≡ taken.words
-    → list_all is_word head ≡ true → list_all is_word ext ≡ true → list_all is_word copy ≡ true → AreWords taken reply
+    → list_all is_word64 head ≡ true → list_all is_word64 ext ≡ true → list_all is_word64 copy ≡ true → AreWords taken reply
 all_words head ext copy taken reply head_is ext_is copy_is a b c = record {
-  head = ap (list_all is_word) (sym head_is) ∙ a;
-  ext = ap (list_all is_word) (sym ext_is) ∙ b;
-  words = ap (list_all is_word) (sym copy_is) ∙ c;
+  head = ap (list_all is_word64) (sym head_is) ∙ a;
+  ext = ap (list_all is_word64) (sym ext_is) ∙ b;
+  words = ap (list_all is_word64) (sym copy_is) ∙ c;
 }
 
 -- the entries with one more
 pub stored_with : (xs head ext copy more : List ℕ) (rows more_rows : List EntryRow) (r : EntryRow) (target channel : ℕ) (taken : Copied) (decision : Decision) (reply : Reply)
     → All (IsCut xs) rows → more ≡ ((xs ++ packed_all head) ++ packed_all ext) ++ packed_all copy → more_rows ≡ rows ++ r ∷ []
     → head ≡ head_of taken reply → ext ≡ reply.ext → copy ≡ taken.words
-    → list_all is_word head ≡ true → list_all is_word ext ≡ true → list_all is_word copy ≡ true
+    → list_all is_word64 head ≡ true → list_all is_word64 ext ≡ true → list_all is_word64 copy ≡ true
     → r.first ≡ length xs → r.len ≡ length copy → r.ext_len ≡ length ext → r.target ≡ target → r.channel ≡ channel → r.decision ≡ decision
     → map (stored_entry more) more_rows ≡ map (stored_entry xs) rows ++ entry_with target channel taken decision reply ∷ []
 stored_with xs head ext copy more rows more_rows r target channel taken decision reply h bytes all head_is ext_is copy_is a b c first len ext_len t ch d =
@@ -240,7 +240,7 @@ stored_with xs head ext copy more rows more_rows r target channel taken decision
 pub cut_more : (xs head ext copy more : List ℕ) (rows more_rows : List EntryRow) (r : EntryRow) (taken : Copied) (reply : Reply)
     → All (IsCut xs) rows → more ≡ ((xs ++ packed_all head) ++ packed_all ext) ++ packed_all copy → more_rows ≡ rows ++ r ∷ []
     → head ≡ head_of taken reply → ext ≡ reply.ext → copy ≡ taken.words
-    → list_all is_word head ≡ true → list_all is_word ext ≡ true → list_all is_word copy ≡ true
+    → list_all is_word64 head ≡ true → list_all is_word64 ext ≡ true → list_all is_word64 copy ≡ true
     → r.first ≡ length xs → r.len ≡ length copy → r.ext_len ≡ length ext
     → length copy ≤ most_words → length ext ≤ 7 → is_copy taken ≡ true → All (IsCut more) more_rows
 cut_more xs head ext copy more rows more_rows r taken reply h bytes all head_is ext_is copy_is a b c first len ext_len most few rule =

@@ -5,9 +5,6 @@ use Rattle.std.specs.Prelude.{ℕ, zero, suc, ◌+◌, ◌*◌, ◌-◌, ◌^◌
 abbrev pub greatest_word : ℕ
 greatest_word = 2 ^ 64 - 1
 
-abbrev pub is_word : ℕ → Bool
-is_word n = nat_lt n (2 ^ 64)
-
 -- the bytes of a number, in at most k + 1 of them
 abbrev pub packed_by : ℕ → ℕ → List ℕ
 packed_by zero n = n ∷ []

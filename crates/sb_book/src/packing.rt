@@ -1,7 +1,8 @@
 // Numbers as bytes: seven bits a byte, the lowest first, and each byte of a number but its last has the high bit set (LEB128).
 ghost use Rattle.std.specs.Prelude.{◌≡◌, ◌≤◌, ◌+◌, ◌*◌, ◌++◌, length, true, vec_len, vec_capacity};
 ghost use Rattle.std.specs.List.{list_all};
-ghost use Rattle.sb_book.specs.Packing.{after_number, after_numbers, is_word, number_in, numbers_in, packed, packed_all};
+ghost use Rattle.sb_book.specs.Packing.{after_number, after_numbers, number_in, numbers_in, packed, packed_all};
+ghost use Rattle.sb_wide.specs.Numbers.{is_word64};
 
 use arrayvec::ArrayVec;
 
@@ -28,7 +29,7 @@ pub(crate) fn put_numbers(bytes: &mut Vec<u8>, numbers: &[u64])
     ensures bytes { bytes.new.items ≡ bytes.old.items ++ packed_all numbers.now }
     ensures len { vec_len bytes.new ≤ vec_len bytes.old + 10 * length numbers.now }
     ensures room { vec_capacity bytes.new ≡ vec_capacity bytes.old }
-    ensures words { list_all is_word numbers.now ≡ true }
+    ensures words { list_all is_word64 numbers.now ≡ true }
 {
     let mut rest = numbers;
     while let Some((number, later)) = rest.split_first() {

@@ -28,7 +28,8 @@ use Rattle.sb_opcode.specs.Opcodes as op
 use Rattle.sb_opcode.specs.declared.opcodes.Seek.TheVariants.{Skip, Forward, ToEnd}
 use Rattle.sb_compile.specs.Compiling.{opcode, is_one, here, first_code, later_code, or_true, runs_code, test_code, with_options, end_bits, closed, cond_code, rule_code, code_of, code_in, program_of}
 use Rattle.sb_rule.specs.Verdicts.{is_for}
-use Rattle.sb_compile.specs.ListingLaws.{is_sized_number, is_told_before, is_fragment, is_listable_kind, has_param, is_listable, AreListable, is_sized_test, is_sized_rule, DifferentCodeIsListedDifferently}
+use Rattle.sb_compile.specs.ListingLaws.{is_told_before, is_fragment, is_listable_kind, has_param, is_listable, AreListable, is_sized_test, is_sized_rule, DifferentCodeIsListedDifferently}
+use Rattle.sb_wide.specs.Numbers.{is_word64}
 use Rattle.sb_wide.specs.OneLine.{is_no_lf}
 use Rattle.sb_compile.proofs.Cuts.{act_of, is_formed}
 use Rattle.sb_compile.proofs.Members.{both, is_placed_well}
@@ -42,7 +43,7 @@ use Rattle.sb_compile.proofs.Verdicts.{rules_formed}
 abbrev are_listable : List Opcode → Bool
 are_listable ops = list_all is_listable ops
 
-listable : (param bits : ℕ) (kind : OpKind) → is_listable_kind kind ≡ true → has_param kind ≡ true → is_sized_number param ≡ true → ltb bits 32 ≡ true
+listable : (param bits : ℕ) (kind : OpKind) → is_listable_kind kind ≡ true → has_param kind ≡ true → is_word64 param ≡ true → ltb bits 32 ≡ true
     → is_listable (opcode param bits kind) ≡ true
 listable param bits kind k h s b = λ i. ((k i && (h i || eqb param 0)) && s i) && b i
 
@@ -106,7 +107,7 @@ run_short : (run : List Cell) (runs : List (List Cell)) → length run ≤ lengt
 run_short run [] = omega arith
 run_short run (next ∷ runs) = part_short run (Any ∷ joined next runs)
 
-small_skip : (run : List Cell) → length run ≤ 256 → is_sized_number (prefix_len is_one run) ≡ true
+small_skip : (run : List Cell) → length run ≤ 256 → is_word64 (prefix_len is_one run) ≡ true
 small_skip run h = let less = prefix_len-le-length is_one run in let small : prefix_len is_one run < 2 ^ 64 = omega (arith, less, h) in grind (arith, nat_tests, small)
 
 fragment_rest : (n : ℕ) (cells : List Cell) → is_fragment cells ≡ true → is_fragment (drop n cells) ≡ true
@@ -116,17 +117,17 @@ fragment_rest (suc n) (One ∷ cells) h = fragment_rest n cells h
 fragment_rest (suc n) (Any ∷ cells) h = absurd (false≢true h)
 fragment_rest (suc n) (Lit u ∷ cells) h = fragment_rest n cells (and_parts (is_told_before u cells) (is_fragment cells) h).1
 
-here_listable : (param bits : ℕ) (run : List Cell) → is_sized_number param ≡ true → ltb bits 32 ≡ true → is_fragment run ≡ true → length run ≤ 256
+here_listable : (param bits : ℕ) (run : List Cell) → is_word64 param ≡ true → ltb bits 32 ≡ true → is_fragment run ≡ true → length run ≤ 256
     → is_listable (here param bits run) ≡ true
 here_listable param bits run s b h short =
     let n = prefix_len is_one run in
     listable param bits (op.Text (drop n run) (Skip n)) (both (fragment_rest n run h) (small_skip run short)) refl s b
 
-first_listable : (param : ℕ) (run : List Cell) → is_sized_number param ≡ true → is_fragment run ≡ true → length run ≤ 256 → are_listable (first_code param run) ≡ true
+first_listable : (param : ℕ) (run : List Cell) → is_word64 param ≡ true → is_fragment run ≡ true → length run ≤ 256 → are_listable (first_code param run) ≡ true
 first_listable param [] s h short = refl
 first_listable param (c ∷ run) s h short = both (here_listable param FOLD (c ∷ run) s refl h short) refl
 
-later_listable : (param : ℕ) (runs : List (List Cell)) → is_sized_number param ≡ true → list_all is_fragment runs ≡ true → are_listable (later_code param runs) ≡ true
+later_listable : (param : ℕ) (runs : List (List Cell)) → is_word64 param ≡ true → list_all is_fragment runs ≡ true → are_listable (later_code param runs) ≡ true
 later_listable param [] s h = refl
 later_listable param ([] ∷ []) s h = refl
 later_listable param ((c ∷ run) ∷ []) s h = both (listable param FOLD (op.Text (c ∷ run) ToEnd) (both (and_parts (is_fragment (c ∷ run)) true h).0 refl) refl s refl) refl
@@ -138,7 +139,7 @@ true_listable : (ops : List Opcode) → are_listable ops ≡ true → are_listab
 true_listable [] h = refl
 true_listable (op ∷ ops) h = h
 
-runs_listable : (param : ℕ) (run : List Cell) (runs : List (List Cell)) → is_sized_number param ≡ true → list_all is_fragment (run ∷ runs) ≡ true → length run ≤ 256
+runs_listable : (param : ℕ) (run : List Cell) (runs : List (List Cell)) → is_word64 param ≡ true → list_all is_fragment (run ∷ runs) ≡ true → length run ≤ 256
     → are_listable (runs_code param (run ∷ runs)) ≡ true
 runs_listable param run [] s h short = both (here_listable param (bit_or FOLD EXACT) run s refl (and_parts (is_fragment run) true h).0 short) refl
 runs_listable param run (next ∷ runs) s h short =
@@ -153,13 +154,13 @@ literals_told (u ∷ v ∷ text) h =
     let p = and_parts (is_unit u) (list_all is_unit (v ∷ text)) h in
     both (both p.0 (never (eqb u 47))) (literals_told (v ∷ text) p.1)
 
-numbers_listable : (param : ℕ) (ns : List ℕ) → is_sized_number param ≡ true → list_all is_sized_number ns ≡ true → are_listable (map (λ k. opcode param OR (op.Num k)) ns) ≡ true
+numbers_listable : (param : ℕ) (ns : List ℕ) → is_word64 param ≡ true → list_all is_word64 ns ≡ true → are_listable (map (λ k. opcode param OR (op.Num k)) ns) ≡ true
 numbers_listable param [] s h = refl
 numbers_listable param (n ∷ ns) s h =
-    let p = and_parts (is_sized_number n) (list_all is_sized_number ns) h in
+    let p = and_parts (is_word64 n) (list_all is_word64 ns) h in
     both (listable param OR (op.Num n) p.0 refl s refl) (numbers_listable param ns s p.1)
 
-pattern_listable : (param : ℕ) (cells : List Cell) → is_sized_number param ≡ true → is_sensible (test.Like cells) ≡ true → list_all is_sized_cell cells ≡ true
+pattern_listable : (param : ℕ) (cells : List Cell) → is_word64 param ≡ true → is_sensible (test.Like cells) ≡ true → list_all is_sized_cell cells ≡ true
     → are_listable (test_code param (test.Like cells)) ≡ true
 pattern_listable param cells s sensible sized =
     let p = and_parts (nat_le (length (text_of cells)) 256 && is_spellable cells) (is_policy_text (text_of cells)) sensible in
@@ -173,9 +174,9 @@ pattern_listable param cells s sensible sized =
     short : (a b c : ℕ) → a ≤ b → b ≤ c → nat_le c 256 ≡ true → a ≤ 256
     short a b c h k l = grind (arith, nat_tests)
 
-test_listable : (param : ℕ) (test : Test) → is_sized_number param ≡ true → is_sensible test ≡ true → is_sized_test test ≡ true → are_listable (test_code param test) ≡ true
+test_listable : (param : ℕ) (test : Test) → is_word64 param ≡ true → is_sensible test ≡ true → is_sized_test test ≡ true → are_listable (test_code param test) ≡ true
 test_listable param (test.OneOf []) s sensible sized = refl
-test_listable param (test.OneOf (n ∷ [])) s sensible sized = both (listable param 0 (op.Num n) (and_parts (is_sized_number n) true sized).0 refl s refl) refl
+test_listable param (test.OneOf (n ∷ [])) s sensible sized = both (listable param 0 (op.Num n) (and_parts (is_word64 n) true sized).0 refl s refl) refl
 test_listable param (test.OneOf (n ∷ m ∷ ns)) s sensible sized = numbers_listable param (n ∷ m ∷ ns) s sized
 test_listable param (test.Range lo hi) s sensible sized = both (listable param 0 (op.Range lo hi) sized refl s refl) refl
 test_listable param (test.Mask mask) s sensible sized = both (listable param 0 (op.Mask mask) sized refl s refl) refl
@@ -196,7 +197,7 @@ few_params EventCreate = refl
 few_params EventOpen = refl
 few_params HandleClose = refl
 
-small_param : (param count : ℕ) → nat_lt param count ≡ true → nat_le count 9 ≡ true → is_sized_number param ≡ true
+small_param : (param count : ℕ) → nat_lt param count ≡ true → nat_le count 9 ≡ true → is_word64 param ≡ true
 small_param param count h few = grind (arith, nat_tests)
 
 -- what the last opcode of a group gains is one of the five options
@@ -209,7 +210,7 @@ below m n h = grind (arith, nat_tests)
 
 end_listable : (negated : Bool) (op : Opcode) → is_listable op ≡ true → is_listable (with_options (end_bits negated) op) ≡ true
 end_listable negated op h =
-    let p = and_parts (is_listable_kind op.kind && (has_param op.kind || eqb op.param 0) && is_sized_number op.param) (ltb op.options.0 32) h in
+    let p = and_parts (is_listable_kind op.kind && (has_param op.kind || eqb op.param 0) && is_word64 op.param) (ltb op.options.0 32) h in
     both p.0 (ends_small negated op.options.0 (below op.options.0 32 p.1))
 
 closed_listable : (negated : Bool) (ops : List Opcode) → are_listable ops ≡ true → are_listable (closed negated ops) ≡ true
@@ -231,7 +232,7 @@ conds_listable tag (c ∷ cs) h sized =
 
 rule_listable : (rule : Rule) → is_formed rule ≡ true → is_sized_rule rule ≡ true → are_listable (rule_code rule) ≡ true
 rule_listable rule h sized =
-    let q = and_parts (list_all (λ cond. is_sized_test cond.test) rule.conds) (is_sized_number rule.line) sized in
+    let q = and_parts (list_all (λ cond. is_sized_test cond.test) rule.conds) (is_word64 rule.line) sized in
     let act : is_listable (act_of rule) ≡ true = (λ i. ((q.1 i && true) && true) && true) in
     list_all-append is_listable (flat_map cond_code rule.conds) (act_of rule ∷ []) ∙ both (conds_listable rule.tag rule.conds h q.0) (both act refl)
 

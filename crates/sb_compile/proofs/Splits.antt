@@ -6,8 +6,7 @@ use Rattle.std.proofs.lemmas.Bool.{and_parts, false≢true}
 use Rattle.std.proofs.lemmas.Bool.Decides.{nat_tests}
 use Rattle.std.proofs.lemmas.Fmt.{digits_is_IsNumeral}
 use Rattle.std.specs.Str.Parse.{digits_value}
-use Rattle.sb_wide.specs.Numbers.{hexadecimal}
-use Rattle.sb_compile.specs.ListingLaws.{is_sized_number}
+use Rattle.sb_wide.specs.Numbers.{hexadecimal, is_word64}
 
 -- lists of which a test holds of one alone are not equal
 pub apart : {A : Type 0} (test : List ℕ → Bool) (r s : List ℕ) → r ≡ s → test r ≡ true → test s ≡ false → A
@@ -86,7 +85,7 @@ digits_letters : (base n : ℕ) → list_all is_letter (digits base false n) ≡
 unfolding digits
 digits_letters base n = onto_letters 64 base n [] refl
 
-below : (n : ℕ) → is_sized_number n ≡ true → n < 2 ^ 64
+below : (n : ℕ) → is_word64 n ≡ true → n < 2 ^ 64
 below n h = grind (arith, nat_tests)
 
 digits_differ : (base m n : ℕ) → 2 ≤ base → base ≤ 16 → m < base ^ 64 → n < base ^ 64 → digits base false m ≡ digits base false n → m ≡ n
@@ -100,14 +99,14 @@ hexadecimal_bound : (n : ℕ) → n < 2 ^ 64 → n < 16 ^ 64
 hexadecimal_bound n h = omega arith
 
 -- a decimal number at the beginning
-pub split_decimal : (m n : ℕ) (r s : List ℕ) → is_sized_number m ≡ true → is_sized_number n ≡ true → is_ended r ≡ true → is_ended s ≡ true
+pub split_decimal : (m n : ℕ) (r s : List ℕ) → is_word64 m ≡ true → is_word64 n ≡ true → is_ended r ≡ true → is_ended s ≡ true
     → decimal m ++ r ≡ decimal n ++ s → (m ≡ n) × (r ≡ s)
 split_decimal m n r s hm hn hr hs e =
     let p = split_word (decimal m) (decimal n) r s (digits_letters 10 m) (digits_letters 10 n) hr hs e in
     (digits_differ 10 m n (omega arith) (omega arith) (decimal_bound m (below m hm)) (decimal_bound n (below n hn)) p.0, p.1)
 
 -- a hexadecimal number at the beginning
-pub split_hexadecimal : (m n : ℕ) (r s : List ℕ) → is_sized_number m ≡ true → is_sized_number n ≡ true → is_ended r ≡ true → is_ended s ≡ true
+pub split_hexadecimal : (m n : ℕ) (r s : List ℕ) → is_word64 m ≡ true → is_word64 n ≡ true → is_ended r ≡ true → is_ended s ≡ true
     → hexadecimal m ++ r ≡ hexadecimal n ++ s → (m ≡ n) × (r ≡ s)
 split_hexadecimal m n r s hm hn hr hs e =
     let p = split_word (hexadecimal m) (hexadecimal n) r s (digits_letters 16 m) (digits_letters 16 n) hr hs e in

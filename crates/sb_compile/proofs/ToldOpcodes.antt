@@ -5,7 +5,7 @@ use Rattle.std.specs.Prelude.{codes}
 use Rattle.std.proofs.Common.{◌≡◌, ◌∙◌, ℕ, ◌<◌, true, cond, eqb, ltb, ◌&&◌, ◌||◌, List, [], ◌∷◌, ◌++◌, drop, get_or, append_assoc, refl, ap, sym, arith}
 use Rattle.std.proofs.lemmas.Bool.{and_parts}
 use Rattle.std.proofs.lemmas.Bool.Decides.{nat_tests}
-use Rattle.sb_wide.specs.Numbers.{hexadecimal}
+use Rattle.sb_wide.specs.Numbers.{hexadecimal, is_word64}
 use Rattle.sb_wide.specs.Quoting.{quoted, quoted_unit, QuotesDiffer}
 use Rattle.sb_pattern.specs.Reading.{text_of}
 use Rattle.sb_pattern.specs.declared.cells.Cell.{Cell}
@@ -19,24 +19,24 @@ use Rattle.sb_opcode.specs.Opcodes.{False, True, Num, Range, Mask, Text, Act}
 use Rattle.sb_opcode.specs.declared.opcodes.Seek.{Seek}
 use Rattle.sb_opcode.specs.declared.opcodes.Seek.TheVariants.{Skip, Forward, ToEnd}
 use Rattle.sb_compile.specs.Listing.{seek_text, number_text, kind_text, options_text, opcode_line}
-use Rattle.sb_compile.specs.ListingLaws.{is_sized_number, is_fragment, is_listable_kind, has_param, is_listable}
+use Rattle.sb_compile.specs.ListingLaws.{is_fragment, is_listable_kind, has_param, is_listable}
 use Rattle.sb_compile.proofs.Splits.{apart, cancel, is_letter, is_ended, is_no_quote, split_word, split_quote, split_decimal, split_hexadecimal}
 use Rattle.sb_compile.proofs.ToldCells.{fragments_are_units, same_cells}
 use Rattle.sb_compile.proofs.ToldOptions.{options_end, options_end_is, options_ended, options_have_no_quote, same_options}
 
 -- a number in hexadecimal at the beginning
-split_number : (m n : ℕ) (r s : List ℕ) → is_sized_number m ≡ true → is_sized_number n ≡ true → is_ended r ≡ true → is_ended s ≡ true
+split_number : (m n : ℕ) (r s : List ℕ) → is_word64 m ≡ true → is_word64 n ≡ true → is_ended r ≡ true → is_ended s ≡ true
     → number_text m ++ r ≡ number_text n ++ s → (m ≡ n) × (r ≡ s)
 split_number m n r s hm hn hr hs e = split_hexadecimal m n r s hm hn hr hs (cancel (codes " 0x") (hexadecimal m ++ r) (hexadecimal n ++ s) e)
 
 -- a word and a decimal number at the beginning
-split_counted : (word : List ℕ) (m n : ℕ) (r s : List ℕ) → is_sized_number m ≡ true → is_sized_number n ≡ true → is_ended r ≡ true → is_ended s ≡ true
+split_counted : (word : List ℕ) (m n : ℕ) (r s : List ℕ) → is_word64 m ≡ true → is_word64 n ≡ true → is_ended r ≡ true → is_ended s ≡ true
     → (word ++ decimal m) ++ r ≡ (word ++ decimal n) ++ s → (m ≡ n) × (r ≡ s)
 split_counted word m n r s hm hn hr hs e =
     split_decimal m n r s hm hn hr hs
     (cancel word (decimal m ++ r) (decimal n ++ s) (sym (append_assoc word (decimal m) r) ∙ e ∙ append_assoc word (decimal n) s))
 
-split_seek : (a b : Seek) (r s : List ℕ) → is_sized_number (skip_number a) ≡ true → is_sized_number (skip_number b) ≡ true → is_ended r ≡ true → is_ended s ≡ true
+split_seek : (a b : Seek) (r s : List ℕ) → is_word64 (skip_number a) ≡ true → is_word64 (skip_number b) ≡ true → is_ended r ≡ true → is_ended s ≡ true
     → seek_text a ++ r ≡ seek_text b ++ s → (a ≡ b) × (r ≡ s)
 split_seek (Skip m) (Skip n) r s ha hb hr hs e = let p = split_counted (codes "skip ") m n r s ha hb hr hs e in (ap Skip p.0, p.1)
 split_seek (Skip m) Forward r s ha hb hr hs e = apart (λ t. eqb (get_or t 0 0) 115) (seek_text (Skip m) ++ r) (seek_text Forward ++ s) e refl refl
@@ -88,8 +88,8 @@ record Sides (k l : OpKind) (p q : ℕ) (r s : List ℕ) : Type 0 where
   right_kind : is_listable_kind l ≡ true
   left_zero : (has_param k || eqb p 0) ≡ true
   right_zero : (has_param l || eqb q 0) ≡ true
-  left_param : is_sized_number p ≡ true
-  right_param : is_sized_number q ≡ true
+  left_param : is_word64 p ≡ true
+  right_param : is_word64 q ≡ true
   left_ended : is_ended r ≡ true
   right_ended : is_ended s ≡ true
   left_quotes : list_all is_no_quote r ≡ true
@@ -123,8 +123,8 @@ three a b c r = append_assoc (a ++ b) c r ∙ append_assoc a b (c ++ r)
 ranges_same : (lo hi from to p q : ℕ) (r s : List ℕ) → Sides (Range lo hi) (Range from to) p q r s → kind_text (Range lo hi) p ++ r ≡ kind_text (Range from to) q ++ s
     → AreSame (Range lo hi) (Range from to) p q r s
 ranges_same lo hi from to p q r s h e =
-    let left = and_parts (is_sized_number lo) (is_sized_number hi) h.left_kind in
-    let right = and_parts (is_sized_number from) (is_sized_number to) h.right_kind in
+    let left = and_parts (is_word64 lo) (is_word64 hi) h.left_kind in
+    let right = and_parts (is_word64 from) (is_word64 to) h.right_kind in
     let param = split_counted (codes "range p") p q (number_text lo ++ (number_text hi ++ r)) (number_text from ++ (number_text to ++ s)) h.left_param h.right_param refl refl
     (sym (three (codes "range p" ++ decimal p) (number_text lo) (number_text hi) r) ∙ e ∙ three (codes "range p" ++ decimal q) (number_text from) (number_text to) s) in
     let low = split_number lo from (number_text hi ++ r) (number_text to ++ s) left.0 right.0 refl refl param.1 in
@@ -137,8 +137,8 @@ five a b c d e r = three (a ++ b ++ c) d e r ∙ three a b c (d ++ (e ++ r))
 texts_same : QuotesDiffer → (a b : List Cell) (seek to : Seek) (p q : ℕ) (r s : List ℕ) → Sides (Text a seek) (Text b to) p q r s
     → kind_text (Text a seek) p ++ r ≡ kind_text (Text b to) q ++ s → AreSame (Text a seek) (Text b to) p q r s
 texts_same quotes a b seek to p q r s h e =
-    let left = and_parts (is_fragment a) (is_sized_number (skip_number seek)) h.left_kind in
-    let right = and_parts (is_fragment b) (is_sized_number (skip_number to)) h.right_kind in
+    let left = and_parts (is_fragment a) (is_word64 (skip_number seek)) h.left_kind in
+    let right = and_parts (is_fragment b) (is_word64 (skip_number to)) h.right_kind in
     let cells = codes " " ++ (quoted (text_of a) ++ r) in
     let others = codes " " ++ (quoted (text_of b) ++ s) in
     let param = split_counted (codes "text p") p q (codes " " ++ (seek_text seek ++ cells)) (codes " " ++ (seek_text to ++ others)) h.left_param h.right_param refl refl
@@ -249,9 +249,9 @@ same_opcode quotes at a b ha hb e =
     λ i. record { kind = same.0 i; param = same.1 i; options = options i }
   where
     facts : (op : Opcode) → is_listable op ≡ true
-        → (is_listable_kind op.kind ≡ true) × ((has_param op.kind || eqb op.param 0) ≡ true) × (is_sized_number op.param ≡ true) × (op.options.0 < 32)
+        → (is_listable_kind op.kind ≡ true) × ((has_param op.kind || eqb op.param 0) ≡ true) × (is_word64 op.param ≡ true) × (op.options.0 < 32)
     facts op h =
-        let one = and_parts (is_listable_kind op.kind && (has_param op.kind || eqb op.param 0) && is_sized_number op.param) (ltb op.options.0 32) h in
-        let two = and_parts (is_listable_kind op.kind && (has_param op.kind || eqb op.param 0)) (is_sized_number op.param) one.0 in
+        let one = and_parts (is_listable_kind op.kind && (has_param op.kind || eqb op.param 0) && is_word64 op.param) (ltb op.options.0 32) h in
+        let two = and_parts (is_listable_kind op.kind && (has_param op.kind || eqb op.param 0)) (is_word64 op.param) one.0 in
         let three_parts = and_parts (is_listable_kind op.kind) (has_param op.kind || eqb op.param 0) two.0 in
         (three_parts.0, three_parts.1, two.1, grind (arith, nat_tests))

@@ -1,5 +1,5 @@
 -- Codes that their listing tells apart.
-use Rattle.std.specs.Prelude.{◌≡◌, ◌^◌, ◌&&◌, ◌||◌, ◌==◌, ℕ, Bool, true, false, not, nat_lt, List, [], ◌∷◌}
+use Rattle.std.specs.Prelude.{◌≡◌, ◌&&◌, ◌||◌, ◌==◌, ℕ, Bool, true, false, not, nat_lt, List, [], ◌∷◌}
 use Rattle.std.specs.List.{list_all}
 use Rattle.sb_wide.specs.Wide.{is_unit}
 use Rattle.sb_call.specs.declared.tags.CallTag.{CallTag}
@@ -18,10 +18,7 @@ use Rattle.sb_rule.specs.declared.policies.Rule.{Rule}
 use Rattle.sb_compile.specs.Compiling.{Compiled, code_in, program_of}
 use Rattle.sb_compile.specs.Listing.{listing_of}
 use Rattle.sb_wide.specs.OneLine.{is_no_lf}
-
--- a number of 64 bits
-abbrev pub is_sized_number : ℕ → Bool
-is_sized_number n = nat_lt n (2 ^ 64)
+use Rattle.sb_wide.specs.Numbers.{is_word64}
 
 -- a literal may stand before these cells: a unit, and no `/` before a `?`, since `/?` is the text of the literal `?`
 abbrev pub is_told_before : ℕ → List Cell → Bool
@@ -38,11 +35,11 @@ is_fragment (Any ∷ cells) = false
 abbrev pub is_listable_kind : OpKind → Bool
 is_listable_kind False = true
 is_listable_kind True = true
-is_listable_kind (Num n) = is_sized_number n
-is_listable_kind (Range lo hi) = is_sized_number lo && is_sized_number hi
-is_listable_kind (Mask mask) = is_sized_number mask
-is_listable_kind (Text cells seek) = is_fragment cells && is_sized_number (skip_number seek)
-is_listable_kind (Act action line) = is_sized_number line
+is_listable_kind (Num n) = is_word64 n
+is_listable_kind (Range lo hi) = is_word64 lo && is_word64 hi
+is_listable_kind (Mask mask) = is_word64 mask
+is_listable_kind (Text cells seek) = is_fragment cells && is_word64 (skip_number seek)
+is_listable_kind (Act action line) = is_word64 line
 
 -- the opcode looks at a parameter
 abbrev pub has_param : OpKind → Bool
@@ -58,7 +55,7 @@ has_param (Act action line) = false
 -- no option but the five
 abbrev pub is_listable : Opcode → Bool
 is_listable op =
-    is_listable_kind op.kind && (has_param op.kind || op.param == 0) && is_sized_number op.param && nat_lt op.options.0 32
+    is_listable_kind op.kind && (has_param op.kind || op.param == 0) && is_word64 op.param && nat_lt op.options.0 32
 
 -- each call's code is of such opcodes
 abbrev pub AreListable : Compiled → Type 0
@@ -71,15 +68,15 @@ ListingsDiffer = (a b : Compiled) → a.name ≡ b.name → list_all is_no_lf a.
 
 -- a test whose numbers have 64 bits and whose units 16
 abbrev pub is_sized_test : Test → Bool
-is_sized_test (test.OneOf numbers) = list_all is_sized_number numbers
-is_sized_test (test.Range lo hi) = is_sized_number lo && is_sized_number hi
-is_sized_test (test.Mask mask) = is_sized_number mask
+is_sized_test (test.OneOf numbers) = list_all is_word64 numbers
+is_sized_test (test.Range lo hi) = is_word64 lo && is_word64 hi
+is_sized_test (test.Mask mask) = is_word64 mask
 is_sized_test (test.Equal text) = list_all is_unit text
 is_sized_test (test.Like cells) = list_all is_sized_cell cells
 
 -- a rule whose tests are so, and whose line has 64 bits
 abbrev pub is_sized_rule : Rule → Bool
-is_sized_rule rule = list_all (λ cond. is_sized_test cond.test) rule.conds && is_sized_number rule.line
+is_sized_rule rule = list_all (λ cond. is_sized_test cond.test) rule.conds && is_word64 rule.line
 
 -- a policy whose rules are so, with no LF in its name
 abbrev pub is_sized_policy : Policy → Bool

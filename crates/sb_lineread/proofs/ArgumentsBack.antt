@@ -4,11 +4,11 @@ use Rattle.std.specs.Prelude.{option_map}
 use Rattle.std.specs.List.{list_all}
 use Rattle.std.proofs.lemmas.Bool.{and_parts}
 use Rattle.std.proofs.lemmas.Bool.Decides.{nat_tests}
-use Rattle.sb_wide.specs.Numbers.{hexadecimal}
+use Rattle.sb_wide.specs.Numbers.{hexadecimal, is_word64}
 use Rattle.sb_call.specs.declared.arguments.Arg.{Arg}
 use Rattle.sb_call.specs.declared.arguments.Arg.TheVariants.{Num, Str}
 use Rattle.sb_transcript.specs.EntryLines.{argument_field}
-use Rattle.sb_lineread.specs.Ranges.{is_word64, is_argument}
+use Rattle.sb_lineread.specs.Ranges.{is_argument}
 use Rattle.sb_lineread.specs.Reading.{argument_of, with_argument, arguments_at}
 use Rattle.sb_lineread.proofs.NumbersBack.{number_back, hexadecimal_plain}
 use Rattle.sb_lineread.proofs.Passing.{Leads, AllPass, plain_leads, quoted_leads}

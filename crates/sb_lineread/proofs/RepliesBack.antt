@@ -6,11 +6,11 @@ use Rattle.std.proofs.lemmas.Bool.{and_parts}
 use Rattle.std.proofs.lemmas.Bool.Decides.{nat_tests}
 use Rattle.std.proofs.lemmas.List.{length-append}
 use Rattle.std.proofs.lemmas.List.Folds.{list_all-append}
-use Rattle.sb_wide.specs.Numbers.{eight_digits}
+use Rattle.sb_wide.specs.Numbers.{eight_digits, is_word64}
 use Rattle.sb_lineread.specs.Cuts.{cut, fields_after}
 use Rattle.sb_transcript.specs.CommaWords.{comma_words, more_words}
 use Rattle.sb_lineread.specs.Fields.{all_after, reply_fields}
-use Rattle.sb_lineread.specs.Ranges.{is_word64, ReplyInRange}
+use Rattle.sb_lineread.specs.Ranges.{ReplyInRange}
 use Rattle.sb_lineread.specs.Reading.{words_within, ext_of, ext_at, decimal_at, status_at, reply_at}
 use Rattle.sb_lineread.specs.Steps.{◌>>=◌, Read}
 use Rattle.sb_lineread.specs.declared.cuts.Place.TheVariants.{Plain}

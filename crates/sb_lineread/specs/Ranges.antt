@@ -1,5 +1,5 @@
 -- The numbers of a line are in the ranges of their types, and its names are names.
-use Rattle.std.specs.Prelude.{◌≡◌, ⊤, ℕ, ◌<◌, ◌≤◌, ◌^◌, Bool, true, nat_lt, length}
+use Rattle.std.specs.Prelude.{◌≡◌, ⊤, ◌<◌, ◌≤◌, ◌^◌, Bool, true, length}
 use Rattle.std.specs.List.{list_all}
 use Rattle.sb_wide.specs.Wide.{is_unit}
 use Rattle.sb_block.specs.declared.faults.BlockFault.{BlockFault}
@@ -17,12 +17,7 @@ use Rattle.sb_lineread.specs.declared.lines.ResultLine.{ResultLine}
 use Rattle.sb_lineread.specs.declared.lines.TotalsLine.{TotalsLine}
 use Rattle.sb_lineread.specs.declared.lines.Line.{Line}
 use Rattle.sb_lineread.specs.declared.lines.Line.TheVariants as line
-
-abbrev pub is_word64 : ℕ → Bool
-is_word64 n = nat_lt n (2 ^ 64)
-
-abbrev pub is_word32 : ℕ → Bool
-is_word32 n = nat_lt n (2 ^ 32)
+use Rattle.sb_wide.specs.Numbers.{is_word64}
 
 abbrev pub FaultInRange : BlockFault → Type 0
 FaultInRange (TooManyParams n) = n < 2 ^ 64

@@ -1,21 +1,18 @@
 -- What values of the program are seen as: numbers of 64 bits and short names.
-use Rattle.std.specs.Prelude.{◌^◌, ◌&&◌, ℕ, Bool, true, nat_lt}
+use Rattle.std.specs.Prelude.{◌&&◌, Bool, true}
 use Rattle.std.specs.List.{list_all}
 use Rattle.sb_call.specs.ShortNames.{is_short_name}
 use Rattle.sb_rule.specs.declared.conditions.Test.{Test}
 use Rattle.sb_rule.specs.declared.conditions.Test.TheVariants.{OneOf, Range, Mask, Equal, Like}
 use Rattle.sb_rule.specs.declared.policies.Policy.{Policy}
 use Rattle.sb_rule.specs.declared.policies.Rule.{Rule}
-
--- a number has 64 bits
-abbrev pub is_number : ℕ → Bool
-is_number n = nat_lt n (2 ^ 64)
+use Rattle.sb_wide.specs.Numbers.{is_word64}
 
 -- the numbers of a test have 64 bits
 abbrev pub is_test_of_values : Test → Bool
-is_test_of_values (OneOf numbers) = list_all is_number numbers
-is_test_of_values (Range lo hi) = is_number lo && is_number hi
-is_test_of_values (Mask mask) = is_number mask
+is_test_of_values (OneOf numbers) = list_all is_word64 numbers
+is_test_of_values (Range lo hi) = is_word64 lo && is_word64 hi
+is_test_of_values (Mask mask) = is_word64 mask
 is_test_of_values (Equal text) = true
 is_test_of_values (Like pattern) = true
 

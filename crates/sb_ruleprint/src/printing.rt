@@ -6,7 +6,8 @@ ghost use Rattle.sb_call.specs.CallWords.{call_word};
 ghost use Rattle.sb_ruleprint.specs.Printing.{number_word, range_word, or_tokens, numbers_tokens, test_tokens, not_tokens, cond_tokens, joined_tokens, conds_tokens, rule_tokens, heading_tokens, policy_lines, is_read_only, has_read_only, version_word, version_tokens, spaced, printed};
 ghost use Rattle.sb_text.specs.PlainLines.{line_text};
 ghost use Rattle.sb_text.specs.Tokens.{utf8_of};
-ghost use Rattle.sb_ruleprint.specs.Values.{is_number, is_test_of_values, is_rule_of_values, is_policy_of_values};
+ghost use Rattle.sb_ruleprint.specs.Values.{is_test_of_values, is_rule_of_values, is_policy_of_values};
+ghost use Rattle.sb_wide.specs.Numbers.{is_word64};
 
 use sb_call::{CallTag, call_word, parameter_word};
 use sb_items::NoMemory;
@@ -44,7 +45,7 @@ fn put_quoted(text: &mut Vec<u8>, units: &[u16]) -> Result<(), NoMemory>
 
 fn put_more_numbers(text: &mut Vec<u8>, numbers: &[u64]) -> Result<(), NoMemory>
     ensures text { OnOk result (text.new.items ≡ text.old.items ++ spaced (flat_map or_tokens numbers.now)) }
-    ensures values { OnOk result (list_all is_number numbers.now ≡ true) }
+    ensures values { OnOk result (list_all is_word64 numbers.now ≡ true) }
 {
     for number in numbers {
         put_word(text, b"or")?;
@@ -56,7 +57,7 @@ fn put_more_numbers(text: &mut Vec<u8>, numbers: &[u64]) -> Result<(), NoMemory>
 
 fn put_numbers(text: &mut Vec<u8>, numbers: &[u64]) -> Result<(), NoMemory>
     ensures text { OnOk result (text.new.items ≡ text.old.items ++ spaced (numbers_tokens numbers.now)) }
-    ensures values { OnOk result (list_all is_number numbers.now ≡ true) }
+    ensures values { OnOk result (list_all is_word64 numbers.now ≡ true) }
 {
     let Some((first, more)) = numbers.split_first() else {
         return Ok(());

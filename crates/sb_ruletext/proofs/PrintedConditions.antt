@@ -20,7 +20,8 @@ use Rattle.sb_pattern.specs.Limits.{most_units}
 use Rattle.sb_ruletext.specs.Conditions.{number_at, string, cells, test_at, is_number_at, plain_condition_at, condition_at, conditions_of}
 use Rattle.sb_call.specs.Parameters.{parameter_word, parameter_words}
 use Rattle.sb_ruleprint.specs.Printing.{number_word, range_word, numbers_tokens, test_tokens, not_tokens, cond_tokens, joined_tokens}
-use Rattle.sb_ruleprint.specs.Values.{is_number, is_test_of_values}
+use Rattle.sb_ruleprint.specs.Values.{is_test_of_values}
+use Rattle.sb_wide.specs.Numbers.{is_word64}
 use Rattle.sb_ruletext.specs.Steps.{joined_at}
 use Rattle.sb_text.specs.Steps.{◌>>=◌, or_fails, at_token, Read, begins_with, later, end_at}
 use Rattle.sb_text.specs.declared.refusals.WordFault.TheVariants.{Extra, Broken}
@@ -33,12 +34,12 @@ use Rattle.sb_ruletext.proofs.Conjunctions.{both}
 use Rattle.sb_text.specs.Strings.{ComesBack, StringsComeBack}
 use Rattle.sb_ruletext.proofs.PrintedWords.{parameter_back, apart_at, within, number_back, range_back}
 
-pub number_small : (n : ℕ) → is_number n ≡ true → n < 2 ^ 64
+pub number_small : (n : ℕ) → is_word64 n ≡ true → n < 2 ^ 64
 number_small n h = grind (arith, nat_tests)
 
 -- numbers
 
-number_read : HexadecimalsAreRead → (n : ℕ) (rest : List Lexeme) → is_number n ≡ true → number_at (Word (number_word n) ∷ rest) ≡ Ok (n, rest)
+number_read : HexadecimalsAreRead → (n : ℕ) (rest : List Lexeme) → is_word64 n ≡ true → number_at (Word (number_word n) ∷ rest) ≡ Ok (n, rest)
 number_read law n rest h = ap (λ o. or_fails (Word (number_word n) ∷ rest) BadNumber o >>= λ n. Ok (n, rest)) (number_back law n (number_small n h))
 
 -- what `joined_at` does after the first of at most m + 1 items
@@ -51,7 +52,7 @@ joined_step : {A : Type 0} (limit : PolicyLimit) (m : ℕ) (joint : List ℕ) (i
 unfolding joined_at
 joined_step limit m joint item_at tokens = refl
 
-numbers_read : HexadecimalsAreRead → (m n : ℕ) (more : List ℕ) (rest : List Lexeme) → length more ≤ m → list_all is_number (n ∷ more) ≡ true
+numbers_read : HexadecimalsAreRead → (m n : ℕ) (more : List ℕ) (rest : List Lexeme) → length more ≤ m → list_all is_word64 (n ∷ more) ≡ true
     → begins_with (codes "or") rest ≡ false → joined_at Numbers (suc m) (codes "or") number_at (numbers_tokens (n ∷ more) ++ rest) ≡ Ok (n ∷ more, rest)
 numbers_read law m n [] rest k h e =
     joined_step Numbers m (codes "or") number_at (Word (number_word n) ∷ rest)

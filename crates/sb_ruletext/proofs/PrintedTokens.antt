@@ -23,7 +23,8 @@ use Rattle.sb_text.specs.NumberLaws.{HexadecimalsAreRead}
 use Rattle.sb_text.specs.Tokens.{Word, Quoted, utf8_of}
 use Rattle.sb_call.specs.Parameters.{parameter_word, parameter_words}
 use Rattle.sb_ruleprint.specs.Printing.{numbers_tokens, test_tokens, not_tokens, cond_tokens, joined_tokens, conds_tokens, rule_tokens, heading_tokens, policy_lines, has_read_only, version_tokens, printed_lines}
-use Rattle.sb_ruleprint.specs.Values.{is_number, is_test_of_values, is_rule_of_values, is_policy_of_values}
+use Rattle.sb_ruleprint.specs.Values.{is_test_of_values, is_rule_of_values, is_policy_of_values}
+use Rattle.sb_wide.specs.Numbers.{is_word64}
 use Rattle.sb_rule.specs.Actions.{action_word}
 use Rattle.sb_call.specs.CallWords.{call_word}
 use Rattle.sb_ruletext.proofs.PrintedConditions.{AreSound, Texts, later_sound, number_small, string_back}
@@ -77,7 +78,7 @@ parameter_plain tag param h = all_at (λ word. is_plain (Word word)) (parameter_
 
 -- tests
 
-numbers_plain : HexadecimalsAreRead → (n : ℕ) (more : List ℕ) → list_all is_number (n ∷ more) ≡ true → list_all is_plain (numbers_tokens (n ∷ more)) ≡ true
+numbers_plain : HexadecimalsAreRead → (n : ℕ) (more : List ℕ) → list_all is_word64 (n ∷ more) ≡ true → list_all is_plain (numbers_tokens (n ∷ more)) ≡ true
 numbers_plain law n [] h = and_true _ _ (number_plain law n (number_small n (both _ _ h).0)) refl
 numbers_plain law n (next ∷ more) h = and_true _ _ (number_plain law n (number_small n (both _ _ h).0)) (numbers_plain law next more (both _ _ h).1)
 

@@ -6,7 +6,8 @@ use Rattle.std.specs.List.{before_first, after_first}
 use Rattle.sb_scheduletext.specs.Actors.{is_dot}
 use Rattle.sb_scheduletext.specs.Limits.{most_steps}
 use Rattle.sb_scheduletext.specs.Lines.{within, last_number, count_at, step}
-use Rattle.sb_scheduletext.specs.Printing.{is_number_32, is_actor_of_values, is_made}
+use Rattle.sb_scheduletext.specs.Printing.{is_actor_of_values, is_made}
+use Rattle.sb_wide.specs.Numbers.{is_word32}
 use Rattle.sb_scheduletext.specs.declared.faults.ScheduleKind.{ScheduleKind}
 use Rattle.sb_scheduletext.specs.declared.faults.ScheduleKind.TheVariants.{UnknownWord, UnknownActor, BadNumber}
 use Rattle.sb_statements.specs.Actors.{is_there}
@@ -20,22 +21,22 @@ use Rattle.sb_scheduletext.proofs.Conjunctions.{and_true}
 use Rattle.sb_scheduletext.proofs.PrintedActors.{below_2_32}
 use Rattle.sb_scheduletext.proofs.Passing.{at_made, made, ok_same, passed, was_there}
 
-number_small : (word : List ℕ) (n : ℕ) → number_32 word ≡ Some n → is_number_32 n ≡ true
+number_small : (word : List ℕ) (n : ℕ) → number_32 word ≡ Some n → is_word32 n ≡ true
 number_small word n h = by_number (decimal_of word) h
   where
-    by_test : (m : ℕ) (b : Bool) → nat_lt m (2 ^ 32) ≡ b → ◌≡◌ {A = Option ℕ} (cond b (Some m) None) (Some n) → is_number_32 n ≡ true
-    by_test m true t h = let same : m ≡ n = cc in subst (λ k. is_number_32 k ≡ true) same t
+    by_test : (m : ℕ) (b : Bool) → nat_lt m (2 ^ 32) ≡ b → ◌≡◌ {A = Option ℕ} (cond b (Some m) None) (Some n) → is_word32 n ≡ true
+    by_test m true t h = let same : m ≡ n = cc in subst (λ k. is_word32 k ≡ true) same t
     by_test m false t h = absurd cc
 
-    by_number : (number : Option ℕ) → below_2_32 number ≡ Some n → is_number_32 n ≡ true
+    by_number : (number : Option ℕ) → below_2_32 number ≡ Some n → is_word32 n ≡ true
     by_number None h = absurd cc
     by_number (Some m) h = by_test m (nat_lt m (2 ^ 32)) refl h
 
-worker_small : (target : Option ℕ) (actor : Actor) → ((n : ℕ) → target ≡ Some n → is_number_32 n ≡ true) → worker_at target ≡ Some actor → is_actor_of_values actor ≡ true
+worker_small : (target : Option ℕ) (actor : Actor) → ((n : ℕ) → target ≡ Some n → is_word32 n ≡ true) → worker_at target ≡ Some actor → is_actor_of_values actor ≡ true
 worker_small None actor f h = absurd cc
 worker_small (Some t) actor f h = let same : Worker t ≡ actor = cc in subst (λ a. is_actor_of_values a ≡ true) same (f t refl)
 
-thread_small : (target thread : Option ℕ) (actor : Actor) → ((n : ℕ) → target ≡ Some n → is_number_32 n ≡ true) → ((n : ℕ) → thread ≡ Some n → is_number_32 n ≡ true)
+thread_small : (target thread : Option ℕ) (actor : Actor) → ((n : ℕ) → target ≡ Some n → is_word32 n ≡ true) → ((n : ℕ) → thread ≡ Some n → is_word32 n ≡ true)
     → thread_at target thread ≡ Some actor → is_actor_of_values actor ≡ true
 thread_small None thread actor f g h = absurd cc
 thread_small (Some t) None actor f g h = absurd cc

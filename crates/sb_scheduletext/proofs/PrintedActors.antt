@@ -9,7 +9,8 @@ use Rattle.std.proofs.lemmas.List.{take_at, drop_at, append_assoc, length_push}
 use Rattle.std.proofs.lemmas.List.Folds.{list_all-append}
 use Rattle.sb_scheduletext.specs.Actors.{is_dot, number_32, worker_at, thread_at, thread_named, actor_named, where_there, actor_of}
 use Rattle.sb_scheduletext.specs.Lines.{within}
-use Rattle.sb_scheduletext.specs.Printing.{actor_word, is_number_32, is_actor_of_values}
+use Rattle.sb_scheduletext.specs.Printing.{actor_word, is_actor_of_values}
+use Rattle.sb_wide.specs.Numbers.{is_word32}
 use Rattle.sb_scheduletext.specs.declared.faults.ScheduleKind.{ScheduleKind}
 use Rattle.sb_scheduletext.specs.declared.faults.ScheduleKind.TheVariants.{BadNumber}
 use Rattle.sb_statements.specs.Actors.{is_there}
@@ -56,14 +57,14 @@ decimal_no_dot law n h = all_more is_decimal_digit (λ b. not (is_dot b)) digit_
 
 -- numbers of 32 bits
 
-small : (n : ℕ) → is_number_32 n ≡ true → n < 2 ^ 64
+small : (n : ℕ) → is_word32 n ≡ true → n < 2 ^ 64
 small n h = grind (arith, nat_tests)
 
 -- a number below 2^32
 abbrev pub below_2_32 : Option ℕ → Option ℕ
 below_2_32 number = elim number [ None ↦ None | Some n ↦ if nat_lt n (2 ^ 32) then Some n else None ]
 
-number_back : DecimalsAreRead → (n : ℕ) → is_number_32 n ≡ true → number_32 (decimal n) ≡ Some n
+number_back : DecimalsAreRead → (n : ℕ) → is_word32 n ≡ true → number_32 (decimal n) ≡ Some n
 number_back law n h = ap below_2_32 (law n (small n h)).0 ∙ ap {B = Option ℕ} (λ t. cond t (Some n) None) h
 
 -- numbers from a least to a greatest

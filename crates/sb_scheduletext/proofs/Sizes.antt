@@ -9,7 +9,8 @@ use Rattle.std.proofs.lemmas.Fmt.{length-decimal-le, length-decimal-le_succ}
 use Rattle.std.proofs.lemmas.List.Sums.{sum_by-cons}
 use Rattle.sb_scheduletext.proofs.Printed.{as_many, each_made}
 use Rattle.sb_scheduletext.specs.Drafts.{step_count}
-use Rattle.sb_scheduletext.specs.Printing.{actor_word, in_order, is_actor_of_values, is_made, is_number_32, rounds_words, step_words, version_words}
+use Rattle.sb_scheduletext.specs.Printing.{actor_word, in_order, is_actor_of_values, is_made, rounds_words, step_words, version_words}
+use Rattle.sb_wide.specs.Numbers.{is_word32}
 use Rattle.sb_scheduletext.specs.PrintingLaws.{OrdersAreShort, WrittenSchedulesAreShort}
 use Rattle.sb_text.specs.PlainLines.{words_text}
 use Rattle.sb_statements.specs.declared.schedules.Actor.{Actor}
@@ -30,10 +31,10 @@ two s d =
     omega (arith, whole, first)
 
 -- a number of 32 bits has at most ten digits
-below : (n : ℕ) → is_number_32 n ≡ true → n < 4294967296
+below : (n : ℕ) → is_word32 n ≡ true → n < 4294967296
 below n h = grind (arith, nat_tests, h)
 
-ten_digits : (n : ℕ) → is_number_32 n ≡ true → length (decimal n) ≤ 10
+ten_digits : (n : ℕ) → is_word32 n ≡ true → length (decimal n) ≤ 10
 ten_digits n h =
     let l = below n h in
     length-decimal-le 10 n (omega arith) (omega (arith, l)) (omega (arith, l))
@@ -42,7 +43,7 @@ ten_digits n h =
 actor_short : (actor : Actor) → is_actor_of_values actor ≡ true → length (actor_word actor) ≤ 22
 actor_short (Worker target) h = let d = ten_digits target h in omega (arith, d)
 actor_short (Thread target thread) h =
-    let parts = and_parts (is_number_32 target) (is_number_32 thread) h in
+    let parts = and_parts (is_word32 target) (is_word32 thread) h in
     let first = ten_digits target parts.0 in
     let second = ten_digits thread parts.1 in
     let both = length-append (decimal target) (46 ∷ decimal thread) in

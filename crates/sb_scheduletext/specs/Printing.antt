@@ -1,11 +1,12 @@
 -- How schedules are written as a text.
-use Rattle.std.specs.Prelude.{ℕ, ◌^◌, Bool, ◌&&◌, nat_lt, nat_le, List, [], ◌∷◌, ◌++◌, map, codes}
+use Rattle.std.specs.Prelude.{ℕ, Bool, ◌&&◌, nat_le, List, [], ◌∷◌, ◌++◌, map, codes}
 use Rattle.std.specs.Fmt.{decimal}
 use Rattle.std.specs.List.{flat_map}
 use Rattle.sb_statements.specs.declared.schedules.Actor.{Actor}
 use Rattle.sb_statements.specs.declared.schedules.Actor.TheVariants.{Worker, Thread}
 use Rattle.sb_statements.specs.declared.schedules.Schedule.{Schedule}
 use Rattle.sb_text.specs.PlainLines.{words_text}
+use Rattle.sb_wide.specs.Numbers.{is_word32}
 
 -- the name of an actor: `bT` names the worker of target T, and `tT.K` its thread K
 abbrev pub actor_word : Actor → List ℕ
@@ -32,14 +33,10 @@ schedule_lines schedule = version_words ∷ (map step_words schedule.steps ++ ro
 abbrev pub written : Schedule → List ℕ
 written schedule = flat_map words_text (schedule_lines schedule)
 
--- a number of 32 bits
-abbrev pub is_number_32 : ℕ → Bool
-is_number_32 n = nat_lt n (2 ^ 32)
-
 -- the numbers of an actor have 32 bits, as those of every actor in memory have
 abbrev pub is_actor_of_values : Actor → Bool
-is_actor_of_values (Worker target) = is_number_32 target
-is_actor_of_values (Thread target thread) = is_number_32 target && is_number_32 thread
+is_actor_of_values (Worker target) = is_word32 target
+is_actor_of_values (Thread target thread) = is_word32 target && is_word32 thread
 
 -- such an actor makes at least one step
 abbrev pub is_made : Actor × ℕ → Bool

@@ -35,7 +35,8 @@ use Rattle.sb_scripttext.specs.Readiness.{ReadScriptsHaveUnits}
 use Rattle.sb_scripttext.specs.ScriptTexts.{Absence, ScriptFault, absence_fault, script_version, add_line, grammar, first_absence, script_of, finished, reading}
 use Rattle.sb_scripttext.specs.Statements.{value_at, target_word_at, store, exchange, load, wait}
 use Rattle.sb_scripttext.specs.Steps.{number_at, within, number_within, string_at, name, name_at}
-use Rattle.sb_scripttext.specs.Writable.{is_number, is_writable_start, is_writable_arg, is_writable_statement, is_writable_thread, is_writable_target, is_writable}
+use Rattle.sb_scripttext.specs.Writable.{is_writable_start, is_writable_arg, is_writable_statement, is_writable_thread, is_writable_target, is_writable}
+use Rattle.sb_wide.specs.Numbers.{is_word64}
 use Rattle.sb_scripttext.specs.WritingLaws.{ReadScriptsCanBeWritten}
 use Rattle.sb_scripttext.specs.declared.faults.ScriptKind.{ScriptKind}
 use Rattle.sb_scripttext.specs.declared.faults.ScriptKind.TheVariants.{NotUtf8, UnknownWord, UnknownCall, WrongArgs, BadNumber, BadName, SameName, TooBig, TooMany, BadStart}
@@ -66,45 +67,45 @@ word_rest quoted bad missing (Quoted q ∷ tokens) x h t = absurd cc
 word_rest quoted bad missing (Bad ∷ tokens) x h t = absurd cc
 word_rest quoted bad missing [] x h t = absurd cc
 
-below_64 : (v n : ℕ) → below_2_64 v ≡ Some n → is_number n ≡ true
+below_64 : (v n : ℕ) → below_2_64 v ≡ Some n → is_word64 n ≡ true
 below_64 v n e = by_test (nat_lt v (2 ^ 64)) refl e
   where
     some_same : (v n : ℕ) → ◌≡◌ {A = Option ℕ} (Some v) (Some n) → v ≡ n
     some_same v n e = cc
 
-    by_test : (t : Bool) → nat_lt v (2 ^ 64) ≡ t → cond t (Some v) None ≡ Some n → is_number n ≡ true
-    by_test true h e = subst (λ n. is_number n ≡ true) (some_same v n e) h
+    by_test : (t : Bool) → nat_lt v (2 ^ 64) ≡ t → cond t (Some v) None ≡ Some n → is_word64 n ≡ true
+    by_test true h e = subst (λ n. is_word64 n ≡ true) (some_same v n e) h
     by_test false h e = absurd cc
 
-digits_number : (t : Bool) (v n : ℕ) → cond t (below_2_64 v) None ≡ Some n → is_number n ≡ true
+digits_number : (t : Bool) (v n : ℕ) → cond t (below_2_64 v) None ≡ Some n → is_word64 n ≡ true
 digits_number true v n e = below_64 v n e
 digits_number false v n e = absurd cc
 
-decimal_number : (w : List ℕ) (n : ℕ) → decimal_of w ≡ Some n → is_number n ≡ true
+decimal_number : (w : List ℕ) (n : ℕ) → decimal_of w ≡ Some n → is_word64 n ≡ true
 decimal_number w n e = digits_number (are_digits is_decimal_digit 20 w) (value_from 10 0 w) n e
 
 -- the number of a word has 64 bits
-word_number : (w : List ℕ) (n : ℕ) → number_of w ≡ Some n → is_number n ≡ true
+word_number : (w : List ℕ) (n : ℕ) → number_of w ≡ Some n → is_word64 n ≡ true
 word_number [] n e = decimal_number [] n e
 word_number (b ∷ []) n e = decimal_number (b ∷ []) n e
 word_number (b ∷ c ∷ w) n e = by_prefix (b == 48 && c == 120) e
   where
-    by_prefix : (t : Bool) → cond t (hexadecimal_of w) (decimal_of (b ∷ c ∷ w)) ≡ Some n → is_number n ≡ true
+    by_prefix : (t : Bool) → cond t (hexadecimal_of w) (decimal_of (b ∷ c ∷ w)) ≡ Some n → is_word64 n ≡ true
     by_prefix true e = digits_number (are_digits is_hexadecimal_digit 16 w) (value_from 16 0 w) n e
     by_prefix false e = decimal_number (b ∷ c ∷ w) n e
 
 -- a number of 64 bits, and text follows it
 record IsRead (x : ℕ × List Lexeme) : Type 0 where
-  number : is_number x.0 ≡ true
+  number : is_word64 x.0 ≡ true
   rest : AreText x.1
 
 -- a number has 64 bits, whatever tokens it stands among
-number_small : (quoted missing : ScriptKind) (tokens : List Lexeme) (x : ℕ × List Lexeme) → number_at quoted missing tokens ≡ Ok x → is_number x.0 ≡ true
+number_small : (quoted missing : ScriptKind) (tokens : List Lexeme) (x : ℕ × List Lexeme) → number_at quoted missing tokens ≡ Ok x → is_word64 x.0 ≡ true
 unfolding number_at
 number_small quoted missing tokens x h =
     let w = made (word_at quoted (UnknownWord Broken) missing tokens) (λ word. or_fails tokens BadNumber (number_of word.0) >>= λ n. Ok (n, word.1)) x h in
     let n = made (or_fails tokens BadNumber (number_of w.0.0)) (λ n. Ok (n, w.0.1)) x w.2 in
-    subst (λ (y : ℕ × List Lexeme). is_number y.0 ≡ true) {x = (n.0, w.0.1)} (ok_same (n.0, w.0.1) x n.2)
+    subst (λ (y : ℕ × List Lexeme). is_word64 y.0 ≡ true) {x = (n.0, w.0.1)} (ok_same (n.0, w.0.1) x n.2)
     (word_number w.0.0 n.0 (there (number_of w.0.0) n.0 n.1))
   where
     there : (o : Option ℕ) (n : ℕ) → ◌≡◌ {A = Result ℕ (TokenFault ScriptKind)} (or_fails tokens BadNumber o) (Ok n) → o ≡ Some n
@@ -133,7 +134,7 @@ within_fine lo hi quoted missing tokens x h t =
     let p = passed (nat_le lo n.0.0 && nat_le n.0.0 hi) n.0.0 m.0 BadNumber (at_made (length tokens) (within lo hi n.0.0) m.0 m.1) in
     let fine = number_fine quoted missing tokens n.0 n.1 t in
     subst IsRead {x = (m.0, n.0.1)} (ok_same (m.0, n.0.1) x m.2)
-    (record { number = subst (λ n. is_number n ≡ true) p.1 fine.number; rest = fine.rest })
+    (record { number = subst (λ n. is_word64 n ≡ true) p.1 fine.number; rest = fine.rest })
 
 -- a string is text, and text follows it
 record IsString (x : List ℕ × List Lexeme) : Type 0 where
@@ -285,7 +286,7 @@ call_fine law tokens text statement h =
     let f = passed (encodes t.0.0 a.0.0) (Call t.0.0 a.0.0) statement TooBig (at_made (with_first tokens) (fitting t.0.0 a.0.0) statement e.2) in
     subst (λ statement. is_writable_statement statement ≡ true) f.1 (args_fine law (shape_of t.0.0) t.0.1 a.0 a.1 (tag_rest tokens t.0 t.1 text))
 
-value_fine : (tokens : List Lexeme) (x : ℕ × List Lexeme) → value_at tokens ≡ Ok x → is_number x.0 ≡ true
+value_fine : (tokens : List Lexeme) (x : ℕ × List Lexeme) → value_at tokens ≡ Ok x → is_word64 x.0 ≡ true
 value_fine tokens x h = number_small BadNumber (WrongArgs Missing) tokens x h
 
 store_fine : (tokens : List Lexeme) → States (store tokens)
@@ -531,7 +532,7 @@ args_units [] h = refl
 args_units (arg.Str text ∷ args) h =
     let parts = and_parts (is_text text) (list_all is_writable_arg args) h in
     both _ _ (text_units text (and_parts (list_all is_text_unit text) (is_paired text) parts.0).0) (args_units args parts.1)
-args_units (arg.Num number ∷ args) h = args_units args (and_parts (is_number number) (list_all is_writable_arg args) h).1
+args_units (arg.Num number ∷ args) h = args_units args (and_parts (is_word64 number) (list_all is_writable_arg args) h).1
 
 statement_units : (statement : Statement) → is_writable_statement statement ≡ true → statement_has_units statement ≡ true
 statement_units (Call tag args) h = args_units args h

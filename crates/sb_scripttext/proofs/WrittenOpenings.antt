@@ -9,7 +9,8 @@ use Rattle.sb_scripttext.proofs.WrittenWords.{Texts, at_most, within_read, short
 use Rattle.sb_scripttext.specs.Arguments.{most_32}
 use Rattle.sb_scripttext.specs.Openings.{dir, file, key, event}
 use Rattle.sb_scripttext.specs.Steps.{number_within}
-use Rattle.sb_scripttext.specs.Writable.{is_number, is_writable_start}
+use Rattle.sb_scripttext.specs.Writable.{is_writable_start}
+use Rattle.sb_wide.specs.Numbers.{is_word64}
 use Rattle.sb_text.specs.Strings.{is_text, string_token}
 use Rattle.sb_scripttext.specs.Writing.{number_token, start_tokens}
 use Rattle.sb_scripttext.specs.declared.faults.ScriptKind.{ScriptKind}
@@ -61,7 +62,7 @@ of_kind name kind = number_within 0 1 BadNumber (UnknownWord Missing) kind.1 >>=
 abbrev then_kind : List ℕ × List Lexeme → Result StartLine (TokenFault ScriptKind)
 then_kind name = number_within 0 1 BadNumber (UnknownWord Missing) name.1 >>= of_kind name.0
 
-pub bit_number : (n : ℕ) → nat_le n 1 ≡ true → is_number n ≡ true
+pub bit_number : (n : ℕ) → nat_le n 1 ≡ true → is_word64 n ≡ true
 bit_number n h = grind (arith, nat_tests)
 
 a_bit : (n : ℕ) → nat_le n 1 ≡ true → (nat_le 0 n && nat_le n 1) ≡ true

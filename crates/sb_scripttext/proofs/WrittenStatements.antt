@@ -23,7 +23,8 @@ use Rattle.sb_scripttext.specs.SoFar.{named_by}
 use Rattle.sb_scripttext.specs.ScriptTexts.{Absence, first_absence, no_channel, no_target}
 use Rattle.sb_scripttext.specs.Statements.{value_at, short_at, place_at, target_word_at, store, exchange, load, wait}
 use Rattle.sb_scripttext.specs.Steps.{within}
-use Rattle.sb_scripttext.specs.Writable.{is_number, is_writable_arg, is_writable_statement}
+use Rattle.sb_scripttext.specs.Writable.{is_writable_arg, is_writable_statement}
+use Rattle.sb_wide.specs.Numbers.{is_word64}
 use Rattle.sb_scripttext.specs.Writing.{number_token, place_word, arg_token, word_tokens, statement_tokens}
 use Rattle.sb_scripttext.specs.declared.faults.ScriptKind.{ScriptKind}
 use Rattle.sb_scripttext.specs.declared.faults.ScriptKind.TheVariants.{UnknownWord, WrongArgs, BadNumber, TooBig}
@@ -130,7 +131,7 @@ stored target word value = end_at (WrongArgs Extra) (UnknownWord Broken) value.1
 abbrev then_stored : (ℕ × words.Word) × List Lexeme → Result Statement (TokenFault ScriptKind)
 then_stored word = value_at word.1 >>= stored word.0.0 word.0.1
 
-store_read : Texts → (target : ℕ) (word : words.Word) (value : ℕ) → IsNamed target word → is_number value ≡ true
+store_read : Texts → (target : ℕ) (word : words.Word) (value : ℕ) → IsNamed target word → is_word64 value ≡ true
     → store (word_tokens target word.channel word.at (number_token value ∷ [])) ≡ Ok (Store target word value)
 unfolding store
 store_read law target word value n h =
@@ -146,7 +147,7 @@ with_old target word old = value_at old.1 >>= exchanged target word old.0
 abbrev then_exchanged : (ℕ × words.Word) × List Lexeme → Result Statement (TokenFault ScriptKind)
 then_exchanged word = value_at word.1 >>= with_old word.0.0 word.0.1
 
-exchange_read : Texts → (target : ℕ) (word : words.Word) (old new : ℕ) → IsNamed target word → is_number old ≡ true → is_number new ≡ true
+exchange_read : Texts → (target : ℕ) (word : words.Word) (old new : ℕ) → IsNamed target word → is_word64 old ≡ true → is_word64 new ≡ true
     → exchange (word_tokens target word.channel word.at (number_token old ∷ number_token new ∷ [])) ≡ Ok (Exchange target word old new)
 unfolding exchange
 exchange_read law target word old new n h k =
@@ -174,10 +175,10 @@ then_waited word = value_at word.1 >>= with_value word.0.0 word.0.1
 abbrev waited_within : List Lexeme → ℕ → words.Word → ℕ → ℕ → Bool → Result Statement (TokenFault ScriptKind)
 waited_within due target word value most t = at_token due (cond t (Ok most) (Err BadNumber)) >>= λ most. Ok (Wait target word value most)
 
-pub patience_number : (n : ℕ) → is_patience n ≡ true → is_number n ≡ true
+pub patience_number : (n : ℕ) → is_patience n ≡ true → is_word64 n ≡ true
 patience_number n h = grind (arith, nat_tests)
 
-wait_read : Texts → (target : ℕ) (word : words.Word) (value most : ℕ) → IsNamed target word → is_number value ≡ true → is_patience most ≡ true
+wait_read : Texts → (target : ℕ) (word : words.Word) (value most : ℕ) → IsNamed target word → is_word64 value ≡ true → is_patience most ≡ true
     → wait (word_tokens target word.channel word.at (number_token value ∷ number_token most ∷ [])) ≡ Ok (Wait target word value most)
 unfolding wait
 wait_read law target word value most n h k =

@@ -27,7 +27,8 @@ use Rattle.sb_scripttext.proofs.WrittenOpenings.{few_attributes, bit_number}
 use Rattle.sb_scripttext.proofs.WrittenStatements.{AreSound, IsNamed, named_there, patience_number}
 use Rattle.sb_scripttext.proofs.WrittenWords.{Texts, string_back, number_digits, short_number}
 use Rattle.sb_book.specs.Readiness.{is_judged}
-use Rattle.sb_scripttext.specs.Writable.{is_number, is_writable_start, is_writable_arg, is_writable_statement, is_writable_thread, is_writable_target, are_short_named}
+use Rattle.sb_scripttext.specs.Writable.{is_writable_start, is_writable_arg, is_writable_statement, is_writable_thread, is_writable_target, are_short_named}
+use Rattle.sb_wide.specs.Numbers.{is_word64}
 use Rattle.sb_text.specs.Strings.{is_text, string_token}
 use Rattle.sb_scripttext.specs.Writing.{number_token, place_word, start_tokens, arg_token, word_tokens, statement_tokens, thread_lines, policy_name, heading_tokens, target_lines, patience_tokens, script_lines}
 use Rattle.sb_text.specs.Numbers.{is_decimal_digit, are_digits}
@@ -47,14 +48,14 @@ digits_plain : (w : List ℕ) → are_digits is_decimal_digit 20 w ≡ true → 
 digits_plain [] h = absurd (false≢true h)
 digits_plain (b ∷ w) h = all_more is_decimal_digit is_plain_byte digit_plain (b ∷ w) (and_parts _ _ h).1
 
-number_plain : Texts → (n : ℕ) → is_number n ≡ true → is_plain (number_token n) ≡ true
+number_plain : Texts → (n : ℕ) → is_word64 n ≡ true → is_plain (number_token n) ≡ true
 number_plain law n h = digits_plain (decimal n) (number_digits law n h)
 
 place_plain : Texts → (at : ℕ) → nat_le at 64 ≡ true → is_plain (Word (place_word at)) ≡ true
 place_plain law zero h = refl
 place_plain law (suc i) h = number_plain law i (few i h)
   where
-    few : (i : ℕ) → nat_le (suc i) 64 ≡ true → is_number i ≡ true
+    few : (i : ℕ) → nat_le (suc i) 64 ≡ true → is_word64 i ≡ true
     few i h = grind (arith, nat_tests)
 
 name_byte : (b : ℕ) → is_name_byte b ≡ true → is_plain_byte b ≡ true
@@ -120,10 +121,10 @@ word_plain law target word tokens n t =
     both _ _ (number_plain law target (short_number target n.short_target))
     (both _ _ (number_plain law word.channel (short_number word.channel n.short_channel)) (both _ _ (place_plain law word.at n.place) t))
 
-value_plain : Texts → (value : ℕ) → is_number value ≡ true → list_all is_plain (number_token value ∷ []) ≡ true
+value_plain : Texts → (value : ℕ) → is_word64 value ≡ true → list_all is_plain (number_token value ∷ []) ≡ true
 value_plain law value h = both _ _ (number_plain law value h) refl
 
-values_plain : Texts → (one two : ℕ) → is_number one ≡ true → is_number two ≡ true → list_all is_plain (number_token one ∷ number_token two ∷ []) ≡ true
+values_plain : Texts → (one two : ℕ) → is_word64 one ≡ true → is_word64 two ≡ true → list_all is_plain (number_token one ∷ number_token two ∷ []) ≡ true
 values_plain law one two h k = both _ _ (number_plain law one h) (value_plain law two k)
 
 pub statement_plain : Texts → (targets : List TargetScript) (statement : Statement) → AreSound targets → is_statement targets statement ≡ true
@@ -133,7 +134,7 @@ statement_plain law targets (Store target word value) s h w =
     word_plain law target word (number_token value ∷ []) (named_there targets target word s h) (value_plain law value w)
 statement_plain law targets (Exchange target word old new) s h w =
     word_plain law target word (number_token old ∷ number_token new ∷ []) (named_there targets target word s h)
-    (values_plain law old new (and_parts (is_number old) (is_number new) w).0 (and_parts (is_number old) (is_number new) w).1)
+    (values_plain law old new (and_parts (is_word64 old) (is_word64 new) w).0 (and_parts (is_word64 old) (is_word64 new) w).1)
 statement_plain law targets (Load target word) s h w = word_plain law target word [] (named_there targets target word s h) refl
 statement_plain law targets (Wait target word value most) s h w =
     let parts = and_parts (has_word targets target word) (is_patience most) h in
@@ -160,7 +161,7 @@ threads_plain law targets (statements ∷ threads) s h w =
 
 -- targets
 
-pub channels_number : (n : ℕ) → nat_le n 8 ≡ true → is_number n ≡ true
+pub channels_number : (n : ℕ) → nat_le n 8 ≡ true → is_word64 n ≡ true
 channels_number n h = grind (arith, nat_tests)
 
 below : (i n : ℕ) → nat_lt i n ≡ true → i < n

@@ -16,7 +16,7 @@ use Rattle.sb_scripttext.specs.Arguments.{most_32, tag_at}
 use Rattle.sb_scripttext.specs.Lines.{policy_number, policy_at}
 use Rattle.sb_scripttext.specs.Statements.{short, short_at, block_place, place_of, place_at}
 use Rattle.sb_scripttext.specs.Steps.{number_at, within, number_within, string_at, name, name_at}
-use Rattle.sb_scripttext.specs.Writable.{is_number}
+use Rattle.sb_wide.specs.Numbers.{is_word64}
 use Rattle.sb_scripttext.specs.Writing.{number_token, place_word, policy_name}
 use Rattle.sb_scripttext.specs.declared.faults.ScriptKind.{ScriptKind}
 use Rattle.sb_scripttext.specs.declared.faults.ScriptKind.TheVariants.{UnknownCall, WrongArgs, BadNumber, BadName, NoSuchPolicy, NoSuchWord}
@@ -29,7 +29,7 @@ use Rattle.sb_wide.specs.Names.{is_name_of}
 
 -- numbers
 
-small : (n : ℕ) → is_number n ≡ true → n < 2 ^ 64
+small : (n : ℕ) → is_word64 n ≡ true → n < 2 ^ 64
 small n h = grind (arith, nat_tests)
 
 -- the laws of lower crates that the proofs on values stand on
@@ -41,7 +41,7 @@ pub not_true : (t : Bool) → not t ≡ true → t ≡ false
 not_true false h = refl
 not_true true h = sym h
 
-number_back : Texts → (n : ℕ) → is_number n ≡ true → number_of (decimal n) ≡ Some n
+number_back : Texts → (n : ℕ) → is_word64 n ≡ true → number_of (decimal n) ≡ Some n
 number_back law n h = (law.numbers n (small n h)).1
 
 made : (t : Bool) (x : Option ℕ) (n : ℕ) → cond t x None ≡ Some n → t ≡ true
@@ -49,10 +49,10 @@ made true x n e = refl
 made false x n e = cc
 
 -- a number is written by decimal digits
-pub number_digits : Texts → (n : ℕ) → is_number n ≡ true → are_digits is_decimal_digit 20 (decimal n) ≡ true
+pub number_digits : Texts → (n : ℕ) → is_word64 n ≡ true → are_digits is_decimal_digit 20 (decimal n) ≡ true
 number_digits law n h = made _ _ n (law.numbers n (small n h)).0
 
-pub number_read : Texts → (quoted missing : ScriptKind) (n : ℕ) (rest : List Lexeme) → is_number n ≡ true
+pub number_read : Texts → (quoted missing : ScriptKind) (n : ℕ) (rest : List Lexeme) → is_word64 n ≡ true
     → number_at quoted missing (number_token n ∷ rest) ≡ Ok (n, rest)
 unfolding number_at
 number_read law quoted missing n rest h = ap (λ o. or_fails (number_token n ∷ rest) BadNumber o >>= λ n. Ok (n, rest)) (number_back law n h)
@@ -65,13 +65,13 @@ ranged due lo hi n = at_token due (within lo hi n.0) >>= λ number. Ok (number, 
 abbrev in_range : List Lexeme → ℕ → List Lexeme → Bool → Read ℕ ScriptKind
 in_range due n rest t = at_token due (cond t (Ok n) (Err BadNumber)) >>= λ number. Ok (number, rest)
 
-pub within_read : Texts → (lo hi : ℕ) (quoted missing : ScriptKind) (n : ℕ) (rest : List Lexeme) → is_number n ≡ true
+pub within_read : Texts → (lo hi : ℕ) (quoted missing : ScriptKind) (n : ℕ) (rest : List Lexeme) → is_word64 n ≡ true
     → (nat_le lo n && nat_le n hi) ≡ true → number_within lo hi quoted missing (number_token n ∷ rest) ≡ Ok (n, rest)
 unfolding number_within
 within_read law lo hi quoted missing n rest h k =
     ap (λ (r : Read ℕ ScriptKind). r >>= ranged (number_token n ∷ rest) lo hi) (number_read law quoted missing n rest h) ∙ ap (in_range (number_token n ∷ rest) n rest) k
 
-pub short_number : (n : ℕ) → nat_le n most_32 ≡ true → is_number n ≡ true
+pub short_number : (n : ℕ) → nat_le n most_32 ≡ true → is_word64 n ≡ true
 short_number n h = grind (arith, nat_tests)
 
 pub at_most : (n : ℕ) → nat_le n most_32 ≡ true → (nat_le 0 n && nat_le n most_32) ≡ true
@@ -118,7 +118,7 @@ place_back law (suc i) h =
     ∙ ap (in_block i) (few i h)
     ∙ ap Ok {x = 1 + i} {y = suc i} (omega arith)
   where
-    number : (i : ℕ) → nat_le (suc i) 64 ≡ true → is_number i ≡ true
+    number : (i : ℕ) → nat_le (suc i) 64 ≡ true → is_word64 i ≡ true
     number i h = grind (arith, nat_tests)
 
     few : (i : ℕ) → nat_le (suc i) 64 ≡ true → nat_le i 63 ≡ true

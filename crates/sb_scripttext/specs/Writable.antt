@@ -1,5 +1,5 @@
 -- Which scripts can be written as a text.
-use Rattle.std.specs.Prelude.{ℕ, ◌^◌, Bool, true, ◌&&◌, nat_lt, List}
+use Rattle.std.specs.Prelude.{Bool, true, ◌&&◌, List}
 use Rattle.std.specs.List.{list_all}
 use Rattle.sb_call.specs.ShortNames.{is_short_name}
 use Rattle.sb_call.specs.declared.arguments.Arg.{Arg}
@@ -12,10 +12,7 @@ use Rattle.sb_statements.specs.declared.scripts.StartLine.TheVariants.{Dir, File
 use Rattle.sb_statements.specs.declared.scripts.TargetScript.{TargetScript}
 use Rattle.sb_statements.specs.declared.statements.Statement.{Statement}
 use Rattle.sb_statements.specs.declared.statements.Statement.TheVariants.{Call, Store, Exchange, Load, Wait}
-
--- a number of 64 bits
-abbrev pub is_number : ℕ → Bool
-is_number n = nat_lt n (2 ^ 64)
+use Rattle.sb_wide.specs.Numbers.{is_word64}
 
 -- the name of an opening line is text
 abbrev pub is_writable_start : StartLine → Bool
@@ -27,15 +24,15 @@ is_writable_start (Event name kind initial) = is_text name
 -- an argument is text, or a number of 64 bits
 abbrev pub is_writable_arg : Arg → Bool
 is_writable_arg (Str text) = is_text text
-is_writable_arg (Num number) = is_number number
+is_writable_arg (Num number) = is_word64 number
 
 -- the arguments of a call can be written, and the values of another statement have 64 bits
 abbrev pub is_writable_statement : Statement → Bool
 is_writable_statement (Call tag args) = list_all is_writable_arg args
-is_writable_statement (Store target word value) = is_number value
-is_writable_statement (Exchange target word from to) = is_number from && is_number to
+is_writable_statement (Store target word value) = is_word64 value
+is_writable_statement (Exchange target word from to) = is_word64 from && is_word64 to
 is_writable_statement (Load target word) = true
-is_writable_statement (Wait target word value most) = is_number value
+is_writable_statement (Wait target word value most) = is_word64 value
 
 -- each statement of a thread can be written
 abbrev pub is_writable_thread : List Statement → Bool

@@ -12,7 +12,8 @@ use Rattle.sb_core.specs.Worlds.{rounds, start_world, steps}
 use Rattle.sb_kernel.specs.Openings.{opened}
 use Rattle.sb_rule.specs.WellMade.{are_well_made}
 use Rattle.sb_rule.specs.declared.policies.Policy.{Policy}
-use Rattle.sb_scheduletext.specs.Printing.{in_order, is_actor_of_values, is_number_32}
+use Rattle.sb_scheduletext.specs.Printing.{in_order, is_actor_of_values}
+use Rattle.sb_wide.specs.Numbers.{is_word32}
 use Rattle.sb_scheduletext.specs.PrintingLaws.{OrdersAreRead, OrdersAreShort}
 use Rattle.sb_scheduletext.specs.ScheduleTexts as schedules
 use Rattle.sb_statements.specs.Actors.{is_step_there, is_there, thread_count}
@@ -56,7 +57,7 @@ few_threads targets target h =
 below : (a b : ℕ) → nat_lt a b ≡ true → a < b
 below a b e = grind (arith, nat_tests)
 
-small : (n : ℕ) → n < 16 → is_number_32 n ≡ true
+small : (n : ℕ) → n < 16 → is_word32 n ≡ true
 small n l = grind (arith, nat_tests, l)
 
 within : {X : Type 0} (xs : List X) (i : ℕ) (x : X) → slice_get xs i ≡ Some x → i < length xs
@@ -71,14 +72,14 @@ actor_small law script sound (Worker t) h =
     small t (omega (arith, low, few))
 actor_small law script sound (Thread t k) h = by_target (slice_get script.targets t) refl h
   where
-    by_target : (o : Option TargetScript) → slice_get script.targets t ≡ o → nat_lt k (thread_count o) ≡ true → (is_number_32 t && is_number_32 k) ≡ true
+    by_target : (o : Option TargetScript) → slice_get script.targets t ≡ o → nat_lt k (thread_count o) ≡ true → (is_word32 t && is_word32 k) ≡ true
     by_target None e f = let low = below k 0 f in absurd (omega (arith, low))
     by_target (Some target) e f =
         let low = below k (length target.threads) f in
         let few = few_threads script.targets target (law script t target sound e) in
         let there = within script.targets t target e in
         let count = few_targets script sound in
-        and_from (is_number_32 t) (is_number_32 k) (small t (omega (arith, there, count))) (small k (omega (arith, low, few)))
+        and_from (is_word32 t) (is_word32 k) (small t (omega (arith, there, count))) (small k (omega (arith, low, few)))
 
 actors_small : SoundTargets → (script : Script) → is_sound script ≡ true → (actors : List Actor) → are_there script.targets actors ≡ true → list_all is_actor_of_values actors ≡ true
 actors_small law script sound [] h = refl
