@@ -18,6 +18,7 @@ pub mod ThreadStages
 pub mod ThreadTable
 pub mod Ties
 pub mod Waiting
+pub mod WordMoves
 pub mod WordSteps
 pub mod WorkerFields
 pub mod WorkerStages

@@ -13,6 +13,7 @@ ghost use Rattle.sb_actor.specs.Places.{statement_at, begins, direct_at, thread_
 ghost use Rattle.sb_actor.specs.Observations.{Done, Value};
 ghost use Rattle.sb_actor.specs.ThreadFields.{is_free};
 ghost use Rattle.sb_actor.specs.Waiting.{moved_to, next_load, reply_channel};
+ghost use Rattle.sb_actor.specs.WordMoves.{thread_loads, thread_moves_left, thread_stores, thread_values};
 ghost use Rattle.sb_actor.specs.WordSteps.{thread_load, thread_store};
 ghost use Rattle.sb_actor.specs.ThreadTable.{thread_plan, thread_after, stray_row, after_round, after_try, after_send, after_wait, after_stray_load, reply_by, goes_on, ends, has_clean};
 
@@ -44,7 +45,7 @@ pub struct ThreadState {
     clean: ArrayVec<bool, 8>,
     place: u32,
     phase: ThreadPhase,
-    // Whether it waits for the reply on a clean channel. Most steps are such, and ask no more.
+    // Whether it waits for the reply on a clean channel. Most steps are those of threads that wait, and they test nothing else.
     waits: bool,
     channel: u32,
     count: u32,
@@ -595,6 +596,71 @@ impl ThreadState {
                 self.reply[self.at as usize] = value;
                 self.at += 1;
                 if self.at == 12 {
+                    self.phase = ThreadPhase::Free;
+                }
+            }
+            _ => unreachable!(),
+        }
+    }
+
+    /// How many of its next steps in a row move a word: as many as are left of its block or of the reply, and 0 at any other step.
+    #[inline(always)]
+    pub fn moves_left(&self) -> u32
+        ensures { result ≡ thread_moves_left self.now }
+    {
+        match self.phase {
+            ThreadPhase::Fill => self.block.len() as u32 - self.at,
+            ThreadPhase::Fetch => 12 - self.at,
+            _ => 0,
+        }
+    }
+
+    /// The values of its block that its next `count` steps store, one each.
+    pub fn values_to_store(&self, count: u32) -> &[u64]
+        requires stores { is_some (thread_store self.now) ≡ true }
+        requires left { count ≤ thread_moves_left self.now }
+        ensures { result.now ≡ thread_values self.now count }
+    {
+        match self.phase {
+            ThreadPhase::Fill => {
+                let at = self.at as usize;
+                &self.block.as_slice()[at..at + count as usize]
+            }
+            _ => unreachable!(),
+        }
+    }
+
+    /// Goes on from `count` stores in a row of words of its block: the same as `after_store` as often. No statement ends.
+    pub fn after_stores(&mut self, count: u32)
+        requires stores { is_some (thread_store self.old) ≡ true }
+        requires left { count ≤ thread_moves_left self.old }
+        ensures { self.new ≡ thread_stores self.old count }
+    {
+        match self.phase {
+            ThreadPhase::Fill => {
+                let at = self.at + count;
+                self.at = at;
+                if at as usize == self.block.len() {
+                    self.phase = ThreadPhase::Send;
+                }
+            }
+            _ => unreachable!(),
+        }
+    }
+
+    /// Goes on from loads in a row of words of the reply by their values: the same as `after_load` with each of them. No statement ends.
+    pub fn after_loads(&mut self, values: &[u64])
+        requires loads { is_some (thread_load self.old) ≡ true }
+        requires left { length values.now ≤ thread_moves_left self.old }
+        ensures { self.new ≡ thread_loads self.old values.now }
+    {
+        match self.phase {
+            ThreadPhase::Fetch => {
+                let at = self.at as usize;
+                let end = at + values.len();
+                self.reply[at..end].copy_from_slice(values);
+                self.at = end as u32;
+                if end == 12 {
                     self.phase = ThreadPhase::Free;
                 }
             }

@@ -6,6 +6,7 @@ ghost use Rattle.sb_actor.specs.WorkerStages.{Look};
 ghost use Rattle.sb_actor.specs.Acts.{observation};
 ghost use Rattle.sb_actor.specs.Observations.{Answered, Done, Value};
 ghost use Rattle.sb_actor.specs.WorkerTable.{worker_plan, worker_after, after_look, after_count, after_end, look_next, at_stage, IsAnswer, taken_in, is_looking};
+ghost use Rattle.sb_actor.specs.WordMoves.{worker_loads, worker_moves_left, worker_stores, worker_values};
 ghost use Rattle.sb_actor.specs.WordSteps.{worker_load, worker_store};
 ghost use Rattle.sb_actor.specs.declared.acts.Act.TheVariants.{Answer};
 
@@ -282,6 +283,70 @@ impl WorkerState {
                     self.phase = WorkerPhase::Ack;
                 } else {
                     self.at += 1;
+                }
+            }
+            _ => unreachable!(),
+        }
+    }
+
+    /// How many of its next steps in a row move a word: as many as are left of the copy or of the reply, and 0 at any other step.
+    #[inline(always)]
+    pub fn moves_left(&self) -> u32
+        ensures { result ≡ worker_moves_left self.now.stage }
+    {
+        match self.phase {
+            WorkerPhase::Copy => self.end as u32 - self.words.len() as u32,
+            WorkerPhase::Reply => 12 - self.at,
+            _ => 0,
+        }
+    }
+
+    /// Goes on from loads in a row of words of the block by their values: the same as `after_load` with each of them.
+    pub fn after_loads(&mut self, values: &[u64])
+        requires copies { is_some (worker_load self.old) ≡ true }
+        requires left { length values.now ≤ worker_moves_left self.old.stage }
+        ensures { self.new ≡ worker_loads self.old values.now }
+    {
+        match self.phase {
+            WorkerPhase::Copy => {
+                self.words.extend(values);
+                if self.end == self.words.len() as u64 {
+                    let (count, end) = (self.count, self.end);
+                    end_copy(&mut self.taken, &mut self.words, count, end);
+                    self.phase = WorkerPhase::Take;
+                }
+            }
+            _ => unreachable!(),
+        }
+    }
+
+    /// The values of the reply that its next `count` steps store, one each.
+    pub fn values_to_store(&self, count: u32) -> &[u64]
+        requires stores { is_some (worker_store self.now) ≡ true }
+        requires left { count ≤ worker_moves_left self.now.stage }
+        ensures { result.now ≡ worker_values self.now.stage count }
+    {
+        match self.phase {
+            WorkerPhase::Reply => {
+                let at = self.at as usize;
+                &self.reply[at..at + count as usize]
+            }
+            _ => unreachable!(),
+        }
+    }
+
+    /// Goes on from `count` stores in a row of words of the reply: the same as `after_store` as often.
+    pub fn after_stores(&mut self, count: u32)
+        requires stores { is_some (worker_store self.old) ≡ true }
+        requires left { count ≤ worker_moves_left self.old.stage }
+        ensures { self.new ≡ worker_stores self.old count }
+    {
+        match self.phase {
+            WorkerPhase::Reply => {
+                if self.at + count == 12 {
+                    self.phase = WorkerPhase::Ack;
+                } else {
+                    self.at += count;
                 }
             }
             _ => unreachable!(),

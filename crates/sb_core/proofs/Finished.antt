@@ -11,7 +11,7 @@ use Rattle.sb_core.specs.Worlds.{WorldAt, all_finished, all_over, round, rounds}
 use Rattle.sb_core.proofs.Folding.{rounds_done, rounds_more}
 
 -- two tests that pass together are the same
-same_test : (a b : Bool) → (a ≡ true → b ≡ true) → (b ≡ true → a ≡ true) → a ≡ b
+pub same_test : (a b : Bool) → (a ≡ true → b ≡ true) → (b ≡ true → a ≡ true) → a ≡ b
 same_test true true f g = refl
 same_test true false f g = sym (f refl)
 same_test false true f g = g refl

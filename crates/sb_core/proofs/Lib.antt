@@ -14,6 +14,7 @@ pub mod Fitting
 pub mod Folding
 pub mod Judging
 pub mod Keeping
+pub mod Leaping
 pub mod Learning
 pub mod Looking
 pub mod Moving
@@ -34,9 +35,11 @@ pub mod Sourcing
 pub mod Starting
 pub mod Stepping
 pub mod Tallying
+pub mod Targets
 pub mod Telling
 pub mod There
 pub mod ThreadKeeping
+pub mod ThreadMoves
 pub mod ThreadRows
 pub mod ThreadRuling
 pub mod ThreadSources
@@ -45,6 +48,7 @@ pub mod Tidings
 pub mod Tracing
 pub mod ViewSteps
 pub mod Waiting
+pub mod WorkerMoves
 pub mod WorkerRuling
 pub mod WorkerSources
 pub mod WorkerTallies

@@ -9,7 +9,7 @@ use Rattle.sb_core.specs.Words.{IsWordThere, loaded, words_of}
 use Rattle.sb_core.specs.Worlds.{WorldAt, worker_at, worker_step}
 use Rattle.sb_core.proofs.Keeping.{worker_left}
 
-looks_is : (stage : WorkerStage) → is_looking stage ≡ true → stage ≡ Look
+pub looks_is : (stage : WorkerStage) → is_looking stage ≡ true → stage ≡ Look
 looks_is Look e = refl
 looks_is Count e = absurd cc
 looks_is (End count) e = absurd cc

@@ -1,5 +1,5 @@
 -- The step of a thread that moves a word of a block, and that of a worker.
-use Rattle.std.proofs.Common.{◌≡◌, refl, ap, subst, sym, ℕ, ◌+◌, length, Option, None, Some, set}
+use Rattle.std.proofs.Common.{◌≡◌, refl, ap, subst, sym, ℕ, ◌+◌, length, Some, set}
 use Rattle.std.specs.Prelude.{slice_index}
 use Rattle.std.proofs.lemmas.List.{append-nil}
 use Rattle.sb_actor.specs.Observations.{Done, Value}
@@ -19,7 +19,7 @@ use Rattle.sb_core.specs.Words.{IsWordThere, loaded, stored, words_of}
 use Rattle.sb_core.specs.Worlds.{WorldAt, worker_at, worker_step}
 use Rattle.sb_core.proofs.Keeping.{worker_left}
 
-given : {X : Type 0} (a b : X) → Some a ≡ Some b → a ≡ b
+pub given : {X : Type 0} (a b : X) → Some a ≡ Some b → a ≡ b
 given a b e = cc
 
 -- a thread that loads a word of the reply

@@ -108,7 +108,7 @@ module _ (script : Script) where
   chosen u true v w x y = x
   chosen u false v w x y = y
 
-  leads_rounds : (n : ℕ) (w : WorldAt) → Leads script w (rounds n script w)
+  pub leads_rounds : (n : ℕ) (w : WorldAt) → Leads script w (rounds n script w)
   leads_rounds zero w = leads_by [] w refl
   leads_rounds (suc n) w =
       chosen w (all_finished script w) w (rounds n script (round script w)) (leads_by [] w refl)

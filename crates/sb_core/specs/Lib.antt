@@ -4,6 +4,7 @@ pub mod Shared
 pub mod Threads
 pub mod Worlds
 pub mod Drains
+pub mod Leaps
 pub mod Kept
 pub mod Reports
 pub mod Runs

@@ -4,17 +4,22 @@ ghost use Rattle.sb_actor.specs.Places.{direct_at};
 ghost use Rattle.sb_actor.specs.ThreadTable.{thread_plan};
 ghost use Rattle.sb_statements.specs.CleanTables.{IsCleanTable};
 ghost use Rattle.sb_statements.specs.Actors.{thread_count};
+ghost use Rattle.sb_core.specs.Leaps.{CanMoveRuns, RunCanMove, all_rest, first_active, run_moves, run_rests, runs_ahead};
 ghost use Rattle.sb_core.specs.Shared.{IsActThere};
 ghost use Rattle.sb_core.specs.Threads.{HasRoom, are_over, no_run, thread_step, unfinished_of};
 ghost use Rattle.sb_core.specs.Worlds.{first_run, first_runs};
 
 use crate::shared::Shared;
+use crate::words::TargetWords;
 use sb_actor::{ACKNOWLEDGED, ThreadState};
 use sb_book::{TargetResults, ThreadResults};
 use sb_items::NoMemory;
 use sb_statements::{CleanTable, MOST_STATEMENTS, SoundScript, Statement, StmtResult};
 use std::alloc::Global;
 use std::marker::Model;
+
+/// More rounds than a schedule can have.
+const MOST_ROUNDS: u32 = u32::MAX;
 
 /// A thread, and the results of its statements that ended, by place.
 #[derive(Drop)]
@@ -194,6 +199,32 @@ impl ThreadRun {
         }
     }
 
+    // Whether its step changes nothing: it is over, or waits on a clean channel for a reply that is not there.
+    #[inline(always)]
+    fn rests(&self, words: &TargetWords) -> bool
+        ensures { result ≡ run_rests words.now self.now }
+    {
+        match self.state.reply_channel() {
+            Some(channel) => words.state(channel) != ACKNOWLEDGED,
+            None => self.state.is_over(),
+        }
+    }
+
+    // Makes its next `count` steps, each of which moves a word.
+    #[tactic(auto, using(crate::proofs::ThreadMoves::values_there, crate::proofs::ThreadMoves::loads_there, crate::proofs::ThreadMoves::by_store, crate::proofs::ThreadMoves::by_load, crate::proofs::ThreadMoves::by_none))]
+    fn move_words(&mut self, words: &mut TargetWords, count: u32)
+        requires can { RunCanMove count words.old self.old }
+        ensures words { words.new ≡ (run_moves count words.old self.old).words }
+        ensures run { self.new ≡ (run_moves count words.old self.old).run }
+    {
+        if let Some((word, _value)) = self.state.word_to_store() {
+            words.store_from(word, self.state.values_to_store(count));
+            self.state.after_stores(count);
+        } else if let Some(word) = self.state.word_to_load() {
+            self.state.after_loads(words.part(word, count));
+        }
+    }
+
     /// Where the thread is.
     pub(crate) fn state(&self) -> &ThreadState
         ensures { result.now ≡ self.now.thread }
@@ -207,6 +238,13 @@ impl ThreadRun {
     {
         ThreadResults::new(self.results)
     }
+}
+
+// Whether each of these threads rests.
+fn all_rest(runs: &[ThreadRun], words: &TargetWords) -> bool
+    ensures { result ≡ all_rest words.now runs.now }
+{
+    runs.iter().all(|run| run.rests(words))
 }
 
 /// The threads of a target, numbered from 0. Contracts see them as a list.
@@ -258,6 +296,61 @@ impl TargetThreads {
         ensures shared { shared.new ≡ (thread_step script.now shared.old (slice_index_or self.old thread no_run)).shared }
     {
         self.runs[thread as usize].step(script, shared);
+    }
+
+    /// Whether each thread rests.
+    pub(crate) fn all_rest(&self, words: &TargetWords) -> bool
+        ensures { result ≡ all_rest words.now self.now }
+    {
+        all_rest(self.runs.as_slice(), words)
+    }
+
+    /// In how many rounds one thread moves a word in each and the others rest, or all rest.
+    pub(crate) fn rounds_ahead(&self, words: &TargetWords) -> u32
+        ensures { result ≡ runs_ahead words.now self.now }
+    {
+        let mut rest = self.runs.as_slice();
+        while let Some((run, later)) = rest.split_first() {
+            if !run.rests(words) {
+                let left = run.state.moves_left();
+                return if left > 0 && all_rest(later, words) {
+                    left
+                } else {
+                    0
+                };
+            }
+            rest = later;
+        }
+        MOST_ROUNDS
+    }
+
+    // The first thread that does not rest; as many as there are if all do.
+    fn first_active(&self, words: &TargetWords) -> usize
+        ensures { result ≡ first_active words.now self.now }
+    {
+        let mut at = 0;
+        let mut rest = self.runs.as_slice();
+        while let Some((run, later)) = rest.split_first() {
+            if !run.rests(words) {
+                return at;
+            }
+            at += 1;
+            rest = later;
+        }
+        at
+    }
+
+    /// The first thread that does not rest, if there is one, makes its next `count` steps, each of which moves a word.
+    #[tactic(auto, using(crate::proofs::Sets::at_place, crate::proofs::ThreadMoves::none_active, crate::proofs::ThreadMoves::none_words))]
+    pub(crate) fn move_words(&mut self, words: &mut TargetWords, count: u32)
+        requires can { CanMoveRuns count words.old self.old }
+        ensures words { words.new ≡ (run_moves count words.old (slice_index_or self.old (first_active words.old self.old) no_run)).words }
+        ensures runs { self.new ≡ slice_set self.old (first_active words.old self.old) (run_moves count words.old (slice_index_or self.old (first_active words.old self.old) no_run)).run }
+    {
+        let at = self.first_active(words);
+        if at < self.runs.len() {
+            self.runs[at].move_words(words, count);
+        }
     }
 
     /// Whether each thread is after its last statement.
