@@ -10,10 +10,10 @@ use Rattle.sb_message.specs.declared.messages.FaultyText.TheVariants.{Policy}
 use Rattle.sb_notes.specs.Laws.{NotesAreClean}
 use Rattle.sb_notes.specs.NoteMessages.{note_headline, note_text, note_words, notes_message, notes_text, number_text}
 use Rattle.sb_text.specs.MissingTexts.{line_or_empty}
-use Rattle.sb_notes.specs.Notes.{notes_of}
-use Rattle.sb_notes.specs.declared.kinds.NoteKind.{NoteKind}
-use Rattle.sb_notes.specs.declared.kinds.NoteKind.TheVariants.{UnescapedPrefix, MatchesNoName}
-use Rattle.sb_notes.specs.declared.notes.Note.{Note}
+use Rattle.sb_ruletext.specs.Notes.{notes_of}
+use Rattle.sb_ruletext.specs.declared.note_kinds.NoteKind.{NoteKind}
+use Rattle.sb_ruletext.specs.declared.note_kinds.NoteKind.TheVariants.{UnescapedPrefix, MatchesNoName}
+use Rattle.sb_ruletext.specs.declared.notes.Note.{Note}
 
 words_clean : (kind : NoteKind) → Spelled (note_words kind)
 words_clean UnescapedPrefix = plain (note_words UnescapedPrefix) refl

@@ -1,4 +1,3 @@
-mod Walks
 mod Told
 mod Truth
 mod Clean

@@ -4,10 +4,10 @@ use Rattle.std.proofs.Common.{◌≡◌, ◌∙◌, ℕ, Bool, true, false, cond
 use Rattle.std.proofs.lemmas.Bool.{and_parts, eqb-true, false≢true}
 use Rattle.std.proofs.lemmas.Bool.Decides.{nat_tests}
 use Rattle.std.specs.List.{list_all}
-use Rattle.sb_notes.specs.Kinds.{begins_with_prefix, may_begin_name, kind_of}
+use Rattle.sb_ruletext.specs.NoteKinds.{begins_with_prefix, may_begin_name, kind_of}
 use Rattle.sb_notes.specs.Laws.{NotesAreTrue}
-use Rattle.sb_notes.specs.declared.kinds.NoteKind.{NoteKind}
-use Rattle.sb_notes.specs.declared.kinds.NoteKind.TheVariants.{UnescapedPrefix, MatchesNoName}
+use Rattle.sb_ruletext.specs.declared.note_kinds.NoteKind.{NoteKind}
+use Rattle.sb_ruletext.specs.declared.note_kinds.NoteKind.TheVariants.{UnescapedPrefix, MatchesNoName}
 use Rattle.sb_pattern.specs.Matching.{matches}
 use Rattle.sb_pattern.specs.Reading.{cell_of, cells_of}
 use Rattle.sb_pattern.specs.declared.cells.Cell.{Cell}

@@ -1,9 +1,9 @@
 -- What is true of what is noted of patterns.
 use Rattle.std.specs.Prelude.{◌≡◌, ℕ, true, false, List, ◌∷◌, Some}
 use Rattle.sb_glyphs.specs.CleanTexts.{IsClean}
-use Rattle.sb_notes.specs.Kinds.{kind_of}
+use Rattle.sb_ruletext.specs.NoteKinds.{kind_of}
 use Rattle.sb_notes.specs.NoteMessages.{notes_message}
-use Rattle.sb_notes.specs.declared.kinds.NoteKind.TheVariants.{UnescapedPrefix, MatchesNoName}
+use Rattle.sb_ruletext.specs.declared.note_kinds.NoteKind.TheVariants.{UnescapedPrefix, MatchesNoName}
 use Rattle.sb_pattern.specs.Matching.{matches}
 use Rattle.sb_pattern.specs.Reading.{cells_of}
 use Rattle.sb_wide.specs.Names.{is_name_of}

@@ -1,4 +1,2 @@
-pub mod Kinds
-pub mod Notes
 pub mod NoteMessages
 pub mod Laws

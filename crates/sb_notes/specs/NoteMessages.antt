@@ -5,10 +5,10 @@ use Rattle.std.specs.List.{flat_map}
 use Rattle.sb_message.specs.Messages.{place_line}
 use Rattle.sb_message.specs.Places.{shown_line}
 use Rattle.sb_message.specs.declared.messages.FaultyText.TheVariants.{Policy}
-use Rattle.sb_notes.specs.Notes.{notes_of}
-use Rattle.sb_notes.specs.declared.kinds.NoteKind.{NoteKind}
-use Rattle.sb_notes.specs.declared.kinds.NoteKind.TheVariants.{UnescapedPrefix, MatchesNoName}
-use Rattle.sb_notes.specs.declared.notes.Note.{Note}
+use Rattle.sb_ruletext.specs.Notes.{notes_of}
+use Rattle.sb_ruletext.specs.declared.note_kinds.NoteKind.{NoteKind}
+use Rattle.sb_ruletext.specs.declared.note_kinds.NoteKind.TheVariants.{UnescapedPrefix, MatchesNoName}
+use Rattle.sb_ruletext.specs.declared.notes.Note.{Note}
 use Rattle.sb_text.specs.MissingTexts.{line_or_empty}
 
 -- what is noted

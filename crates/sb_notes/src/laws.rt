@@ -2,7 +2,7 @@
 ghost use Rattle.sb_notes.specs.Laws.{NotesAreClean, NotesAreTrue};
 
 /// A pattern that is noted to match no name matches none, and one that is noted to begin with `\??\` matches a name with any units in place of the two
-/// question marks if it matches it with them.
+/// question marks exactly if it matches it with them.
 pub fn notes_are_true()
     ensures { NotesAreTrue }
 {}

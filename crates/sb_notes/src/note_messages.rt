@@ -3,11 +3,10 @@ ghost use Rattle.std.specs.Prelude.{◌≡◌, ◌++◌, ◌≤◌, length, take
 ghost use Rattle.std.specs.List.{flat_map};
 ghost use Rattle.sb_notes.specs.NoteMessages.{note_headline, note_text, note_words, notes_message, notes_text, number_text};
 
-use crate::kinds::NoteKind;
-use crate::notes::{Note, read_notes};
 use sb_glyphs::put_decimal_text;
 use sb_items::NoMemory;
 use sb_message::{FaultyText, put_place};
+use sb_ruletext::{Note, NoteKind, read_notes};
 use sb_text::line_or_empty;
 use std::alloc::Global;
 
@@ -79,8 +78,26 @@ fn put_number(out: &mut String, number: usize) -> Result<(), NoMemory>
     Ok(())
 }
 
-/// The notes of a policy text in words, and nothing if it has none: for each of the first 20 what is noted, the place in the file, whose name is as the
+/// Notes of a policy text in words, and nothing if there are none: for each of the first 20 what is noted, the place in the file, whose name is as the
 /// user gave it, and the line with a caret under the pattern; and if there are more, their number.
+///
+/// # Errors
+/// `NoMemory` if there was none for the message.
+pub fn notes_text(
+    alloc: Global,
+    file: &[u8],
+    text: &[u8],
+    notes: &[Note],
+) -> Result<String, NoMemory>
+    ensures { IfOk result (λ message. string_bytes message ≡ notes_text file.now text.now notes.now) }
+{
+    let mut message = String::new(alloc);
+    put_notes(&mut message, file, text, first_notes(notes))?;
+    put_number(&mut message, notes.len())?;
+    Ok(message)
+}
+
+/// The notes that a policy text has, in words.
 ///
 /// # Errors
 /// `NoMemory` if there was none for the notes, or for the message.
@@ -88,8 +105,5 @@ pub fn notes_message(alloc: Global, file: &[u8], text: &[u8]) -> Result<String, 
     ensures { IfOk result (λ message. string_bytes message ≡ notes_message file.now text.now) }
 {
     let notes = read_notes(alloc, text)?;
-    let mut message = String::new(alloc);
-    put_notes(&mut message, file, text, first_notes(&notes))?;
-    put_number(&mut message, notes.len())?;
-    Ok(message)
+    notes_text(alloc, file, text, &notes)
 }

@@ -12,7 +12,6 @@ use sb_items::{Items, NoMemory};
 use sb_outside::{Bytes, Files};
 use sb_rule::WellMadePolicies;
 use sb_ruletext::print_policies;
-use sb_text::TextPart;
 use std::alloc::Global;
 
 // The listings of the programs of policies, one after another.
@@ -59,6 +58,6 @@ pub fn check_policy<F: Files>(
     Ok(CommandEnd {
         lines: Ok(Lines::Texts(texts)),
         report: None,
-        noted: Some(TextPart::whole(text)),
+        noted: Some(text),
     })
 }

@@ -5,10 +5,10 @@ ghost use Rattle.sb_plain.specs.Outcomes.{IsSilent};
 ghost use Rattle.sb_plain.specs.Putting.{IsPut, bytes_of};
 
 use crate::outcomes::{Outcome, Status};
+use crate::shown::Shown;
 use sb_book::Report;
 use sb_items::{Items, NoMemory};
 use sb_outside::{Bytes, Sink, put_lines};
-use sb_text::TextPart;
 use sb_transcript::LineBuffer;
 use std::alloc::Global;
 use std::marker::Model;
@@ -84,7 +84,7 @@ pub fn two_texts(alloc: Global, first: Vec<u8>, second: Vec<u8>) -> Result<Items
 pub struct CommandEnd {
     pub(crate) lines: Result<Lines, Status>,
     pub(crate) report: Option<Report>,
-    pub(crate) noted: Option<TextPart>,
+    pub(crate) noted: Option<Shown>,
 }
 
 impl Drop for CommandEnd {

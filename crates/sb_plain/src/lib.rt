@@ -12,6 +12,7 @@ mod outcomes;
 mod reading;
 mod refusals;
 mod replay;
+mod shown;
 
 pub use audit::audit_transcript;
 pub use check::check_policy;
@@ -23,3 +24,4 @@ pub use outcomes::{Outcome, Status};
 pub use reading::opened_in;
 pub use refusals::Refused;
 pub use replay::{end_of_run, replay_script};
+pub use shown::Shown;

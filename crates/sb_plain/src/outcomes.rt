@@ -1,5 +1,6 @@
 // How a command ends.
 
+use crate::shown::Shown;
 use sb_audit::Refuted;
 use sb_book::Report;
 use sb_commands::UsageFault;
@@ -8,7 +9,6 @@ use sb_link::LinkFault;
 use sb_ruletext::PolicyFault;
 use sb_scheduletext::ScheduleFault;
 use sb_scripttext::ScriptFault;
-use sb_text::TextPart;
 
 /// How a command ended. Files are numbered by their place in the command, from 1.
 #[derive(Clone, Copy)]
@@ -48,7 +48,7 @@ pub struct Outcome {
     /// How the command ended.
     pub status: Status,
     /// The line of a refused text that has the fault, without its line end; or the policy text whose notes are told, if the command has an end.
-    pub shown: Option<TextPart>,
+    pub shown: Option<Shown>,
     /// What its run gave.
     pub report: Option<Report>,
 }

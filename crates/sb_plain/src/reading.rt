@@ -13,10 +13,11 @@ ghost use Rattle.sb_plain.specs.Replay.{listed};
 
 use crate::outcomes::Status;
 use crate::refusals::Refused;
+use crate::shown::Shown;
 use sb_book::OpenedScript;
 use sb_outside::{FileFault, Files};
 use sb_rule::WellMadePolicies;
-use sb_ruletext::{TextRefused, read_policies};
+use sb_ruletext::{TextRefused, read_noted_policies, read_policies};
 use sb_scheduletext::{MOST_ROUNDS, ScheduleRefused, read_schedule};
 use sb_scripttext::{ScriptRefused, read_script};
 use sb_statements::{Schedule, Script, Steps};
@@ -75,14 +76,30 @@ pub fn text_in<F: Files>(
     text_within(alloc, files, name, which, MOST_BYTES)
 }
 
-// A text, and its policies.
-fn policies_by(alloc: Global, text: Vec<u8>) -> Result<(Vec<u8>, WellMadePolicies), Refused>
+// The policies of a text.
+fn policies_by(alloc: Global, text: Vec<u8>) -> Result<WellMadePolicies, Refused>
     requires { length text.items + 1 < 2 ^ 32 }
-    ensures policies { GivesBy (λ r. r.1.list) (policies_by text.items (reading text.items)) result }
-    ensures text { IfOk result (λ r. r.0.items ≡ text.items) }
+    ensures policies { GivesBy (λ p. p.list) (policies_by text.items (reading text.items)) result }
 {
     match read_policies(alloc, &text) {
-        Ok(policies) => Ok((text, policies)),
+        Ok(policies) => Ok(policies),
+        Err(TextRefused::Fault(fault)) => Err(Refused::at_line(
+            Status::PolicyRefused(fault),
+            fault.line,
+            text,
+        )),
+        Err(TextRefused::NoMemory) => Err(Refused::new(Status::NoMemory)),
+    }
+}
+
+// A text with its notes, and its policies.
+fn noted_policies_by(alloc: Global, text: Vec<u8>) -> Result<(Shown, WellMadePolicies), Refused>
+    requires { length text.items + 1 < 2 ^ 32 }
+    ensures policies { GivesBy (λ r. r.1.list) (policies_by text.items (reading text.items)) result }
+    ensures text { IfOk result (λ r. r.0 ≡ text.items) }
+{
+    match read_noted_policies(alloc, &text) {
+        Ok((policies, notes)) => Ok((Shown::noted(text, notes), policies)),
         Err(TextRefused::Fault(fault)) => Err(Refused::at_line(
             Status::PolicyRefused(fault),
             fault.line,
@@ -105,25 +122,25 @@ pub fn policies_in<F: Files>(
     ensures caused { IsCausedBy (F.held files.old) (Rose (F.faults files.old) (F.faults files.new)) result }
 {
     let text = text_in(alloc, files, name, 1)?;
-    let (_, policies) = policies_by(alloc, text)?;
+    let policies = policies_by(alloc, text)?;
     Ok(policies)
 }
 
-/// The text of the first file, and its policies.
+/// The text of the first file with its notes, and its policies.
 #[tactic(auto, using(crate::proofs::ReadFiles::noted_found))]
 pub fn noted_policies_in<F: Files>(
     alloc: Global,
     files: &mut F,
     name: &str,
-) -> Result<(Vec<u8>, WellMadePolicies), Refused>
+) -> Result<(Shown, WellMadePolicies), Refused>
     ensures kept { F.held files.new ≡ F.held files.old }
     ensures counted { F.faults files.old ≤ F.faults files.new }
     ensures ok_count { OnOk result (F.faults files.new ≡ F.faults files.old) }
-    ensures read { IsRead (λ r. (Some r.0.items, r.1.list)) 1 noted_policies_in (F.held files.old) name.now result }
+    ensures read { IsRead (λ r. (Some r.0, r.1.list)) 1 noted_policies_in (F.held files.old) name.now result }
     ensures caused { IsCausedBy (F.held files.old) (Rose (F.faults files.old) (F.faults files.new)) result }
 {
     let text = text_in(alloc, files, name, 1)?;
-    let (text, policies) = policies_by(alloc, text)?;
+    let (text, policies) = noted_policies_by(alloc, text)?;
     Ok((text, policies))
 }
 

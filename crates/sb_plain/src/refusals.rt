@@ -4,6 +4,7 @@ ghost use Rattle.sb_plain.specs.Contents.{refused, refused_at};
 ghost use Rattle.sb_plain.specs.Outcomes.{IsRefusal};
 
 use crate::outcomes::{Outcome, Status};
+use crate::shown::Shown;
 use sb_items::NoMemory;
 use sb_text::TextPart;
 use std::marker::Model;
@@ -74,6 +75,10 @@ impl Refused {
         ensures refusal { IsRefusal result.status }
     {
         let Refused { status, shown } = self;
+        let shown = match shown {
+            Some(line) => Some(Shown::line(line)),
+            None => None,
+        };
         Outcome {
             status,
             shown,

@@ -13,7 +13,7 @@ move : (b : ℕ) (passed : List ℕ) (rest : Option (List ℕ × List ℕ))
 move b passed None = refl
 move b passed (Some ends) = refl
 
--- a `..` that stands here
+-- a `..` that is here
 pub found_here : (word : List ℕ) (n : ℕ) (after : List ℕ) → n < length word → after_dots (drop n word) ≡ Some after
     → ends_after (take n word) (around_dots (drop n word)) ≡ Some (take n word, after)
 found_here [] n after l h = absurd (omega (arith, l))
@@ -29,7 +29,7 @@ one : (b : ℕ) (rest : Option (List ℕ × List ℕ)) → option_map (λ ends. 
 one b None = refl
 one b (Some ends) = refl
 
--- one more byte is passed if no `..` stands
+-- one more byte is passed if no `..` is here
 pub passed_one : (word : List ℕ) (n : ℕ) → n < length word → after_dots (drop n word) ≡ None
     → ends_after (take n word) (around_dots (drop n word)) ≡ ends_after (take (n + 1) word) (around_dots (drop (n + 1) word))
 passed_one [] n l h = absurd (omega (arith, l))

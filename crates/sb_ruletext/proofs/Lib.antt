@@ -12,3 +12,5 @@ pub mod Added
 pub mod Prefixes
 pub mod Renumbered
 pub mod ReadWellMade
+mod NoteWalks
+pub mod NotedReading

@@ -1,4 +1,4 @@
--- The strings and patterns that are read can stand between quotes.
+-- The strings and patterns that are read can be written between quotes.
 use Rattle.std.proofs.Common.{◌≡◌, refl, sym, subst, ℕ, List, Bool, true, false, nat_le, nat_lt, length, Option, Some, Ok, arith, cond}
 use Rattle.std.proofs.lemmas.Bool.Decides.{nat_tests}
 use Rattle.std.specs.List.{list_all}

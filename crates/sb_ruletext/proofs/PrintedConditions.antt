@@ -70,7 +70,7 @@ numbers_read law (suc m) n (next ∷ more) rest k h e =
 abbrev pub PatternsComeBack : Type 0
 PatternsComeBack = (cells : List Cell) → is_pattern cells ≡ true → reading (text_of cells) ≡ Ok cells
 
--- the laws of lower crates that the proofs on values stand on
+-- the laws of lower crates that the proofs on values use
 pub record Texts : Type 0 where
   pub numbers : HexadecimalsAreRead
   pub strings : StringsComeBack

@@ -40,7 +40,7 @@ use Rattle.sb_ruletext.proofs.Conjunctions.{both, and_true}
 use Rattle.sb_ruletext.proofs.PrintedTokens.{sound_conds, rule_plain, heading_plain, printed_plain}
 use Rattle.sb_ruletext.proofs.PrintedWords.{not_true, action_back, first_action_back}
 
--- the laws of lower crates that the proof stands on
+-- the laws of lower crates that the proof uses
 pub record Laws : Type 0 where
   pub utf8 : NotUtf8PlaceTells
   pub plain : PlainLinesAreUtf8

@@ -1,4 +1,4 @@
--- The words that are printed are read as what they stand for.
+-- The words that are printed are read as what they mean.
 use Rattle.std.proofs.Common.{◌≡◌, ◌∙◌, ℕ, zero, suc, ◌+◌, ◌^◌, ◌<◌, ◌==◌, nat_lt, nat_le, Bool, true, false, not, cond, ◌&&◌, List, [], ◌∷◌, ◌++◌, None, Some, Option, Ok, Result, length, slice_index_or, ap, refl, sym, arith}
 use Rattle.std.specs.Cmp.Lexicographic.{bytes_decides}
 use Rattle.std.specs.Fmt.{digits}
@@ -62,7 +62,7 @@ call_back HandleClose = refl
 
 -- parameters
 
--- no word stands twice in a list
+-- no word is in a list twice
 abbrev are_apart : List (List ℕ) → Bool
 are_apart [] = true
 are_apart (word ∷ words) = list_all (λ other. not (is_word word other)) words && are_apart words

@@ -103,7 +103,7 @@ word_rest quoted (Quoted q ∷ tokens) x h t = absurd cc
 word_rest quoted (Bad ∷ tokens) x h t = absurd cc
 word_rest quoted [] x h t = absurd cc
 
--- what stands between quotes, and the tokens after it
+-- what is between quotes, and the tokens after it
 record QuotedFine (x : List ℕ × List Lexeme) : Type 0 where
   text : is_quoted_text (Quoted x.0) ≡ true
   rest : AreText x.1
@@ -116,13 +116,13 @@ quoted_fine word (Word w ∷ tokens) x h t = absurd cc
 quoted_fine word (Bad ∷ tokens) x h t = absurd cc
 quoted_fine word [] x h t = absurd cc
 
--- the laws of lower crates that the proofs on values stand on
+-- the laws of lower crates that the proofs on values use
 pub record Texts : Type 0 where
   pub texts : TextsComeBack
   pub patterns : ReadingGivesPatterns
   pub strings : QuotedStringsAreText
 
--- the units of what stands between quotes
+-- the units of what is between quotes
 units_fine : QuotedStringsAreText → (q : List ℕ) → is_quoted_text (Quoted q) ≡ true → (list_all is_text_unit (string_of q) ≡ true) × (is_paired (string_of q) ≡ true)
 units_fine law q h =
     let parts = both (is_utf8 q) (list_all is_quoted_byte q) h in

@@ -41,12 +41,12 @@ abbrev pub after_dots : List ℕ → Option (List ℕ)
 after_dots (b ∷ c ∷ bs) = if b == 46 && c == 46 then Some bs else None
 after_dots _ = None
 
--- a byte, and what stands around the first `..` from it on: nothing before it if `..` stands here
+-- a byte, and what is around the first `..` from it on: nothing before it if `..` is here
 abbrev pub around_from : ℕ → Option (List ℕ) → Option (List ℕ × List ℕ) → Option (List ℕ × List ℕ)
 around_from b (Some after) ends = Some ([], after)
 around_from b None ends = option_map (λ ends. (b ∷ ends.0, ends.1)) ends
 
--- what stands before the first `..` of a word, and what stands after it
+-- what is before the first `..` of a word, and what is after it
 abbrev pub around_dots : List ℕ → Option (List ℕ × List ℕ)
 around_dots [] = None
 around_dots (b ∷ bs) = around_from b (after_dots (b ∷ bs)) (around_dots bs)
@@ -70,11 +70,11 @@ range_at tokens = do
   test ← at_token tokens (range_of word)
   Ok (test, rest)
 
--- what stands between quotes, as a string of a policy
+-- what is between quotes, as a string of a policy
 abbrev pub string : List ℕ → Result (List ℕ) PolicyFaultKind
 string quoted = if nat_le (length (string_of quoted)) most_units then Ok (string_of quoted) else Err (BadPattern TooLong)
 
--- the fault of a pattern between quotes stands at its star; a text that is too long, at its opening quote
+-- the fault of a pattern between quotes is at its star; that of a text that is too long, at its opening quote
 abbrev pub pattern_fault : {A : Type 0} → List Lexeme → PatternFault → Result A (TokenFault PolicyFaultKind)
 pattern_fault tokens (DoubleStar unit) = fails_within tokens unit (BadPattern (DoubleStar unit))
 pattern_fault tokens (StarQuestion unit) = fails_within tokens unit (BadPattern (StarQuestion unit))
@@ -85,7 +85,7 @@ abbrev pub cells : List Lexeme → Result (List Cell) PatternFault → Result (L
 cells tokens (Ok pattern) = Ok pattern
 cells tokens (Err fault) = pattern_fault tokens fault
 
--- "P": the cells of a pattern, if a quoted token stands here. A word in its place has this fault
+-- "P": the cells of a pattern, if a quoted token is here. A word in its place has this fault
 abbrev pub cells_at : PolicyFaultKind → List Lexeme → Read (List Cell) PolicyFaultKind
 cells_at word tokens = do
   (quoted, rest) ← quoted_or word tokens

@@ -6,5 +6,8 @@ pub mod Grants
 pub mod Lines
 pub mod Drafts
 pub mod PolicyTexts
+pub mod NoteKinds
+pub mod Notes
+pub mod NotedTexts
 pub mod PrintingLaws
 pub mod Laws

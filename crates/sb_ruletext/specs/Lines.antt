@@ -59,7 +59,7 @@ call_at tokens = do
   tag ← or_fails tokens UnknownCall (tag_of_word word)
   Ok (tag, rest)
 
--- what stands here in place of `when`
+-- what is here in place of `when`
 abbrev pub end_at_when : {A : Type 0} → List Lexeme → Result A (TokenFault PolicyFaultKind)
 end_at_when (Bad ∷ tokens) = fails (Bad ∷ tokens) (UnknownWord Broken)
 end_at_when tokens = fails tokens (UnknownWord Unknown)

@@ -13,7 +13,7 @@ use Rattle.sb_text.specs.declared.refusals.WordFault.TheVariants.{Missing, Broke
 abbrev pub word_or : PolicyFaultKind → List Lexeme → Read (List ℕ) PolicyFaultKind
 word_or quoted tokens = word_at quoted (UnknownWord Broken) (UnknownWord Missing) tokens
 
--- what stands between quotes. A word in its place has this fault; a broken token, or none, is UnknownWord
+-- what is between quotes. A word in its place has this fault; a broken token, or none, is UnknownWord
 abbrev pub quoted_or : PolicyFaultKind → List Lexeme → Read (List ℕ) PolicyFaultKind
 quoted_or word tokens = quoted_at word (UnknownWord Broken) (UnknownWord Missing) tokens
 

@@ -21,7 +21,7 @@ pub fn lines_before_are_read()
     sb_text::lines_before_are_read::<PolicyList, PolicyFaultKind>();
 }
 
-/// A text whose lines all say nothing lacks a version, on line 1.
+/// A text whose lines are all blank or comments lacks a version, on line 1.
 pub fn silent_texts_lack_a_version()
     ensures { SilentTextsLackAVersion }
 {}

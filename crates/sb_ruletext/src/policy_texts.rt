@@ -1,8 +1,8 @@
 // Reading policy texts.
 ghost use Rattle.std.specs.Prelude.{◌≡◌, ◌+◌, ◌<◌, ◌^◌, [], length};
-ghost use Rattle.sb_ruletext.specs.PolicyTexts.{grammar, reading};
+ghost use Rattle.sb_ruletext.specs.PolicyTexts.{grammar, policy_version, reading};
 ghost use Rattle.sb_ruletext.specs.declared.faults.PolicyFaultKind.TheVariants.{BadVersion};
-ghost use Rattle.sb_items.specs.Refusals.{GivesAs};
+ghost use Rattle.sb_items.specs.Refusals.{Gives, GivesAs};
 ghost use Rattle.sb_text.specs.Spots.{by_tokens};
 
 use crate::drafts::Draft;
@@ -12,6 +12,18 @@ use crate::lines::line_of;
 use sb_rule::{Policies, WellMadePolicies};
 use sb_text::{Layout, Line, Lines, TextGrammar, read_text, version_at};
 use std::alloc::Global;
+
+/// The version line: `sandbox-policy 1` or `sandbox-policy 2`.
+pub(crate) fn policy_version(line: &Line<'_>) -> Result<u32, LineRefused>
+    ensures { Gives (policy_version line.now.text.now) result }
+{
+    version_at(
+        PolicyFaultKind::BadVersion,
+        b"sandbox-policy",
+        2,
+        &line.tokens(),
+    )
+}
 
 // Policy texts.
 #[derive(Drop)]
@@ -33,12 +45,7 @@ impl<'b> TextGrammar<Lines<'b>> for PolicyGrammar {
     }
 
     fn version(&self, line: &Line<'b>) -> Result<u32, LineRefused> {
-        version_at(
-            PolicyFaultKind::BadVersion,
-            b"sandbox-policy",
-            2,
-            &line.tokens(),
-        )
+        policy_version(line)
     }
 
     fn no_version(&self) -> PolicyFaultKind

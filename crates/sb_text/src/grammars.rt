@@ -1,5 +1,5 @@
 // Grammars of texts that are read line by line.
-ghost use Rattle.std.specs.Prelude.{◌≡◌};
+ghost use Rattle.std.specs.Prelude.{◌≡◌, ◌+◌, ◌<◌, ◌^◌, length};
 ghost use Rattle.sb_text.specs.Readings.{Grammar};
 ghost use Rattle.sb_items.specs.Refusals.{Gives};
 ghost use Rattle.sb_text.specs.Steps.{Becomes};
@@ -38,7 +38,8 @@ pub trait TextGrammar<L: TextLines> {
     fn start(&self) -> Self::Draft
         ensures { result ≡ (grammar self.now).start };
 
-    /// What another line of a text of this version adds to what was read so far. After an error the draft is unspecified.
+    /// What another line of a text of this version, of fewer than 2^32 - 1 bytes, adds to what was read so far. After an error the draft is
+    /// unspecified.
     ///
     /// # Errors
     /// `Fault` exactly if something is wrong with the line, the first such from the left, at its place. `NoMemory` if out of
@@ -49,5 +50,6 @@ pub trait TextGrammar<L: TextLines> {
         draft: &mut Self::Draft,
         line: &L::Line,
     ) -> Result<(), Refused<TokenFault<Self::Kind>>>
+        requires { length (L.numbered line.now).text + 1 < 2 ^ 32 }
         ensures { Becomes ((grammar self.now).add version draft.old (L.numbered line.now)) result draft.new };
 }

@@ -1,6 +1,6 @@
 // What all texts of users are made of: lines cut at LF and their numbers, the lines that are neither blank nor comments, tokens with
 // quotes, words cut at blanks alone, numbers, the columns of faults, the place at which bytes stop being UTF-8, and what a quoted token means.
-// Nothing here takes memory but the last: lines, tokens and words are parts of the text.
+// Nothing here allocates except the last: lines, tokens and words are parts of the text.
 #![tactic(auto)]
 
 mod blanks;
@@ -52,6 +52,6 @@ pub use steps::{
 pub use text_lines::TextLines;
 pub use text_parts::TextPart;
 pub use tokens::{Token, Tokens};
-pub use utf8::{NotUtf8, string_of, text_of};
+pub use utf8::{NotUtf8, ascii_units, string_of, text_of};
 pub use word_versions::version_in_words;
 pub use words::Words;

@@ -2,6 +2,7 @@
 ghost use Rattle.std.specs.Prelude.{◌≡◌, IfOk, option_map, string_bytes};
 ghost use Rattle.sb_commands.specs.Commands.{command_of, name_at};
 ghost use Rattle.sb_commands.specs.Usage.{texts};
+ghost use Rattle.sb_notes.specs.NoteMessages.{notes_message};
 ghost use Rattle.sb_text.specs.MissingTexts.{or_empty};
 ghost use Rattle.sb_top.specs.Exits.{message_of, notes_by};
 ghost use Rattle.sb_top.specs.Top.{files_for};
@@ -12,8 +13,8 @@ use sb_message::{
     EndFault, audit_message, end_message, link_message, move_message, policy_message,
     schedule_message, script_message,
 };
-use sb_notes::notes_message;
-use sb_plain::{Outcome, Status};
+use sb_notes::{notes_message, notes_text};
+use sb_plain::{Outcome, Shown, Status};
 use std::alloc::Global;
 
 // The name of file `which` of the command that the arguments are; empty if there is no such file.
@@ -46,14 +47,24 @@ fn shown_bytes(outcome: &Outcome) -> Option<&[u8]>
     }
 }
 
+// The notes of a text that is shown, for a file of this name.
+fn notes_of_shown(alloc: Global, name: &str, shown: &Shown) -> Result<String, NoMemory>
+    ensures { IfOk result (λ text. string_bytes text ≡ notes_message name.now shown.now) }
+{
+    match shown.notes() {
+        Some(notes) => notes_text(alloc, name.as_bytes(), shown.as_slice(), notes),
+        None => notes_message(alloc, name.as_bytes(), shown.as_slice()),
+    }
+}
+
 // The notes of the text that is shown, if one is.
 fn notes_told(alloc: Global, words: &[String], outcome: &Outcome) -> Result<String, NoMemory>
     ensures { IfOk result (λ text. string_bytes text ≡ notes_by (name_at 1 (files_for (command_of (texts words.now)))) outcome.now.shown) }
 {
-    match shown_bytes(outcome) {
-        Some(text) => {
+    match &outcome.shown {
+        Some(shown) => {
             let name = name_in(alloc, words, 1)?;
-            notes_message(alloc, name.as_bytes(), text)
+            notes_of_shown(alloc, name, shown)
         }
         None => Ok(String::new(alloc)),
     }

@@ -26,6 +26,5 @@ returns-in_err-texts-clause-found g c =
 pub returns-clause-found : goal.returns-clause-found
 returns-clause-found g c =
     let held = g.F.Files.held c.args.files.now in
-    let same : c.whole.result ≡ c.in_ok-noted.noted.0.items = search rules in
-    check_done held c.args.policy.now (Some c.in_ok-noted.noted.0.items, c.in_ok-noted.noted.1.list) _ c.in_ok-noted.ensures.read
-    (λ i. record { text = Ok (c.in_ok-texts.ensures i); report = None; noted = Some (same i) })
+    check_done held c.args.policy.now (Some c.in_ok-noted.noted.0, c.in_ok-noted.noted.1.list) _ c.in_ok-noted.ensures.read
+    (λ i. record { text = Ok (c.in_ok-texts.ensures i); report = None; noted = Some c.in_ok-noted.noted.0 })

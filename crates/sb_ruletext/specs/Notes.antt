@@ -2,9 +2,9 @@
 use Rattle.std.specs.Prelude.{ℕ, ◌+◌, ◌^◌, ◌&&◌, Bool, true, false, not, nat_lt, List, [], ◌∷◌, ◌++◌, length, Option, None, Some, is_none, if◌then◌else◌, codes}
 use Rattle.std.specs.List.{flat_map}
 use Rattle.sb_call.specs.CallWords.{is_word}
-use Rattle.sb_notes.specs.Kinds.{kind_of}
-use Rattle.sb_notes.specs.declared.kinds.NoteKind.{NoteKind}
-use Rattle.sb_notes.specs.declared.notes.Note.{Note}
+use Rattle.sb_ruletext.specs.NoteKinds.{kind_of}
+use Rattle.sb_ruletext.specs.declared.note_kinds.NoteKind.{NoteKind}
+use Rattle.sb_ruletext.specs.declared.notes.Note.{Note}
 use Rattle.sb_text.specs.Lines.{NumberedLine, lines_of}
 use Rattle.sb_text.specs.Spots.{by_tokens, column_at}
 use Rattle.sb_text.specs.Steps.{begins_with, later, with_first}

@@ -1,7 +1,7 @@
 use Rattle.std.proofs.Common.{◌≡◌, ◌++◌, length}
 use Rattle.std.specs.List.{flat_map}
-use Rattle.sb_notes.specs.Notes.{notes_on}
-use Rattle.sb_notes.proofs.notes.notes_of_lines.Given as goal
+use Rattle.sb_ruletext.specs.Notes.{notes_on}
+use Rattle.sb_ruletext.proofs.notes.notes_of_lines.Given as goal
 
 -- the notes that were read and those that follow are those of all lines
 abbrev pub invariant-loop-line : goal.invariant-loop-line

@@ -1,11 +1,11 @@
 // The notes of a text, in its order.
 ghost use Rattle.std.specs.Prelude.{◌≡◌, ◌+◌, ◌<◌, ◌^◌, ◌++◌, false, length, true, IfOk, MatchOption, OnOk};
 ghost use Rattle.std.specs.List.{flat_map};
-ghost use Rattle.sb_notes.specs.Notes.{follows_is, is_about_names, is_read, note_at, notes_in, notes_of, notes_on, noted};
+ghost use Rattle.sb_ruletext.specs.Notes.{follows_is, is_about_names, is_read, note_at, notes_in, notes_of, notes_on, noted};
 ghost use Rattle.sb_text.specs.Steps.{with_first};
 ghost use Rattle.sb_text.specs.Tokens.{lexeme_of};
 
-use crate::kinds::{NoteKind, kind_of_quoted};
+use crate::note_kinds::{NoteKind, kind_of_quoted};
 use sb_items::NoMemory;
 use sb_text::{Layout, Line, Lines, Token, Tokens, column_at, text_of};
 use std::alloc::Global;
@@ -73,7 +73,7 @@ fn put_noted(
 }
 
 // Appends the notes of the tokens of a line.
-#[tactic(auto, using(crate::proofs::Walks::token_passed, crate::proofs::Walks::tokens_ended))]
+#[tactic(auto, using(crate::proofs::NoteWalks::token_passed, crate::proofs::NoteWalks::tokens_ended))]
 fn put_notes_in(
     alloc: Global,
     notes: &mut Vec<Note>,
@@ -94,8 +94,12 @@ fn put_notes_in(
     Ok(())
 }
 
-// Appends the notes of a line.
-fn put_notes_on(alloc: Global, notes: &mut Vec<Note>, line: &Line) -> Result<(), NoMemory>
+/// Appends the notes of a line.
+pub(crate) fn put_notes_on(
+    alloc: Global,
+    notes: &mut Vec<Note>,
+    line: &Line,
+) -> Result<(), NoMemory>
     requires { length line.now.text.now + 1 < 2 ^ 32 }
     ensures { OnOk result (notes.new.items ≡ notes.old.items
         ++ notes_on (record { number = line.now.number; text = line.now.text.now })) }
@@ -108,7 +112,7 @@ fn put_notes_on(alloc: Global, notes: &mut Vec<Note>, line: &Line) -> Result<(),
 }
 
 // The notes of lines.
-#[tactic(auto, using(crate::proofs::Walks::line_passed, crate::proofs::Walks::lines_ended))]
+#[tactic(auto, using(crate::proofs::NoteWalks::line_passed, crate::proofs::NoteWalks::lines_ended))]
 fn notes_of_lines(alloc: Global, lines: Lines<'_>) -> Result<Vec<Note>, NoMemory>
     ensures { IfOk result (λ notes. notes.items ≡ flat_map notes_on lines.entry) }
 {

@@ -3,9 +3,9 @@ use Rattle.std.specs.Prelude.{Option}
 use Rattle.std.proofs.Common.{◌≡◌, ◌∙◌, Bool, List, [], ◌∷◌, ◌++◌, ap, sym, append_assoc}
 use Rattle.std.proofs.lemmas.List.{append-nil}
 use Rattle.std.specs.List.{flat_map}
-use Rattle.sb_notes.specs.Notes.{follows_is, note_at, noted, notes_in, notes_on}
-use Rattle.sb_notes.specs.declared.kinds.NoteKind.{NoteKind}
-use Rattle.sb_notes.specs.declared.notes.Note.{Note}
+use Rattle.sb_ruletext.specs.Notes.{follows_is, note_at, noted, notes_in, notes_on}
+use Rattle.sb_ruletext.specs.declared.note_kinds.NoteKind.{NoteKind}
+use Rattle.sb_ruletext.specs.declared.notes.Note.{Note}
 use Rattle.sb_text.specs.Lines.{NumberedLine}
 use Rattle.sb_text.specs.Steps.{with_first}
 use Rattle.sb_text.specs.Tokens.{Lexeme}

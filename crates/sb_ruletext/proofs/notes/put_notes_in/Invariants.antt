@@ -1,6 +1,6 @@
 use Rattle.std.proofs.Common.{◌≡◌, ◌++◌, length, false}
-use Rattle.sb_notes.specs.Notes.{notes_in}
-use Rattle.sb_notes.proofs.notes.put_notes_in.Given as goal
+use Rattle.sb_ruletext.specs.Notes.{notes_in}
+use Rattle.sb_ruletext.proofs.notes.put_notes_in.Given as goal
 
 -- the notes that were read and those that follow are those of the line
 abbrev pub invariant-loop-token : goal.invariant-loop-token
