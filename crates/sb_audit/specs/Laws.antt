@@ -1,7 +1,6 @@
 -- What holds of each audit.
-use Rattle.std.specs.Prelude.{◌≡◌, ◌+◌, ◌^◌, ◌-◌, ℕ, ⊤, true, List, [], ◌∷◌, ◌++◌, None, Some}
+use Rattle.std.specs.Prelude.{◌≡◌, ℕ, ⊤, true, List, [], ◌∷◌, ◌++◌, None, Some}
 use Rattle.std.specs.List.{flat_map}
-use Rattle.sb_rule.specs.Accesses.{read_only_bits, writing_bits}
 use Rattle.sb_call.specs.Arguments.{fits}
 use Rattle.sb_rule.specs.Verdicts.{verdict_of}
 use Rattle.sb_rule.specs.declared.actions.Action.TheVariants.{Allow, ReadOnly}
@@ -28,10 +27,6 @@ use Rattle.sb_audit.specs.declared.dues.FormDue.TheVariants.{Line as DueLine}
 abbrev pub EmptyTranscriptsAreRefuted : Type 0
 EmptyTranscriptsAreRefuted =
     (policies : List Policy) (script : Script) → audited policies script [] ≡ refutation 1 (Form (DueLine (Some 0) (due_spot script 0)))
-
--- each of the lower 32 bits either only reads or is one that does more
-abbrev pub BitsReadOrWrite : Type 0
-BitsReadOrWrite = read_only_bits + writing_bits ≡ 2 ^ 32 - 1
 
 -- no clause fails at any of these lines, which come after others
 abbrev pub AreRight : List Policy → Script → List Line → List Line → Type 0

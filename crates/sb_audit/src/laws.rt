@@ -1,6 +1,6 @@
 // Laws of audits. None of these functions does anything: each contract is a law.
 ghost use Rattle.sb_audit.specs.Converse.{ReportsThatFitAreAudited};
-ghost use Rattle.sb_audit.specs.Laws.{EmptyTranscriptsAreRefuted, BitsReadOrWrite};
+ghost use Rattle.sb_audit.specs.Laws.{EmptyTranscriptsAreRefuted};
 
 use sb_block::faultless_copies_fit;
 use sb_lineread::{lines_are_read, printed_lines_are_written};
@@ -10,11 +10,6 @@ use sb_transcript::lines_end_once;
 /// An empty transcript fails the first clause at line 1.
 pub fn empty_transcripts_are_refuted()
     ensures { EmptyTranscriptsAreRefuted }
-{}
-
-/// The bits of an access below 2^32 that a call under a `readonly` rule may not have are all those that do not only read.
-pub fn bits_read_or_write()
-    ensures { BitsReadOrWrite }
 {}
 
 /// No clause fails in the transcript of a report that fits its script and can be printed.

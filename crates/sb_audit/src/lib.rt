@@ -32,7 +32,7 @@ pub use answer_laws::{entries_are_right, yes_is_of_lines};
 pub use answers::{AuditAnswer, Refuted};
 pub use audits::audit;
 pub use dues::{Due, FormDue, OwnDue, PlaceDue, ReplyDue, ResultDue, RuleDue};
-pub use laws::{bits_read_or_write, empty_transcripts_are_refuted, reports_that_fit_are_audited};
+pub use laws::{empty_transcripts_are_refuted, reports_that_fit_are_audited};
 pub use passing::establish_audited;
 pub use printable::establish_printable;
 pub use spots::Spot;

@@ -26,7 +26,7 @@ abbrev is_rule : Verdict → Bool
 is_rule (verdict.Rule line action) = true
 is_rule verdict.NoRule = false
 
--- the line and the action of a verdict, and stand-ins if it is none
+-- the line and the action of a verdict, and defaults if it is none
 abbrev line_in : Verdict → ℕ
 line_in (verdict.Rule line action) = line
 line_in verdict.NoRule = 0

@@ -23,15 +23,15 @@ use Rattle.sb_rule.specs.declared.conditions.Test.TheVariants.{OneOf, Range, Mas
 use Rattle.sb_rule.specs.declared.policies.Policy.{Policy}
 use Rattle.sb_rule.specs.declared.policies.Rule.{Rule}
 
--- a string that can stand between quotes: at most 256 units, all of them text, and well-formed UTF-16
+-- a string that can be written between quotes: at most 256 units, all of them text, and well-formed UTF-16
 abbrev pub is_policy_text : List ℕ → Bool
 is_policy_text us = nat_le (length us) most_units && list_all is_text_unit us && is_paired us
 
--- cells that can stand between quotes: a pattern whose text can
+-- cells that can be written between quotes: a pattern whose text can
 abbrev pub is_like_text : List Cell → Bool
 is_like_text cells = is_pattern cells && is_policy_text (text_of cells)
 
--- a list has 1 to 16 numbers, a range is not empty, and strings and patterns can stand between quotes
+-- a list has 1 to 16 numbers, a range is not empty, and strings and patterns can be written between quotes
 abbrev pub is_sensible : Test → Bool
 is_sensible (OneOf numbers) = nat_lt 0 (length numbers) && nat_le (length numbers) most_numbers
 is_sensible (Range lo hi) = nat_le lo hi

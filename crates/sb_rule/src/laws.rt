@@ -1,4 +1,5 @@
-// Laws of verdicts. None of these functions does anything: each contract is a law.
+// Laws of verdicts and of accesses. None of these functions does anything: each contract is a law.
+ghost use Rattle.sb_rule.specs.Accesses.{BitsReadOrWrite};
 ghost use Rattle.sb_rule.specs.Verdicts.{FirstRuleDecides, DecidingRuleIsFirst, NoRuleWhereNoneHolds, RulesWithoutConditionsDecide, AppendingKeepsVerdicts};
 
 /// A rule that holds decides if no rule before it holds; and if a verdict is a rule, one of the rules is the first that
@@ -21,4 +22,9 @@ pub fn rules_without_conditions_decide()
 /// Rules appended never change a verdict that a rule gave before.
 pub fn appending_keeps_verdicts()
     ensures { AppendingKeepsVerdicts }
+{}
+
+/// The bits of an access below 2^32 that a call under a `readonly` rule may not have are all those that do not only read.
+pub fn bits_read_or_write()
+    ensures { BitsReadOrWrite }
 {}

@@ -21,7 +21,7 @@ pub use checks::{all_well_made, is_for_readers, well_made};
 pub use conditions::{Cond, Conds, Numbers, Test};
 pub use judges::{Judge, PlainJudge};
 pub use laws::{
-    appending_keeps_verdicts, first_rule_decides, no_rule_where_none_holds,
+    appending_keeps_verdicts, bits_read_or_write, first_rule_decides, no_rule_where_none_holds,
     rules_without_conditions_decide,
 };
 pub use limits::{MOST_CONDITIONS, MOST_NUMBERS, MOST_POLICIES, MOST_RULES};

@@ -17,7 +17,7 @@ pub struct Rule {
     pub conds: Conds,
     /// What it does.
     pub action: Action,
-    /// The line of the policy text on which it stands, from 1.
+    /// The line of the policy text on which it is, from 1.
     pub line: u32,
 }
 
