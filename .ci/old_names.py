@@ -1,5 +1,5 @@
 #!/usr/bin/env python3
-"""Looks for declared names that the repository does not use: each has a plainer one, which stands beside it here.
+"""Looks for declared names that the repository does not use: each has a plainer one, which is beside it here.
 
 A name is declared by an item, a variant, a field or a module of the code, or by a definition of specs/. Participles and the names of
 functions of Rust's library are looked for as functions and definitions alone: as a field or a variable they say what a value is.

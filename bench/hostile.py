@@ -1,4 +1,4 @@
-"""Policies, scripts and schedules drawn by lot from a seed, and small damages to texts."""
+"""Random policies, scripts and schedules, made from a seed, and small damages to texts."""
 import random
 
 NAMES = [r"\docs\a.txt", r"\docs\b\c", r"\docs", r"\evil", r"\pipe\x", r"\key\k", r"\event\e", r"\DOCS\A.TXT", r"\??\C:\docs\a.txt"]

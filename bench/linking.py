@@ -32,7 +32,7 @@ def long_links():
 
 
 def deep_links():
-    """A link to a name of 150 units, and 63 whose FROMs have these units but for the last one, so that no second link applies."""
+    """A link to a name of 150 units, and 63 whose FROMs have these units except the last one, so that no second link applies."""
     name = "\\" + "n" * 149
     return [("\\l", name)] + [(name[:-1] + end, "\\d") for end in ENDS[:63]]
 

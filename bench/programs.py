@@ -41,7 +41,7 @@ def build():
 
 
 def transcribe(folder, words):
-    """Runs `sandbox` with these words in a folder, with its output in `transcript` there: the seconds that it took and the bytes of its
+    """Runs `sandbox` with these arguments in a folder, with its output in `transcript` there: the seconds that it took and the bytes of its
     peak. It is to end with status 0."""
     with open(os.path.join(folder, "transcript"), "wb") as out:
         start = processor_seconds()
@@ -61,7 +61,7 @@ def replay(folder, schedule=()):
 
 
 def best_in_turns(runs, folder, works):
-    """The seconds of the best run of each of these works, which are words of `sandbox`. They take turns, so that what else the machine does
+    """The seconds of the best run of each of these works, given as the arguments of `sandbox`. They take turns, so that what else the machine does
     falls on each alike."""
     measured = [[] for _ in works]
     for _ in range(runs):
@@ -78,7 +78,7 @@ def outcome_of_sandbox(folder, words):
 
 
 def bench_words(work, rounds, folder):
-    """The words of a run of `sb_bench`, on `policy` and `script` of a folder where there is one."""
+    """The command line of a run of `sb_bench`, on `policy` and `script` of a folder where there is one."""
     files = [os.path.join(folder, name) for name in ("policy", "script")] if folder else []
     return [os.path.join(BENCH, "out", "sb_bench"), work, str(rounds)] + files
 
@@ -89,7 +89,7 @@ def check_line(work, rounds, line, told):
 
 
 def seconds_of(runs, work, rounds, told, folder):
-    """The seconds in which `sb_bench` does a work in so many rounds, in the best run. What it tells of it is `told`."""
+    """The seconds in which `sb_bench` does a work in the given number of rounds, in the best run. What it tells of it is `told`."""
     seconds = []
     for _ in range(runs):
         start = processor_seconds()

@@ -43,7 +43,7 @@ def script_lines():
 
 
 def best_of(runs, folder, words, wanted):
-    """The seconds of the best run of `sandbox` with these words: it ends with this status, writes this output, and what it writes on
+    """The seconds of the best run of `sandbox` with these arguments: it ends with this status, writes this output, and what it writes on
     standard error begins so."""
     seconds = []
     for _ in range(runs):

@@ -63,7 +63,7 @@ def measure_events(runs):
 
 # What the mixed calls are made of: a call, the rule that decides it, where there is one, and what becomes of it. In both {g} is
 # the number of a group, and there is a rule of each row for each group. A call is made of one row and one group. The rule of
-# another row holds of it only where that row stands below its own.
+# another row holds of it only if that row is below its own.
 GROUPS = 20
 MIXED = [
     ('file.create "\\d{g}\\f" 0x20 1 7 3 0x40', 'allow file.create when name like "\\d{g}\\*" and disposition in 1..3', "performed"),

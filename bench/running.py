@@ -36,7 +36,7 @@ MIB = 1024 * 1024
 
 
 def run_measured(folder, words, program=programs.SANDBOX, begin=None):
-    """Runs `sandbox` with these words in a folder, with its output in `transcript`: the seconds by a clock, what the system says of what it
+    """Runs `sandbox` with these arguments in a folder, with its output in `transcript`: the seconds by a clock, what the system says of what it
     used, and its exit status. It does `begin` first, if that is given."""
     with open(os.path.join(folder, "transcript"), "wb") as out:
         start = time.monotonic()
@@ -64,7 +64,7 @@ print(usage.ru_maxrss)
 
 
 def peak(folder, words):
-    """The bytes of the peak of memory of one more run of these words. A small program starts it, since what the system tells of a program
+    """The bytes of the peak of memory of one more run with these arguments. A small program starts it, since what the system tells of a program
     that has ended is at least the peak of the one from which it was started, and this one holds scripts and transcripts."""
     told = subprocess.run([sys.executable, "-c", STARTER, programs.SANDBOX, *words], cwd=folder, check=True, capture_output=True, text=True)
     return int(told.stdout) * 1024
@@ -75,7 +75,7 @@ def run_words(workers):
 
 
 def measured_runs(runs, folder, words, lines, last):
-    """The seconds of each run of these words. Each transcript has `lines` lines, of which `last` is the last."""
+    """The seconds of each run with these arguments. Each transcript has `lines` lines, of which `last` is the last."""
     measured = []
     for _ in range(runs):
         seconds, status = run(folder, words)

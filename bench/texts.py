@@ -40,7 +40,7 @@ def target_lines(name, channels, threads):
 
 
 def mixed_numbers(count):
-    """Numbers that are as good as drawn by lot, below 2^31, and the same each time."""
+    """Numbers that are as good as random, below 2^31, and the same each time."""
     number = 1
     for _ in range(count):
         number = number * 1103515245 + 12345 & 0x7FFFFFFF

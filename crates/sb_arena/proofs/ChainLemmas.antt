@@ -85,7 +85,7 @@ has_more (Some y) w xs h = by (w == y)
     by true = refl
     by false = h
 
--- the one before a node that is linked stands there too
+-- the one before a node that is linked is there too
 before_in : (g : ℕ → Link) (n w : ℕ) (here : Option ℕ) (xs : List ℕ) (l : Option ℕ) (z : ℕ)
     → Hangs g n (Some w) here xs l → has z xs ≡ true → has_some (g z).prev (w ∷ xs) ≡ true
 before_in g n w here [] l z h t = absurd (false≢true t)
@@ -99,7 +99,7 @@ before_in g n w here (x ∷ xs) l z h t = by (x == z) refl t (λ r. has_more (g 
         rw (o, r) refl
     by false e t f = f t
 
--- what is linked stands there once
+-- what is linked is there once
 pub once : (g : ℕ → Link) (n : ℕ) (b here : Option ℕ) (xs : List ℕ) (l : Option ℕ)
     → has_some b xs ≡ false → Hangs g n b here xs l → Single xs
 once g n b here [] l t h = tt

@@ -53,7 +53,7 @@ adds_leave_parents T f value n = by (length f.free == 0)
     by true = ap (λ r. r.parent) (same_past bare_row f.rows n)
     by false = refl
 
--- an element stands in its list
+-- an element is in its list
 has_at : (xs : List ℕ) (k : ℕ) → k < length xs → has (get_or xs k 0) xs ≡ true
 has_at [] k l = absurd (omega arith)
 has_at (x ∷ xs) zero l = rw (is_same x) refl

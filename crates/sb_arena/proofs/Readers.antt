@@ -123,7 +123,7 @@ module _ {T : Type 0} (links : List Link) (values : List (Option T)) (free : Lis
   pub live_in : (n : ℕ) → IsLive f n → n < length links
   live_in n h = subst (λ k. n < k) (sym sound.0) (live_present values n (subst (λ f. IsLive f n) (sym e) h))
 
-  -- the value of a live node is what stands at its number
+  -- the value of a live node is the one at its number
   pub value_read : (n : ℕ) → IsLive f n → (r : Option T) → r ≡ get_or values n r → value_at f n ≡ r
   value_read n h r w =
       ap (λ f. value_at f n) (sym e) ∙ get_or_default values n None r (live_present values n (subst (λ f. IsLive f n) (sym e) h)) ∙ sym w

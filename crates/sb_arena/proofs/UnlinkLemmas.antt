@@ -7,11 +7,11 @@ use Rattle.sb_arena.specs.Links.{Hangs}
 use Rattle.sb_arena.specs.Forests.{without, has}
 use Rattle.sb_arena.proofs.LinkLaws.{same_of, other_of, is_same, is_other, is_it}
 
--- what stands before a node that is linked
+-- what is before a node that is linked
 abbrev pub Back : (ℕ → Link) → ℕ → Option ℕ → ℕ → Type 0
 Back g n b x = ((g x).prev ≡ b) ⊎ ((y : ℕ) × ((g x).prev ≡ Some y) × ((g y).next ≡ Some x) × ((g y).parent ≡ Some n))
 
--- and what stands after it
+-- and what is after it
 abbrev pub On : (ℕ → Link) → ℕ → Option ℕ → ℕ → Type 0
 On g n l x = (((g x).next ≡ None) × (l ≡ Some x)) ⊎ ((y : ℕ) × ((g x).next ≡ Some y) × ((g y).prev ≡ Some x) × ((g y).parent ≡ Some n))
 

@@ -144,7 +144,7 @@ module _ (links : List Link) (c p : ℕ) (in_c : c < length links) (tied : IsTie
   ons : (x : ℕ) → (g x).parent ≡ Some p → On g p (g p).last x
   ons x e = on_of g p None (g p).first (kids links p) (g p).last x (tied.hangs p) (tied.member x p e)
 
-  -- of two that stand side by side each names the other
+  -- of two that are side by side each names the other
   next_prev : (x y : ℕ) → (g x).parent ≡ Some p → (g x).next ≡ Some y → ((g y).prev ≡ Some x) × ((g y).parent ≡ Some p)
   next_prev x y e n = by (ons x e)
     where

@@ -18,7 +18,7 @@ abbrev pub Single : List ℕ → Type 0
 Single [] = Unit {0}
 Single (x ∷ xs) = (has x xs ≡ false) × Single xs
 
--- rows and values stand by the numbers of nodes; a node is live if it has a value, and the others are free, the one freed last at the end
+-- rows and values are indexed by the numbers of nodes; a node is live if it has a value, and the others are free, the one freed last at the end
 pub record Forest (T : Type 0) : Type 0 where
   pub rows : List Row
   pub values : List (Option T)

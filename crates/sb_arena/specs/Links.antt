@@ -1,4 +1,4 @@
--- How nodes are linked, and the rows of parents and children that the links stand for.
+-- How nodes are linked, and the rows of parents and children that the links represent.
 use Rattle.std.specs.Prelude.{◌≡◌, ℕ, true, zero, suc, List, [], ◌∷◌, length, Option, Some, None, slice_index_or, slice_set, map}
 use Rattle.sb_arena.specs.declared.links.Link.{Link}
 use Rattle.sb_arena.specs.Forests.{Row, has}

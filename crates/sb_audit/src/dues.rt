@@ -24,9 +24,9 @@ pub enum FormDue {
 /// What is due by the second clause, on the place of an entry.
 #[derive(Clone, Copy)]
 pub enum PlaceDue {
-    /// One of the script's targets, of which there are so many.
+    /// One of the script's targets, of which there are this many.
     Target { targets: u32 },
-    /// One of the target's channels, of which there are so many.
+    /// One of the target's channels, of which there are this many.
     Channel { channels: u32 },
 }
 

@@ -15,7 +15,7 @@ pub enum Failure {
     /// The policy, the script, or a block that was made of it, was refused.
     #[error("sb_bench: the policy or the script was refused")]
     BadInput,
-    /// The words ask for no work.
+    /// The arguments ask for no work.
     #[error("sb_bench: usage: WORK ROUNDS [POLICY SCRIPT]")]
     Usage,
     /// Standard output did not take the line.

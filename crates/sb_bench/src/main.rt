@@ -29,7 +29,7 @@ fn main(rt: HostRuntime) -> ExitCode {
     }
 }
 
-// Gathers the words after the program's name and does what they ask. Without words nothing is done.
+// Gathers the arguments after the program's name and does what they ask. Without arguments nothing is done.
 fn run<R: Env + Files + Print + AllocGlobal>(rt: &R) -> Result<(), Failure> {
     let Ok(arguments) = env::args(rt) else {
         return Err(Failure::Usage);
@@ -44,7 +44,7 @@ fn run<R: Env + Files + Print + AllocGlobal>(rt: &R) -> Result<(), Failure> {
     }
 }
 
-// Does the work of the words `WORK ROUNDS`, or `WORK ROUNDS POLICY SCRIPT` with the names of two files, and puts a line of
+// Does the work of the arguments `WORK ROUNDS`, or `WORK ROUNDS POLICY SCRIPT` with the names of two files, and puts a line of
 // what came of it.
 fn put_work<R: Files + Print + AllocGlobal>(
     rt: &R,

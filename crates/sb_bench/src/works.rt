@@ -1,4 +1,4 @@
-// The works by their words.
+// The works by their names.
 
 use crate::failures::Failure;
 use crate::{crowding, judging, writing};

@@ -83,7 +83,7 @@ enough_room n m b r e h t = grind (arith, nat_tests)
 pub assembled : (o i c w v u t : List ℕ) (e : ℕ) → t ≡ o → u ≡ t ++ i → w ≡ u ++ (e ∷ []) → v ≡ w ++ c → v ≡ o ++ (i ++ (e ∷ c))
 assembled o i c w v u t e a b h k = k ∙ (ap (λ x. x ++ c) (h ∙ ap (λ x. x ++ (e ∷ [])) (b ∙ ap (λ x. x ++ i) a)) ∙ simp append_assoc)
 
--- what stands at the front is taken, and what stands after it is found
+-- what is at the front is taken, and what is after it is found
 pub taken_front : (xs ys : List ℕ) (n : ℕ) → length xs ≡ n → take n (xs ++ ys) ≡ xs
 taken_front xs ys n h = rw (sym h) (take-append_seam xs ys)
 

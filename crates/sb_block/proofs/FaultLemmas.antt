@@ -100,7 +100,7 @@ pub not_false : (b : Bool) → not b ≡ false → b ≡ true
 not_false true h = refl
 not_false false h = absurd (cc)
 
--- the count and the end that were fetched are those that stand in the words
+-- the count and the end that were fetched are those in the words
 pub counted : (c : Copied) → Fetched c → c.count_seen ≡ count_in c.words
 counted c f = eqb-true c.count_seen (count_in c.words) (not_false _ f.count)
 
@@ -134,7 +134,7 @@ later_faults_are_of_whole_copies c rule h =
 pub faultless_copies_are_whole : FaultlessCopiesAreWhole
 faultless_copies_are_whole c rule h = later_faults_are_of_whole_copies c rule (both_halves c h).0
 
--- if nothing stands for what ought to be a name, each argument is of its kind
+-- if what ought to be a name is one, each argument is of its kind
 fitting_kind : (k : ParamKind) (word : ℕ) (words : List ℕ) → type_of word ≡ type_number k → is_unnamed k word words ≡ false
     → fits_kind k (argument_in words word) ≡ true
 fitting_kind kind.Text word words t h = rw t

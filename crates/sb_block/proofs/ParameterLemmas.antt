@@ -76,7 +76,7 @@ typed_at (k ∷ ks) (x ∷ xs) zero s l =
 typed_at (k ∷ ks) (x ∷ xs) (suc i) s l =
     typed_at ks xs i (and_parts (nat_eq (type_of x) (type_number k)) (has_shape ks xs) s).1 (omega arith)
 
--- the argument of a descriptor stands at its place
+-- the argument of a descriptor is at its place
 argument_at : (words infos : List ℕ) (i : ℕ) → i < length infos
     → arg_at (map (argument_in words) infos) i ≡ argument_in words (slice_index infos i)
 argument_at words [] i l = absurd (omega arith)

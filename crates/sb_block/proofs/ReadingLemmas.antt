@@ -65,7 +65,7 @@ same_not_less n = grind (arith, nat_tests)
 pub nowhere : (p : ℕ → Bool) (xs : List ℕ) → list_all (λ x. not (p x)) xs ≡ true → position p xs ≡ None
 nowhere p xs h = rw (all_pass (λ x. not (p x)) xs h, same_not_less (length xs))
 
--- what stands between two lists is found again
+-- what is between two lists is found again
 pub part_back : (pre xs post : List ℕ) (at n : ℕ) → length pre ≡ at → length xs ≡ n → part_of at n (pre ++ (xs ++ post)) ≡ xs
 part_back pre xs post at n e h = rw (sym e, sym h, drop-append_seam pre (xs ++ post), take-append_seam xs post)
 

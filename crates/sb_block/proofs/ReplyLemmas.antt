@@ -3,7 +3,7 @@ use Rattle.std.proofs.Common.{◌≡◌, ℕ, ◌≤◌, List, [], ◌∷◌, le
 use Rattle.std.specs.Prelude.{min}
 use Rattle.sb_block.specs.Replies.{seven_of}
 
--- at most seven words are the first of the seven that stand for them
+-- at most seven words are the first of the seven that represent them
 pub seven_back : (xs : List ℕ) → length xs ≤ 7 → take (min (length xs) 7) (seven_of xs) ≡ xs
 seven_back [] h = refl
 seven_back (a ∷ []) h = refl

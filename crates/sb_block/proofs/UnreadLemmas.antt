@@ -116,7 +116,7 @@ after : (found o o' : Option BlockFault) (k k' : Call) → call_unless o k ≡ c
 after None o o' k k' h = h
 after (Some f) o o' k k' h = refl
 
--- and the rest may stand on its not being there
+-- and the rest may use that it is not there
 after_place : (place : Option ℕ) (o o' : Option BlockFault) (k k' : Call) → (place ≡ None → call_unless o k ≡ call_unless o' k')
     → call_unless (option_or (option_map BadPlace place) o) k ≡ call_unless (option_or (option_map BadPlace place) o') k'
 after_place None o o' k k' h = h refl
@@ -158,7 +158,7 @@ same_laid n tag mark count reply reply' infos params item item' r r' i =
     (same_after (lead tag mark count reply infos item) (lead tag mark count reply' infos item') params (16 + n)
     (lead_len n tag mark count reply infos item r i) (lead_len n tag mark count reply' infos item' r' i))
 
--- if another count was fetched than stands in the words, that or a fault before it is the fault
+-- if the count that was fetched is not the one in the words, that or a fault before it is the fault
 other_count : (found found' : Option BlockFault) (x : BlockFault) (o o' : Option BlockFault) (k k' : Call)
     → call_unless (option_or found (option_or found' (option_or (Some x) o))) k
     ≡ call_unless (option_or found (option_or found' (option_or (Some x) o'))) k'

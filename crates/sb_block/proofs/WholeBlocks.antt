@@ -54,7 +54,7 @@ fit_len [] (a ∷ args) f = absurd (false≢true f)
 fit_len (k ∷ kinds) [] f = absurd (false≢true f)
 fit_len (k ∷ kinds) (a ∷ args) f = omega (arith, fit_len kinds args (and_parts (fits_kind k a) (fit kinds args) f).1)
 
--- what the steps below stand on: a block that fits in 64 words
+-- what the steps below use: a block that fits in 64 words
 pub record Fitting (tag : CallTag) (args : List Arg) (mark : ℕ) : Type 0 where
   pub fitting : fits tag args ≡ true
   pub room : length (block tag args mark) ≤ 64

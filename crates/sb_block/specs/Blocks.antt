@@ -21,7 +21,7 @@ bytes_of kind.Num (Num number) = 4
 bytes_of kind.Text (Num number) = 4
 bytes_of kind.Name (Num number) = 4
 
--- a number stands in one word, a string's units four to a word
+-- a number is in one word, and a string's units are four to a word
 abbrev pub content_of : Arg → List ℕ
 content_of (Num number) = number ∷ []
 content_of (Str units) = packed units

@@ -1,4 +1,4 @@
--- The call that stands in a copy.
+-- The call that is in a copy.
 use Rattle.std.specs.Prelude.{◌≡◌, ℕ, ◌%◌, ◌^◌, ◌==◌, List, map, Option, None, Some, Result, Ok, Err, if◌then◌else◌}
 use Rattle.sb_call.specs.declared.tags.CallTag.{CallTag}
 use Rattle.sb_call.specs.declared.arguments.Arg.{Arg}

@@ -12,7 +12,7 @@ use Rattle.sb_block.specs.Faults.{fault, faults, first_there, type_number}
 use Rattle.sb_block.specs.Packing.{type_of, offset_of, size_of, words_for}
 use Rattle.sb_block.specs.Calls.{decoded, called, call_of, argument_in}
 
--- the count and the end that were fetched before a copy without a fault are those that stand in it
+-- the count and the end that were fetched before a copy without a fault are those that are in it
 abbrev pub FetchedNumbersAreCopied : Type 0
 FetchedNumbersAreCopied = (c : Copied) → fault c ≡ None → (c.count_seen ≡ count_in c.words) × (c.end_seen ≡ end_in c.words)
 
@@ -60,7 +60,7 @@ pub record IsParameter (words : List ℕ) (tag : CallTag) (i : ℕ) : Type 0 whe
   pub sized : size_of (descriptor_at words i) ≡ bytes_of (kind_at tag i) (argument_in words (descriptor_at words i))
   pub fitting : fits_kind (kind_at tag i) (argument_in words (descriptor_at words i)) ≡ true
 
--- words in which a call stands: their tag is known, they have its parameters, and they end where the end item says
+-- words that hold a call: their tag is known, they have its parameters, and they end where the end item says
 pub record IsWellFormed (words : List ℕ) (tag : CallTag) : Type 0 where
   pub known : tag_of (tag_word words) ≡ Some tag
   pub many : count_in words ≡ length (shape_of tag)

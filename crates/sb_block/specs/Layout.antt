@@ -10,18 +10,18 @@ most_words = 64
 abbrev pub most_parameters : ℕ
 most_parameters = 9
 
--- the reply stands in words 3 to 14
+-- the reply is in words 3 to 14
 abbrev pub first_reply_word : ℕ
 first_reply_word = 3
 
 abbrev pub reply_length : ℕ
 reply_length = 12
 
--- after the reply stands a descriptor for each parameter, and then the end item
+-- after the reply comes a descriptor for each parameter, and then the end item
 abbrev pub first_descriptor : ℕ
 first_descriptor = 15
 
--- parameters stand after the end item of a block with the given number of parameters
+-- parameters come after the end item of a block with the given number of parameters
 abbrev pub first_offset : ℕ → ℕ
 first_offset count = 16 + count
 

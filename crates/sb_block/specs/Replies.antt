@@ -2,7 +2,7 @@
 use Rattle.std.specs.Prelude.{◌≡◌, ◌≤◌, ℕ, List, [], ◌∷◌, length, slice_index, take, drop, min}
 use Rattle.sb_call.specs.declared.replies.Reply.{Reply}
 
--- the seven words that stand for extended words: 0 for each that is not there
+-- the seven words that represent extended words: 0 for each that is not there
 abbrev pub seven_of : List ℕ → List ℕ
 seven_of ext =
     slice_index ext 0 ∷ slice_index ext 1 ∷ slice_index ext 2 ∷ slice_index ext 3 ∷ slice_index ext 4

@@ -23,7 +23,7 @@ pub const REPLY_LENGTH: usize = 12;
 /// The word of the first parameter's descriptor. The others follow it, and then the end item, whose offset is the end.
 pub const FIRST_DESCRIPTOR: u64 = 15;
 
-/// The first word in which a parameter may stand, in a block with this number of parameters.
+/// The first word in which a parameter may be, in a block with this number of parameters.
 pub fn first_offset(count: u64) -> u64
     requires { count ≤ most_words }
     ensures { result ≡ first_offset count }

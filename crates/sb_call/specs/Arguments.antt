@@ -39,7 +39,7 @@ kind_at tag i = slice_index_or (shape_of tag) i Handle
 abbrev pub FittingArgsAreAsMany : Type 0
 FittingArgsAreAsMany = (tag : CallTag) (args : List Arg) → fits tag args ≡ true → length args ≡ length (shape_of tag)
 
--- and each is of the kind of its parameter; past the end the two stand-ins fit each other
+-- and each is of the kind of its parameter; past the end the two defaults fit each other
 abbrev pub FittingArgsAreOfTheirKinds : Type 0
 FittingArgsAreOfTheirKinds = (tag : CallTag) (args : List Arg) → fits tag args ≡ true
     → (i : ℕ) → fits_kind (kind_at tag i) (arg_at args i) ≡ true

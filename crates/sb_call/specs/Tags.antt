@@ -5,7 +5,7 @@ use Rattle.sb_call.specs.declared.tags.CallTag.TheVariants.{Ping, FileCreate, Fi
 use Rattle.sb_call.specs.declared.tags.ParamKind.{ParamKind}
 use Rattle.sb_call.specs.declared.tags.ParamKind.TheVariants.{Text, Name, Num, Handle}
 
--- the number that stands for a tag
+-- the number that represents a tag
 abbrev pub number_of : CallTag → ℕ
 number_of Ping = 1
 number_of FileCreate = 2
@@ -28,7 +28,7 @@ abbrev pub tag_among : List CallTag → ℕ → Option CallTag
 tag_among [] n = None
 tag_among (t ∷ ts) n = if n == number_of t then Some t else tag_among ts n
 
--- the tag that a number stands for, if there is one
+-- the tag that a number represents, if there is one
 abbrev pub tag_of : ℕ → Option CallTag
 tag_of n = tag_among every_tag n
 
@@ -50,6 +50,6 @@ shape_of HandleClose = Handle ∷ []
 abbrev pub TagsComeBack : Type 0
 TagsComeBack = (t : CallTag) → tag_of (number_of t) ≡ Some t
 
--- if a number stands for a tag, it is the number of that tag
+-- if a number represents a tag, it is the number of that tag
 abbrev pub NumbersComeBack : Type 0
 NumbersComeBack = (n : ℕ) (t : CallTag) → tag_of n ≡ Some t → number_of t ≡ n

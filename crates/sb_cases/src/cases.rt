@@ -1,4 +1,4 @@
-// A case: the words of a command line, files and an output in memory, and what goes wrong there.
+// A case: the arguments of a command line, files and an output in memory, and what goes wrong there.
 
 use crate::faults::RowFault;
 use crate::gates::MeetingGate;

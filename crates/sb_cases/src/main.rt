@@ -5,15 +5,15 @@
 //
 // A case is written in one of the files of `data`, and what it must print at the same place of `stdout`:
 //
-//     case NAME                    to the end of the line; `#` and blank lines stand between cases alone
-//     words replay policy script   the words of the command line; `word TEXT` is one word, with its blanks, or empty
+//     case NAME                    to the end of the line; `#` and blank lines occur between cases only
+//     words replay policy script   the arguments of the command line; `word TEXT` is one argument, with its blanks, or empty
 //     file policy                  a file, of the rows below it
-//     | TEXT                       a line as it stands, with a line feed
+//     | TEXT                       a line as it is, with a line feed
 //     % TEXT                       bytes without a line feed, except the escapes `\n`, `\r`, `\t`, `\\` and `\xHH`, the byte of this number
 //     * N | TEXT                   a row of one of both forms, N times
 //     same policy                  the file of this name of the case before
 //     fails-read N, fails-put N    this read or put fails, from 1, where the finish counts as a put; `room N`: the output takes N bytes
-//     try | TEXT                   the case is run once for each such row, with its bytes where the row `$` stands
+//     try | TEXT                   the case is run once for each such row, with its bytes where the row `$` is
 //     gate N                       the first call of each of the targets 0 to N - 1 is held until those of all have come
 //     ends M N                     only the first M and the last N of the lines that were written are printed
 //     counts TEXT                  it is printed how many of the lines that were written end with TEXT

@@ -53,7 +53,7 @@ impl Page {
         self.put_line(format!(in alloc; "{count} lines end with {end}")?.as_str())
     }
 
-    /// Puts the lines of a text, each after a bar. In place of lines that are left out stands a line that tells how many they
+    /// Puts the lines of a text, each after a bar. Lines that are left out are replaced by a line that tells how many they
     /// are. A last line without a line feed is followed by a line that says so.
     pub fn put_quoted(&mut self, alloc: Global, text: &[u8], ends: Ends) -> Result<(), AllocError> {
         let count = text.split_inclusive(|byte| *byte == b'\n').count() as u64;

@@ -339,7 +339,7 @@ words_are_read line form (name ∷ words) m e (listed, ok) matches = by (read_by
 
 -- ---- the command that was found
 
--- words that were tested are a command, by how many there are
+-- arguments that were tested are a command, by how many there are
 pub tested_are_command : (name : Text) (form : Form) (total : ℕ) (words : List Text) (tested : ⊤) → form_by name ≡ Some form → total ≡ suc (length words)
     → IsTested (read_after form total words) (Ok tested) → IsCommandOf form (name ∷ words)
 tested_are_command name form total words tested listed count h = (listed, by (read_by form words) (subst (λ n. IsTested (read_after form n words) (Ok tested)) count h))

@@ -11,7 +11,7 @@ use Rattle.sb_commands.specs.declared.usage.OptionWord.TheVariants as word
 use Rattle.sb_commands.specs.declared.usage_faults.UsageFault.TheVariants as fault
 use Rattle.sb_commands.specs.declared.usage_faults.UsageFault.{UsageFault}
 
--- what is wrong, with the place of the word among the arguments, from 0, and what the message names. `NotUtf8` is found where arguments are gathered, and
+-- what is wrong, with the index of the argument, from 0, and what the message names. `NotUtf8` is found where arguments are gathered, and
 -- by no test of arguments
 pub data Fault : Type 0 where
   NotUtf8 : Fault

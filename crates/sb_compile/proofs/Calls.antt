@@ -1,4 +1,4 @@
--- The codes of a program stand at the numbers of their calls.
+-- The codes of a program are at the numbers of their calls.
 use Rattle.std.specs.Prelude.{Option, None, slice_index_or}
 use Rattle.std.proofs.Common.{◌≡◌, ◌∙◌, ℕ, ◌-◌, zero, suc, true, List, [], ◌∷◌, ◌++◌, map, refl, ap}
 use Rattle.std.proofs.lemmas.Bool.{and_parts, false≢true}
@@ -32,7 +32,7 @@ for_at (t ∷ tags) [] i h = absurd (false≢true h)
 for_at (t ∷ tags) (c ∷ calls) zero h = (and_parts (is_for_tag t c) (are_for tags calls) h).0
 for_at (t ∷ tags) (c ∷ calls) (suc i) h = for_at tags calls i (and_parts (is_for_tag t c) (are_for tags calls) h).1
 
--- what stands at the number of a call is for it
+-- what is at the number of a call is for it
 pub call_for : (calls : List (Option VerifiedCode)) (tag : CallTag) → are_for every_tag calls ≡ true → is_for_tag tag (slice_index_or calls (number_of tag - 1) None) ≡ true
 call_for calls Ping h = for_at every_tag calls 0 h
 call_for calls FileCreate h = for_at every_tag calls 1 h

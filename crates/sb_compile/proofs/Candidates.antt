@@ -26,7 +26,7 @@ use Rattle.sb_compile.specs.Indexed.{CandidatesHaveEachThatHolds, CompiledRulesA
 use Rattle.sb_compile.proofs.Cuts.{is_formed, rules_are}
 use Rattle.sb_compile.proofs.Verdicts.{call_formed, rule_means, rules_formed, same_tag}
 
--- some rule, which stands where a list has none
+-- some rule, which is the default where a list has none
 abbrev some_rule : Rule
 some_rule = record { tag = Ping; conds = []; action = Allow; line = 0 }
 

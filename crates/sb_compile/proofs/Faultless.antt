@@ -30,7 +30,7 @@ use Rattle.sb_compile.proofs.Verdicts.{same_tag, rules_formed, call_formed}
 abbrev none_open : Option Opcode → List Opcode → Bool
 none_open before ops = list_all (λ pair. not (is_open pair)) (with_before before ops)
 
--- what may stand before an opcode of this parameter and this OR
+-- what may come before an opcode of this parameter and this OR
 abbrev Follows : Option Opcode → ℕ → Bool → Type 0
 Follows before param choice = (op : Opcode) → op.param ≡ param → has op.options OR ≡ choice → (goes_on before && differs before op) ≡ false
 

@@ -51,7 +51,7 @@ never : (b : Bool) → not (b && false) ≡ true
 never true = refl
 never false = refl
 
--- what may stand before cells may stand before the first of them
+-- what may come before cells may come before the first of them
 before_fewer : (u : ℕ) (run later : List Cell) → is_unit u ≡ true → may_precede (Lit u) (run ++ later) ≡ true → is_told_before u run ≡ true
 before_fewer u [] later unit h = both unit (never (eqb u 47))
 before_fewer u (One ∷ run) later unit h = both unit (and_parts (not (eqb u 42)) (not (eqb u 47 && true)) h).1

@@ -1,4 +1,4 @@
--- The first place where a fragment stands can be taken without loss if a `*` follows it.
+-- The first place where a fragment occurs can be taken without loss if a `*` follows it.
 use Rattle.std.specs.Prelude.{Option, None, Some, option_and_then, is_some}
 use Rattle.std.specs.List.{list_all, prefix_len}
 use Rattle.std.specs.Option.{option_or}
@@ -28,7 +28,7 @@ if_fits : (b : Bool) {m : Bool} (test : List ℕ → Bool) (left : Option (List 
 if_fits true test left e = e
 if_fits false test left e = refl
 
--- cells without `*` match if they stand as a fragment, and the cells after them match what is left
+-- cells without `*` match if they occur as a fragment, and the cells after them match what is left
 pub free_first : (run later : List Cell) (us : List ℕ) → is_free run ≡ true
     → matches (run ++ later) us ≡ holds_of (matches later) (after_fragment true run us)
 free_first [] later us free = refl
@@ -167,7 +167,7 @@ always_or : (b : Bool) → (b || false) ≡ b
 always_or true = refl
 always_or false = refl
 
--- and if they are as many as the units and stand in front
+-- and if they are as many as the units and are at the front
 pub free_whole : (run : List Cell) (us : List ℕ) → is_free run ≡ true → matches run us ≡ (eqb (length run) (length us) && is_some (after_fragment true run us))
 free_whole [] [] free = refl
 free_whole [] (u ∷ us) free = ap (λ b. b && true) (sym (uneven (length us)))
@@ -202,7 +202,7 @@ end_step run u us false true true l s h =
 end_step run u us false false true l s h = absurd (grind (arith, nat_tests))
 end_step run u us false false false l s h = refl
 
--- a fragment after a `*`, with nothing after it, stands at the end
+-- a fragment after a `*`, with nothing after it, is at the end
 pub at_the_end : (run : List Cell) (us : List ℕ) → is_free run ≡ true → matches (Any ∷ run) us ≡ is_some (after_end true run us)
 at_the_end run [] free =
     free_whole run [] free ∙ none_step (eqb (length run) 0) (leb (length run) 0) refl refl

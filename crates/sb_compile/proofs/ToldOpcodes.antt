@@ -82,7 +82,7 @@ split_action a b r s hr hs e =
     let p = split_word (action_word a) (action_word b) r s (action_letters a) (action_letters b) hr hs e in
     (sym (action_comes_back a) ∙ ap action_back p.0 ∙ action_comes_back b, p.1)
 
--- what stands on both sides of an equation of texts of kinds
+-- what is on both sides of an equation of texts of kinds
 record Sides (k l : OpKind) (p q : ℕ) (r s : List ℕ) : Type 0 where
   left_kind : is_listable_kind k ≡ true
   right_kind : is_listable_kind l ≡ true

@@ -20,7 +20,7 @@ use Rattle.sb_compile.specs.Listing.{listing_of}
 use Rattle.sb_wide.specs.OneLine.{is_no_lf}
 use Rattle.sb_wide.specs.Numbers.{is_word64}
 
--- a literal may stand before these cells: a unit, and no `/` before a `?`, since `/?` is the text of the literal `?`
+-- a literal may come before these cells: a unit, and no `/` before a `?`, since `/?` is the text of the literal `?`
 abbrev pub is_told_before : ℕ → List Cell → Bool
 is_told_before u later = is_unit u && not (u == 47 && begins_with_one later)
 

@@ -30,7 +30,7 @@ use Rattle.sb_text.specs.Words.{is_some_word}
 use Rattle.sb_text.specs.declared.refusals.TokenFault.{TokenFault}
 use Rattle.sb_text.specs.declared.refusals.WordFault.TheVariants.{Broken, Extra, NoVersion, Quoted}
 
--- the laws of texts that the proof stands on
+-- the laws of texts that the proof uses
 pub record Laws : Type 0 where
   pub lines : PlainLinesAreRead
   pub words : PlainWordsAreRead

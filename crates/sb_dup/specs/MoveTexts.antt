@@ -1,4 +1,4 @@
--- What a file of moves means: the moves, or the first fault. It is taken as bytes; a column counts characters, as in all files.
+-- What a file of moves means: the moves, or the first fault. It is taken as bytes; a column counts characters, as in policies and scripts.
 use Rattle.std.specs.Prelude.{ℕ, zero, suc, ◌+◌, List, [], take, Option, None, Some, Result, Ok, Err, codes}
 use Rattle.sb_dup.specs.Lines.{line_of}
 use Rattle.sb_dup.specs.declared.faults.MoveKind.{MoveKind}

@@ -59,7 +59,7 @@ on_event number access = record { object = record { service = service.Event; num
 abbrev pub shown : EventKind → Bool → List ℕ
 shown kind initial = kind_number kind ∷ state_number initial ∷ []
 
--- event.create, by what stands under the name
+-- event.create, by what is under the name
 abbrev pub create_by : Option EventRow → Events → Table → ℕ → List ℕ → EventKind → Bool → Effect Events
 create_by (Some row) events handles target name kind initial =
     if not (kind_number row.kind == kind_number kind) then refused events handles type_mismatch
@@ -71,7 +71,7 @@ create_by None events handles target name kind initial =
 abbrev pub create : Events → Table → ℕ → List ℕ → EventKind → Bool → Effect Events
 create events handles target name kind initial = create_by (found events.rows name) events handles target name kind initial
 
--- event.open, by what stands under the name
+-- event.open, by what is under the name
 abbrev pub open_by : Option EventRow → Events → Table → ℕ → ℕ → Effect Events
 open_by None events handles target access = refused events handles name_not_found
 open_by (Some row) events handles target access =

@@ -36,7 +36,7 @@ abbrev pub OpensLeaveEvents : Type 0
 OpensLeaveEvents = (events : Events) (handles : Table) (target : ℕ) (name : List ℕ) (access : ℕ)
     → (open_by_name events handles target name access).service ≡ events
 
--- what stands under a key stands there still after event.create
+-- what is under a key is still there after event.create
 abbrev pub CreatesKeepEvents : Type 0
 CreatesKeepEvents = (events : Events) (handles : Table) (target : ℕ) (name key : List ℕ) (kind : EventKind) (initial : Bool) (row : EventRow)
     → lookup (is_key key) events.rows ≡ Some row

@@ -1,4 +1,4 @@
--- Each name stands in a directory: also after an object was made or renamed, or has other attributes.
+-- Each name is in a directory: also after an object was made or renamed, or has other attributes.
 use Rattle.std.proofs.Common.{◌≡◌, ◌<◌, ◌+◌, ◌-◌, ℕ, zero, suc, Bool, true, false, refl, sym, subst, ◌∙◌, ap, arith, List, [], ◌∷◌, ◌++◌, length}
 use Rattle.std.proofs.lemmas.Bool.Decides.{nat_tests}
 use Rattle.std.proofs.lemmas.List.{get_or_append_left}
@@ -21,7 +21,7 @@ use Rattle.sb_file.proofs.RowLemmas.{found_passes, widened}
 abbrev pub is_directory_at : List FileObject → ℕ → Bool
 is_directory_at objects number = is_directory (object_at objects number).kind
 
--- each name stands in a directory
+-- each name is in a directory
 abbrev pub HasDirectories : Files → Type 0
 HasDirectories files = list_all (λ row. has_parent files row.0) files.names ≡ true
 

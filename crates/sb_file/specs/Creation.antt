@@ -59,7 +59,7 @@ open_by files handles target number request =
     then opens (with_attributes files number request.attributes) handles target number request (replaced_as request.disposition)
     else opens files handles target number request was_opened
 
--- file.create, by what stands under the name: the first case that applies
+-- file.create, by what is under the name: the first case that applies
 abbrev pub create_by : Option ℕ → Files → Table → ℕ → List ℕ → FileRequest → Effect Files
 create_by None files handles target name request =
     if needs_object request.disposition then refused files handles name_not_found

@@ -16,7 +16,7 @@ use Rattle.sb_file.specs.declared.objects.FileKind.TheVariants as kind
 use Rattle.sb_file.specs.declared.objects.FileObject.{FileObject}
 
 -- the number of the object under each name, each object ever made, and the open handles.
--- Object number n stands at place n - 1, and there are as many as were ever made
+-- Object number n is at place n - 1, and there are as many as were ever made
 pub record Files : Type 0 where
   pub names : Rows ℕ
   pub objects : List FileObject
@@ -49,7 +49,7 @@ is_directory_there files (u ∷ us) = is_directory_by (found files.names (u ∷ 
 abbrev pub has_parent : Files → List ℕ → Bool
 has_parent files name = is_directory_there files (parent_of name)
 
--- what stands under a name
+-- what is under a name
 abbrev pub object_found : Files → List ℕ → Option FileObject
 object_found files name = option_map (object_of files) (found files.names name)
 
@@ -72,7 +72,7 @@ abbrev pub kind_number : FileKind → ℕ
 kind_number kind.File = 0
 kind_number kind.Directory = 1
 
--- file.query, by what stands under the name
+-- file.query, by what is under the name
 abbrev pub query_by : Option ℕ → Files → Answer
 query_by None files = refusal name_not_found
 query_by (Some number) files = showing ((object_of files number).attributes ∷ kind_number (object_of files number).kind ∷ [])
@@ -92,7 +92,7 @@ rename_access = 0x10000
 abbrev pub rename_sharing : ℕ
 rename_sharing = 7
 
--- file.rename of what stands under the name
+-- file.rename of what is under the name
 abbrev pub rename_by : Option ℕ → Files → List ℕ → List ℕ → Files × Answer
 rename_by None files name to = rename_is_refused files name_not_found
 rename_by (Some number) files name to =
@@ -129,7 +129,7 @@ closed files handle = record files { shares = left files.shares handle }
 abbrev pub Agrees : Files → Table → Type 0
 Agrees files handles = AgreesOnFiles files.shares handles
 
--- each name leads to an object that was made, no two to one, and stands in a directory; each open handle is on an object that was made
+-- each name leads to an object that was made, no two to one, and is in a directory; each open handle is on an object that was made
 pub record AreObjects (files : Files) : Type 0 where
   pub made : AreNumbered (λ n. n) (length files.objects) files.names
   pub parents : list_all (λ row. has_parent files row.0) files.names ≡ true

@@ -60,7 +60,7 @@ CreatesAreFound = (files : Files) (handles : Table) (target : ℕ) (name other :
     then Some (length files.objects + 1)
     else found files.names other)
 
--- what stands under a key stands there still after a file.create
+-- what is under a key is still there after a file.create
 abbrev pub CreatesKeepNames : Type 0
 CreatesKeepNames = (files : Files) (handles : Table) (target : ℕ) (name key : List ℕ) (request : FileRequest) (number : ℕ)
     → lookup (is_key key) files.names ≡ Some number → lookup (is_key key) (create files handles target name request).service.names ≡ Some number
@@ -82,7 +82,7 @@ CreatesGiveAttributes = (files : Files) (handles : Table) (target : ℕ) (name :
     else (if says_replaced (create files handles target name request).answer.ext then option_map (with_asked request) (object_found files name)
     else object_found files name))
 
--- and what stands under every other name is as it was
+-- and what is under every other name is as it was
 abbrev pub CreatesLeaveOthers : Type 0
 CreatesLeaveOthers = (files : Files) (handles : Table) (target : ℕ) (name other : List ℕ) (request : FileRequest) → AreObjects files
     → is_key (key_of other) (key_of name) ≡ false

@@ -9,7 +9,7 @@ use Rattle.sb_names.specs.declared.seeking.Seek.TheVariants as seek
 use Rattle.sb_file.specs.Files.{has_parent, is_directory, object_at}
 use Rattle.sb_file.specs.declared.objects.FileObject.{FileObject}
 
--- names may stand in a directory of this object, and in the root, which has none
+-- names may be in a directory of this object, and in the root, which has none
 abbrev pub admits : List FileObject → Option ℕ → Bool
 admits objects None = true
 admits objects (Some number) = is_directory (object_at objects number).kind

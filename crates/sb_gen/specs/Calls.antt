@@ -60,7 +60,7 @@ call_of target kind k =
     else (if kind == 6 then ping k
     else pipe_create k))))))
 
--- the statement that a number of the generator stands for
+-- the statement that a number of the generator represents
 abbrev pub statement_of : ℕ → ℕ → Statement
 statement_of target x = call_of target (kind_of x) (number_of x)
 

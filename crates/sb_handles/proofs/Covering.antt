@@ -1,4 +1,4 @@
--- Each handle that conflicts stands in a set that is asked.
+-- Each handle that conflicts is in a set that is asked.
 use Rattle.std.proofs.Common.{◌≡◌, ◌<◌, ◌^◌, ℕ, Bool, true, false, cond, refl, sym, subst, ◌∙◌, ap, ◌==◌, arith}
 use Rattle.std.proofs.lemmas.Bool.{false≢true, and_parts}
 use Rattle.std.proofs.lemmas.Bool.Decides.{nat_tests}
@@ -17,13 +17,13 @@ pub kept_on : {V : Type 0} (s : Bool) (w : V) (o : Option V) → is_some o ≡ t
 kept_on true w o e = refl
 kept_on false w o e = e
 
--- what is not shared stands in its set
+-- what is not shared is in its set
 asked_unshared : (a s part i : Bool) → part ≡ true → ((part && not s) ≡ true → i ≡ true) → (a && not s) ≡ true → (a && (i && true)) ≡ true
 asked_unshared true false part i p h e = rw (h (rw p refl)) refl
 asked_unshared true true part i p h e = absurd (false≢true e)
 asked_unshared false s part i p h e = absurd (false≢true e)
 
--- what is done stands in its set
+-- what is done is in its set
 asked_done : (b s i : Bool) → (b ≡ true → i ≡ true) → (b && not s) ≡ true → (not s && (i && true)) ≡ true
 asked_done true false i h e = rw (h refl) refl
 asked_done true true i h e = absurd (false≢true e)
@@ -80,7 +80,7 @@ module _ (sets : Sets) (key : ℕ × ℕ) (access sharing : ℕ) where
       (asked_done (meets share.access.0 delete_bits) (meets sharing share_delete) (is_some (get by_pair sets.deleting key)) has.deletes))
       outer.1
 
-  -- a handle conflicts exactly if it stands in a set that is asked, and conflicts
+  -- a handle conflicts exactly if it is in a set that is asked, and conflicts
   pub listed_exactly : (entry : Option Share) → ((share : Share) → entry ≡ Some share → HasShare sets key share)
       → is_listed (conflicts_by access sharing entry) ≡ conflicts_by access sharing entry
   listed_exactly None has = none_listed

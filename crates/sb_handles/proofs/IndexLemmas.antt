@@ -1,10 +1,10 @@
--- Where pairs stand in their order.
+-- Where pairs are in their order.
 use Rattle.std.proofs.Common.{◌≡◌, ℕ, arith, ◌==◌}
 use Rattle.std.proofs.lemmas.Bool.Decides.{nat_tests}
 use Rattle.std.specs.Prelude.{◌&&◌}
 use Rattle.std.specs.BTreeMap.{is_at}
 use Rattle.sb_items.specs.Orders.{by_pair}
 
--- two pairs stand at one place of the order exactly if they are equal
+-- two pairs are at one place of the order exactly if they are equal
 pub same_pair : (a b c d : ℕ) → is_at (by_pair (a, b)) (c, d) ≡ (a == c && b == d)
 same_pair a b c d = grind (arith, nat_tests)

@@ -29,7 +29,7 @@ module _ {X : Type 0} (p q r : X → Bool) where
       not_passed true h = absurd (false≢true h)
       not_passed false h = refl
 
-  -- the first that passes stands among those that pass a wider test
+  -- the first that passes is among those that pass a wider test
   pub find_restricted : (xs : List X) → list_all (λ x. not (p x) || q x) xs ≡ true → ((x : X) → q x ≡ true → p x ≡ r x)
       → find p xs ≡ find r (filter q xs)
   find_restricted [] h f = refl

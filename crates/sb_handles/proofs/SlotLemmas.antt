@@ -60,7 +60,7 @@ module _ (target : ℕ) where
   by_empty number rest later false h l = h
   by_empty number rest later true h l = h ∙ rw (l refl) refl
 
-  -- a target holds what stands in its slot
+  -- a target holds what is in its slot
   pub found_slot : (first number : ℕ) (slots : List (Option Slot)) → among number (open_from first slots) ≡ held_in target (slot_of first slots number)
   found_slot first number [] = refl
   found_slot first number (None ∷ slots) =
@@ -73,7 +73,7 @@ module _ (target : ℕ) where
   abbrev others : ℕ → List OpenHandle → List OpenHandle
   others number handles = filter (λ handle. not (is_of target number handle)) handles
 
-  -- no handle below the first number stands there
+  -- no handle below the first number is there
   none_below : (first number : ℕ) (slots : List (Option Slot)) → number < first → others number (open_from first slots) ≡ open_from first slots
   none_below first number [] h = refl
   none_below first number (None ∷ slots) h = none_below (first + 1) number slots (omega arith)

@@ -430,7 +430,7 @@ closes_keep_files shares table target number held h agree found object other =
 abbrev other_handle : ℕ → (ℕ × ℕ) × Share → Bool
 other_handle number row = not (row.0.1 == number)
 
--- a pair stands at its own place
+-- a pair is at its own place
 own_place : (object number : ℕ) → is_at (by_pair (object, number)) (object, number) ≡ true
 own_place object number = same_pair object number object number ∙ grind (arith, nat_tests)
 

@@ -41,13 +41,13 @@ pub record HasShares (shares : ℕ × ℕ → Option Share) (sets : Sets) : Type
   pub listed : (key : ℕ × ℕ) (share : Share) → shares key ≡ Some share → HasShare sets key share
   pub words : (key : ℕ × ℕ) → is_some (shares key) ≡ true → key.1 < 2 ^ 64
 
--- a handle conflicts and stands among those that do not share what an access does
+-- a handle conflicts and is among those that do not share what an access does
 abbrev pub is_unshared : Sets → ℕ × ℕ → ℕ → Bool → Bool
 is_unshared sets key access hit =
     is_met (meets access read_bits) (get by_pair sets.unread key) hit
     || (is_met (meets access write_bits) (get by_pair sets.unwritten key) hit || is_met (meets access delete_bits) (get by_pair sets.undeleted key) hit)
 
--- a handle conflicts and stands among those that do what a sharing does not share
+-- a handle conflicts and is among those that do what a sharing does not share
 abbrev pub is_exceeding : Sets → ℕ × ℕ → ℕ → Bool → Bool
 is_exceeding sets key sharing hit =
     is_met (not (meets sharing share_read)) (get by_pair sets.reading key) hit

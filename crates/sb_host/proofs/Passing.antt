@@ -56,6 +56,6 @@ pub gives_more : {T E : Type 0} (r : Result T E) (old mid new : Option (List ℕ
 gives_more (Ok x) old mid new pending front rest left left' given k = gives_on old mid new pending front rest left left' given k
 gives_more (Err e) old mid new pending front rest left left' given k = tt
 
--- an output that tells nothing of what it wrote grows by what the writer was given
+-- an output whose content is not known grows by what the writer was given
 pub grows_unknown : (old new : Option (List ℕ)) (due left : List ℕ) → Gives old due new left → GrowsUpTo None due None left
 grows_unknown old new due left (part, cut, h) = (part, cut, refl)

@@ -123,7 +123,7 @@ fn meet<'a>(all: Option<Values<'a>>, values: Values<'a>) -> Values<'a>
 }
 
 /// The values that all of some conditions admit: a range, or if one of them has a list of numbers the numbers of a list. None if they
-/// say nothing of the feature.
+/// do not concern the feature.
 pub fn values_of_all(feature: Feature, conds: &[Cond]) -> Option<Values<'_>>
     ensures { (first : ℕ) (last : ℕ) → AreAdmitted result first last (list_all (cond_may_pass (Within feature first last)) conds.now) }
 {

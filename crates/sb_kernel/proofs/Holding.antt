@@ -306,7 +306,7 @@ module _ (grants : event_laws.OpensGrantTheirEvent) (refuses : event_laws.Refuse
   found_held =
       held_after ns found_after found_keep found_granted (still_come ns.pipes.made ns.handles found_event.handles found_after found_granted held.pipes_come) held
 
--- a rename: what stands under a key stands under the key to which that was renamed
+-- a rename: what was under a key is under the key to which that was renamed
 module _ (moves : file_laws.RenamesMove) (refuses : file_laws.RefusedRenamesChangeNothing)
     (ns : Space) (name to : List ℕ) (files_are : files.AreFiles ns.files) (is_name : is_name_of to ≡ true) (held : AreHeld ns) where
   abbrev renamed_after : Space

@@ -13,7 +13,7 @@ use Rattle.sb_event.specs.Events as events
 use Rattle.sb_kernel.specs.Namespaces.{Space}
 
 module _ {V : Type 0} where
-  -- something of this number stands under some name
+  -- something of this number is under some name
   abbrev pub IsUnder : (V → ℕ) → Rows V → ℕ → Type 0
   IsUnder number_of rows number = (key : List ℕ) × (row : V) × (lookup (is_key key) rows ≡ Some row) × (number_of row ≡ number)
 

@@ -40,12 +40,12 @@ abbrev pub OpensLeaveKeys : Type 0
 OpensLeaveKeys = (keys : Keys) (handles : Table) (target : ℕ) (name : List ℕ) (access : ℕ)
     → (open_by_name keys handles target name access).service ≡ keys
 
--- what stands under a name stands there still after key.create
+-- what is under a name is still there after key.create
 abbrev pub CreatesKeepKeys : Type 0
 CreatesKeepKeys = (keys : Keys) (handles : Table) (target : ℕ) (name key : List ℕ) (access number : ℕ)
     → lookup (is_key key) keys.names ≡ Some number → lookup (is_key key) (create keys handles target name access).service.names ≡ Some number
 
--- each key stands below one that is there, or below the root
+-- each key is below one that is there, or below the root
 abbrev pub CreatesKeepTrees : Type 0
 CreatesKeepTrees = (keys : Keys) (handles : Table) (target : ℕ) (name : List ℕ) (access : ℕ)
     → IsTree keys.names → IsTree (create keys handles target name access).service.names

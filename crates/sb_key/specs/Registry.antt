@@ -46,7 +46,7 @@ with_key keys name = record { names = put keys.names name (keys.made + 1); made 
 abbrev pub on_key : ℕ → ℕ → Held
 on_key number access = record { object = record { service = service.Key; number = number }; access = access_of access; sharing = sharing_of 0 }
 
--- key.create, by what stands under the name
+-- key.create, by what is under the name
 abbrev pub create_by : Option ℕ → Keys → Table → ℕ → List ℕ → ℕ → Effect Keys
 create_by (Some number) keys handles target name access =
     grants keys handles target (on_key number access) success (opened_existing_key ∷ [])
@@ -59,7 +59,7 @@ create keys handles target name access =
     if not (has_parent keys.names name) then refused keys handles path_not_found
     else create_by (found keys.names name) keys handles target name access
 
--- key.open, by what stands under the name
+-- key.open, by what is under the name
 abbrev pub open_by : Option ℕ → Keys → Table → ℕ → ℕ → Effect Keys
 open_by None keys handles target access = refused keys handles name_not_found
 open_by (Some number) keys handles target access = grants keys handles target (on_key number access) success []

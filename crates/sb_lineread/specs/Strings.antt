@@ -1,4 +1,4 @@
--- Strings as they stand between quotes, read back, and hexadecimal digits.
+-- Strings as they are between quotes, read back, and hexadecimal digits.
 use Rattle.std.specs.Prelude.{ℕ, ◌+◌, ◌*◌, ◌%◌, ◌^◌, Bool, false, List, [], ◌∷◌, ◌==◌, Option, None, Some, if◌then◌else◌}
 use Rattle.sb_text.specs.Numbers.{digit_of, value_from, below_2_64}
 use Rattle.sb_lineread.specs.declared.strings.Escape.{Escape}

@@ -27,7 +27,7 @@ use Rattle.sb_link.specs.declared.links.Link.{Link}
 use Rattle.sb_link.proofs.Adding.{both, is_false, or_false, same_back}
 use Rattle.sb_link.proofs.Under.{not_true}
 
--- the laws of texts that the proof stands on
+-- the laws of texts that the proof uses
 pub record Laws : Type 0 where
   pub utf8 : NotUtf8PlaceTells
   pub plain : PlainLinesAreUtf8

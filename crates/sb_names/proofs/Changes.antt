@@ -171,7 +171,7 @@ module _ (f f' : Nodes) (a : ℕ) (v : Option NameNode) (d : Option ℕ) (change
         by (Some p) t h again = again p h (λ j m. apart (suc j) (ap (ancestor f.rows j) t ∙ m))
 
     module _ (live_links : HasLiveLinks f) (names : HasNames f) (names' : HasNames f') (live_links' : HasLiveLinks f') where
-      -- what stands above a live node is live
+      -- what is above a live node is live
       live_above : (j n : ℕ) → IsLive f n → ancestor f.rows j (Some n) ≡ Some a → IsLive f a
       live_above zero n live e = subst (λ m. IsLive f m) (named_alike (Some n) (Some a) e) live
         where

@@ -23,7 +23,7 @@ use Rattle.sb_names.proofs.MapLaws.{is_found, is_key_eq}
 use Rattle.sb_names.proofs.PutLemmas.{kept_on, own_pair}
 use Rattle.sb_names.proofs.RisingLemmas.{by_unit, key_test, rises_none, rises_out, rises_put, rises_replaced}
 
--- equal pairs stand at one place, and only they
+-- equal pairs are at one place, and only they
 pub pair_eq : (p q : ℕ × ℕ) → is_at (by_pair p) q ≡ true → p ≡ q
 pair_eq (a, b) (c, d) h =
     let first : a ≡ c = grind (arith, nat_tests, same_pair a b c d, h) in
@@ -72,7 +72,7 @@ module _ {V : Type 0} where
       by true i = refl
       by false i = i
 
-  -- what stands under a name is the value at its place
+  -- what is under a name is the value at its place
   pub found_by_place : (es : Entries V) (name : List ℕ) → found (rows_in es) name ≡ value_by (place_of (key_of name) es)
   found_by_place es name = rows_found (key_of name) es ∙ value_at_place (key_of name) es
 
@@ -431,7 +431,7 @@ module _ {V : Type 0} where
               let same : e.0 ≡ q = pair_eq e.0 q h in
               absurd (false≢true (sym (ap is_eq s) ∙ ap (λ p. is_at (by_pair q) p) same ∙ own_place q))
 
-  -- and stand under their hashes
+  -- and are under their hashes
   hashed_set : (key : List ℕ) (w : V) (hash number : ℕ) (es : Entries V) → hash ≡ hash_of None key → AreHashed es
       → AreHashed (set_value (is_at (by_pair (hash, number))) es (key, w))
   hashed_set key w hash number [] same h = refl
@@ -502,7 +502,7 @@ module _ {V : Type 0} where
         has : HasAt key place es
         has = has_at key hash number v es same kept.0 at
 
-        -- what stands at the place
+        -- what is at the place
         pub row_there : lookup (is_at (by_pair place)) es ≡ None → ⊥
         row_there none = false≢true (sym (ap is_some none) ∙ ap is_some (row_at key place es kept.1 has).0)
 

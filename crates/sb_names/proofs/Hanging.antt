@@ -9,7 +9,7 @@ use Rattle.sb_names.specs.declared.nodes.NameNode.{NameNode}
 use Rattle.sb_names.proofs.Changes.{apart_new, linked_changes, is_same, is_other}
 use Rattle.sb_names.proofs.NodeLemmas.{live_below}
 
--- a node that is hung in a directory stands there
+-- a node that is hung in a directory is there
 pub hung_changes : LinksSetParents NameNode → (f f1 : Nodes) (a : ℕ) (v : Option NameNode) (d : Option ℕ) → IsChanged f f1 a v None
     → length f1.rows ≡ length f1.values → IsLive f1 a → IsThere f1 d → IsChanged f (hung f1 a d) a v d
 hung_changes links f f1 a v None changed even live there = changed

@@ -15,7 +15,7 @@ use Rattle.sb_names.specs.Nodes.{Nodes, HasNoChild, IsChild, IsIndexed, is_child
 use Rattle.sb_items.specs.Orders.{by_pair}
 use Rattle.sb_names.proofs.MapLaws.{own_test}
 
--- two pairs stand at one place of the order exactly if they are equal
+-- two pairs are at one place of the order exactly if they are equal
 pub same_pair : (a b c d : ℕ) → is_at (by_pair (a, b)) (c, d) ≡ (a == c && b == d)
 same_pair a b c d = grind (arith, nat_tests)
 

@@ -1,4 +1,4 @@
--- Names cut at a `\`: the last component with what stands before it, and the first with what follows.
+-- Names cut at a `\`: the last component with what is before it, and the first with what follows.
 use Rattle.std.proofs.Common.{◌≡◌, ◌+◌, ◌||◌, ℕ, Bool, true, false, refl, sym, ◌∙◌, ap, arith, suc, List, [], ◌∷◌, ◌++◌, take, drop, if◌then◌else◌}
 use Rattle.std.proofs.lemmas.Bool.{and_parts}
 use Rattle.std.proofs.lemmas.Bool.Decides.{nat_tests}
@@ -23,7 +23,7 @@ pub parent_path : (q s : List ℕ) → parent_of (q ++ 92 ∷ s) ≡ q ++ parent
 parent_path [] s = refl
 parent_path (u ∷ us) s = rw (any_in us s) (ap (λ more. u ∷ more) (parent_path us s))
 
--- what stands before a last component is the parent
+-- what is before a last component is the parent
 pub parent_last : (x y : List ℕ) → list_any is_backslash y ≡ false → parent_of (x ++ 92 ∷ y) ≡ x
 parent_last [] y h = rw h refl
 parent_last (u ∷ us) y h = rw (any_in us y) (ap (λ more. u ∷ more) (parent_last us y h))
@@ -42,7 +42,7 @@ path_parent (u ∷ us) h =
     let e : u ≡ 92 = grind (arith, nat_tests, h) in
     ap (λ v. is_path (parent_of (v ∷ us))) e ∙ parent_is_path us
 
--- two names with equal last components and what stands before are cut alike
+-- equal names are cut alike: what is before the last components is equal, and so are these
 pub last_equal : (x y x' y' : List ℕ) → list_any is_backslash y ≡ false → list_any is_backslash y' ≡ false
     → x ++ 92 ∷ y ≡ x' ++ 92 ∷ y' → (x ≡ x') × (y ≡ y')
 last_equal x y x' y' h h' e =

@@ -66,14 +66,14 @@ module _ (f : Nodes) where
         by (Some node) e l = component_plain node.part (names.parts n node e)
 
     module _ (shallow : IsShallow f.rows) (live_links : HasLiveLinks f) where
-      -- what stands before the last component
+      -- what is before the last component
       pub parent_name : (n : ℕ) → IsLive f n → parent_of (name_of f (Some n)) ≡ name_of f (node_parent f n)
       parent_name n live = ap parent_of (name_step shallow n) ∙ parent_last (name_of f (node_parent f n)) (key_at f n) (key_plain n live)
 
       pub not_root : (n : ℕ) → name_of f (Some n) ≡ [] → ⊥
       not_root n e = not_nothing (name_of f (node_parent f n)) (key_at f n) (sym (name_step shallow n) ∙ e)
 
-      -- a node whose name begins with a path stands below the node of that path
+      -- a node whose name begins with a path is below the node of that path
       pub reached : (k n : ℕ) → ancestor f.rows k (Some n) ≡ None → IsLive f n → (q r : List ℕ) → is_path r ≡ true → (q ≡ [] → ⊥)
           → name_of f (Some n) ≡ q ++ r → (a : ℕ) × IsLive f a × (name_of f (Some a) ≡ q)
       reached zero n h live q r path some e = absurd (cc)

@@ -15,7 +15,7 @@ use Rattle.sb_names.specs.declared.nodes.NameNode.{NameNode}
 use Rattle.sb_names.proofs.NameLemmas.{component_plain, parent_last, any_folded}
 use Rattle.sb_names.proofs.NodeLemmas.{found_node, found_none}
 
--- a path of components is what stands before the last, and the last
+-- a path of components is what is before the last, and the last
 cut : (c : List ℕ) (cs : List (List ℕ)) → list_all is_component (c ∷ cs) ≡ true
     → (q : List ℕ) × (part : List ℕ) × (path_of (c ∷ cs) ≡ q ++ 92 ∷ part) × (is_component part ≡ true) × (is_path q ≡ true)
 cut c [] all = ([], c, nothing_after (92 ∷ c), (and_parts (is_component c) true all).0, refl)

@@ -31,7 +31,7 @@ other_pair h n (g, m) ne = same_pair h n g m ∙ by (h == g) (n == m) refl
         let same : m ≡ n = grind (arith, nat_tests, e) in
         absurd (ne same)
 
--- equal pairs stand at one place
+-- equal pairs are at one place
 pub same_place : (h n h' n' : ℕ) → h ≡ h' → n ≡ n' → is_at (by_pair (h, n)) (h', n') ≡ true
 same_place h n h' n' e i = same_pair h n h' n' ∙ grind (arith, nat_tests, e, i)
 

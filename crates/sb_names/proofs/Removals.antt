@@ -1,4 +1,4 @@
--- What the removal of a node does to the rows, and when names stand below one.
+-- What the removal of a node does to the rows, and when names are below one.
 use Rattle.std.proofs.Common.{◌≡◌, ℕ, cond, refl, sym, ◌∙◌, ap, subst, zero, suc, List, length, if◌then◌else◌}
 use Rattle.std.proofs.lemmas.Map.{lookup-remove_entry}
 use Rattle.std.proofs.lemmas.Map.Keys.{IsDistinct-from_sorted}

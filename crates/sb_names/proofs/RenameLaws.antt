@@ -139,7 +139,7 @@ module _ (rows : Rows ℕ) (tree : IsTree rows) (are_folded : AreFolded rows) wh
       by [] some same h = absurd (some refl)
       by (u ∷ us) some same h = subst (λ k. Has rows k) same h
 
-  -- what stands above a key that has a row has one
+  -- what is above a key that has a row has one too
   above : (n : ℕ) (top rest : List ℕ) → (top ≡ [] → ⊥) → length rest ≤ n → is_path rest ≡ true → Has rows (top ++ rest) → Has rows top
   above n top [] some l p there = subst (λ k. Has rows k) (append-nil top) there
   above zero top (u ∷ us) some l p there = absurd (omega (arith, l))
@@ -153,7 +153,7 @@ module _ (rows : Rows ℕ) (tree : IsTree rows) (are_folded : AreFolded rows) wh
       above n top (parent_of (92 ∷ us)) some (omega (arith, shorter, less)) (parent_is_path us) (subst (λ k. Has rows k) cut up)
 
   module _ (old new : List ℕ) (some : new ≡ [] → ⊥) (gone : is_some (lookup (is_key new) rows) ≡ false) where
-    -- nothing stands at or below a name that is not there
+    -- nothing is at or below a name that is not there
     nothing_at : (key : List ℕ) → Has rows key → is_at_or_below new key ≡ false
     nothing_at key there = by (is_at_or_below new key) refl
       where

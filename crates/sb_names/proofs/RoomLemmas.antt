@@ -99,7 +99,7 @@ module _ (vacancies : VacanciesLeaveNodes NameNode) (f : Nodes) where
         none : (key : List ℕ) → IsUnnamed grown key → lookup (is_key key) (rows_of f) ≡ None
         none key missing = found_none f key (λ n l e. missing n (live_after n l) (node_name n l ∙ e))
 
--- if nothing stands under a name, its directory has no node of its component
+-- if nothing is under a name, its directory has no node of its component
 pub no_child_named : (f : Nodes) → HasNames f → IsShallow f.rows → HasLiveLinks f → (d : Option ℕ) (key : List ℕ)
     → lookup (is_key (name_of f d ++ 92 ∷ key)) (rows_of f) ≡ None → HasNoChild f d key
 no_child_named f names shallow live d key none n child = by (value_at f n) refl child.0

@@ -1,4 +1,4 @@
--- The rows of nodes are a tree: each name stands in a directory that is there. What a node of a name keeps.
+-- The rows of nodes are a tree: each name is in a directory that is there. What a node of a name keeps.
 use Rattle.std.proofs.Common.{◌≡◌, ℕ, Bool, true, refl, sym, ◌∙◌, ap, subst, zero, suc, List, [], ◌∷◌, ◌++◌, length}
 use Rattle.std.proofs.lemmas.Bool.{false≢true}
 use Rattle.std.specs.Prelude.{Option, Some, None, is_some, option_map}

@@ -9,7 +9,7 @@ use Rattle.sb_names.specs.Hashes.{hash_of}
 use Rattle.sb_names.specs.Maps.{Rows, is_key}
 use Rattle.sb_items.specs.Orders.{by_pair}
 
--- a hash and a number, and the row that stands there
+-- a hash and a number, and the row that is there
 abbrev pub Entry : Type 0 → Type 0
 Entry V = (ℕ × ℕ) × (List ℕ × V)
 
@@ -37,7 +37,7 @@ module _ {V : Type 0} where
   abbrev pub value_by : Option (ℕ × V) → Option V
   value_by place = option_map (λ p. p.1) place
 
-  -- an entry stands under the hash of its key, with a number of 64 bits
+  -- an entry is under the hash of its key, with a number of 64 bits
   abbrev pub is_hashed : Entry V → Bool
   is_hashed e = e.0.0 == hash_of None e.1.0 && nat_le e.0.1 (2 ^ 64 - 1)
 

@@ -11,7 +11,7 @@ key_of name = map folded name
 abbrev pub is_backslash : ℕ → Bool
 is_backslash u = u == 92
 
--- what stands before the last `\`: the name of the directory in which a name stands, and nothing for the root
+-- what is before the last `\`: the name of the directory that a name is in, and nothing for the root
 abbrev pub parent_of : List ℕ → List ℕ
 parent_of [] = []
 parent_of (u ∷ us) = if list_any is_backslash us then u ∷ parent_of us else []

@@ -12,7 +12,7 @@ abbrev pub PutsAreFound : Type 0 → Type 0
 PutsAreFound V = (rows : Rows V) (name other : List ℕ) (value : V)
     → found (put rows name value) other ≡ (if is_key (key_of other) (key_of name) then Some value else found rows other)
 
--- what stands under a key stands there still after something is put under a name that is not there
+-- what is under a key is still there after something is put under a name that is not there
 abbrev pub PutsKeepRows : Type 0 → Type 0
 PutsKeepRows V = (rows : Rows V) (name key : List ℕ) (value old : V) → found rows name ≡ None → lookup (is_key key) rows ≡ Some old
     → lookup (is_key key) (put rows name value) ≡ Some old
@@ -41,7 +41,7 @@ abbrev pub RenamesKeepParents : Type 0
 RenamesKeepParents = (test : ℕ → Bool) (rows rows' : Rows ℕ) (old new : List ℕ) → IsTree rows → AreFolded rows → is_name_of old ≡ true → is_name_of new ≡ true
     → HasParents test rows → has_parent_with test rows new ≡ true → renamed_tree rows old new ≡ Ok rows' → HasParents test rows'
 
--- what stands under a name is found after a rename under the name to which its own was renamed
+-- what is under a name is found after a rename under the name to which its own was renamed
 abbrev pub RenamesAreFound : Type 0
 RenamesAreFound = (rows rows' : Rows ℕ) (old new key : List ℕ) → IsTree rows → AreFolded rows → is_name_of new ≡ true → renamed_tree rows old new ≡ Ok rows'
     → is_some (lookup (is_key key) rows) ≡ true

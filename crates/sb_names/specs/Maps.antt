@@ -7,7 +7,7 @@ use Rattle.std.specs.Map.{keys_of, lookup, remove_entry, set_value}
 use Rattle.std.specs.Ordering.{nat_cmp}
 use Rattle.sb_names.specs.Keys.{key_of}
 
--- rows of a folded name and what stands under it
+-- rows of a folded name and what is under it
 abbrev pub Rows : Type 0 → Type 0
 Rows V = List (List ℕ × V)
 
@@ -20,15 +20,15 @@ module _ {V : Type 0} where
   abbrev pub Rises : Rows V → Type 0
   Rises rows = IsStrictlySortedBy (slice_cmp nat_cmp) (keys_of rows)
 
-  -- what stands under a name
+  -- what is under a name
   abbrev pub found : Rows V → List ℕ → Option V
   found rows name = lookup (is_key (key_of name)) rows
 
-  -- something stands under a name
+  -- something is under a name
   abbrev pub is_there : Rows V → List ℕ → Bool
   is_there rows name = is_some (found rows name)
 
-  -- with a value under a name, in the place of what stood there
+  -- with a value under a name, in the place of what was there
   abbrev pub put : Rows V → List ℕ → V → Rows V
   put rows name value = insert_entry (slice_cmp nat_cmp) rows (key_of name) value
 

@@ -1,4 +1,4 @@
--- The names of the nodes of a forest, and the rows that they stand for. Each node has one component; its name is the path from the root.
+-- The names of the nodes of a forest, and the rows that they represent. Each node has one component; its name is the path from the root.
 use Rattle.std.specs.Prelude.{◌≡◌, ◌≢◌, ◌<◌, ◌^◌, ℕ, Bool, true, false, zero, suc, List, [], ◌∷◌, ◌++◌, length, Option, None, Some, is_some, option_map, ◌==◌, ◌&&◌, ⊤, if◌then◌else◌}
 use Rattle.std.specs.BTreeMap.{insert_entry}
 use Rattle.std.specs.Cmp.Lexicographic.{slice_cmp}
@@ -111,7 +111,7 @@ IsIndexed index f = ((q : ℕ × ℕ) → is_entry f q ≡ true → is_some (ind
 abbrev pub KeepsEntries : {V : Type 0} → (ℕ × ℕ → Option V) → (ℕ × ℕ → Option V) → ℕ → Type 0
 KeepsEntries index index' a = (q : ℕ × ℕ) → q.1 ≢ a → index' q ≡ index q
 
--- one node alone has changed: it has this value, or none, and stands in this directory
+-- one node alone has changed: it has this value, or none, and is in this directory
 pub record IsChanged (f f' : Nodes) (a : ℕ) (v : Option NameNode) (directory : Option ℕ) : Type 0 where
   pub values : (n : ℕ) → value_at f' n ≡ (if n == a then v else value_at f n)
   pub parents : (n : ℕ) → node_parent f' n ≡ (if n == a then directory else node_parent f n)

@@ -29,6 +29,6 @@ pub record HasRoomFor (t : Tree) (new : NewName) : Type 0 where
   pub entry : is_some (lookup (is_at (by_pair (hash_of (number_of new.directory) (key_of new.part), node_number t.nodes))) t.index) ≡ true
   pub holder : is_some (lookup (is_at (by_pair (new.object, node_number t.nodes))) t.objects) ≡ true
 
--- nothing stands under it
+-- nothing is under it
 abbrev pub IsFreeFor : Nodes → NewName → Type 0
 IsFreeFor f new = lookup (is_key (key_for f new)) (rows_of f) ≡ None

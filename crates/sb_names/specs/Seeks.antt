@@ -7,7 +7,7 @@ use Rattle.sb_names.specs.Trees.{parent_object}
 use Rattle.sb_names.specs.declared.seeking.Seek.{Seek}
 use Rattle.sb_names.specs.declared.seeking.Seek.TheVariants as seek
 
--- the directory in which the name would stand is there
+-- the directory in which the name would be is there
 abbrev pub has_directory : Seek → Bool
 has_directory seek.NoDirectory = false
 has_directory (seek.Absent directory parent) = true

@@ -1,4 +1,4 @@
--- A tree of names: a map in which each name stands in a directory that is there, and what may be asked of it.
+-- A tree of names: a map in which each name is in a directory that is there, and what may be asked of it.
 use Rattle.std.specs.Prelude.{◌≡◌, ℕ, Bool, true, false, List, [], ◌∷◌, Option, None, Some, option_map}
 use Rattle.std.specs.List.{list_all}
 use Rattle.sb_wide.specs.Names.{is_name_of}
@@ -10,7 +10,7 @@ abbrev pub is_directory_there : Rows ℕ → List ℕ → Bool
 is_directory_there rows [] = true
 is_directory_there rows (u ∷ us) = is_there rows (u ∷ us)
 
--- the directory in which a name stands is there
+-- the parent directory of a name is there
 abbrev pub has_parent : Rows ℕ → List ℕ → Bool
 has_parent rows name = is_directory_there rows (parent_of name)
 
@@ -19,7 +19,7 @@ abbrev pub directory_object : Rows ℕ → List ℕ → Option (Option ℕ)
 directory_object rows [] = Some None
 directory_object rows (u ∷ us) = option_map (λ object. Some object) (found rows (u ∷ us))
 
--- the object of the directory in which a name stands
+-- the object of the parent directory of a name
 abbrev pub parent_object : Rows ℕ → List ℕ → Option (Option ℕ)
 parent_object rows name = directory_object rows (parent_of name)
 
@@ -41,14 +41,14 @@ abbrev pub is_directory_with : (ℕ → Bool) → Rows ℕ → List ℕ → Bool
 is_directory_with test rows [] = true
 is_directory_with test rows (u ∷ us) = passes test (found rows (u ∷ us))
 
--- the directory in which a name stands is there, and its object passes a test
+-- the parent directory of a name is there, and its object passes a test
 abbrev pub has_parent_with : (ℕ → Bool) → Rows ℕ → List ℕ → Bool
 has_parent_with test rows name = is_directory_with test rows (parent_of name)
 
--- each name stands in a directory whose object passes a test
+-- each name is in a directory whose object passes a test
 abbrev pub HasParents : (ℕ → Bool) → Rows ℕ → Type 0
 HasParents test rows = list_all (λ row. has_parent_with test rows row.0) rows ≡ true
 
--- each name stands in a directory that is there
+-- each name is in a directory that is there
 abbrev pub IsTree : Rows ℕ → Type 0
 IsTree rows = list_all (λ row. has_parent rows row.0) rows ≡ true

@@ -1,4 +1,4 @@
--- In a code without a fault no action stands within a group.
+-- In a code without a fault no action is within a group.
 use Rattle.std.specs.Prelude.{Bool, true, false, not, ◌&&◌, List, [], ◌∷◌, if◌then◌else◌}
 use Rattle.std.specs.List.{list_all, onto_first}
 use Rattle.std.proofs.Common.{◌≡◌, ◌∙◌, cond, refl, ap, sym}
@@ -9,7 +9,7 @@ use Rattle.sb_opcode.specs.Options.{has_options}
 use Rattle.sb_opcode.specs.WholeGroups.{ends_with_clear, are_alike, is_fit, is_whole_group, acts_at_end, is_whole_rule}
 use Rattle.sb_opcode.specs.Opcodes.{Opcode}
 
--- no action stands within a group, where these opcodes begin within one, or do not
+-- no action is within a group, where these opcodes begin within one, or do not
 abbrev pub closed_from : Bool → List Opcode → Bool
 closed_from inside [] = true
 closed_from inside (op ∷ ops) = if is_act op then not inside && closed_from false ops else closed_from (not (is_last op)) ops
@@ -83,7 +83,7 @@ alone op true a w =
     let none : groups_of (op ∷ []) ≡ [] = rw a refl in
     absurd (false≢true (ap has_group (sym none) ∙ w refl))
 
--- if the rules are closed, no action stands within a group
+-- if the rules are closed, no action is within a group
 pub closed_by_rules : (inside : Bool) (ops : List Opcode) → list_all is_closed_rule (rules_of ops) ≡ true
     → (inside ≡ true → goes_into_group (rules_of ops) ≡ true) → closed_from inside ops ≡ true
 closed_by_rules inside [] h w = refl

@@ -1,4 +1,4 @@
--- What stands at the front of packed words is known without a test.
+-- What is at the front of packed words is known without a test.
 use Rattle.std.specs.Prelude.{Option, None, Some, option_map, nat_le, nat_lt, not}
 use Rattle.std.specs.List.{list_all}
 use Rattle.std.proofs.Common.{◌≡◌, ◌∙◌, ◌≤◌, ◌<◌, ◌+◌, ◌*◌, ◌%◌, ◌^◌, ℕ, Bool, true, false, cond, List, [], ◌∷◌, ◌++◌, ◌&&◌, eqb, length, take, drop, map, refl, ap, sym, subst, arith}

@@ -10,7 +10,7 @@ use Rattle.sb_opcode.specs.Unpacking.{first_record, unpacked, unpacked_within, i
 use Rattle.sb_opcode.specs.Opcodes.{Opcode}
 use Rattle.sb_opcode.proofs.RecordLemmas.{none_is_not_some, same_some, unmapped, records_come_back, record_split}
 
--- what stands before a record is as long as it
+-- what comes after the first record of words is shorter than the words
 pub record_shorter : (words : List ℕ) (r : Opcode × List ℕ) → first_record words ≡ Some r → length r.1 < length words
 record_shorter words r e =
     let len : length (record_of r.0 ++ r.1) ≡ length words = ap length (record_split words r e).0 in

@@ -111,7 +111,7 @@ ends_not fold words us n h =
     let same : length (map cell_of words) ≡ length words = length-map words cell_of in
     never_ends fold (map cell_of words) us n (λ e. h (omega (arith, e, same)))
 
--- a fragment does not stand at the front of a string that is too short, or whose unit at the place of the last cell does not fit
+-- a fragment is not at the front of a string that is too short, or whose unit at the place of the last cell does not fit
 none_either : {X : Type 0} (b : Bool) (x : Option X) → x ≡ None → cond b x None ≡ None
 none_either true x e = e
 none_either false x e = refl
@@ -137,7 +137,7 @@ pub last_misfits : (fold : Bool) (words us : List ℕ) → 0 < length words
     → after_fragment fold (map cell_of words) us ≡ None
 last_misfits fold words us some h = misfits fold words us (length words - 1) (whole (length words) some) (λ g. h)
 
--- a fragment without cells stands at the front
+-- a fragment without cells is at the front
 pub no_cells : (fold : Bool) (words us : List ℕ) → length words ≡ 0 → after_first fold (map cell_of words) us ≡ Some us
 no_cells fold [] [] h = refl
 no_cells fold [] (u ∷ us) h = refl

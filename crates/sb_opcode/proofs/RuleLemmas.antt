@@ -175,7 +175,7 @@ passed_parts words later acts e h =
     let some : 1 ≤ length (record_of p.0) = omega arith in
     (record_of p.0, parts, omega (arith, some, ap length parts, length-append (record_of p.0) later))
 
--- the walk to the end of the first rule: where it stands
+-- the walk to the end of the first rule: where it is
 abbrev pub IsWithin : List ℕ → List ℕ → Type 0
 IsWithin words rest =
     (is_packed rest ≡ true) × (after_action (opcodes_of rest) ≡ after_action (opcodes_of words)) × ((before : List ℕ) × (words ≡ before ++ rest))

@@ -153,7 +153,7 @@ act_fits op a h = by op.kind a
     by (Act action line) k =
         λ i. not ((negate i && not (has op.options CLEAR)) || false || is_false h i || (folds i || exact i))
 
--- what stands before rules is whole with them
+-- what comes before rules is whole with them
 abbrev whole_after : Option Opcode → List (List Opcode) → Bool
 whole_after None rules = are_whole rules
 whole_after (Some op) rules = cond (is_act op || is_last op) (are_whole rules) (are_whole (onto_first op rules))

@@ -1,4 +1,4 @@
--- Where a fragment stands in a string. A position in a string is what is left of the string from there on.
+-- Where a fragment is in a string. A position in a string is what is left of the string from there on.
 use Rattle.std.specs.Prelude.{ℕ, ◌-◌, Bool, true, false, ◌==◌, nat_le, List, [], ◌∷◌, length, drop, Option, None, Some, option_and_then, is_some, if◌then◌else◌}
 use Rattle.std.specs.Option.{option_or}
 use Rattle.sb_wide.specs.Wide.{folded}
@@ -13,7 +13,7 @@ unit_fits fold (Lit w) u = if fold then folded u == folded w else u == w
 unit_fits fold One u = true
 unit_fits fold Any u = false
 
--- what is left after the fragment, where it stands at the front
+-- what is left after the fragment, if it is at the front
 abbrev pub after_fragment : Bool → List Cell → List ℕ → Option (List ℕ)
 after_fragment fold [] us = Some us
 after_fragment fold (cell ∷ cells) [] = None
@@ -23,17 +23,17 @@ after_fragment fold (cell ∷ cells) (u ∷ us) = if unit_fits fold cell u then 
 abbrev pub after_units : ℕ → List ℕ → Option (List ℕ)
 after_units n us = if nat_le n (length us) then Some (drop n us) else None
 
--- what is left after the fragment at the first place where it stands
+-- what is left after the fragment at the first place where it occurs
 abbrev pub after_first : Bool → List Cell → List ℕ → Option (List ℕ)
 after_first fold cells [] = after_fragment fold cells []
 after_first fold cells (u ∷ us) = option_or (after_fragment fold cells (u ∷ us)) (after_first fold cells us)
 
--- what is left after the fragment, where it stands at the end
+-- what is left after the fragment, if it is at the end
 abbrev pub after_end : Bool → List Cell → List ℕ → Option (List ℕ)
 after_end fold cells us =
     if nat_le (length cells) (length us) then after_fragment fold cells (drop (length us - length cells) us) else None
 
--- what is left after the fragment, where it stands where it is sought
+-- what is left after the fragment, if it is where it is sought
 abbrev pub after_seek : Seek → Bool → List Cell → List ℕ → Option (List ℕ)
 after_seek (Skip n) fold cells us = option_and_then (after_fragment fold cells) (after_units n us)
 after_seek Forward fold cells us = after_first fold cells us

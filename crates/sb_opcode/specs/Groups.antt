@@ -32,7 +32,7 @@ cut_after test (op ∷ ops) = if test op then (op ∷ []) ∷ cut_after test ops
 abbrev pub rules_of : List Opcode → List (List Opcode)
 rules_of ops = cut_after is_act ops
 
--- the groups of a rule: what stands before its action, cut after each CLEAR
+-- the groups of a rule: what comes before its action, cut after each CLEAR
 abbrev pub groups_of : List Opcode → List (List Opcode)
 groups_of rule = cut_after is_last (filter (λ op. not (is_act op)) rule)
 

@@ -26,7 +26,7 @@ number_holds (Mask mask) value = not (bit_and value mask == 0)
 number_holds (Text cells seek) value = false
 number_holds (Act action line) value = false
 
--- what a fragment leaves of a string in which it stands where it is sought
+-- what a fragment leaves of a string that has it where it is sought
 abbrev pub after_text : List Cell → Seek → Options → List ℕ → Option (List ℕ)
 after_text cells seek options units =
     if has options EXACT then at_end (after_seek seek (has options FOLD) cells units) else after_seek seek (has options FOLD) cells units

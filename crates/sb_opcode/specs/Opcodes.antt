@@ -6,7 +6,7 @@ use Rattle.sb_opcode.specs.declared.opcodes.Seek.{Seek}
 use Rattle.sb_opcode.specs.declared.options.Options.{Options}
 
 -- what an opcode does: it never holds, or always; it holds of one number, of the numbers from one to another, or of those with a bit of
--- a mask; it holds of a string in which a fragment stands where it is sought; or it ends a rule with an action and the rule's line
+-- a mask; it holds of a string that has a fragment where it is sought; or it ends a rule with an action and the rule's line
 pub data OpKind : Type 0 where
   False : OpKind
   True : OpKind

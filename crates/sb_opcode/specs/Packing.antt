@@ -1,4 +1,4 @@
--- How opcodes stand in words: one record after the other.
+-- How opcodes are packed in words: one record after the other.
 use Rattle.std.specs.Prelude.{◌≡◌, ℕ, ◌+◌, ◌*◌, ◌^◌, Bool, true, ◌&&◌, nat_lt, List, [], ◌∷◌, length, map}
 use Rattle.std.specs.List.{flat_map, list_all}
 use Rattle.sb_pattern.specs.declared.cells.Cell.{Cell}
@@ -35,7 +35,7 @@ skip_number (Skip n) = n
 skip_number Forward = 0
 skip_number ToEnd = 0
 
--- the part of the first word that says where a fragment is to stand, and 0 if there is none
+-- the part of the first word that says where a fragment is to be, and 0 if there is none
 abbrev pub seek_bits : OpKind → ℕ
 seek_bits (Text cells seek) = seek_number seek * 2 ^ 16 + skip_number seek * 2 ^ 32
 seek_bits False = 0

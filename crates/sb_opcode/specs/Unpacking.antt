@@ -1,4 +1,4 @@
--- Which opcodes words are the packing of. A code is seen as these; no other definition stands on how they are found.
+-- Which opcodes words are the packing of. A code is seen as these; no other definition depends on how they are found.
 use Rattle.std.specs.Prelude.{◌≡◌, ◌↔◌, ℕ, ◌/◌, ◌%◌, ◌^◌, Bool, true, ◌&&◌, ◌==◌, nat_lt, nat_le, zero, suc, List, [], ◌∷◌, ◌++◌, length, take, drop, map, Option, None, Some, option_map, option_and_then, is_some, unwrap_or, not, if◌then◌else◌}
 use Rattle.std.specs.List.{list_all}
 use Rattle.sb_pattern.specs.declared.cells.Cell.{Cell}
@@ -114,7 +114,7 @@ PackingComesBack = (words : List ℕ) (ops : List Opcode)
 abbrev pub RecordsComeBack : Type 0
 RecordsComeBack = (op : Opcode) (later : List ℕ) → is_sized op ≡ true → first_record (record_of op ++ later) ≡ Some (op, later)
 
--- What stands at the front of words that are known to be a packing. Nothing is tested again.
+-- What is at the front of words that are known to be a packing. Nothing is tested again.
 
 abbrev pub seek_known : ℕ → Seek
 seek_known head =

@@ -1,4 +1,4 @@
--- Where a walk over opcodes stands, and what each opcode makes of it. Nothing of the meaning of codes stands on this:
+-- The state of a walk over opcodes, and what each opcode makes of it. Nothing of the meaning of codes depends on this:
 -- that the walk gives that meaning is proved.
 use Rattle.std.specs.Prelude.{◌≡◌, ℕ, ◌+◌, ◌*◌, ◌^◌, Bool, true, false, not, ◌&&◌, ◌||◌, ◌==◌, List, [], ◌∷◌, Option, None, Some, if◌then◌else◌}
 use Rattle.sb_call.specs.Arguments.{arg_at}

@@ -8,7 +8,7 @@ use Rattle.sb_opcode.specs.Groups.{cut_after, rules_of, groups_of, is_act, is_la
 use Rattle.sb_opcode.specs.Options.{has, OR, has_options}
 use Rattle.sb_opcode.specs.Opcodes.{Opcode}
 
--- CLEAR stands on the last opcode, and on no other
+-- CLEAR is on the last opcode, and on no other
 abbrev pub ends_with_clear : List Opcode → Bool
 ends_with_clear [] = false
 ends_with_clear (op ∷ []) = is_last op

@@ -3,7 +3,7 @@
 use crate::options::Options;
 use sb_rule::Action;
 
-/// Where in a string the fragment of a text opcode is to stand. The position is 0 at the beginning of a group, and after
+/// Where in a string the fragment of a text opcode is to be. The position is 0 at the beginning of a group, and after
 /// an opcode it is where that opcode's fragment ended.
 #[derive(Clone, Copy, Debug)]
 pub enum Seek {
@@ -35,7 +35,7 @@ pub enum OpKind<'a> {
 }
 
 /// An opcode: what it does, the parameter of the call that it looks at, and its options. It borrows the cells of its
-/// fragment from the words in which it stands.
+/// fragment from the words in which it is packed.
 #[derive(Clone, Copy, Debug)]
 pub struct Opcode<'a> {
     /// What it does.

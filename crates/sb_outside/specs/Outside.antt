@@ -10,7 +10,7 @@ Held = List ℕ → Option (List ℕ)
 abbrev pub next_count : ℕ → ℕ
 next_count n = min (n + 1) (2 ^ 64 - 1)
 
--- the count rose, or stood at its last value
+-- the count rose, or was at its last value
 abbrev pub Rose : ℕ → ℕ → Type 0
 Rose before after = (before < after) ⊎ (2 ^ 64 - 1 ≤ before)
 

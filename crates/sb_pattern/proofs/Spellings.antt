@@ -39,7 +39,7 @@ begins_question (Lit u ∷ cells) = by (eqb u 63) refl
 no_star : (u : ℕ) (later : List Cell) → is_spellable (Lit u ∷ later) ≡ true → eqb u 42 ≡ false
 no_star u later h = untrue (eqb u 42) (and_parts (not (eqb u 42)) _ (and_parts (may_precede (Lit u) later) (is_spellable later) h).0).0
 
--- a literal `/` does not stand before `?`
+-- a literal `/` does not come before `?`
 no_slash : (u : ℕ) (later : List Cell) → is_spellable (Lit u ∷ later) ≡ true → (eqb u 47 && begins 63 (text_of later)) ≡ false
 no_slash u later h =
     ap (λ b. eqb u 47 && b) (begins_question later)
@@ -142,7 +142,7 @@ star_alone n u v us s e =
     by false true f g h = absurd (false≢true (ap is_none h))
     by false false f g h = (f, g)
 
--- the cell of a unit may stand before cells
+-- the cell of a unit may come before cells
 unit_precedes : (u : ℕ) (later : List Cell) → (eqb u 42 ≡ true → begins_wild later ≡ false) → (eqb u 47 ≡ true → begins_with_one later ≡ false)
     → may_precede (cell_of u) later ≡ true
 unit_precedes u later wild one = by (eqb u 42) (eqb u 63) (eqb u 47) refl refl

@@ -7,7 +7,7 @@ use Rattle.sb_pattern.specs.declared.cells.Cell.TheVariants.{Lit, One, Any}
 use Rattle.sb_pattern.specs.declared.faults.PatternFault.{PatternFault}
 use Rattle.sb_pattern.specs.declared.faults.PatternFault.TheVariants.{DoubleStar, StarQuestion, TooLong}
 
--- `*`, `?`, or a unit that stands for itself
+-- `*`, `?`, or a unit that means itself
 abbrev pub cell_of : ℕ → Cell
 cell_of u = if u == 42 then Any else (if u == 63 then One else Lit u)
 
@@ -67,18 +67,18 @@ begins_wild (One ∷ cells) = true
 begins_wild (Any ∷ cells) = true
 begins_wild (Lit u ∷ cells) = false
 
--- no literal is `*`, no literal `/` stands before `?`, and no `*` before `*` or `?`
+-- no literal is `*`, no literal `/` comes before `?`, and no `*` before `*` or `?`
 abbrev pub may_precede : Cell → List Cell → Bool
 may_precede (Lit u) later = not (u == 42) && not (u == 47 && begins_with_one later)
 may_precede One later = true
 may_precede Any later = not (begins_wild later)
 
--- each cell may stand before those after it
+-- each cell may come before those after it
 abbrev pub is_spellable : List Cell → Bool
 is_spellable [] = true
 is_spellable (cell ∷ later) = may_precede cell later && is_spellable later
 
--- cells are a pattern if each may stand before those after it and their text has at most 256 units
+-- cells are a pattern if each may come before those after it and their text has at most 256 units
 abbrev pub is_pattern : List Cell → Bool
 is_pattern cells = nat_le (length (text_of cells)) most_units && is_spellable cells
 
@@ -99,19 +99,19 @@ abbrev pub begins_with_star_before : ℕ → List ℕ → Bool
 begins_with_star_before unit [] = false
 begins_with_star_before unit (u ∷ us) = u == 42 && begins unit us
 
--- a `*` stands at this place, and this unit after it
+-- a `*` is at this place, and this unit is after it
 abbrev pub is_star_before : ℕ → List ℕ → ℕ → Bool
 is_star_before unit text place = begins_with_star_before unit (drop place text)
 
--- a `*` stands at this place, and `*` or `?` after it
+-- a `*` is at this place, and `*` or `?` is after it
 abbrev pub is_bad_star : List ℕ → ℕ → Bool
 is_bad_star text place = is_star_before 42 text place || is_star_before 63 text place
 
--- no bad star stands before this place
+-- no bad star is before this place
 abbrev pub HasNoneBefore : List ℕ → ℕ → Type 0
 HasNoneBefore text place = (before : ℕ) → before < place → is_bad_star text before ≡ false
 
--- a text is too long; or it is not, this star is the leftmost bad one, and `*` or `?` stands after it
+-- a text is too long; or it is not, this star is the leftmost bad one, and `*` or `?` is after it
 abbrev pub IsFaultOf : List ℕ → PatternFault → Type 0
 IsFaultOf text TooLong = most_units < length text
 IsFaultOf text (DoubleStar place) = (length text ≤ most_units) × (is_star_before 42 text place ≡ true) × HasNoneBefore text place

@@ -40,7 +40,7 @@ impl Model for Pattern {
 impl Pattern {
     /// The pattern of a text: `*` is any run of units, `?` is one unit, `/?` is a question mark, and any other unit,
     /// also a `/` before anything else, is itself. This is the notation of the policy rules of Chromium's Windows
-    /// sandbox, but that two stars in a row and a star before a question mark are refused.
+    /// sandbox, except that two stars in a row and a star before a question mark are refused.
     ///
     /// # Errors
     /// `TooLong` exactly if the text has more than 256 units. Otherwise `DoubleStar` or `StarQuestion` exactly if

@@ -68,7 +68,7 @@ named_with_instance names name rows old value f n are =
 pub named_fewer : (names : List (Option (List ℕ))) (rows : Rows PipeRow) (number : ℕ) → AreNamed names rows → AreNamed names (fewer rows number)
 named_fewer names rows number are = all_fewer (named names) rows number (λ row more h. h) are
 
--- the pipe of a number stands under the name that is kept for it
+-- the pipe of a number is under the name that is kept for it
 pub stands_under : (names : List (Option (List ℕ))) (rows : Rows PipeRow) (number : ℕ) (name : List ℕ) → name_at names number ≡ Some name → AreNamed names rows
     → StandsUnder name number rows
 stands_under names rows number name kept are = widened (named names) (λ row. not (row.1.number == number) || is_key (key_of name) row.0) rows here are

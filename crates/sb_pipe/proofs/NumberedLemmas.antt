@@ -75,7 +75,7 @@ pub numbered_there : (rows : Rows PipeRow) (name : List ℕ) (number : ℕ) (pip
     → is_numbered rows number ≡ (pipe.number == number)
 numbered_there rows name number pipe f r u = found_by_key (key_of name) number pipe rows r u f
 
--- it stands under its name still with a handle fewer
+-- it is still under its name with one handle fewer
 pub stands_fewer : (rows : Rows PipeRow) (name : List ℕ) (number : ℕ) → StandsUnder name number rows → StandsUnder name number (fewer rows number)
 stands_fewer rows name number u = all_fewer (under (key_of name) number) rows number (λ row more h. h) u
 
@@ -230,7 +230,7 @@ live_gone names rows number low live n h = by (number == n) refl
         absurd (false≢true (sym (ap is_some none) ∙ h))
     by false e = numbered_fewer rows number n e ∙ live n (sym (ap is_some (name_elsewhere names number n low e)) ∙ h)
 
--- and the other pipes stand under the names that are kept for them
+-- and the other pipes are under the names that are kept for them
 pub named_gone : (names : List (Option (List ℕ))) (rows : Rows PipeRow) (number : ℕ) → 1 ≤ number → is_numbered rows number ≡ false
     → AreNamed names rows → AreNamed (slice_set names (number - 1) None) rows
 named_gone names [] number low gone are = refl

@@ -27,7 +27,7 @@ some_of {V} a b e = ap (value_or a) e
     value_or d (Some v) = v
 
 module _ {V : Type 0} (P : Rows V → Rows V → Type 0) where
-  -- a row of a key that is not there stands somewhere among the others
+  -- a row of a key that is not there goes somewhere among the others
   pub put_cases : (key : List ℕ) (value : V) → ((rows : Rows V) → P rows ((key, value) ∷ rows))
       → ((row : List ℕ × V) (rows more : Rows V) → P rows more → P (row ∷ rows) (row ∷ more))
       → (rows : Rows V) → lookup (is_key key) rows ≡ None → P rows (insert_entry by_unit rows key value)

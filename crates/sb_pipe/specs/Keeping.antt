@@ -12,7 +12,7 @@ abbrev pub in_slot : Option (Option (List ℕ)) → Option (List ℕ)
 in_slot None = None
 in_slot (Some name) = name
 
--- the name that is kept for a number: that of pipe n stands in slot n - 1
+-- the name that is kept for a number: that of pipe n is in slot n - 1
 abbrev pub name_at : List (Option (List ℕ)) → ℕ → Option (List ℕ)
 name_at names number = if number == 0 then None else in_slot (slice_get names (number - 1))
 
@@ -25,7 +25,7 @@ abbrev pub is_key_of : Option (List ℕ) → List ℕ → Bool
 is_key_of None key = false
 is_key_of (Some name) key = is_key (key_of name) key
 
--- each pipe stands under the name that is kept for its number
+-- each pipe is under the name that is kept for its number
 abbrev pub AreNamed : List (Option (List ℕ)) → Rows PipeRow → Type 0
 AreNamed names rows = list_all (λ row. is_key_of (name_at names row.1.number) row.0) rows ≡ true
 
@@ -41,6 +41,6 @@ AreNames rows = list_all (λ row. is_name_of row.0) rows ≡ true
 abbrev pub IsKept : List (Option (List ℕ)) → Rows PipeRow → Type 0
 IsKept names rows = ArePipes (record { rows = rows; made = length names }) × AreNamed names rows × AreOfPipes names rows × AreNames rows
 
--- the pipe of this number, if there is one, stands under this name
+-- the pipe of this number, if there is one, is under this name
 abbrev pub StandsUnder : List ℕ → ℕ → Rows PipeRow → Type 0
 StandsUnder name number rows = list_all (λ row. not (row.1.number == number) || is_key (key_of name) row.0) rows ≡ true

@@ -43,7 +43,7 @@ is_invalid instances = not (nat_le 1 instances && nat_le instances 255)
 abbrev pub is_alike : PipeRow → PipeMode → PipeForm → ℕ → Bool
 is_alike row mode form instances = mode_number row.mode == mode_number mode && form_number row.form == form_number form && row.instances == instances
 
--- pipe.create, by what stands under the name
+-- pipe.create, by what is under the name
 abbrev pub create_by : Option PipeRow → Pipes → Table → ℕ → List ℕ → PipeMode → PipeForm → ℕ → Effect Pipes
 create_by (Some row) pipes handles target name mode form instances =
     if not (is_alike row mode form instances) then refused pipes handles access_denied

@@ -1,4 +1,4 @@
--- A number that is out stands nowhere else.
+-- A number that is out is nowhere else.
 use Rattle.std.proofs.Common.{ℕ, length, arith}
 use Rattle.std.specs.Prelude.{nat_lt}
 use Rattle.sb_pool.specs.declared.protocol.PoolView.{PoolView}

@@ -87,13 +87,13 @@ module _ {H : Type 0} (f : PoolView H → List ℕ) (k : ℕ) where
   times_in_append [] more = omega arith
   times_in_append (u ∷ us) more = let s = times_in_append us more in omega arith
 
-  -- what stands with one seat is among what stands with all
+  -- what is with one seat is among what is with all
   pub times_in_at : (views : List (PoolView H)) (p : ℕ) (v : PoolView H) → get_elem? views p ≡ raw.some v → times k (f v) ≤ times_in f k views
   times_in_at [] p v e = absurd (raw.some-ne-none v (sym e))
   times_in_at (u ∷ us) zero v e = let s = ap (λ (z : PoolView H). times k (f z)) (raw.some-injective u v e) in omega arith
   times_in_at (u ∷ us) (suc p) v e = let s = times_in_at us p v e in omega arith
 
-  -- and so is what stands with two
+  -- and so is what is with two
   pub times_in_two : (views : List (PoolView H)) (p q : ℕ) (v w : PoolView H) → p ≢ q → get_elem? views p ≡ raw.some v → get_elem? views q ≡ raw.some w
       → times k (f v) + times k (f w) ≤ times_in f k views
   times_in_two [] p q v w n e h = absurd (raw.some-ne-none v (sym e))

@@ -13,7 +13,7 @@ use Rattle.sb_pool.specs.Rule.{times_in, FitsSeat, PoolRule, Drawn, IsWithin, Is
 use Rattle.sb_pool.proofs.Places.{at_set, set_else, at_snoc, at_below, length_snoc}
 use Rattle.sb_pool.proofs.Counts.{times_append, times_snoc, map_snoc, times_removed, length_removed, times_in_set, times_in_append, times_in_at, times_in_two, only_in, outs_set, outs_append, outs_at, only_out, one_more, at_most_one, slice_longer, slice_last}
 
--- a number is counted where it stands
+-- a number is counted where it is
 here_once : (k : ℕ) → cond {A = ℕ} (eqb k k) 1 0 ≡ 1
 here_once k = grind (arith, nat_tests)
 

@@ -1,4 +1,4 @@
--- The rule of the pool: each number of a work stands once, on a work in the queue or out with one seat.
+-- The rule of the pool: each number of a work occurs once, on a work in the queue or out with one seat.
 use Rattle.std.specs.Prelude.{◌≡◌, ℕ, ◌+◌, ◌≤◌, true, false, cond, nat_lt, Some, List, [], ◌∷◌, length, map, slice_get}
 use mathlib.Core.Option as raw
 use lib.ListN.{get_elem?}
@@ -6,7 +6,7 @@ use Rattle.sb_pool.specs.declared.protocol.PoolView.{PoolView}
 use Rattle.sb_pool.specs.Views.{times, with_out, kept}
 
 module _ {H : Type 0} where
-  -- how often a number stands in a list that each seat has
+  -- how often a number occurs in a list that each seat has
   abbrev pub times_in : (PoolView H → List ℕ) → ℕ → List (PoolView H) → ℕ
   times_in f k [] = 0
   times_in f k (v ∷ vs) = times k (f v) + times_in f k vs

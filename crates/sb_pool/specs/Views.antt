@@ -3,7 +3,7 @@ use Rattle.std.specs.Prelude.{◌≡◌, ◌<◌, ◌⊎◌, ℕ, ◌+◌, ◌++
 use Rattle.std.specs.Option.{option_or}
 use Rattle.sb_pool.specs.declared.protocol.PoolView.{PoolView}
 
--- how often a number stands in a list
+-- how often a number occurs in a list
 abbrev pub times : ℕ → List ℕ → ℕ
 times k [] = 0
 times k (x ∷ xs) = cond (x == k) 1 0 + times k xs

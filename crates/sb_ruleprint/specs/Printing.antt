@@ -107,7 +107,7 @@ abbrev pub relined_rules : ℕ → List Rule → List Rule
 relined_rules n [] = []
 relined_rules n (rule ∷ rules) = record rule { line = n } ∷ relined_rules (n + 1) rules
 
--- policies whose rules have the numbers of their lines, if the first heading stands on line n
+-- policies whose rules have the numbers of their lines, if the first heading is on line n
 abbrev pub relined_from : ℕ → List Policy → List Policy
 relined_from n [] = []
 relined_from n (policy ∷ policies) =

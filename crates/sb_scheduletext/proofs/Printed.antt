@@ -34,7 +34,7 @@ use Rattle.sb_scheduletext.proofs.Counts.{one_more}
 use Rattle.sb_scheduletext.proofs.PrintedActors.{actor_plain, actor_read, decimal_plain, within_back}
 use Rattle.sb_scheduletext.proofs.PrintedLines.{is_plain_line, numbered, lines_back}
 
--- the laws of texts that the proof stands on
+-- the laws of texts that the proof uses
 pub record Laws : Type 0 where
   pub lines : PlainLinesAreRead
   pub words : PlainWordsAreRead

@@ -1,4 +1,4 @@
--- The words that are printed are read as what they stand for.
+-- The words that are printed are read as what they mean.
 use Rattle.std.proofs.Common.{◌≡◌, ◌∙◌, ℕ, suc, ◌+◌, ◌^◌, ◌<◌, nat_lt, nat_le, Bool, true, false, not, cond, ◌&&◌, List, [], ◌∷◌, ◌++◌, None, Some, Option, Ok, Err, Result, length, take, drop, ap, refl, sym, arith}
 use Rattle.std.specs.Fmt.{decimal}
 use Rattle.std.specs.List.{list_all, before_first, after_first, position_or_len}
@@ -75,7 +75,7 @@ ranged lo hi number = elim number [ None ↦ Err BadNumber | Some n ↦ if nat_l
 pub within_back : DecimalsAreRead → (lo hi n : ℕ) → n < 2 ^ 64 → (nat_le lo n && nat_le n hi) ≡ true → within lo hi (decimal n) ≡ Ok n
 within_back law lo hi n small h = ap (ranged lo hi) (law n small).1 ∙ ap {B = Result ℕ ScheduleKind} (λ t. cond t (Ok n) (Err BadNumber)) h
 
--- what stands before and after a dot
+-- what is before and after a dot
 
 one_more : (n : ℕ) → 1 + n ≡ suc n
 one_more n = omega arith

@@ -23,7 +23,7 @@ fn dot_at(word: &[u8]) -> usize
         .unwrap_or(word.len())
 }
 
-// What stands after the first dot, nothing if there is none.
+// What is after the first dot, nothing if there is none.
 fn after_dot(word: &[u8]) -> &[u8]
     ensures { result.now ≡ after_first is_dot word.now }
 {

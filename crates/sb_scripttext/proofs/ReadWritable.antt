@@ -99,7 +99,7 @@ record IsRead (x : ℕ × List Lexeme) : Type 0 where
   number : is_word64 x.0 ≡ true
   rest : AreText x.1
 
--- a number has 64 bits, whatever tokens it stands among
+-- a number has 64 bits, whatever tokens it is among
 number_small : (quoted missing : ScriptKind) (tokens : List Lexeme) (x : ℕ × List Lexeme) → number_at quoted missing tokens ≡ Ok x → is_word64 x.0 ≡ true
 unfolding number_at
 number_small quoted missing tokens x h =

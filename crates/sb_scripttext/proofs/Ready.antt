@@ -113,7 +113,7 @@ differ_more (x ∷ xs) last h k =
     list_any-append (λ other. pointwise nat_eq other.name x.name) xs (last ∷ []) ∙ rw (not_true _ apart.0) rw (other) refl in
     both _ _ (ap not none) (differ_more xs last apart.1 parts.1)
 
--- targets are sound, but that what their statements name is to be there
+-- targets are sound, provided that what their statements name is there
 record AreFine (count : ℕ) (targets : List TargetScript) (named : List Named) : Type 0 where
   few : nat_le (length targets) 8 ≡ true
   differ : names_differ targets ≡ true

@@ -51,7 +51,7 @@ use Rattle.sb_scripttext.specs.declared.faults.ScriptLimit.TheVariants.{Openings
 use Rattle.sb_text.specs.declared.refusals.TokenFault.{TokenFault}
 use Rattle.sb_text.specs.declared.refusals.WordFault.TheVariants.{Broken, Extra, Missing, NoVersion, Unknown}
 
--- the laws of lower crates that the proof stands on
+-- the laws of lower crates that the proof uses
 pub record Laws : Type 0 where
   pub utf8 : NotUtf8PlaceTells
   pub plain : PlainLinesAreUtf8

@@ -1,4 +1,4 @@
--- The words and strings that are written are read as what they stand for.
+-- The words and strings that are written are read as what they mean.
 use Rattle.std.proofs.Common.{◌≡◌, ◌∙◌, ℕ, zero, suc, ◌+◌, ◌^◌, ◌<◌, ◌≤◌, nat_eq, nat_lt, nat_le, Bool, true, false, not, cond, ◌&&◌, ◌||◌, List, [], ◌∷◌, None, Some, Option, Ok, Err, Result, length, position, codes, ap, refl, sym, arith}
 use Rattle.std.specs.Cmp.{nat_eq_equiv, partial_equiv_from_equiv}
 use Rattle.std.specs.Cmp.Lexicographic.{pointwise, lists_per, bytes_decides}
@@ -32,7 +32,7 @@ use Rattle.sb_wide.specs.Names.{is_name_of}
 small : (n : ℕ) → is_word64 n ≡ true → n < 2 ^ 64
 small n h = grind (arith, nat_tests)
 
--- the laws of lower crates that the proofs on values stand on
+-- the laws of lower crates that the proofs on values use
 pub record Texts : Type 0 where
   pub numbers : DecimalsAreRead
   pub strings : StringsComeBack
@@ -134,7 +134,7 @@ place_read law at rest h = ap (λ (p : Result ℕ ScriptKind). at_token (Word (p
 
 -- strings
 
--- a string that can stand between quotes comes back
+-- a string that can be written between quotes comes back
 pub string_back : Texts → (us : List ℕ) → is_text us ≡ true → ComesBack us
 string_back law us h = let parts = and_parts _ _ h in law.strings us parts.0 parts.1
 

@@ -19,7 +19,7 @@ use Rattle.sb_text.specs.declared.refusals.WordFault.TheVariants.{Missing, Extra
 abbrev pub last_block_word : ℕ
 last_block_word = 63
 
--- the number of a target or a channel. No script has one that 32 bits do not hold, and the greatest that they hold stands for all those
+-- the number of a target or a channel. No script has one that 32 bits do not hold, and the greatest that they hold represents all those
 abbrev pub short : ℕ → ℕ
 short n = if nat_le n most_32 then n else most_32
 
@@ -35,7 +35,7 @@ short_at tokens = value_at tokens >>= λ n. Ok (short n.0, n.1)
 abbrev pub block_place : ℕ → Result ℕ ScriptKind
 block_place i = if nat_le i last_block_word then Ok (1 + i) else Err NoSuchWord
 
--- W as a word: `state` stands at place 0
+-- W as a word: `state` is at place 0
 abbrev pub place_of : List ℕ → Result ℕ ScriptKind
 place_of w = if is_word (codes "state") w then Ok 0 else (or_fault BadNumber (number_of w) >>= λ i. block_place i)
 

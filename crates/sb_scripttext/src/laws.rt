@@ -21,7 +21,7 @@ pub fn read_scripts_are_ready()
     quoted_tokens_are_text();
 }
 
-/// The strings of the calls of each script that is read are made of units of 16 bits: they stand between quotes in a text that is
+/// The strings of the calls of each script that is read are made of units of 16 bits: they are between quotes in a text that is
 /// UTF-8.
 pub fn read_scripts_have_units()
     ensures { ReadScriptsHaveUnits }
@@ -36,7 +36,7 @@ pub fn read_arguments_fit()
 {}
 
 /// A fault on one of the first lines of a text, not all of which are blank or comments, is that of each text that begins with these
-/// lines, but that a target or a channel that is not there is looked for last.
+/// lines, except that a target or a channel that is not there is looked for last.
 pub fn first_faults_stay()
     ensures { FirstFaultsStay }
 {

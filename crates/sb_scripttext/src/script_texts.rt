@@ -200,7 +200,7 @@ fn read_parts(
 /// The grammar of script texts is that of this project.
 ///
 /// # Errors
-/// `Fault` exactly if the text has a fault: the first one, with its line and column, by lines from the top and within a line from the left, but
+/// `Fault` exactly if the text has a fault: the first one, with its line and column, by lines from the top and within a line from the left, except
 /// for these. A text that is not UTF-8 has this fault before all others. Within a line it comes after the line's other
 /// faults that an opening line cannot be placed, that a call does not fit a block or that the loads of a `wait` are out of
 /// their range, and after these that a limit is passed. A target or channel which a statement names and which is not there

@@ -117,7 +117,7 @@ module _ (laws : Laws) (key : Origin) (words : List ℕ) (homes : List (raw.Opti
         stops = subst (λ z. Stops z (set views id u)) (sym stop) (stops_stay (get_or words stop_word 0) views id v u r.stops at_id same_stop same_seen);
       }
 
-  -- what holds of the actor wherever it stands, holds after its step
+  -- what holds of the actor wherever it is, holds after its step
   pub stands_after : (u : View) (q : Part) → u.key ≡ v.key → u.parts ≡ q ∷ [] → q ≡ part_of next who → AllStand u.key u.parts
   stands_after u q same parts is =
       let kept = laws.keep script w who r.world r.running mine.there in

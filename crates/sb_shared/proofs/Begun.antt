@@ -29,7 +29,7 @@ use Rattle.sb_shared.proofs.Advancing.{only_one}
 use Rattle.sb_shared.proofs.Places.{actors_differ, actors_there, at_mapped}
 use Rattle.sb_shared.proofs.Standing.{actor_of_part}
 
--- where a word stands, by its place
+-- where a word is, by its place
 target_of : (t c j : ℕ) → c < 8 → j < 65 → spot t c j / 640 ≡ t
 target_of t c j hc hj = omega arith
 

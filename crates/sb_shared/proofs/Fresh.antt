@@ -1,4 +1,4 @@
--- Where actors stand before the first step, and the seats that know it.
+-- Where actors are before the first step, and the seats that know it.
 use Rattle.std.proofs.Common.{◌≡◌, ◌∙◌, refl, ap, subst, sym, ℕ, ◌<◌, true, List, [], ◌∷◌, length, slice_get, None, arith}
 use Rattle.std.proofs.lemmas.Bool.Decides.{nat_tests}
 use Rattle.sb_actor.specs.Places.{statements_of}

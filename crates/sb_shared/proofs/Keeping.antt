@@ -66,7 +66,7 @@ has_some : (o : Option History) → is_some o ≡ true → (b : History) × (o �
 has_some None e = absurd cc
 has_some (Some b) e = (b, refl)
 
--- a body, by where its worker stands
+-- a body, by where its worker is
 pub body_of : (me : Placed) (t : ℕ) (x : WorkerAt) (b : Option History) (state : WorkerAt) (book : Option History) (d : Option Decision)
     → me.0.parts ≡ part.Worker t x b ∷ [] → Stand me → state ≡ x → book ≡ b → Lies book me.1
     → IsDecided (setting_in me.0.key).policies state.target (taken_in state.stage) d → IsBody me state book d

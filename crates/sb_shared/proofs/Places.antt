@@ -42,7 +42,7 @@ low t (x ∷ xs) n p e = ⊎_elim
     (λ h. let g = low (t + 1) xs h.0 p h.2 in omega (arith, g))
     (at_joined (row t (length x.threads)) (places_from (t + 1) xs) n p e)
 
--- no thread stands there twice
+-- no thread is there twice
 places_differ : (t : ℕ) (xs : List TargetScript) (m n : ℕ) (p q : ℕ × ℕ) → get_elem? (places_from t xs) m ≡ raw.some p → get_elem? (places_from t xs) n ≡ raw.some q → m ≢ n → p ≢ q
 places_differ t [] m n p q e f d z = absurd (some-ne-none p (sym e))
 places_differ t (x ∷ xs) m n p q e f d z =

@@ -1,4 +1,4 @@
--- Where actors stand after a step.
+-- Where actors are after a step.
 use Rattle.std.proofs.Common.{◌≡◌, ◌≢◌, ◌∙◌, refl, ap, subst, sym, ℕ, zero, suc, map, ◌<◌, ◌++◌, Bool, true, false, eqb, List, [], ◌∷◌, length, set, get_or, get_or-set_same, Option, None, Some, IfSome, is_some, if◌then◌else◌, slice_index, arith, option_to_list}
 use Rattle.std.proofs.lemmas.Bool.Decides.{nat_tests}
 use Rattle.sb_actor.specs.ThreadTable.{thread_after}
@@ -45,7 +45,7 @@ module _ (script : Script) (w : WorldAt) (kept : IsWorld w) (runs : IsRunning sc
   pub thread_listed : (t k : ℕ) → is_there script.targets (Thread t k) ≡ true → k < length (threads_at w t)
   thread_listed t k h = let n = runs.threads t in grind (arith, nat_tests, n, h)
 
--- the actor of where an actor stands
+-- the actor of an actor's part
 pub actor_of_part : (w : WorldAt) (a : Actor) → actor_in (part_of w a) ≡ a
 actor_of_part w (Worker t) = refl
 actor_of_part w (Thread t k) = refl
@@ -74,7 +74,7 @@ pub shared_after : (script : Script) (w : WorldAt) (a : Actor) → is_on_word (p
 shared_after script w (Worker t) on = ap (λ (e : Effect). e.shared) (on_worker_word w.shared t (worker_at w t) (worker_plan (worker_at w t)) on)
 shared_after script w (Thread t k) on = refl
 
--- an actor that did not make the step stands where it stood, if the book is with whom it was
+-- an actor that did not make the step is where it was, if the book is with whom it was
 pub part_stays : (script : Script) (w : WorldAt) (a b : Actor) → Changes a (plan_of script w a) w (step script w a) → a ≢ b
     → ((t : ℕ) → b ≡ Worker t → held_by (step script w a).shared.turn (step script w a).shared.book t ≡ held_by w.shared.turn w.shared.book t)
     → part_of (step script w a) b ≡ part_of w b
@@ -83,7 +83,7 @@ part_stays script w a (Thread t k) changes apart held =
     let same = changes.threads t k apart in
     λ i. part.Thread t k (same i).thread (same i).results
 
--- where the worker of a target stands after its step
+-- where the worker of a target is after its step
 module _ (script : Script) (w : WorldAt) (kept : IsWorld w) (runs : IsRunning script w) where
   pub worker_moved : (t : ℕ) → is_there script.targets (Worker t) ≡ true
       → worker_at (step script w (Worker t)) t ≡ worker_after (worker_at w t) (on_worker w.shared t (worker_at w t) (worker_plan (worker_at w t))).seen
@@ -96,7 +96,7 @@ module _ (script : Script) (w : WorldAt) (kept : IsWorld w) (runs : IsRunning sc
       ap (λ (xs : List RunAt). get_or xs k no_run) (get_or-set_same w.threads t (set (threads_at w t) k run) [] (listed w.threads t k l))
       ∙ get_or-set_same (threads_at w t) k run no_run l
 
-  -- where an actor stands after its step on a word
+  -- where an actor is after its step on a word
   pub part_moved : (a : Actor) (n : ℕ) → is_there script.targets a ≡ true → is_on_word (plan_of script w a) ≡ true
       → (on_word w.shared (plan_of script w a)).seen ≡ seen_of (plan_of script w a) n → part_of (step script w a) a ≡ part_after script (part_of w a) n
   part_moved (Worker t) n there on seen =
@@ -115,7 +115,7 @@ module _ (script : Script) (w : WorldAt) (kept : IsWorld w) (runs : IsRunning sc
       (λ i. part.Thread t k (run i).thread (run i).results)
       ∙ (λ i. part.Thread t k (after (seen i)).thread (x.results ++ option_to_list (after (seen i)).ended))
 
--- what holds of an actor of a run wherever it stands
+-- what holds of an actor of a run wherever it is
 if_some : (b : Bool) (book : History) → is_some (if b then Some book else None) ≡ b
 if_some true book = refl
 if_some false book = refl

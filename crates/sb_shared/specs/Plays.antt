@@ -17,7 +17,7 @@ use Rattle.sb_shared.specs.declared.views.View.{View}
 abbrev pub Placed : Type 0
 Placed = Me Slot View
 
--- what holds of the actors of a seat wherever they stand
+-- what holds of the actors of a seat wherever they are
 abbrev pub Stand : Placed → Type 0
 Stand me = AllStand me.0.key me.0.parts
 

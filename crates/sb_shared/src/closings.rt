@@ -33,7 +33,7 @@ pub struct ClosedRun {
     pub results: Results,
 }
 
-// Takes in the seats of workers, and keeps where the workers stand.
+// Takes in the seats of workers, and keeps where the workers are.
 fn join_workers(
     words: &Words,
     keeper: &mut Keeper,

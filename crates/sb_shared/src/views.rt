@@ -37,7 +37,7 @@ pub struct Origin {
 pub struct View {
     /// The policies and the script of the run.
     pub key: Origin,
-    /// Where the seat's actors stand.
+    /// Where the seat's actors are.
     pub parts: LinkedList<Part>,
     /// The number of steps that the seat has made.
     pub steps: u64,

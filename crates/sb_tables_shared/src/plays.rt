@@ -58,7 +58,7 @@ fn played(
 }
 
 /// The given steps of the seats of one shared world, and what the core says of them. Shown are the words that changed, the entries and the results so far,
-/// where the workers stand, and whether words, entries and results are those of the core.
+/// where the workers are, and whether words, entries and results are those of the core.
 pub fn told_steps(alloc: Global, inputs: &Inputs, steps: &str) -> Result<String, RowFault> {
     let schedule = schedule_of(alloc, steps, inputs.ready.script())?;
     let judge = Programs::new(alloc, inputs.ready.policies(), inputs.ready.script())?;

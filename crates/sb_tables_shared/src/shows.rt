@@ -86,7 +86,7 @@ pub fn shown(alloc: Global, script: &Script, report: &Report) -> Result<String, 
     Ok(out)
 }
 
-/// Appends where each worker stands.
+/// Appends where each worker is.
 pub fn put_workers(out: &mut String, workers: &[WorkerState]) -> Result<(), RowFault> {
     for worker in workers {
         let (target, channel) = (worker.target(), worker.channel());

@@ -36,7 +36,7 @@ same_once k = by (eqb k k) refl
     by true e = subst (λ b. cond {A = ℕ} b 1 0 ≡ 1) (sym e) refl
     by false e = absurd (grind (arith, nat_tests, e))
 
--- each number below n stands in a list, and so does each below n + 1 once n was appended
+-- each number below n is in a list, and so is each below n + 1 once n was appended
 each_more : (n : ℕ) (xs : List ℕ) → ((k : ℕ) → k < n → 0 < times k xs) → (k : ℕ) → k < n + 1 → 0 < times k (xs ++ n ∷ [])
 each_more n xs each k l = by (eqb k n) refl
   where

@@ -1,4 +1,4 @@
--- What stands between quotes is text.
+-- What is between quotes is text.
 use Rattle.std.proofs.Common.{◌≡◌, refl, sym, ap, subst, ◌∙◌, arith, ℕ, zero, ◌+◌, ◌-◌, ◌/◌, ◌%◌, ◌<◌, ◌≤◌, ◌⊎◌, ⊎_elim, suc, List, [], ◌∷◌, ◌++◌, true, false, not, cond, ◌&&◌, ◌||◌, nat_lt}
 use Rattle.std.proofs.Math.Utf8.{scalar, scalars, scalar_cases, encode, encodes}
 use Rattle.std.proofs.lemmas.Bool.{and_parts, cases_lt}
@@ -92,7 +92,7 @@ text (c ∷ cs) s h =
       paired c (utf16_of cs) (and_parts (scalar c) (scalars cs) s).0 later.1,
     )
 
--- the string that stands between two quotes is text, and well-formed UTF-16
+-- the string that is between two quotes is text, and well-formed UTF-16
 pub quoted_is_text : QuotedStringsAreText
 quoted_is_text q u h =
     let cs_is : u.0 ≡ chars q = sym (chars-encodes u.0 u.1.0) ∙ ap chars u.1.1 in

@@ -12,7 +12,7 @@ is_line line = list_all is_no_lf line
 abbrev pub ended : List ℕ → List ℕ
 ended line = line ++ 10 ∷ []
 
--- a line as it stood in its text
+-- a line as it was in its text
 abbrev pub whole : NumberedRawLine → List ℕ
 whole line = if line.is_ended then ended line.bytes else line.bytes
 
@@ -20,11 +20,11 @@ whole line = if line.is_ended then ended line.bytes else line.bytes
 abbrev pub WrittenLinesAreRead : Type 0
 WrittenLinesAreRead = (lines : List (List ℕ)) → list_all is_line lines ≡ true → raw_lines (flat_map ended lines) ≡ lines
 
--- the same of lines as they stand between LFs
+-- the same of lines as they are between LFs
 abbrev pub WrittenRawLinesAreRead : Type 0
 WrittenRawLinesAreRead = (lines : List (List ℕ)) → list_all is_line lines ≡ true → numbered_raw_lines (flat_map ended lines) ≡ numbered_from 1 true lines
 
--- the lines as they stand between LFs, without their numbers and ends, are the lines
+-- the lines as they are between LFs, without their numbers and ends, are the lines
 abbrev pub RawLinesAreLines : Type 0
 RawLinesAreLines = (bs : List ℕ) → map (λ line. line.bytes) (numbered_raw_lines bs) ≡ raw_lines bs
 
@@ -32,7 +32,7 @@ RawLinesAreLines = (bs : List ℕ) → map (λ line. line.bytes) (numbered_raw_l
 abbrev pub LinesHoldNoLf : Type 0
 LinesHoldNoLf = (bs : List ℕ) → list_all is_line (raw_lines bs) ≡ true
 
--- the lines as they stood in their text, joined, are the text
+-- the lines as they were in their text, joined, are the text
 abbrev pub RawLinesJoin : Type 0
 RawLinesJoin = (bs : List ℕ) → flat_map whole (numbered_raw_lines bs) ≡ bs
 

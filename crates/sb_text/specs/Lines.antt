@@ -13,24 +13,24 @@ is_ended [] = true
 is_ended (b ∷ []) = b == 10
 is_ended (b ∷ c ∷ bs) = is_ended (c ∷ bs)
 
--- a line as it stands between LFs: its number, its bytes, and whether an LF follows it
+-- a line as it is between LFs: its number, its bytes, and whether an LF follows it
 pub record NumberedRawLine : Type 0 where
   pub number : ℕ
   pub bytes : List ℕ
   pub is_ended : Bool
 
--- these lines as they stand between LFs, numbered from n: an LF follows each but the last, and the last if the test says so
+-- these lines as they are between LFs, numbered from n: an LF follows each but the last, and the last if the test says so
 abbrev pub numbered_from : ℕ → Bool → List (List ℕ) → List NumberedRawLine
 numbered_from n last_ended [] = []
 numbered_from n last_ended (line ∷ []) = record { number = n; bytes = line; is_ended = last_ended } ∷ []
 numbered_from n last_ended (line ∷ next ∷ lines) =
     record { number = n; bytes = line; is_ended = true } ∷ numbered_from (n + 1) last_ended (next ∷ lines)
 
--- the lines of these bytes as they stand between LFs, numbered from n
+-- the lines of these bytes as they are between LFs, numbered from n
 abbrev pub raw_lines_from : ℕ → List ℕ → List NumberedRawLine
 raw_lines_from n bs = numbered_from n (is_ended bs) (raw_lines bs)
 
--- the lines of bytes as they stand between LFs, numbered from 1
+-- the lines of bytes as they are between LFs, numbered from 1
 abbrev pub numbered_raw_lines : List ℕ → List NumberedRawLine
 numbered_raw_lines bs = raw_lines_from 1 bs
 
@@ -46,7 +46,7 @@ without_cr line = if has_cr line then take (length line - 1) line else line
 abbrev pub is_blank : ℕ → Bool
 is_blank b = b == 32 || b == 9
 
--- whether a line says nothing: it holds blanks alone, or its first other byte is `#`
+-- whether a line is blank or a comment: it holds blanks alone, or its first other byte is `#`
 abbrev pub is_skipped : List ℕ → Bool
 is_skipped [] = true
 is_skipped (b ∷ bs) = if is_blank b then is_skipped bs else b == 35

@@ -62,7 +62,7 @@ word_at quoted bad missing (Quoted q ∷ tokens) = fails (Quoted q ∷ tokens) q
 word_at quoted bad missing (Bad ∷ tokens) = fails (Bad ∷ tokens) bad
 word_at quoted bad missing [] = fails [] missing
 
--- a quoted token: what stands between its quotes. The faults of a word in its place, of a broken token, and of none
+-- a quoted token: what is between its quotes. The faults of a word in its place, of a broken token, and of none
 abbrev pub quoted_at : {K : Type 0} → K → K → K → List Lexeme → Read (List ℕ) K
 quoted_at word bad missing (Quoted q ∷ tokens) = Ok (q, tokens)
 quoted_at word bad missing (Word w ∷ tokens) = fails (Word w ∷ tokens) word
@@ -101,7 +101,7 @@ abbrev pub version_digit : ℕ → List ℕ → Option ℕ
 version_digit most (d ∷ []) = if nat_le 49 d && nat_le d (48 + most) then Some (d - 48) else None
 version_digit most _ = None
 
--- the version that a first line names: this word, and a digit from 1 to `most`. The fault stands at the first token that departs
+-- the version that a first line names: this word, and a digit from 1 to `most`. The fault is at the first token that departs
 abbrev pub version_at : {K : Type 0} → K → List ℕ → ℕ → List Lexeme → Result ℕ (TokenFault K)
 version_at kind name most tokens = do
   (word, rest) ← word_at kind kind kind tokens
@@ -111,7 +111,7 @@ version_at kind name most tokens = do
   end ← end_at kind kind after
   Ok version
 
--- what stands at a place of a line was read, with these tokens left, or its fault was met, or there was no memory
+-- what is at a place of a line was read, with these tokens left, or its fault was met, or there was no memory
 abbrev pub Reads : {A K : Type 0} → Read A K → Result A (Refused (TokenFault K)) → List Lexeme → Type 0
 Reads wanted (Ok x) rest = wanted ≡ Ok (x, rest)
 Reads wanted (Err (Fault fault)) rest = wanted ≡ Err fault

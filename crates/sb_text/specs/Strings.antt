@@ -1,4 +1,4 @@
--- Strings as they stand between quotes: what is written of one, and what it means.
+-- Strings as they are between quotes: what is written of one, and what it means.
 use Rattle.std.specs.Prelude.{◌≡◌, ◌&&◌, ℕ, Bool, true, List}
 use Rattle.std.specs.List.{list_all}
 use Rattle.std.specs.Str.{IsUtf8}
@@ -15,7 +15,7 @@ is_text units = list_all is_text_unit units && is_paired units
 abbrev pub string_token : List ℕ → Lexeme
 string_token units = Quoted (utf8_of units)
 
--- a string comes back, and what is written of it is UTF-8 and can stand between quotes
+-- a string comes back, and what is written of it is UTF-8 and can be between quotes
 pub record ComesBack (units : List ℕ) : Type 0 where
   pub string : string_of (utf8_of units) ≡ units
   pub utf8 : IsUtf8 (utf8_of units)
@@ -25,7 +25,7 @@ pub record ComesBack (units : List ℕ) : Type 0 where
 abbrev pub StringsComeBack : Type 0
 StringsComeBack = (units : List ℕ) → list_all is_text_unit units ≡ true → is_paired units ≡ true → ComesBack units
 
--- what stands between quotes, and is UTF-8, means such a text
+-- what is between quotes, and is UTF-8, means such a text
 abbrev pub QuotedStringsAreText : Type 0
 QuotedStringsAreText = (quoted : List ℕ) → IsUtf8 quoted → list_all is_quoted_byte quoted ≡ true
     → (list_all is_text_unit (string_of quoted) ≡ true) × (is_paired (string_of quoted) ≡ true)

@@ -39,13 +39,13 @@ are_found [] = true
 are_found (Bad ∷ []) = true
 are_found (token ∷ tokens) = is_writable token && are_found tokens
 
--- what a quoted token holds can stand between quotes
+-- what a quoted token holds can be between quotes
 abbrev pub is_quotable : Lexeme → Bool
 is_quotable (Quoted q) = list_all is_quoted_byte q
 is_quotable (Word w) = true
 is_quotable Bad = true
 
--- what a quoted token holds is UTF-8, and can stand between quotes
+-- what a quoted token holds is UTF-8, and can be between quotes
 abbrev pub is_quoted_text : Lexeme → Bool
 is_quoted_text (Quoted q) = is_utf8 q && list_all is_quoted_byte q
 is_quoted_text (Word w) = true
@@ -76,7 +76,7 @@ BrokenTokensAreBad =
 abbrev pub WrittenTokensAreRead : Type 0
 WrittenTokensAreRead = (tokens : List Lexeme) → list_all is_writable tokens ≡ true → tokens_of (written_line tokens) ≡ tokens
 
--- each token of a line can be written, but that the last may be bytes that break the rules
+-- each token of a line can be written, except that the last may be bytes that break the rules
 abbrev pub TokensAreFound : Type 0
 TokensAreFound = (line : List ℕ) → are_found (tokens_of line) ≡ true
 
@@ -101,6 +101,6 @@ FirstTokenSkips =
     × ((line q : List ℕ) (tokens : List Lexeme) → tokens_of line ≡ Quoted q ∷ tokens → is_skipped line ≡ false)
     × ((line w : List ℕ) (tokens : List Lexeme) → tokens_of line ≡ Word w ∷ tokens → is_skipped line ≡ (slice_index w 0 == 35))
 
--- in a text that is UTF-8 each quoted token holds UTF-8, which can stand between quotes
+-- in a text that is UTF-8 each quoted token holds UTF-8, which can be between quotes
 abbrev pub QuotedTokensAreText : Type 0
 QuotedTokensAreText = (text : List ℕ) → not_utf8_place text ≡ None → list_all has_quoted_text (lines_of text) ≡ true

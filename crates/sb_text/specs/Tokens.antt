@@ -8,7 +8,7 @@ use Rattle.sb_text.specs.Lines.{is_blank}
 use Rattle.sb_text.specs.declared.tokens.Token.{Token}
 use Rattle.sb_text.specs.declared.tokens.Token.TheVariants as token
 
--- a word, what stands between two `"`, or bytes that break the rules for tokens
+-- a word, what is between two `"`, or bytes that break the rules for tokens
 pub data Lexeme : Type 0 where
   Word : List ℕ → Lexeme
   Quoted : List ℕ → Lexeme

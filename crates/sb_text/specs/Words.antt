@@ -8,6 +8,6 @@ abbrev pub is_some_word : List ℕ → Bool
 is_some_word [] = false
 is_some_word (b ∷ bs) = true
 
--- what stands between blanks, if it is not empty
+-- what is between blanks, if it is not empty
 abbrev pub words_of : List ℕ → List (List ℕ)
 words_of line = filter is_some_word (slice_split is_blank line)

@@ -13,12 +13,12 @@ pub fn written_lines_are_read()
     ensures { WrittenLinesAreRead }
 {}
 
-/// The same of lines as they stand between LFs.
+/// The same of lines as they are between LFs.
 pub fn written_raw_lines_are_read()
     ensures { WrittenRawLinesAreRead }
 {}
 
-/// The lines as they stand between LFs, without their numbers and ends, are the lines.
+/// The lines as they are between LFs, without their numbers and ends, are the lines.
 pub fn raw_lines_are_lines()
     ensures { RawLinesAreLines }
 {}
@@ -28,7 +28,7 @@ pub fn lines_hold_no_lf()
     ensures { LinesHoldNoLf }
 {}
 
-/// The lines as they stood between LFs give the text back.
+/// The lines as they were between LFs give the text back.
 pub fn raw_lines_join()
     ensures { RawLinesJoin }
 {}
@@ -74,7 +74,7 @@ pub fn written_tokens_are_read()
     ensures { WrittenTokensAreRead }
 {}
 
-/// Each token of a line can be written, but that the last may be bytes that break the rules.
+/// Each token of a line can be written, except that the last may be bytes that break the rules.
 pub fn tokens_are_found()
     ensures { TokensAreFound }
 {}
@@ -158,7 +158,7 @@ pub fn first_faults_stay<D, K>()
     ensures { FirstFaultsStay D K }
 {}
 
-/// A well-formed string of text units is read back from what is written of it between quotes, and what stands between quotes in
+/// A well-formed string of text units is read back from what is written of it between quotes, and what is between quotes in
 /// a text that is UTF-8 means such a string.
 pub fn quoted_strings_are_read()
     ensures written { StringsComeBack }

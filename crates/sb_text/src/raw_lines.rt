@@ -1,11 +1,11 @@
-// The lines of bytes as they stand between LFs, one after another.
+// The lines of bytes as they are between LFs, one after another.
 ghost use Rattle.std.specs.Prelude.{◌≡◌, ◌∷◌, ◌<◌, ◌^◌, [], length, MatchOption};
 ghost use Rattle.sb_text.specs.Lines.{NumberedRawLine, numbered_raw_lines};
 
 use crate::cuts::cut_bytes;
 use std::marker::Model;
 
-/// A line as it stands between LFs.
+/// A line as it is between LFs.
 #[derive(Clone, Copy)]
 pub struct RawLine<'a> {
     /// The number of the line, from 1.
@@ -16,7 +16,7 @@ pub struct RawLine<'a> {
     pub is_ended: bool,
 }
 
-/// What is left of bytes: their lines as they stand between LFs.
+/// What is left of bytes: their lines as they are between LFs.
 #[derive(Drop)]
 pub struct RawLines<'a> {
     rest: &'a [u8],

@@ -17,7 +17,7 @@ use std::marker::Model;
 pub enum Token<'a> {
     /// The bytes of a word: neither a blank nor a `"` is among them, and they are not empty.
     Word(&'a [u8]),
-    /// What stands between the two `"` of a quoted token.
+    /// What is between the two `"` of a quoted token.
     Quoted(&'a str),
     /// A `"` inside a word, or a quoted token that is not closed, that holds a character below 32 or that no blank follows.
     Bad,

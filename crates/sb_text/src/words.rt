@@ -44,7 +44,7 @@ fn without_blanks(bytes: &[u8]) -> &[u8]
     rest
 }
 
-// How many bytes stand before the first blank, all if there is none.
+// How many bytes are before the first blank, all if there is none.
 fn word_len(bytes: &[u8]) -> usize
     ensures value { result ≡ position_or_len is_blank bytes.now }
     ensures within { result ≤ length bytes.now }

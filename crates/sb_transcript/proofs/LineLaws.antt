@@ -113,7 +113,7 @@ entries_come_first script report n entry h =
     get-front (entry_lines script 0 report.entries ++ result_lines script 0 report.results) (totals_line report ∷ []) n _
     (get-front (entry_lines script 0 report.entries) (result_lines script 0 report.results) n _ line)
 
--- what stands after the lines of entries
+-- what comes after the lines of entries
 behind_entries : (script : Script) (report : Report) (n : ℕ) → slice_get (transcript_lines script report) (length report.entries + n) ≡ slice_get (result_lines script 0 report.results ++ totals_line report ∷ []) n
 behind_entries script report n =
     get-after (entry_lines script 0 report.entries) (result_lines script 0 report.results) (totals_line report ∷ []) (length report.entries) n (length-entry_lines script 0 report.entries)

@@ -1,4 +1,4 @@
--- Where results stand: each number belongs to one, and they are numbered in their order.
+-- Where results are: each number belongs to one, and they are numbered in their order.
 use Rattle.std.proofs.Common.{◌≡◌, ℕ, ◌+◌, ◌-◌, ◌<◌, ◌≤◌, List, [], ◌∷◌, length, take, get_or, refl, ⊎_elim, zero, suc, arith}
 use Rattle.std.proofs.lemmas.Bool.{cases_lt, false≢true}
 use Rattle.std.proofs.lemmas.List.Sums.{sum_by-cons}
@@ -57,7 +57,7 @@ in_targets (threads ∷ more) n h = ⊎_elim here (λ past. later past (in_targe
 pub numbers_are_results : NumbersAreResults
 numbers_are_results results n h = in_targets results n h
 
--- fewer results stand before a place of a thread than in the threads up to a later one
+-- there are fewer results before a place of a thread than in the threads up to a later one
 before_thread : (threads : List (List StmtResult)) (thread place later : ℕ) → IsSome (slice_get (get_or threads thread []) place) → thread < later
     → thread_count (take thread threads) + place < thread_count (take later threads)
 before_thread [] thread place later h less = absurd (false≢true h)
@@ -72,7 +72,7 @@ before_end [] thread place h = absurd (false≢true h)
 before_end (rs ∷ more) zero place h = omega (arith, thread_count-cons rs more, within rs place h)
 before_end (rs ∷ more) (suc thread) place h = omega (arith, thread_count-cons rs more, thread_count-cons rs (take thread more), before_end more thread place h)
 
--- fewer results stand before a place of a target than in the targets up to a later one
+-- there are fewer results before a place of a target than in the targets up to a later one
 before_target : (targets : List (List (List StmtResult))) (target thread place later : ℕ) → IsSome (result_at targets target thread place) → target < later
     → results_before targets target thread place < result_count (take later targets)
 before_target [] target thread place later h less = absurd (false≢true h)

@@ -16,14 +16,14 @@ is_low u = nat_le 0xDC00 u && nat_le u 0xDFFF
 abbrev pub is_surrogate : ℕ → Bool
 is_surrogate u = is_high u || is_low u
 
--- well-formed UTF-16: the two halves of a pair stand side by side, and any other unit is no surrogate
+-- well-formed UTF-16: the two halves of a pair are side by side, and any other unit is no surrogate
 abbrev pub is_paired : List ℕ → Bool
 is_paired [] = true
 is_paired (u ∷ []) = not (is_surrogate u)
 is_paired (u ∷ v ∷ us) = if is_high u && is_low v then is_paired us else not (is_surrogate u) && is_paired (v ∷ us)
 
--- well-formed UTF-16 as a walk, unit by unit: each second half stands right after a first half, and each first half right before a second; the test tells whether a first half
--- stands before the units
+-- well-formed UTF-16 as a walk, unit by unit: each second half is right after a first half, and each first half right before a second; the test tells
+-- whether a first half is before the units
 abbrev pub is_paired_after : Bool → List ℕ → Bool
 is_paired_after after_high [] = not after_high
 is_paired_after after_high (u ∷ us) = beq (is_low u) after_high && is_paired_after (is_high u) us

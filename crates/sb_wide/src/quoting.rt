@@ -16,7 +16,7 @@ fn hex_digit(digit: u16) -> u8
     }
 }
 
-/// Appends `"`, the units and `"`. A unit from 32 to 126 is that ASCII character, but `"` and `\` stand after a `\`. Any
+/// Appends `"`, the units and `"`. A unit from 32 to 126 is that ASCII character, but `"` and `\` come after a `\`. Any
 /// other unit is `\u` and four lower-case hexadecimal digits.
 ///
 /// # Errors
@@ -44,7 +44,7 @@ fn append_quoted(out: &mut Vec<u8>, units: &[u16]) -> Result<(), NoMemory>
     Ok(())
 }
 
-// Appends the units as they stand between quotes. After an error `out` begins with what it held.
+// Appends the units as they are between quotes. After an error `out` begins with what it held.
 fn append_units(out: &mut Vec<u8>, units: &[u16]) -> Result<(), NoMemory>
     ensures ok { OnOk result (out.new.items ≡ out.old.items ++ flat_map quoted_unit units.now) }
     ensures err { OnErr result (take (vec_len out.old) out.new.items ≡ out.old.items) }

@@ -16,7 +16,7 @@ pub fn is_low_surrogate(unit: u16) -> bool
     matches!(unit, 0xDC00..=0xDFFF)
 }
 
-// Whether each second half stands right after a first half, and each first half right before a second.
+// Whether each second half is right after a first half, and each first half right before a second.
 fn are_paired(units: &[u16]) -> bool
     ensures { result ≡ is_paired_after false units.now }
 {
@@ -30,7 +30,7 @@ fn are_paired(units: &[u16]) -> bool
     !after_high
 }
 
-/// Whether the units are well-formed UTF-16: the two halves of each surrogate pair stand side by side, and no other unit is
+/// Whether the units are well-formed UTF-16: the two halves of each surrogate pair are side by side, and no other unit is
 /// a surrogate.
 #[tactic(auto, using(crate::proofs::Pairs::paired_after))]
 pub fn is_well_formed_utf16(units: &[u16]) -> bool

@@ -161,7 +161,7 @@ target_bound all (target ∷ targets) (threads ∷ more) h l =
     let count : reports.result_count (threads ∷ more) ≡ reports.thread_count threads + reports.result_count more = sum_by-cons reports.thread_count threads more in
     omega (arith, few.0, first, rest, count)
 
--- a sound script has at most 131,072 statements, and so many results
+-- a sound script has at most 131,072 statements, and at most that many results
 pub few_results : (script : Script) (results : List (List (List StmtResult))) → is_sound script ≡ true → AreAllResults script results
     → reports.result_count results ≤ 131072
 few_results script results sound whole =

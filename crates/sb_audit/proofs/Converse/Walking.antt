@@ -59,7 +59,7 @@ walked policies script before n m (l ∷ ls) r c t =
 
 -- ---- what the lines before show
 
--- these entries, so many results, and no totals
+-- these entries, this many results, and no totals
 pub record IsBefore (before : List Line) (entries : List EntryLine) (results : ℕ) : Type 0 where
   pub entries_are : entries_of before ≡ entries
   pub no_totals : has_totals before ≡ false

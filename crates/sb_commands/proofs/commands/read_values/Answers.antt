@@ -12,7 +12,7 @@ returns-in-Ok c =
     subst (HasValues (form_of c.args.form) (texts c.args.words.now)) (sym c.found_values.ensures)
     (words_are_read (app_of c.in_ok-line_of.field-0) (form_of c.args.form) (texts c.args.words.now) c.in-Ok.values c.in_ok-line_of.ensures c.requires c.in-Ok.ensures.matches)
 
--- no refusal comes but that memory ran out
+-- the only refusal is that memory ran out
 pub unreachable-requires : goal.unreachable-requires
 unreachable-requires c =
     c.in_default.not-OutOfMemory

@@ -3,7 +3,7 @@ use Rattle.sb_names.specs.Keys.{key_of}
 use Rattle.sb_names.specs.Nodes.{IsAt, is_path, name_of, number_of}
 use Rattle.sb_names.proofs.linked.NameTree.directory.Given as goal
 
--- the directory so far stands at what was read of the path
+-- the directory so far is the one to which the part of the path that was read leads
 abbrev pub invariant-loop-later : goal.invariant-loop-later
 invariant-loop-later l =
     (key_of l.path ≡ name_of l.self.nodes (number_of l.here) ++ key_of l.rest)
