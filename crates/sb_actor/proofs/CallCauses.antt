@@ -18,7 +18,7 @@ use Rattle.sb_statements.specs.declared.results.StmtResult.{StmtResult}
 use Rattle.sb_statements.specs.declared.results.StmtResult.TheVariants as ended
 use Rattle.sb_statements.specs.declared.scripts.Script.{Script}
 
--- Where a thread stands in a call, by the values that its steps found since the call began. It tries a channel: the rounds that it counts, if the target
+-- Where a thread is in a call, by the values that its steps found since the call began. It tries a channel: the rounds that it counts, if the target
 -- has no clean channel, and whether each try of this round found the channel abandoned
 pub record Trying (clean : List Bool) (patience c rounds : ℕ) (all_abandoned : Bool) (found : List ℕ) : Type 0 where
   pub tried : Tried clean patience c found
@@ -50,7 +50,7 @@ module _ (script : Script) (x : ThreadAt) where
   abbrev at : ThreadStage → ThreadAt
   at s = record x { stage = s }
 
-  -- what a step that found n leads to: the thread goes on and stands there, or the call ends for its cause
+  -- what a step that found n leads to: the thread goes on to such a stage, or the call ends for its cause
   abbrev Goes : List ℕ → ℕ → ThreadNext → Type 0
   Goes found n next = (s : ThreadStage) × (next ≡ goes_on x s) × Stands x (found ++ n ∷ []) s
 
@@ -263,7 +263,7 @@ module _ (script : Script) (x : ThreadAt) where
   each_step some patient (stage.Stray loads most) found n h = absurd h
   each_step some patient stage.Over found n h = absurd h
 
-  -- all steps, from where the thread stands
+  -- all steps, from where the thread is
   abbrev Caused : List ℕ → ℕ → StmtResult → Type 0
   Caused found last r = (q : CallResult) × (r ≡ ended.Call q) × Cause x found last q
 

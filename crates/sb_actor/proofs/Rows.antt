@@ -71,7 +71,7 @@ stands_cases ws x j f s i h (no n) =
     let ne : j + i ≢ j + length ws = omega arith in
     put_else (j + length ws) x f (j + i) ne ∙ s i l ∙ sym (get_or-front ws (x ∷ []) i l)
 
--- one word more stands
+-- one more word is there
 pub stands_more : (ws : List ℕ) (x j : ℕ) (f : Row) → Stands ws (length ws) j f → Stands (ws ++ x ∷ []) (length (ws ++ x ∷ [])) j (put (j + length ws) x f)
 stands_more ws x j f s i h = let e = length-snoc ws x in stands_cases ws x j f s i (omega arith) (ℕ_discrete i (length ws))
 

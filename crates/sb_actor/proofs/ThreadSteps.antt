@@ -13,7 +13,7 @@ use Rattle.sb_actor.proofs.Lists.{at_below, at_set, take_snoc}
 use Rattle.sb_actor.proofs.Rows.{put, put_else, upd, upd_here, upd_else, row_else, row_here, row_at, stands_more, stands_else}
 use Rattle.sb_actor.proofs.Parts.{off, FreeFor, thread_else}
 
--- the state of a clean channel tells who is at it
+-- the state of a clean channel says who is at it
 pub state_one : (m : Mid) (p : WorkerPlace) (f : Row) (x : ℕ) → Chan m p f → f 0 ≡ x → x ≡ 1 → (m ≡ idle) × (p ≡ Look)
 state_one idle p f x h e y = (refl, h.1)
 state_one (filling k ws) p f x h e y = absurd (omega arith)

@@ -32,7 +32,7 @@ outside block (Some (statement.Wait t w x most)) = refl
 outside block None = refl
 
 module _ (script : Script) (v : ThreadView) (x : ThreadAt) (number : v.number ≡ x.thread) (marks : v.clean ≡ x.clean) (n : ℕ) (seen : Observation) where
-  -- the view holds where a thread stands, by its place alone
+  -- the view shows the thread's stage, by its place alone
   held : (d : Deed) (p : ThreadPlace) (s : ThreadStage) → v.place ≡ p → thread_place v.clean p d (met d n) n ≡ thread_place_of x.block s
       → HoldsThread (thread_view v d n) (goes_on x s).thread
   held d p s e f = record { number = number; clean = marks; place = ap (λ z. thread_place v.clean z d (met d n) n) e ∙ f }

@@ -41,7 +41,7 @@ take_length r zero l = refl
 take_length [] (suc n) l = absurd (omega arith)
 take_length (x ∷ r) (suc n) l = ap suc (take_length r n (omega arith))
 
--- a worker at a stage, and a view that holds where it stands
+-- a worker at a stage, and a view that shows it
 module _ (v : WorkerView) (t k ch : ℕ) (l : length v.clean ≡ k) (c : v.channel ≡ ch) (i : ch < k) (n : ℕ) (seen : Observation) where
   abbrev W : WorkerStage → WorkerAt
   W s = record { target = t; channels = k; channel = ch; stage = s }

@@ -88,7 +88,7 @@ module _ (clean : List Bool) (words : List ℕ) (threads : List ThreadView) (w :
   abbrev n : ℕ
   n = length threads
 
-  -- a step on a word of channel c, at which the worker stands
+  -- a step on a word of channel c, at which the worker is
   worker_move : (c j : ℕ) (v v' : WorkerView) (d : Deed) (b : Bool) (r : Rule clean words v threads) (mids : ℕ → Mid) → c < length clean → w ≡ c * 65 + j → j < 65
       → ((x : ℕ) → x ≢ c → mids x ≡ r.mids x)
       → ((x : ℕ) → x ≢ c → sees x v' ≡ sees x v)

@@ -90,8 +90,8 @@ pub record Fetched (clean : List Bool) (patience size c : ℕ) (words found : Li
   pub is : found ≡ before ++ acknowledged ∷ words
   pub in_time : IsUncleanAt clean c → length loads < patience
 
--- Why a call with this mark, whose block has `size` words, ended so. Its reply was fetched whole, and bears its mark; or no channel was free; or the
--- exchange that hands the block over found another value than 2; or the reply bears another mark; or, on a channel that is not clean, loads found no
+-- Why a call with this mark, whose block has `size` words, ended so. Its reply was fetched whole, and has its mark; or no channel was free; or the
+-- exchange that hands the block over found another value than 2; or the reply has another mark; or, on a channel that is not clean, loads found no
 -- reply as often as the patience says
 abbrev pub CauseOf : List Bool → ℕ → ℕ → ℕ → List ℕ → ℕ → CallResult → Type 0
 CauseOf clean patience size mark found last (Reply c reply) =

@@ -17,7 +17,7 @@ use Rattle.sb_statements.specs.declared.scripts.Script.{Script}
 use Rattle.sb_statements.specs.declared.statements.Statement.{Statement}
 use Rattle.sb_statements.specs.declared.statements.Statement.TheVariants as statement
 
--- where a thread stands after steps that found these values, in turn
+-- where a thread is after steps that found these values, in turn
 abbrev pub after_values : Script → ThreadAt → List ℕ → ThreadAt
 after_values script x [] = x
 after_values script x (n ∷ values) = after_values script (thread_after script x (Value n)).thread values

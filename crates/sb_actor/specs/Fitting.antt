@@ -13,7 +13,7 @@ use Rattle.sb_statements.specs.declared.statements.Statement.TheVariants as stat
 abbrev pub IsUncleanAt : List Bool → ℕ → Type 0
 IsUncleanAt clean c = slice_index_or clean c true ≡ false
 
--- a call with this mark: a reply came on a channel of the target and bears the mark; no channel was free only if none is clean; a block is
+-- a call with this mark: a reply came on a channel of the target and has the mark; no channel was free only if none is clean; a block is
 -- lost, a reply is another call's, and patience runs out, only on a channel that is not clean
 abbrev pub SuitsCall : List Bool → ℕ → CallResult → Type 0
 SuitsCall clean mark (Reply c reply) = (c < length clean) × (reply.mark ≡ mark)

@@ -31,7 +31,7 @@ act_wrote act.Answer n = n
 act_wrote act.Give n = n
 act_wrote act.Idle n = n
 
--- a load and an exchange tell what they found
+-- a load and an exchange give what they found
 abbrev pub Tells : Act → ℕ → Observation → Type 0
 Tells (act.Load t word) n seen = value_in seen ≡ n
 Tells (act.Store t word value) n seen = Unit {0}
@@ -41,8 +41,8 @@ Tells act.Answer n seen = Unit {0}
 Tells act.Give n seen = Unit {0}
 Tells act.Idle n seen = Unit {0}
 
--- a step that is of a kind and found n: the worker may make it, the word is written as that kind writes it, and the view after it holds
--- where the worker then stands
+-- a step that is of a kind and found n: the worker may make it, the word is written as that kind writes it, and the view after it shows
+-- the stage to which the worker then comes
 pub record Follows (v : WorkerView) (w : WorkerAt) (d : Deed) (n : ℕ) (seen : Observation) : Type 0 where
   pub may : WorkerMay v v.place (act_word (worker_plan w)) d
   pub writes : act_wrote (worker_plan w) n ≡ wrote d (met d n) n

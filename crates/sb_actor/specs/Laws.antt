@@ -56,7 +56,7 @@ abbrev pub Starts : Type 0
 Starts = (clean : List Bool) (words : List ℕ) (threads : List ThreadView) → length words ≡ length clean * 65 → Opened words → AreFirst clean threads
     → Rule clean words (first_worker clean) threads
 
--- the block of a call that encodes, its strings made of units, is a whole block of the thread whose mark it bears
+-- the block of a call that encodes, its strings made of units, is a whole block of the thread whose mark it has
 abbrev pub BlocksAreWhole : Type 0
 BlocksAreWhole = (tag : CallTag) (args : List Arg) (k place : ℕ) → encodes tag args ≡ true → list_all has_units args ≡ true → place < 65536
     → IsBlock k (block tag args (mark_at k place))

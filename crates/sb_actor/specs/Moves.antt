@@ -60,7 +60,7 @@ is_clean clean c = slice_index_or clean c false
 abbrev pub next : List Bool → ℕ → ℕ
 next clean c = if nat_lt (c + 1) (length clean) then c + 1 else 0
 
--- where a thread stands outside a call
+-- where a thread is outside a call
 abbrev pub no_call : ThreadPlace
 no_call = Try 0 true
 
@@ -68,7 +68,7 @@ no_call = Try 0 true
 abbrev pub try_next : List Bool → ℕ → Bool → ThreadPlace
 try_next clean c all_abandoned = if nat_lt (c + 1) (length clean) then Try (c + 1) all_abandoned else no_call
 
--- where a thread stands after a step that found n
+-- where a thread is after a step that found n
 abbrev pub thread_place : List Bool → ThreadPlace → Deed → Bool → ℕ → ThreadPlace
 thread_place clean (Try c all_abandoned) take_it b n = if b then Fill c [] else try_next clean c (all_abandoned && n == 5)
 thread_place clean (Fill c words) (fill x) b n = Fill c (words ++ x ∷ [])
@@ -91,7 +91,7 @@ thread_result v d b n = record v { place = thread_place v.clean v.place d b n; h
 abbrev pub thread_view : ThreadView → Deed → ℕ → ThreadView
 thread_view v d n = thread_result v d (met d n) n
 
--- a whole block of the thread with this number: its count and its end say what it is, and its mark bears the number
+-- a whole block of the thread with this number: its count and its end say what it is, and its mark has the number
 pub record IsBlock (number : ℕ) (block : List ℕ) : Type 0 where
   pub few : slice_index block 2 ≤ 9
   pub low : 16 + slice_index block 2 ≤ length block
@@ -120,7 +120,7 @@ ended_at c n = if is_end c n then Copy c n [] else Whole (copied c n [])
 abbrev pub copied_to : ℕ → ℕ → List ℕ → WorkerPlace
 copied_to c e words = if length words == e then Whole (copied c e words) else Copy c e words
 
--- where the worker stands after a step that found n
+-- where the worker is after a step that found n
 abbrev pub worker_place : WorkerPlace → Deed → Bool → ℕ → WorkerPlace
 worker_place Look look b n = if b then Count else Look
 worker_place Count load_count b n = counted n

@@ -40,7 +40,7 @@ block_of mark (Some (Load target word)) = []
 block_of mark (Some (Wait target word value most)) = []
 block_of mark None = []
 
--- where a thread stands at the beginning of a statement
+-- the stage of a thread at the beginning of a statement
 abbrev pub first_stage : Option Statement → ThreadStage
 first_stage (Some (Call tag args)) = Try 0 0 true
 first_stage (Some (Store target word value)) = Stray 0 1

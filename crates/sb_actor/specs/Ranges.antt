@@ -1,5 +1,5 @@
 -- What holds of each stage of an actor. Of a worker: its numbers are in their ranges, what it has copied until it is answered keeps the rule of a copy, and
--- its reply has twelve words and bears the mark of its copy.
+-- its reply has twelve words and the mark of its copy.
 use Rattle.std.specs.Prelude.{◌≡◌, ℕ, ◌+◌, ◌<◌, ◌≤◌, true, List, length, slice_index}
 use Rattle.sb_block.specs.Copies.{Copied, is_copy, mark_of}
 use Rattle.sb_actor.specs.ThreadStages.{ThreadStage}
@@ -23,7 +23,7 @@ IsSoundStage (Reply taken reply at) = (at < 12) × IsReplyTo taken reply
 IsSoundStage (Ack taken reply) = IsReplyTo taken reply
 
 -- and of a thread with this patience and this block, on this many channels: it is at one of them, its rounds and loads are fewer than the
--- patience, and what it fills and fetches lies within the block and the reply
+-- patience, and what it fills and fetches is within the block and the reply
 abbrev pub IsSoundThreadStage : ℕ → ℕ → List ℕ → ThreadStage → Type 0
 IsSoundThreadStage channels patience block (thread.Try c rounds all_abandoned) = (c < channels) × (rounds < patience) × (0 < length block)
 IsSoundThreadStage channels patience block (thread.Fill c i) = (c < channels) × (i < length block)

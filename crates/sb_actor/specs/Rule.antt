@@ -1,13 +1,13 @@
--- Rule S: what the words of a target and the views of its actors have in common at every moment. Between words and views stands what
--- the rule knows of each clean channel (`Mid`): the words fit it, and each view fits it. Words never speak of views.
+-- Rule S: what the words of a target and the views of its actors have in common at every moment. Words and views are related only through
+-- what the rule knows of each clean channel (`Mid`): the words fit it, and each view fits it.
 --
 --   state   who is at the channel                what holds
 --   1       nobody (idle)                        the worker is not engaged there
 --   2       one thread, in Fill or Send          the words filled are its block's; the worker is not engaged there
---   3       one thread, in Wait (ready)          unless the worker replies there the block stands; what it has loaded of count, end and
---                                                copy is the block's; once it replies its copy is the whole block, and what it stored stands
+--   3       one thread, in Wait (ready)          until the worker replies the block is there; what it has loaded of count, end and
+--                                                copy is the block's; once it replies its copy is the whole block, and what it stored is there
 --   4       one thread, in Wait, Fetch or Free   the worker is not engaged there; the last call served there is the block whole, with a reply
---           (acked)                              whose twelve words stand; the words fetched are the first of them
+--           (acked)                              whose twelve words are there; the words fetched are the first of them
 use Rattle.std.specs.Prelude.{◌≡◌, ◌⊎◌, ℕ, ◌+◌, ◌*◌, ◌/◌, ◌<◌, ◌≤◌, Bool, true, false, cond, ◌==◌, ◌&&◌, nat_lt, List, [], ◌∷◌, ◌++◌, length, slice_index, take, map}
 use Rattle.std.specs.List.{filter}
 use mathlib.Core.Option.{Option, none, some}
@@ -37,7 +37,7 @@ Row = ℕ → ℕ
 abbrev pub row : List ℕ → ℕ → Row
 row words c j = cond (nat_lt j 65) (slice_index words (c * 65 + j)) 0
 
--- the first n words of a list stand in the row from word j on
+-- the first n words of a list are in the row from word j on
 abbrev pub Stands : List ℕ → ℕ → ℕ → Row → Type 0
 Stands words n j f = (i : ℕ) → i < n → f (j + i) ≡ slice_index words i
 
@@ -61,7 +61,7 @@ Chan (filling k words) p f = (f 0 ≡ 2) × (p ≡ Look) × (length words ≤ 64
 Chan (ready k block) p f = (f 0 ≡ 3) × IsBlock k block × Reads block f p
 Chan (acked k block reply) p f = (f 0 ≡ 4) × IsBlock k block × (p ≡ Look) × IsReplyTo (whole block) reply × Stands reply 12 4 f
 
--- a served call on a clean channel whose mark bears the number k
+-- a served call on a clean channel whose mark has the number k
 abbrev pub is_of : List Bool → ℕ → Served → Bool
 is_of clean k x = is_clean clean x.channel && (mark_of x.taken / 65536 == k + 1)
 
@@ -90,7 +90,7 @@ abbrev pub waiting : List Bool → (ℕ → Mid) → Option ℕ → List Had
 waiting clean mids none = []
 waiting clean mids (some c) = cond (is_clean clean c) (served_at c (mids c)) []
 
--- where the thread of number k stands at a clean channel
+-- where the thread of number k is at a clean channel
 abbrev pub Agrees : ℕ → ThreadPlace → Mid → Type 0
 Agrees k (Try c all_abandoned) m = Unit {0}
 Agrees k (Fill c words) m = m ≡ filling k words
@@ -104,14 +104,14 @@ AllAbandoned clean (Fill c words) = Unit {0}
 AllAbandoned clean (Wait c block) = Unit {0}
 AllAbandoned clean (Fetch c block words) = Unit {0}
 
--- the block that a thread handed over bears its number, also on a channel that is not clean
+-- the block that a thread handed over has its number, also on a channel that is not clean
 abbrev pub Bears : ℕ → ThreadPlace → Type 0
 Bears k (Try c all_abandoned) = Unit {0}
 Bears k (Fill c words) = Unit {0}
 Bears k (Wait c block) = IsBlock k block
 Bears k (Fetch c block words) = IsBlock k block
 
--- the reply that the worker stores bears the mark of its copy
+-- the reply that the worker stores has the mark of its copy
 abbrev pub Replies : WorkerPlace → Type 0
 Replies Look = Unit {0}
 Replies Count = Unit {0}
@@ -145,7 +145,7 @@ module _ (clean : List Bool) (mids : ℕ → Mid) (threads : ℕ) where
 abbrev pub is_on : ℕ → Served → Bool
 is_on c x = x.channel == c
 
--- the last call served on a channel in state 4 is the one whose reply stands there
+-- the last call served on a channel in state 4 is the one whose reply is there
 abbrev pub Last : List Served → ℕ → Mid → Type 0
 Last served c idle = Unit {0}
 Last served c (filling k words) = Unit {0}

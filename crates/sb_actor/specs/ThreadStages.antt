@@ -1,4 +1,4 @@
--- Where a thread stands.
+-- The stages of a thread.
 use Rattle.std.specs.Prelude.{ℕ, Bool, List}
 
 -- named by the next step: in a call the channel with what belongs to the step (rounds counted and whether this round found nothing

@@ -91,7 +91,7 @@ after_fill x c i = if i + 1 == length x.block then Send c else Fill c (i + 1)
 abbrev pub after_send : Script → ThreadAt → ℕ → ℕ → ThreadNext
 after_send script x c found = if found == busy then goes_on x (Wait c 0) else ends script x (Call (result.SendLost c found))
 
--- the reply stands, or one load is counted. On a clean channel loads have no bound, and are not kept
+-- the reply is there, or one load is counted. On a clean channel loads have no bound, and are not kept
 abbrev pub after_wait : ThreadAt → ℕ → ℕ → ℕ → ThreadStage
 after_wait x c loads state =
     if state == acknowledged then Fetch c []
@@ -102,7 +102,7 @@ after_wait x c loads state =
 abbrev pub after_fetch : ℕ → List ℕ → ThreadStage
 after_fetch c words = if length words == 12 then Free c words else Fetch c words
 
--- a reply that bears the call's mark is its own
+-- a reply that has the call's mark is its own
 abbrev pub reply_by : ℕ → ℕ → Reply → CallResult
 reply_by c mark reply = if reply.mark == mark then result.Reply c reply else result.Foreign c reply.mark
 

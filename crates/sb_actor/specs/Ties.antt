@@ -1,4 +1,4 @@
--- How a view shows where an actor stands, and which kind of step its plan is.
+-- How a view shows the stage of an actor, and which kind of step its plan is.
 use Rattle.std.specs.Prelude.{◌≡◌, ℕ, ◌==◌, List, length, slice_index, take, Option, None, Some, if◌then◌else◌}
 use Rattle.sb_actor.specs.WorkerStages.{WorkerStage, WorkerAt}
 use Rattle.sb_actor.specs.WorkerStages as worker
@@ -31,7 +31,7 @@ worker_deed (worker.Give taken reply) = None
 worker_deed (worker.Reply taken reply at) = Some (answer (slice_index reply at))
 worker_deed (worker.Ack taken reply) = Some acknowledge
 
--- the worker's view holds where the worker stands
+-- the worker's view shows the worker's stage
 pub record HoldsWorker (v : WorkerView) (w : WorkerAt) : Type 0 where
   pub channels : length v.clean ≡ w.channels
   pub channel : v.channel ≡ w.channel
@@ -61,7 +61,7 @@ thread_deed block (thread.Abandon c) = Some abandon
 thread_deed block (thread.Stray loads most) = None
 thread_deed block thread.Over = None
 
--- the thread's view holds where the thread stands
+-- the thread's view shows the thread's stage
 pub record HoldsThread (v : ThreadView) (x : ThreadAt) : Type 0 where
   pub number : v.number ≡ x.thread
   pub clean : v.clean ≡ x.clean

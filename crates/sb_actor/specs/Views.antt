@@ -15,7 +15,7 @@ pub record Had : Type 0 where
   pub block : List ℕ
   pub reply : List ℕ
 
--- Where a worker stands at its channel: it looks at the state; it found the channel ready; it saw a count; it saw a count and an end, and copied
+-- Where a worker is at its channel: it looks at the state; it found the channel ready; it saw a count; it saw a count and an end, and copied
 -- words; it has the whole copy; it stored words of the reply to its copy
 pub data WorkerPlace : Type 0 where
   Look : WorkerPlace
@@ -25,7 +25,7 @@ pub data WorkerPlace : Type 0 where
   Whole : Copied → WorkerPlace
   Reply : Copied → List ℕ → WorkerPlace
 
--- Where a thread stands within its call, at a channel: it tries to take it, and so far this round found nothing but 5, or something else; it has
+-- Where a thread is within its call, at a channel: it tries to take it, and so far this round found nothing but 5, or something else; it has
 -- the channel, and filled words; it handed its block over; it found the reply to its block, and fetched words. Outside a call it tries channel 0
 pub data ThreadPlace : Type 0 where
   Try : ℕ → Bool → ThreadPlace
@@ -33,14 +33,14 @@ pub data ThreadPlace : Type 0 where
   Wait : ℕ → List ℕ → ThreadPlace
   Fetch : ℕ → List ℕ → List ℕ → ThreadPlace
 
--- of the worker: which channels are clean, the channel at which it stands, where it stands there, and the calls that it served, in order
+-- of the worker: which channels are clean, the channel at which it is, where it is there, and the calls that it served, in order
 pub record WorkerView : Type 0 where
   pub clean : List Bool
   pub channel : ℕ
   pub place : WorkerPlace
   pub served : List Served
 
--- of a thread: its number, which channels are clean, where it stands, and its ended calls on clean channels, in order
+-- of a thread: its number, which channels are clean, where it is, and its ended calls on clean channels, in order
 pub record ThreadView : Type 0 where
   pub number : ℕ
   pub clean : List Bool

@@ -1,5 +1,5 @@
 -- Moves of words in a row. While words of its copy, of the reply or of its block are left, each step of an actor moves one of them, whatever it
--- finds. So several such steps are told at once, by a list of words.
+-- finds. Several such steps in a row are described by one list of words.
 use Rattle.std.specs.Prelude.{ℕ, ◌+◌, ◌-◌, ◌==◌, List, [], ◌++◌, length, take, drop, if◌then◌else◌}
 use Rattle.sb_actor.specs.ThreadStages.{ThreadStage, Try, Fill, Send, Wait, Fetch, Free, Abandon, Stray, Over, ThreadAt}
 use Rattle.sb_actor.specs.ThreadTable.{after_fetch}

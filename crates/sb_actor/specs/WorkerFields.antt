@@ -16,7 +16,7 @@ worker_stage phase.Give at count end words taken reply = Give taken reply
 worker_stage phase.Reply at count end words taken reply = Reply taken reply at
 worker_stage phase.Ack at count end words taken reply = Ack taken reply
 
--- the numbers of a phase are in their ranges, and a reply bears the mark of the copy
+-- the numbers of a phase are in their ranges, and a reply has the mark of the copy
 abbrev pub is_worker_sound : WorkerPhase → ℕ → ℕ → ℕ → List ℕ → Copied → List ℕ → Bool
 is_worker_sound phase.Look at count end words taken reply = true
 is_worker_sound phase.Count at count end words taken reply = true

@@ -1,4 +1,4 @@
--- Where a worker stands.
+-- The stages of a worker.
 use Rattle.std.specs.Prelude.{ℕ, List}
 use Rattle.sb_block.specs.Copies.{Copied}
 

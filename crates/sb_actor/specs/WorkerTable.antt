@@ -46,7 +46,7 @@ after_look w state = if state == ready then at_stage w Count else look_next w
 abbrev pub after_count : ℕ → WorkerStage
 after_count count = if nat_lt 9 count then Take (copied count 0 []) else End count
 
--- so does an end that lies before the parameters or past the block
+-- so does an end before the parameters or past the block
 abbrev pub after_end : ℕ → ℕ → WorkerStage
 after_end count end = if is_end count end then Copy count end [] else Take (copied count end [])
 
@@ -83,7 +83,7 @@ worker_plan w = (worker_row w w.stage).step
 abbrev pub worker_after : WorkerAt → Observation → WorkerAt
 worker_after w seen = (worker_row w w.stage).next seen
 
--- at Answer the book's reply bears the mark of the copy
+-- at Answer the book's reply has the mark of the copy
 abbrev pub IsAnswer : WorkerStage → Observation → Type 0
 IsAnswer (Answer taken) seen = (reply_in seen).mark ≡ mark_of taken
 IsAnswer _ seen = Unit {0}

@@ -43,13 +43,13 @@ pub fn blocks_are_whole()
 }
 
 /// The worker's step on a word is one that a worker in its view may make, it writes what such a step writes, and the view after it
-/// holds where the worker then stands.
+/// shows the stage to which the worker then comes.
 pub fn worker_follows()
     ensures { WorkerFollows }
 {}
 
 /// A thread's step within a call is one that a thread in its view may make, it writes what such a step writes, and the view after it
-/// holds where the thread then stands, also if the step ends the call.
+/// shows the stage to which the thread then comes, also if the step ends the call.
 pub fn thread_follows()
     ensures { ThreadFollows }
 {}

@@ -1,6 +1,6 @@
-// Where actors stand, as numbers. What belongs to a phase lies in the fields of the actor.
+// The phases of actors, as numbers. What belongs to a phase is in the fields of the actor.
 
-/// Where a worker stands, named by its next step.
+/// The phase of a worker, named by its next step.
 #[derive(Clone, Copy)]
 pub(crate) enum WorkerPhase {
     Look,

@@ -36,7 +36,7 @@ use sb_statements::{
 use std::marker::Model;
 
 /// A thread of a target, which makes its statements one after another: a call tries to take a channel, fills it with its block,
-/// hands it over, waits for the reply, fetches it and frees the channel. Contracts see where it stands with what belongs to that.
+/// hands it over, waits for the reply, fetches it and frees the channel. Contracts see its stage, with what belongs to it.
 #[derive(Drop)]
 pub struct ThreadState {
     target: u32,
@@ -556,7 +556,7 @@ impl ThreadState {
         }
     }
 
-    /// Goes on from the store of a word of its block: the same as `after`, for whoever knows that it fills a channel. No statement ends.
+    /// Goes on from the store of a word of its block: the same as `after`, for a caller that knows that it fills a channel. No statement ends.
     #[inline(always)]
     pub fn after_store(&mut self)
         requires { is_some (thread_store self.old) ≡ true }
@@ -584,8 +584,8 @@ impl ThreadState {
         }
     }
 
-    /// Goes on from the load of a word of the reply by its value: the same as `after`, for whoever knows that it fetches the reply. No
-    /// statement ends.
+    /// Goes on from the load of a word of the reply by its value: the same as `after`, for a caller that knows that it fetches the
+    /// reply. No statement ends.
     #[inline(always)]
     pub fn after_load(&mut self, value: u64)
         requires { is_some (thread_load self.old) ≡ true }

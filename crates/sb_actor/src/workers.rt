@@ -22,7 +22,7 @@ use std::marker::Model;
 use std::mem;
 
 /// The worker of a target, which serves its channels in turn: it looks for one whose block is whole, copies the block word by
-/// word, has the book answer the copy, and stores the reply. Contracts see where it stands with what belongs to that.
+/// word, has the book answer the copy, and stores the reply. Contracts see its stage, with what belongs to it.
 #[derive(Drop)]
 pub struct WorkerState {
     target: u32,
@@ -74,7 +74,7 @@ fn taken_of(count: u64, end: u64, words: Words) -> BlockCopy
     BlockCopy::of(count, end, words).unwrap()
 }
 
-// Ends a copy with these words, which are taken out. It stands apart, so that a step that ends no copy has no large locals.
+// Ends a copy with these words, which are taken out. It is a function of its own, so that a step that ends no copy has no large locals.
 #[inline(never)]
 fn end_copy(taken: &mut BlockCopy, words: &mut Words, count: u64, end: u64)
     requires { is_copy (copied count end words.old) ≡ true }
@@ -154,7 +154,7 @@ impl WorkerState {
         self.phase = WorkerPhase::Look;
     }
 
-    /// Goes on from a look by the state of its channel: the same as `after`, for whoever knows that it looks.
+    /// Goes on from a look by the state of its channel: the same as `after`, for a caller that knows that it looks.
     #[inline(always)]
     pub fn after_look(&mut self, state: u64)
         ensures { self.new ≡ after_look self.old state }
@@ -238,7 +238,7 @@ impl WorkerState {
         }
     }
 
-    /// Goes on from the load of a word of the block by its value: the same as `after`, for whoever knows that it copies.
+    /// Goes on from the load of a word of the block by its value: the same as `after`, for a caller that knows that it copies.
     #[inline(always)]
     pub fn after_load(&mut self, value: u64)
         requires { is_some (worker_load self.old) ≡ true }
@@ -271,7 +271,7 @@ impl WorkerState {
         }
     }
 
-    /// Goes on from the store of a word of the reply: the same as `after`, for whoever knows that it replies.
+    /// Goes on from the store of a word of the reply: the same as `after`, for a caller that knows that it replies.
     #[inline(always)]
     pub fn after_store(&mut self)
         requires { is_some (worker_store self.old) ≡ true }
@@ -353,7 +353,7 @@ impl WorkerState {
         }
     }
 
-    /// Goes on from Answer by what the book replied, which bears the mark of the copy.
+    /// Goes on from Answer by what the book replied, which has the mark of the copy.
     pub fn accept_reply(&mut self, reply: &Reply)
         requires plan { worker_plan self.old ≡ Answer }
         requires answer { IsAnswer self.old.stage (Answered reply.now) }
@@ -400,7 +400,7 @@ impl WorkerState {
         self.channels
     }
 
-    /// The channel at which it stands, from 0.
+    /// The channel at which it is, from 0.
     pub fn channel(&self) -> u32
         ensures channel { result ≡ self.now.channel }
         ensures within { result < self.now.channels }
