@@ -107,7 +107,3 @@ module _ (s : List ℕ) (n : ℕ) (z : List Lexeme) (begun : scan (InQuote (take
 
   pub quote_open : length s ≤ n → z ≡ Bad ∷ []
   quote_open h = sym begun ∙ rw (drop_all n s h) refl
-
--- a blank is ASCII
-pub blank_is_low : (b : ℕ) → is_blank b ≡ true → b < 128
-blank_is_low b h = grind (arith, nat_tests)

@@ -1,10 +1,11 @@
 // How a text is cut into lines.
-ghost use Rattle.std.specs.Prelude.{◌≡◌, ◌∷◌, ◌==◌, ◌<◌, ◌≤◌, ◌+◌, ◌^◌, [], length, take, drop, slice_index, slice_range, ℕ, nat_lt, None, Some, IfSome, MatchOption};
+ghost use Rattle.std.specs.Prelude.{◌≡◌, ◌∷◌, ◌==◌, ◌<◌, ◌≤◌, ◌+◌, ◌-◌, ◌^◌, [], length, map, take, drop, count_by, slice_get, slice_index, slice_range, ℕ, nat_lt, None, Some, IfSome, MatchOption};
 ghost use Rattle.std.specs.List.{position_or_len};
 ghost use Rattle.sb_text.specs.Lines.{line_numbered, raw_lines, raw_lines_from, without_cr};
 
 use memchr::memchr;
 use std::ops::Range;
+use std::simd::prelude::*;
 
 // How many bytes precede the first LF, all if there is none.
 fn lf_place(bytes: &[u8]) -> usize
@@ -129,14 +130,47 @@ pub fn line_count(bytes: &[u8]) -> u32
     count
 }
 
+// The bytes of a vector.
+const LANES: usize = 64;
+
+// The number of LFs among the first sixty-four bytes.
+fn lfs_in(bytes: &[u8]) -> u32
+    requires { LANES ≤ length bytes.now }
+    ensures { result ≡ count_by (λ b. b == 10) (take LANES bytes.now) }
+{
+    u8x64::from_slice(bytes)
+        .simd_eq(u8x64::splat(b'\n'))
+        .to_bitmask()
+        .count_ones()
+}
+
+// What is left of a text once vectors of bytes are passed, and how many lines of it, of which the first may be a part of one, are before the line
+// that has this many before it. No vector in which that line begins is passed, nor any after it.
+fn after_vectors(text: &[u8], before: u32) -> (&[u8], u32)
+    ensures line { slice_get (map without_cr (raw_lines result.0.now)) result.1 ≡ slice_get (map without_cr (raw_lines text.now)) before }
+    ensures rest { drop (length text.now - length result.0.now) text.now ≡ result.0.now }
+    ensures within { length result.0.now ≤ length text.now }
+{
+    let mut rest = text;
+    let mut left = before;
+    while rest.len() >= LANES {
+        let passed = lfs_in(rest);
+        if left <= passed {
+            return (rest, left);
+        }
+        left -= passed;
+        rest = rest.split_at(LANES).1;
+    }
+    (rest, left)
+}
+
 /// Where the line of this number, from 1 among all lines, is in a text, without its LF and without one CR at its end; None if there is no such line.
 #[tactic(auto, using(crate::proofs::LineLemmas::rest_kept, crate::proofs::LineLemmas::line_in_text))]
 pub fn line_place(number: u32, text: &[u8]) -> Option<Range<usize>>
     ensures line { MatchOption result (line_numbered number text.now ≡ None) (λ place. line_numbered number text.now ≡ Some (slice_range text.now place.start place.end)) }
     ensures within { IfSome result (λ place. (place.start ≤ place.end) × (place.end ≤ length text.now)) }
 {
-    let mut rest = text;
-    let mut before = number.saturating_sub(1);
+    let (mut rest, mut before) = after_vectors(text, number.saturating_sub(1));
     while let Some((line, later)) = cut_bytes(rest) {
         if before == 0 {
             let start = text.len() - rest.len();

@@ -1,5 +1,5 @@
 // Where bytes are not UTF-8, and what quoted tokens mean.
-ghost use Rattle.std.specs.Prelude.{◌≡◌, ◌<◌, ◌≤◌, ◌^◌, ◌+◌, length, nat_lt, None, Some, IfOk, IfSome, MatchResult};
+ghost use Rattle.std.specs.Prelude.{◌≡◌, ◌<◌, ◌≤◌, ◌^◌, ◌+◌, length, is_some, nat_lt, None, Some, IfOk, IfSome, MatchResult};
 ghost use Rattle.std.specs.List.{list_all};
 ghost use Rattle.sb_text.specs.Utf8.{first_place, not_utf8_place, place_after};
 ghost use Rattle.sb_text.specs.Tokens.{string_of};
@@ -69,7 +69,8 @@ fn are_ascii(bytes: &[u8]) -> bool
 /// The units that a quoted token means, as bytes, if all of its characters are ASCII.
 #[tactic(auto, using(crate::proofs::QuotedStrings::string_of_ascii))]
 pub fn ascii_units(quoted: &str) -> Option<&[u8]>
-    ensures { IfSome result (λ units. units.now ≡ string_of quoted.now) }
+    ensures units { IfSome result (λ units. units.now ≡ string_of quoted.now) }
+    ensures ascii { is_some result ≡ list_all (λ b. nat_lt b 128) quoted.now }
 {
     let bytes = quoted.as_bytes();
     if are_ascii(bytes) { Some(bytes) } else { None }
