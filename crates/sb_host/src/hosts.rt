@@ -8,6 +8,7 @@ ghost use Rattle.sb_host.specs.Hosts.{Gives, Reads, open_fault, read_fault, coun
 use sb_items::NoMemory;
 use sb_outside::{FileFault, Files, Sink, SinkFault};
 use std::alloc::Global;
+use std::fs::OpenFile;
 use std::io::{ErrorKind, Read, Write};
 use std::{fs, rt};
 
@@ -65,8 +66,31 @@ fn content_under<R: rt::Files>(
     ensures { IfOk result (λ bytes. vec_len bytes ≤ most) }
 {
     match fs::open(rt, name) {
-        Ok(file) => content(alloc, file, most),
+        Ok(file) => {
+            let expected = expected_len(&file, most);
+            content(alloc, file, expected, most)
+        }
         Err(error) => Err(open_fault(error.kind())),
+    }
+}
+
+// How many bytes a file has by the system, at most `most`, and 0 if that is not known. There may be more or fewer when it is read.
+fn expected_len<F: OpenFile>(file: &F, most: u64) -> usize
+    ensures { result ≤ most }
+{
+    match file.metadata() {
+        Ok(metadata) => metadata.len().min(most) as usize,
+        Err(_) => 0,
+    }
+}
+
+// No bytes, with room for this many, if there is memory for them: a list that does not grow is not moved.
+fn with_room(alloc: Global, len: usize) -> Vec<u8>
+    ensures { result.items ≡ [] }
+{
+    match Vec::with_capacity(alloc, len) {
+        Ok(bytes) => bytes,
+        Err(_) => Vec::new(alloc),
     }
 }
 
@@ -96,10 +120,15 @@ fn append_read<F: Read>(
     }
 }
 
-// All that a reader has, if that is at most `most` bytes. It is read in pieces, since a buffer of the whole size would be filled with
-// zeros first.
+// All that a reader has, if that is at most `most` bytes; it is expected to have this many. It is read in pieces, since a buffer of the
+// whole size would be filled with zeros first.
 #[tactic(auto, using(crate::proofs::Wholes::reads_on, crate::proofs::Wholes::reads_all, crate::proofs::Wholes::reads_more))]
-fn content<F: Read + Drop>(alloc: Global, file: F, most: u64) -> Result<Vec<u8>, FileFault>
+fn content<F: Read + Drop>(
+    alloc: Global,
+    file: F,
+    expected: usize,
+    most: u64,
+) -> Result<Vec<u8>, FileFault>
     ensures short { IfOk result (λ bytes. vec_len bytes ≤ most) }
     ensures whole { IfOk result (λ bytes. IfSome (F.remaining file) (λ all. bytes.items ≡ all)) }
     ensures opened { IsErrOf result FileFault.Missing → ⊥ }
@@ -107,7 +136,7 @@ fn content<F: Read + Drop>(alloc: Global, file: F, most: u64) -> Result<Vec<u8>,
 {
     let mut file = file;
     let mut room = [0; PIECE];
-    let mut bytes = Vec::new(alloc);
+    let mut bytes = with_room(alloc, expected);
     for _ in 0..u64::MAX {
         let may_have_more = append_read(&mut file, &mut room, &mut bytes)?;
         if bytes.len() as u64 > most {
