@@ -68,11 +68,11 @@ fn next_cell(text: &[u16]) -> Option<(Cell, &[u16])>
     }
 }
 
-// The cells of the text.
+// The cells of the text, which are at most as many as its units.
 pub(crate) fn cells_of(alloc: Global, text: &[u16]) -> Result<Vec<Cell>, NoMemory>
     ensures { IfOk result (λ cells. cells.items ≡ cells_of text.now) }
 {
-    let mut cells = Vec::new(alloc);
+    let mut cells = Vec::with_capacity(alloc, text.len())?;
     let mut rest = text;
     while let Some((cell, after)) = next_cell(rest) {
         cells.push(cell)?;
