@@ -3,7 +3,7 @@ use std::fmt::Display;
 use thiserror::Error;
 
 /// What is wrong with a line, and where: by its tokens, counted from the line's end.
-#[derive(Clone, Copy, Debug)]
+#[derive(Clone, Copy)]
 pub struct TokenFault<K> {
     /// The number of tokens that are left: the one with the fault and all after it, or 0 at the line's end.
     pub left: usize,

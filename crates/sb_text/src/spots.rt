@@ -8,7 +8,7 @@ use crate::word_counts::word_count;
 use memchr::memchr;
 
 /// What the lines of a text are made of.
-#[derive(Clone, Copy, Debug)]
+#[derive(Clone, Copy)]
 pub enum Layout {
     /// UTF-8, whose tokens may be quoted: a character is a Unicode scalar value.
     Text,
@@ -17,7 +17,7 @@ pub enum Layout {
 }
 
 /// Where in a line a byte is.
-#[derive(Clone, Copy, Debug)]
+#[derive(Clone, Copy)]
 pub enum Within {
     /// Between tokens.
     Gap,
