@@ -27,7 +27,7 @@ pub record IsPassed (w v : WorldAt) : Type 0 where
 pub passed_self : (w : WorldAt) → IsPassed w w
 passed_self w = record { passes = 0; unsettled = λ i l. absurd (omega (arith, l)); is = refl }
 
--- passes leave as many workers
+-- passes keep the number of workers
 pub as_before : (n : ℕ) (w : WorldAt) → length (after_passes n w).workers ≡ length w.workers
 as_before zero w = refl
 as_before (suc n) w = pass_workers (length (after_passes n w).workers) (after_passes n w) ∙ as_before n w

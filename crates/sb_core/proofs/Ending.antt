@@ -64,7 +64,7 @@ ends_are_runs policies script actors w ready there reached over free =
       drains = shown;
     }
 
--- as many words as channels have
+-- 65 words for each channel
 sized_all : (targets : List TargetScript) (words : List (List ℕ)) → length words ≡ length targets
     → ((t : ℕ) → t < length targets → length (words_of words t) ≡ channels_of (slice_get targets t) * 65)
     → map (λ (ws : List ℕ). length ws) words ≡ map (λ target. target.channels * 65) targets

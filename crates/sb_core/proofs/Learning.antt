@@ -1,5 +1,5 @@
--- What the rule tells a thread of the channel at which it is: no clean channel is given up, its own block stands in it until the reply does, and the reply
--- bears the mark of the block.
+-- What the rule tells a thread of the channel at which it is: no clean channel is given up, it holds the thread's own block until it holds the reply, and the
+-- reply has the mark of the block.
 use Rattle.std.proofs.Common.{◌≡◌, ◌≢◌, ◌∙◌, refl, ap, subst, sym, ℕ, ◌<◌, Bool, true, false, List, [], ◌∷◌, length, get_or, take, arith}
 use Rattle.std.specs.Prelude.{slice_index}
 use mathlib.Core.Option.{some}

@@ -26,7 +26,7 @@ is_same x y e = grind (arith, nat_tests)
 pub not_same : (x y : ℕ) → (x == y) ≡ false → (x ≡ y → ⊥)
 not_same x y e s = absurd (grind (arith, nat_tests, e, s))
 
--- a load tells what is there
+-- a load gives what is there
 pub tells : (s : SharedAt) (a : Act) (u : ℕ) → names a u ≡ true → Tells a (slice_index (words_of s.words u) (act_word a)) (on_word s a).seen
 tells s (act.Load t word) u e = ap (λ z. slice_index (words_of s.words z) (place_of word)) (is_same t u e)
 tells s (act.Store t word value) u e = tt

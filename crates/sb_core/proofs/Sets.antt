@@ -8,13 +8,13 @@ use Rattle.sb_core.specs.Words.{words_of}
 pub set_same : {X : Type 0} (xs : List X) (i : ℕ) (x d : X) → x ≡ get_or xs i d → set xs i x ≡ xs
 set_same xs i x d e = subst (λ y. set xs i y ≡ xs) (sym e) (set-get_or xs i d)
 
--- the element at a place, whatever would stand there if it were not
+-- the element at a place, whatever the default
 pub at_place : {X : Type 0} (xs : List X) (i : ℕ) (x d : X) → i < length xs → x ≡ get_or xs i x → x ≡ get_or xs i d
 at_place [] i x d l e = absurd (omega arith)
 at_place (y ∷ ys) zero x d l e = e
 at_place (y ∷ ys) (suc i) x d l e = at_place ys i x d (omega (arith, l)) e
 
--- the words of a target set to as many
+-- the words of a target replaced by a list of the same length
 pub sizes_set : (words : List (List ℕ)) (t : ℕ) (new : List ℕ) → t < length words → length new ≡ length (words_of words t)
     → (u : ℕ) → length (words_of (set words t new) u) ≡ length (words_of words u)
 sizes_set words t new l e u = by_place (ℕ_discrete u t)

@@ -118,7 +118,7 @@ first_by : (k c j : ℕ) (b : Bool) → nat_le c j ≡ b → j ≢ c → j < k �
 first_by k c j true p n l e = let low : c ≤ j = grind (arith, nat_tests, p) in absurd (n (omega (arith, low, l, e)))
 first_by k c j false p n l e = omega (arith, l, e)
 
--- from channel 0 a channel is as many looks away as its number says
+-- from channel 0 a channel is its number of looks away
 first_ahead : (k j : ℕ) (b : Bool) → nat_le 0 j ≡ b → ahead_by b k 0 j ≡ j
 first_ahead k j true e = omega arith
 first_ahead k j false e = absurd (grind (arith, nat_tests, e))
@@ -446,7 +446,7 @@ step_total w t (suc n) kept there = by_place (ℕ_discrete n t) (step_total w t 
         let same = left_stays w (worker_step w t) n (other_stays w t n kept there ne) in
         (omega (arith, first, same), λ l e. let less = front.1 (omega (arith, l, ne)) e in omega (arith, less, same))
 
--- a pass of the first n keeps the world, as many workers, and those that are still to step
+-- a pass of the first n keeps the world, the number of workers, and those that are still to step
 pub record Passed (w : WorldAt) (n : ℕ) : Type 0 where
   pub kept : IsWorld (pass_below n w)
   pub many : length (pass_below n w).workers ≡ length w.workers

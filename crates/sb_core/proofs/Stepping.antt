@@ -70,7 +70,7 @@ scheduled_there targets (entry ∷ entries) e =
     let parts = and_parts (is_step_there targets entry) (list_all (is_step_there targets) entries) e in
     all_append (is_there targets) (replicate entry.1 entry.0) (scheduled entries) (replicated targets entry.0 entry.1 parts.0) (scheduled_there targets entries parts.1)
 
--- a pass has as many workers
+-- a pass keeps the number of workers
 pub pass_workers : (n : ℕ) (w : WorldAt) → length (pass_below n w).workers ≡ length w.workers
 pass_workers zero w = refl
 pass_workers (suc n) w = length-set (pass_below n w).workers n _ ∙ pass_workers n w

@@ -156,7 +156,7 @@ module _ (f : ℕ → TargetAt → TargetAt) where
       ∙ (ap (λ (y : TargetAt). with_target (with_target v n x) m (f m y)) (target_other v n m x (apart_low m n (omega (arith, l))))
       ∙ with_other v n m x (f m (target_at v m)) (apart m n (omega (arith, l))))
 
-  -- as many threads are over, if it is so of each target
+  -- all threads are over exactly if they were, if that is so of each target
   pub changed_over : (m : ℕ) (w : WorldAt) → ((t : ℕ) → t < m → are_over (f t (target_at w t)).runs ≡ are_over (target_at w t).runs)
       → all_over (changed f m w) ≡ all_over w
   changed_over zero w each = refl

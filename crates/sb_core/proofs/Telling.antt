@@ -1,4 +1,4 @@
--- What each thread comes to is told by the values that its own steps found.
+-- What each thread comes to depends on the values that its own steps found alone.
 use Rattle.std.proofs.Common.{◌≡◌, ◌≢◌, ◌∙◌, refl, sym, subst, ap, ℕ, zero, suc, ◌<◌, Bool, true, false, cond, eqb, ◌&&◌, List, [], ◌∷◌, ◌++◌, length, set, get_or, get_or-set_same, append_assoc, arith, eq-eqb}
 use Rattle.std.proofs.lemmas.Bool.{and_from, and_parts, eqb-true}
 use Rattle.std.proofs.lemmas.List.{append-nil}
@@ -48,7 +48,7 @@ differ u j t k e f =
     number_is u j t k f = ap number_in f
 
 module _ (script : Script) where
-  -- thread k of target t in the second world is what these values tell of it in the first
+  -- thread k of target t in the second world is what these values make of it in the first
   abbrev Told : RunAt → RunAt → List ℕ → Type 0
   Told x y values = (y.thread ≡ after_values script x.thread values) × (y.results ≡ x.results ++ results_of_values script x.thread values)
 

@@ -34,7 +34,7 @@ pick_stage : (P : ThreadNext → Type 0) (at : ThreadAt) (b : Bool) (s u : Threa
 pick_stage P at true s u f g = f refl
 pick_stage P at false s u f g = g refl
 
--- the result is one of the statement at which the thread stands
+-- the result is one of the thread's present statement
 abbrev pub IsOwnResult : Script → ThreadAt → StmtResult → Type 0
 IsOwnResult script x r = (s : Statement) × (statement_at script x.target x.thread x.place ≡ Some s) × (is_result_of s r ≡ true)
 

@@ -1,4 +1,4 @@
--- What each thread comes to is told by the values that its own steps found.
+-- What each thread comes to depends on the values that its own steps found alone.
 use Rattle.std.specs.Prelude.{◌≡◌, ◌<◌, ◌≤◌, ℕ, ◌==◌, ◌&&◌, true, List, [], ◌∷◌, ◌++◌, length, Some, if◌then◌else◌}
 use Rattle.sb_actor.specs.Acts.{value_in}
 use Rattle.sb_actor.specs.Findings.{IsCaused, results_of_values, after_values}
@@ -28,7 +28,7 @@ abbrev pub found_by : Script → ℕ → ℕ → List Actor → WorldAt → List
 found_by script t k [] w = []
 found_by script t k (actor ∷ more) w = found_in script t k actor w ++ found_by script t k more (step script w actor)
 
--- where a thread is after these steps, and its results there, are those that its values tell from where it was
+-- where a thread is after these steps, and its results there, are those that its values give from where it was
 abbrev pub ThreadsFollowTheirValues : Type 0
 ThreadsFollowTheirValues = (script : Script) (actors : List Actor) (w : WorldAt) (t k : ℕ) → IsWorld w → IsRunning script w → are_there script.targets actors ≡ true
     → k < length (threads_at w t)

@@ -1,5 +1,5 @@
--- Leaps: several rounds at once. In a round in which every actor rests, except at most one of each target, which moves a word of a block, all that a
--- target does is told by its own words, worker and threads; and so are several such rounds in a row.
+-- Leaps: several rounds at once. In a round in which every actor rests, except at most one of each target, which moves a word of a block, what a
+-- target does depends on its own words, worker and threads alone. If rounds in a row are such, they are made at once, one target after another.
 use Rattle.std.specs.Prelude.{◌<◌, ◌≤◌, ℕ, zero, suc, ◌+◌, Bool, true, false, not, nat_lt, ◌==◌, ◌&&◌, List, [], ◌∷◌, length, min, take, drop, slice_index_or, slice_set, Option, None, Some, if◌then◌else◌}
 use Rattle.std.specs.List.{list_all}
 use Rattle.sb_actor.specs.Acts.{acknowledged, ready, state_word}
@@ -73,12 +73,12 @@ abbrev pub if_rest : ℕ → Bool → ℕ
 if_rest left rest = if nat_lt 0 left && rest then left else 0
 
 -- more rounds than a schedule can have
-abbrev pub most_rounds : ℕ
-most_rounds = 4294967295
+abbrev pub no_bound : ℕ
+no_bound = 4294967295
 
 -- in how many rounds one of these threads moves a word and the others rest, or all rest
 abbrev pub runs_ahead : List ℕ → List RunAt → ℕ
-runs_ahead words [] = most_rounds
+runs_ahead words [] = no_bound
 runs_ahead words (x ∷ xs) = if run_rests words x then runs_ahead words xs else if_rest (thread_moves_left x.thread) (all_rest words xs)
 
 -- and the same of all actors of a target

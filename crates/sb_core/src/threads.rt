@@ -18,8 +18,8 @@ use sb_statements::{CleanTable, MOST_STATEMENTS, SoundScript, Statement, StmtRes
 use std::alloc::Global;
 use std::marker::Model;
 
-/// More rounds than a schedule can have.
-const MOST_ROUNDS: u32 = u32::MAX;
+/// More rounds than a schedule can have: no bound at all.
+const NO_BOUND: u32 = u32::MAX;
 
 /// A thread, and the results of its statements that ended, by place.
 #[derive(Drop)]
@@ -321,7 +321,7 @@ impl TargetThreads {
             }
             rest = later;
         }
-        MOST_ROUNDS
+        NO_BOUND
     }
 
     // The first thread that does not rest; as many as there are if all do.
