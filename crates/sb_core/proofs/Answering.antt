@@ -1,5 +1,5 @@
 -- The step of a worker at Answer, and room for the result of a statement.
-use Rattle.std.proofs.Common.{◌≡◌, refl, ◌<◌, ◌≤◌, ℕ, true, false, sym, ap, set, ◌∙◌, arith}
+use Rattle.std.proofs.Common.{◌≡◌, refl, ◌<◌, ◌≤◌, ℕ, true, false, sym, ap, ◌∙◌, arith}
 use Rattle.std.specs.Prelude.{Option, None, Some, IfSome, is_some}
 use Rattle.sb_actor.specs.Observations.{Observation}
 use Rattle.sb_actor.specs.WorkerStages.{WorkerStage, WorkerAt, Look, Count, End, Copy, Take, Answer, Give, Reply, Ack}
@@ -10,9 +10,7 @@ use Rattle.sb_statements.specs.declared.results.StmtResult.{StmtResult}
 use Rattle.sb_call.specs.declared.replies.Reply.{Reply as CallReply}
 use Rattle.sb_actor.specs.Observations.{Answered}
 use Rattle.sb_actor.specs.WorkerTable.{worker_after}
-use Rattle.sb_core.specs.Shared.{SharedAt, is_answer, on_answer, on_worker}
-use Rattle.sb_core.specs.Worlds.{WorldAt, worker_at, worker_step}
-use Rattle.sb_core.proofs.Keeping.{worker_left}
+use Rattle.sb_core.specs.Shared.{SharedAt, is_answer, on_answer, on_worker, worker_by, worker_step_of}
 
 -- a worker at Answer has a copy
 pub has_copy : (w : WorkerAt) → worker_plan w ≡ act.Answer → is_some (taken_in w.stage) ≡ true
@@ -49,11 +47,9 @@ pub room_in : (ended : Option StmtResult) (made most room : ℕ) → IfSome ende
 room_in None made most room h l = tt
 room_in (Some r) made most room h l = omega arith
 
--- what the step of a worker at Answer left, by the worker that was found
-pub answer_left : (w : WorldAt) (t : ℕ) (x y z : WorkerAt) (reply : CallReply) (s : SharedAt) → x ≡ worker_at w t → y ≡ worker_at w t
-    → worker_plan (worker_at w t) ≡ act.Answer → Answered reply ≡ (on_answer w.shared t x (taken_in x.stage)).seen
-    → s ≡ (on_answer w.shared t x (taken_in x.stage)).shared → z ≡ worker_after y (Answered reply)
-    → record w { shared = s; workers = set w.workers t z } ≡ worker_step w t
-answer_left w t x y z reply s e f p g h i =
-    let plan : worker_plan x ≡ act.Answer = ap (λ v. worker_plan v) e ∙ p in
-    worker_left w t x y z (Answered reply) s e f (g ∙ ap (λ a. (on_worker w.shared t x a).seen) (sym plan)) (h ∙ ap (λ a. (on_worker w.shared t x a).shared) (sym plan)) i
+-- what the step of a worker at Answer leaves
+pub answers : (s new : SharedAt) (t : ℕ) (x : WorkerAt) (reply : CallReply) → worker_plan x ≡ act.Answer
+    → Answered reply ≡ (on_answer s t x (taken_in x.stage)).seen → new ≡ (on_answer s t x (taken_in x.stage)).shared
+    → worker_step_of s t x ≡ record { shared = new; worker = worker_after x (Answered reply) }
+answers s new t x reply p seen shared =
+    ap (λ a. worker_by x (on_worker s t x a)) p ∙ sym (λ i. record { shared = shared i; worker = worker_after x (seen i) })

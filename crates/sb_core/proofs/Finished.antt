@@ -8,7 +8,7 @@ use Rattle.sb_statements.specs.declared.scripts.Script.{Script}
 use Rattle.sb_core.specs.Kept.{IsAtStatement, IsRunning}
 use Rattle.sb_core.specs.Threads.{RunAt, are_over, first_unfinished, no_run, or_else, unfinished_of}
 use Rattle.sb_core.specs.Worlds.{WorldAt, all_finished, all_over, round, rounds}
-use Rattle.sb_core.proofs.Folding.{rounds_done, rounds_more}
+use Rattle.sb_core.proofs.Folding.{rounds_more}
 
 -- two tests that pass together are the same
 pub same_test : (a b : Bool) → (a ≡ true → b ≡ true) → (b ≡ true → a ≡ true) → a ≡ b
@@ -62,13 +62,10 @@ targets_over script (xs ∷ xss) h =
     by_target (are_over xs) (list_all (λ ys. are_over ys) xss) (unfinished_of script xs) (first_unfinished script xss)
     (runs_over script xs (λ k i. h zero k i)) (targets_over script xss (λ t k i. h (suc t) k i))
 
-finished_by_stage : (script : Script) (w : WorldAt) → IsRunning script w → all_over w ≡ all_finished script w
+pub finished_by_stage : (script : Script) (w : WorldAt) → IsRunning script w → all_over w ≡ all_finished script w
 finished_by_stage script w h = targets_over script w.threads h.stands
 
--- so a round is made exactly if a thread is not over
-pub rounds_over : (n : ℕ) (script : Script) (w : WorldAt) → IsRunning script w → all_over w ≡ true → rounds n script w ≡ w
-rounds_over n script w running h = rounds_done n script w (sym (finished_by_stage script w running) ∙ h)
-
+-- so a round is made if a thread is not over
 pub rounds_busy : (n m : ℕ) (script : Script) (w : WorldAt) → IsRunning script w → n ≡ suc m → all_over w ≡ false
     → rounds n script w ≡ rounds m script (round script w)
 rounds_busy n m script w running e h = rounds_more n m script w e (sym (finished_by_stage script w running) ∙ h)

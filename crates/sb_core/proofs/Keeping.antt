@@ -7,7 +7,6 @@ use native.Mathlib.Decide.{ℕ_discrete}
 use Rattle.sb_actor.specs.Acts.{ready}
 use Rattle.sb_actor.specs.Ranges.{IsReplyTo, IsSoundStage}
 use Rattle.sb_actor.specs.WorkerStages.{WorkerStage, WorkerAt, Look, Count, End, Copy, Take, Answer, Give, Reply, Ack}
-use Rattle.sb_actor.specs.Observations.{Observation}
 use Rattle.sb_actor.specs.WorkerTable.{worker_plan, worker_after, look_next, after_reply}
 use Rattle.sb_block.specs.Copies.{Copied, copied, is_copy, is_end, mark_of}
 use Rattle.sb_block.specs.Packing.{offset_of}
@@ -17,11 +16,11 @@ use Rattle.sb_book.specs.declared.decisions.Decision.TheVariants.{Refused, Denie
 use Rattle.sb_kernel.specs.Namespaces.{Space}
 use Rattle.sb_statements.specs.declared.statements.Word.{Word}
 use Rattle.sb_core.specs.Kept.{IsRunOf, IsWorkerOf, IsWorld, channels_at, has_turn, is_holder}
-use Rattle.sb_core.specs.Shared.{SharedAt, on_worker}
+use Rattle.sb_core.specs.Shared.{SharedAt, WorkerStep, on_worker, worker_step_of}
 use Rattle.sb_core.specs.Words.{exchanged, loaded, stored, words_of}
 use Rattle.sb_statements.specs.Words.{place_of}
 use Rattle.sb_core.specs.Worlds.{WorldAt, no_worker, run_at, threads_at, worker_at, worker_goes, worker_step}
-use Rattle.sb_core.proofs.Sets.{sizes_set}
+use Rattle.sb_core.proofs.Sets.{set_same, sizes_set}
 use Rattle.sb_core.proofs.There.{words_listed}
 
 -- What a step of a target's worker leaves that the world needs: the setting and the sizes of the words as they were, the worker at one of its
@@ -103,7 +102,7 @@ module _ (w : WorldAt) (t : ℕ) (y : WorkerAt) (s : SharedAt) (kept : IsWorld w
         threads = λ u k l. run u k l;
       }
 
--- a reply bears the mark that it was made for
+-- a reply has the mark that it was made for
 replies_bear : (ns : Space) (target mark : ℕ) (d : Decision) → (reply_of ns target mark d).mark ≡ mark
 replies_bear ns target mark (Refused f) = refl
 replies_bear ns target mark (Denied tag verdict) = refl
@@ -316,7 +315,7 @@ module _ (w : WorldAt) (t channels c : ℕ) (kept : IsWorld w) (there : t < leng
     holder = kept.holder;
   }
 
-  -- the words after an exchange are as many
+  -- an exchange keeps the number of words
   exchanged_size : (b : Bool) (words new : List ℕ) → length new ≡ length words → length (if b then new else words) ≡ length words
   exchanged_size true words new e = e
   exchanged_size false words new e = refl
@@ -382,8 +381,15 @@ worker_setting w t kept there =
         (sym e) (step_moves w t channels channel kept there k.its_channels k.within k.few k.sized stage k.sound k.turn).setting
 
 -- what a step of a worker left, by the worker that was found
-pub worker_left : (w : WorldAt) (t : ℕ) (x y z : WorkerAt) (seen : Observation) (s : SharedAt) → x ≡ worker_at w t → y ≡ worker_at w t
-    → seen ≡ (on_worker w.shared t x (worker_plan x)).seen → s ≡ (on_worker w.shared t x (worker_plan x)).shared → z ≡ worker_after y seen
+pub worker_left : (w : WorldAt) (t : ℕ) (x z : WorkerAt) (s : SharedAt) → x ≡ worker_at w t → worker_step_of w.shared t x ≡ record { shared = s; worker = z }
     → record w { shared = s; workers = set w.workers t z } ≡ worker_step w t
-worker_left w t x y z seen s e f g h i =
-    rw (i, g, h, e, f) refl
+worker_left w t x z s e made =
+    sym (ap (λ (m : WorkerStep). record w { shared = m.shared; workers = set w.workers t m.worker }) made)
+    ∙ ap (λ (y : WorkerAt). worker_goes w t y (on_worker w.shared t y (worker_plan y))) e
+
+-- and if it left everything as it was
+pub worker_stays : (w : WorldAt) (t : ℕ) (x z : WorkerAt) (s : SharedAt) → x ≡ worker_at w t → s ≡ w.shared → z ≡ x
+    → record w { shared = s; workers = set w.workers t z } ≡ w
+worker_stays w t x z s e shared same =
+    (λ i. record w { shared = shared i; workers = set w.workers t (same i) })
+    ∙ ap (λ (workers : List WorkerAt). record w { workers = workers }) (set_same w.workers t x no_worker e)

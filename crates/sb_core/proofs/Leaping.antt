@@ -27,7 +27,8 @@ use Rattle.sb_core.specs.Words.{loaded, words_of}
 use Rattle.sb_core.specs.Worlds.{WorldAt, all_over, no_worker, round, rounds, run_at, step, steps, thread_goes, threads_at, worker_at, worker_step}
 use Rattle.sb_core.proofs.Finished.{rounds_busy}
 use Rattle.sb_core.proofs.Folding.{steps_append}
-use Rattle.sb_core.proofs.Looking.{looked, looks_is}
+use Rattle.sb_core.proofs.Keeping.{worker_left}
+use Rattle.sb_core.proofs.Looking.{looks, looks_is}
 use Rattle.sb_core.proofs.Running.{step_keeps}
 use Rattle.sb_core.proofs.Sets.{at_place}
 use Rattle.sb_core.proofs.Stepping.{kept_along, leads_by, leads_rounds, rounds_there}
@@ -165,7 +166,7 @@ worker_rests_step u t rests its within =
     let stage : Look ≡ x.stage = sym (looks_is x.stage first.0) in
     let same : look_next x ≡ x = λ i. record x { channel = next i; stage = stage i } in
     let made : record u { workers = set u.workers t (look_next x) } ≡ worker_step u t =
-    looked u t x x (look_next x) state refl refl first.0 refl (sym looks_on) in
+    worker_left u t x (look_next x) u.shared refl (looks u.shared x first.0 t ∙ ap (λ (z : WorkerAt). record { shared = u.shared; worker = z }) looks_on) in
     let workers : set u.workers t (look_next x) ≡ u.workers = ap (λ (z : WorkerAt). set u.workers t z) same ∙ set-get_or u.workers t no_worker in
     sym made ∙ (λ i. record u { workers = workers i })
 

@@ -1,5 +1,5 @@
 -- The step of a thread that moves a word of a block, and that of a worker.
-use Rattle.std.proofs.Common.{◌≡◌, refl, ap, subst, sym, ℕ, ◌+◌, length, Some, set}
+use Rattle.std.proofs.Common.{◌≡◌, ap, subst, ℕ, ◌+◌, length, Some}
 use Rattle.std.specs.Prelude.{slice_index}
 use Rattle.std.proofs.lemmas.List.{append-nil}
 use Rattle.sb_actor.specs.Observations.{Done, Value}
@@ -9,15 +9,12 @@ use Rattle.sb_actor.specs.WordSteps.{thread_load, thread_load_at, thread_store, 
 use Rattle.sb_actor.specs.WorkerStages.{WorkerStage, WorkerAt}
 use Rattle.sb_actor.specs.WorkerStages as worker
 use Rattle.sb_actor.specs.WorkerTable.{worker_after, worker_plan}
-use Rattle.sb_actor.specs.declared.acts.Act.{Act}
 use Rattle.sb_actor.specs.declared.acts.Act.TheVariants.{Load, Store}
 use Rattle.sb_statements.specs.declared.statements.Word.{Word}
 use Rattle.sb_statements.specs.declared.scripts.Script.{Script}
-use Rattle.sb_core.specs.Shared.{IsActThere, SharedAt, on_worker, with_words}
+use Rattle.sb_core.specs.Shared.{IsActThere, SharedAt, on_worker, with_words, worker_by, worker_step_of}
 use Rattle.sb_core.specs.Threads.{RunAt, thread_step}
 use Rattle.sb_core.specs.Words.{IsWordThere, loaded, stored, words_of}
-use Rattle.sb_core.specs.Worlds.{WorldAt, worker_at, worker_step}
-use Rattle.sb_core.proofs.Keeping.{worker_left}
 
 pub given : {X : Type 0} (a b : X) → Some a ≡ Some b → a ≡ b
 given a b e = cc
@@ -120,6 +117,14 @@ module _ (x : WorkerAt) (word : Word) where
   load_plan (worker.Reply taken reply at) e = absurd cc
   load_plan (worker.Ack taken reply) e = absurd cc
 
+  -- the word is there
+  pub worker_load_there : (s : SharedAt) → worker_load x ≡ Some word → IsActThere s.words (worker_plan x) → IsWordThere s.words x.target word
+  worker_load_there s e there = subst (λ a. IsActThere s.words a) (load_plan x.stage e) there
+
+  pub worker_loads_word : (s : SharedAt) (t : ℕ) → worker_load x ≡ Some word
+      → worker_step_of s t x ≡ record { shared = s; worker = worker_after x (Value (loaded (words_of s.words x.target) word)) }
+  worker_loads_word s t e = ap (λ a. worker_by x (on_worker s t x a)) (load_plan x.stage e)
+
 -- and of one that stores a word of the reply
 module _ (x : WorkerAt) (word : Word) (value : ℕ) where
   store_plan : (stage : WorkerStage) → worker_store_at x stage ≡ Some (word, value) → worker_plan (record x { stage = stage }) ≡ Store x.target word value
@@ -133,40 +138,10 @@ module _ (x : WorkerAt) (word : Word) (value : ℕ) where
   store_plan (worker.Give taken reply) e = absurd cc
   store_plan (worker.Ack taken reply) e = absurd cc
 
--- what a step of a worker that is on a word needs and leaves, by the worker that was found
-module _ (w : WorldAt) (t : ℕ) (x : WorkerAt) (word : Word) (e : x ≡ worker_at w t) where
-  plan_of : (act : Act) → worker_plan (worker_at w t) ≡ act → worker_plan x ≡ act
-  plan_of act p = subst (λ (v : WorkerAt). worker_plan v ≡ act) (sym e) p
+  -- the word is there
+  pub worker_store_there : (s : SharedAt) → worker_store x ≡ Some (word, value) → IsActThere s.words (worker_plan x) → IsWordThere s.words x.target word
+  worker_store_there s e there = subst (λ a. IsActThere s.words a) (store_plan x.stage e) there
 
-  pub worker_load_there : worker_load (worker_at w t) ≡ Some word → IsActThere w.shared.words (worker_plan (worker_at w t)) → IsWordThere w.shared.words x.target word
-  worker_load_there loads there =
-      let known : worker_load x ≡ Some word = subst (λ (v : WorkerAt). worker_load v ≡ Some word) (sym e) loads in
-      subst (λ a. IsActThere w.shared.words a) (load_plan x word x.stage known) (subst (λ (v : WorkerAt). IsActThere w.shared.words (worker_plan v)) (sym e) there)
-
-  pub worker_load_left : (y z : WorkerAt) (value : ℕ) → y ≡ worker_at w t → worker_load (worker_at w t) ≡ Some word
-      → value ≡ loaded (words_of w.shared.words x.target) word → z ≡ worker_after y (Value value)
-      → record w { workers = set w.workers t z } ≡ worker_step w t
-  worker_load_left y z value f loads g h =
-      let known : worker_load x ≡ Some word = subst (λ (v : WorkerAt). worker_load v ≡ Some word) (sym e) loads in
-      let plan : worker_plan x ≡ Load x.target word = load_plan x word x.stage known in
-      let seen : Value value ≡ (on_worker w.shared t x (worker_plan x)).seen =
-      subst (λ a. Value value ≡ (on_worker w.shared t x a).seen) (sym plan) (ap (λ n. Value n) g) in
-      let shared : w.shared ≡ (on_worker w.shared t x (worker_plan x)).shared = subst (λ a. w.shared ≡ (on_worker w.shared t x a).shared) (sym plan) refl in
-      worker_left w t x y z (Value value) w.shared e f seen shared h
-
-  module _ (value : ℕ) where
-    pub worker_store_there : worker_store (worker_at w t) ≡ Some (word, value) → IsActThere w.shared.words (worker_plan (worker_at w t))
-        → IsWordThere w.shared.words x.target word
-    worker_store_there stores there =
-        let known : worker_store x ≡ Some (word, value) = subst (λ (v : WorkerAt). worker_store v ≡ Some (word, value)) (sym e) stores in
-        subst (λ a. IsActThere w.shared.words a) (store_plan x word value x.stage known) (subst (λ (v : WorkerAt). IsActThere w.shared.words (worker_plan v)) (sym e) there)
-
-    pub worker_store_left : (y z : WorkerAt) (s : SharedAt) → y ≡ worker_at w t → worker_store (worker_at w t) ≡ Some (word, value)
-        → s ≡ with_words w.shared x.target (stored (words_of w.shared.words x.target) word value) → z ≡ worker_after y Done
-        → record w { shared = s; workers = set w.workers t z } ≡ worker_step w t
-    worker_store_left y z s f stores g h =
-        let known : worker_store x ≡ Some (word, value) = subst (λ (v : WorkerAt). worker_store v ≡ Some (word, value)) (sym e) stores in
-        let plan : worker_plan x ≡ Store x.target word value = store_plan x word value x.stage known in
-        let seen : Done ≡ (on_worker w.shared t x (worker_plan x)).seen = subst (λ a. Done ≡ (on_worker w.shared t x a).seen) (sym plan) refl in
-        let shared : s ≡ (on_worker w.shared t x (worker_plan x)).shared = subst (λ a. s ≡ (on_worker w.shared t x a).shared) (sym plan) g in
-        worker_left w t x y z Done s e f seen shared h
+  pub worker_stores_word : (s : SharedAt) (t : ℕ) → worker_store x ≡ Some (word, value)
+      → worker_step_of s t x ≡ record { shared = with_words s x.target (stored (words_of s.words x.target) word value); worker = worker_after x Done }
+  worker_stores_word s t e = ap (λ a. worker_by x (on_worker s t x a)) (store_plan x.stage e)

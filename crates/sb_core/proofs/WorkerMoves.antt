@@ -19,7 +19,8 @@ use Rattle.sb_core.specs.Threads.{RunAt}
 use Rattle.sb_core.specs.Words.{loaded, stored, words_of}
 use Rattle.sb_core.specs.Worlds.{WorldAt, threads_at, worker_at, worker_step}
 use Rattle.sb_core.proofs.Finished.{same_test}
-use Rattle.sb_core.proofs.Moving.{given, worker_load_left, worker_store_left}
+use Rattle.sb_core.proofs.Keeping.{worker_left}
+use Rattle.sb_core.proofs.Moving.{given, worker_loads_word, worker_stores_word}
 
 -- values from a place on: the first, and those after it
 pub more_taken : (xs : List ℕ) (i k : ℕ) → i < length xs → take (suc k) (drop i xs) ≡ slice_index xs i ∷ take k (drop (i + 1) xs)
@@ -30,9 +31,6 @@ one_taken xs i l = more_taken xs i 0 l
 
 pub few_taken : (n : ℕ) (xs : List ℕ) → length (take n xs) ≤ n
 few_taken n xs = let size = length-take n xs in omega (arith, size)
-
-pub loaded_few : (words : List ℕ) (n : ℕ) (word : Word) → length (loaded_from words n word) ≤ n
-loaded_few words n word = few_taken n (drop (place_of word) words)
 
 -- a word of a block is no state
 pub not_state : (words : List ℕ) (c d i v : ℕ) → i < 64 → slice_index (set words (d * 65 + (1 + i)) v) (c * 65 + 0) ≡ slice_index words (c * 65 + 0)
@@ -172,7 +170,8 @@ module _ (u : WorldAt) (t : ℕ) (its : (worker_at u t).target ≡ t) (within : 
       let after : worker_loads x (loaded_from here 1 word) ≡ worker_after x (Value value) =
       ap (worker_loads x) (one_taken here (place_of word) (omega (arith, l))) ∙ load_one x word value x.stage e in
       let words : set u.shared.words t here ≡ u.shared.words = set-get_or u.shared.words t [] in
-      sym (worker_load_left u t x word refl x (worker_after x (Value value)) value refl e (ap (λ s. loaded (words_of u.shared.words s) word) (sym its)) refl)
+      sym (worker_left u t x (worker_after x (Value value)) u.shared refl
+      (worker_loads_word x word u.shared t e ∙ ap (λ s. record { shared = u.shared; worker = worker_after x (Value (loaded (words_of u.shared.words s) word)) }) its))
       ∙ sym (put here (worker_loads x (loaded_from here 1 word))
       ∙ (λ i. record u { shared = record u.shared { words = words i }; workers = set u.workers t (after i) }))
 
@@ -182,8 +181,9 @@ module _ (u : WorldAt) (t : ℕ) (its : (worker_at u t).target ≡ t) (within : 
   step_store word value e =
       let one = store_one x word value x.stage e sound in
       let values : stored_from here (place_of word) (worker_values x.stage 1) ≡ stored here word value = ap (stored_from here (place_of word)) one.1 in
-      sym (worker_store_left u t x word refl value x (worker_after x Done) (with_words u.shared t (stored here word value)) refl e
-      (ap (λ s. with_words u.shared s (stored (words_of u.shared.words s) word value)) (sym its)) refl)
+      sym (worker_left u t x (worker_after x Done) (with_words u.shared t (stored here word value)) refl
+      (worker_stores_word x word value u.shared t e
+      ∙ ap (λ s. record { shared = with_words u.shared s (stored (words_of u.shared.words s) word value); worker = worker_after x Done }) its))
       ∙ sym (put (stored_from here (place_of word) (worker_values x.stage 1)) (worker_stores x 1)
       ∙ (λ i. record u { shared = with_words u.shared t (values i); workers = set u.workers t (one.0 i) }))
 

@@ -7,6 +7,7 @@ use Rattle.sb_actor.specs.Ranges.{IsSoundStage, IsSoundThreadStage}
 use Rattle.sb_actor.specs.ThreadStages.{ThreadStage, Try, Fill, Send, Wait, Fetch, Free, Abandon, Stray, Over, ThreadAt}
 use Rattle.sb_actor.specs.WorkerStages.{WorkerStage, WorkerAt}
 use Rattle.sb_actor.specs.WorkerStages as worker
+use Rattle.sb_book.specs.Histories.{JudgesBy}
 use Rattle.sb_book.specs.Readiness.{IsReady}
 use Rattle.sb_rule.specs.declared.policies.Policy.{Policy}
 use Rattle.sb_statements.specs.declared.scripts.Script.{Script}
@@ -112,3 +113,7 @@ pub record IsRunning (script : Script) (w : WorldAt) : Type 0 where
   pub targets : length w.threads ≡ length script.targets
   pub threads : (t : ℕ) → length (threads_at w t) ≡ thread_count (slice_get script.targets t)
   pub stands : (t k : ℕ) → k < length (threads_at w t) → IsAtStatement script (run_at w t k).thread
+
+-- a world runs a script, and its targets are judged by these policies
+unfoldable pub RunsUnder : List Policy → Script → WorldAt → Type 0
+RunsUnder policies script w = IsRunning script w × JudgesBy policies w.shared.book

@@ -1,7 +1,7 @@
 -- What all actors share: the channel words of each target, the holder of the turn, and the book. And what a step finds and leaves there.
 use Rattle.std.specs.Prelude.{ℕ, Bool, true, false, List, slice_set, Option, None, Some, is_none}
 use Rattle.sb_actor.specs.WorkerStages.{WorkerAt}
-use Rattle.sb_actor.specs.WorkerTable.{taken_in}
+use Rattle.sb_actor.specs.WorkerTable.{taken_in, worker_after, worker_plan}
 use Rattle.sb_actor.specs.declared.acts.Act.{Act}
 use Rattle.sb_actor.specs.declared.acts.Act.TheVariants as act
 use Rattle.sb_actor.specs.Observations.{Observation}
@@ -61,6 +61,19 @@ on_worker s target w (act.Load t word) = on_word s (act.Load t word)
 on_worker s target w (act.Store t word value) = on_word s (act.Store t word value)
 on_worker s target w (act.Exchange t word from to) = on_word s (act.Exchange t word from to)
 on_worker s target w act.Idle = on_word s act.Idle
+
+-- what a step of a worker leaves: what all share, and the worker
+pub record WorkerStep : Type 0 where
+  pub shared : SharedAt
+  pub worker : WorkerAt
+
+-- by what the step found
+abbrev pub worker_by : WorkerAt → Effect → WorkerStep
+worker_by w e = record { shared = e.shared; worker = worker_after w e.seen }
+
+-- one step of the worker of a target, which is a row of its table
+abbrev pub worker_step_of : SharedAt → ℕ → WorkerAt → WorkerStep
+worker_step_of s target w = worker_by w (on_worker s target w (worker_plan w))
 
 -- the step of a worker whose copy the book answers
 abbrev pub is_answer : Act → Bool

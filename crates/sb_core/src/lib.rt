@@ -3,11 +3,12 @@
 //
 // The steps are those of sb_actor's two tables. `specs/Worlds.antt` applies one row to the world, `specs/Shared.antt` says what a step
 // finds and leaves there, `specs/Drains.antt` and `specs/Runs.antt` fold steps into whole runs, `specs/Leaps.antt` makes several rounds
-// at once, and `specs/Laws.antt` says what holds of every run. `specs/Views.antt` says what is known of a target's actors in a world, `specs/Rules.antt` that rule S holds of it, and
-// `specs/OfScripts.antt` that each world of a script keeps it, whatever steps led there.
+// at once, and `specs/Laws.antt` says what holds of every run. `specs/Views.antt` says what is known of a target's actors in a world,
+// `specs/Rules.antt` that rule S holds of it, and `specs/OfScripts.antt` that each world of a script keeps it, whatever steps led there.
 // `specs/Fits.antt` says when a report fits its script, `specs/Origins.antt` where its words come from, `specs/Tallies.antt` how many
-// entries a channel has at most, and `specs/Findings.antt` why each statement ended with its result. What real threads did ends in `finish`: if their steps lead to a world of the script in which
-// every thread is finished, its report is that of a run by a schedule (`ends_are_runs`), so that all of this holds of it.
+// entries a channel has at most, and `specs/Findings.antt` why each statement ended with its result. What real threads did ends in
+// `finish`: if their steps lead to a world of the script in which every thread is finished, its report is that of a run by a schedule
+// (`ends_are_runs`), so that all of this holds of it.
 #![tactic(auto)]
 
 mod drains;
@@ -22,6 +23,7 @@ mod shared;
 mod starts;
 mod threads;
 mod words;
+mod workers;
 mod worlds;
 
 pub use finishes::finish;

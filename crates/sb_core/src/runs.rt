@@ -102,6 +102,7 @@ fn ended<J: Judge>(
 ///
 /// # Errors
 /// `NoMemory` if there was none for the run.
+#[tactic(auto, unfolding(crate::specs::Kept::RunsUnder))]
 pub fn run<J: Judge>(
     alloc: Global,
     judge: &J,

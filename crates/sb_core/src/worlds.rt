@@ -1,7 +1,6 @@
 // The world, and its steps.
-ghost use Rattle.std.specs.Prelude.{false, ◌≡◌, ◌<◌, ◌≤◌, length, true, Some, IfOk, OnOk, OnErr};
-ghost use Rattle.sb_actor.specs.WordSteps.{worker_load, worker_store};
-ghost use Rattle.sb_actor.specs.WorkerTable.{is_looking, worker_plan};
+ghost use Rattle.std.specs.Prelude.{false, ◌≡◌, ◌<◌, ◌≤◌, length, true, IfOk, OnOk, OnErr};
+ghost use Rattle.sb_actor.specs.WorkerTable.{worker_plan};
 ghost use Rattle.sb_actor.specs.declared.acts.Act.TheVariants.{Answer};
 ghost use Rattle.sb_book.specs.Histories.{JudgesBy};
 ghost use Rattle.sb_statements.specs.declared.schedules.Actor.TheVariants.{Thread};
@@ -20,11 +19,12 @@ use crate::leaps::move_targets;
 use crate::shared::Shared;
 use crate::starts::{first_threads, first_words, first_workers};
 use crate::threads::TargetThreads;
+use crate::workers::make_step;
 use sb_actor::WorkerState;
 use sb_book::{Book, RunStart};
 use sb_items::NoMemory;
 use sb_rule::Judge;
-use sb_statements::{Actor, SoundScript, Word, sound_parts};
+use sb_statements::{Actor, SoundScript, sound_parts};
 use std::alloc::Global;
 use std::marker::Model;
 
@@ -86,135 +86,8 @@ impl World {
         let _count = self.workers.len();
     }
 
-    // The step of the worker of a target that is at Answer.
-    #[tactic(auto, using(crate::proofs::There::worker_channel, crate::proofs::There::worker_policy, crate::proofs::Answering::has_copy, crate::proofs::Keeping::worker_keeps, crate::proofs::Keeping::worker_setting))]
-    fn answer_step<J: Judge>(
-        &mut self,
-        alloc: Global,
-        judge: &J,
-        target: u32,
-    ) -> Result<(), NoMemory>
-        requires judge { JudgesBy (J.policies judge.now) self.old.shared.book }
-        requires target { target < length self.old.workers }
-        requires plan { worker_plan (worker_at self.old target) ≡ Answer }
-        ensures ok { OnOk result (self.new ≡ worker_step self.old target) }
-        ensures err { OnErr result (self.new ≡ self.old) }
-        ensures setting { self.new.shared.book.setting ≡ self.old.shared.book.setting }
-        ensures workers { length self.new.workers ≡ length self.old.workers }
-    {
-        let at = target as usize;
-        let reply = self
-            .shared
-            .answer_copy(alloc, judge, target, &self.workers[at])?;
-        self.workers[at].accept_reply(&reply);
-        Ok(())
-    }
-
-    // The step of the worker of a target that looks at the state of a channel. Many steps are such.
-    #[inline(always)]
-    #[tactic(auto, using(crate::proofs::Keeping::worker_setting))]
-    fn look_step(&mut self, target: u32)
-        requires target { target < length self.old.workers }
-        requires looks { is_looking (worker_at self.old target).stage ≡ true }
-        ensures value { self.new ≡ worker_step self.old target }
-        ensures book { self.new.shared.book ≡ self.old.shared.book }
-        ensures workers { length self.new.workers ≡ length self.old.workers }
-    {
-        let at = target as usize;
-        let worker = &self.workers[at];
-        let state = self.shared.state(worker.target(), worker.channel());
-        self.workers[at].after_look(state);
-    }
-
-    // The step of the worker of a target that loads this word into its copy.
-    #[inline(always)]
-    #[tactic(auto, using(crate::proofs::Keeping::worker_setting))]
-    fn load_step(&mut self, target: u32, word: Word)
-        requires target { target < length self.old.workers }
-        requires loads { worker_load (worker_at self.old target) ≡ Some word }
-        ensures value { self.new ≡ worker_step self.old target }
-        ensures book { self.new.shared.book ≡ self.old.shared.book }
-        ensures workers { length self.new.workers ≡ length self.old.workers }
-    {
-        let at = target as usize;
-        let worker = &self.workers[at];
-        let value = self.shared.value(worker.target(), word);
-        self.workers[at].after_load(value);
-    }
-
-    // The step of the worker of a target that stores this value of the reply into this word.
-    #[inline(always)]
-    #[tactic(auto, using(crate::proofs::Keeping::worker_setting))]
-    fn store_step(&mut self, target: u32, word: Word, value: u64)
-        requires target { target < length self.old.workers }
-        requires stores { worker_store (worker_at self.old target) ≡ Some (word, value) }
-        ensures made { self.new ≡ worker_step self.old target }
-        ensures book { self.new.shared.book ≡ self.old.shared.book }
-        ensures workers { length self.new.workers ≡ length self.old.workers }
-    {
-        let at = target as usize;
-        let worker = &self.workers[at];
-        self.shared.store(worker.target(), word, value);
-        self.workers[at].after_store();
-    }
-
-    // The step of the worker of a target by its table.
-    #[inline(never)]
-    #[tactic(auto, using(crate::proofs::Keeping::worker_setting))]
-    fn table_step<J: Judge>(
-        &mut self,
-        alloc: Global,
-        judge: &J,
-        target: u32,
-    ) -> Result<(), NoMemory>
-        requires judge { JudgesBy (J.policies judge.now) self.old.shared.book }
-        requires target { target < length self.old.workers }
-        ensures ok { OnOk result (self.new ≡ worker_step self.old target) }
-        ensures err { OnErr result (self.new ≡ self.old) }
-        ensures cause { OnErr result (worker_plan (worker_at self.old target) ≡ Answer) }
-        ensures setting { self.new.shared.book.setting ≡ self.old.shared.book.setting }
-        ensures workers { length self.new.workers ≡ length self.old.workers }
-    {
-        let at = target as usize;
-        let Some(observed) = self.shared.work(target, self.workers[at].plan()) else {
-            return self.answer_step(alloc, judge, target);
-        };
-        self.workers[at].after(observed);
-        Ok(())
-    }
-
-    // The step of the worker of a target that serves a channel. It is apart, so that the steps of workers that look stay short.
-    #[inline(never)]
-    #[tactic(auto, using(crate::proofs::Sets::at_place))]
-    fn serve_step<J: Judge>(
-        &mut self,
-        alloc: Global,
-        judge: &J,
-        target: u32,
-    ) -> Result<(), NoMemory>
-        requires judge { JudgesBy (J.policies judge.now) self.old.shared.book }
-        requires target { target < length self.old.workers }
-        ensures ok { OnOk result (self.new ≡ worker_step self.old target) }
-        ensures err { OnErr result (self.new ≡ self.old) }
-        ensures cause { OnErr result (worker_plan (worker_at self.old target) ≡ Answer) }
-        ensures setting { self.new.shared.book.setting ≡ self.old.shared.book.setting }
-        ensures workers { length self.new.workers ≡ length self.old.workers }
-    {
-        let worker = &self.workers[target as usize];
-        if let Some(word) = worker.word_to_load() {
-            self.load_step(target, word);
-            return Ok(());
-        }
-        if let Some((word, value)) = worker.word_to_store() {
-            self.store_step(target, word, value);
-            return Ok(());
-        }
-        self.table_step(alloc, judge, target)
-    }
-
     // One step of the worker of a target.
     #[inline(always)]
-    #[tactic(auto, using(crate::proofs::Sets::at_place))]
     pub(crate) fn worker_step<J: Judge>(
         &mut self,
         alloc: Global,
@@ -229,16 +102,13 @@ impl World {
         ensures setting { self.new.shared.book.setting ≡ self.old.shared.book.setting }
         ensures workers { length self.new.workers ≡ length self.old.workers }
     {
-        if self.workers[target as usize].looking() {
-            self.look_step(target);
-            return Ok(());
-        }
-        self.serve_step(alloc, judge, target)
+        let worker = &mut self.workers[target as usize];
+        make_step(alloc, judge, &mut self.shared, target, worker)?;
+        Ok(())
     }
 
     // One step of a thread of a target. Does not allocate.
     #[inline(always)]
-    #[tactic(auto, using(crate::proofs::There::thread_there, crate::proofs::ThreadKeeping::thread_keeps))]
     fn thread_step(&mut self, script: &SoundScript, target: u32, thread: u32)
         requires running { IsRunning script.now self.old }
         requires there { is_there script.now.targets (Thread target thread) ≡ true }

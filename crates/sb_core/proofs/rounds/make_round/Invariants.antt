@@ -1,6 +1,6 @@
 use Rattle.std.proofs.Common.{◌≡◌}
 use Rattle.sb_core.specs.Actors.{first_actors}
-use Rattle.sb_core.specs.Kept.{IsRunning}
+use Rattle.sb_core.specs.Kept.{RunsUnder}
 use Rattle.sb_core.specs.Worlds.{steps}
 use Rattle.sb_core.proofs.rounds.make_round.Given as goal
 
@@ -8,4 +8,4 @@ use Rattle.sb_core.proofs.rounds.make_round.Given as goal
 abbrev pub invariant-loop-target : goal.invariant-loop-target
 invariant-loop-target g l =
     (l.world ≡ steps l.script (first_actors l.script.targets l.target) l.fn.world)
-    × IsRunning l.script l.world × (l.world.shared.book.setting ≡ l.fn.world.shared.book.setting)
+    × RunsUnder (g.J.Judge.policies l.judge) l.script l.world

@@ -1,6 +1,6 @@
 use Rattle.std.proofs.Common.{◌≡◌}
 use Rattle.sb_core.specs.Actors.{first_threads}
-use Rattle.sb_core.specs.Kept.{IsRunning}
+use Rattle.sb_core.specs.Kept.{RunsUnder}
 use Rattle.sb_core.specs.Worlds.{steps}
 use Rattle.sb_core.proofs.rounds.make_thread_steps.Given as goal
 
@@ -8,4 +8,4 @@ use Rattle.sb_core.proofs.rounds.make_thread_steps.Given as goal
 abbrev pub invariant-loop-thread : goal.invariant-loop-thread
 invariant-loop-thread g l =
     (l.world ≡ steps l.script (first_threads l.target l.thread) l.fn.world)
-    × IsRunning l.script l.world × (l.world.shared.book.setting ≡ l.fn.world.shared.book.setting)
+    × RunsUnder (g.J.Judge.policies l.judge) l.script l.world
