@@ -1,10 +1,9 @@
 -- The order of results, statement by statement.
-use Rattle.std.proofs.Common.{◌≡◌, refl, subst, sym, ap, ◌<◌, ◌≤◌, ℕ, zero, suc, ◌+◌, ◌-◌, List, [], ◌∷◌, ◌++◌, length, drop, get_or, append_assoc, add-one, drop-cons, arith}
+use Rattle.std.proofs.Common.{◌≡◌, subst, sym, ap, ◌<◌, ◌≤◌, ℕ, zero, suc, ◌+◌, ◌-◌, List, [], ◌∷◌, ◌++◌, length, drop, get_or, append_assoc, arith}
 use Rattle.std.proofs.lemmas.List.{at_drop_more}
 use Rattle.std.specs.Prelude.{Some, slice_get}
-use Rattle.sb_statements.specs.declared.scripts.TargetScript.{TargetScript}
 use Rattle.sb_statements.specs.declared.statements.Statement.{Statement}
-use Rattle.sb_audit.specs.Spots.{places_from, target_places, thread_places}
+use Rattle.sb_audit.specs.Spots.{places_from, thread_places}
 use Rattle.sb_audit.specs.declared.spots.Spot.{Spot}
 
 abbrev spot : ℕ → ℕ → ℕ → Spot
@@ -51,8 +50,3 @@ place_later t k n threads rest ss h is l =
     let g : slice_get (places_from t k 0 (get_or threads k ss) ++ (thread_places t (k + 1) (drop (k + 1) threads) ++ rest)) n ≡ slice_get (thread_places t (k + 1) (drop (k + 1) threads) ++ rest) (n - length ss) =
     subst (λ xs. slice_get (places_from t k 0 xs ++ (thread_places t (k + 1) (drop (k + 1) threads) ++ rest)) n ≡ slice_get (thread_places t (k + 1) (drop (k + 1) threads) ++ rest) (n - length ss)) is f in
     subst (λ xs. slice_get xs n ≡ slice_get (thread_places t (k + 1) (drop (k + 1) threads) ++ rest) (n - length ss)) (sym e) g
-
--- the targets that are left, the first of them apart
-pub first_target : (t : ℕ) (targets : List TargetScript) (d : TargetScript) → t < length targets
-    → target_places t (drop t targets) ≡ thread_places t 0 (get_or targets t d).threads ++ target_places (t + 1) (drop (t + 1) targets)
-first_target t targets d h = at_drop_more (target_places t) targets t d h

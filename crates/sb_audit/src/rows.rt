@@ -13,9 +13,14 @@ const MOST_ROWS: usize = 32;
 
 /// The replies of the entries on clean channels that have marks of one thread: each at the place of its call, up to the last place that
 /// has one. Contracts see the list.
-#[derive(Drop)]
 pub(crate) struct Row {
     slots: Vec<Option<OwnReply>>,
+}
+
+impl Drop for Row {
+    fn drop(self) {
+        let Row { slots: _ } = self;
+    }
 }
 
 impl Model for Row {
@@ -53,9 +58,14 @@ impl Row {
 }
 
 /// The rows of all threads of a script. Contracts see the list of the rows, four for each of 8 targets.
-#[derive(Drop)]
 pub(crate) struct Rows {
     rows: Vec<Row>,
+}
+
+impl Drop for Rows {
+    fn drop(self) {
+        let Rows { rows: _ } = self;
+    }
 }
 
 impl Model for Rows {

@@ -31,12 +31,22 @@ use std::marker::Model;
 
 /// What is kept of the lines that were read: the namespace that their performed calls led to, how many there are of each kind, whether
 /// the totals were read, and the replies of the entries on clean channels. Contracts see these.
-#[derive(Drop)]
 pub(crate) struct Walk {
     kernel: Kernel,
     totals: TotalsLine,
     has_totals: bool,
     rows: Rows,
+}
+
+impl Drop for Walk {
+    fn drop(self) {
+        let Walk {
+            kernel: _,
+            totals: _,
+            has_totals: _,
+            rows: _,
+        } = self;
+    }
 }
 
 impl Model for Walk {

@@ -63,10 +63,6 @@ or_true : (b : Bool) → (b || true) ≡ true
 or_true true = refl
 or_true false = refl
 
-pub all_true : {A : Type 0} (p : A → Bool) (xs : List A) → ((n : ℕ) (x : A) → slice_get xs n ≡ Some x → p x ≡ true) → list_all p xs ≡ true
-all_true p [] h = refl
-all_true p (x ∷ xs) h = rw (h 0 x refl, all_true p xs (λ n y e. h (suc n) y e)) refl
-
 pub any_true : {A : Type 0} (p : A → Bool) (xs : List A) (x : A) → IsIn x xs → p x ≡ true → list_any p xs ≡ true
 any_true p [] x (n, h) t = absurd (none-some x h)
 any_true p (y ∷ ys) x (zero, h) t =

@@ -21,7 +21,6 @@ use Rattle.sb_core.specs.Results.{AreAllResults, result_at}
 use Rattle.sb_lineread.specs.Printed.{shown_call, shown_entry, shown_reply, shown_result, shown_result_line}
 use Rattle.sb_lineread.specs.declared.lines.EntryLine.{EntryLine}
 use Rattle.sb_lineread.specs.declared.lines.Line.{Line}
-use Rattle.sb_lineread.specs.declared.lines.ShownResult.{ShownResult}
 use Rattle.sb_rule.specs.declared.policies.Policy.{Policy}
 use Rattle.sb_statements.specs.Actors.{thread_count}
 use Rattle.sb_statements.specs.Scripts.{is_clean}
@@ -354,10 +353,6 @@ shown_all script test m (e ∷ es) h =
     and_from (test (shown_entry script m e)) (list_all test (shown_entries script (m + 1) es)) (h 0 m e refl) (shown_all script test (m + 1) es (λ n j d g. h (suc n) j d g))
 
 -- ---- the line of a result
-
-needs_none : (script : Script) (entries : List EntryLine) (t mark : ℕ) (r : ShownResult) → needs_entry script t r ≡ false
-    → (not (needs_entry script t r) || has_entry script entries t mark r) ≡ true
-needs_none script entries t mark r h = ap (λ b. not b || has_entry script entries t mark r) h
 
 entry_is_there : (script : Script) (entries : List Entry) (results : List (List (List StmtResult))) → IsCommon script entries results
     → (t k i : ℕ) (s : Statement) (r : StmtResult) → result_at results t k i ≡ Some r → statement_at script t k i ≡ Some s
