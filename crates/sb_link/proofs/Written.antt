@@ -85,9 +85,6 @@ new_back links link h k n =
     ap (named_from links link) parts.0 ∙ ap (named_to links link) parts.1 ∙ ap (same links link) k
     ∙ ap (many links link) (few_enough (length links) n)
 
-any_last : (a b : Bool) → (a || b) ≡ false → b ≡ false
-any_last a b h = (or_false a b h).1
-
 none_after : (name : List ℕ) (done : List Link) (link : Link) (more : List Link) → list_any (is_from name) (done ++ link ∷ more) ≡ false → is_from name link ≡ false
 none_after name [] link more h = (or_false (is_from name link) (list_any (is_from name) more) h).0
 none_after name (first ∷ done) link more h = none_after name done link more (or_false (is_from name first) _ h).1

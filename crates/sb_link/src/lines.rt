@@ -5,20 +5,16 @@ ghost use Rattle.sb_link.specs.Lines.{linked_line, place_text, stop_text, stoppe
 use crate::stops::Stop;
 use sb_call::{CallTag, call_word};
 use sb_items::NoMemory;
-use sb_wide::{put_decimal, put_named};
+use sb_wide::put_named;
 
 // Appends why a call stopped.
 fn put_stop(line: &mut Vec<u8>, stop: Stop) -> Result<(), NoMemory>
     ensures { OnOk result (line.new.items ≡ line.old.items ++ stop_text stop) }
 {
     match stop {
-        Stop::Loop(parameter) => {
-            line.extend_from_slice(b"loop ")?;
-            put_decimal(line, u64::from(parameter))?;
-        }
-        Stop::TooBig => line.extend_from_slice(b"too-big")?,
+        Stop::Loop(parameter) => put_named(line, b"loop ", u64::from(parameter)),
+        Stop::TooBig => Ok(line.extend_from_slice(b"too-big")?),
     }
-    Ok(())
 }
 
 // Appends `stopped`, the name of a target, a channel and a mark.

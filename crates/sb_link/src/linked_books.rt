@@ -140,7 +140,7 @@ impl LinkedBook {
         ensures err { OnErr result (self.new ≡ self.old) }
     {
         self.log.reserve(1)?;
-        let stopped = match link(alloc, &self.links, taken) {
+        match link(alloc, &self.links, taken) {
             Ok(copy) => {
                 let at = self.book.entries().len();
                 let reply = answer_copy(alloc, &mut self.book, judge, target, channel, &copy)?;
@@ -148,20 +148,21 @@ impl LinkedBook {
                     taken: taken.copy(),
                     at,
                 });
-                return Ok(reply);
+                Ok(reply)
             }
-            Err(Refused::Fault(stopped)) => stopped,
-            Err(Refused::NoMemory) => return Err(NoMemory),
-        };
-        self.log.push_reserved(Linked::Stopped {
-            target,
-            channel,
-            taken: taken.copy(),
-            tag: stopped.tag,
-            stop: stopped.stop,
-            reply: stopped_reply(taken.mark()),
-        });
-        Ok(stopped_reply(taken.mark()))
+            Err(Refused::Fault(stopped)) => {
+                self.log.push_reserved(Linked::Stopped {
+                    target,
+                    channel,
+                    taken: taken.copy(),
+                    tag: stopped.tag,
+                    stop: stopped.stop,
+                    reply: stopped_reply(taken.mark()),
+                });
+                Ok(stopped_reply(taken.mark()))
+            }
+            Err(Refused::NoMemory) => Err(NoMemory),
+        }
     }
 
     /// The book.

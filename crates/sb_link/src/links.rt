@@ -21,12 +21,17 @@ pub const MOST_UNITS: usize = 256;
 pub const MOST_STEPS: u32 = 8;
 
 /// A link: names that are `from`, or have it before a `\`, lead to `to`.
-#[derive(Drop)]
 pub struct Link {
     /// The name that is replaced.
     pub from: Wide,
     /// The name that replaces it.
     pub to: Wide,
+}
+
+impl Drop for Link {
+    fn drop(self) {
+        let Link { from: _, to: _ } = self;
+    }
 }
 
 /// At most 64 links, each with two names of at most 256 units. No two begin with the same name. Contracts see the list of them.

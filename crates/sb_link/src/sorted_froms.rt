@@ -1,5 +1,5 @@
 // The FROMs of links in order, and the walk over them that finds the longest which applies to a name.
-ghost use Rattle.std.specs.Prelude.{◌≡◌, ◌+◌, ◌<◌, ◌≤◌, ◌^◌, IfOk, None, [], drop, length, not, ◌==◌, option_map};
+ghost use Rattle.std.specs.Prelude.{◌≡◌, ◌+◌, ◌<◌, ◌≤◌, ◌^◌, ◌++◌, ◌∷◌, IfOk, None, OnOk, [], drop, length, not, ◌==◌, option_map};
 ghost use Rattle.sb_wide.specs.Wide.{folded};
 ghost use Rattle.sb_link.specs.Resolution.{ends_component, is_longer};
 ghost use Rattle.sb_link.specs.SortedFroms.{common, differs, entry_after, from_at, inserted, is_before, is_other, is_whole, longer_at, longer_by, next_common, next_unit, walked};
@@ -12,7 +12,7 @@ use std::alloc::Global;
 const BACKSLASH: u16 = 92;
 
 /// One of the FROMs in order.
-#[derive(Clone, Copy, Debug)]
+#[derive(Clone, Copy)]
 pub(crate) struct SortedFrom {
     /// The place of its link in the list, from 0.
     pub place: usize,
@@ -113,6 +113,26 @@ fn entry_after(before: &[u16], place: usize, from: &[u16]) -> SortedFrom
     }
 }
 
+// Appends the entry of a FROM, of the link at this place, after another FROM; that of the link of the next entry, whose FROM is given, after
+// it; and all later entries.
+#[tactic(auto, using(crate::proofs::Inserted::put_one_more))]
+fn put_from(
+    all: &mut Vec<SortedFrom>,
+    before: &[u16],
+    from: &[u16],
+    place: usize,
+    next: &SortedFrom,
+    next_from: &[u16],
+    later: &[SortedFrom],
+) -> Result<(), NoMemory>
+    ensures { OnOk result (all.new.items ≡ all.old.items ++ entry_after before.now place from.now ∷ entry_after from.now next.now.place next_from.now ∷ later.now) }
+{
+    all.push(entry_after(before, place, from))?;
+    all.push(entry_after(from, next.place, next_from))?;
+    all.extend_from_slice(later)?;
+    Ok(())
+}
+
 // The index with one more FROM, of the link at this place, below those that come before it.
 #[tactic(auto, using(crate::proofs::Inserted::put_one_more))]
 pub(crate) fn index_with(
@@ -130,9 +150,7 @@ pub(crate) fn index_with(
     while let Some((entry, more)) = rest.split_first() {
         let other = from_at(links, entry.place);
         if !is_before(other, from) {
-            all.push(entry_after(before, place, from))?;
-            all.push(entry_after(from, entry.place, other))?;
-            all.extend_from_slice(more)?;
+            put_from(&mut all, before, from, place, entry, other, more)?;
             return Ok(all);
         }
         all.push(*entry)?;

@@ -12,7 +12,7 @@ use sb_items::{NoMemory, Refused};
 use std::alloc::Global;
 
 /// Why a call stops before it is judged.
-#[derive(Clone, Copy, Debug)]
+#[derive(Clone, Copy)]
 pub enum Stop {
     /// This parameter, from 0, is a name to which a link still applies after 8 steps; no earlier parameter is.
     Loop(u32),
@@ -21,7 +21,7 @@ pub enum Stop {
 }
 
 /// A call that stops.
-#[derive(Clone, Copy, Debug)]
+#[derive(Clone, Copy)]
 pub struct StoppedCall {
     /// The tag of the call.
     pub tag: CallTag,

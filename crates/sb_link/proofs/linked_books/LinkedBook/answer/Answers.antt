@@ -21,16 +21,16 @@ invariant_of-self-in-Ok g c =
     let whole : new ≡ answered_by old target channel taken (Ok copy) = λ i. record { links = c.self.inside.links; history = book i; log = log i } in
     subst IsLinkedHistory (sym whole) (entry_is_linked old target channel taken copy c.self.invariant c.in-Ok.ensures.copy c.in-Ok.ensures.resolved)
 
-pub returns-in-Ok-clause-reply : goal.returns-in-Ok-clause-reply
-returns-in-Ok-clause-reply g c =
+pub returns-in_ok-reply-in-Ok-clause-reply : goal.returns-in_ok-reply-in-Ok-clause-reply
+returns-in_ok-reply-in-Ok-clause-reply g c =
     let old : LinkedHistory = record { links = c.self.inside.links; history = c.self.inside.book; log = c.self.inside.log.items } in
     let target = c.args.target in
     let taken = c.args.taken.now in
     let reply : c.in_ok-reply-in-Ok.reply ≡ reply_by old target taken (Ok c.in-Ok.copy) = search rules in
     reply ∙ ap (reply_by old target taken) (sym c.in-Ok.ensures.copy) ∙ ap (λ (s : LinkedHistory). linked_reply s target taken) c.self.view_is
 
-pub returns-in-Ok-clause-ok : goal.returns-in-Ok-clause-ok
-returns-in-Ok-clause-ok g c =
+pub returns-in_ok-reply-in-Ok-clause-ok : goal.returns-in_ok-reply-in-Ok-clause-ok
+returns-in_ok-reply-in-Ok-clause-ok g c =
     let old : LinkedHistory = record { links = c.self.inside.links; history = c.self.inside.book; log = c.self.inside.log.items } in
     let target = c.args.target in
     let channel = c.args.channel in
@@ -42,16 +42,16 @@ returns-in-Ok-clause-ok g c =
     let whole : new ≡ answered_by old target channel taken (Ok copy) = λ i. record { links = c.self.inside.links; history = book i; log = log i } in
     whole ∙ ap (answered_by old target channel taken) (sym c.in-Ok.ensures.copy) ∙ ap (λ (s : LinkedHistory). answered_linked s target channel taken) c.self.view_is
 
-pub invariant_of-self-2 : goal.invariant_of-self-2
-invariant_of-self-2 g c =
+pub invariant_of-self-in-Err-Fault : goal.invariant_of-self-in-Err-Fault
+invariant_of-self-in-Err-Fault g c =
     let old : LinkedHistory = record { links = c.self.inside.links; history = c.self.inside.book; log = c.self.inside.log.items } in
     let target = c.args.target in
     let channel = c.args.channel in
     let taken = c.args.taken.now in
     let stopped = c.in-Err-Fault.stopped in
     let stops : linked old.links taken ≡ Err stopped = search rules in
-    let log : c.push_reserved-2.new.self.items
+    let log : c.push_reserved-in-Err-Fault.new.self.items
     ≡ old.log ++ item.Stopped target channel taken stopped.tag stopped.stop (stopped_reply (mark_of taken)) ∷ [] = search rules in
-    let new : LinkedHistory = record { links = c.self.inside.links; history = c.self.inside.book; log = c.push_reserved-2.new.self.items } in
+    let new : LinkedHistory = record { links = c.self.inside.links; history = c.self.inside.book; log = c.push_reserved-in-Err-Fault.new.self.items } in
     let whole : new ≡ answered_by old target channel taken (Err stopped) = λ i. record { links = c.self.inside.links; history = c.self.inside.book; log = log i } in
     subst IsLinkedHistory (sym whole) (stop_is_linked old target channel taken stopped c.self.invariant stops)
