@@ -1,10 +1,10 @@
 // The messages of files of links.
 ghost use Rattle.std.specs.Prelude.{◌≡◌, IfOk, string_bytes};
-ghost use Rattle.sb_message.specs.LinkMessages.{link_words, link_names, link_cause, link_message};
+ghost use Rattle.sb_message.specs.LinkMessages.{link_words, link_names, link_message};
 
-use crate::causes::{cause_text, names_word, word_words};
-use crate::messages::{FaultyText, TextFault, text_message};
-use crate::places::shown_place;
+use crate::causes::{names_word, word_words};
+use crate::messages::{FaultyText, TextFault};
+use crate::places::fault_message;
 use sb_items::NoMemory;
 use sb_link::{LinkFault, LinkKind};
 use sb_text::WordFault;
@@ -33,12 +33,6 @@ fn link_names(kind: LinkKind) -> bool
     }
 }
 
-fn link_cause(alloc: Global, kind: LinkKind, named: &str) -> Result<String, NoMemory>
-    ensures { IfOk result (λ cause. string_bytes cause ≡ link_cause kind named.now) }
-{
-    cause_text(alloc, link_words(kind), link_names(kind), named)
-}
-
 /// The message of the fault of a file of links: what is wrong, the place in the file, whose name is as the user gave it, and the line that has the
 /// fault with a caret under its column. `line` is that line without its line end; it may be empty if the column is 0.
 ///
@@ -58,7 +52,12 @@ pub fn link_message(
         column: fault.column,
         kind: fault.kind.number(),
     };
-    let shown = shown_place(alloc, place.text, place.column, line)?;
-    let cause = link_cause(alloc, fault.kind, shown.named.as_str())?;
-    text_message(alloc, place, cause.as_str(), file, shown.lines.as_str())
+    fault_message(
+        alloc,
+        place,
+        link_words(fault.kind),
+        link_names(fault.kind),
+        file,
+        line,
+    )
 }

@@ -1,10 +1,10 @@
 // The messages of files of moves.
 ghost use Rattle.std.specs.Prelude.{◌≡◌, ◌++◌, OnOk, IfOk, string_bytes};
-ghost use Rattle.sb_message.specs.MoveMessages.{move_words, move_names, move_cause, move_message};
+ghost use Rattle.sb_message.specs.MoveMessages.{move_words, move_names, move_message};
 
 use crate::causes::{names_word, put_no_target, put_words, word_words};
-use crate::messages::{FaultyText, TextFault, text_message};
-use crate::places::shown_place;
+use crate::messages::{FaultyText, TextFault};
+use crate::places::fault_message;
 use sb_dup::{MoveFault, MoveKind};
 use sb_items::NoMemory;
 use sb_text::WordFault;
@@ -38,17 +38,6 @@ fn move_names(kind: MoveKind) -> bool
     }
 }
 
-fn move_cause(alloc: Global, kind: MoveKind, named: &str) -> Result<String, NoMemory>
-    ensures { IfOk result (λ cause. string_bytes cause ≡ move_cause kind named.now) }
-{
-    let mut cause = String::new(alloc);
-    put_move_words(&mut cause, kind)?;
-    if move_names(kind) {
-        cause.push_str(named)?;
-    }
-    Ok(cause)
-}
-
 /// The message of the fault of a file of moves: what is wrong, the place in the file, whose name is as the user gave it, and the line that has the
 /// fault with a caret under its column. `line` is that line without its line end; it may be empty if the column is 0.
 ///
@@ -68,7 +57,14 @@ pub fn move_message(
         column: fault.column,
         kind: fault.kind.number(),
     };
-    let shown = shown_place(alloc, place.text, place.column, line)?;
-    let cause = move_cause(alloc, fault.kind, shown.named.as_str())?;
-    text_message(alloc, place, cause.as_str(), file, shown.lines.as_str())
+    let mut words = String::new(alloc);
+    put_move_words(&mut words, fault.kind)?;
+    fault_message(
+        alloc,
+        place,
+        words.as_str(),
+        move_names(fault.kind),
+        file,
+        line,
+    )
 }

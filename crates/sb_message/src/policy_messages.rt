@@ -1,10 +1,10 @@
 // The messages of policy texts.
 ghost use Rattle.std.specs.Prelude.{◌≡◌, IfOk, string_bytes};
-ghost use Rattle.sb_message.specs.PolicyMessages.{limit_words, policy_words, policy_names, policy_cause, policy_message};
+ghost use Rattle.sb_message.specs.PolicyMessages.{limit_words, policy_words, policy_names, policy_message};
 
-use crate::causes::{cause_text, names_word, pattern_words, word_words};
-use crate::messages::{FaultyText, TextFault, text_message};
-use crate::places::shown_place;
+use crate::causes::{names_word, pattern_words, word_words};
+use crate::messages::{FaultyText, TextFault};
+use crate::places::fault_message;
 use sb_items::NoMemory;
 use sb_ruletext::{PolicyFault, PolicyFaultKind, PolicyLimit};
 use sb_text::WordFault;
@@ -67,12 +67,6 @@ fn policy_names(kind: PolicyFaultKind) -> bool
     }
 }
 
-fn policy_cause(alloc: Global, kind: PolicyFaultKind, named: &str) -> Result<String, NoMemory>
-    ensures { IfOk result (λ cause. string_bytes cause ≡ policy_cause kind named.now) }
-{
-    cause_text(alloc, policy_words(kind), policy_names(kind), named)
-}
-
 /// The message of the fault of a policy file: what is wrong, the place in the file, whose name is as the user gave it, and the line that has the fault
 /// with a caret under its column. `line` is that line without its line end; it may be empty if the column is 0.
 ///
@@ -92,7 +86,12 @@ pub fn policy_message(
         column: fault.column,
         kind: fault.kind.number(),
     };
-    let shown = shown_place(alloc, place.text, place.column, line)?;
-    let cause = policy_cause(alloc, fault.kind, shown.named.as_str())?;
-    text_message(alloc, place, cause.as_str(), file, shown.lines.as_str())
+    fault_message(
+        alloc,
+        place,
+        policy_words(fault.kind),
+        policy_names(fault.kind),
+        file,
+        line,
+    )
 }

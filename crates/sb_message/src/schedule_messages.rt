@@ -1,10 +1,10 @@
 // The messages of schedule texts.
 ghost use Rattle.std.specs.Prelude.{◌≡◌, IfOk, string_bytes};
-ghost use Rattle.sb_message.specs.ScheduleMessages.{schedule_words, schedule_names, schedule_cause, schedule_message};
+ghost use Rattle.sb_message.specs.ScheduleMessages.{schedule_words, schedule_names, schedule_message};
 
-use crate::causes::{cause_text, names_word, word_words};
-use crate::messages::{FaultyText, TextFault, text_message};
-use crate::places::shown_place;
+use crate::causes::{names_word, word_words};
+use crate::messages::{FaultyText, TextFault};
+use crate::places::fault_message;
 use sb_items::NoMemory;
 use sb_scheduletext::{ScheduleFault, ScheduleKind};
 use sb_text::WordFault;
@@ -38,12 +38,6 @@ fn schedule_names(kind: ScheduleKind) -> bool
     }
 }
 
-fn schedule_cause(alloc: Global, kind: ScheduleKind, named: &str) -> Result<String, NoMemory>
-    ensures { IfOk result (λ cause. string_bytes cause ≡ schedule_cause kind named.now) }
-{
-    cause_text(alloc, schedule_words(kind), schedule_names(kind), named)
-}
-
 /// The message of the fault of a schedule file: what is wrong, the place in the file, whose name is as the user gave it, and the line that has the
 /// fault with a caret under its column. `line` is that line without its line end; it may be empty if the column is 0.
 ///
@@ -63,7 +57,12 @@ pub fn schedule_message(
         column: fault.column,
         kind: fault.kind.number(),
     };
-    let shown = shown_place(alloc, place.text, place.column, line)?;
-    let cause = schedule_cause(alloc, fault.kind, shown.named.as_str())?;
-    text_message(alloc, place, cause.as_str(), file, shown.lines.as_str())
+    fault_message(
+        alloc,
+        place,
+        schedule_words(fault.kind),
+        schedule_names(fault.kind),
+        file,
+        line,
+    )
 }
