@@ -1,10 +1,10 @@
 -- What commands come to if memory runs out, and what is known of a file that was read.
-use Rattle.std.proofs.Common.{◌≡◌, ℕ, inr, List, Option}
-use Rattle.std.specs.Prelude.{Result, Ok, Err}
+use Rattle.std.proofs.Common.{◌≡◌, ℕ, inr, sym, subst, List, Option}
+use Rattle.std.specs.Prelude.{IfOk, Result, Ok, Err}
 use Rattle.std.proofs.lemmas.Bool.{false≢true}
 use Rattle.sb_outside.specs.Outside.{Held}
 use Rattle.sb_statements.specs.declared.schedules.Schedule.{Schedule}
-use Rattle.sb_plain.specs.Coming.{IsFound, IsFoundBy, IsFoundOnThreads}
+use Rattle.sb_plain.specs.Coming.{IsEndCaused, IsFound, IsFoundBy, IsFoundOnThreads, IsTextCaused, ReportedEnd, end_or_refusal, reported}
 use Rattle.sb_plain.specs.Contents.{Content, Refusal, no_schedule, refused}
 use Rattle.sb_plain.specs.Ends.{Contents, End, IsHeld, Meaning, OnThreads, Plain}
 use Rattle.sb_plain.specs.declared.outcomes.Status.TheVariants.{NoMemory}
@@ -35,3 +35,9 @@ on_threads meaning names held refusal h = record {
   ordered = λ k. absurd (false≢true k);
   is = h.is;
 }
+
+-- the cause of an end that was made, or of the refusal if there was no memory for it
+pub end_caused : {E : Type 0} (held : Option Held) (rose : Type 0) (end : End) (made : Result ReportedEnd E) → IsTextCaused held rose end.text
+    → IfOk made (λ found. found ≡ reported end) → IsEndCaused held rose (end_or_refusal made)
+end_caused held rose end (Ok found) cause e = subst (λ (x : ReportedEnd). IsTextCaused held rose x.text) (sym e) cause
+end_caused held rose end (Err fault) cause e = tt

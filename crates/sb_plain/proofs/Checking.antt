@@ -1,15 +1,16 @@
 -- What `check` comes to.
 use Rattle.std.proofs.Common.{◌≡◌, ◌∙◌, refl, sym, ap, subst, inl, inr, ℕ, List, length, Option, lit≤}
-use Rattle.std.specs.Prelude.{IsOkAnd, IfSome, Result, Ok, Err, ◌∷◌, []}
+use Rattle.std.specs.Prelude.{IfOk, IsOkAnd, IfSome, Result, Ok, Err, ◌∷◌, []}
 use Rattle.sb_outside.specs.Outside.{Held}
 use Rattle.sb_rule.specs.declared.policies.Policy.{Policy}
 use Rattle.sb_text.specs.Steps.{◌>>=◌}
 use Rattle.sb_plain.specs.Check.{check_end, printed_end}
-use Rattle.sb_plain.specs.Coming.{IsFound, IsFoundFor, IsRead, IsReadBy, ReportedEnd, reported}
-use Rattle.sb_plain.specs.Contents.{Content, Refusal, noted_policies_in, policies_in}
+use Rattle.sb_plain.specs.Coming.{IsFound, IsFoundFor, IsRead, IsReadBy, ReportedEnd, end_or_refusal, reported}
+use Rattle.sb_plain.specs.Contents.{Content, Refusal, noted_policies_in, policies_in, refused}
 use Rattle.sb_plain.specs.Ends.{Contents, End, Plain}
 use Rattle.sb_plain.specs.Sound.{AreEndsSound, IsSound}
-use Rattle.sb_plain.proofs.Carrying.{Known}
+use Rattle.sb_plain.specs.declared.outcomes.Status.TheVariants.{NoMemory}
+use Rattle.sb_plain.proofs.Carrying.{Known, starved}
 use Rattle.sb_plain.proofs.Readings.{bound, same_end}
 use Rattle.sb_plain.proofs.Suiting.{EndsPlainly, IsSuited, RefusesFor, next, of_policies}
 
@@ -42,7 +43,7 @@ check_unread held policy refusal h = record {
     by (inr (inl u)) = inr (inl (1, u, refl))
     by (inr (inr m)) = inr (inr m)
 
-pub check_done : (held : Option Held) (policy : List ℕ) (noted : Noted) (end : ReportedEnd) → Known noted_policies_in held policy noted
+check_done : (held : Option Held) (policy : List ℕ) (noted : Noted) (end : ReportedEnd) → Known noted_policies_in held policy noted
     → end ≡ reported (printed_end noted.0 noted.1) → IsFound check_end (policy ∷ []) held (Ok end)
 check_done held policy noted end h e = record {
   contents = h.0 ∷ [];
@@ -51,6 +52,12 @@ check_done held policy noted end h e = record {
       subst (λ x. IsOkAnd x (λ y. end ≡ reported y)) (noted_once h.0 (policies_in h.0))
       (subst (λ x. IsOkAnd (x >>= end_of) (λ y. end ≡ reported y)) (sym h.2) e);
 }
+
+-- the end is reached, unless memory ran out
+pub check_made : {E : Type 0} (held : Option Held) (policy : List ℕ) (noted : Noted) (made : Result ReportedEnd E) → Known noted_policies_in held policy noted
+    → IfOk made (λ end. end ≡ reported (printed_end noted.0 noted.1)) → IsFound check_end (policy ∷ []) held (end_or_refusal made)
+check_made held policy noted (Ok end) h e = check_done held policy noted end h e
+check_made held policy noted (Err fault) h e = starved (Plain check_end) (policy ∷ []) held (refused NoMemory) refl
 
 -- ---- its statuses, and its runs
 

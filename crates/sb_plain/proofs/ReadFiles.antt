@@ -1,20 +1,24 @@
 -- How the content of a file becomes what is read of it.
 use Rattle.std.proofs.Common.{◌≡◌, ◌∙◌, refl, sym, ap, subst, ℕ, ◌+◌, ◌<◌, ◌≤◌, inl, inr, true, false, nat_le, List, length, replicate, Option, None, Some, arith, Bool, cond}
-use Rattle.std.specs.Prelude.{IsSomeAnd, Result, Ok, Err, ◌∷◌, [], map}
+use Rattle.std.specs.Prelude.{IfOk, IsSomeAnd, Result, Ok, Err, ◌∷◌, [], map}
 use Rattle.std.proofs.lemmas.Bool.Decides.{nat_tests}
 use Rattle.std.proofs.lemmas.List.{length-replicate}
+use Rattle.sb_items.specs.Refusals.{GivesAs}
+use Rattle.sb_items.specs.declared.refusals.Refused.{Refused}
+use Rattle.sb_items.specs.declared.refusals.Refused.TheVariants as given
 use Rattle.sb_outside.specs.Outside.{Held, IsContent, IsMissing, IsTooLong}
 use Rattle.sb_outside.specs.declared.files.FileFault.{FileFault}
 use Rattle.sb_outside.specs.declared.files.FileFault.TheVariants as file
 use Rattle.sb_text.specs.Steps.{◌>>=◌}
 use Rattle.sb_core.specs.declared.runs.Ran.{Ran}
+use Rattle.sb_rule.specs.declared.policies.Policies.{Policies}
 use Rattle.sb_rule.specs.declared.policies.Policy.{Policy}
 use Rattle.sb_ruletext.specs.PolicyTexts.{PolicyFault, reading}
 use Rattle.sb_scripttext.specs.ScriptTexts.{ScriptFault}
 use Rattle.sb_statements.specs.declared.schedules.Schedule.{Schedule}
 use Rattle.sb_statements.specs.declared.scripts.Script.{Script}
 use Rattle.sb_plain.specs.Coming.{GivesBy, IsCausedBy, IsRead, IsLaterBy, IsReadBy, IsScheduled, IsTextCaused}
-use Rattle.sb_plain.specs.Contents.{Content, Refusal, most_bytes, noted_policies_in, policies_by, refused, refused_at, schedule_in, script_by, status_of, text_in, text_within}
+use Rattle.sb_plain.specs.Contents.{Content, Refusal, most_bytes, noted_policies_in, policies_by, policies_refusal, refused, refused_at, schedule_in, script_by, status_of, text_in, text_within}
 use Rattle.sb_plain.specs.Ends.{AreContents, Contents, IsHeld}
 use Rattle.sb_plain.specs.Endings.{IsCaused}
 use Rattle.sb_plain.specs.Replay.{run_text, schedule_of}
@@ -88,21 +92,12 @@ text_unread seen most n held name rose file.NoMemory f m t = ((content_of held n
 
 -- ---- what is read of the text
 
-pub then_read : {A B : Type 0} (seen : B → A) (n : ℕ) (next : List ℕ → Result A Refusal) (held : Option Held) (name text : List ℕ) (r : Result B Refusal)
-    → ((content : Content) × IsHeld held name content × (text_in n content ≡ Ok text)) → GivesBy seen (next text) r
-    → IsRead seen n (λ content. text_in n content >>= next) held name r
-then_read seen n next held name text (Ok x) h g = (h.0, h.1, ap (λ r. r >>= next) h.2 ∙ g)
-then_read seen n next held name text (Err refusal) h (inl g) = (h.0, h.1, inl (ap (λ r. r >>= next) h.2 ∙ g))
-then_read seen n next held name text (Err refusal) h (inr g) = (h.0, h.1, inr (inr g))
-
-pub not_read : {A B C : Type 0} (before : C → List ℕ) (seen : B → A) (n : ℕ) (next : List ℕ → Result A Refusal) (held : Option Held) (name : List ℕ) (refusal : Refusal)
-    → IsRead {A = List ℕ} {B = C} before n (text_in n) held name (Err refusal) → IsRead seen n (λ content. text_in n content >>= next) held name (Err refusal)
-not_read before seen n next held name refusal h = (h.0, h.1, by h.2)
-  where
-    by : IsReadBy before n (text_in n) h.0 (Err refusal) → IsReadBy seen n (λ content. text_in n content >>= next) h.0 (Err refusal)
-    by (inl e) = inl (ap (λ r. r >>= next) e)
-    by (inr (inl u)) = inr (inl u)
-    by (inr (inr m)) = inr (inr m)
+-- a policy text that is refused
+pub policies_unread : {B : Type 0} (seen : B → List Policy) (text : List ℕ) (found : Result (List Policy) PolicyFault) (why : Refused PolicyFault) (refusal : Refusal)
+    → GivesAs seen found (Err why) → refusal ≡ policies_refusal text why → GivesBy seen (policies_by text found) (Err refusal)
+policies_unread seen text found (given.Fault fault) refusal g e =
+    inl (subst (λ (x : Refusal). policies_by text found ≡ Err x) (sym e) (ap (policies_by text) g))
+policies_unread seen text found given.NoMemory refusal g e = inr e
 
 -- ---- causes
 
@@ -151,9 +146,20 @@ kept_text : (b : Bool) (held text : List ℕ) → cond b (Ok held) (Err (refused
 kept_text true held text e = cc
 kept_text false held text e = cc
 
-pub noted_found : (content : Content) (text : List ℕ) (policies : List Policy) → text_in 1 content ≡ Ok text → policies_by text (reading text) ≡ Ok policies
+noted_found : (content : Content) (text : List ℕ) (policies : List Policy) → text_in 1 content ≡ Ok text → policies_by text (reading text) ≡ Ok policies
     → noted_policies_in content ≡ Ok (Some text, policies)
 noted_found None text policies t p = cc
 noted_found (Some held) text policies t p =
     (λ i. (t i >>= λ x. policies_by x (reading x)) >>= λ q. Ok (Some held, q)) ∙ (λ i. p i >>= λ q. Ok (Some held, q))
     ∙ ap (λ (h : List ℕ). Ok (Some h, policies)) (kept_text (nat_le (length held) most_bytes) held text t)
+
+-- the same of what was read of it
+pub noted_read : (held : Option Held) (name text : List ℕ) (r : Result (List ℕ × Policies) Refusal)
+    → ((content : Content) × IsHeld held name content × (text_in 1 content ≡ Ok text))
+    → GivesBy (λ (n : List ℕ × Policies). n.1.list) (policies_by text (reading text)) r → IfOk r (λ n. n.0 ≡ text)
+    → IsRead (λ (n : List ℕ × Policies). (Some n.0, n.1.list)) 1 noted_policies_in held name r
+noted_read held name text (Ok n) h g same =
+    (h.0, h.1, subst (λ (t : List ℕ). noted_policies_in h.0 ≡ Ok (Some t, n.1.list)) (sym same) (noted_found h.0 text n.1.list h.2 g))
+noted_read held name text (Err refusal) h (inl g) same =
+    (h.0, h.1, inl ((λ i. (h.2 i >>= λ x. policies_by x (reading x)) >>= λ q. Ok (h.0, q)) ∙ (λ i. g i >>= λ q. Ok (h.0, q))))
+noted_read held name text (Err refusal) h (inr g) same = (h.0, h.1, inr (inr g))

@@ -1,17 +1,17 @@
 -- What commands come to that read policies, a script, and then what comes after them.
 use Rattle.std.proofs.Common.{◌≡◌, ◌∙◌, refl, sym, ap, subst, ℕ, inl, inr, List, Option, None}
-use Rattle.std.specs.Prelude.{IsOkAnd, Result, Ok, Err, ◌∷◌, []}
+use Rattle.std.specs.Prelude.{IfOk, IsOkAnd, Result, Ok, Err, ◌∷◌, []}
 use Rattle.sb_book.specs.ReadyScripts.{Ready}
 use Rattle.sb_outside.specs.Outside.{Held}
 use Rattle.sb_rule.specs.declared.policies.Policy.{Policy}
 use Rattle.sb_statements.specs.declared.scripts.Script.{Script}
 use Rattle.sb_text.specs.Steps.{◌>>=◌}
-use Rattle.sb_plain.specs.Coming.{IsFound, IsFoundFor, IsLater, IsLaterBy, IsOpened, IsOpenedBy, IsRead, IsReadBy, ReportedEnd, reported}
+use Rattle.sb_plain.specs.Coming.{IsFound, IsFoundFor, IsLater, IsLaterBy, IsOpened, IsOpenedBy, IsRead, IsReadBy, ReportedEnd, end_or_refusal, reported}
 use Rattle.sb_plain.specs.Contents.{Content, Refusal, policies_in, refused, script_in}
-use Rattle.sb_plain.specs.Ends.{Contents, End, without}
+use Rattle.sb_plain.specs.Ends.{Contents, End, Plain, without}
 use Rattle.sb_plain.specs.ScriptEnds.{opened_of, script_end, third_by}
-use Rattle.sb_plain.specs.declared.outcomes.Status.TheVariants.{Missing}
-use Rattle.sb_plain.proofs.Carrying.{Known}
+use Rattle.sb_plain.specs.declared.outcomes.Status.TheVariants.{Missing, NoMemory}
+use Rattle.sb_plain.proofs.Carrying.{Known, starved}
 use Rattle.sb_plain.proofs.ReadFiles.{are_rest, content_of, is_held, rest_of}
 use Rattle.sb_plain.proofs.Readings.{bound, same_end}
 
@@ -33,7 +33,7 @@ module _ (held : Option Held) (policy script : List ℕ) where
       by (inr (inl u)) = inr (inl u)
       by (inr (inr m)) = inr (inr (inr m))
 
-  pub unread_script : (policies : List Policy) (refusal : Refusal) → Known policies_in held policy policies
+  unread_script : (policies : List Policy) (refusal : Refusal) → Known policies_in held policy policies
       → IsRead (λ (s : Script). s) 2 (script_in policies) held script (Err refusal) → IsOpened held policy script (Err refusal)
   unread_script policies refusal p h = (p.0, h.0, p.1, h.1, by h.2)
     where
@@ -42,12 +42,17 @@ module _ (held : Option Held) (policy script : List ℕ) where
       by (inr (inl u)) = inr (inr (inl (u, ap (λ x. x >>= with_script None) p.2)))
       by (inr (inr m)) = inr (inr (inr m))
 
-  pub both_read : (policies : List Policy) (ready : Ready) → Known policies_in held policy policies → ready.policies ≡ policies
+  both_read : (policies : List Policy) (ready : Ready) → Known policies_in held policy policies → ready.policies ≡ policies
       → Known (script_in policies) held script ready.script → IsOpened held policy script (Ok ready)
   both_read policies ready p same s = (p.0, s.0, p.1, s.1, is)
     where
       is : opened_of p.0 s.0 ≡ Ok ready
       is = ap (λ x. x >>= with_script s.0) p.2 ∙ (ap (λ x. x >>= both policies) s.2 ∙ ap (λ ps. both ps ready.script) (sym same))
+
+  pub script_read : (policies : List Policy) (r : Result Ready Refusal) → Known policies_in held policy policies → IfOk r (λ ready. ready.policies ≡ policies)
+      → IsRead (λ (ready : Ready). ready.script) 2 (script_in policies) held script r → IsOpened held policy script r
+  script_read policies (Ok ready) p same s = both_read policies ready p same s
+  script_read policies (Err refusal) p same s = unread_script policies refusal p s
 
 -- ---- what comes after them
 
@@ -117,7 +122,7 @@ module _ {A : Type 0} (later : List Policy → Script → Contents → Result A 
           by (inr (inr m)) = inr (inr m)
 
       -- the end is reached
-      pub finished : (x : A) (found : ReportedEnd) → IsLater (later ready.policies ready.script) held names (Ok x)
+      finished : (x : A) (found : ReportedEnd) → IsLater (later ready.policies ready.script) held names (Ok x)
           → found ≡ reported (end ready.policies ready.script x) → IsFound (script_end later end) (policy ∷ script ∷ names) held (Ok found)
       finished x found h e = record {
         contents = opened.0 ∷ opened.1 ∷ h.0;
@@ -127,6 +132,12 @@ module _ {A : Type 0} (later : List Policy → Script → Contents → Result A 
             to_later h.0 ∙ ap (λ r. r >>= λ y. Ok (end ready.policies ready.script y)) h.2 in
             subst (λ r. IsOkAnd r (λ y. found ≡ reported y)) (sym is) e;
       }
+
+      -- the end is reached, unless memory ran out
+      pub made_end : {E : Type 0} (x : A) (made : Result ReportedEnd E) → IsLater (later ready.policies ready.script) held names (Ok x)
+          → IfOk made (λ found. found ≡ reported (end ready.policies ready.script x)) → IsFound (script_end later end) (policy ∷ script ∷ names) held (end_or_refusal made)
+      made_end x (Ok found) h e = finished x found h e
+      made_end x (Err fault) h e = starved (Plain (script_end later end)) (policy ∷ script ∷ names) held (refused NoMemory) refl
 
 -- ---- a third file alone
 

@@ -71,6 +71,11 @@ pub record ReportedEnd : Type 0 where
 abbrev pub reported : End → ReportedEnd
 reported end = record { text = end.text; report = report_of end; noted = end.noted }
 
+-- an end that was made, or the refusal if there was no memory for it
+abbrev pub end_or_refusal : {E : Type 0} → Result ReportedEnd E → Result ReportedEnd Refusal
+end_or_refusal (Ok end) = Ok end
+end_or_refusal (Err fault) = Err (refused NoMemory)
+
 -- the end of a run of this script: it puts its transcript if no thread is unfinished
 abbrev pub reported_run : Script → Ran → ReportedEnd
 reported_run script r = record { text = run_text script r r.unfinished; report = Some r.report; noted = None }

@@ -1,5 +1,7 @@
 -- What the files of a command hold, by their place in the command, and what is read of each.
 use Rattle.std.specs.Prelude.{ℕ, nat_le, List, [], length, Option, None, Some, Result, Ok, Err, if◌then◌else◌}
+use Rattle.sb_items.specs.declared.refusals.Refused.{Refused}
+use Rattle.sb_items.specs.declared.refusals.Refused.TheVariants as given
 use Rattle.sb_outside.specs.declared.files.FileFault.{FileFault}
 use Rattle.sb_outside.specs.declared.files.FileFault.TheVariants as file
 use Rattle.sb_rule.specs.declared.policies.Policy.{Policy}
@@ -59,6 +61,11 @@ status_of file.NoMemory n = NoMemory
 abbrev pub policies_by : List ℕ → Result (List Policy) PolicyFault → Result (List Policy) Refusal
 policies_by text (Ok policies) = Ok policies
 policies_by text (Err fault) = Err (refused_at fault.line text (PolicyRefused fault))
+
+-- the refusal of a text of which no policies were read
+abbrev pub policies_refusal : List ℕ → Refused PolicyFault → Refusal
+policies_refusal text (given.Fault fault) = refused_at fault.line text (PolicyRefused fault)
+policies_refusal text given.NoMemory = refused NoMemory
 
 -- the policies of the first file
 abbrev pub policies_in : Content → Result (List Policy) Refusal

@@ -2,14 +2,14 @@
 ghost use Rattle.std.specs.Prelude.{◌≡◌, ◌≤◌, ◌<◌, ◌+◌, ◌^◌, ◌⊎◌, ◌∷◌, [], length, MatchOption, None, Some, IfOk, OnOk};
 ghost use Rattle.sb_audit.specs.Audited.{audited};
 ghost use Rattle.sb_outside.specs.Outside.{Rose};
-ghost use Rattle.sb_plain.specs.Audit.{answer_by, answer_in, answer_to, answered_end, audit_end, raw_line, refuted_at, yes_line};
-ghost use Rattle.sb_plain.specs.Coming.{GivesBy, IsCausedBy, IsEndCaused, IsFound, IsRead, reported};
+ghost use Rattle.sb_plain.specs.Audit.{answer_by, answer_in, answer_to, audit_end, raw_line, refuted_at, yes_line};
+ghost use Rattle.sb_plain.specs.Coming.{GivesBy, IsCausedBy, IsEndCaused, IsFound, IsRead};
 ghost use Rattle.sb_plain.specs.Contents.{refused};
 
-use crate::ends::{CommandEnd, Lines, one_text};
+use crate::ends::CommandEnd;
 use crate::outcomes::Status;
 use crate::reading::{opened_in, text_within};
-use crate::refusals::Refused;
+use crate::refusals::{Refused, end_or_refusal};
 use sb_audit::{AuditAnswer, Refuted, audit};
 use sb_book::{OpenedScript, ReadyScript};
 use sb_compile::Programs;
@@ -106,17 +106,6 @@ fn answer_in<F: Files>(
     answer_to(alloc, ready, &text)
 }
 
-// The end that puts an answer.
-fn end_of_audit(alloc: Global, line: Vec<u8>) -> Result<CommandEnd, NoMemory>
-    ensures { IfOk result (λ end. end ≡ reported (answered_end line.items)) }
-{
-    Ok(CommandEnd {
-        lines: Ok(Lines::Texts(one_text(alloc, line)?)),
-        report: None,
-        noted: None,
-    })
-}
-
 /// Reads policies, a script and a transcript of at most 268,435,456 bytes, in this order, and audits the transcript under them: a transcript at
 /// which no clause fails ends with a line that tells its numbers of entries and results, and another is refused at the line of the first that does.
 pub fn audit_transcript<F: Files>(
@@ -135,5 +124,5 @@ pub fn audit_transcript<F: Files>(
     let opened = opened_in(alloc, files, policy, script)?;
     let (ready, _) = opened.into_parts();
     let line = answer_in(alloc, files, &ready, transcript)?;
-    Ok(end_of_audit(alloc, line)?)
+    end_or_refusal(CommandEnd::with_text(alloc, line))
 }

@@ -1,12 +1,13 @@
 // The command `check`: policies are read, and printed with the listings of their programs.
-ghost use Rattle.std.specs.Prelude.{◌≡◌, ◌≤◌, [], ◌∷◌, IfOk, OnOk};
+ghost use Rattle.std.specs.Prelude.{◌≡◌, ◌≤◌, [], ◌∷◌, IfOk, OnOk, Some};
 ghost use Rattle.sb_outside.specs.Outside.{Rose, joined};
-ghost use Rattle.sb_plain.specs.Check.{check_end, checked, listings};
-ghost use Rattle.sb_plain.specs.Coming.{IsEndCaused, IsFound};
+ghost use Rattle.sb_plain.specs.Check.{check_end, checked, listings, printed_end};
+ghost use Rattle.sb_plain.specs.Coming.{IsEndCaused, IsFound, reported};
 
-use crate::ends::{CommandEnd, Lines};
+use crate::ends::{CommandEnd, Lines, two_texts};
 use crate::reading::noted_policies_in;
-use crate::refusals::Refused;
+use crate::refusals::{Refused, end_or_refusal};
+use crate::shown::Shown;
 use sb_compile::put_listing;
 use sb_items::{Items, NoMemory};
 use sb_outside::{Bytes, Files};
@@ -29,15 +30,29 @@ fn listings(alloc: Global, policies: &WellMadePolicies) -> Result<Vec<u8>, NoMem
 }
 
 // The two texts of a check: the policies, and the listings of their programs.
+#[tactic(auto, unfolding(crate::specs::Check::checked))]
 fn check_texts(alloc: Global, policies: &WellMadePolicies) -> Result<Items<Bytes>, NoMemory>
     ensures { IfOk result (λ texts. joined texts ≡ checked policies.now.list) }
 {
     let printed = print_policies(alloc, policies)?;
     let listed = listings(alloc, policies)?;
-    let mut texts = Items::empty(alloc);
-    texts.push(Bytes::new(printed))?;
-    texts.push(Bytes::new(listed))?;
-    Ok(texts)
+    two_texts(alloc, printed, listed)
+}
+
+// The end that prints policies, of this text.
+fn end_of_check(
+    alloc: Global,
+    text: Shown,
+    policies: &WellMadePolicies,
+) -> Result<CommandEnd, NoMemory>
+    ensures { IfOk result (λ end. end ≡ reported (printed_end (Some text) policies.now.list)) }
+{
+    let texts = check_texts(alloc, policies)?;
+    Ok(CommandEnd {
+        lines: Ok(Lines::Texts(texts)),
+        report: None,
+        noted: Some(text),
+    })
 }
 
 /// Reads the policies of a file, and prints them: they as a text, and then the listings of their programs. The notes of the file's text are told.
@@ -54,10 +69,5 @@ pub fn check_policy<F: Files>(
 {
     let noted = noted_policies_in(alloc, files, policy)?;
     let (text, policies) = noted;
-    let texts = check_texts(alloc, &policies)?;
-    Ok(CommandEnd {
-        lines: Ok(Lines::Texts(texts)),
-        report: None,
-        noted: Some(text),
-    })
+    end_or_refusal(end_of_check(alloc, text, &policies))
 }

@@ -4,6 +4,7 @@ ghost use Rattle.std.specs.List.{list_all};
 ghost use Rattle.sb_book.specs.Histories.{setting_of};
 ghost use Rattle.sb_book.specs.Reports.{result_count};
 ghost use Rattle.sb_dup.specs.Lines.{is_between};
+ghost use Rattle.sb_dup.specs.MoveLines.{lines_of_moves};
 ghost use Rattle.sb_dup.specs.MoveTexts.{reading};
 ghost use Rattle.sb_outside.specs.Outside.{Rose, joined};
 ghost use Rattle.sb_plain.specs.Coming.{GivesBy, IsCausedBy, IsEndCaused, IsFound, IsRead, reported};
@@ -15,7 +16,8 @@ ghost use Rattle.sb_plain.specs.Putting.{EndsSilently, text_of};
 use crate::ends::{CommandEnd, Lines, two_texts};
 use crate::outcomes::Status;
 use crate::reading::{no_schedule, opened_in, text_in};
-use crate::refusals::Refused;
+use crate::refusals::{Refused, end_or_refusal};
+use crate::replay::transcript_text;
 use sb_book::{OpenedScript, Report, RunStart};
 use sb_compile::Programs;
 use sb_core::{Ran, run};
@@ -23,7 +25,6 @@ use sb_dup::{Answered, Moves, MovesRefused, Passing, put_moves, read_moves};
 use sb_items::{Items, NoMemory};
 use sb_outside::{Bytes, Files};
 use sb_statements::{Script, SoundScript};
-use sb_transcript::transcript_lines;
 use std::alloc::Global;
 
 // The moves of a text, between targets of this script.
@@ -75,6 +76,15 @@ fn answers_after(
     passing.apply_each(alloc, judge, moves.as_slice())
 }
 
+// The lines of moves with their answers, and their totals.
+fn move_lines(alloc: Global, script: &Script, answers: &Answered) -> Result<Vec<u8>, NoMemory>
+    ensures { IfOk result (λ text. text.items ≡ lines_of_moves script.now answers.now) }
+{
+    let mut moved = Vec::new(alloc);
+    put_moves(&mut moved, script, answers)?;
+    Ok(moved)
+}
+
 // The transcript of a run, and the lines of the moves after it.
 #[tactic(auto, unfolding(crate::specs::Dup::moved_text))]
 fn texts_after(
@@ -89,11 +99,8 @@ fn texts_after(
     ensures { IfOk result (λ texts. joined texts ≡ moved_text judge.now.policies script.now moves.now report.now) }
 {
     let answers = answers_after(alloc, judge, moves, report)?;
-    let lines = transcript_lines(alloc, script, report)?;
-    let transcript = Vec::from_slice(alloc, lines.bytes())?;
-    let mut moved = Vec::new(alloc);
-    put_moves(&mut moved, script, &answers)?;
-    two_texts(alloc, transcript, moved)
+    let moved = move_lines(alloc, script, &answers)?;
+    two_texts(alloc, transcript_text(alloc, script, report)?, moved)
 }
 
 // What is put after a run, or the thread that it leaves unfinished.
@@ -164,5 +171,5 @@ pub fn dup_script<F: Files>(
 {
     let opened = opened_in(alloc, files, policy, script)?;
     let moves = moves_in(alloc, files, opened.script(), moves)?;
-    Ok(move_by(alloc, opened, &moves)?)
+    end_or_refusal(move_by(alloc, opened, &moves))
 }

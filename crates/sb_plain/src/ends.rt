@@ -109,6 +109,20 @@ impl Model for CommandEnd {
 }
 
 impl CommandEnd {
+    /// The end that puts this text, and has no report.
+    ///
+    /// # Errors
+    /// `NoMemory` if there was none for the list of one.
+    pub(crate) fn with_text(alloc: Global, text: Vec<u8>) -> Result<CommandEnd, NoMemory>
+        ensures { IfOk result (λ end. end ≡ record { text = Ok text.items; report = None; noted = None }) }
+    {
+        Ok(CommandEnd {
+            lines: Ok(Lines::Texts(one_text(alloc, text)?)),
+            report: None,
+            noted: None,
+        })
+    }
+
     /// The end that puts these texts, with the report of a run.
     pub fn with_report(texts: Items<Bytes>, report: Report) -> CommandEnd
         ensures { result ≡ record { text = Ok (joined texts); report = Some report; noted = None } }

@@ -6,10 +6,10 @@ ghost use Rattle.sb_outside.specs.Outside.{Rose};
 ghost use Rattle.sb_plain.specs.Coming.{GivesBy, IsCausedBy, IsEndCaused, IsFound, IsRead, reported};
 ghost use Rattle.sb_plain.specs.Linked.{calls_end, calls_text, linked_end, links_by, links_in};
 
-use crate::ends::{CommandEnd, Lines, one_text};
+use crate::ends::CommandEnd;
 use crate::outcomes::Status;
 use crate::reading::{opened_in, text_in};
-use crate::refusals::Refused;
+use crate::refusals::{Refused, end_or_refusal};
 use sb_book::{OpenedScript, RunStart};
 use sb_compile::Programs;
 use sb_items::NoMemory;
@@ -61,11 +61,7 @@ fn end_of_calls(alloc: Global, opened: OpenedScript, links: Links) -> Result<Com
     ensures { IfOk result (λ end. end ≡ reported (calls_end opened.policies opened.script links)) }
 {
     let text = calls_text(alloc, opened, links)?;
-    Ok(CommandEnd {
-        lines: Ok(Lines::Texts(one_text(alloc, text)?)),
-        report: None,
-        noted: None,
-    })
+    CommandEnd::with_text(alloc, text)
 }
 
 /// Reads policies, a script and links, in this order, and answers the calls of the script with their names resolved by the links.
@@ -84,5 +80,5 @@ pub fn linked_script<F: Files>(
 {
     let opened = opened_in(alloc, files, policy, script)?;
     let links = links_in(alloc, files, links)?;
-    Ok(end_of_calls(alloc, opened, links)?)
+    end_or_refusal(end_of_calls(alloc, opened, links))
 }

@@ -16,7 +16,8 @@ ghost use Rattle.sb_transcript.specs.Transcripts.{transcript};
 use crate::ends::{CommandEnd, Lines, two_texts};
 use crate::outcomes::Status;
 use crate::reading::{opened_in, schedule_of};
-use crate::refusals::Refused;
+use crate::refusals::{Refused, end_or_refusal};
+use crate::replay::transcript_text;
 use sb_book::{ReadyScript, Report, RunStart};
 use sb_compile::Programs;
 use sb_core::{Ran, run};
@@ -30,7 +31,6 @@ use sb_ruletext::read_policies_are_well_made;
 use sb_scheduletext::read_schedules_are_bounded;
 use sb_scripttext::read_scripts_are_ready;
 use sb_statements::{Schedule, Script, SoundScript};
-use sb_transcript::transcript_lines;
 use std::alloc::Global;
 use std::marker::Model;
 
@@ -77,8 +77,7 @@ fn local_texts(
     requires few { result_count report.now.results < 2 ^ 62 }
     ensures { IfOk result (λ texts. joined texts ≡ denial_lines written.now denied.now ++ transcript sent.now report.now) }
 {
-    let lines = transcript_lines(alloc, sent, report)?;
-    let transcript = Vec::from_slice(alloc, lines.bytes())?;
+    let transcript = transcript_text(alloc, sent, report)?;
     two_texts(alloc, denial_lines(alloc, written, denied)?, transcript)
 }
 
@@ -167,7 +166,7 @@ pub fn local_script<F: Files>(
     let (written, kernel) = opened.into_parts();
     let local = LocalScript::of(alloc, &written)?;
     let schedule = schedule_of(alloc, files, local.sent(), schedule)?;
-    Ok(local.run(alloc, kernel, &schedule)?)
+    end_or_refusal(local.run(alloc, kernel, &schedule))
 }
 
 /// If a script has one thread, which has only calls, then the namespace after a run by `local` that leaves nothing unfinished is that of the

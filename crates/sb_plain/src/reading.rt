@@ -8,7 +8,7 @@ ghost use Rattle.sb_scripttext.specs.ScriptTexts as scripts;
 ghost use Rattle.sb_statements.specs.Actors.{is_step_there};
 ghost use Rattle.sb_commands.specs.Commands.{named};
 ghost use Rattle.sb_plain.specs.Coming.{GivesBy, IsCausedBy, IsOpened, IsRead, IsScheduled};
-ghost use Rattle.sb_plain.specs.Contents.{most_bytes, no_schedule, noted_policies_in, policies_by, policies_in, refused, schedule_by, schedule_in, script_by, script_in, status_of, text_in, text_within};
+ghost use Rattle.sb_plain.specs.Contents.{most_bytes, no_schedule, noted_policies_in, policies_by, policies_in, policies_refusal, refused, schedule_by, schedule_in, script_by, script_in, status_of, text_in, text_within};
 ghost use Rattle.sb_plain.specs.Replay.{listed};
 
 use crate::outcomes::Status;
@@ -76,19 +76,28 @@ pub fn text_in<F: Files>(
     text_within(alloc, files, name, which, MOST_BYTES)
 }
 
-// The policies of a text.
-fn policies_by(alloc: Global, text: Vec<u8>) -> Result<WellMadePolicies, Refused>
-    requires { length text.items + 1 < 2 ^ 32 }
-    ensures policies { GivesBy (λ p. p.list) (policies_by text.items (reading text.items)) result }
+// The refusal of a text of which no policies were read.
+fn policies_refusal(refused: TextRefused, text: Vec<u8>) -> Refused
+    ensures { result ≡ policies_refusal text.items refused }
 {
-    match read_policies(alloc, &text) {
-        Ok(policies) => Ok(policies),
-        Err(TextRefused::Fault(fault)) => Err(Refused::at_line(
+    match refused {
+        TextRefused::Fault(fault) => Refused::at_line(
             Status::PolicyRefused(fault),
             fault.line,
             text,
-        )),
-        Err(TextRefused::NoMemory) => Err(Refused::new(Status::NoMemory)),
+        ),
+        TextRefused::NoMemory => Refused::new(Status::NoMemory),
+    }
+}
+
+// The policies of a text.
+fn policies_by(alloc: Global, text: Vec<u8>) -> Result<WellMadePolicies, Refused>
+    requires { length text.items + 1 < 2 ^ 32 }
+    ensures { GivesBy (λ p. p.list) (policies_by text.items (reading text.items)) result }
+{
+    match read_policies(alloc, &text) {
+        Ok(policies) => Ok(policies),
+        Err(refused) => Err(policies_refusal(refused, text)),
     }
 }
 
@@ -100,12 +109,7 @@ fn noted_policies_by(alloc: Global, text: Vec<u8>) -> Result<(Shown, WellMadePol
 {
     match read_noted_policies(alloc, &text) {
         Ok((policies, notes)) => Ok((Shown::noted(text, notes), policies)),
-        Err(TextRefused::Fault(fault)) => Err(Refused::at_line(
-            Status::PolicyRefused(fault),
-            fault.line,
-            text,
-        )),
-        Err(TextRefused::NoMemory) => Err(Refused::new(Status::NoMemory)),
+        Err(refused) => Err(policies_refusal(refused, text)),
     }
 }
 
@@ -122,12 +126,10 @@ pub fn policies_in<F: Files>(
     ensures caused { IsCausedBy (F.held files.old) (Rose (F.faults files.old) (F.faults files.new)) result }
 {
     let text = text_in(alloc, files, name, 1)?;
-    let policies = policies_by(alloc, text)?;
-    Ok(policies)
+    policies_by(alloc, text)
 }
 
 /// The text of the first file with its notes, and its policies.
-#[tactic(auto, using(crate::proofs::ReadFiles::noted_found))]
 pub fn noted_policies_in<F: Files>(
     alloc: Global,
     files: &mut F,
@@ -140,8 +142,7 @@ pub fn noted_policies_in<F: Files>(
     ensures caused { IsCausedBy (F.held files.old) (Rose (F.faults files.old) (F.faults files.new)) result }
 {
     let text = text_in(alloc, files, name, 1)?;
-    let (text, policies) = noted_policies_by(alloc, text)?;
-    Ok((text, policies))
+    noted_policies_by(alloc, text)
 }
 
 // The script of a text, for targets of these policies.
@@ -197,8 +198,7 @@ pub fn opened_in<F: Files>(
     ensures caused { IsCausedBy (F.held files.old) (Rose (F.faults files.old) (F.faults files.new)) result }
 {
     let policies = policies_in(alloc, files, policy)?;
-    let opened = script_in(alloc, files, policies, script)?;
-    Ok(opened)
+    script_in(alloc, files, policies, script)
 }
 
 /// The schedule if no file names one.

@@ -1,8 +1,10 @@
 // Why commands are not carried out.
 ghost use Rattle.std.specs.Prelude.{◌≡◌, None, Some};
+ghost use Rattle.sb_plain.specs.Coming.{end_or_refusal};
 ghost use Rattle.sb_plain.specs.Contents.{refused, refused_at};
 ghost use Rattle.sb_plain.specs.Outcomes.{IsRefusal};
 
+use crate::ends::CommandEnd;
 use crate::outcomes::{Outcome, Status};
 use crate::shown::Shown;
 use sb_items::NoMemory;
@@ -84,6 +86,16 @@ impl Refused {
             shown,
             report: None,
         }
+    }
+}
+
+/// The end that was made, or the refusal if there was no memory for it.
+pub(crate) fn end_or_refusal(end: Result<CommandEnd, NoMemory>) -> Result<CommandEnd, Refused>
+    ensures { result ≡ end_or_refusal end }
+{
+    match end {
+        Ok(end) => Ok(end),
+        Err(NoMemory) => Err(Refused::new(Status::NoMemory)),
     }
 }
 

@@ -7,12 +7,13 @@ ghost use Rattle.sb_outside.specs.Outside.{Rose};
 ghost use Rattle.sb_statements.specs.Actors.{is_step_there};
 ghost use Rattle.sb_plain.specs.Coming.{IsEndCaused, IsFound, reported, reported_run};
 ghost use Rattle.sb_plain.specs.Replay.{listed, replay_end, run_end, whole_run};
+ghost use Rattle.sb_transcript.specs.Transcripts.{transcript};
 
 use crate::ends::{CommandEnd, Lines};
 use crate::outcomes::Status;
 use crate::reading::{opened_in, schedule_of};
-use crate::refusals::Refused;
-use sb_book::{OpenedScript, RunStart};
+use crate::refusals::{Refused, end_or_refusal};
+use sb_book::{OpenedScript, Report, RunStart};
 use sb_compile::Programs;
 use sb_core::{Ran, run};
 use sb_items::NoMemory;
@@ -39,6 +40,22 @@ pub fn end_of_run(alloc: Global, script: &Script, ran: Ran) -> Result<CommandEnd
         report: Some(report),
         noted: None,
     })
+}
+
+/// The transcript of a run as one text.
+///
+/// # Errors
+/// `NoMemory` if there was none for it.
+pub(crate) fn transcript_text(
+    alloc: Global,
+    script: &Script,
+    report: &Report,
+) -> Result<Vec<u8>, NoMemory>
+    requires few { result_count report.now.results < 2 ^ 62 }
+    ensures { IfOk result (λ text. text.items ≡ transcript script.now report.now) }
+{
+    let lines = transcript_lines(alloc, script, report)?;
+    Ok(Vec::from_slice(alloc, lines.bytes())?)
 }
 
 // The run of a script by a schedule, in which calls are judged by the programs of the policies.
@@ -78,5 +95,5 @@ pub fn replay_script<F: Files>(
 {
     let opened = opened_in(alloc, files, policy, script)?;
     let schedule = schedule_of(alloc, files, opened.script(), schedule)?;
-    Ok(run_by(alloc, opened, &schedule)?)
+    end_or_refusal(run_by(alloc, opened, &schedule))
 }

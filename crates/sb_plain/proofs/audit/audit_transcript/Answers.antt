@@ -1,13 +1,11 @@
 use Rattle.sb_book.specs.ReadyScripts.{Ready}
 use Rattle.sb_outside.specs.Outside.{Held, Rose}
-use Rattle.sb_plain.proofs.Carrying.{starved}
-use Rattle.sb_plain.proofs.ScriptEnds.{finished, third_read, third_unread, unfinished, unopened}
+use Rattle.sb_plain.proofs.Carrying.{end_caused}
+use Rattle.sb_plain.proofs.ScriptEnds.{made_end, third_read, third_unread, unfinished, unopened}
 use Rattle.sb_plain.specs.Audit.{answer_after, answer_in, audit_end, audited_end}
-use Rattle.sb_plain.specs.Coming.{IsFound, IsRead, IsTextCaused, ReportedEnd}
-use Rattle.sb_plain.specs.Contents.{Refusal, refused}
-use Rattle.sb_plain.specs.Ends.{Plain}
-use Rattle.sb_plain.specs.declared.outcomes.Status.TheVariants.{NoMemory}
-use Rattle.std.proofs.Common.{◌≡◌, ◌∷◌, [], ap, refl, sym, subst, rules, ℕ, List, Option}
+use Rattle.sb_plain.specs.Coming.{IsEndCaused, IsFound, IsRead, ReportedEnd}
+use Rattle.sb_plain.specs.Contents.{Refusal}
+use Rattle.std.proofs.Common.{◌≡◌, ◌∷◌, [], refl, sym, subst, rules, ℕ, List, Option}
 use Rattle.std.specs.Prelude.{Result, Ok, Err}
 use Rattle.sb_plain.proofs.audit.audit_transcript.Goals as goal
 
@@ -18,13 +16,6 @@ returns-in_err-opened-clause-found g c =
     let is : c.from_residual.result ≡ Err refusal = search rules in
     let P : Result ReportedEnd Refusal → Type 0 = IsFound audit_end (c.args.policy.now ∷ c.args.script.now ∷ c.args.transcript.now ∷ []) held in
     subst P (sym is) (unopened answer_after audited_end held c.args.policy.now c.args.script.now (c.args.transcript.now ∷ []) refusal c.in_err-opened.ensures.opened)
-
-pub returns-in_err-end_of_audit-clause-found : goal.returns-in_err-end_of_audit-clause-found
-returns-in_err-end_of_audit-clause-found g c =
-    let held = g.F.Files.held c.args.files.now in
-    let is : c.from_residual-in_err-end_of_audit.result ≡ Err (refused NoMemory) = search rules in
-    let P : Result ReportedEnd Refusal → Type 0 = IsFound audit_end (c.args.policy.now ∷ c.args.script.now ∷ c.args.transcript.now ∷ []) held in
-    subst P (sym is) (starved (Plain audit_end) (c.args.policy.now ∷ c.args.script.now ∷ c.args.transcript.now ∷ []) held (refused NoMemory) refl)
 
 pub returns-in_err-line-clause-found : goal.returns-in_err-line-clause-found
 returns-in_err-line-clause-found g c =
@@ -50,11 +41,13 @@ returns-clause-found g c =
     let Q : Option Held → Type 0 = λ h. IsRead (λ (line : List ℕ). line) 3 (answer_in ready.policies ready.script) h c.args.transcript.now (Ok line) in
     let read : Q held = subst Q c.in_ok-opened.ensures.kept there in
     let after = third_read (answer_in ready.policies ready.script) held c.args.transcript.now (λ (line : List ℕ). line) line read in
-    let end = c.in_ok-end_of_audit.ensures in
-    finished answer_after audited_end held c.args.policy.now c.args.script.now (c.args.transcript.now ∷ []) ready c.in_ok-opened.ensures.opened line c.in_ok-end_of_audit.field-0 after end
+    let P : Result ReportedEnd Refusal → Type 0 = IsFound audit_end (c.args.policy.now ∷ c.args.script.now ∷ c.args.transcript.now ∷ []) held in
+    subst P (sym c.end_or_refusal.ensures)
+    (made_end answer_after audited_end held c.args.policy.now c.args.script.now (c.args.transcript.now ∷ []) ready c.in_ok-opened.ensures.opened line c.with_text.result after c.with_text.ensures)
 
 pub returns-clause-caused : goal.returns-clause-caused
 returns-clause-caused g c =
     let held = g.F.Files.held c.args.files.now in
     let rose = Rose (g.F.Files.faults c.args.files.now) (g.F.Files.faults c.answer_in.new.files) in
-    subst (IsTextCaused held rose) (sym (ap (λ (x : ReportedEnd). x.text) c.in_ok-end_of_audit.ensures)) tt
+    let ready = c.in_ok-opened.opened in
+    subst (IsEndCaused held rose) (sym c.end_or_refusal.ensures) (end_caused held rose (audited_end ready.policies ready.script c.in_ok-line.line.items) c.with_text.result tt c.with_text.ensures)

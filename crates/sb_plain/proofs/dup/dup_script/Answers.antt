@@ -2,17 +2,15 @@ use Rattle.sb_book.specs.Histories.{setting_of}
 use Rattle.sb_dup.specs.declared.moves.Move.{Move}
 use Rattle.sb_outside.specs.Outside.{Held, Rose}
 use Rattle.sb_statements.specs.declared.scripts.Script.{Script}
-use Rattle.sb_plain.proofs.Carrying.{starved}
+use Rattle.sb_plain.proofs.Carrying.{end_caused}
 use Rattle.sb_plain.proofs.Moving.{dup_caused}
-use Rattle.sb_plain.proofs.ScriptEnds.{finished, third_read, third_unread, unfinished, unopened}
-use Rattle.sb_plain.specs.Coming.{IsFound, IsRead, IsTextCaused, ReportedEnd}
-use Rattle.sb_plain.specs.Contents.{Refusal, refused}
+use Rattle.sb_plain.proofs.ScriptEnds.{made_end, third_read, third_unread, unfinished, unopened}
+use Rattle.sb_plain.specs.Coming.{IsEndCaused, IsFound, IsRead, ReportedEnd}
+use Rattle.sb_plain.specs.Contents.{Refusal}
 use Rattle.sb_plain.specs.Contents.{no_schedule}
 use Rattle.sb_plain.specs.Dup.{dup_end, moves_after, moves_end, moves_in}
-use Rattle.sb_plain.specs.Ends.{Plain}
 use Rattle.sb_plain.specs.Replay.{whole_run}
-use Rattle.sb_plain.specs.declared.outcomes.Status.TheVariants.{NoMemory}
-use Rattle.std.proofs.Common.{◌≡◌, ◌∷◌, [], ap, refl, sym, subst, rules, List, Option}
+use Rattle.std.proofs.Common.{◌≡◌, ◌∷◌, [], refl, sym, subst, rules, List, Option}
 use Rattle.std.specs.Prelude.{Result, Ok, Err}
 use Rattle.sb_plain.proofs.dup.dup_script.Goals as goal
 
@@ -23,13 +21,6 @@ returns-in_err-opened-clause-found g c =
     let is : c.from_residual.result ≡ Err refusal = search rules in
     let P : Result ReportedEnd Refusal → Type 0 = IsFound dup_end (c.args.policy.now ∷ c.args.script.now ∷ c.args.moves.now ∷ []) held in
     subst P (sym is) (unopened moves_after moves_end held c.args.policy.now c.args.script.now (c.args.moves.now ∷ []) refusal c.in_err-opened.ensures.opened)
-
-pub returns-in_err-move_by-clause-found : goal.returns-in_err-move_by-clause-found
-returns-in_err-move_by-clause-found g c =
-    let held = g.F.Files.held c.args.files.now in
-    let is : c.from_residual-in_err-move_by.result ≡ Err (refused NoMemory) = search rules in
-    let P : Result ReportedEnd Refusal → Type 0 = IsFound dup_end (c.args.policy.now ∷ c.args.script.now ∷ c.args.moves.now ∷ []) held in
-    subst P (sym is) (starved (Plain dup_end) (c.args.policy.now ∷ c.args.script.now ∷ c.args.moves.now ∷ []) held (refused NoMemory) refl)
 
 pub returns-in_err-moves-clause-found : goal.returns-in_err-moves-clause-found
 returns-in_err-moves-clause-found g c =
@@ -57,15 +48,15 @@ returns-clause-found g c =
     let Q : Option Held → Type 0 = λ h. IsRead (λ (m : List Move). m) 3 (moves_in ready.script) h c.args.moves.now (Ok moves) in
     let read : Q held = subst Q c.in_ok-opened.ensures.kept there in
     let after = third_read (moves_in ready.script) held c.args.moves.now (λ (m : List Move). m) moves read in
-    let end = c.in_ok-move_by.ensures in
-    finished moves_after moves_end held c.args.policy.now c.args.script.now (c.args.moves.now ∷ []) ready c.in_ok-opened.ensures.opened moves c.in_ok-move_by.field-0 after end
+    let P : Result ReportedEnd Refusal → Type 0 = IsFound dup_end (c.args.policy.now ∷ c.args.script.now ∷ c.args.moves.now ∷ []) held in
+    subst P (sym c.end_or_refusal.ensures)
+    (made_end moves_after moves_end held c.args.policy.now c.args.script.now (c.args.moves.now ∷ []) ready c.in_ok-opened.ensures.opened moves c.move_by.result after c.move_by.ensures)
 
 pub returns-clause-caused : goal.returns-clause-caused
 returns-clause-caused g c =
     let held = g.F.Files.held c.args.files.now in
     let rose = Rose (g.F.Files.faults c.args.files.now) (g.F.Files.faults c.moves_in.new.files) in
-    let policies = c.in_ok-opened.opened.policies in
-    let script = c.in_ok-opened.opened.script in
-    let ran = whole_run policies script no_schedule in
-    subst (IsTextCaused held rose) (sym (ap (λ (x : ReportedEnd). x.text) c.in_ok-move_by.ensures))
-    (dup_caused held rose (setting_of policies script).policies script c.in_ok-moves.moves ran.report ran.unfinished)
+    let ready = c.in_ok-opened.opened in
+    let ran = whole_run ready.policies ready.script no_schedule in
+    let moves = c.in_ok-moves.moves in
+    subst (IsEndCaused held rose) (sym c.end_or_refusal.ensures) (end_caused held rose (moves_end ready.policies ready.script moves) c.move_by.result (dup_caused held rose (setting_of ready.policies ready.script).policies ready.script moves ran.report ran.unfinished) c.move_by.ensures)

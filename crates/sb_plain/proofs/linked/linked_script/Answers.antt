@@ -1,13 +1,11 @@
 use Rattle.sb_link.specs.declared.links.Link.{Link}
 use Rattle.sb_outside.specs.Outside.{Held, Rose}
-use Rattle.sb_plain.proofs.Carrying.{starved}
-use Rattle.sb_plain.proofs.ScriptEnds.{finished, third_read, third_unread, unfinished, unopened}
-use Rattle.sb_plain.specs.Coming.{IsFound, IsRead, IsTextCaused, ReportedEnd}
-use Rattle.sb_plain.specs.Contents.{Refusal, refused}
-use Rattle.sb_plain.specs.Ends.{Plain}
+use Rattle.sb_plain.proofs.Carrying.{end_caused}
+use Rattle.sb_plain.proofs.ScriptEnds.{made_end, third_read, third_unread, unfinished, unopened}
+use Rattle.sb_plain.specs.Coming.{IsEndCaused, IsFound, IsRead, ReportedEnd}
+use Rattle.sb_plain.specs.Contents.{Refusal}
 use Rattle.sb_plain.specs.Linked.{calls_end, linked_end, links_after, links_in}
-use Rattle.sb_plain.specs.declared.outcomes.Status.TheVariants.{NoMemory}
-use Rattle.std.proofs.Common.{◌≡◌, ◌∷◌, [], ap, refl, sym, subst, rules, List, Option}
+use Rattle.std.proofs.Common.{◌≡◌, ◌∷◌, [], refl, sym, subst, rules, List, Option}
 use Rattle.std.specs.Prelude.{Result, Ok, Err}
 use Rattle.sb_plain.proofs.linked.linked_script.Goals as goal
 
@@ -18,13 +16,6 @@ returns-in_err-opened-clause-found g c =
     let is : c.from_residual.result ≡ Err refusal = search rules in
     let P : Result ReportedEnd Refusal → Type 0 = IsFound linked_end (c.args.policy.now ∷ c.args.script.now ∷ c.args.links.now ∷ []) held in
     subst P (sym is) (unopened links_after calls_end held c.args.policy.now c.args.script.now (c.args.links.now ∷ []) refusal c.in_err-opened.ensures.opened)
-
-pub returns-in_err-end_of_calls-clause-found : goal.returns-in_err-end_of_calls-clause-found
-returns-in_err-end_of_calls-clause-found g c =
-    let held = g.F.Files.held c.args.files.now in
-    let is : c.from_residual-in_err-end_of_calls.result ≡ Err (refused NoMemory) = search rules in
-    let P : Result ReportedEnd Refusal → Type 0 = IsFound linked_end (c.args.policy.now ∷ c.args.script.now ∷ c.args.links.now ∷ []) held in
-    subst P (sym is) (starved (Plain linked_end) (c.args.policy.now ∷ c.args.script.now ∷ c.args.links.now ∷ []) held (refused NoMemory) refl)
 
 pub returns-in_err-links-clause-found : goal.returns-in_err-links-clause-found
 returns-in_err-links-clause-found g c =
@@ -46,11 +37,13 @@ returns-clause-found g c =
     let Q : Option Held → Type 0 = λ h. IsRead (λ (l : List Link). l) 3 links_in h c.args.links.now (Ok links) in
     let read : Q held = subst Q c.in_ok-opened.ensures.kept c.in_ok-links.ensures.read in
     let after = third_read links_in held c.args.links.now (λ (l : List Link). l) links read in
-    let end = c.in_ok-end_of_calls.ensures in
-    finished links_after calls_end held c.args.policy.now c.args.script.now (c.args.links.now ∷ []) ready c.in_ok-opened.ensures.opened links c.in_ok-end_of_calls.field-0 after end
+    let P : Result ReportedEnd Refusal → Type 0 = IsFound linked_end (c.args.policy.now ∷ c.args.script.now ∷ c.args.links.now ∷ []) held in
+    subst P (sym c.end_or_refusal.ensures)
+    (made_end links_after calls_end held c.args.policy.now c.args.script.now (c.args.links.now ∷ []) ready c.in_ok-opened.ensures.opened links c.end_of_calls.result after c.end_of_calls.ensures)
 
 pub returns-clause-caused : goal.returns-clause-caused
 returns-clause-caused g c =
     let held = g.F.Files.held c.args.files.now in
     let rose = Rose (g.F.Files.faults c.args.files.now) (g.F.Files.faults c.links_in.new.files) in
-    subst (IsTextCaused held rose) (sym (ap (λ (x : ReportedEnd). x.text) c.in_ok-end_of_calls.ensures)) tt
+    let ready = c.in_ok-opened.opened in
+    subst (IsEndCaused held rose) (sym c.end_or_refusal.ensures) (end_caused held rose (calls_end ready.policies ready.script c.in_ok-links.links) c.end_of_calls.result tt c.end_of_calls.ensures)

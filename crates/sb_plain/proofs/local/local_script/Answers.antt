@@ -3,17 +3,17 @@ use Rattle.sb_commands.specs.Commands.{named}
 use Rattle.sb_local.specs.Lines.{denial_lines}
 use Rattle.sb_outside.specs.Outside.{Held, Rose}
 use Rattle.sb_statements.specs.declared.scripts.Script.{Script}
-use Rattle.sb_plain.proofs.Carrying.{starved}
+use Rattle.sb_plain.proofs.Carrying.{end_caused, starved}
 use Rattle.sb_plain.proofs.LocalRuns.{local_caused}
-use Rattle.sb_plain.proofs.ScriptEnds.{finished, unfinished, unopened}
-use Rattle.sb_plain.specs.Coming.{IsFound, IsScheduled, IsTextCaused, ReportedEnd, reported}
+use Rattle.sb_plain.proofs.ScriptEnds.{made_end, unfinished, unopened}
+use Rattle.sb_plain.specs.Coming.{IsEndCaused, IsFound, IsScheduled, ReportedEnd, reported}
 use Rattle.sb_plain.specs.Contents.{Refusal, refused}
 use Rattle.sb_plain.specs.Ends.{Plain}
 use Rattle.sb_plain.specs.Local.{local_end, local_run_end, sent_schedule_after, thinned}
 use Rattle.sb_plain.specs.Replay.{listed, whole_run}
 use Rattle.sb_plain.specs.declared.outcomes.Status.TheVariants.{NoMemory}
-use Rattle.std.proofs.Common.{◌≡◌, ◌∷◌, ap, refl, sym, subst, rules, Option}
-use Rattle.std.specs.Prelude.{Result, Ok, Err}
+use Rattle.std.proofs.Common.{◌≡◌, ◌∷◌, refl, sym, subst, rules, Option}
+use Rattle.std.specs.Prelude.{IfOk, Result, Ok, Err}
 use Rattle.sb_plain.proofs.local.local_script.Goals as goal
 
 pub returns-in_err-opened-clause-found : goal.returns-in_err-opened-clause-found
@@ -30,14 +30,6 @@ returns-in_err-local-clause-found g c =
     let held = g.F.Files.held c.args.files.now in
     let schedule = named c.args.schedule in
     let is : c.from_residual-in_err-local.result ≡ Err (refused NoMemory) = search rules in
-    let P : Result ReportedEnd Refusal → Type 0 = IsFound local_end (c.args.policy.now ∷ c.args.script.now ∷ listed schedule) held in
-    subst P (sym is) (starved (Plain local_end) (c.args.policy.now ∷ c.args.script.now ∷ listed schedule) held (refused NoMemory) refl)
-
-pub returns-in_err-run-clause-found : goal.returns-in_err-run-clause-found
-returns-in_err-run-clause-found g c =
-    let held = g.F.Files.held c.args.files.now in
-    let schedule = named c.args.schedule in
-    let is : c.from_residual-in_err-run.result ≡ Err (refused NoMemory) = search rules in
     let P : Result ReportedEnd Refusal → Type 0 = IsFound local_end (c.args.policy.now ∷ c.args.script.now ∷ listed schedule) held in
     subst P (sym is) (starved (Plain local_end) (c.args.policy.now ∷ c.args.script.now ∷ listed schedule) held (refused NoMemory) refl)
 
@@ -73,16 +65,20 @@ returns-clause-found g c =
     let mine : W ready = subst W written there in
     let Q : Option Held → Type 0 = λ h. IsScheduled (thinned ready.policies ready.script).script h (listed schedule) (Ok order) in
     let after : Q held = subst Q c.in_ok-opened.ensures.kept mine in
-    let E : Ready → Type 0 = λ w. c.in_ok-run.field-0 ≡ reported (local_run_end w.policies w.script order) in
-    let end : E ready = subst E written c.in_ok-run.ensures in
-    finished sent_schedule_after local_run_end held c.args.policy.now c.args.script.now (listed schedule) ready c.in_ok-opened.ensures.opened order c.in_ok-run.field-0 after end
+    let E : Ready → Type 0 = λ w. IfOk c.run.result (λ found. found ≡ reported (local_run_end w.policies w.script order)) in
+    let end : E ready = subst E written c.run.ensures in
+    let P : Result ReportedEnd Refusal → Type 0 = IsFound local_end (c.args.policy.now ∷ c.args.script.now ∷ listed schedule) held in
+    subst P (sym c.end_or_refusal.ensures)
+    (made_end sent_schedule_after local_run_end held c.args.policy.now c.args.script.now (listed schedule) ready c.in_ok-opened.ensures.opened order c.run.result after end)
 
 pub returns-clause-caused : goal.returns-clause-caused
 returns-clause-caused g c =
     let held = g.F.Files.held c.args.files.now in
     let rose = Rose (g.F.Files.faults c.args.files.now) (g.F.Files.faults c.schedule_of.new.files) in
     let local = c.in_ok-local.local in
+    let order = c.in_ok-schedule.schedule in
     let sent = thinned local.policies local.script in
-    let ran = whole_run local.policies sent.script c.in_ok-schedule.schedule in
-    subst (IsTextCaused held rose) (sym (ap (λ (x : ReportedEnd). x.text) c.in_ok-run.ensures))
-    (local_caused held rose (denial_lines local.script sent.denied) sent.script ran ran.unfinished)
+    let ran = whole_run local.policies sent.script order in
+    subst (IsEndCaused held rose) (sym c.end_or_refusal.ensures)
+    (end_caused held rose (local_run_end local.policies local.script order) c.run.result
+    (local_caused held rose (denial_lines local.script sent.denied) sent.script ran ran.unfinished) c.run.ensures)

@@ -1,15 +1,13 @@
 use Rattle.sb_commands.specs.Commands.{named}
 use Rattle.sb_outside.specs.Outside.{Held, Rose}
 use Rattle.sb_statements.specs.declared.scripts.Script.{Script}
-use Rattle.sb_plain.proofs.Carrying.{starved}
+use Rattle.sb_plain.proofs.Carrying.{end_caused}
 use Rattle.sb_plain.proofs.ReadFiles.{run_caused}
-use Rattle.sb_plain.proofs.ScriptEnds.{finished, unfinished, unopened}
-use Rattle.sb_plain.specs.Coming.{IsFound, IsScheduled, IsTextCaused, ReportedEnd}
-use Rattle.sb_plain.specs.Contents.{Refusal, refused}
-use Rattle.sb_plain.specs.Ends.{Plain}
+use Rattle.sb_plain.proofs.ScriptEnds.{made_end, unfinished, unopened}
+use Rattle.sb_plain.specs.Coming.{IsEndCaused, IsFound, IsScheduled, ReportedEnd}
+use Rattle.sb_plain.specs.Contents.{Refusal}
 use Rattle.sb_plain.specs.Replay.{listed, replay_end, run_end, schedule_after, whole_run}
-use Rattle.sb_plain.specs.declared.outcomes.Status.TheVariants.{NoMemory}
-use Rattle.std.proofs.Common.{◌≡◌, ◌∷◌, ap, refl, sym, subst, rules, Option}
+use Rattle.std.proofs.Common.{◌≡◌, ◌∷◌, sym, subst, rules, Option}
 use Rattle.std.specs.Prelude.{Result, Ok, Err}
 use Rattle.sb_plain.proofs.replay.replay_script.Goals as goal
 
@@ -21,14 +19,6 @@ returns-in_err-opened-clause-found g c =
     let is : c.from_residual.result ≡ Err refusal = search rules in
     let P : Result ReportedEnd Refusal → Type 0 = IsFound replay_end (c.args.policy.now ∷ c.args.script.now ∷ listed schedule) held in
     subst P (sym is) (unopened schedule_after run_end held c.args.policy.now c.args.script.now (listed schedule) refusal c.in_err-opened.ensures.opened)
-
-pub returns-in_err-run_by-clause-found : goal.returns-in_err-run_by-clause-found
-returns-in_err-run_by-clause-found g c =
-    let held = g.F.Files.held c.args.files.now in
-    let schedule = named c.args.schedule in
-    let is : c.from_residual-in_err-run_by.result ≡ Err (refused NoMemory) = search rules in
-    let P : Result ReportedEnd Refusal → Type 0 = IsFound replay_end (c.args.policy.now ∷ c.args.script.now ∷ listed schedule) held in
-    subst P (sym is) (starved (Plain replay_end) (c.args.policy.now ∷ c.args.script.now ∷ listed schedule) held (refused NoMemory) refl)
 
 pub returns-in_err-schedule-clause-found : goal.returns-in_err-schedule-clause-found
 returns-in_err-schedule-clause-found g c =
@@ -56,12 +46,15 @@ returns-clause-found g c =
     let there : R ready.script = subst R same c.in_ok-schedule.ensures.read in
     let Q : Option Held → Type 0 = λ h. IsScheduled ready.script h (listed schedule) (Ok order) in
     let after : Q held = subst Q c.in_ok-opened.ensures.kept there in
-    let end = c.in_ok-run_by.ensures in
-    finished schedule_after run_end held c.args.policy.now c.args.script.now (listed schedule) ready c.in_ok-opened.ensures.opened order c.in_ok-run_by.field-0 after end
+    let P : Result ReportedEnd Refusal → Type 0 = IsFound replay_end (c.args.policy.now ∷ c.args.script.now ∷ listed schedule) held in
+    subst P (sym c.end_or_refusal.ensures)
+    (made_end schedule_after run_end held c.args.policy.now c.args.script.now (listed schedule) ready c.in_ok-opened.ensures.opened order c.run_by.result after c.run_by.ensures)
 
 pub returns-clause-caused : goal.returns-clause-caused
 returns-clause-caused g c =
     let held = g.F.Files.held c.args.files.now in
     let rose = Rose (g.F.Files.faults c.args.files.now) (g.F.Files.faults c.schedule_of.new.files) in
-    let ran = whole_run c.in_ok-opened.opened.policies c.in_ok-opened.opened.script c.in_ok-schedule.schedule in
-    subst (IsTextCaused held rose) (sym (ap (λ (x : ReportedEnd). x.text) c.in_ok-run_by.ensures)) (run_caused held rose c.in_ok-opened.opened.script ran ran.unfinished)
+    let ready = c.in_ok-opened.opened in
+    let order = c.in_ok-schedule.schedule in
+    let ran = whole_run ready.policies ready.script order in
+    subst (IsEndCaused held rose) (sym c.end_or_refusal.ensures) (end_caused held rose (run_end ready.policies ready.script order) c.run_by.result (run_caused held rose ready.script ran ran.unfinished) c.run_by.ensures)
