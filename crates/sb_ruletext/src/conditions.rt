@@ -19,7 +19,7 @@ use sb_call::CallTag;
 use sb_pattern::{MOST_UNITS, Pattern, PatternFault, PatternRefused};
 use sb_rule::{Cond, Conds, MOST_CONDITIONS, MOST_NUMBERS, Numbers, Test};
 use sb_text::{Token, Tokens, WordFault, number_of, or_fails, string_of};
-use sb_wide::Wide;
+use sb_wide::{Wide, is_word};
 use std::alloc::Global;
 
 // N: a number.
@@ -228,12 +228,17 @@ fn test_at(alloc: Global, is_number: bool, tokens: &mut Tokens) -> Result<Test, 
     ensures { Reads (test_at is_number tokens.old) result tokens.new }
 {
     let due = tokens.copy();
-    match word_or(UnknownWord(WordFault::Quoted), tokens)? {
-        b"is" => is_at(alloc, is_number, tokens),
-        b"in" => in_at(is_number, &due, tokens),
-        b"has" => has_at(is_number, &due, tokens),
-        b"like" => like_at(alloc, is_number, &due, tokens),
-        _ => Err(due.fail(UnknownWord(WordFault::Unknown))),
+    let word = word_or(UnknownWord(WordFault::Quoted), tokens)?;
+    if is_word(word, b"is") {
+        is_at(alloc, is_number, tokens)
+    } else if is_word(word, b"in") {
+        in_at(is_number, &due, tokens)
+    } else if is_word(word, b"has") {
+        has_at(is_number, &due, tokens)
+    } else if is_word(word, b"like") {
+        like_at(alloc, is_number, &due, tokens)
+    } else {
+        Err(due.fail(UnknownWord(WordFault::Unknown)))
     }
 }
 

@@ -4,7 +4,6 @@ ghost use Rattle.sb_ruletext.specs.Kinds.{kind_number};
 
 use sb_pattern::PatternFault;
 use sb_text::{LineFault, Refused, TokenFault, WordFault};
-use thiserror::Error;
 
 /// What a policy text may have only a limited number of.
 #[derive(Clone, Copy, Debug)]
@@ -20,46 +19,33 @@ pub enum PolicyLimit {
 }
 
 /// What is wrong with a line of a policy text.
-#[derive(Clone, Copy, Debug, Error)]
+#[derive(Clone, Copy, Debug)]
 pub enum PolicyFaultKind {
     /// The text is not UTF-8.
-    #[error("the text is not UTF-8")]
     NotUtf8,
     /// The first line that is neither blank nor a comment is neither `sandbox-policy 1` nor `sandbox-policy 2`.
-    #[error("no version line")]
     BadVersion,
     /// A word that is not known here, or a token that is missing, broken or one too many.
-    #[error("unknown, missing or extra word")]
     UnknownWord(WordFault),
     /// There is no call of this name.
-    #[error("unknown call")]
     UnknownCall,
     /// The call has no parameter of this name.
-    #[error("unknown parameter")]
     UnknownParam,
     /// The test or its value does not fit the parameter.
-    #[error("wrong kind of condition or value")]
     WrongKind,
     /// No number below 2^64, or no two numbers joined by `..`.
-    #[error("bad number")]
     BadNumber,
     /// The low end of a range is above its high end.
-    #[error("empty range")]
     EmptyRange,
     /// The pattern has this fault; a string of more than 256 units is `TooLong`.
-    #[error("bad pattern: {0}")]
     BadPattern(PatternFault),
     /// One too many of these.
-    #[error("too many")]
     TooMany(PolicyLimit),
     /// An earlier policy has this name.
-    #[error("an earlier policy has this name")]
     SameName,
     /// A rule or a grant precedes the first heading.
-    #[error("no heading")]
     NoHeading,
     /// `readonly` of a call other than `file.open`, `key.open` and `event.open`.
-    #[error("not a call that can be read-only")]
     NotReadOnly,
 }
 

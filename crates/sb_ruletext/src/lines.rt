@@ -17,6 +17,7 @@ use crate::words::action_of;
 use sb_call::{CallTag, ShortName, tag_of_word};
 use sb_rule::{Action, Conds, Rule, Rules, is_for_readers};
 use sb_text::{Line, Token, Tokens, WordFault, or_fails};
+use sb_wide::is_word;
 use std::alloc::Global;
 
 // NAME: a short name that no policy so far has, or its fault at the token that was due.
@@ -199,12 +200,15 @@ pub(crate) fn line_of(
 {
     let first = line.tokens();
     let mut tokens = first.copy();
-    match word_or(UnknownWord(WordFault::Quoted), &mut tokens)? {
-        b"policy" => heading(alloc, draft, &first, &mut tokens),
-        b"grant" => add_grant(alloc, draft, line.number, &first, &mut tokens),
-        word => match action_of(version, word) {
-            Some(action) => add_rule(alloc, draft, line.number, action, &first, &mut tokens),
-            None => Err(first.fail(first_word_fault(word))),
-        },
+    let word = word_or(UnknownWord(WordFault::Quoted), &mut tokens)?;
+    if is_word(word, b"policy") {
+        return heading(alloc, draft, &first, &mut tokens);
+    }
+    if is_word(word, b"grant") {
+        return add_grant(alloc, draft, line.number, &first, &mut tokens);
+    }
+    match action_of(version, word) {
+        Some(action) => add_rule(alloc, draft, line.number, action, &first, &mut tokens),
+        None => Err(first.fail(first_word_fault(word))),
     }
 }

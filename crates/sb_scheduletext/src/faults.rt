@@ -3,26 +3,20 @@ ghost use Rattle.std.specs.Prelude.{◌≡◌};
 ghost use Rattle.sb_scheduletext.specs.Kinds.{kind_number};
 
 use sb_text::{LineFault, Refused, TokenFault, WordFault};
-use thiserror::Error;
 
 /// What is wrong with a line of a schedule text.
-#[derive(Clone, Copy, Debug, Error)]
+#[derive(Clone, Copy, Debug)]
 pub enum ScheduleKind {
     /// The first line with words is not `sandbox-schedule 1`, a line is neither `step` nor `rounds` or follows `rounds`, or
     /// a word is missing or one too many.
-    #[error("unknown, missing or extra word")]
     UnknownWord(WordFault),
     /// The word names no actor, or one that the script does not have.
-    #[error("unknown actor")]
     UnknownActor,
     /// No number, or one out of its range: steps of a line are 1 to 100,000, rounds 0 to 20,000,000.
-    #[error("bad number")]
     BadNumber,
     /// More than 100,000 steps.
-    #[error("too many steps")]
     TooMany,
     /// There is no line `rounds`.
-    #[error("no rounds")]
     NoRounds,
 }
 

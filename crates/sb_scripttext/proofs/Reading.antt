@@ -1,10 +1,8 @@
 -- Arguments: what was read, and what is left.
-use Rattle.std.proofs.Common.{◌≡◌, refl, sym, ap, ◌∙◌, List, [], ◌∷◌, ◌++◌, append-nil, append_assoc, length, Result, Ok, Err, IfOk}
+use Rattle.std.proofs.Common.{◌≡◌, refl, sym, ap, ◌∙◌, List, [], ◌∷◌, ◌++◌, append-nil, append_assoc, length, Ok, Err}
 use Rattle.sb_call.specs.declared.arguments.Arg.{Arg}
 use Rattle.sb_call.specs.declared.tags.ParamKind.{ParamKind}
 use Rattle.sb_scripttext.specs.Arguments.{arg_at, args_at}
-use Rattle.sb_scripttext.specs.ScriptTexts.{ScriptFault}
-use Rattle.sb_items.specs.Refusals.{Gives}
 use Rattle.sb_text.specs.Steps.{◌>>=◌, Read, Reads}
 use Rattle.sb_items.specs.declared.refusals.Refused.{Refused}
 use Rattle.sb_items.specs.declared.refusals.Refused.TheVariants as refused
@@ -54,9 +52,3 @@ pub args_refused : (done : List Arg) (kind : ParamKind) (kinds : List ParamKind)
     → with_args done (args_at (kind ∷ kinds) tokens) ≡ whole → Reads (arg_at kind tokens) (Err why) rest → Reads whole (Err why) after
 args_refused done kind kinds tokens rest after whole (refused.Fault fault) i h = sym i ∙ args_bad done kind kinds tokens fault h
 args_refused done kind kinds tokens rest after whole refused.NoMemory i h = tt
-
--- what holds of each value that is wanted holds of what was read
-pub holds_if_read : {A : Type 0} (P : A → Type 0) (wanted : Result A ScriptFault) (result : Result A (Refused ScriptFault)) → ((x : A) → wanted ≡ Ok x → P x)
-    → Gives wanted result → IfOk result P
-holds_if_read P wanted (Ok x) f h = f x h
-holds_if_read P wanted (Err refused) f h = tt

@@ -61,16 +61,6 @@ all_behind p before last = list_all-append p before (last ∷ []) ∙ ap (λ b. 
 pub all_more : {A : Type 0} (p : A → Bool) (before : List A) (last : A) → list_all p before ≡ true → p last ≡ true → list_all p (behind before last) ≡ true
 all_more p before last h k = all_behind p before last ∙ both _ _ h k
 
--- and with another last item
-pub all_other : {A : Type 0} (p : A → Bool) (before : List A) (last new : A) → (p last ≡ true → p new ≡ true)
-    → list_all p (behind before last) ≡ true → list_all p (behind before new) ≡ true
-all_other p before last new f h =
-    let parts = and_parts (list_all p before) (p last) (sym (all_behind p before last) ∙ h) in
-    all_more p before new parts.0 (f parts.1)
-
-same_length : {A : Type 0} (before : List A) (last new : A) → length (behind before new) ≡ length (behind before last)
-same_length before last new = length-append before (new ∷ []) ∙ sym (length-append before (last ∷ []))
-
 one_longer : {A : Type 0} (most : ℕ) (before : List A) (last : A) → nat_lt (length before) most ≡ true → nat_le (length (behind before last)) most ≡ true
 one_longer most before last h = let e : length (behind before last) ≡ length before + 1 = length-append before (last ∷ []) in grind (arith, nat_tests, h, e)
 

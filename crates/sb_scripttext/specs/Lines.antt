@@ -1,5 +1,5 @@
 -- The lines of a script text below its first.
-use Rattle.std.specs.Prelude.{ℕ, Bool, nat_eq, nat_le, List, [], ◌∷◌, length, None, Some, Result, Ok, Err, if◌then◌else◌, codes}
+use Rattle.std.specs.Prelude.{◌||◌, ℕ, Bool, nat_eq, nat_le, List, [], ◌∷◌, length, None, Some, Result, Ok, Err, if◌then◌else◌, codes}
 use Rattle.std.specs.Cmp.Lexicographic.{pointwise}
 use Rattle.std.specs.List.{list_any, position}
 use Rattle.sb_call.specs.CallWords.{is_word}
@@ -75,10 +75,17 @@ heading policies targets tokens = do
 abbrev pub misplaced : {A : Type 0} → List Lexeme → Result A (TokenFault ScriptKind)
 misplaced tokens = fails_left (with_first tokens) (UnknownWord Misplaced)
 
+-- the word begins an opening line
+abbrev pub is_opening_word : List ℕ → Bool
+is_opening_word w = list_any (λ name. is_word name w) (codes "dir" ∷ codes "file" ∷ codes "key" ∷ codes "event" ∷ [])
+
+-- the word begins a statement
+abbrev pub is_statement_word : List ℕ → Bool
+is_statement_word w = list_any (λ name. is_word name w) (codes "call" ∷ codes "store" ∷ codes "exchange" ∷ codes "load" ∷ codes "wait" ∷ [])
+
 -- the word begins a line that is allowed elsewhere in a script
 abbrev pub is_line_word : List ℕ → Bool
-is_line_word w = list_any (λ name. is_word name w)
-    (codes "dir" ∷ codes "file" ∷ codes "key" ∷ codes "event" ∷ codes "call" ∷ codes "store" ∷ codes "exchange" ∷ codes "load" ∷ codes "wait" ∷ [])
+is_line_word w = is_opening_word w || is_statement_word w
 
 -- why a line that begins with this word is out of place
 abbrev pub first_word_fault : List ℕ → ScriptKind

@@ -3,7 +3,6 @@ ghost use Rattle.std.specs.Prelude.{◌≡◌};
 ghost use Rattle.sb_scripttext.specs.Kinds.{kind_number};
 
 use sb_text::{LineFault, Refused, TokenFault, WordFault};
-use thiserror::Error;
 
 /// What a script text may have only a limited number of.
 #[derive(Clone, Copy, Debug)]
@@ -30,34 +29,26 @@ pub enum StartFault {
 }
 
 /// What is wrong with a line of a script text.
-#[derive(Clone, Copy, Debug, Error)]
+#[derive(Clone, Copy, Debug)]
 pub enum ScriptKind {
     /// The text is not UTF-8.
-    #[error("the text is not UTF-8")]
     NotUtf8,
     /// The first line that is neither blank nor a comment is not `sandbox-script 1`, a line is out of place, or a word is not known here,
     /// missing, broken or one too many.
-    #[error("unknown, missing or extra word")]
     UnknownWord(WordFault),
     /// There is no call of this name.
-    #[error("unknown call")]
     UnknownCall,
     /// An argument of a call is missing, one too many or of the wrong kind, or another statement has too few or too many words.
-    #[error("wrong arguments")]
     WrongArgs(WordFault),
     /// No number, or one out of its range: a patience and the loads of a `wait` are 1 to 1,000,000, the channels of a target
     /// 1 to 8, the kind and the initial state of an event 0 or 1, attributes and the numbers of a call below 2^32, and
     /// handles and all other numbers below 2^64.
-    #[error("bad number")]
     BadNumber,
     /// The string is no name.
-    #[error("bad name")]
     BadName,
     /// There is no policy of this name.
-    #[error("no such policy")]
     NoSuchPolicy,
     /// The target that a statement names is not there.
-    #[error("no such target")]
     NoSuchTarget {
         /// The number named.
         target: u64,
@@ -65,7 +56,6 @@ pub enum ScriptKind {
         targets: usize,
     },
     /// The channel that a statement names is not there.
-    #[error("no such channel")]
     NoSuchChannel {
         /// The number named.
         channel: u64,
@@ -75,19 +65,14 @@ pub enum ScriptKind {
         channels: u32,
     },
     /// A block word above 63.
-    #[error("no such word")]
     NoSuchWord,
     /// One more than the limit.
-    #[error("too many")]
     TooMany(ScriptLimit),
     /// The block of the call would need more than 64 words.
-    #[error("the call is too big")]
     TooBig,
     /// An earlier target has this name.
-    #[error("an earlier target has this name")]
     SameName,
     /// An opening line cannot be placed after those before it.
-    #[error("cannot be placed")]
     BadStart(StartFault),
 }
 

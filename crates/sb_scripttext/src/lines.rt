@@ -4,7 +4,7 @@ ghost use Rattle.std.specs.List.{list_any, position};
 ghost use Rattle.sb_rule.specs.WellMade.{is_named};
 ghost use Rattle.sb_scripttext.specs.Arguments.{call};
 ghost use Rattle.sb_scripttext.specs.Building.{target_script};
-ghost use Rattle.sb_scripttext.specs.Lines.{patience, new_name, new_name_at, policy_number, policy_at, heading, set_patience, add_target, add_thread, is_line_word, first_word_fault, refused_start, start_line, statement_line, plain_line, line_of};
+ghost use Rattle.sb_scripttext.specs.Lines.{patience, new_name, new_name_at, policy_number, policy_at, heading, set_patience, add_target, add_thread, is_opening_word, is_statement_word, is_line_word, first_word_fault, refused_start, start_line, statement_line, plain_line, line_of};
 ghost use Rattle.sb_scripttext.specs.Openings.{dir, file, key, event};
 ghost use Rattle.sb_scripttext.specs.Statements.{store, exchange, load, wait};
 ghost use Rattle.sb_items.specs.Refusals.{Gives};
@@ -174,19 +174,32 @@ fn add_thread(alloc: Global, draft: &mut Draft, tokens: &mut Tokens) -> Result<(
     }
 }
 
+// Whether the word begins an opening line.
+fn is_opening_word(word: &[u8]) -> bool
+    ensures { result ≡ is_opening_word word.now }
+{
+    is_word(word, b"dir")
+        || is_word(word, b"file")
+        || is_word(word, b"key")
+        || is_word(word, b"event")
+}
+
+// Whether the word begins a statement.
+fn is_statement_word(word: &[u8]) -> bool
+    ensures { result ≡ is_statement_word word.now }
+{
+    is_word(word, b"call")
+        || is_word(word, b"store")
+        || is_word(word, b"exchange")
+        || is_word(word, b"load")
+        || is_word(word, b"wait")
+}
+
 // Whether the word begins a line that is allowed elsewhere in a script.
 fn is_line_word(word: &[u8]) -> bool
     ensures { result ≡ is_line_word word.now }
 {
-    word == b"dir".as_slice()
-        || word == b"file".as_slice()
-        || word == b"key".as_slice()
-        || word == b"event".as_slice()
-        || word == b"call".as_slice()
-        || word == b"store".as_slice()
-        || word == b"exchange".as_slice()
-        || word == b"load".as_slice()
-        || word == b"wait".as_slice()
+    is_opening_word(word) || is_statement_word(word)
 }
 
 // Why a line that begins with this word is out of place.
