@@ -24,9 +24,6 @@ some_number m n h = cc
 same_number : (m n : ℕ) → m ≡ n → (m == n) ≡ true
 same_number m n h = grind (arith, nat_tests)
 
-number_same : (m n : ℕ) → (m == n) ≡ true → m ≡ n
-number_same m n h = grind (arith, nat_tests)
-
 module _ {V : Type 0} (number_of : V → ℕ) where
   none_found : (rows : Rows V) (n : ℕ) → list_all (λ row. not (number_of row.1 == n)) rows ≡ true → None ≡ name_in number_of rows n
   none_found [] n h = refl

@@ -4,7 +4,7 @@ use sb_items::Items;
 use sb_rule::Verdict;
 
 /// A move: a target gives another target a handle on what it holds open itself.
-#[derive(Clone, Copy, Debug)]
+#[derive(Clone, Copy)]
 pub struct Move {
     /// The number of the target that gives, from 0.
     pub from: u32,
@@ -20,7 +20,7 @@ pub struct Move {
 pub type Moves = Items<Move>;
 
 /// How a move is answered.
-#[derive(Clone, Copy, Debug)]
+#[derive(Clone, Copy)]
 pub enum MoveAnswer {
     /// The target was given a handle of this number with this access.
     Given { handle: u64, access: u32 },

@@ -2,7 +2,7 @@
 use Rattle.std.proofs.Common.{◌≡◌, ◌∙◌, ◌⊎◌, inl, inr, ⊎_elim, refl, sym, ap, subst, ℕ, zero, suc, ◌+◌, List, [], ◌∷◌, ◌++◌, Bool, true, false, if◌then◌else◌, Option, None, Some, arith}
 use Rattle.std.specs.Prelude.{slice_get}
 use Rattle.sb_actor.specs.Places.{or_none, threads_of}
-use Rattle.sb_block.specs.Blocks.{block, encodes}
+use Rattle.sb_block.specs.Blocks.{block}
 use Rattle.sb_block.specs.Copies.{whole}
 use Rattle.sb_block.specs.Laws.{BlocksComeBack}
 use Rattle.sb_book.specs.Decisions.{by_decoded, by_verdict, decision_of}
@@ -211,9 +211,6 @@ denied_by tag args (Rule line Alarm) h = absurd (cc)
 denied_by tag args (Rule line Fake) h = absurd (cc)
 denied_by tag args (Rule line Allow) h = absurd (cc)
 denied_by tag args (Rule line ReadOnly) h = absurd (cc)
-
-encoding_of : (targets : List TargetScript) (tag : CallTag) (args : List Arg) → is_statement targets (Call tag args) ≡ true → encodes tag args ≡ true
-encoding_of targets tag args h = h
 
 -- the broker denies the whole block of a call that its target may deny itself, whatever its mark is
 pub block_is_denied : BlocksComeBack → (policy : Policy) (targets : List TargetScript) (tag : CallTag) (args : List Arg) (mark : ℕ)

@@ -9,7 +9,7 @@ use sb_statements::Statement;
 
 /// A call that its target denies itself, without a step. Targets, threads and places are numbered from 0, as in the script before it is
 /// thinned.
-#[derive(Clone, Copy, Debug, PartialEq, Eq)]
+#[derive(Clone, Copy)]
 pub struct LocalDenial {
     /// The target.
     pub target: u32,
