@@ -6,4 +6,4 @@ mod laws;
 mod note_messages;
 
 pub use laws::{notes_are_clean, notes_are_true};
-pub use note_messages::{MOST_TOLD, notes_message, notes_text};
+pub use note_messages::{MOST_TOLD, notes_text};

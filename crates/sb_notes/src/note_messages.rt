@@ -1,12 +1,12 @@
 // Notes in words.
 ghost use Rattle.std.specs.Prelude.{◌≡◌, ◌++◌, ◌≤◌, length, take, IfOk, OnOk, string_bytes};
 ghost use Rattle.std.specs.List.{flat_map};
-ghost use Rattle.sb_notes.specs.NoteMessages.{note_headline, note_text, note_words, notes_message, notes_text, number_text};
+ghost use Rattle.sb_notes.specs.NoteMessages.{note_headline, note_text, note_words, notes_text, number_text};
 
 use sb_glyphs::put_decimal_text;
 use sb_items::NoMemory;
 use sb_message::{FaultyText, put_place};
-use sb_ruletext::{Note, NoteKind, read_notes};
+use sb_ruletext::{Note, NoteKind};
 use sb_text::line_or_empty;
 use std::alloc::Global;
 
@@ -95,15 +95,4 @@ pub fn notes_text(
     put_notes(&mut message, file, text, first_notes(notes))?;
     put_number(&mut message, notes.len())?;
     Ok(message)
-}
-
-/// The notes that a policy text has, in words.
-///
-/// # Errors
-/// `NoMemory` if there was none for the notes, or for the message.
-pub fn notes_message(alloc: Global, file: &[u8], text: &[u8]) -> Result<String, NoMemory>
-    ensures { IfOk result (λ message. string_bytes message ≡ notes_message file.now text.now) }
-{
-    let notes = read_notes(alloc, text)?;
-    notes_text(alloc, file, text, &notes)
 }

@@ -1,9 +1,11 @@
 // What of a text is shown with an outcome.
-ghost use Rattle.std.specs.Prelude.{◌≡◌, IfSome};
+ghost use Rattle.std.specs.Prelude.{◌≡◌, IfOk};
 ghost use Rattle.sb_ruletext.specs.Notes.{notes_of};
 
-use sb_ruletext::Note;
+use sb_items::NoMemory;
+use sb_ruletext::{Note, read_notes};
 use sb_text::TextPart;
+use std::alloc::Global;
 use std::marker::Model;
 
 /// What of a text is shown: a line of it, or a policy text with its notes, which are read already. Contracts see its bytes.
@@ -55,13 +57,16 @@ impl Shown {
         self.part.as_slice()
     }
 
-    /// The notes of a policy text.
-    pub fn notes(&self) -> Option<&[Note]>
-        ensures { IfSome result (λ notes. notes.now ≡ notes_of self.now) }
+    /// The notes that the bytes have as a policy text. Those that were read with the text are copied.
+    ///
+    /// # Errors
+    /// `NoMemory` if there was none for them.
+    pub fn notes(&self, alloc: Global) -> Result<Vec<Note>, NoMemory>
+        ensures { IfOk result (λ notes. notes.items ≡ notes_of self.now) }
     {
         match &self.notes {
-            Some(notes) => Some(notes.as_slice()),
-            None => None,
+            Some(notes) => Ok(Vec::from_slice(alloc, notes)?),
+            None => read_notes(alloc, self.part.as_slice()),
         }
     }
 }

@@ -13,7 +13,7 @@ use sb_message::{
     EndFault, audit_message, end_message, link_message, move_message, policy_message,
     schedule_message, script_message,
 };
-use sb_notes::{notes_message, notes_text};
+use sb_notes::notes_text;
 use sb_plain::{Outcome, Shown, Status};
 use std::alloc::Global;
 
@@ -51,10 +51,8 @@ fn shown_bytes(outcome: &Outcome) -> Option<&[u8]>
 fn notes_of_shown(alloc: Global, name: &str, shown: &Shown) -> Result<String, NoMemory>
     ensures { IfOk result (λ text. string_bytes text ≡ notes_message name.now shown.now) }
 {
-    match shown.notes() {
-        Some(notes) => notes_text(alloc, name.as_bytes(), shown.as_slice(), notes),
-        None => notes_message(alloc, name.as_bytes(), shown.as_slice()),
-    }
+    let notes = shown.notes(alloc)?;
+    notes_text(alloc, name.as_bytes(), shown.as_slice(), &notes)
 }
 
 // The notes of the text that is shown, if one is.
