@@ -1,12 +1,13 @@
-"""The two programs that are measured, `sandbox` and `sb_bench`: building and running them."""
+"""The two programs that are measured, `sandbox` and the table tests of crates/sb_tables: building and running them."""
 import os
 import resource
 import subprocess
 import sys
+import tempfile
 
 TOP = os.path.dirname(os.path.dirname(os.path.realpath(__file__)))
 SANDBOX = os.path.join(TOP, "out", "sandbox")
-BENCH = os.path.join(TOP, "crates", "sb_bench")
+TABLES = os.path.join(TOP, "crates", "sb_tables")
 
 
 # Whether a bound was missed.
@@ -35,9 +36,9 @@ def processor_seconds():
 def build():
     """Proves and builds both programs where that is not done."""
     subprocess.run([os.path.join(TOP, "sandbox"), "--version"], check=True, stdout=subprocess.DEVNULL)
-    built = subprocess.run(["rt", "run"], cwd=BENCH, stdin=subprocess.DEVNULL, capture_output=True, text=True)
+    built = subprocess.run(["rt", "run"], cwd=TABLES, stdin=subprocess.DEVNULL, capture_output=True, text=True)
     if built.returncode != 0:
-        fail("crates/sb_bench was not built\n" + built.stdout + built.stderr)
+        fail("crates/sb_tables was not built\n" + built.stdout + built.stderr)
 
 
 def transcribe(folder, words):
@@ -77,25 +78,27 @@ def outcome_of_sandbox(folder, words):
     return processor_seconds() - start, (ended.returncode, ended.stdout, ended.stderr)
 
 
-def bench_words(work, rounds, folder):
-    """The command line of a run of `sb_bench`, on `policy` and `script` of a folder where there is one."""
+def row_of(work, rounds, folder):
+    """The row of crates/sb_tables that does a work, on `policy` and `script` of a folder where there is one."""
     files = [os.path.join(folder, name) for name in ("policy", "script")] if folder else []
-    return [os.path.join(BENCH, "out", "sb_bench"), work, str(rounds)] + files
-
-
-def check_line(work, rounds, line, told):
-    if line != "%s: %s\n" % (work, told):
-        fail("%s in %d rounds put %r, not %r" % (work, rounds, line, told))
+    return " | ".join(["%s %d" % (work, rounds)] + files)
 
 
 def seconds_of(runs, work, rounds, told, folder):
-    """The seconds in which `sb_bench` does a work in the given number of rounds, in the best run. What it tells of it is `told`."""
+    """The seconds in which a row does a work in the given number of rounds, in the best run. What it tells of it is `told`."""
+    row = row_of(work, rounds, folder)
     seconds = []
-    for _ in range(runs):
-        start = processor_seconds()
-        line = subprocess.run(bench_words(work, rounds, folder), check=True, stdout=subprocess.PIPE, text=True).stdout
-        seconds.append(processor_seconds() - start)
-        check_line(work, rounds, line, told)
+    with tempfile.TemporaryDirectory() as place:
+        rows = os.path.join(place, "rows")
+        with open(rows, "w") as file:
+            file.write(row + "\n")
+        for _ in range(runs):
+            start = processor_seconds()
+            program = os.path.join(TABLES, "out", "sb_tables")
+            line = subprocess.run([program, rows], check=True, stdout=subprocess.PIPE, text=True).stdout
+            seconds.append(processor_seconds() - start)
+            if line != "%s => %s\n" % (row, told):
+                fail("%s put %r, not %r" % (row, line, told))
     return min(seconds)
 
 

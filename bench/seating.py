@@ -1,8 +1,8 @@
-"""What the threads of a run share: steps of seats on one shared memory. These are rows of crates/sb_tables_shared with greater numbers."""
+"""What the threads of a run share: steps of seats on one shared memory. These are rows of crates/sb_tables with greater numbers."""
 import programs
 import rowing
 
-CRATE = "sb_tables_shared"
+CRATE = "sb_tables"
 
 # One seat alone makes at least this number of steps per second.
 LEAST = 100_000_000

@@ -1,7 +1,7 @@
-"""What those who serve share: works drawn from a pool and handed back. These are rows of crates/sb_tables_threads with greater numbers."""
+"""What those who serve share: works drawn from a pool and handed back. These are rows of crates/sb_tables with greater numbers."""
 import rowing
 
-CRATE = "sb_tables_threads"
+CRATE = "sb_tables"
 
 
 def measure(runs):

@@ -24,6 +24,18 @@ pub enum RowFault {
     NotInRange,
     /// A text is not read as a policy.
     BadPolicy,
+    /// A row of a case has no such first word.
+    UnknownRow,
+    /// A row is outside of a case.
+    NoCase,
+    /// A case has no end.
+    NoEnd,
+    /// A row of a file comes before any file.
+    NoFile,
+    /// The case before has no file of this name.
+    NoSuchFile,
+    /// No row is tried in the case.
+    NoTry,
     /// Out of memory.
     NoMemory,
 }
@@ -41,6 +53,12 @@ impl RowFault {
             RowFault::TooMany => "too many words",
             RowFault::NotInRange => "not in range",
             RowFault::BadPolicy => "not the text of such a policy",
+            RowFault::UnknownRow => "unknown row",
+            RowFault::NoCase => "a row outside of a case",
+            RowFault::NoEnd => "the case has no end",
+            RowFault::NoFile => "no file is begun",
+            RowFault::NoSuchFile => "the case before has no such file",
+            RowFault::NoTry => "nothing is tried",
             RowFault::NoMemory => "out of memory",
         }
     }

@@ -3,7 +3,6 @@
 use crate::faults::RowFault;
 use sb_wide::Wide;
 use std::alloc::Global;
-use std::fmt::Debug;
 
 /// The arguments of a row, cut at bars. Blanks about them do not count.
 pub fn arguments<'a>(alloc: Global, rest: &'a str) -> Result<Vec<&'a str>, RowFault> {
@@ -57,11 +56,6 @@ fn put_units(text: &str, found: &mut Vec<u16>) -> Result<(), RowFault> {
         found.push(unit)?;
     }
     Ok(())
-}
-
-/// A value as its `Debug` writes it.
-pub fn debug_text<T: Debug>(alloc: Global, value: &T) -> Result<String, RowFault> {
-    Ok(format!(in alloc; "{value:?}")?)
 }
 
 /// Appends a separator, except before the first item of a list.

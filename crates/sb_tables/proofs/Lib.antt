@@ -1,0 +1,4 @@
+pub mod Counts
+mod Crossing
+mod Dealing
+mod Playing

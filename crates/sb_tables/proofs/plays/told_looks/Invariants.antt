@@ -1,0 +1,6 @@
+use Rattle.std.proofs.Common.{◌≡◌}
+use Rattle.sb_tables.proofs.plays.told_looks.Given as goal
+
+-- the seat is one of the world
+abbrev pub invariant-loop-step : goal.invariant-loop-step
+invariant-loop-step l = l.seat.table ≡ l.world.table

@@ -1,0 +1,45 @@
+// What a book is to answer.
+
+use sb_block::{BlockCopy, Words, encode};
+use sb_call::{Arg, CallTag, fits};
+use sb_rows::RowFault;
+use sb_statements::Statement;
+use std::alloc::Global;
+
+// The mark of the first call of a thread.
+const FIRST_MARK: u64 = 65536;
+
+/// The copies of the whole blocks of these calls.
+pub fn copies(alloc: Global, statements: &[Statement]) -> Result<Vec<BlockCopy>, RowFault> {
+    let mut copies = Vec::new(alloc);
+    for (statement, mark) in statements.iter().zip(FIRST_MARK..u64::MAX) {
+        copies.push(copy_with(statement, mark)?)?;
+    }
+    Ok(copies)
+}
+
+// The copy of the whole block of a call with a mark.
+fn copy_with(statement: &Statement, mark: u64) -> Result<BlockCopy, RowFault> {
+    let Statement::Call { tag, args } = statement else {
+        return Err(RowFault::BadWords);
+    };
+    let block = block_of(*tag, args.as_slice(), mark)?;
+    copy_of(block.as_slice(), block.copy())
+}
+
+// The block of a call with a mark.
+fn block_of(tag: CallTag, args: &[Arg], mark: u64) -> Result<Words, RowFault> {
+    if !fits(tag, args) {
+        return Err(RowFault::BadWords);
+    }
+    encode(tag, args, mark).map_err(|_| RowFault::BadWords)
+}
+
+// The copy of these words, if the count of the block was seen before.
+fn copy_of(block: &[u64], words: Words) -> Result<BlockCopy, RowFault> {
+    let Some(count) = block.get(2) else {
+        return Err(RowFault::BadWords);
+    };
+    let end = words.len() as u64;
+    BlockCopy::of(*count, end, words).ok_or(RowFault::BadWords)
+}

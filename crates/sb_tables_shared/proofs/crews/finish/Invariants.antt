@@ -1,6 +1,0 @@
-use Rattle.sb_shared.specs.Seats.{IsSameThread}
-use Rattle.sb_tables_shared.proofs.crews.finish.Given as goal
-
--- the seat stays if it is
-abbrev pub invariant-loop-step : goal.invariant-loop-step
-invariant-loop-step l = IsSameThread l.initial.seat l.seat
