@@ -14,12 +14,11 @@ import sys
 import time
 
 import programs
-import rowing
+import small_scripts
 import stepping
 import texts
 
 WORKERS = (1, 2, 4, 8)
-ROWS = "sb_tables_runs"
 
 # For each number of workers, this many times as many runs are made.
 TURNS = 3
@@ -203,10 +202,15 @@ def try_refused_starts():
 
 
 def check_generated():
-    """1,000 runs of small hostile scripts on 1, 2 and 8 workers, each report checked by plain code: a row of crates/sb_tables_runs
-    with a greater number."""
-    rowing.build(ROWS, "data/generated.rows")
-    rowing.seconds_of(1, ROWS, "generated 1 | 1000", "runs 1000 all right")
+    """Runs of 1,000 small hostile scripts on 1, 2 and 8 workers. `audit` has to accept the transcript of each."""
+    for number in range(1, 1001):
+        with texts.folder_with(small_scripts.POLICY, small_scripts.script(number)) as folder:
+            _, status = run(folder, run_words(small_scripts.workers(number)))
+            if status != 0:
+                programs.fail("the run of the script %d ended with status %d" % (number, status))
+            audited = subprocess.run([programs.SANDBOX, "audit", "policy", "script", "transcript"], cwd=folder, stdout=subprocess.DEVNULL)
+            if audited.returncode != 0:
+                programs.fail("the transcript of the script %d is not accepted" % number)
     print("1000 runs of generated hostile scripts: all right")
 
 

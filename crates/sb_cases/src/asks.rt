@@ -1,8 +1,7 @@
 // What the program tells of itself.
 
-use crate::faults::RowFault;
-use crate::pages::{Ends, Page};
 use sb_commands::{inquiry_of, inquiry_text};
+use sb_rows::{Ends, Page, RowFault};
 use std::alloc::Global;
 
 /// Puts what is answered to the arguments of a row `ask ARGUMENTS`, each line after a bar.
@@ -12,7 +11,7 @@ pub fn put_answer(alloc: Global, row: &str, page: &mut Page) -> Result<(), RowFa
         words.push(String::from_str(alloc, word)?)?;
     }
     let Some(inquiry) = inquiry_of(&words) else {
-        return Err(RowFault::Unknown);
+        return Err(RowFault::UnknownRow);
     };
     let text = inquiry_text(alloc, inquiry)?;
     page.put_line(row)?;

@@ -1,8 +1,7 @@
 // Statuses that no case leads to.
 
-use crate::faults::RowFault;
-use crate::pages::Page;
 use sb_plain::Status;
+use sb_rows::{Page, RowFault};
 use sb_ruletext::{PolicyFault, PolicyFaultKind, PolicyLimit};
 use sb_scheduletext::{ScheduleFault, ScheduleKind};
 use sb_scripttext::{ScriptFault, ScriptKind, StartFault};
@@ -33,7 +32,7 @@ pub fn put_far(alloc: Global, row: &str, page: &mut Page) -> Result<(), RowFault
             thread: 3,
         },
         "far memory" => Status::NoMemory,
-        _ => return Err(RowFault::Unknown),
+        _ => return Err(RowFault::UnknownRow),
     };
     let code = exit_code(status);
     let complaint = Complaint { status };

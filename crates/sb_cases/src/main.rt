@@ -11,12 +11,13 @@
 //     | TEXT                       a line as it is, with a line feed
 //     % TEXT                       bytes without a line feed, except the escapes `\n`, `\r`, `\t`, `\\` and `\xHH`, the byte of this number
 //     * N | TEXT                   a row of one of both forms, N times
-//     same policy                  the file of this name of the case before
+//     same policy                  the file of this name of the case before; `same written` is what that case wrote
 //     fails-read N, fails-put N    this read or put fails, from 1, where the finish counts as a put; `room N`: the output takes N bytes
 //     try | TEXT                   the case is run once for each such row, with its bytes where the row `$` is
-//     gate N                       the first call of each of the targets 0 to N - 1 is held until those of all have come
+//     gate N, gate N TURNS         the first call of each of the targets 0 to N - 1 is held until those of all have come, or for this many turns
 //     ends M N                     only the first M and the last N of the lines that were written are printed
 //     counts TEXT                  it is printed how many of the lines that were written end with TEXT
+//     quiet                        only the exit code is printed
 //     status                       the fault of a file that the status says is printed
 //     told                         all that is written on standard error is printed, each line after an exclamation mark
 //     end
@@ -29,18 +30,12 @@
 #![tactic(auto)]
 
 mod asks;
-mod cases;
 mod far;
-mod faults;
-mod gates;
-mod pages;
-mod rows;
+mod runs;
 mod shows;
-mod texts;
 
-use faults::RowFault;
-use pages::Page;
-use rows::Rows;
+use runs::run_case;
+use sb_rows::{CaseText, Due, Page, RowFault};
 use std::alloc::Global;
 use std::io::Write;
 use std::sync::Wait;
@@ -65,14 +60,31 @@ fn run_text<R: Threads + Wait + Sync>(
     text: &str,
     page: &mut Page,
 ) -> io::Result<usize> {
-    let mut rows = Rows::new(alloc);
+    let mut cases = CaseText::new(alloc);
     for (at, line) in text.lines().enumerate() {
-        let taken = rows.take_line(rt, alloc, at.saturating_add(1), line, page);
-        put_fault(alloc, taken, rows.line(), page)?;
+        let taken = take_line(rt, alloc, &mut cases, at.saturating_add(1), line, page);
+        put_fault(alloc, taken, cases.line(), page)?;
     }
-    let ended = rows.end_text(alloc);
-    put_fault(alloc, ended, rows.line(), page)?;
-    Ok(rows.count())
+    let ended = cases.end_text(alloc);
+    put_fault(alloc, ended, cases.line(), page)?;
+    Ok(cases.count())
+}
+
+// Takes in the line of this number, and does what is due then.
+fn take_line<'a, R: Threads + Wait + Sync>(
+    rt: &R,
+    alloc: Global,
+    cases: &mut CaseText<'a>,
+    number: usize,
+    line: &'a str,
+    page: &mut Page,
+) -> Result<(), RowFault> {
+    match cases.take_line(alloc, number, line)? {
+        Due::Nothing => Ok(()),
+        Due::Lone if line.starts_with("far") => far::put_far(alloc, line, page),
+        Due::Lone => asks::put_answer(alloc, line, page),
+        Due::Case => run_case(rt, alloc, cases, page),
+    }
 }
 
 // Puts a fault of the text as a line of its own, so that it is seen when the page is compared.
@@ -83,7 +95,8 @@ fn put_fault(
     page: &mut Page,
 ) -> io::Result<()> {
     if let Err(fault) = taken {
-        page.put_line(format!(in alloc; "FAULT line {line}: {fault}")?.as_str())?;
+        let text = fault.text();
+        page.put_line(format!(in alloc; "FAULT line {line}: {text}")?.as_str())?;
     }
     Ok(())
 }

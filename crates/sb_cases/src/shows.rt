@@ -1,32 +1,11 @@
 // What is printed of how a case ended.
 
-use crate::faults::RowFault;
-use crate::gates::GateCounts;
-use crate::pages::{Ends, Page};
 use sb_book::Report;
 use sb_plain::{Outcome, Status};
+use sb_rows::{Page, RowFault, Shown};
 use sb_top::{Complaint, exit_code, message};
 use std::alloc::Global;
-
-/// What is printed besides.
-#[derive(Clone, Copy)]
-pub struct Shown {
-    /// Whether the status is, with all that it says.
-    pub status: bool,
-    /// Whether all that is written on standard error is.
-    pub told: bool,
-    /// Which of the lines that were written are.
-    pub ends: Ends,
-}
-
-impl Shown {
-    /// All that was written.
-    pub const ALL: Shown = Shown {
-        status: false,
-        told: false,
-        ends: Ends::ALL,
-    };
-}
+use std::fmt::Debug;
 
 /// Puts how a case ended: the exit code, the count of reads and the counts of the report, if there is one, and then the line
 /// that the program would put on standard error.
@@ -38,29 +17,62 @@ pub fn put_outcome(
     page: &mut Page,
 ) -> Result<(), RowFault> {
     let status = outcome.status;
-    let code = exit_code(status);
-    let counts = counts(alloc, &outcome.report)?;
-    page.put_line(format!(in alloc; "exit {code} reads {reads}{counts}")?.as_str())?;
+    put_exit(
+        alloc,
+        &outcome.report,
+        (exit_code(status), reads),
+        shown,
+        page,
+    )?;
     if !matches!(status, Status::Done) {
-        let complaint = Complaint { status };
-        page.put_line(format!(in alloc; "{complaint}")?.as_str())?;
+        put_complaint(alloc, status, page)?;
     }
     if shown.status {
-        page.put_line(fault(alloc, status)?.as_str())?;
+        put_fault(alloc, status, page)?;
     }
     Ok(())
 }
 
-// The status with the fault of a file that it says.
-fn fault(alloc: Global, status: Status) -> Result<String, RowFault> {
-    Ok(match status {
-        Status::PolicyRefused(fault) => format!(in alloc; "status PolicyRefused({fault:?})")?,
-        Status::ScriptRefused(fault) => format!(in alloc; "status ScriptRefused({fault:?})")?,
-        Status::ScheduleRefused(fault) => format!(in alloc; "status ScheduleRefused({fault:?})")?,
-        Status::LinksRefused(fault) => format!(in alloc; "status LinksRefused({fault:?})")?,
-        Status::MovesRefused(fault) => format!(in alloc; "status MovesRefused({fault:?})")?,
-        _ => return Err(RowFault::Unknown),
-    })
+// Puts the exit code, and besides it the count of reads and the counts of the report if these are shown.
+fn put_exit(
+    alloc: Global,
+    report: &Option<Report>,
+    numbers: (u8, u64),
+    shown: Shown,
+    page: &mut Page,
+) -> Result<(), RowFault> {
+    let (code, reads) = numbers;
+    if shown.quiet {
+        return Ok(page.put_line(format!(in alloc; "exit {code}")?.as_str())?);
+    }
+    let counts = counts(alloc, report)?;
+    Ok(page.put_line(format!(in alloc; "exit {code} reads {reads}{counts}")?.as_str())?)
+}
+
+fn put_complaint(alloc: Global, status: Status, page: &mut Page) -> Result<(), RowFault> {
+    let complaint = Complaint { status };
+    Ok(page.put_line(format!(in alloc; "{complaint}")?.as_str())?)
+}
+
+// Puts the status with the fault of a file that it says.
+fn put_fault(alloc: Global, status: Status, page: &mut Page) -> Result<(), RowFault> {
+    match status {
+        Status::PolicyRefused(fault) => put_status(alloc, "PolicyRefused", &fault, page),
+        Status::ScriptRefused(fault) => put_status(alloc, "ScriptRefused", &fault, page),
+        Status::ScheduleRefused(fault) => put_status(alloc, "ScheduleRefused", &fault, page),
+        Status::LinksRefused(fault) => put_status(alloc, "LinksRefused", &fault, page),
+        Status::MovesRefused(fault) => put_status(alloc, "MovesRefused", &fault, page),
+        _ => Err(RowFault::UnknownRow),
+    }
+}
+
+fn put_status<T: Debug>(
+    alloc: Global,
+    name: &str,
+    fault: &T,
+    page: &mut Page,
+) -> Result<(), RowFault> {
+    Ok(page.put_line(format!(in alloc; "status {name}({fault:?})")?.as_str())?)
 }
 
 /// Puts what the program writes on standard error, each line after an exclamation mark.
@@ -75,12 +87,6 @@ pub fn put_message(
         page.put_line(format!(in alloc; "! {line}")?.as_str())?;
     }
     Ok(())
-}
-
-/// Puts how many calls came to a gate, and how many of them were held until its limit.
-pub fn put_gate_counts(alloc: Global, passed: GateCounts, page: &mut Page) -> Result<(), RowFault> {
-    let GateCounts { calls, late } = passed;
-    Ok(page.put_line(format!(in alloc; "gate passes {calls} late {late}")?.as_str())?)
 }
 
 // How many targets, entries and results a report has.
