@@ -3,8 +3,8 @@ use Rattle.std.proofs.Common.{◌≡◌, ℕ, ◌<◌, zero, suc, true, List, []
 use Rattle.std.proofs.lemmas.Bool.{and_from, lt-ltb}
 use Rattle.std.proofs.lemmas.Option.{none-some}
 use Rattle.std.specs.List.{list_all}
-use Rattle.sb_wide.specs.Numbers.{is_word64}
-use Rattle.sb_wide.specs.Wide.{is_unit}
+use Rattle.sb_base.specs.Numbers.{is_word64}
+use Rattle.sb_base.specs.Wide.{is_unit}
 use Rattle.sb_audit.specs.Converse.{Each}
 use Rattle.sb_audit.proofs.Converse.Lists.{some_same}
 

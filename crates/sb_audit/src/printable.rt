@@ -3,10 +3,10 @@ ghost use Rattle.std.specs.Prelude.{◌≡◌, ◌<◌, ◌^◌, ℕ, true, slic
 ghost use Rattle.std.specs.List.{list_all};
 ghost use Rattle.sb_book.specs.declared.entries.Entry.{Entry};
 ghost use Rattle.sb_core.specs.Results.{result_at};
-ghost use Rattle.sb_wide.specs.Wide.{is_unit};
+ghost use Rattle.sb_base.specs.Wide.{is_unit};
 ghost use Rattle.sb_lineread.specs.Printed.{shown_call, shown_decision, shown_reply, shown_result, shown_verdict};
 ghost use Rattle.sb_lineread.specs.Ranges.{DecisionInRange, FaultInRange, ReplyInRange, ResultInRange, is_argument};
-ghost use Rattle.sb_wide.specs.Numbers.{is_word64};
+ghost use Rattle.sb_base.specs.Numbers.{is_word64};
 ghost use Rattle.sb_statements.specs.declared.results.StmtResult.{StmtResult};
 ghost use Rattle.sb_audit.specs.Converse.{ArePrintableResults, Each, IsPrintable, IsPrintableEntry, IsPrintableResult};
 

@@ -10,9 +10,9 @@ ghost use Rattle.sb_audit.specs.Kept.{shown_fits};
 
 use crate::arguments::same_numbers;
 use crate::dues::ReplyDue;
+use sb_base::NoMemory;
 use sb_book::{DENIED_OUTCOME, FAKED_OUTCOME, PERFORMED_OUTCOME, REFUSED_OUTCOME, fault_words};
 use sb_call::{ACCESS_DENIED, Arg, CallTag, Extended, INVALID_PARAMETER, SUCCESS};
-use sb_items::NoMemory;
 use sb_kernel::Kernel;
 use sb_lineread::{ShownDecision, ShownReply};
 

@@ -3,7 +3,7 @@ ghost use Rattle.std.specs.Prelude.{◌≡◌, ◌<◌, ◌≤◌, ℕ, [], leng
 ghost use Rattle.sb_audit.specs.Rows.{IsPut, IsPutInto, row_at, slot_at};
 
 use crate::slots::OwnReply;
-use sb_items::NoMemory;
+use sb_base::NoMemory;
 use sb_statements::MOST_THREADS;
 use std::alloc::Global;
 use std::marker::Model;

@@ -14,7 +14,7 @@ use Rattle.sb_block.specs.Packing.{descriptor, words_for, part_of, packed, unpac
 use Rattle.sb_block.specs.Blocks.{bytes_of, content_of, contents_of, descriptors_of}
 use Rattle.sb_block.specs.Faults.{type_number, is_untyped, is_misplaced, is_missized, has_shape, is_unnamed, first_unnamed}
 use Rattle.sb_block.specs.Calls.{argument_in}
-use Rattle.sb_wide.specs.Wide.{is_unit}
+use Rattle.sb_base.specs.Wide.{is_unit}
 use Rattle.sb_block.specs.Blocks.{has_units}
 use Rattle.sb_block.proofs.PackingLemmas.{packed_len}
 use Rattle.sb_block.proofs.BlockLemmas.{type_back, offset_back, size_back, content_words, bytes_small, four_back}

@@ -1,7 +1,7 @@
 -- How a call is laid out in words.
 use Rattle.std.specs.Prelude.{ℕ, Bool, true, ◌+◌, ◌*◌, ◌^◌, ◌&&◌, nat_le, List, [], ◌∷◌, ◌++◌, length, replicate}
 use Rattle.std.specs.List.{flat_map, list_all}
-use Rattle.sb_wide.specs.Wide.{is_unit}
+use Rattle.sb_base.specs.Wide.{is_unit}
 use Rattle.sb_call.specs.Arguments.{fits}
 use Rattle.sb_call.specs.Tags.{number_of, shape_of}
 use Rattle.sb_call.specs.declared.tags.CallTag.{CallTag}

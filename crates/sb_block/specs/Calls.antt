@@ -8,8 +8,8 @@ use Rattle.sb_block.specs.Copies.{Copied}
 use Rattle.sb_block.specs.Faults.{fault, tag_in}
 use Rattle.sb_block.specs.Packing.{type_of, string_in, number_in}
 use Rattle.sb_block.specs.declared.faults.BlockFault.{BlockFault}
-use Rattle.sb_items.specs.declared.refusals.Refused.{Refused}
-use Rattle.sb_items.specs.declared.refusals.Refused.TheVariants.{Fault, NoMemory}
+use Rattle.sb_base.specs.declared.refusals.Refused.{Refused}
+use Rattle.sb_base.specs.declared.refusals.Refused.TheVariants.{Fault, NoMemory}
 use Rattle.sb_block.specs.declared.calls.Call.{Call}
 
 -- the argument of a descriptor: a string, the low half of a word, or a whole word

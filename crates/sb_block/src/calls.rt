@@ -9,9 +9,8 @@ use crate::copies::BlockCopy;
 use crate::faults::{BlockFault, fault_of};
 use crate::layout::{descriptors, tag_word};
 use crate::packing::{number_in, string_in, type_of};
+use sb_base::{NoMemory, Refused, Wide};
 use sb_call::{Arg, Args, CallTag, tag_of};
-use sb_items::{NoMemory, Refused};
-use sb_wide::Wide;
 use std::alloc::Global;
 
 /// A call with the caller's mark.

@@ -6,7 +6,7 @@ ghost use Rattle.std.specs.List.{list_all};
 ghost use Rattle.sb_block.specs.Calls.{called, decoded};
 ghost use Rattle.sb_block.specs.Copies.{is_copy, whole};
 ghost use Rattle.sb_block.specs.Packing.{packed};
-ghost use Rattle.sb_wide.specs.Wide.{is_unit};
+ghost use Rattle.sb_base.specs.Wide.{is_unit};
 ghost use Rattle.sb_block.specs.Blocks.{block, encodes, has_units, bytes_of, content_of, contents_of, descriptors_of};
 ghost use Rattle.sb_block.specs.Layout.{first_offset, most_words, reply_length};
 

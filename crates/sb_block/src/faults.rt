@@ -10,8 +10,8 @@ use crate::layout::{
     MOST_PARAMETERS, count_in, descriptors, end_in, first_offset, is_end, tag_word,
 };
 use crate::packing::{offset_of, size_of, string_in, type_of, words_for};
+use sb_base::is_name;
 use sb_call::{ParamKind, shape, tag_of};
-use sb_wide::is_name;
 use thiserror::Error;
 
 /// What is wrong with a copy: the first of these that is there, in the order of the variants and

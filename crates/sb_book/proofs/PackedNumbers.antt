@@ -6,7 +6,7 @@ use Rattle.std.proofs.lemmas.Nat.{div_below}
 use Rattle.std.specs.Prelude.{nat_lt, slice_index}
 use Rattle.std.specs.List.{list_all}
 use Rattle.sb_book.specs.Packing.{after_number, after_numbers, has_number, has_numbers, number_in, numbers_in, packed, packed_all, packed_by, with_low}
-use Rattle.sb_wide.specs.Numbers.{is_word64}
+use Rattle.sb_base.specs.Numbers.{is_word64}
 
 -- ---- the bytes of a number
 

@@ -12,7 +12,7 @@ use Rattle.sb_call.specs.declared.replies.Reply.{Reply}
 use Rattle.sb_block.specs.Copies.{Copied, is_copy}
 use Rattle.sb_block.specs.Layout.{most_words}
 use Rattle.sb_book.specs.Packing.{after_numbers, has_numbers, number_in, numbers_in, packed_all}
-use Rattle.sb_wide.specs.Numbers.{is_word64}
+use Rattle.sb_base.specs.Numbers.{is_word64}
 use Rattle.sb_book.specs.Stores.{IsCut, after_count, after_end, after_handle, after_mark, after_outcome, after_status, copy_in, entry_with, ext_in, head_of, is_room, reply_in, row_entry, stored_entry, words_in}
 use Rattle.sb_book.specs.declared.decisions.Decision.{Decision}
 use Rattle.sb_book.specs.declared.stores.EntryRow.{EntryRow}

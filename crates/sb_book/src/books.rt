@@ -13,9 +13,9 @@ use crate::replies::{
 use crate::run_starts::RunStart;
 use crate::slices::EntrySlice;
 use crate::stores::EntryStore;
+use sb_base::NoMemory;
 use sb_block::{BlockCopy, faultless_copies_fit};
 use sb_call::{ACCESS_DENIED, Extended, INVALID_PARAMETER, Reply, SUCCESS};
-use sb_items::NoMemory;
 use sb_kernel::Kernel;
 use sb_rule::Policies;
 use sb_statements::Script;

@@ -5,9 +5,9 @@ ghost use Rattle.sb_call.specs.Arguments.{fits};
 ghost use Rattle.sb_rule.specs.Verdicts.{policy_at};
 ghost use Rattle.sb_book.specs.Decisions.{decision_of, by_verdict, read_only_args};
 
+use sb_base::NoMemory;
 use sb_block::{BlockCopy, BlockFault, BlockRefused, Call, decode};
 use sb_call::{Arg, Args, CallTag};
-use sb_items::NoMemory;
 use sb_rule::{Action, Judge, READ_ONLY_BITS, Verdict};
 use std::alloc::Global;
 

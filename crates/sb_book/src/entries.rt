@@ -4,9 +4,9 @@ ghost use Rattle.std.specs.Prelude.{◌≡◌, ◌<◌, ◌^◌, ◌++◌, ◌�
 use crate::decisions::Decision;
 use crate::slices::EntrySlice;
 use crate::stores::EntryStore;
+use sb_base::NoMemory;
 use sb_block::BlockCopy;
 use sb_call::Reply;
-use sb_items::NoMemory;
 use std::alloc::Global;
 use std::marker::Model;
 

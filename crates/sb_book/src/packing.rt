@@ -2,7 +2,7 @@
 ghost use Rattle.std.specs.Prelude.{◌≡◌, ◌≤◌, ◌+◌, ◌*◌, ◌++◌, length, true, vec_len, vec_capacity};
 ghost use Rattle.std.specs.List.{list_all};
 ghost use Rattle.sb_book.specs.Packing.{after_number, after_numbers, number_in, numbers_in, packed, packed_all};
-ghost use Rattle.sb_wide.specs.Numbers.{is_word64};
+ghost use Rattle.sb_base.specs.Numbers.{is_word64};
 
 use arrayvec::ArrayVec;
 

@@ -9,7 +9,7 @@ ghost use Rattle.sb_book.specs.Readiness.{IsReady, is_judged, is_ready};
 ghost use Rattle.sb_book.specs.ReadyScripts.{Ready};
 
 use crate::run_starts::RunStart;
-use sb_items::NoMemory;
+use sb_base::NoMemory;
 use sb_kernel::{Kernel, StartRefused};
 use sb_rule::WellMadePolicies;
 use sb_statements::{SoundScript, StartLine, TargetScript};

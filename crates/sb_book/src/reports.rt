@@ -1,7 +1,7 @@
 // What a run gives.
 
 use crate::entries::Entries;
-use sb_items::Items;
+use sb_base::Items;
 use sb_kernel::Kernel;
 use sb_statements::StmtResult;
 

@@ -5,9 +5,9 @@ ghost use Rattle.sb_book.specs.Stores.{entry_with, head_of};
 use crate::decisions::Decision;
 use crate::packing::put_numbers;
 use crate::slices::EntrySlice;
+use sb_base::NoMemory;
 use sb_block::BlockCopy;
 use sb_call::Reply;
-use sb_items::NoMemory;
 use std::alloc::Global;
 use std::marker::Model;
 

@@ -3,8 +3,7 @@ ghost use Rattle.std.specs.Prelude.{◌≡◌};
 ghost use Rattle.sb_call.specs.Arguments.{fits_kind, fit, fits};
 
 use crate::tags::{CallTag, ParamKind, shape};
-use sb_items::Items;
-use sb_wide::{Wide, is_name};
+use sb_base::{Items, Wide, is_name};
 use std::alloc::AllocError;
 
 /// An argument of a call: a number, also for a handle, or a wide string, also for a name.

@@ -3,7 +3,7 @@ ghost use Rattle.std.specs.Prelude.{◌≡◌, slice_index};
 ghost use Rattle.sb_call.specs.CallWords.{call_word, every_tag, likely_tag, tag_of_word};
 
 use crate::tags::CallTag;
-use sb_wide::is_word;
+use sb_base::is_word;
 
 /// The word by which texts name a call, as `file.create`.
 pub fn call_word(tag: CallTag) -> &'static [u8]

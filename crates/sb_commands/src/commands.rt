@@ -13,7 +13,7 @@ use crate::usage::usage_test;
 use crate::usage_faults::UsageFault;
 use crate::works::{ThreadedWork, Work};
 use clap::error::ErrorKind;
-use sb_items::NoMemory;
+use sb_base::NoMemory;
 use std::alloc::Global;
 use std::marker::Model;
 

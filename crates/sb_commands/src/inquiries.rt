@@ -13,7 +13,7 @@ use crate::help_texts::{
 use crate::usage::place_name;
 use crate::usage_messages::put_form;
 use crate::works::Work;
-use sb_items::NoMemory;
+use sb_base::NoMemory;
 use std::alloc::Global;
 
 /// What is asked.

@@ -8,8 +8,8 @@ ghost use Rattle.sb_commands.specs.UsageMessages.{argument_text, bounds_text, ch
 use crate::forms::{CommandForm, FormNumber, FormOption, FormPlace, forms_text};
 use crate::usage::place_name;
 use crate::usage_faults::UsageFault;
+use sb_base::NoMemory;
 use sb_glyphs::{put_decimal_text, put_quoted, put_shown};
-use sb_items::NoMemory;
 use std::alloc::Global;
 
 // Appends the names of places.

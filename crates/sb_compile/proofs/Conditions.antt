@@ -12,8 +12,8 @@ use Rattle.sb_call.specs.declared.arguments.Arg.TheVariants as arg
 use Rattle.sb_call.specs.declared.tags.CallTag.{CallTag}
 use Rattle.sb_call.specs.declared.tags.ParamKind.{ParamKind}
 use Rattle.sb_call.specs.declared.tags.ParamKind.TheVariants as kind
-use Rattle.sb_pattern.specs.declared.cells.Cell.{Cell}
-use Rattle.sb_pattern.specs.declared.cells.Cell.TheVariants.{Lit}
+use Rattle.sb_rule.specs.declared.cells.Cell.{Cell}
+use Rattle.sb_rule.specs.declared.cells.Cell.TheVariants.{Lit}
 use Rattle.sb_rule.specs.Verdicts.{test_holds, cond_holds}
 use Rattle.sb_call.specs.Parameters.{is_number_kind}
 use Rattle.sb_rule.specs.WellMade.{is_number_test, is_sensible, is_well_formed}

@@ -8,11 +8,11 @@ use Rattle.std.proofs.lemmas.Bool.Decides.{nat_tests}
 use Rattle.std.proofs.lemmas.List.{append_assoc}
 use Rattle.std.proofs.lemmas.List.Concat.{flat_map-append}
 use Rattle.std.proofs.lemmas.List.Folds.{list_all-append}
-use Rattle.sb_wide.specs.Quoting.{quoted, quoted_unit, hex_digit}
+use Rattle.sb_base.specs.Quoting.{quoted, quoted_unit, hex_digit}
 use Rattle.sb_call.specs.CallWords.{call_word, every_tag}
 use Rattle.sb_call.specs.declared.tags.CallTag.{CallTag}
 use Rattle.sb_call.specs.declared.tags.CallTag.TheVariants.{Ping, FileCreate, FileOpen, FileQuery, FileRename, PipeCreate, KeyCreate, KeyOpen, EventCreate, EventOpen, HandleClose}
-use Rattle.sb_pattern.specs.Reading.{text_of}
+use Rattle.sb_rule.specs.PatternReading.{text_of}
 use Rattle.sb_rule.specs.Actions.{action_word}
 use Rattle.sb_rule.specs.declared.actions.Action.{Action}
 use Rattle.sb_rule.specs.declared.actions.Action.TheVariants.{Allow, Deny, Alarm, Fake, ReadOnly}
@@ -26,7 +26,7 @@ use Rattle.sb_opcode.specs.declared.options.Options.{Options}
 use Rattle.sb_compile.specs.Compiling.{Compiled, code_in}
 use Rattle.sb_compile.specs.Listing.{seek_text, number_text, kind_text, word_if, options_text, opcode_line, opcode_lines, code_lines}
 use Rattle.sb_compile.specs.ListingLines.{heading, lines_from, lines_of, ListingsAreLines}
-use Rattle.sb_wide.specs.OneLine.{is_no_lf, is_one_line}
+use Rattle.sb_base.specs.OneLine.{is_no_lf, is_one_line}
 
 abbrev joined : List (List ℕ) → List ℕ
 joined lines = flat_map (λ line. line) lines

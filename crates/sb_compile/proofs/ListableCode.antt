@@ -6,14 +6,14 @@ use Rattle.std.proofs.lemmas.Bool.{and_parts, false≢true}
 use Rattle.std.proofs.lemmas.Bool.Decides.{nat_tests}
 use Rattle.std.proofs.lemmas.List.Folds.{list_all-append}
 use Rattle.std.proofs.lemmas.List.Sums.{prefix_len-le-length}
-use Rattle.sb_wide.specs.Wide.{is_unit}
-use Rattle.sb_wide.specs.Quoting.{QuotesDiffer}
+use Rattle.sb_base.specs.Wide.{is_unit}
+use Rattle.sb_base.specs.Quoting.{QuotesDiffer}
 use Rattle.sb_call.specs.Tags.{shape_of}
 use Rattle.sb_call.specs.declared.tags.CallTag.{CallTag}
 use Rattle.sb_call.specs.declared.tags.CallTag.TheVariants.{Ping, FileCreate, FileOpen, FileQuery, FileRename, PipeCreate, KeyCreate, KeyOpen, EventCreate, EventOpen, HandleClose}
-use Rattle.sb_pattern.specs.Reading.{text_of, may_precede, is_spellable}
-use Rattle.sb_pattern.specs.declared.cells.Cell.{Cell}
-use Rattle.sb_pattern.specs.declared.cells.Cell.TheVariants.{Lit, One, Any}
+use Rattle.sb_rule.specs.PatternReading.{text_of, may_precede, is_spellable}
+use Rattle.sb_rule.specs.declared.cells.Cell.{Cell}
+use Rattle.sb_rule.specs.declared.cells.Cell.TheVariants.{Lit, One, Any}
 use Rattle.sb_rule.specs.WellMade.{is_sensible, is_policy_text, is_well_formed, is_well_made, is_well_made_rule}
 use Rattle.sb_rule.specs.declared.conditions.Cond.{Cond}
 use Rattle.sb_rule.specs.declared.conditions.Test.{Test}
@@ -29,8 +29,8 @@ use Rattle.sb_opcode.specs.declared.opcodes.Seek.TheVariants.{Skip, Forward, ToE
 use Rattle.sb_compile.specs.Compiling.{opcode, is_one, here, first_code, later_code, or_true, runs_code, test_code, with_options, end_bits, closed, cond_code, rule_code, code_of, code_in, program_of}
 use Rattle.sb_rule.specs.Verdicts.{is_for}
 use Rattle.sb_compile.specs.ListingLaws.{is_told_before, is_fragment, is_listable_kind, has_param, is_listable, AreListable, is_sized_test, is_sized_rule, DifferentCodeIsListedDifferently}
-use Rattle.sb_wide.specs.Numbers.{is_word64}
-use Rattle.sb_wide.specs.OneLine.{is_no_lf}
+use Rattle.sb_base.specs.Numbers.{is_word64}
+use Rattle.sb_base.specs.OneLine.{is_no_lf}
 use Rattle.sb_compile.proofs.Cuts.{act_of, is_formed}
 use Rattle.sb_compile.proofs.Members.{both, is_placed_well}
 use Rattle.sb_compile.proofs.Runs.{joined, are_free, runs_of}

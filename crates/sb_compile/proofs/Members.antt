@@ -9,8 +9,8 @@ use Rattle.std.proofs.lemmas.List.Folds.{list_all-append}
 use Rattle.sb_call.specs.Arguments.{kind_at}
 use Rattle.sb_call.specs.Tags.{shape_of}
 use Rattle.sb_call.specs.declared.tags.CallTag.{CallTag}
-use Rattle.sb_pattern.specs.declared.cells.Cell.{Cell}
-use Rattle.sb_pattern.specs.declared.cells.Cell.TheVariants.{Lit}
+use Rattle.sb_rule.specs.declared.cells.Cell.{Cell}
+use Rattle.sb_rule.specs.declared.cells.Cell.TheVariants.{Lit}
 use Rattle.sb_call.specs.Parameters.{is_number_kind}
 use Rattle.sb_rule.specs.WellMade.{is_number_test, is_sensible, is_well_formed}
 use Rattle.sb_rule.specs.declared.conditions.Cond.{Cond}

@@ -6,11 +6,11 @@ use Rattle.std.proofs.Common.{◌≡◌, ◌∙◌, ℕ, ◌-◌, zero, suc, Boo
 use Rattle.std.proofs.Math.Seq.{drop-nil}
 use Rattle.std.proofs.lemmas.Bool.{false≢true}
 use Rattle.std.proofs.lemmas.Bool.Decides.{nat_tests}
-use Rattle.sb_wide.specs.Wide.{folded, is_same}
-use Rattle.sb_pattern.specs.Chunks.{is_any}
-use Rattle.sb_pattern.specs.Matching.{matches, matches_some_rest}
-use Rattle.sb_pattern.specs.declared.cells.Cell.{Cell}
-use Rattle.sb_pattern.specs.declared.cells.Cell.TheVariants.{Lit, One, Any}
+use Rattle.sb_base.specs.Wide.{folded, is_same}
+use Rattle.sb_rule.specs.Chunks.{is_any}
+use Rattle.sb_rule.specs.Matching.{matches, matches_some_rest}
+use Rattle.sb_rule.specs.declared.cells.Cell.{Cell}
+use Rattle.sb_rule.specs.declared.cells.Cell.TheVariants.{Lit, One, Any}
 use Rattle.sb_opcode.specs.declared.opcodes.Seek.TheVariants.{Skip}
 use Rattle.sb_opcode.specs.Fragments.{unit_fits, after_fragment, after_units, after_first, after_end, after_seek, at_end}
 use Rattle.sb_compile.specs.Compiling.{is_one}

@@ -6,7 +6,7 @@ use Rattle.std.proofs.lemmas.Bool.{and_parts, false≢true}
 use Rattle.std.proofs.lemmas.Bool.Decides.{nat_tests}
 use Rattle.std.proofs.lemmas.Fmt.{digits_is_IsNumeral}
 use Rattle.std.specs.Str.Parse.{digits_value}
-use Rattle.sb_wide.specs.Numbers.{hexadecimal, is_word64}
+use Rattle.sb_base.specs.Numbers.{hexadecimal, is_word64}
 
 -- lists of which a test holds of one alone are not equal
 pub apart : {A : Type 0} (test : List ℕ → Bool) (r s : List ℕ) → r ≡ s → test r ≡ true → test s ≡ false → A

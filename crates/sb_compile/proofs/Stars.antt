@@ -4,9 +4,9 @@ use Rattle.std.specs.List.{slice_split, onto_first, prefix_len}
 use Rattle.std.proofs.Common.{◌≡◌, ◌∙◌, ◌≤◌, ℕ, ◌+◌, suc, Bool, true, false, not, cond, List, [], ◌∷◌, ltb, length, take, drop, refl, ap, sym, arith}
 use Rattle.std.proofs.lemmas.Bool.{false≢true}
 use Rattle.std.proofs.lemmas.Bool.Decides.{nat_tests}
-use Rattle.sb_pattern.specs.Chunks.{is_any}
-use Rattle.sb_pattern.specs.declared.cells.Cell.{Cell}
-use Rattle.sb_pattern.specs.declared.cells.Cell.TheVariants.{Lit, One, Any}
+use Rattle.sb_rule.specs.Chunks.{is_any}
+use Rattle.sb_rule.specs.declared.cells.Cell.{Cell}
+use Rattle.sb_rule.specs.declared.cells.Cell.TheVariants.{Lit, One, Any}
 
 abbrev before_star : List Cell → ℕ
 before_star cells = prefix_len (λ c. not (is_any c)) cells

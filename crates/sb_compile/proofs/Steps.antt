@@ -8,9 +8,9 @@ use Rattle.sb_call.specs.declared.tags.CallTag.{CallTag}
 use Rattle.sb_rule.specs.WellMade.{is_sensible, is_well_formed}
 use Rattle.sb_rule.specs.declared.conditions.Cond.{Cond}
 use Rattle.sb_rule.specs.declared.policies.Rule.{Rule}
-use Rattle.sb_pattern.specs.Chunks.{is_any}
-use Rattle.sb_pattern.specs.declared.cells.Cell.{Cell}
-use Rattle.sb_pattern.specs.declared.cells.Cell.TheVariants.{Lit, One, Any}
+use Rattle.sb_rule.specs.Chunks.{is_any}
+use Rattle.sb_rule.specs.declared.cells.Cell.{Cell}
+use Rattle.sb_rule.specs.declared.cells.Cell.TheVariants.{Lit, One, Any}
 use Rattle.sb_opcode.specs.Opcodes.{Opcode}
 use Rattle.sb_opcode.specs.Opcodes as op
 use Rattle.sb_opcode.specs.declared.opcodes.Seek.TheVariants.{Forward}

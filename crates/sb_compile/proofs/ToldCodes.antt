@@ -5,7 +5,7 @@ use Rattle.std.specs.Prelude.{codes, Option, None, Some}
 use Rattle.std.proofs.Common.{◌≡◌, ◌∙◌, ℕ, ◌+◌, ◌/◌, ◌%◌, ◌<◌, Bool, true, false, not, cond, eqb, ◌&&◌, List, [], ◌∷◌, ◌++◌, drop, get_or, map, append_assoc, refl, ap, sym, zero, suc, arith}
 use Rattle.std.proofs.lemmas.Bool.{and_parts, false≢true}
 use Rattle.std.proofs.lemmas.Bool.Decides.{nat_tests}
-use Rattle.sb_wide.specs.Quoting.{QuotesDiffer}
+use Rattle.sb_base.specs.Quoting.{QuotesDiffer}
 use Rattle.sb_call.specs.CallWords.{call_word, every_tag, tag_of_word}
 use Rattle.sb_call.specs.Tags.{number_of}
 use Rattle.sb_call.specs.declared.tags.CallTag.{CallTag}
@@ -15,7 +15,7 @@ use Rattle.sb_compile.specs.Compiling.{Compiled, code_in}
 use Rattle.sb_compile.specs.Listing.{kind_text, opcode_line, listing_of}
 use Rattle.sb_compile.specs.ListingLaws.{is_listable, AreListable, ListingsDiffer}
 use Rattle.sb_compile.specs.ListingLines.{heading, lines_from, lines_of, listing_lines}
-use Rattle.sb_wide.specs.OneLine.{is_no_lf, is_one_line}
+use Rattle.sb_base.specs.OneLine.{is_no_lf, is_one_line}
 use Rattle.sb_compile.proofs.Lines.{listings_are_lines}
 use Rattle.sb_compile.proofs.Splits.{apart, clash, same_head, cancel, is_letter, split_word}
 use Rattle.sb_compile.proofs.ToldOpcodes.{line_parts, same_opcode}

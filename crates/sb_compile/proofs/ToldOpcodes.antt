@@ -5,10 +5,10 @@ use Rattle.std.specs.Prelude.{codes}
 use Rattle.std.proofs.Common.{◌≡◌, ◌∙◌, ℕ, ◌<◌, true, cond, eqb, ltb, ◌&&◌, ◌||◌, List, [], ◌∷◌, ◌++◌, drop, get_or, append_assoc, refl, ap, sym, arith}
 use Rattle.std.proofs.lemmas.Bool.{and_parts}
 use Rattle.std.proofs.lemmas.Bool.Decides.{nat_tests}
-use Rattle.sb_wide.specs.Numbers.{hexadecimal, is_word64}
-use Rattle.sb_wide.specs.Quoting.{quoted, quoted_unit, QuotesDiffer}
-use Rattle.sb_pattern.specs.Reading.{text_of}
-use Rattle.sb_pattern.specs.declared.cells.Cell.{Cell}
+use Rattle.sb_base.specs.Numbers.{hexadecimal, is_word64}
+use Rattle.sb_base.specs.Quoting.{quoted, quoted_unit, QuotesDiffer}
+use Rattle.sb_rule.specs.PatternReading.{text_of}
+use Rattle.sb_rule.specs.declared.cells.Cell.{Cell}
 use Rattle.sb_rule.specs.Actions.{action_word}
 use Rattle.sb_rule.specs.declared.actions.Action.{Action}
 use Rattle.sb_rule.specs.declared.actions.Action.TheVariants.{Allow, Deny, Alarm, Fake, ReadOnly}

@@ -6,9 +6,9 @@ use Rattle.sb_call.specs.Tags.{number_of}
 use Rattle.sb_call.specs.declared.arguments.Arg.{Arg}
 use Rattle.sb_statements.specs.declared.scripts.TargetScript.{TargetScript}
 use Rattle.sb_call.specs.declared.tags.CallTag.{CallTag}
-use Rattle.sb_pattern.specs.Chunks.{is_any}
-use Rattle.sb_pattern.specs.declared.cells.Cell.{Cell}
-use Rattle.sb_pattern.specs.declared.cells.Cell.TheVariants.{Lit, One, Any}
+use Rattle.sb_rule.specs.Chunks.{is_any}
+use Rattle.sb_rule.specs.declared.cells.Cell.{Cell}
+use Rattle.sb_rule.specs.declared.cells.Cell.TheVariants.{Lit, One, Any}
 use Rattle.sb_rule.specs.Verdicts.{policy_at}
 use Rattle.sb_rule.specs.declared.conditions.Cond.{Cond}
 use Rattle.sb_rule.specs.declared.conditions.Test.{Test}

@@ -1,12 +1,12 @@
 -- What compiling keeps.
 use Rattle.std.specs.Prelude.{◌≡◌, ◌≢◌, ℕ, true, List, [], map, None}
-use Rattle.sb_wide.specs.Wide.{folded}
+use Rattle.sb_base.specs.Wide.{folded}
 use Rattle.sb_call.specs.Arguments.{fits}
 use Rattle.sb_call.specs.declared.arguments.Arg.{Arg}
 use Rattle.sb_call.specs.declared.arguments.Arg.TheVariants as arg
 use Rattle.sb_call.specs.declared.tags.CallTag.{CallTag}
-use Rattle.sb_pattern.specs.Matching.{fold_cell, matches}
-use Rattle.sb_pattern.specs.declared.cells.Cell.{Cell}
+use Rattle.sb_rule.specs.Matching.{fold_cell, matches}
+use Rattle.sb_rule.specs.declared.cells.Cell.{Cell}
 use Rattle.sb_rule.specs.Verdicts.{cond_holds, verdict_of}
 use Rattle.sb_rule.specs.WellMade.{is_well_formed, is_well_made}
 use Rattle.sb_rule.specs.declared.conditions.Cond.{Cond}

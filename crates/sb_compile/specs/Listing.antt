@@ -2,11 +2,11 @@
 use Rattle.std.specs.Prelude.{ℕ, ◌+◌, Bool, List, [], ◌∷◌, ◌++◌, codes, if◌then◌else◌}
 use Rattle.std.specs.List.{flat_map}
 use Rattle.std.specs.Fmt.{decimal}
-use Rattle.sb_wide.specs.Numbers.{hexadecimal}
-use Rattle.sb_wide.specs.Quoting.{quoted}
+use Rattle.sb_base.specs.Numbers.{hexadecimal}
+use Rattle.sb_base.specs.Quoting.{quoted}
 use Rattle.sb_call.specs.CallWords.{call_word, every_tag}
 use Rattle.sb_call.specs.declared.tags.CallTag.{CallTag}
-use Rattle.sb_pattern.specs.Reading.{text_of}
+use Rattle.sb_rule.specs.PatternReading.{text_of}
 use Rattle.sb_rule.specs.Actions.{action_word}
 use Rattle.sb_opcode.specs.Options.{has, NEGATE, CLEAR, OR, FOLD, EXACT}
 use Rattle.sb_opcode.specs.Opcodes.{Opcode}

@@ -1,11 +1,11 @@
 -- Codes that their listing tells apart.
 use Rattle.std.specs.Prelude.{◌≡◌, ◌&&◌, ◌||◌, ◌==◌, ℕ, Bool, true, false, not, nat_lt, List, [], ◌∷◌}
 use Rattle.std.specs.List.{list_all}
-use Rattle.sb_wide.specs.Wide.{is_unit}
+use Rattle.sb_base.specs.Wide.{is_unit}
 use Rattle.sb_call.specs.declared.tags.CallTag.{CallTag}
-use Rattle.sb_pattern.specs.Reading.{begins_with_one}
-use Rattle.sb_pattern.specs.declared.cells.Cell.{Cell}
-use Rattle.sb_pattern.specs.declared.cells.Cell.TheVariants.{Lit, One, Any}
+use Rattle.sb_rule.specs.PatternReading.{begins_with_one}
+use Rattle.sb_rule.specs.declared.cells.Cell.{Cell}
+use Rattle.sb_rule.specs.declared.cells.Cell.TheVariants.{Lit, One, Any}
 use Rattle.sb_opcode.specs.Packing.{is_sized_cell, skip_number}
 use Rattle.sb_opcode.specs.Opcodes.{Opcode}
 use Rattle.sb_opcode.specs.Opcodes.{OpKind}
@@ -17,8 +17,8 @@ use Rattle.sb_rule.specs.declared.policies.Policy.{Policy}
 use Rattle.sb_rule.specs.declared.policies.Rule.{Rule}
 use Rattle.sb_compile.specs.Compiling.{Compiled, code_in, program_of}
 use Rattle.sb_compile.specs.Listing.{listing_of}
-use Rattle.sb_wide.specs.OneLine.{is_no_lf}
-use Rattle.sb_wide.specs.Numbers.{is_word64}
+use Rattle.sb_base.specs.OneLine.{is_no_lf}
+use Rattle.sb_base.specs.Numbers.{is_word64}
 
 -- a literal may come before these cells: a unit, and no `/` before a `?`, since `/?` is the text of the literal `?`
 abbrev pub is_told_before : ℕ → List Cell → Bool

@@ -4,7 +4,7 @@ use Rattle.std.specs.List.{flat_map, list_all}
 use Rattle.sb_call.specs.CallWords.{call_word, every_tag}
 use Rattle.sb_call.specs.declared.tags.CallTag.{CallTag}
 use Rattle.sb_opcode.specs.Opcodes.{Opcode}
-use Rattle.sb_wide.specs.OneLine.{is_no_lf, is_one_line}
+use Rattle.sb_base.specs.OneLine.{is_no_lf, is_one_line}
 use Rattle.sb_compile.specs.Compiling.{Compiled, code_in}
 use Rattle.sb_compile.specs.Listing.{opcode_line, listing_of}
 

@@ -9,9 +9,9 @@ ghost use Rattle.sb_compile.specs.Compiling.{code_of};
 ghost use Rattle.sb_compile.specs.Indexed.{HasEachThatHolds, IsIndexed};
 
 use crate::laws::{candidates_have_each_that_holds, compiled_rules_are_few};
+use sb_base::NoMemory;
 use sb_call::{Arg, CallTag};
 use sb_index::{Index, RuleSet};
-use sb_items::NoMemory;
 use sb_opcode::{Code, RuleCodes, Verified};
 use sb_rule::{Verdict, WellMadePolicy};
 use std::alloc::Global;

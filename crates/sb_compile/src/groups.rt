@@ -1,7 +1,7 @@
 // Groups of opcodes: what one condition becomes.
 ghost use Rattle.std.specs.Prelude.{◌≡◌, ◌+◌, ◌<◌, ◌^◌, ◌++◌, ◌∷◌, [], bit_or, length, map, OnOk};
 ghost use Rattle.sb_opcode.specs.Options.{FOLD, EXACT};
-ghost use Rattle.sb_pattern.specs.declared.cells.Cell.TheVariants.{Lit};
+ghost use Rattle.sb_rule.specs.declared.cells.Cell.TheVariants.{Lit};
 ghost use Rattle.sb_opcode.specs.Opcodes as op;
 ghost use Rattle.sb_opcode.specs.declared.opcodes.Seek.TheVariants.{Skip};
 ghost use Rattle.sb_opcode.specs.Records.{kind_of};
@@ -9,9 +9,9 @@ ghost use Rattle.sb_compile.specs.Compiling.{opcode, closed, end_bits, with_opti
 ghost use Rattle.sb_compile.specs.Steps.{last_if};
 
 use bitflags::Flags;
-use sb_items::NoMemory;
+use sb_base::NoMemory;
 use sb_opcode::{Code, Look, OpKind, Opcode, Options, Seek};
-use sb_pattern::Cell;
+use sb_rule::Cell;
 
 // What the opcodes of one condition have in common: the parameter at which they look, and whether what they say is
 // negated.

@@ -4,9 +4,9 @@ ghost use Rattle.sb_compile.specs.Laws.{CompilingKeepsVerdicts, CompiledCodeIsFa
 ghost use Rattle.sb_compile.specs.ListingLaws.{DifferentCodeIsListedDifferently, ListingsDiffer};
 ghost use Rattle.sb_compile.specs.ListingLines.{ListingsAreLines};
 
+use sb_base::quotes_differ;
 use sb_call::{fitting_args, tags_and_numbers};
-use sb_pattern::matching_folds;
-use sb_wide::quotes_differ;
+use sb_rule::matching_folds;
 
 /// The program of a well-made policy says of each call whose arguments fit what the policy says.
 pub fn compiling_keeps_verdicts()

@@ -1,8 +1,8 @@
 // The listing of a program: a heading for each call that has code, and a line for each opcode.
 ghost use Rattle.std.specs.Prelude.{◌≡◌, ◌+◌, ◌<◌, ◌^◌, ◌++◌, ◌∷◌, [], codes, length, map, IfOk, OnOk};
 ghost use Rattle.std.specs.Fmt.{decimal};
-ghost use Rattle.sb_wide.specs.Quoting.{quoted};
-ghost use Rattle.sb_pattern.specs.Reading.{cell_text, text_of};
+ghost use Rattle.sb_base.specs.Quoting.{quoted};
+ghost use Rattle.sb_rule.specs.PatternReading.{cell_text, text_of};
 ghost use Rattle.sb_call.specs.CallWords.{call_word};
 ghost use Rattle.sb_rule.specs.Actions.{action_word};
 ghost use Rattle.sb_opcode.specs.Unpacking.{cell_of};
@@ -10,11 +10,10 @@ ghost use Rattle.sb_opcode.specs.Records.{kind_of, opcode_of};
 ghost use Rattle.sb_compile.specs.Listing.{seek_text, number_text, kind_text, word_if, options_text, opcode_line, opcode_lines, code_lines};
 
 use bitflags::Flags;
+use sb_base::{NoMemory, put_decimal, put_hexadecimal, quote_into};
 use sb_call::{CallTag, call_word};
-use sb_items::NoMemory;
 use sb_opcode::{Code, OpKind, Opcode, Options, Records, Seek};
 use sb_rule::Action;
-use sb_wide::{put_decimal, put_hexadecimal, quote_into};
 
 // A blank, and a number in hexadecimal.
 fn put_number(out: &mut Vec<u8>, number: u64) -> Result<(), NoMemory>

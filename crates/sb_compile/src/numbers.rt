@@ -7,7 +7,7 @@ ghost use Rattle.sb_compile.specs.Steps.{is_none};
 
 use crate::groups::Group;
 use bitflags::Flags;
-use sb_items::NoMemory;
+use sb_base::NoMemory;
 use sb_opcode::{Code, OpKind, Options};
 
 fn is_none(numbers: &[u64]) -> bool

@@ -1,8 +1,8 @@
 // The opcodes of patterns. A pattern is cut at its stars, and each run of cells between them is one opcode.
 ghost use Rattle.std.specs.Prelude.{◌≡◌, ◌+◌, ◌<◌, ◌≤◌, ◌^◌, ◌++◌, ◌∷◌, [], length, position, OnOk, MatchOption, IfOk, ⊤};
 ghost use Rattle.std.specs.List.{slice_split, prefix_len};
-ghost use Rattle.sb_pattern.specs.Chunks.{is_any};
-ghost use Rattle.sb_pattern.specs.Limits.{most_units};
+ghost use Rattle.sb_rule.specs.Chunks.{is_any};
+ghost use Rattle.sb_rule.specs.PatternLimits.{most_units};
 ghost use Rattle.sb_opcode.specs.Opcodes as op;
 ghost use Rattle.sb_opcode.specs.Options.{FOLD};
 ghost use Rattle.sb_compile.specs.Compiling.{opcode, closed, is_one, here, later_code, runs_code};
@@ -10,9 +10,9 @@ ghost use Rattle.sb_compile.specs.Steps.{last_if, is_none};
 
 use crate::groups::{Group, whole_string};
 use bitflags::Flags;
-use sb_items::NoMemory;
+use sb_base::NoMemory;
 use sb_opcode::{Code, OpKind, Options, Seek};
-use sb_pattern::Cell;
+use sb_rule::Cell;
 
 fn is_star(cell: &Cell) -> bool
     ensures { result ≡ is_any cell.now }

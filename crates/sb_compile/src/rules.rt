@@ -1,7 +1,7 @@
 // The code of rules.
 ghost use Rattle.std.specs.Prelude.{◌≡◌, ◌≢◌, ◌+◌, ◌*◌, ◌<◌, ◌≤◌, ◌^◌, ◌++◌, ◌∷◌, [], true, bit_or, length, map, OnOk, OnErr, IfOk};
 ghost use Rattle.std.specs.List.{flat_map, list_all};
-ghost use Rattle.sb_pattern.specs.declared.cells.Cell.TheVariants.{Lit};
+ghost use Rattle.sb_rule.specs.declared.cells.Cell.TheVariants.{Lit};
 ghost use Rattle.sb_rule.specs.WellMade.{is_sensible, is_well_made_rule};
 ghost use Rattle.sb_opcode.specs.Opcodes as op;
 ghost use Rattle.sb_opcode.specs.declared.opcodes.Seek.TheVariants.{Skip};
@@ -12,8 +12,8 @@ use crate::groups::{Group, push};
 use crate::numbers::push_numbers;
 use crate::patterns::push_pattern;
 use bitflags::Flags;
+use sb_base::NoMemory;
 use sb_call::CallTag;
-use sb_items::NoMemory;
 use sb_opcode::{Code, OpKind, Options};
 use sb_rule::{Cond, Rule, Test, WellMadePolicy};
 use std::alloc::Global;

@@ -7,8 +7,8 @@ ghost use Rattle.sb_compile.specs.Compiling.{program_of, policies_of_targets};
 ghost use Rattle.sb_compile.specs.Targets.{nothing, policies_in};
 
 use crate::programs::{Program, compile};
+use sb_base::{Items, NoMemory};
 use sb_call::{Arg, CallTag};
-use sb_items::{Items, NoMemory};
 use sb_rule::{Judge, Policies, Verdict, WellMadePolicies};
 use sb_statements::{Script, TargetScript};
 use std::alloc::Global;

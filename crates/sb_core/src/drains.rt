@@ -7,7 +7,7 @@ ghost use Rattle.sb_core.specs.Drains.{IsBeginning, is_settled, one_pass, pass_b
 
 use crate::worlds::World;
 use sb_actor::WorkerState;
-use sb_items::NoMemory;
+use sb_base::NoMemory;
 use sb_rule::Judge;
 use std::alloc::Global;
 

@@ -4,8 +4,8 @@ ghost use Rattle.sb_core.specs.Reports.{results_of};
 
 use crate::threads::TargetThreads;
 use crate::words::TargetWords;
+use sb_base::NoMemory;
 use sb_book::{AllWords, Results};
-use sb_items::NoMemory;
 use std::alloc::Global;
 
 /// Words taken out of lists.

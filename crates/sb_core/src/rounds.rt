@@ -9,7 +9,7 @@ ghost use Rattle.sb_core.specs.Worlds.{all_finished, step, steps, round, rounds}
 
 use crate::leaps::leap_length;
 use crate::worlds::World;
-use sb_items::NoMemory;
+use sb_base::NoMemory;
 use sb_rule::Judge;
 use sb_statements::{Actor, SoundScript};
 use std::alloc::Global;

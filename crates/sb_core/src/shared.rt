@@ -11,9 +11,9 @@ ghost use Rattle.sb_core.specs.Words.{loaded, stored, exchanged, some_ready, wor
 
 use crate::words::TargetWords;
 use sb_actor::{Act, Observed, WorkerState};
+use sb_base::NoMemory;
 use sb_book::{Book, decide};
 use sb_call::Reply;
-use sb_items::NoMemory;
 use sb_rule::Judge;
 use sb_statements::Word;
 use std::alloc::Global;

@@ -5,7 +5,7 @@ ghost use Rattle.sb_core.specs.Worlds.{first_words, first_workers, start_threads
 use crate::threads::TargetThreads;
 use crate::words::TargetWords;
 use sb_actor::WorkerState;
-use sb_items::NoMemory;
+use sb_base::NoMemory;
 use sb_statements::{SoundScript, TargetScript, clean_table};
 use std::alloc::Global;
 

@@ -6,7 +6,7 @@ ghost use Rattle.sb_core.specs.Words.{free_channel, free_channels, loaded, store
 ghost use Rattle.sb_statements.specs.Words.{place_of};
 
 use sb_actor::{FREE, READY};
-use sb_items::{Items, NoMemory};
+use sb_base::{Items, NoMemory};
 use sb_statements::{WORDS_OF_CHANNEL, Word};
 use std::alloc::Global;
 use std::marker::Model;

@@ -8,7 +8,7 @@ ghost use Rattle.sb_core.specs.Shared.{IsActThere, worker_step_of};
 
 use crate::shared::Shared;
 use sb_actor::WorkerState;
-use sb_items::NoMemory;
+use sb_base::NoMemory;
 use sb_rule::Judge;
 use sb_statements::Word;
 use std::alloc::Global;

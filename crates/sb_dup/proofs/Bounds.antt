@@ -11,8 +11,8 @@ use Rattle.sb_dup.specs.MoveLaws.{MovesAreBetween, MovesAreFew}
 use Rattle.sb_dup.specs.MoveTexts.{MoveFault, add_line, by_characters, grammar, moves_version, reading}
 use Rattle.sb_dup.specs.declared.faults.MoveKind.{MoveKind}
 use Rattle.sb_dup.specs.declared.moves.Move.{Move}
-use Rattle.sb_items.specs.Refusals.{Gives}
-use Rattle.sb_items.specs.declared.refusals.Refused.{Refused}
+use Rattle.sb_base.specs.Refusals.{Gives}
+use Rattle.sb_base.specs.declared.refusals.Refused.{Refused}
 use Rattle.sb_text.specs.Lines.{NumberedLine, lines_of}
 use Rattle.sb_text.specs.Numbers.{number_of}
 use Rattle.sb_text.specs.Readings.{on_line, read_by, read_lines}

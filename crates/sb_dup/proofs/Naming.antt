@@ -7,7 +7,7 @@ use Rattle.std.specs.Map.{lookup}
 use Rattle.std.proofs.lemmas.Bool.{and_parts, false≢true}
 use Rattle.std.proofs.lemmas.Bool.Decides.{nat_tests}
 use Rattle.sb_dup.specs.Names.{name_by, name_in, object_name}
-use Rattle.sb_event.specs.Events as events
+use Rattle.sb_services.specs.Events as events
 use Rattle.sb_handles.specs.declared.objects.Object.{Object}
 use Rattle.sb_handles.specs.declared.objects.Service.{Service}
 use Rattle.sb_handles.specs.declared.objects.Service.TheVariants as service
@@ -16,7 +16,7 @@ use Rattle.sb_kernel.specs.Kept.{IsSound}
 use Rattle.sb_kernel.specs.Namespaces.{Space}
 use Rattle.sb_names.specs.Maps.{Rows, is_key}
 use Rattle.sb_names.specs.Objects.{IsNameBy}
-use Rattle.sb_wide.specs.Names.{is_name_of}
+use Rattle.sb_base.specs.Names.{is_name_of}
 
 some_number : (m n : ℕ) → ◌≡◌ {A = Option ℕ} (Some m) (Some n) → m ≡ n
 some_number m n h = cc

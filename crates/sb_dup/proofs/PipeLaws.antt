@@ -11,7 +11,7 @@ use Rattle.sb_dup.specs.declared.moves.MoveAnswer.TheVariants.{MoreAccess, NoOpe
 use Rattle.sb_dup.specs.declared.openings.Opening.{Opening}
 use Rattle.sb_dup.proofs.Keeping.{each_from, found_one}
 use Rattle.sb_dup.proofs.Naming.{name_found}
-use Rattle.sb_event.specs.Events as events
+use Rattle.sb_services.specs.Events as events
 use Rattle.sb_handles.specs.Tables.{Table, held_by, is_of}
 use Rattle.sb_handles.specs.declared.objects.Held.{Held}
 use Rattle.sb_handles.specs.declared.objects.Object.{Object}

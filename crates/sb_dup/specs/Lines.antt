@@ -6,8 +6,8 @@ use Rattle.sb_call.specs.CallWords.{is_word}
 use Rattle.sb_dup.specs.declared.faults.MoveKind.{MoveKind}
 use Rattle.sb_dup.specs.declared.faults.MoveKind.TheVariants.{UnknownWord, NoSuchTarget, BadNumber, TooMany}
 use Rattle.sb_dup.specs.declared.moves.Move.{Move}
-use Rattle.sb_items.specs.declared.refusals.Refused.{Refused}
-use Rattle.sb_items.specs.declared.refusals.Refused.TheVariants.{Fault, NoMemory}
+use Rattle.sb_base.specs.declared.refusals.Refused.{Refused}
+use Rattle.sb_base.specs.declared.refusals.Refused.TheVariants.{Fault, NoMemory}
 use Rattle.sb_text.specs.Numbers.{number_of}
 use Rattle.sb_text.specs.Spots.{fails_left}
 use Rattle.sb_text.specs.Steps.{◌>>=◌, words_end}

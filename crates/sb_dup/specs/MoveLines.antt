@@ -10,7 +10,7 @@ use Rattle.sb_rule.specs.declared.verdicts.Verdict.{Verdict}
 use Rattle.sb_rule.specs.declared.verdicts.Verdict.TheVariants as verdict
 use Rattle.sb_statements.specs.Scripts.{target_name}
 use Rattle.sb_statements.specs.declared.scripts.Script.{Script}
-use Rattle.sb_wide.specs.Numbers.{hexadecimal}
+use Rattle.sb_base.specs.Numbers.{hexadecimal}
 
 -- what comes before the line of a rule that denies
 abbrev pub action_text : Action → List ℕ

@@ -1,7 +1,7 @@
 -- The names of objects.
 use Rattle.std.specs.Prelude.{ℕ, ◌==◌, List, Option, None, option_map}
 use Rattle.std.specs.List.{find}
-use Rattle.sb_event.specs.Events as events
+use Rattle.sb_services.specs.Events as events
 use Rattle.sb_handles.specs.declared.objects.Object.{Object}
 use Rattle.sb_handles.specs.declared.objects.Service.{Service}
 use Rattle.sb_handles.specs.declared.objects.Service.TheVariants as service

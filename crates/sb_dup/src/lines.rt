@@ -2,9 +2,9 @@
 ghost use Rattle.std.specs.Prelude.{◌≡◌, None, Ok};
 ghost use Rattle.std.specs.Str.{is_utf8};
 ghost use Rattle.sb_dup.specs.Lines.{ReadsWord, access_at, first_word, has_quote, is_there, line_of, move_by, number_at, operands, with_move, word_at};
-ghost use Rattle.sb_items.specs.Refusals.{Gives, GivesAs};
+ghost use Rattle.sb_base.specs.Refusals.{Gives, GivesAs};
 ghost use Rattle.sb_text.specs.Steps.{Becomes};
-ghost use Rattle.sb_items.specs.declared.refusals.Refused.TheVariants.{Fault};
+ghost use Rattle.sb_base.specs.declared.refusals.Refused.TheVariants.{Fault};
 
 use crate::faults::LineRefused;
 use crate::faults::MoveKind::{self, BadNumber, NoSuchTarget, TooMany, UnknownWord};

@@ -4,10 +4,9 @@ ghost use Rattle.std.specs.List.{count_by};
 ghost use Rattle.sb_dup.specs.MoveLines.{action_text, answer_text, giver_text, is_given, lines_of_moves, move_line, move_lines, move_text, totals_line, verdict_text};
 
 use crate::moves::{Answered, Move, MoveAnswer};
-use sb_items::NoMemory;
+use sb_base::{NoMemory, put_hexadecimal, put_named};
 use sb_rule::{Action, Verdict};
 use sb_statements::Script;
-use sb_wide::{put_hexadecimal, put_named};
 
 fn action_text(action: Action) -> &'static [u8]
     ensures { result.now ≡ action_text action }

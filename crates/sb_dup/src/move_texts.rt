@@ -4,7 +4,7 @@ ghost use Rattle.std.specs.List.{list_all};
 ghost use Rattle.sb_dup.specs.Lines.{is_between, most_moves};
 ghost use Rattle.sb_dup.specs.MoveTexts.{column_on, grammar, in_characters, reading};
 ghost use Rattle.sb_dup.specs.declared.faults.MoveKind.TheVariants.{UnknownWord};
-ghost use Rattle.sb_items.specs.Refusals.{Gives};
+ghost use Rattle.sb_base.specs.Refusals.{Gives};
 ghost use Rattle.sb_text.specs.Lines.{line_numbered};
 ghost use Rattle.sb_text.specs.Spots.{by_tokens, by_words, characters};
 ghost use Rattle.sb_text.specs.declared.refusals.WordFault.TheVariants.{NoVersion};

@@ -1,6 +1,6 @@
 // Moves of handles, and how they are answered.
 
-use sb_items::Items;
+use sb_base::Items;
 use sb_rule::Verdict;
 
 /// A move: a target gives another target a handle on what it holds open itself.

@@ -1,12 +1,11 @@
 // The names of objects.
 ghost use Rattle.std.specs.Prelude.{◌≡◌, true, IfOk, IfSome};
-ghost use Rattle.sb_wide.specs.Names.{is_name_of};
+ghost use Rattle.sb_base.specs.Names.{is_name_of};
 ghost use Rattle.sb_dup.specs.Names.{object_name};
 
+use sb_base::{NoMemory, Wide};
 use sb_handles::Object;
-use sb_items::NoMemory;
 use sb_kernel::Kernel;
-use sb_wide::Wide;
 
 #[tactic(auto, using(crate::proofs::Naming::name_is, crate::proofs::Naming::is_named))]
 /// The folded name of an object of a kernel, or None if nothing leads to it. A pipe has none.

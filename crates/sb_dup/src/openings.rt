@@ -3,16 +3,15 @@ ghost use Rattle.std.specs.Prelude.{◌≡◌, ◌∷◌, [], true, Some, IfOk, 
 ghost use Rattle.sb_call.specs.Arguments.{fits};
 ghost use Rattle.sb_call.specs.declared.arguments.Arg.TheVariants.{Num, Str};
 ghost use Rattle.sb_call.specs.declared.tags.CallTag.TheVariants as tags;
-ghost use Rattle.sb_wide.specs.Names.{is_name_of};
+ghost use Rattle.sb_base.specs.Names.{is_name_of};
 ghost use Rattle.sb_dup.specs.Openings.{opening_named, opening_of};
 
 use crate::names::object_name;
 use bitflags::Flags;
+use sb_base::{NoMemory, Wide};
 use sb_call::{Arg, Args, CallTag};
 use sb_handles::{Held, Service};
-use sb_items::NoMemory;
 use sb_kernel::Kernel;
-use sb_wide::Wide;
 use std::alloc::Global;
 
 /// A call that opens an object.

@@ -5,8 +5,8 @@ ghost use Rattle.sb_gen.specs.Calls.{file_create, file_query, file_open, event_c
 
 use crate::generator::Generator;
 use crate::names::{made_text, name_within, other_name, root_name};
+use sb_base::NoMemory;
 use sb_call::{Arg, Args, CallTag};
-use sb_items::NoMemory;
 use sb_statements::Statement;
 use std::alloc::Global;
 

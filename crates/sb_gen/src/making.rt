@@ -7,8 +7,8 @@ ghost use Rattle.sb_gen.specs.Scripts.{script_of};
 
 use crate::policies::policies;
 use crate::scripts::script;
+use sb_base::NoMemory;
 use sb_book::OpenedScript;
-use sb_items::NoMemory;
 use sb_statements::SoundScript;
 use std::alloc::Global;
 

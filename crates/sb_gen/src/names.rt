@@ -3,8 +3,7 @@ ghost use Rattle.std.specs.Prelude.{◌≡◌, ◌++◌, OnOk, IfOk, codes};
 ghost use Rattle.std.specs.Fmt.{decimal};
 ghost use Rattle.sb_gen.specs.Calls.{directory, name_within, root_name, other_name};
 
-use sb_items::NoMemory;
-use sb_wide::{Wide, put_decimal};
+use sb_base::{NoMemory, Wide, put_decimal};
 use std::alloc::Global;
 
 // Appends an ASCII text and a number in decimal.

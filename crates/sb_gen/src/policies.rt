@@ -2,7 +2,7 @@
 ghost use Rattle.std.specs.Prelude.{◌≡◌, length, IfOk};
 ghost use Rattle.sb_gen.specs.Policies.{policy_text, AreMade};
 
-use sb_items::NoMemory;
+use sb_base::NoMemory;
 use sb_rule::WellMadePolicies;
 use sb_ruletext::{TextRefused, read_policies};
 use std::alloc::Global;

@@ -9,8 +9,8 @@ ghost use Rattle.sb_gen.specs.Scripts.{directories_of, start_of, name_of, thread
 use crate::calls::statement;
 use crate::generator::Generator;
 use crate::names::{directory, make_directory};
+use sb_base::NoMemory;
 use sb_call::ShortName;
-use sb_items::NoMemory;
 use sb_statements::{
     Script, StartLine, StartLines, Statement, Statements, TargetScript, Targets, Threads,
 };

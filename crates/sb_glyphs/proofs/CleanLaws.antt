@@ -14,7 +14,7 @@ use Rattle.bstr.proofs.lemmas.SoundLemmas.{SpellsChar-decoded}
 use Rattle.ucd_category.specs.GeneralCategory.{general_category}
 use Rattle.ucd_category.specs.GeneralCategoryRows.{general_category_rows}
 use Rattle.ucd_table.specs.Rows.{value_in}
-use Rattle.sb_wide.specs.Numbers.{hexadecimal}
+use Rattle.sb_base.specs.Numbers.{hexadecimal}
 use Rattle.sb_glyphs.specs.declared.glyphs.Glyph.{Glyph}
 use Rattle.sb_glyphs.specs.declared.glyphs.Glyph.TheVariants.{Char, Byte}
 use Rattle.sb_glyphs.specs.CleanTexts.{is_clean, IsClean}

@@ -5,7 +5,7 @@ use Rattle.std.specs.List.{flat_map}
 use Rattle.bstr.specs.Utf8.{decoded}
 use Rattle.ucd_category.specs.GeneralCategory.{general_category, general_category_eq}
 use Rattle.ucd_category.specs.declared.GeneralCategory.TheVariants.{Format}
-use Rattle.sb_wide.specs.Numbers.{hexadecimal}
+use Rattle.sb_base.specs.Numbers.{hexadecimal}
 use Rattle.sb_glyphs.specs.declared.glyphs.Glyph.{Glyph}
 use Rattle.sb_glyphs.specs.declared.glyphs.Glyph.TheVariants.{Char, Byte}
 

@@ -3,7 +3,7 @@ ghost use Rattle.std.specs.Prelude.{◌≡◌, ◌≤◌, ◌-◌, ◌++◌, [],
 ghost use Rattle.sb_glyphs.specs.Excerpts.{window_start, dots, excerpt_from, excerpt_in, width, blanks_under, caret_from, caret_in, excerpt_lines_in};
 
 use crate::glyphs::{Glyph, is_tab, put_glyph, put_glyphs};
-use sb_items::NoMemory;
+use sb_base::NoMemory;
 use unicode_width::UnicodeWidthStr;
 
 /// How many glyphs of a line are shown at most.

@@ -4,7 +4,7 @@ ghost use Rattle.sb_glyphs.specs.Glyphs.{glyphs_of, is_hidden, is_tab, escaped, 
 
 use crate::numbers::put_hexadecimal_text;
 use bstr::decode_utf8;
-use sb_items::NoMemory;
+use sb_base::NoMemory;
 use std::alloc::Global;
 use ucd_category::GeneralCategory;
 

@@ -1,9 +1,9 @@
 // How numbers are written into a text. What the text is after an error is not specified.
 ghost use Rattle.std.specs.Prelude.{◌≡◌, ◌++◌, OnOk, string_bytes};
 ghost use Rattle.std.specs.Fmt.{decimal};
-ghost use Rattle.sb_wide.specs.Numbers.{hexadecimal};
+ghost use Rattle.sb_base.specs.Numbers.{hexadecimal};
 
-use sb_items::NoMemory;
+use sb_base::NoMemory;
 use std::alloc::Global;
 use std::fmt::Write;
 

@@ -4,7 +4,7 @@ ghost use Rattle.sb_glyphs.specs.Tokens.{is_char, is_blank_glyph, until, first_t
 
 use crate::excerpts::{dots, first_glyphs};
 use crate::glyphs::{Glyph, first_glyphs_of, put_glyphs};
-use sb_items::NoMemory;
+use sb_base::NoMemory;
 
 /// How many characters of a token are shown at most.
 const MOST_NAMED: usize = 40;

@@ -10,7 +10,7 @@ use Rattle.std.specs.declared.cmp.Ordering.TheVariants.{Less}
 use Rattle.sb_handles.specs.Agreements.{file_share_by, is_file}
 use Rattle.sb_handles.specs.Laws.{ConflictsAreHeld, ConflictsAreOpen, ConflictsAreLowest, HeldHandlesConflict, IsConflicting, NoConflictMeansNone}
 use Rattle.sb_handles.specs.Shares.{Shares, SharesRise, conflicts, conflict_of, is_conflict, share_on}
-use Rattle.sb_items.specs.Orders.{by_pair}
+use Rattle.sb_base.specs.Orders.{by_pair}
 use Rattle.sb_handles.specs.declared.objects.OpenHandle.{OpenHandle}
 use Rattle.sb_handles.specs.declared.objects.Share.{Share}
 

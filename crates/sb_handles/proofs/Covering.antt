@@ -6,7 +6,7 @@ use Rattle.std.specs.Prelude.{Option, None, Some, is_some, not, ◌&&◌, ◌||�
 use Rattle.std.specs.BTreeMap.{get, is_at}
 use Rattle.sb_call.specs.Statuses.{meets}
 use Rattle.sb_handles.specs.Shares.{conflicts, exceeds, takes_part, read_bits, write_bits, delete_bits, share_read, share_write, share_delete}
-use Rattle.sb_items.specs.Orders.{by_pair}
+use Rattle.sb_base.specs.Orders.{by_pair}
 use Rattle.sb_handles.specs.Sets.{HasShare, HasShares, conflicts_by, is_exceeding, is_unshared}
 use Rattle.sb_handles.specs.declared.objects.Share.{Share}
 use Rattle.sb_handles.specs.declared.sets.Sets.{Sets}

@@ -12,7 +12,7 @@ use Rattle.std.specs.List.{AllByRecursion, find}
 use Rattle.std.specs.List.Sorted.{IsStrictlySortedBy}
 use Rattle.std.specs.Map.{keys_of, lookup}
 use Rattle.sb_handles.specs.Shares.{Shares, SharesRise, conflicts, conflict_of, share_on}
-use Rattle.sb_items.specs.Orders.{by_pair}
+use Rattle.sb_base.specs.Orders.{by_pair}
 use Rattle.sb_handles.specs.Sets.{IsLowest, conflicts_by, is_met, lower_of}
 use Rattle.sb_handles.specs.declared.objects.Share.{Share}
 use Rattle.sb_handles.proofs.ConflictLaws.{is_lowest, is_open, none_conflicts}

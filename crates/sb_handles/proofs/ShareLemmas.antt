@@ -10,7 +10,7 @@ use Rattle.std.specs.declared.ops.Bound.TheVariants.{Included}
 use Rattle.std.specs.List.{filter, find, list_all}
 use Rattle.std.specs.Map.{remove_entry}
 use Rattle.sb_handles.specs.Shares.{left}
-use Rattle.sb_items.specs.Orders.{by_pair}
+use Rattle.sb_base.specs.Orders.{by_pair}
 use Rattle.sb_handles.specs.declared.objects.Share.{Share}
 use Rattle.sb_handles.proofs.IndexLemmas.{same_pair}
 

@@ -14,7 +14,7 @@ use Rattle.std.specs.Ordering.{match_ordering, is_eq}
 use Rattle.std.specs.declared.cmp.Ordering.{Ordering}
 use Rattle.sb_handles.specs.Agreements.{is_file, is_pipe, file_share, file_share_by}
 use Rattle.sb_handles.specs.Shares.{Shares, SharesRise, left, left_on, opened, share_on}
-use Rattle.sb_items.specs.Orders.{by_pair}
+use Rattle.sb_base.specs.Orders.{by_pair}
 use Rattle.sb_handles.specs.declared.objects.Share.{Share}
 use Rattle.sb_handles.proofs.ConflictLaws.{none_lower}
 use Rattle.sb_handles.proofs.IndexLemmas.{same_pair}

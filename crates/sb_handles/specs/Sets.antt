@@ -3,7 +3,7 @@ use Rattle.std.specs.Prelude.{◌≡◌, ◌<◌, ◌^◌, ℕ, Bool, true, fals
 use Rattle.std.specs.BTreeMap.{get}
 use Rattle.sb_call.specs.Statuses.{meets}
 use Rattle.sb_handles.specs.Shares.{conflicts, takes_part, read_bits, write_bits, delete_bits, share_read, share_write, share_delete}
-use Rattle.sb_items.specs.Orders.{by_pair}
+use Rattle.sb_base.specs.Orders.{by_pair}
 use Rattle.sb_handles.specs.declared.objects.Share.{Share}
 use Rattle.sb_handles.specs.declared.sets.Sets.{Sets}
 

@@ -6,7 +6,7 @@ use Rattle.std.specs.List.Sorted.{IsStrictlySortedBy}
 use Rattle.std.specs.Map.{keys_of, lookup, remove_entry}
 use Rattle.sb_call.specs.Statuses.{meets}
 use Rattle.sb_handles.specs.declared.objects.Share.{Share}
-use Rattle.sb_items.specs.Orders.{by_pair}
+use Rattle.sb_base.specs.Orders.{by_pair}
 
 -- reads data or executes, by itself or by a generic right
 abbrev pub read_bits : ℕ

@@ -2,14 +2,14 @@
 ghost use Rattle.std.specs.Prelude.{◌≡◌, ℕ, Bool, Option, true, false, is_some, OnOk};
 ghost use Rattle.std.specs.BTreeMap.{get, is_at};
 ghost use Rattle.sb_handles.specs.Shares.{takes_part, exceeds, conflicts};
-ghost use Rattle.sb_items.specs.Orders.{by_pair};
+ghost use Rattle.sb_base.specs.Orders.{by_pair};
 ghost use Rattle.sb_handles.specs.Sets.{HasShare, HasShares, IsLowest, conflicts_by, is_exceeding, is_met, is_unshared, lower_of};
 ghost use Rattle.sb_handles.specs.declared.objects.Share.{Share};
 
 use crate::masks::{Access, Sharing};
 use crate::objects::Share;
 use bitflags::Flags;
-use sb_items::NoMemory;
+use sb_base::NoMemory;
 use std::alloc::Global;
 use std::collections::BTreeMap;
 

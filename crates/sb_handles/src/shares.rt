@@ -5,7 +5,7 @@ ghost use Rattle.sb_handles.specs.Shares.{SharesRise, conflict_of, opened, left_
 use crate::masks::{Access, Sharing};
 use crate::objects::Share;
 use crate::sets::Sets;
-use sb_items::NoMemory;
+use sb_base::NoMemory;
 use std::alloc::Global;
 use std::collections::BTreeMap;
 use std::marker::Model;
@@ -33,7 +33,7 @@ impl Model for ShareTable {
     ghost use Rattle.std.specs.BTreeMap.{get};
     ghost use Rattle.sb_handles.specs.Sets.{HasShares};
     ghost use Rattle.sb_handles.specs.Shares.{Shares};
-    ghost use Rattle.sb_items.specs.Orders.{by_pair};
+    ghost use Rattle.sb_base.specs.Orders.{by_pair};
 
     ghost Value = { Shares };
 

@@ -4,7 +4,7 @@ ghost use Rattle.sb_handles.specs.Tables.{HasRoom, no_handles, held_by, with_han
 ghost use Rattle.sb_handles.specs.Slots.{slot_of};
 
 use crate::objects::{Held, NotHeld};
-use sb_items::NoMemory;
+use sb_base::NoMemory;
 use std::alloc::Global;
 use std::marker::Model;
 

@@ -10,8 +10,8 @@ use Rattle.std.proofs.lemmas.List.Folds.{list_all-append, list_any-append}
 use Rattle.std.proofs.lemmas.Bool.Decides.{nat_tests}
 use Rattle.std.proofs.lemmas.Nat.Bits.{bit_at-lt, bit_at-trailing_zeros, bit_at_and, bit_at_clear_other, bit_at_clear_same, bit_at_not, bit_at_or, bit_at-zero, bit_at_set_other}
 use Rattle.std.proofs.lemmas.Nat.{and_le_l}
-use Rattle.sb_pattern.specs.declared.cells.Cell.{Cell}
-use Rattle.sb_wide.specs.Wide.{folded}
+use Rattle.sb_rule.specs.declared.cells.Cell.{Cell}
+use Rattle.sb_base.specs.Wide.{folded}
 use Rattle.sb_rule.specs.declared.conditions.Cond.{Cond}
 use Rattle.sb_index.specs.Questions.{cond_may_pass, is_in_bucket, is_cell_in_bucket}
 use Rattle.sb_index.specs.declared.questions.Question.TheVariants.{Without}

@@ -2,10 +2,10 @@
 use Rattle.std.proofs.Common.{◌≡◌, ◌≤◌, ◌+◌, ◌*◌, ◌%◌, ◌^◌, ℕ, zero, suc, true, List, [], ◌∷◌, drop, eqb, refl, ap, arith}
 use Rattle.std.specs.Prelude.{nat_eq}
 use Rattle.std.proofs.lemmas.Bool.{and_parts, eqb-true, false≢true}
-use Rattle.sb_wide.specs.Wide.{folded, is_same}
-use Rattle.sb_pattern.specs.Matching.{matches}
-use Rattle.sb_pattern.specs.declared.cells.Cell.{Cell}
-use Rattle.sb_pattern.specs.declared.cells.Cell.TheVariants.{Lit, One, Any}
+use Rattle.sb_base.specs.Wide.{folded, is_same}
+use Rattle.sb_rule.specs.Matching.{matches}
+use Rattle.sb_rule.specs.declared.cells.Cell.{Cell}
+use Rattle.sb_rule.specs.declared.cells.Cell.TheVariants.{Lit, One, Any}
 use Rattle.sb_index.specs.Fronts.{digit, key, edge, past}
 
 digit_small : (u : ℕ) → digit u ≤ 65535

@@ -1,8 +1,8 @@
 -- What the units of a string from one place on are as a number, and what a pattern says of that number.
 use Rattle.std.specs.Prelude.{ℕ, ◌+◌, ◌*◌, ◌%◌, ◌^◌, zero, suc, List, [], ◌∷◌}
-use Rattle.sb_wide.specs.Wide.{folded}
-use Rattle.sb_pattern.specs.declared.cells.Cell.{Cell}
-use Rattle.sb_pattern.specs.declared.cells.Cell.TheVariants.{Lit, One, Any}
+use Rattle.sb_base.specs.Wide.{folded}
+use Rattle.sb_rule.specs.declared.cells.Cell.{Cell}
+use Rattle.sb_rule.specs.declared.cells.Cell.TheVariants.{Lit, One, Any}
 
 -- a unit, folded, as a digit of such a number
 abbrev pub digit : ℕ → ℕ

@@ -2,7 +2,7 @@
 ghost use Rattle.std.specs.Prelude.{◌≡◌, ◌≤◌, ◌<◌, ◌^◌, length, take, IfOk};
 ghost use Rattle.sb_index.specs.Bounds.{IsRising, most_bounds, first_of, last_of, rising_above};
 
-use sb_items::NoMemory;
+use sb_base::NoMemory;
 use std::alloc::Global;
 use std::marker::Model;
 

@@ -15,8 +15,8 @@ use crate::marks::{empty_sets, put};
 use crate::needs::{rule_bits, units_bits};
 use crate::sets::RuleSet;
 use crate::tables::units_in;
+use sb_base::NoMemory;
 use sb_call::{Arg, CallTag};
-use sb_items::NoMemory;
 use sb_rule::Rule;
 use std::alloc::Global;
 

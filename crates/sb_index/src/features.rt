@@ -7,8 +7,8 @@ ghost use Rattle.sb_index.specs.Tables.{rules_for};
 use crate::bounds::Bounds;
 use crate::questions::Feature;
 use crate::values::{Values, values_of};
+use sb_base::NoMemory;
 use sb_call::{CallTag, ParamKind};
-use sb_items::NoMemory;
 use sb_rule::{MOST_RULES, Rule};
 use std::alloc::Global;
 

@@ -2,8 +2,8 @@
 ghost use Rattle.std.specs.Prelude.{◌≡◌, ◌+◌, ◌*◌, ◌^◌, ◌≤◌, ℕ, suc, drop, length};
 ghost use Rattle.sb_index.specs.Fronts.{digit, key, edge, past};
 
-use sb_pattern::Cell;
-use sb_wide::to_ascii_uppercase;
+use sb_base::to_ascii_uppercase;
+use sb_rule::Cell;
 
 // Four digits as one number, the first digit highest.
 fn join(a: u16, b: u16, c: u16, d: u16) -> u64

@@ -4,7 +4,7 @@ ghost use Rattle.sb_index.specs.Marks.{AreFresh, AreSized, is_marked, up_to};
 ghost use Rattle.sb_index.specs.Sets.{has};
 
 use crate::sets::RuleSet;
-use sb_items::NoMemory;
+use sb_base::NoMemory;
 use std::alloc::Global;
 
 /// In which slots rules may hold: some in single slots, the others from the slot in which they begin to that in which they end. So a rule

@@ -5,9 +5,8 @@ ghost use Rattle.std.specs.List.{list_all, list_any};
 ghost use Rattle.sb_index.specs.Questions.{is_in_bucket, is_cell_in_bucket, needs_bucket, cond_may_pass, may_pass};
 ghost use Rattle.sb_index.specs.declared.questions.Question.TheVariants.{Without};
 
-use sb_pattern::Cell;
-use sb_rule::{Cond, Rule, Test};
-use sb_wide::to_ascii_uppercase;
+use sb_base::to_ascii_uppercase;
+use sb_rule::{Cell, Cond, Rule, Test};
 
 // The bits, and that of the bucket of a unit.
 #[inline(always)]

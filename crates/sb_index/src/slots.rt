@@ -13,8 +13,8 @@ use crate::bounds::Bounds;
 use crate::marks::Marks;
 use crate::questions::Feature;
 use crate::values::{Values, conds_pass, values_of_all};
+use sb_base::NoMemory;
 use sb_call::CallTag;
-use sb_items::NoMemory;
 use sb_rule::{Cond, Rule};
 use std::alloc::Global;
 

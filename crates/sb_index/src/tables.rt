@@ -14,8 +14,8 @@ use crate::fronts::{key, rest_after};
 use crate::questions::Feature;
 use crate::sets::RuleSet;
 use crate::slots::marks_of;
+use sb_base::NoMemory;
 use sb_call::{Arg, CallTag};
-use sb_items::NoMemory;
 use sb_rule::Rule;
 use std::alloc::Global;
 

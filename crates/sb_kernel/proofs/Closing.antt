@@ -4,10 +4,10 @@ use Rattle.sb_handles.specs.Agreements.{is_file, is_pipe}
 use Rattle.sb_handles.specs.Tables.{Table, IsTable, held_by, without_handle}
 use Rattle.sb_handles.specs.declared.objects.Held.{Held}
 use Rattle.sb_handles.specs.declared.objects.Service.TheVariants as service
-use Rattle.sb_file.specs.Files as files
-use Rattle.sb_file.specs.Laws.{ClosesKeepFiles, ClosesLeaveFiles}
-use Rattle.sb_pipe.specs.Laws.{ClosesKeepPipes, ClosesLeavePipes}
-use Rattle.sb_pipe.specs.Pipes as pipes
+use Rattle.sb_services.specs.Files as files
+use Rattle.sb_services.specs.FileLaws.{ClosesKeepFiles, ClosesLeaveFiles}
+use Rattle.sb_services.specs.PipeLaws.{ClosesKeepPipes, ClosesLeavePipes}
+use Rattle.sb_services.specs.Pipes as pipes
 use Rattle.sb_kernel.specs.Held.{AreHeld}
 use Rattle.sb_kernel.specs.Kept.{IsKept}
 use Rattle.sb_kernel.proofs.Holding.{held_closed, row_stays}

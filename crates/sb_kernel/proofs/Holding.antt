@@ -12,28 +12,28 @@ use Rattle.sb_handles.specs.declared.objects.Held.{Held}
 use Rattle.sb_handles.specs.declared.objects.OpenHandle.{OpenHandle}
 use Rattle.sb_handles.specs.declared.objects.Service.{Service}
 use Rattle.sb_handles.specs.declared.objects.Service.TheVariants as service
-use Rattle.sb_wide.specs.Names.{is_name_of}
+use Rattle.sb_base.specs.Names.{is_name_of}
 use Rattle.sb_names.specs.Keys.{key_of}
 use Rattle.sb_names.specs.Maps.{found, is_key}
 use Rattle.sb_names.specs.Renames.{renamed_key}
-use Rattle.sb_file.specs.Creation as creation
-use Rattle.sb_file.specs.Files as files
-use Rattle.sb_file.specs.Laws as file_laws
-use Rattle.sb_file.specs.declared.requests.FileRequest.{FileRequest}
-use Rattle.sb_pipe.specs.Laws as pipe_laws
-use Rattle.sb_pipe.specs.Pipes as pipes
-use Rattle.sb_pipe.specs.declared.rows.PipeRow.{PipeRow}
-use Rattle.sb_key.specs.Laws as key_laws
-use Rattle.sb_key.specs.Registry as registry
-use Rattle.sb_event.specs.Events as events
-use Rattle.sb_event.specs.declared.kinds.EventKind.{EventKind}
-use Rattle.sb_pipe.specs.declared.modes.PipeForm.{PipeForm}
-use Rattle.sb_pipe.specs.declared.modes.PipeMode.{PipeMode}
-use Rattle.sb_event.specs.Laws as event_laws
-use Rattle.sb_event.specs.Events.{number_of}
+use Rattle.sb_services.specs.Creation as creation
+use Rattle.sb_services.specs.Files as files
+use Rattle.sb_services.specs.FileLaws as file_laws
+use Rattle.sb_services.specs.declared.file_requests.FileRequest.{FileRequest}
+use Rattle.sb_services.specs.PipeLaws as pipe_laws
+use Rattle.sb_services.specs.Pipes as pipes
+use Rattle.sb_services.specs.declared.pipe_rows.PipeRow.{PipeRow}
+use Rattle.sb_services.specs.KeyLaws as key_laws
+use Rattle.sb_services.specs.Registry as registry
+use Rattle.sb_services.specs.Events as events
+use Rattle.sb_services.specs.declared.kinds.EventKind.{EventKind}
+use Rattle.sb_services.specs.declared.modes.PipeForm.{PipeForm}
+use Rattle.sb_services.specs.declared.modes.PipeMode.{PipeMode}
+use Rattle.sb_services.specs.EventLaws as event_laws
+use Rattle.sb_services.specs.Events.{number_of}
 use Rattle.sb_kernel.specs.Held.{AreHeld, AreNarrow, HasRow, HaveRows, IsUnder, is_narrow, itself}
-use Rattle.sb_file.specs.declared.objects.FileObject.{FileObject}
-use Rattle.sb_event.specs.declared.rows.EventRow.{EventRow}
+use Rattle.sb_services.specs.declared.file_objects.FileObject.{FileObject}
+use Rattle.sb_services.specs.declared.event_rows.EventRow.{EventRow}
 use Rattle.sb_names.specs.Laws.{PutsKeepRows}
 use Rattle.sb_names.specs.Trees.{has_parent}
 use Rattle.sb_kernel.specs.Namespaces.{Space, empty_space, on_events, on_files, on_keys, on_pipes}

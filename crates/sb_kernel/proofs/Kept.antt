@@ -1,31 +1,31 @@
 -- What each call leaves of the kernel's agreements.
 use Rattle.std.proofs.Common.{◌≡◌, ◌∙◌, ℕ, ◌+◌, ◌≤◌, Bool, true, false, List, length, refl, sym, ap, subst, arith, inl, inr}
 use Rattle.std.specs.Prelude.{◌^◌, nat_lt}
-use Rattle.sb_wide.specs.Names.{is_name_of}
+use Rattle.sb_base.specs.Names.{is_name_of}
 use Rattle.sb_handles.specs.Agreements.{AgreesOnFiles, is_file, is_pipe}
 use Rattle.sb_handles.specs.Tables.{Table, IsTable}
 use Rattle.sb_handles.specs.declared.objects.Service.{Service}
 use Rattle.sb_handles.specs.declared.objects.Service.TheVariants as service
-use Rattle.sb_file.specs.Files as files
-use Rattle.sb_file.specs.Laws.{CreatesGrantTheirFile, CreatesKeepNames, GrantsLeaveFiles, RenamesKeepObjects, RenamesMove}
-use Rattle.sb_file.specs.Laws as files_refused
-use Rattle.sb_key.specs.Laws.{CreatesGrantTheirKey, CreatesKeepKeys, OpensGrantTheirKey, OpensLeaveKeys}
-use Rattle.sb_key.specs.Laws as keys_refused
-use Rattle.sb_event.specs.Laws.{CreatesGrantTheirEvent, CreatesKeepEvents, OpensGrantTheirEvent, OpensLeaveEvents}
-use Rattle.sb_event.specs.Laws as events_refused
-use Rattle.sb_pipe.specs.Laws as pipes_refused
-use Rattle.sb_file.specs.declared.requests.FileRequest.{FileRequest}
-use Rattle.sb_pipe.specs.Laws.{CallsGrantTheirPipe, CallsKeepCounts, GrantsLeavePipes}
-use Rattle.sb_pipe.specs.Pipes as pipes
-use Rattle.sb_key.specs.Registry as registry
-use Rattle.sb_event.specs.Events as events
-use Rattle.sb_event.specs.declared.kinds.EventKind.{EventKind}
-use Rattle.sb_pipe.specs.declared.modes.PipeForm.{PipeForm}
-use Rattle.sb_pipe.specs.declared.modes.PipeMode.{PipeMode}
+use Rattle.sb_services.specs.Files as files
+use Rattle.sb_services.specs.FileLaws.{CreatesGrantTheirFile, CreatesKeepNames, GrantsLeaveFiles, RenamesKeepObjects, RenamesMove}
+use Rattle.sb_services.specs.FileLaws as files_refused
+use Rattle.sb_services.specs.KeyLaws.{CreatesGrantTheirKey, CreatesKeepKeys, OpensGrantTheirKey, OpensLeaveKeys}
+use Rattle.sb_services.specs.KeyLaws as keys_refused
+use Rattle.sb_services.specs.EventLaws.{CreatesGrantTheirEvent, CreatesKeepEvents, OpensGrantTheirEvent, OpensLeaveEvents}
+use Rattle.sb_services.specs.EventLaws as events_refused
+use Rattle.sb_services.specs.PipeLaws as pipes_refused
+use Rattle.sb_services.specs.declared.file_requests.FileRequest.{FileRequest}
+use Rattle.sb_services.specs.PipeLaws.{CallsGrantTheirPipe, CallsKeepCounts, GrantsLeavePipes}
+use Rattle.sb_services.specs.Pipes as pipes
+use Rattle.sb_services.specs.Registry as registry
+use Rattle.sb_services.specs.Events as events
+use Rattle.sb_services.specs.declared.kinds.EventKind.{EventKind}
+use Rattle.sb_services.specs.declared.modes.PipeForm.{PipeForm}
+use Rattle.sb_services.specs.declared.modes.PipeMode.{PipeMode}
 use Rattle.sb_kernel.specs.Kept.{IsKept}
 use Rattle.sb_statements.specs.Limits.{most_start_lines}
 use Rattle.sb_kernel.specs.Namespaces.{Space}
-use Rattle.sb_file.specs.Creation as creation
+use Rattle.sb_services.specs.Creation as creation
 use Rattle.sb_names.specs.Maps.{found}
 use Rattle.sb_kernel.specs.Held.{AreHeld}
 use Rattle.sb_kernel.proofs.Holding.{events_held, files_held, found_held, keys_held, pipes_held, reached_held, renamed_held}

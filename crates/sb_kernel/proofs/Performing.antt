@@ -2,15 +2,15 @@
 use Rattle.std.proofs.Common.{◌≡◌, ℕ, refl, Option, None, Some}
 use Rattle.std.proofs.lemmas.Bool.{and_parts}
 use Rattle.std.specs.Prelude.{◌^◌, nat_lt}
-use Rattle.sb_wide.specs.Names.{is_name_of}
+use Rattle.sb_base.specs.Names.{is_name_of}
 use Rattle.sb_handles.specs.Tables.{held_by, without_handle}
 use Rattle.sb_handles.specs.declared.objects.Held.{Held}
 use Rattle.sb_handles.specs.declared.objects.Service.{Service}
 use Rattle.sb_handles.specs.declared.objects.Service.TheVariants as service
-use Rattle.sb_file.specs.Laws as file_laws
-use Rattle.sb_pipe.specs.Laws as pipe_laws
-use Rattle.sb_key.specs.Laws as key_laws
-use Rattle.sb_event.specs.Laws as event_laws
+use Rattle.sb_services.specs.FileLaws as file_laws
+use Rattle.sb_services.specs.PipeLaws as pipe_laws
+use Rattle.sb_services.specs.KeyLaws as key_laws
+use Rattle.sb_services.specs.EventLaws as event_laws
 use Rattle.sb_kernel.specs.Kept.{IsKept, IsSound}
 use Rattle.sb_kernel.specs.Laws.{RequestsAreKept}
 use Rattle.sb_kernel.specs.Namespaces.{Space, close_by, left_by}

@@ -5,11 +5,11 @@ use Rattle.std.proofs.lemmas.List.{length-append}
 use Rattle.std.proofs.lemmas.Bool.{false≢true}
 use Rattle.sb_statements.specs.declared.scripts.StartLine.{StartLine}
 use Rattle.sb_statements.specs.declared.scripts.StartLine.TheVariants.{Dir, File, Key, Event}
-use Rattle.sb_file.specs.Files as files
-use Rattle.sb_file.specs.declared.objects.FileObject.{FileObject}
-use Rattle.sb_key.specs.Registry as registry
-use Rattle.sb_event.specs.Events as events
-use Rattle.sb_event.specs.Kinds.{kind_from, state_from}
+use Rattle.sb_services.specs.Files as files
+use Rattle.sb_services.specs.declared.file_objects.FileObject.{FileObject}
+use Rattle.sb_services.specs.Registry as registry
+use Rattle.sb_services.specs.Events as events
+use Rattle.sb_services.specs.Kinds.{kind_from, state_from}
 use Rattle.sb_kernel.specs.Kept.{MadeAtMost}
 use Rattle.sb_kernel.specs.Namespaces.{Space, empty_space}
 use Rattle.sb_kernel.specs.Openings.{placed, opened_from, OpeningsMakeFew}

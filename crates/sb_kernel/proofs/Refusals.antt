@@ -2,17 +2,17 @@
 use Rattle.std.proofs.Common.{◌≡◌, ℕ, Bool, true, false, ◌||◌, Option, None, Some, refl, sym, subst, ap}
 use Rattle.std.proofs.lemmas.Bool.{false≢true}
 use Rattle.sb_call.specs.Statuses.{success}
-use Rattle.sb_event.specs.Events as events
-use Rattle.sb_event.specs.Laws as event_laws
-use Rattle.sb_file.specs.Files as files
-use Rattle.sb_file.specs.Laws as file_laws
+use Rattle.sb_services.specs.Events as events
+use Rattle.sb_services.specs.EventLaws as event_laws
+use Rattle.sb_services.specs.Files as files
+use Rattle.sb_services.specs.FileLaws as file_laws
 use Rattle.sb_handles.specs.Effects.{is_done}
 use Rattle.sb_handles.specs.Tables.{Table, held_by}
 use Rattle.sb_handles.specs.declared.objects.Held.{Held}
-use Rattle.sb_key.specs.Laws as key_laws
-use Rattle.sb_key.specs.Registry as registry
-use Rattle.sb_pipe.specs.Laws as pipe_laws
-use Rattle.sb_pipe.specs.Pipes as pipes
+use Rattle.sb_services.specs.KeyLaws as key_laws
+use Rattle.sb_services.specs.Registry as registry
+use Rattle.sb_services.specs.PipeLaws as pipe_laws
+use Rattle.sb_services.specs.Pipes as pipes
 use Rattle.sb_kernel.specs.Laws.{RefusedCallsChangeNothing, UnheldClosesChangeNothing}
 use Rattle.sb_kernel.specs.Namespaces.{Space, close_by, perform_by, perform_request}
 use Rattle.sb_kernel.specs.Requests.{Request, request_of}

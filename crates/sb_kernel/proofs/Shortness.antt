@@ -2,22 +2,22 @@
 use Rattle.std.proofs.Common.{◌≤◌, ℕ, Bool, true, false, not, if◌then◌else◌, List, length, Option, None, Some, lit≤, arith}
 use Rattle.sb_call.specs.Statuses.{refusal, path_not_found}
 use Rattle.sb_call.specs.declared.replies.Answer.{Answer}
-use Rattle.sb_event.specs.Events as events
-use Rattle.sb_event.specs.declared.kinds.EventKind.{EventKind}
-use Rattle.sb_pipe.specs.declared.modes.PipeForm.{PipeForm}
-use Rattle.sb_pipe.specs.declared.modes.PipeMode.{PipeMode}
-use Rattle.sb_event.specs.declared.rows.EventRow.{EventRow}
-use Rattle.sb_file.specs.Creation as creation
-use Rattle.sb_file.specs.Files as files
-use Rattle.sb_file.specs.Requests.{replaces}
-use Rattle.sb_file.specs.declared.requests.FileRequest.{FileRequest}
+use Rattle.sb_services.specs.Events as events
+use Rattle.sb_services.specs.declared.kinds.EventKind.{EventKind}
+use Rattle.sb_services.specs.declared.modes.PipeForm.{PipeForm}
+use Rattle.sb_services.specs.declared.modes.PipeMode.{PipeMode}
+use Rattle.sb_services.specs.declared.event_rows.EventRow.{EventRow}
+use Rattle.sb_services.specs.Creation as creation
+use Rattle.sb_services.specs.Files as files
+use Rattle.sb_services.specs.FileRequests.{replaces}
+use Rattle.sb_services.specs.declared.file_requests.FileRequest.{FileRequest}
 use Rattle.sb_handles.specs.Effects.{Effect}
 use Rattle.sb_handles.specs.Tables.{Table, held_by}
 use Rattle.sb_handles.specs.declared.objects.Held.{Held}
-use Rattle.sb_key.specs.Registry as registry
+use Rattle.sb_services.specs.Registry as registry
 use Rattle.sb_names.specs.Maps.{found}
-use Rattle.sb_pipe.specs.Pipes as pipes
-use Rattle.sb_pipe.specs.declared.rows.PipeRow.{PipeRow}
+use Rattle.sb_services.specs.Pipes as pipes
+use Rattle.sb_services.specs.declared.pipe_rows.PipeRow.{PipeRow}
 use Rattle.sb_kernel.specs.Laws.{AnswersAreShort}
 use Rattle.sb_kernel.specs.Namespaces.{Space, close_by, perform_by, perform_request}
 use Rattle.sb_kernel.specs.Requests.{Request, request_of}

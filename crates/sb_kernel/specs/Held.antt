@@ -9,7 +9,7 @@ use Rattle.sb_handles.specs.declared.objects.Service.TheVariants as service
 use Rattle.sb_handles.specs.declared.objects.Object.{Object}
 use Rattle.sb_names.specs.Maps.{Rows, is_key}
 use Rattle.sb_names.specs.Objects.{IsNameBy, IsNameOf}
-use Rattle.sb_event.specs.Events as events
+use Rattle.sb_services.specs.Events as events
 use Rattle.sb_kernel.specs.Namespaces.{Space}
 
 module _ {V : Type 0} where

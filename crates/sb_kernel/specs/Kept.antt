@@ -1,11 +1,11 @@
 -- What a kernel keeps of its namespace besides what each service keeps of its own.
 use Rattle.std.specs.Prelude.{ℕ, ◌+◌, ◌≤◌, length}
-use Rattle.sb_file.specs.Files as files
-use Rattle.sb_pipe.specs.Pipes as pipes
+use Rattle.sb_services.specs.Files as files
+use Rattle.sb_services.specs.Pipes as pipes
 use Rattle.sb_handles.specs.Tables.{IsTable}
-use Rattle.sb_key.specs.Registry as registry
-use Rattle.sb_event.specs.Events as events
-use Rattle.sb_pipe.specs.Keeping.{AreNames}
+use Rattle.sb_services.specs.Registry as registry
+use Rattle.sb_services.specs.Events as events
+use Rattle.sb_services.specs.Keeping.{AreNames}
 use Rattle.sb_kernel.specs.Held.{AreHeld}
 use Rattle.sb_kernel.specs.Namespaces.{Space}
 use Rattle.sb_statements.specs.Limits.{most_start_lines}

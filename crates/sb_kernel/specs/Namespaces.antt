@@ -10,11 +10,11 @@ use Rattle.sb_handles.specs.Tables.{Table, no_handles, held_by, without_handle}
 use Rattle.sb_handles.specs.declared.objects.Held.{Held}
 use Rattle.sb_handles.specs.declared.objects.Service.{Service}
 use Rattle.sb_handles.specs.declared.objects.Service.TheVariants as service
-use Rattle.sb_file.specs.Creation as creation
-use Rattle.sb_file.specs.Files as files
-use Rattle.sb_pipe.specs.Pipes as pipes
-use Rattle.sb_key.specs.Registry as registry
-use Rattle.sb_event.specs.Events as events
+use Rattle.sb_services.specs.Creation as creation
+use Rattle.sb_services.specs.Files as files
+use Rattle.sb_services.specs.Pipes as pipes
+use Rattle.sb_services.specs.Registry as registry
+use Rattle.sb_services.specs.Events as events
 use Rattle.sb_kernel.specs.Requests.{Request, request_of}
 use Rattle.sb_kernel.specs.Requests as request
 

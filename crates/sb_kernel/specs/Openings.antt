@@ -1,12 +1,12 @@
 -- The namespace that is there before the first call.
 use Rattle.std.specs.Prelude.{◌≡◌, ℕ, ◌+◌, Bool, true, false, List, [], ◌∷◌, length, Option, None, Some, Result, Ok, Err, ⊤, if◌then◌else◌}
-use Rattle.sb_wide.specs.Names.{is_name_of}
+use Rattle.sb_base.specs.Names.{is_name_of}
 use Rattle.sb_statements.specs.declared.scripts.StartLine.{StartLine}
 use Rattle.sb_statements.specs.declared.scripts.StartLine.TheVariants.{Dir, File, Key, Event}
-use Rattle.sb_file.specs.Files as files
-use Rattle.sb_key.specs.Registry as registry
-use Rattle.sb_event.specs.Events as events
-use Rattle.sb_event.specs.Kinds.{kind_from, state_from}
+use Rattle.sb_services.specs.Files as files
+use Rattle.sb_services.specs.Registry as registry
+use Rattle.sb_services.specs.Events as events
+use Rattle.sb_services.specs.Kinds.{kind_from, state_from}
 use Rattle.sb_kernel.specs.Kept.{MadeAtMost}
 use Rattle.sb_kernel.specs.Namespaces.{Space, empty_space}
 use Rattle.sb_kernel.specs.declared.openings.StartRefused.{StartRefused}

@@ -1,6 +1,6 @@
 -- What a call asks for, by its tag and its arguments.
 use Rattle.std.specs.Prelude.{◌^◌, ◌&&◌, ℕ, Bool, true, nat_lt, List, [], Option, None, Some, option_map, if◌then◌else◌}
-use Rattle.sb_wide.specs.Names.{is_name_of}
+use Rattle.sb_base.specs.Names.{is_name_of}
 use Rattle.sb_call.specs.Arguments.{arg_at}
 use Rattle.sb_call.specs.declared.arguments.Arg.{Arg}
 use Rattle.sb_call.specs.declared.arguments.Arg.TheVariants.{Num, Str}
@@ -8,13 +8,13 @@ use Rattle.sb_call.specs.declared.tags.CallTag.{CallTag}
 use Rattle.sb_call.specs.declared.tags.CallTag.TheVariants as tag
 use Rattle.sb_handles.specs.Masks.{access_of, sharing_of}
 use Rattle.sb_handles.specs.declared.masks.Access.{Access}
-use Rattle.sb_file.specs.Requests.{create_request, open_request}
-use Rattle.sb_file.specs.declared.requests.FileRequest.{FileRequest}
-use Rattle.sb_pipe.specs.Modes.{form_of, mode_of}
-use Rattle.sb_pipe.specs.declared.modes.PipeForm.{PipeForm}
-use Rattle.sb_pipe.specs.declared.modes.PipeMode.{PipeMode}
-use Rattle.sb_event.specs.Kinds.{is_invalid, kind_from, state_from}
-use Rattle.sb_event.specs.declared.kinds.EventKind.{EventKind}
+use Rattle.sb_services.specs.FileRequests.{create_request, open_request}
+use Rattle.sb_services.specs.declared.file_requests.FileRequest.{FileRequest}
+use Rattle.sb_services.specs.Modes.{form_of, mode_of}
+use Rattle.sb_services.specs.declared.modes.PipeForm.{PipeForm}
+use Rattle.sb_services.specs.declared.modes.PipeMode.{PipeMode}
+use Rattle.sb_services.specs.Kinds.{is_invalid, kind_from, state_from}
+use Rattle.sb_services.specs.declared.kinds.EventKind.{EventKind}
 use Rattle.sb_kernel.specs.declared.requests.Request.TheVariants as borrowed
 use Rattle.sb_kernel.specs.declared.requests.Request as declared
 

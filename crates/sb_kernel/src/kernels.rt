@@ -1,29 +1,28 @@
 // The kernel, and what each call does.
 ghost use Rattle.std.specs.Prelude.{◌≡◌, ◌<◌, ◌^◌, ◌&&◌, length, true, is_some, unwrap_or, IfOk, OnOk, OnErr};
 ghost use Rattle.sb_call.specs.Arguments.{fits};
-ghost use Rattle.sb_pipe.specs.Pipes as pipes;
+ghost use Rattle.sb_services.specs.Pipes as pipes;
 ghost use Rattle.sb_handles.specs.Effects.{is_done};
 ghost use Rattle.sb_handles.specs.Laws.{HeldOnOne};
 ghost use Rattle.sb_handles.specs.Tables.{IsTable, held_by};
 ghost use Rattle.sb_kernel.specs.Namespaces.{close_by, empty_space, may_allocate, perform, perform_request, takes_memory};
 ghost use Rattle.sb_kernel.specs.Requests.{is_proper, meant};
 ghost use Rattle.sb_kernel.specs.Openings.{placed, is_named};
-ghost use Rattle.sb_file.specs.Laws.{ClosesKeepFiles, ClosesLeaveFiles};
-ghost use Rattle.sb_pipe.specs.Laws.{ClosesKeepPipes, ClosesLeavePipes};
+ghost use Rattle.sb_services.specs.FileLaws.{ClosesKeepFiles, ClosesLeaveFiles};
+ghost use Rattle.sb_services.specs.PipeLaws.{ClosesKeepPipes, ClosesLeavePipes};
 ghost use Rattle.sb_kernel.specs.Held.{IsObjectName};
 ghost use Rattle.sb_kernel.specs.Kept.{IsSound, MadeAtMost};
 
 use crate::requests::{Request, request_of};
 use crate::services::{names_stay, requests_are_kept};
+use sb_base::{NoMemory, Wide};
 use sb_call::{Answer, Arg, CallTag, INVALID_HANDLE, INVALID_PARAMETER, SUCCESS};
-use sb_event::{EventKind, EventService};
-use sb_file::{FileService, agreement_is_kept as files_stay_agreed};
 use sb_handles::{HandleTable, Object, Service, handles_are_on_one_object};
-use sb_items::NoMemory;
-use sb_key::KeyService;
-use sb_pipe::{PipeService, agreement_is_kept as pipes_stay_agreed};
+use sb_services::{
+    EventKind, EventService, FileService, KeyService, PipeService, file_agreement_is_kept,
+    pipe_agreement_is_kept,
+};
 use sb_statements::StartLine;
-use sb_wide::Wide;
 use std::alloc::Global;
 use std::marker::Model;
 
@@ -205,8 +204,8 @@ impl Kernel {
         ensures alone { HeldOnOne }
     {
         handles_are_on_one_object();
-        files_stay_agreed();
-        pipes_stay_agreed();
+        file_agreement_is_kept();
+        pipe_agreement_is_kept();
         self.handles.establish_numbers();
         self.pipes.establish_pipes();
     }

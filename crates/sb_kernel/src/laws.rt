@@ -2,19 +2,19 @@
 ghost use Rattle.sb_kernel.specs.Laws.{AnswersAreShort, RefusedCallsChangeNothing, UnheldClosesChangeNothing};
 ghost use Rattle.sb_kernel.specs.Openings.{OpeningsMakeFew};
 
-use sb_event::refused_calls_change_nothing as refused_events_change_nothing;
-use sb_file::refusals_change_nothing as refused_files_change_nothing;
-use sb_key::refused_calls_change_nothing as refused_keys_change_nothing;
-use sb_pipe::refusals_change_nothing as refused_pipes_change_nothing;
+use sb_services::{
+    refused_event_calls_change_nothing, refused_file_calls_change_nothing,
+    refused_key_calls_change_nothing, refused_pipe_calls_change_nothing,
+};
 
 /// A call that answers a status other than success, and other than that the name exists, leaves the namespace equal.
 pub fn refused_calls_change_nothing()
     ensures { RefusedCallsChangeNothing }
 {
-    refused_files_change_nothing();
-    refused_pipes_change_nothing();
-    refused_keys_change_nothing();
-    refused_events_change_nothing();
+    refused_file_calls_change_nothing();
+    refused_pipe_calls_change_nothing();
+    refused_key_calls_change_nothing();
+    refused_event_calls_change_nothing();
 }
 
 /// `handle.close` of a number under which the target holds no handle is refused and leaves the namespace equal, also if

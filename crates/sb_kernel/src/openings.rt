@@ -5,7 +5,7 @@ ghost use Rattle.sb_statements.specs.Limits.{most_start_lines};
 ghost use Rattle.sb_kernel.specs.Openings.{opened, is_named, IsStartRefused};
 
 use crate::kernels::Kernel;
-use sb_items::NoMemory;
+use sb_base::NoMemory;
 use sb_statements::StartLine;
 use std::alloc::Global;
 use thiserror::Error;

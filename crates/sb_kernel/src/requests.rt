@@ -1,6 +1,6 @@
 // What a call asks for, made once from arguments that fit.
 ghost use Rattle.std.specs.Prelude.{◌≡◌, ◌<◌, ◌^◌, true, nat_lt, option_map, Some, IfSome};
-ghost use Rattle.sb_wide.specs.Names.{is_name_of};
+ghost use Rattle.sb_base.specs.Names.{is_name_of};
 ghost use Rattle.sb_call.specs.Arguments.{fits, kind_at};
 ghost use Rattle.sb_call.specs.declared.tags.CallTag.TheVariants as tag;
 ghost use Rattle.sb_call.specs.declared.tags.ParamKind.TheVariants as kind;
@@ -9,10 +9,8 @@ ghost use Rattle.sb_kernel.specs.Requests.{is_proper, meant, number_at, pipe_cre
 
 use bitflags::Flags;
 use sb_call::{Arg, CallTag, fitting_args};
-use sb_event::EventKind;
-use sb_file::FileRequest;
 use sb_handles::{Access, Sharing};
-use sb_pipe::{PipeForm, PipeMode};
+use sb_services::{EventKind, FileRequest, PipeForm, PipeMode};
 
 // What a call asks for. Strings are borrowed from its arguments.
 pub(crate) enum Request<'a> {

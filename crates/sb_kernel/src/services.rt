@@ -1,15 +1,15 @@
 // What the kernel rests on of each service: laws of what its calls leave of objects and handles.
-ghost use Rattle.sb_event.specs.Laws as event_laws;
-ghost use Rattle.sb_file.specs.Laws as file_laws;
+ghost use Rattle.sb_services.specs.EventLaws as event_laws;
+ghost use Rattle.sb_services.specs.FileLaws as file_laws;
 ghost use Rattle.sb_kernel.specs.Laws.{RequestsAreKept};
-ghost use Rattle.sb_key.specs.Laws as key_laws;
+ghost use Rattle.sb_services.specs.KeyLaws as key_laws;
 ghost use Rattle.sb_names.specs.Laws.{PutsKeepRows};
-ghost use Rattle.sb_pipe.specs.Laws as pipe_laws;
-ghost use Rattle.sb_event.specs.declared.rows.EventRow.{EventRow};
+ghost use Rattle.sb_services.specs.PipeLaws as pipe_laws;
+ghost use Rattle.sb_services.specs.declared.event_rows.EventRow.{EventRow};
 ghost use Rattle.std.specs.Prelude.{ℕ};
 
-use sb_event::EventRow;
 use sb_names::puts_keep_rows;
+use sb_services::EventRow;
 
 // Each file.create grants its handle on what is found under the name, or changes nothing; what was there stays.
 fn files_are_granted()
@@ -17,9 +17,9 @@ fn files_are_granted()
     ensures refused { file_laws.RefusalsChangeNothing }
     ensures stay { file_laws.CreatesKeepNames }
 {
-    sb_file::creates_grant_their_file();
-    sb_file::refusals_change_nothing();
-    sb_file::files_stay();
+    sb_services::creates_grant_their_file();
+    sb_services::refused_file_calls_change_nothing();
+    sb_services::files_stay();
 }
 
 // A file.rename moves what was there, or changes nothing, and leaves objects and shares.
@@ -28,8 +28,8 @@ fn files_are_renamed()
     ensures objects { file_laws.RenamesKeepObjects }
     ensures refused { file_laws.RefusedRenamesChangeNothing }
 {
-    sb_file::renames_move_names();
-    sb_file::refusals_change_nothing();
+    sb_services::renames_move_names();
+    sb_services::refused_file_calls_change_nothing();
 }
 
 // Each pipe.create grants its handle on the pipe of the name, or changes nothing; no more pipes are made than handles granted.
@@ -38,9 +38,9 @@ fn pipes_are_granted()
     ensures refused { pipe_laws.RefusalsChangeNothing }
     ensures counts { pipe_laws.CallsKeepCounts }
 {
-    sb_pipe::calls_grant_their_pipe();
-    sb_pipe::refusals_change_nothing();
-    sb_pipe::pipes_come_with_handles();
+    sb_services::calls_grant_their_pipe();
+    sb_services::refused_pipe_calls_change_nothing();
+    sb_services::pipes_come_with_handles();
 }
 
 // Each call on keys grants its handle on the key of the name, or changes nothing; what was there stays.
@@ -52,10 +52,10 @@ fn keys_are_granted()
     ensures refused_opens { key_laws.RefusedOpensChangeNothing }
     ensures leave { key_laws.OpensLeaveKeys }
 {
-    sb_key::calls_grant_their_key();
-    sb_key::refused_calls_change_nothing();
-    sb_key::keys_stay();
-    sb_key::keys_are_found_where_made();
+    sb_services::calls_grant_their_key();
+    sb_services::refused_key_calls_change_nothing();
+    sb_services::keys_stay();
+    sb_services::keys_are_found_where_made();
 }
 
 // Each call on events grants its handle on the event of the name, or changes nothing; what was there stays.
@@ -67,10 +67,10 @@ fn events_are_granted()
     ensures refused_opens { event_laws.RefusedOpensChangeNothing }
     ensures leave { event_laws.OpensLeaveEvents }
 {
-    sb_event::calls_grant_their_event();
-    sb_event::refused_calls_change_nothing();
-    sb_event::events_stay();
-    sb_event::events_are_found_where_made();
+    sb_services::calls_grant_their_event();
+    sb_services::refused_event_calls_change_nothing();
+    sb_services::events_stay();
+    sb_services::events_are_found_where_made();
 }
 
 // What is put under a name that is not there leaves all other names.
@@ -91,6 +91,6 @@ pub(crate) fn requests_are_kept()
     pipes_are_granted();
     keys_are_granted();
     events_are_granted();
-    sb_file::agreement_is_kept();
-    sb_pipe::agreement_is_kept();
+    sb_services::file_agreement_is_kept();
+    sb_services::pipe_agreement_is_kept();
 }

@@ -6,7 +6,7 @@ use Rattle.std.specs.List.{list_all}
 use Rattle.std.proofs.lemmas.Bool.{and_parts}
 use Rattle.std.proofs.lemmas.Bool.Decides.{nat_tests}
 use Rattle.std.proofs.lemmas.List.Folds.{list_all-append}
-use Rattle.sb_wide.specs.Numbers.{hexadecimal, eight_digits}
+use Rattle.sb_base.specs.Numbers.{hexadecimal, eight_digits}
 use Rattle.sb_call.specs.CallWords.{is_word, call_word, tag_of_word}
 use Rattle.sb_call.specs.ShortNames.{is_name_byte, is_short_name}
 use Rattle.sb_call.specs.declared.tags.CallTag.{CallTag}

@@ -5,8 +5,8 @@ use Rattle.std.proofs.lemmas.List.{append-nil}
 use Rattle.std.proofs.lemmas.Bool.Decides.{nat_tests}
 use Rattle.std.specs.List.{list_all, flat_map}
 use Rattle.std.specs.Prelude.{⊤}
-use Rattle.sb_wide.specs.Quoting.{hex_digit, quoted_unit, quoted}
-use Rattle.sb_wide.specs.Wide.{is_unit}
+use Rattle.sb_base.specs.Quoting.{hex_digit, quoted_unit, quoted}
+use Rattle.sb_base.specs.Wide.{is_unit}
 use Rattle.sb_lineread.specs.Cuts.{cut, place_after}
 use Rattle.sb_lineread.specs.Fields.{all_after}
 use Rattle.sb_lineread.specs.declared.cuts.Place.{Place}

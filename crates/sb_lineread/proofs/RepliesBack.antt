@@ -6,7 +6,7 @@ use Rattle.std.proofs.lemmas.Bool.{and_parts}
 use Rattle.std.proofs.lemmas.Bool.Decides.{nat_tests}
 use Rattle.std.proofs.lemmas.List.{length-append}
 use Rattle.std.proofs.lemmas.List.Folds.{list_all-append}
-use Rattle.sb_wide.specs.Numbers.{eight_digits, is_word64}
+use Rattle.sb_base.specs.Numbers.{eight_digits, is_word64}
 use Rattle.sb_lineread.specs.Cuts.{cut, fields_after}
 use Rattle.sb_transcript.specs.CommaWords.{comma_words, more_words}
 use Rattle.sb_lineread.specs.Fields.{all_after, reply_fields}

@@ -3,8 +3,8 @@ use Rattle.std.proofs.Common.{◌≡◌, ◌∙◌, ℕ, ◌+◌, ◌*◌, ◌/�
 use Rattle.std.proofs.lemmas.Bool.{and_parts}
 use Rattle.std.proofs.lemmas.Bool.Decides.{nat_tests}
 use Rattle.std.specs.List.{list_all, flat_map}
-use Rattle.sb_wide.specs.Quoting.{hex_digit, quoted_unit}
-use Rattle.sb_wide.specs.Wide.{is_unit}
+use Rattle.sb_base.specs.Quoting.{hex_digit, quoted_unit}
+use Rattle.sb_base.specs.Wide.{is_unit}
 use Rattle.sb_text.specs.Numbers.{digit_of}
 use Rattle.sb_lineread.specs.Strings.{with_digit, unit_of, escape_after, with_unit, unquoted_from}
 use Rattle.sb_lineread.specs.declared.strings.Escape.TheVariants.{Outside, Begun, NoDigit}

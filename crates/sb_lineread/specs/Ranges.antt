@@ -1,7 +1,7 @@
 -- The numbers of a line are in the ranges of their types, and its names are names.
 use Rattle.std.specs.Prelude.{◌≡◌, ⊤, ◌<◌, ◌≤◌, ◌^◌, Bool, true, length}
 use Rattle.std.specs.List.{list_all}
-use Rattle.sb_wide.specs.Wide.{is_unit}
+use Rattle.sb_base.specs.Wide.{is_unit}
 use Rattle.sb_block.specs.declared.faults.BlockFault.{BlockFault}
 use Rattle.sb_block.specs.declared.faults.BlockFault.TheVariants.{TooManyParams, BadEnd, CountChanged, EndChanged, BadParamType, BadPlace, UnknownTag, WrongShape, BadSize, BadName}
 use Rattle.sb_call.specs.ShortNames.{is_short_name}
@@ -17,7 +17,7 @@ use Rattle.sb_lineread.specs.declared.lines.ResultLine.{ResultLine}
 use Rattle.sb_lineread.specs.declared.lines.TotalsLine.{TotalsLine}
 use Rattle.sb_lineread.specs.declared.lines.Line.{Line}
 use Rattle.sb_lineread.specs.declared.lines.Line.TheVariants as line
-use Rattle.sb_wide.specs.Numbers.{is_word64}
+use Rattle.sb_base.specs.Numbers.{is_word64}
 
 abbrev pub FaultInRange : BlockFault → Type 0
 FaultInRange (TooManyParams n) = n < 2 ^ 64

@@ -9,7 +9,7 @@ use crate::reading_entries::entry_line_at;
 use crate::reading_results::{result_line_at, totals_line_at};
 use crate::unread::Unread;
 use crate::writing::put_line;
-use sb_items::NoMemory;
+use sb_base::NoMemory;
 use std::alloc::Global;
 
 // The line that a word begins, and whose other fields follow. Only `line_of` says that it has this text.

@@ -9,9 +9,9 @@ use crate::numbers::{count_at, decimal_at, name_at, small, small_at};
 use crate::reading_replies::reply_at;
 use crate::strings::unquoted;
 use crate::unread::{Unread, or_unread};
+use sb_base::NoMemory;
 use sb_block::BlockFault;
 use sb_call::{Arg, Args, CallTag, tag_of_word};
-use sb_items::NoMemory;
 use sb_text::number_of;
 use std::alloc::Global;
 

@@ -3,8 +3,7 @@ ghost use Rattle.std.specs.Prelude.{◌≡◌, ◌<◌, ◌++◌, ◌∷◌, [],
 ghost use Rattle.sb_lineread.specs.Strings.{unquoted, unit_of, is_closing, escape_after, with_digit, with_unit};
 
 use crate::hexadecimal::digit_of;
-use sb_items::NoMemory;
-use sb_wide::Wide;
+use sb_base::{NoMemory, Wide};
 use std::alloc::Global;
 
 /// Where in an escape a byte is.

@@ -1,7 +1,7 @@
 // Why there is nothing read.
 ghost use Rattle.sb_lineread.specs.Steps.{Becomes};
 
-use sb_items::NoMemory;
+use sb_base::NoMemory;
 
 /// Why there is nothing read.
 #[derive(Clone, Copy)]

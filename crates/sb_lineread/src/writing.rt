@@ -1,14 +1,13 @@
 // What is written of a line.
 ghost use Rattle.std.specs.Prelude.{◌≡◌, ◌++◌, ◌∷◌, [], codes, OnOk};
 ghost use Rattle.std.specs.Fmt.{decimal};
-ghost use Rattle.sb_wide.specs.Numbers.{eight_digits};
+ghost use Rattle.sb_base.specs.Numbers.{eight_digits};
 ghost use Rattle.sb_lineread.specs.Fields.{after_separator, all_after, counted, two_counts, reply_fields, result_fields, result_line_fields, totals_fields, written};
 
 use crate::lines::{Line, ResultLine, ShownReply, ShownResult, TotalsLine};
 use crate::writing_entries::put_entry;
-use sb_items::NoMemory;
+use sb_base::{NoMemory, put_decimal, put_eight_digits};
 use sb_transcript::put_comma_words;
-use sb_wide::{put_decimal, put_eight_digits};
 
 /// Appends a blank and a field.
 pub fn put_field(text: &mut Vec<u8>, field: &[u8]) -> Result<(), NoMemory>

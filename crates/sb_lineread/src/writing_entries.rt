@@ -6,9 +6,9 @@ ghost use Rattle.sb_call.specs.CallWords.{call_word};
 
 use crate::lines::{EntryLine, ShownDecision};
 use crate::writing::{put_counted, put_field, put_number, put_replied};
+use sb_base::NoMemory;
 use sb_block::BlockFault;
 use sb_call::{Arg, CallTag, call_word};
-use sb_items::NoMemory;
 use sb_transcript::{put_arguments, put_fault};
 
 #[tactic(auto, using(crate::proofs::PrintedLines::refused_put))]

@@ -5,7 +5,7 @@ use Rattle.std.proofs.lemmas.Bool.{and_parts, false≢true}
 use Rattle.std.proofs.lemmas.List.{length-append}
 use Rattle.std.proofs.lemmas.List.Folds.{list_all-append}
 use Rattle.std.specs.Cmp.Lexicographic.{bytes_decides}
-use Rattle.sb_wide.specs.Wide.{folded, is_same}
+use Rattle.sb_base.specs.Wide.{folded, is_same}
 use Rattle.sb_link.specs.Links.{AreLinks, are_distinct, is_from, is_link, most_links}
 use Rattle.sb_link.specs.declared.links.Link.{Link}
 

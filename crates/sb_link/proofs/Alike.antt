@@ -2,7 +2,7 @@
 use Rattle.std.proofs.Common.{◌≡◌, ◌∙◌, ℕ, zero, suc, eqb, Bool, cond, ◌&&◌, map, List, [], ◌∷◌, ◌++◌, length, take, drop, Option, None, Some, refl, subst, ap, sym, arith}
 use Rattle.std.proofs.lemmas.Bool.Decides.{nat_tests}
 use Rattle.std.specs.Cmp.Lexicographic.{pointwise, bytes_decides}
-use Rattle.sb_wide.specs.Wide.{folded}
+use Rattle.sb_base.specs.Wide.{folded}
 use Rattle.sb_link.specs.Resolution.{applying, ends_component, is_longer, is_under, longer, longest, replaced, resolve_within, most_steps}
 use Rattle.sb_link.specs.ResolutionLaws.{AreSame, SameNamesResolveAlike}
 use Rattle.sb_link.specs.declared.links.Link.{Link}

@@ -5,8 +5,8 @@ use Rattle.std.proofs.lemmas.Bool.{and_parts, eqb-true, false≢true}
 use Rattle.std.proofs.lemmas.List.{take-append-drop}
 use Rattle.std.proofs.lemmas.List.Folds.{list_all-append}
 use Rattle.std.proofs.lemmas.List.Splits.{length-slice_split, slice_split-cons_yes, slice_split-cons_no}
-use Rattle.sb_wide.specs.Names.{is_component, is_name_of, parts_of}
-use Rattle.sb_wide.specs.Wide.{is_same}
+use Rattle.sb_base.specs.Names.{is_component, is_name_of, parts_of}
+use Rattle.sb_base.specs.Wide.{is_same}
 use Rattle.sb_link.specs.Links.{is_link, is_link_name}
 use Rattle.sb_link.specs.Resolution.{applying, ends_component, is_under, replaced, resolve_within, most_steps}
 use Rattle.sb_link.specs.ResolutionLaws.{IsAmong, NamesResolveToNames}

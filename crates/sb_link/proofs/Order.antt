@@ -3,7 +3,7 @@ use Rattle.std.proofs.Common.{◌≡◌, ◌∙◌, ℕ, zero, suc, ◌≤◌, B
 use Rattle.std.specs.List.{list_any}
 use Rattle.std.proofs.lemmas.Bool.{and_parts, false≢true}
 use Rattle.std.specs.Cmp.Lexicographic.{bytes_decides}
-use Rattle.sb_wide.specs.Wide.{folded, is_same}
+use Rattle.sb_base.specs.Wide.{folded, is_same}
 use Rattle.sb_link.specs.Links.{AreLinks, are_distinct, is_from}
 use Rattle.sb_link.specs.Resolution.{applying, ends_component, is_under, replaced, resolve_within, most_steps}
 use Rattle.sb_link.specs.ResolutionLaws.{IsAmong, IsLongest, OrderDoesNotMatter}

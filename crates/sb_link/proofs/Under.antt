@@ -3,7 +3,7 @@ use Rattle.std.proofs.Common.{◌≡◌, ◌∙◌, ℕ, ◌≤◌, Bool, true, 
 use Rattle.std.proofs.lemmas.Bool.{and_parts}
 use Rattle.std.proofs.lemmas.List.{length-map, length-take}
 use Rattle.std.specs.Cmp.Lexicographic.{bytes_decides}
-use Rattle.sb_wide.specs.Wide.{folded, is_same}
+use Rattle.sb_base.specs.Wide.{folded, is_same}
 use Rattle.sb_link.specs.Resolution.{ends_component, is_under}
 
 pub not_true : (b : Bool) → (b ≡ true → ⊥) → b ≡ false

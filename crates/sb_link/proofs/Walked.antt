@@ -3,7 +3,7 @@ use Rattle.std.proofs.Common.{◌≡◌, ◌∙◌, ℕ, zero, suc, ◌+◌, ◌
 use Rattle.std.proofs.lemmas.Bool.{eqb-true, false≢true}
 use Rattle.std.proofs.lemmas.Bool.Decides.{nat_tests}
 use Rattle.std.specs.Prelude.{slice_get}
-use Rattle.sb_wide.specs.Wide.{folded, is_same}
+use Rattle.sb_base.specs.Wide.{folded, is_same}
 use Rattle.sb_link.specs.Resolution.{applying, ends_component, is_longer, is_under, longer, longest}
 use Rattle.sb_link.specs.ResolutionLaws.{IsAmong}
 use Rattle.sb_link.specs.SortedFroms.{AreIndexed, Shows, common, differs, entry_after, from_at, is_other, is_whole, longer_at, longer_by, next_common, next_unit, walked}

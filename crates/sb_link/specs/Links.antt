@@ -1,8 +1,8 @@
 -- Lists of links.
 use Rattle.std.specs.Prelude.{◌≡◌, ℕ, Bool, true, not, ◌&&◌, ◌≤◌, nat_le, List, [], ◌∷◌, length}
 use Rattle.std.specs.List.{list_all, list_any}
-use Rattle.sb_wide.specs.Names.{is_name_of}
-use Rattle.sb_wide.specs.Wide.{is_same}
+use Rattle.sb_base.specs.Names.{is_name_of}
+use Rattle.sb_base.specs.Wide.{is_same}
 use Rattle.sb_link.specs.declared.links.Link.{Link}
 
 -- a list has at most 64 links

@@ -1,6 +1,6 @@
 -- What a name resolves to.
 use Rattle.std.specs.Prelude.{ℕ, zero, suc, Bool, true, ◌&&◌, ◌==◌, nat_lt, List, [], ◌∷◌, ◌++◌, length, take, drop, Option, None, Some, if◌then◌else◌}
-use Rattle.sb_wide.specs.Wide.{is_same}
+use Rattle.sb_base.specs.Wide.{is_same}
 use Rattle.sb_link.specs.declared.links.Link.{Link}
 
 -- a component of a name ends before these units: there are none, or `\` is the first

@@ -1,7 +1,7 @@
 -- What is true of resolving names.
 use Rattle.std.specs.Prelude.{◌≡◌, ◌⊎◌, ℕ, true, ◌≤◌, List, [], ◌∷◌, length, None, Some, Option, ⊤}
-use Rattle.sb_wide.specs.Names.{is_name_of}
-use Rattle.sb_wide.specs.Wide.{is_same}
+use Rattle.sb_base.specs.Names.{is_name_of}
+use Rattle.sb_base.specs.Wide.{is_same}
 use Rattle.sb_link.specs.Links.{AreLinks}
 use Rattle.sb_link.specs.Resolution.{is_under, applying, resolve}
 use Rattle.sb_link.specs.declared.links.Link.{Link}

@@ -1,6 +1,6 @@
 -- The FROMs of links in order, and the walk over them that finds the longest which applies to a name.
 use Rattle.std.specs.Prelude.{◌≡◌, ℕ, suc, ◌+◌, min, Bool, true, false, not, ◌&&◌, ◌==◌, nat_lt, List, [], ◌∷◌, length, drop, Option, None, Some, if◌then◌else◌, slice_get, ⊤}
-use Rattle.sb_wide.specs.Wide.{folded}
+use Rattle.sb_base.specs.Wide.{folded}
 use Rattle.sb_link.specs.Links.{AreLinks}
 use Rattle.sb_link.specs.Resolution.{ends_component, is_longer}
 use Rattle.sb_link.specs.ResolutionLaws.{IsAmong}

@@ -3,9 +3,8 @@ ghost use Rattle.std.specs.Prelude.{◌≡◌, ◌++◌, OnOk};
 ghost use Rattle.sb_link.specs.Lines.{linked_line, place_text, stop_text, stopped_line};
 
 use crate::stops::Stop;
+use sb_base::{NoMemory, put_named};
 use sb_call::{CallTag, call_word};
-use sb_items::NoMemory;
-use sb_wide::put_named;
 
 // Appends why a call stopped.
 fn put_stop(line: &mut Vec<u8>, stop: Stop) -> Result<(), NoMemory>

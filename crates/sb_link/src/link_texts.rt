@@ -1,7 +1,7 @@
 // Reading texts of links.
 ghost use Rattle.std.specs.Prelude.{◌≡◌, ◌<◌, ◌+◌, ◌^◌, [], None, length};
-ghost use Rattle.sb_items.specs.Refusals.{Gives};
-ghost use Rattle.sb_items.specs.declared.refusals.Refused.TheVariants.{Fault};
+ghost use Rattle.sb_base.specs.Refusals.{Gives};
+ghost use Rattle.sb_base.specs.declared.refusals.Refused.TheVariants.{Fault};
 ghost use Rattle.sb_text.specs.Spots.{by_tokens};
 ghost use Rattle.sb_text.specs.Steps.{Becomes, Reads};
 ghost use Rattle.sb_text.specs.declared.refusals.WordFault.TheVariants.{NoVersion};
@@ -10,11 +10,11 @@ ghost use Rattle.sb_link.specs.declared.faults.LinkKind.TheVariants.{UnknownWord
 
 use crate::faults::{LineRefused, LinkKind, LinksRefused};
 use crate::links::{Link, Links, MOST_LINKS, is_link_name};
+use sb_base::Wide;
 use sb_text::{
     Layout, Line, Lines, TextGrammar, TokenFault, Tokens, WordFault, end_at, quoted_at, read_text,
     string_of, version_at, word_at,
 };
-use sb_wide::Wide;
 use std::alloc::Global;
 
 // The faults of a quoted token in place of a word and of a word in place of a quoted token, of a token that breaks the rules, of none,

@@ -6,10 +6,10 @@ ghost use Rattle.sb_link.specs.LinkedHistories.{IsLinkedHistory, answered_linked
 
 use crate::links::Links;
 use crate::stops::{Stop, link, stopped_reply};
+use sb_base::{NoMemory, Refused};
 use sb_block::BlockCopy;
 use sb_book::{Book, RunStart, decide};
 use sb_call::{CallTag, Reply};
-use sb_items::{NoMemory, Refused};
 use sb_rule::Judge;
 use std::alloc::Global;
 use std::marker::Model;

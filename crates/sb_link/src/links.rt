@@ -1,13 +1,12 @@
 // Lists of links.
 ghost use Rattle.std.specs.Prelude.{◌≡◌, ◌<◌, ◌++◌, ◌∷◌, [], false, true, length, option_map, OnOk, OnErr};
 ghost use Rattle.std.specs.List.{list_any};
-ghost use Rattle.sb_wide.specs.Wide.{is_same};
+ghost use Rattle.sb_base.specs.Wide.{is_same};
 ghost use Rattle.sb_link.specs.Links.{AreLinks, is_from, is_link, is_link_name, most_links};
 ghost use Rattle.sb_link.specs.Resolution.{applying};
 
 use crate::sorted_froms::{SortedFrom, index_with, longest};
-use sb_items::{Items, NoMemory};
-use sb_wide::{Wide, eq_ignore_ascii_case, is_name};
+use sb_base::{Items, NoMemory, Wide, eq_ignore_ascii_case, is_name};
 use std::alloc::Global;
 use std::marker::Model;
 

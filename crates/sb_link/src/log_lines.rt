@@ -6,8 +6,8 @@ ghost use Rattle.sb_link.specs.Lines.{item_line, line_if, log_text, log_totals};
 
 use crate::lines::{put_linked_line, put_stopped_line};
 use crate::linked_books::{Linked, LinkedBook};
+use sb_base::NoMemory;
 use sb_book::{EntrySlice, EntryView};
-use sb_items::NoMemory;
 use sb_statements::Script;
 use sb_transcript::put_entry_line;
 use std::alloc::Global;

@@ -3,8 +3,7 @@ ghost use Rattle.std.specs.Prelude.{◌≡◌, IfOk, true};
 ghost use Rattle.sb_link.specs.Resolution.{is_under, replaced, resolve, resolve_within};
 
 use crate::links::{Link, Links, MOST_STEPS};
-use sb_items::NoMemory;
-use sb_wide::Wide;
+use sb_base::{NoMemory, Wide};
 use std::alloc::Global;
 
 // The name with the FROM of a link replaced by its TO. The link applies to it.

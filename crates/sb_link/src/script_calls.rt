@@ -10,10 +10,10 @@ ghost use Rattle.sb_link.specs.ScriptCalls.{are_encoded, asked_at, asked_by_targ
 use crate::linked_books::LinkedBook;
 use crate::links::Links;
 use sb_actor::mark_at;
+use sb_base::NoMemory;
 use sb_block::{BlockCopy, encode};
 use sb_book::RunStart;
 use sb_call::{Arg, CallTag};
-use sb_items::NoMemory;
 use sb_rule::Judge;
 use sb_statements::{Statement, Statements, TargetScript};
 use std::alloc::Global;

@@ -1,12 +1,11 @@
 // The FROMs of links in order, and the walk over them that finds the longest which applies to a name.
 ghost use Rattle.std.specs.Prelude.{◌≡◌, ◌+◌, ◌<◌, ◌≤◌, ◌^◌, ◌++◌, ◌∷◌, IfOk, None, OnOk, [], drop, length, not, ◌==◌, option_map};
-ghost use Rattle.sb_wide.specs.Wide.{folded};
+ghost use Rattle.sb_base.specs.Wide.{folded};
 ghost use Rattle.sb_link.specs.Resolution.{ends_component, is_longer};
 ghost use Rattle.sb_link.specs.SortedFroms.{common, differs, entry_after, from_at, inserted, is_before, is_other, is_whole, longer_at, longer_by, next_common, next_unit, walked};
 
 use crate::links::Link;
-use sb_items::NoMemory;
-use sb_wide::to_ascii_uppercase;
+use sb_base::{NoMemory, to_ascii_uppercase};
 use std::alloc::Global;
 
 const BACKSLASH: u16 = 92;

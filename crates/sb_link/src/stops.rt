@@ -2,13 +2,13 @@
 ghost use Rattle.std.specs.Prelude.{◌≡◌, ◌<◌, ◌^◌, IfOk, Ok, length, true};
 ghost use Rattle.sb_block.specs.Calls.{called, decoded};
 ghost use Rattle.sb_call.specs.Arguments.{fits};
-ghost use Rattle.sb_items.specs.Refusals.{Gives};
+ghost use Rattle.sb_base.specs.Refusals.{Gives};
 ghost use Rattle.sb_link.specs.Answers.{IsResolvedCall, copy_of, linked, resolved_arg, resolved_copy, resolved_from, stopped_reply};
 
 use crate::links::Links;
+use sb_base::{NoMemory, Refused};
 use sb_block::{BlockCopy, BlockRefused, Call, decode, encode};
 use sb_call::{Arg, Args, CallTag, Extended, PATH_NOT_FOUND, ParamKind, Reply, shape};
-use sb_items::{NoMemory, Refused};
 use std::alloc::Global;
 
 /// Why a call stops before it is judged.

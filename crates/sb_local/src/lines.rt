@@ -5,11 +5,10 @@ ghost use Rattle.std.specs.List.{flat_map};
 ghost use Rattle.sb_local.specs.Lines.{denial_line, denial_lines, place_text, verdict_text};
 
 use crate::denials::LocalDenial;
+use sb_base::{NoMemory, put_decimal};
 use sb_call::call_word;
-use sb_items::NoMemory;
 use sb_rule::Verdict;
 use sb_statements::Script;
-use sb_wide::put_decimal;
 use std::alloc::Global;
 
 fn put_verdict(lines: &mut Vec<u8>, verdict: Verdict) -> Result<(), NoMemory>

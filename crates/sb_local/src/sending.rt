@@ -8,8 +8,8 @@ ghost use Rattle.sb_local.specs.Thinning.{fits_in_targets, fits_in_thread, thin}
 
 use crate::denials::{LocalDenial, denial_of};
 use crate::thinning::{Thinned, make_ready, thin};
+use sb_base::{Items, NoMemory};
 use sb_book::ReadyScript;
-use sb_items::{Items, NoMemory};
 use sb_rule::Judge;
 use sb_statements::{SoundScript, Statement, Statements, TargetScript};
 use std::alloc::Global;

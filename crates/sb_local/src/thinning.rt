@@ -7,8 +7,8 @@ ghost use Rattle.sb_local.specs.Denials.{denial_of, fits_its_call};
 ghost use Rattle.sb_local.specs.Thinning.{denial_at, denied_from, denied_in_threads, denied_in_targets, fits_in_target, fits_in_targets, fits_in_thread, kept_from, kept_in_target, kept_in_targets, place_if_kept, statement_if_kept, thin, thin_target, thin_targets, thin_thread};
 
 use crate::denials::{LocalDenial, denial_of};
+use sb_base::{Items, NoMemory};
 use sb_book::ReadyScript;
-use sb_items::{Items, NoMemory};
 use sb_rule::{Judge, WellMadePolicies};
 use sb_statements::{
     Script, SoundScript, StartLine, StartLines, Statement, Statements, TargetScript, Targets,

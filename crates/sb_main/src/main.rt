@@ -13,10 +13,9 @@ ghost use Rattle.sb_main.specs.Gathering.{gathering_status};
 ghost use Rattle.sb_main.specs.Answers.{IsAnswer, IsTold};
 ghost use Rattle.sb_main.specs.Faulty.{IsFaulty};
 
+use sb_base::NoMemory;
 use sb_commands::{Inquiry, UsageFault, inquiry_of, inquiry_text};
-use sb_host::{HostFiles, HostSink, PIECE};
-use sb_items::NoMemory;
-use sb_outside::{Files, OpenGate, Sink, put_text};
+use sb_outside::{Files, HostFiles, HostSink, OpenGate, PIECE, Sink, put_text};
 use sb_plain::{Outcome, Status};
 use sb_top::{Complaint, exit_code, message, plain_top, statuses_are_of_commands, threads_top};
 use std::alloc::Global;

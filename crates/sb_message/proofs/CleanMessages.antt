@@ -29,8 +29,8 @@ use Rattle.sb_link.specs.LinkTexts.{LinkFault}
 use Rattle.sb_link.specs.declared.faults.LinkKind.{LinkKind}
 use Rattle.sb_link.specs.declared.faults.LinkKind.TheVariants as link
 use Rattle.sb_lineread.specs.declared.lines.TotalsLine.{TotalsLine}
-use Rattle.sb_pattern.specs.declared.faults.PatternFault.{PatternFault}
-use Rattle.sb_pattern.specs.declared.faults.PatternFault.TheVariants.{DoubleStar, StarQuestion, TooLong}
+use Rattle.sb_rule.specs.declared.pattern_faults.PatternFault.{PatternFault}
+use Rattle.sb_rule.specs.declared.pattern_faults.PatternFault.TheVariants.{DoubleStar, StarQuestion, TooLong}
 use Rattle.sb_rule.specs.Actions.{action_word}
 use Rattle.sb_rule.specs.declared.actions.Action.{Action}
 use Rattle.sb_rule.specs.declared.actions.Action.TheVariants as action
@@ -56,7 +56,7 @@ use Rattle.sb_scripttext.specs.declared.faults.StartFault.{StartFault}
 use Rattle.sb_scripttext.specs.declared.faults.StartFault.TheVariants.{NameTaken, NoParent, ParentIsFile}
 use Rattle.sb_text.specs.declared.refusals.WordFault.{WordFault}
 use Rattle.sb_text.specs.declared.refusals.WordFault.TheVariants.{Unknown, Missing, Extra, Broken, Quoted, Unquoted, Misplaced, Repeated, NoVersion}
-use Rattle.sb_wide.specs.Numbers.{hexadecimal}
+use Rattle.sb_base.specs.Numbers.{hexadecimal}
 use Rattle.sb_message.specs.declared.end_messages.EndFault.{EndFault}
 use Rattle.sb_message.specs.declared.end_messages.EndFault.TheVariants as end
 use Rattle.sb_message.specs.declared.messages.FaultyText.TheVariants.{Policy, Script, Schedule, Links, Moves}

@@ -1,8 +1,8 @@
 -- What is wrong, in words.
 use Rattle.std.specs.Prelude.{ℕ, Bool, true, false, List, [], ◌++◌, if◌then◌else◌, codes}
 use Rattle.std.specs.Fmt.{decimal}
-use Rattle.sb_pattern.specs.declared.faults.PatternFault.{PatternFault}
-use Rattle.sb_pattern.specs.declared.faults.PatternFault.TheVariants.{DoubleStar, StarQuestion, TooLong}
+use Rattle.sb_rule.specs.declared.pattern_faults.PatternFault.{PatternFault}
+use Rattle.sb_rule.specs.declared.pattern_faults.PatternFault.TheVariants.{DoubleStar, StarQuestion, TooLong}
 use Rattle.sb_text.specs.declared.refusals.WordFault.{WordFault}
 use Rattle.sb_text.specs.declared.refusals.WordFault.TheVariants.{Unknown, Missing, Extra, Broken, Quoted, Unquoted, Misplaced, Repeated, NoVersion}
 

@@ -21,7 +21,7 @@ use Rattle.sb_lineread.specs.declared.lines.TotalsLine.{TotalsLine}
 use Rattle.sb_rule.specs.Actions.{action_word}
 use Rattle.sb_rule.specs.declared.verdicts.Verdict.{Verdict}
 use Rattle.sb_rule.specs.declared.verdicts.Verdict.TheVariants as verdict
-use Rattle.sb_wide.specs.Numbers.{hexadecimal}
+use Rattle.sb_base.specs.Numbers.{hexadecimal}
 use Rattle.sb_message.specs.Causes.{two_text}
 
 -- what is wrong with a line that fails clause 1, or with the end of a transcript that is too short

@@ -10,8 +10,8 @@ use crate::causes::put_two;
 use crate::due_texts::{clause_words, put_due};
 use crate::messages::put_place_line;
 use sb_audit::{Due, Refuted};
+use sb_base::NoMemory;
 use sb_glyphs::{MOST_NEAR, first_glyphs_of, put_excerpt};
-use sb_items::NoMemory;
 use std::alloc::Global;
 
 // Appends the words of a clause, and what is due.

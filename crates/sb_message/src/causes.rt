@@ -2,9 +2,9 @@
 ghost use Rattle.std.specs.Prelude.{◌≡◌, ◌++◌, IfOk, OnOk, string_bytes};
 ghost use Rattle.sb_message.specs.Causes.{cause_text, two_text, no_target_text, word_words, names_word, pattern_words};
 
+use sb_base::NoMemory;
 use sb_glyphs::put_decimal_text;
-use sb_items::NoMemory;
-use sb_pattern::PatternFault;
+use sb_rule::PatternFault;
 use sb_text::WordFault;
 use std::alloc::Global;
 

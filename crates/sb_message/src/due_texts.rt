@@ -5,14 +5,14 @@ ghost use Rattle.sb_audit.specs.declared.dues.ReplyDue.TheVariants.{Whole};
 ghost use Rattle.sb_audit.specs.declared.dues.RuleDue.TheVariants.{RuleOn};
 ghost use Rattle.sb_call.specs.CallWords.{call_word};
 ghost use Rattle.sb_rule.specs.Actions.{action_word};
-ghost use Rattle.sb_wide.specs.Numbers.{hexadecimal};
+ghost use Rattle.sb_base.specs.Numbers.{hexadecimal};
 ghost use Rattle.sb_message.specs.DueTexts.{clause_words, due_text, entry_text, form_text, form_words, number_text, own_text, place_text, reply_text, result_text, rule_text, spot_text, status_text, totals_text, verdict_text};
 
 use crate::causes::put_two;
 use sb_audit::{Due, FormDue, OwnDue, PlaceDue, ReplyDue, ResultDue, RuleDue, Spot};
+use sb_base::NoMemory;
 use sb_call::CallTag;
 use sb_glyphs::{put_decimal_text, put_hexadecimal_text};
-use sb_items::NoMemory;
 use sb_lineread::TotalsLine;
 use sb_rule::{Action, Verdict};
 

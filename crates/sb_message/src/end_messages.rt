@@ -2,8 +2,8 @@
 ghost use Rattle.std.specs.Prelude.{◌≡◌, ◌++◌, codes, OnOk, IfOk, string_bytes};
 ghost use Rattle.sb_message.specs.EndMessages.{numbers_text, file_text, end_text, end_message};
 
+use sb_base::NoMemory;
 use sb_glyphs::{put_decimal_text, put_shown};
-use sb_items::NoMemory;
 use std::alloc::Global;
 
 /// How a command ended, if neither well nor by the fault of a text. Files are numbered by their place in the command, from 1.

@@ -5,7 +5,7 @@ ghost use Rattle.sb_message.specs.LinkMessages.{link_words, link_names, link_mes
 use crate::causes::{names_word, word_words};
 use crate::messages::{FaultyText, TextFault};
 use crate::places::fault_message;
-use sb_items::NoMemory;
+use sb_base::NoMemory;
 use sb_link::{LinkFault, LinkKind};
 use sb_text::WordFault;
 use std::alloc::Global;

@@ -2,8 +2,8 @@
 ghost use Rattle.std.specs.Prelude.{◌≡◌, ◌++◌, IfOk, OnOk, string_bytes};
 ghost use Rattle.sb_message.specs.Messages.{text_word, headline, first_line, column_text, place_line, message_with};
 
+use sb_base::NoMemory;
 use sb_glyphs::{put_decimal_text, put_shown};
-use sb_items::NoMemory;
 use std::alloc::Global;
 
 /// A text that may have a fault.

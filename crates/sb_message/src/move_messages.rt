@@ -5,8 +5,8 @@ ghost use Rattle.sb_message.specs.MoveMessages.{move_words, move_names, move_mes
 use crate::causes::{names_word, put_no_target, put_words, word_words};
 use crate::messages::{FaultyText, TextFault};
 use crate::places::fault_message;
+use sb_base::NoMemory;
 use sb_dup::{MoveFault, MoveKind};
-use sb_items::NoMemory;
 use sb_text::WordFault;
 use std::alloc::Global;
 

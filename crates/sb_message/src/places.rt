@@ -7,11 +7,11 @@ ghost use Rattle.sb_message.specs.Messages.{fault_message, place_line};
 
 use crate::causes::cause_text;
 use crate::messages::{FaultyText, TextFault, put_place_line, text_message};
+use sb_base::NoMemory;
 use sb_glyphs::{
     Glyph, MOST_GLYPHS, MOST_NEAR, count_glyphs, first_glyphs_of, glyph_count, put_excerpt_lines,
     put_first_token, skip_glyphs,
 };
-use sb_items::NoMemory;
 use std::alloc::Global;
 
 /// What a message shows of the line of a fault.

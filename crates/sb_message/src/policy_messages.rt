@@ -5,7 +5,7 @@ ghost use Rattle.sb_message.specs.PolicyMessages.{limit_words, policy_words, pol
 use crate::causes::{names_word, pattern_words, word_words};
 use crate::messages::{FaultyText, TextFault};
 use crate::places::fault_message;
-use sb_items::NoMemory;
+use sb_base::NoMemory;
 use sb_ruletext::{PolicyFault, PolicyFaultKind, PolicyLimit};
 use sb_text::WordFault;
 use std::alloc::Global;

@@ -5,8 +5,8 @@ ghost use Rattle.sb_message.specs.ScriptMessages.{limit_words, place_words, argu
 use crate::causes::{names_word, put_no_target, put_two, put_words, word_words};
 use crate::messages::{FaultyText, TextFault, text_message};
 use crate::places::shown_place;
+use sb_base::NoMemory;
 use sb_glyphs::put_decimal_text;
-use sb_items::NoMemory;
 use sb_scripttext::{ScriptFault, ScriptKind, ScriptLimit, StartFault};
 use sb_text::WordFault;
 use std::alloc::Global;

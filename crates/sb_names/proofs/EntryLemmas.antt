@@ -16,7 +16,7 @@ use Rattle.sb_names.specs.Entries.{AreApart, AreHashed, Entries, Entry, IsKept, 
 use Rattle.sb_names.specs.Hashes.{hash_of}
 use Rattle.sb_names.specs.Keys.{key_of}
 use Rattle.sb_names.specs.Maps.{Rises, Rows, found, is_key, put, replaced, without}
-use Rattle.sb_items.specs.Orders.{by_pair}
+use Rattle.sb_base.specs.Orders.{by_pair}
 use Rattle.sb_names.proofs.Extent.{same_rows}
 use Rattle.sb_names.proofs.IndexLemmas.{in_range, same_pair, with_hash}
 use Rattle.sb_names.proofs.MapLaws.{is_found, is_key_eq}

@@ -1,6 +1,6 @@
 -- Names that are folded in their place, and rows that are chosen one after the other.
 use Rattle.std.proofs.Common.{◌≡◌, ◌<◌, ◌≤◌, ℕ, zero, suc, refl, ap, arith, List, [], ◌∷◌, ◌++◌, length, take, drop, get_or, set, map}
-use Rattle.sb_wide.specs.Wide.{folded}
+use Rattle.sb_base.specs.Wide.{folded}
 
 -- with the first this many units folded
 abbrev pub folded_to : ℕ → List ℕ → List ℕ

@@ -12,7 +12,7 @@ use Rattle.sb_arena.specs.Forests.{IsLive, parent_of as node_parent}
 use Rattle.sb_names.specs.Hashes.{hash_of}
 use Rattle.sb_names.specs.Maps.{is_key}
 use Rattle.sb_names.specs.Nodes.{Nodes, HasNoChild, IsChild, IsIndexed, is_child, is_same_node, key_at}
-use Rattle.sb_items.specs.Orders.{by_pair}
+use Rattle.sb_base.specs.Orders.{by_pair}
 use Rattle.sb_names.proofs.MapLaws.{own_test}
 
 -- two pairs are at one place of the order exactly if they are equal

@@ -5,8 +5,8 @@ use Rattle.std.proofs.lemmas.Bool.Decides.{nat_tests}
 use Rattle.std.proofs.lemmas.List.{append_cancel_left, take-append-drop}
 use Rattle.std.specs.Prelude.{not}
 use Rattle.std.specs.List.{list_any, list_all, prefix_len}
-use Rattle.sb_wide.specs.Names.{is_component, is_ordinary, ends_well}
-use Rattle.sb_wide.specs.Wide.{folded}
+use Rattle.sb_base.specs.Names.{is_component, is_ordinary, ends_well}
+use Rattle.sb_base.specs.Wide.{folded}
 use Rattle.sb_names.specs.Keys.{key_of, parent_of, is_backslash}
 use Rattle.sb_names.specs.Nodes.{is_path}
 

@@ -7,8 +7,8 @@ use Rattle.std.proofs.lemmas.List.Concat.{flat_map-append}
 use Rattle.std.specs.Prelude.{Option, Some, None, is_some, not, nat_lt, slice_index, ◌&&◌}
 use Rattle.std.specs.List.{list_all}
 use Rattle.sb_arena.specs.Forests.{HasLiveLinks, IsLive, IsShallow, ancestor, parent_of as node_parent, value_at}
-use Rattle.sb_wide.specs.Names.{NamesArePaths, PathsAreNames, components_of, is_component, is_name_of, is_ordinary, path_of}
-use Rattle.sb_wide.specs.Wide.{folded}
+use Rattle.sb_base.specs.Names.{NamesArePaths, PathsAreNames, components_of, is_component, is_name_of, is_ordinary, path_of}
+use Rattle.sb_base.specs.Wide.{folded}
 use Rattle.sb_names.specs.Keys.{key_of}
 use Rattle.sb_names.specs.Laws.{NamesFold}
 use Rattle.sb_names.specs.Nodes.{Nodes, HasNames, key_at, key_by, name_of, rows_of}

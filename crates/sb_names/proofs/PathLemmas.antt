@@ -6,7 +6,7 @@ use Rattle.std.specs.Prelude.{Option, Some, None, is_some}
 use Rattle.std.specs.Map.{lookup}
 use Rattle.std.specs.List.{list_all, list_any}
 use Rattle.sb_arena.specs.Forests.{IsShallow, HasLiveLinks, value_at}
-use Rattle.sb_wide.specs.Names.{NamesArePaths, components_of, is_component, is_name_of, path_of}
+use Rattle.sb_base.specs.Names.{NamesArePaths, components_of, is_component, is_name_of, path_of}
 use Rattle.sb_names.specs.Keys.{key_of, parent_of, is_backslash}
 use Rattle.sb_names.specs.Maps.{is_key, is_there}
 use Rattle.sb_names.specs.Nodes.{Nodes, HasNames, IsAt, IsUnnamed, is_path, rows_of}

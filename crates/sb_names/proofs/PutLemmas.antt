@@ -4,11 +4,11 @@ use Rattle.std.proofs.lemmas.Bool.Decides.{nat_tests}
 use Rattle.std.specs.Prelude.{Option, Some, None, is_some, ◌&&◌}
 use Rattle.std.specs.BTreeMap.{insert_entry, is_at}
 use Rattle.sb_arena.specs.Forests.{HasLiveLinks, IsShallow, value_at}
-use Rattle.sb_wide.specs.Names.{is_component}
+use Rattle.sb_base.specs.Names.{is_component}
 use Rattle.sb_names.specs.Hashes.{hash_of}
 use Rattle.sb_names.specs.Keys.{key_of}
 use Rattle.sb_names.specs.Nodes.{Nodes, HasNames, HasNoChild, IsChanged, IsIndexed, IsThere, name_of, rows_of}
-use Rattle.sb_items.specs.Orders.{by_pair}
+use Rattle.sb_base.specs.Orders.{by_pair}
 use Rattle.sb_names.specs.declared.nodes.NameNode.{NameNode}
 use Rattle.sb_names.proofs.Changes.{indexed_changed, names_changed, rows_added}
 use Rattle.sb_names.proofs.IndexLemmas.{same_pair}

@@ -6,7 +6,7 @@ use Rattle.std.proofs.lemmas.List.{append-nil, append_cancel_left}
 use Rattle.std.specs.Prelude.{Option, Some, None, Result, Ok, Err, is_some, not, ◌&&◌, ◌||◌}
 use Rattle.std.specs.List.{AllByRecursion, list_all, list_any}
 use Rattle.std.specs.Map.{keys_of, lookup}
-use Rattle.sb_wide.specs.Names.{is_name_of}
+use Rattle.sb_base.specs.Names.{is_name_of}
 use Rattle.sb_names.specs.Keys.{key_of, parent_of, is_backslash, is_below}
 use Rattle.sb_names.specs.Laws.{RenamesAddNothing, RenamesAreFound, RenamesKeepTrees, RenamesLeaveNothing}
 use Rattle.sb_names.specs.Maps.{Rows, is_key, is_there}

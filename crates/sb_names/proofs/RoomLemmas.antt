@@ -6,12 +6,12 @@ use Rattle.std.specs.BTreeMap.{is_at}
 use Rattle.std.specs.Map.{lookup}
 use Rattle.sb_arena.specs.Forests.{HasLiveLinks, IsLive, IsShallow, IsSound, node_number, parent_of as node_parent, value_at, with_vacancy}
 use Rattle.sb_arena.specs.Laws.{NumbersAreFree, VacanciesKeepNumbers, VacanciesLeaveNodes}
-use Rattle.sb_wide.specs.Names.{is_component}
+use Rattle.sb_base.specs.Names.{is_component}
 use Rattle.sb_names.specs.Hashes.{hash_of}
 use Rattle.sb_names.specs.Keys.{key_of}
 use Rattle.sb_names.specs.Maps.{is_key}
 use Rattle.sb_names.specs.Nodes.{Nodes, HasNames, HasNoChild, IsChanged, IsIndexed, IsThere, IsUnnamed, KeepsNodes, key_by, name_of, number_of, rows_of}
-use Rattle.sb_items.specs.Orders.{by_pair}
+use Rattle.sb_base.specs.Orders.{by_pair}
 use Rattle.sb_names.specs.Rooms.{HasRoomFor}
 use Rattle.sb_names.specs.declared.rooms.NewName.{NewName}
 use Rattle.sb_names.specs.declared.nodes.NameNode.{NameNode}

@@ -5,7 +5,7 @@ use Rattle.std.specs.Prelude.{Option, Some, None, is_some, option_map, OnOk, Res
 use Rattle.std.specs.BTreeMap.{insert_entry}
 use Rattle.std.specs.Map.{lookup}
 use Rattle.sb_arena.specs.Forests.{IsShallow, HasLiveLinks, value_at}
-use Rattle.sb_wide.specs.Names.{is_component}
+use Rattle.sb_base.specs.Names.{is_component}
 use Rattle.sb_names.specs.Keys.{key_of, parent_of}
 use Rattle.sb_names.specs.Maps.{Rows, found, is_key, put}
 use Rattle.sb_names.specs.Nodes.{Nodes, HasNames, HasNoChild, IsAt, IsChild, IsUnnamed, name_of, rows_of}

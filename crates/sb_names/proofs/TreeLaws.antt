@@ -9,7 +9,7 @@ use Rattle.std.specs.Ordering.{match_ordering}
 use Rattle.std.specs.Prelude.{Some, is_some}
 use Rattle.std.specs.declared.cmp.Ordering.{Ordering}
 use Rattle.std.specs.declared.cmp.Ordering.TheVariants.{Less, Equal, Greater}
-use Rattle.sb_wide.specs.Wide.{folded}
+use Rattle.sb_base.specs.Wide.{folded}
 use Rattle.sb_names.specs.Keys.{key_of, parent_of, is_backslash}
 use Rattle.sb_names.specs.Laws.{PutsKeepTrees}
 use Rattle.sb_names.specs.Maps.{Rows, is_key, found, put}

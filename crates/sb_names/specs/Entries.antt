@@ -7,7 +7,7 @@ use Rattle.std.specs.Map.{lookup, values_of}
 use Rattle.std.specs.Ordering.{nat_cmp}
 use Rattle.sb_names.specs.Hashes.{hash_of}
 use Rattle.sb_names.specs.Maps.{Rows, is_key}
-use Rattle.sb_items.specs.Orders.{by_pair}
+use Rattle.sb_base.specs.Orders.{by_pair}
 
 -- a hash and a number, and the row that is there
 abbrev pub Entry : Type 0 → Type 0

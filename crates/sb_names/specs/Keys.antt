@@ -1,7 +1,7 @@
 -- Names as keys: folded, with their parents and what lies below them.
 use Rattle.std.specs.Prelude.{ℕ, Bool, false, ◌&&◌, ◌==◌, List, [], ◌∷◌, map, if◌then◌else◌}
 use Rattle.std.specs.List.{list_any}
-use Rattle.sb_wide.specs.Wide.{folded}
+use Rattle.sb_base.specs.Wide.{folded}
 
 -- how a name is spelled, in small or capital letters, is no part of its meaning
 abbrev pub key_of : List ℕ → List ℕ

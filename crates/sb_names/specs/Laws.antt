@@ -1,7 +1,7 @@
 -- Laws of maps from names and of trees of names.
 use Rattle.std.specs.Prelude.{◌≡◌, ℕ, Bool, true, false, List, None, Some, is_some, Ok, if◌then◌else◌}
 use Rattle.std.specs.Map.{lookup}
-use Rattle.sb_wide.specs.Names.{is_name_of}
+use Rattle.sb_base.specs.Names.{is_name_of}
 use Rattle.sb_names.specs.Keys.{key_of}
 use Rattle.sb_names.specs.Maps.{Rows, Rises, is_key, is_there, found, put, without}
 use Rattle.sb_names.specs.Renames.{is_at_or_below, renamed_key, renamed_tree}

@@ -5,7 +5,7 @@ use Rattle.std.specs.Cmp.Lexicographic.{slice_cmp}
 use Rattle.std.specs.Ordering.{nat_cmp}
 use Rattle.sb_arena.specs.Forests.{Forest, IsAbove, IsLive, value_at, parent_of as node_parent, with_child}
 use Rattle.sb_arena.specs.declared.arena.NodeId.{NodeId}
-use Rattle.sb_wide.specs.Names.{is_component}
+use Rattle.sb_base.specs.Names.{is_component}
 use Rattle.sb_names.specs.Keys.{key_of}
 use Rattle.sb_names.specs.Maps.{Rows, is_key}
 use Rattle.sb_names.specs.Hashes.{hash_of}

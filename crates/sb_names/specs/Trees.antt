@@ -1,7 +1,7 @@
 -- A tree of names: a map in which each name is in a directory that is there, and what may be asked of it.
 use Rattle.std.specs.Prelude.{◌≡◌, ℕ, Bool, true, false, List, [], ◌∷◌, Option, None, Some, option_map}
 use Rattle.std.specs.List.{list_all}
-use Rattle.sb_wide.specs.Names.{is_name_of}
+use Rattle.sb_base.specs.Names.{is_name_of}
 use Rattle.sb_names.specs.Keys.{key_of, parent_of}
 use Rattle.sb_names.specs.Maps.{Rows, found, is_key, is_there}
 

@@ -2,8 +2,7 @@
 ghost use Rattle.std.specs.Prelude.{◌≡◌, IfOk};
 ghost use Rattle.sb_names.specs.Keys.{key_of};
 
-use sb_items::NoMemory;
-use sb_wide::{Wide, to_ascii_uppercase};
+use sb_base::{NoMemory, Wide, to_ascii_uppercase};
 use std::alloc::Global;
 
 // A name folded, in the memory that it has.

@@ -7,7 +7,7 @@ ghost use Rattle.sb_names.specs.Nodes.{key_at, number_of};
 
 use crate::nodes::NameNode;
 use sb_arena::{Arena, NodeId};
-use sb_wide::to_ascii_uppercase;
+use sb_base::to_ascii_uppercase;
 
 // The factor of the FNV hash of 64 bits.
 const FACTOR: u64 = 0x100_0000_01B3;

@@ -3,7 +3,7 @@ ghost use Rattle.std.specs.Prelude.{◌≡◌, length};
 ghost use Rattle.sb_names.specs.Maps.{is_key};
 ghost use Rattle.sb_names.specs.Keys.{key_of, parent_of, is_below, is_backslash};
 
-use sb_wide::to_ascii_uppercase;
+use sb_base::to_ascii_uppercase;
 
 const BACKSLASH: u16 = 92;
 

@@ -2,7 +2,7 @@
 ghost use Rattle.sb_names.specs.Numbers.{OutsKeepNumbers, PutsKeepNumbers, RenamesKeepNumbers};
 ghost use Rattle.sb_names.specs.Laws.{NamesFold, OutIsOut, PutsAreFound, PutsKeepParents, PutsKeepRows, PutsKeepTrees, RenamesAddNothing, RenamesAreFound, RenamesKeepParents, RenamesKeepTrees, RenamesLeaveNothing};
 
-use sb_wide::{names_are_paths, paths_are_names};
+use sb_base::{names_are_paths, paths_are_names};
 
 /// What is put under a name is found there, and under every other name what was found before.
 #[tactic(auto, using(crate::proofs::MapLaws::puts_are_found))]

@@ -2,7 +2,7 @@
 ghost use Rattle.std.specs.Prelude.{◌≡◌, ◌≤◌, ◌<◌, ◌^◌, not, [], ◌++◌, ◌∷◌, true, false, Some, None, IfSome, IfNone, length};
 ghost use Rattle.std.specs.List.{list_any, prefix_len};
 ghost use Rattle.sb_arena.specs.Forests.{Agrees, HasLiveLinks, HasSingleChildren, IsShallow, IsSound, no_nodes, parent_of as node_parent};
-ghost use Rattle.sb_wide.specs.Names.{is_component, is_name_of};
+ghost use Rattle.sb_base.specs.Names.{is_component, is_name_of};
 ghost use Rattle.sb_names.specs.Keys.{key_of, parent_of, is_backslash};
 ghost use Rattle.sb_names.specs.Maps.{Rises, found};
 ghost use Rattle.sb_names.specs.Trees.{AreFolded, AreNamed, IsTree};
@@ -12,7 +12,7 @@ use crate::hashes::hash_of;
 use crate::keys::parent_len;
 use crate::nodes::NameNode;
 use sb_arena::{Arena, NodeId};
-use sb_wide::{eq_ignore_ascii_case, names_are_paths, paths_are_names};
+use sb_base::{eq_ignore_ascii_case, names_are_paths, paths_are_names};
 use std::alloc::Global;
 use std::collections::BTreeMap;
 use std::marker::Model;
@@ -48,7 +48,7 @@ impl Model for NameTree {
     ghost use Rattle.std.specs.BTreeMap.{get};
     ghost use Rattle.sb_names.specs.Nodes.{HasNames, IsIndexed};
     ghost use Rattle.sb_names.specs.Objects.{HasObjects};
-    ghost use Rattle.sb_items.specs.Orders.{by_pair};
+    ghost use Rattle.sb_base.specs.Orders.{by_pair};
     ghost use Rattle.sb_names.specs.Rooms.{Tree};
 
     ghost Value = { Tree };

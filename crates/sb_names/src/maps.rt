@@ -5,12 +5,11 @@ ghost use Rattle.sb_names.specs.Entries.{AreHashed, IsKept, place_of, rows_in, v
 ghost use Rattle.sb_names.specs.Hashes.{hash_of};
 ghost use Rattle.sb_names.specs.Keys.{key_of};
 ghost use Rattle.sb_names.specs.Maps.{Rises, found, put, replaced, without};
-ghost use Rattle.sb_items.specs.Orders.{by_pair};
+ghost use Rattle.sb_base.specs.Orders.{by_pair};
 
 use crate::hashes::hash_of;
 use crate::keys::is_key;
-use sb_items::NoMemory;
-use sb_wide::Wide;
+use sb_base::{NoMemory, Wide};
 use std::alloc::Global;
 use std::collections::BTreeMap;
 use std::marker::Model;

@@ -8,8 +8,7 @@ ghost use Rattle.sb_names.specs.Objects.{HasNoHolder, IsNameOf, has_object};
 use crate::linked::NameTree;
 use crate::nodes::NameNode;
 use sb_arena::{Arena, NodeId};
-use sb_items::NoMemory;
-use sb_wide::{Wide, to_ascii_uppercase};
+use sb_base::{NoMemory, Wide, to_ascii_uppercase};
 
 const BACKSLASH: u16 = 92;
 

@@ -1,6 +1,6 @@
 // What a node of a tree of names keeps.
 
-use sb_wide::Wide;
+use sb_base::Wide;
 
 // A name in its directory.
 pub(crate) struct NameNode {

@@ -2,10 +2,10 @@
 ghost use Rattle.std.specs.Prelude.{◌≡◌, ◌++◌, ◌∷◌, true, false, Some, None, Ok, IfErr, OnOk, OnErr, is_some, map};
 ghost use Rattle.std.specs.BTreeMap.{IsUnchanged, get};
 ghost use Rattle.sb_arena.specs.Forests.{IsLive};
-ghost use Rattle.sb_wide.specs.Names.{is_component, is_name_of};
+ghost use Rattle.sb_base.specs.Names.{is_component, is_name_of};
 ghost use Rattle.sb_names.specs.Keys.{is_below, key_of, parent_of};
 ghost use Rattle.sb_names.specs.Maps.{found};
-ghost use Rattle.sb_items.specs.Orders.{by_pair};
+ghost use Rattle.sb_base.specs.Orders.{by_pair};
 ghost use Rattle.sb_names.specs.Renames.{collected, renamed_key, renamed_rows, renamed_tree};
 ghost use Rattle.sb_names.specs.Nodes.{HasNoChild, IsApart, IsAt, IsChanged, IsThere, KeepsAllBut, KeepsEntries, KeepsOtherNodes, KeepsRows, name_of, number_of, rows_of};
 
@@ -14,8 +14,7 @@ use crate::linked::{NameTree, last_component};
 use crate::nodes::NameNode;
 use crate::placing::hang;
 use sb_arena::{Arena, NodeId, calls_change_one_value, links_change_one_parent};
-use sb_items::NoMemory;
-use sb_wide::Wide;
+use sb_base::{NoMemory, Wide};
 use std::collections::BTreeMap;
 
 // Gives a node another value and another directory.

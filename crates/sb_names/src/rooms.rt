@@ -4,7 +4,7 @@ ghost use Rattle.std.specs.BTreeMap.{insert_entry};
 ghost use Rattle.std.specs.Cmp.Lexicographic.{slice_cmp};
 ghost use Rattle.std.specs.Ordering.{nat_cmp};
 ghost use Rattle.sb_arena.specs.Forests.{HasVacancy, node_number};
-ghost use Rattle.sb_wide.specs.Names.{is_name_of};
+ghost use Rattle.sb_base.specs.Names.{is_name_of};
 ghost use Rattle.sb_names.specs.Keys.{key_of, parent_of};
 ghost use Rattle.sb_names.specs.Nodes.{IsAt, IsChanged, IsThere, KeepsNodes, number_of, rows_of};
 ghost use Rattle.sb_names.specs.Rooms.{HasRoomFor, IsFreeFor, key_for};
@@ -16,8 +16,7 @@ use crate::placing::hang;
 use sb_arena::{
     Arena, NodeId, calls_change_one_value, links_change_one_parent, vacancies_change_nothing,
 };
-use sb_items::NoMemory;
-use sb_wide::Wide;
+use sb_base::{NoMemory, Wide};
 
 /// A name that is to be added to a tree, with memory of its own.
 #[derive(Drop)]

@@ -1,6 +1,6 @@
 // What looks a name up once, so that what follows goes on from where its path ends.
 ghost use Rattle.std.specs.Prelude.{◌≡◌, true, None, OnOk, OnErr};
-ghost use Rattle.sb_wide.specs.Names.{is_name_of};
+ghost use Rattle.sb_base.specs.Names.{is_name_of};
 ghost use Rattle.sb_names.specs.Keys.{key_of, parent_of};
 ghost use Rattle.sb_names.specs.Maps.{found, put};
 ghost use Rattle.sb_names.specs.Nodes.{IsAt, IsThere, KeepsNodes, number_of, rows_of};
@@ -9,7 +9,7 @@ ghost use Rattle.sb_names.specs.Trees.{has_parent};
 
 use crate::linked::{NameTree, last_component};
 use sb_arena::NodeId;
-use sb_items::NoMemory;
+use sb_base::NoMemory;
 
 /// Where the path of a name leads.
 #[derive(Clone, Copy)]

@@ -8,12 +8,12 @@ use Rattle.sb_ruletext.specs.NoteKinds.{begins_with_prefix, may_begin_name, kind
 use Rattle.sb_notes.specs.Laws.{NotesAreTrue}
 use Rattle.sb_ruletext.specs.declared.note_kinds.NoteKind.{NoteKind}
 use Rattle.sb_ruletext.specs.declared.note_kinds.NoteKind.TheVariants.{UnescapedPrefix, MatchesNoName}
-use Rattle.sb_pattern.specs.Matching.{matches}
-use Rattle.sb_pattern.specs.Reading.{cell_of, cells_of}
-use Rattle.sb_pattern.specs.declared.cells.Cell.{Cell}
-use Rattle.sb_pattern.specs.declared.cells.Cell.TheVariants.{Lit, One, Any}
-use Rattle.sb_wide.specs.Names.{is_component, is_name_of, parts_of}
-use Rattle.sb_wide.specs.Wide.{folded}
+use Rattle.sb_rule.specs.Matching.{matches}
+use Rattle.sb_rule.specs.PatternReading.{cell_of, cells_of}
+use Rattle.sb_rule.specs.declared.cells.Cell.{Cell}
+use Rattle.sb_rule.specs.declared.cells.Cell.TheVariants.{Lit, One, Any}
+use Rattle.sb_base.specs.Names.{is_component, is_name_of, parts_of}
+use Rattle.sb_base.specs.Wide.{folded}
 
 neither : (a b : Bool) → (a || b) ≡ false → (a ≡ false) × (b ≡ false)
 neither true b h = absurd (false≢true (sym h))

@@ -4,9 +4,9 @@ use Rattle.sb_glyphs.specs.CleanTexts.{IsClean}
 use Rattle.sb_ruletext.specs.NoteKinds.{kind_of}
 use Rattle.sb_notes.specs.NoteMessages.{notes_message}
 use Rattle.sb_ruletext.specs.declared.note_kinds.NoteKind.TheVariants.{UnescapedPrefix, MatchesNoName}
-use Rattle.sb_pattern.specs.Matching.{matches}
-use Rattle.sb_pattern.specs.Reading.{cells_of}
-use Rattle.sb_wide.specs.Names.{is_name_of}
+use Rattle.sb_rule.specs.Matching.{matches}
+use Rattle.sb_rule.specs.PatternReading.{cells_of}
+use Rattle.sb_base.specs.Names.{is_name_of}
 
 -- a pattern that is noted to match no name matches none; and one that is noted to begin with `\??\` matches a string with any units in the place of the two
 -- question marks exactly if it matches it with them

@@ -3,8 +3,8 @@ ghost use Rattle.std.specs.Prelude.{◌≡◌, ◌++◌, ◌≤◌, length, take
 ghost use Rattle.std.specs.List.{flat_map};
 ghost use Rattle.sb_notes.specs.NoteMessages.{note_headline, note_text, note_words, notes_text, number_text};
 
+use sb_base::NoMemory;
 use sb_glyphs::put_decimal_text;
-use sb_items::NoMemory;
 use sb_message::{FaultyText, put_place};
 use sb_ruletext::{Note, NoteKind};
 use sb_text::line_or_empty;

@@ -5,7 +5,7 @@ use Rattle.std.proofs.lemmas.Bool.Decides.{nat_tests}
 use Rattle.sb_call.specs.Arguments.{arg_at}
 use Rattle.sb_call.specs.declared.arguments.Arg.{Arg}
 use Rattle.sb_call.specs.declared.arguments.Arg.TheVariants as arg
-use Rattle.sb_pattern.specs.declared.cells.Cell.{Cell}
+use Rattle.sb_rule.specs.declared.cells.Cell.{Cell}
 use Rattle.sb_opcode.specs.Fragments.{unit_fits, after_fragment, after_units, at_end, has_front}
 use Rattle.sb_opcode.specs.Meaning.{after_opcode}
 use Rattle.sb_opcode.specs.Unpacking.{cell_of}

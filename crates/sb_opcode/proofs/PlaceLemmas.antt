@@ -6,8 +6,8 @@ use Rattle.std.proofs.Math.Seq.{drop-nil}
 use Rattle.std.proofs.lemmas.Bool.{false≢true}
 use Rattle.std.proofs.lemmas.Bool.Decides.{nat_tests}
 use Rattle.std.proofs.lemmas.List.{drop-drop, drop_all, get_or-drop, length-append, length-drop, length-map}
-use Rattle.sb_pattern.specs.declared.cells.Cell.{Cell}
-use Rattle.sb_pattern.specs.declared.cells.Cell.TheVariants.{One, Any}
+use Rattle.sb_rule.specs.declared.cells.Cell.{Cell}
+use Rattle.sb_rule.specs.declared.cells.Cell.TheVariants.{One, Any}
 use Rattle.sb_opcode.specs.Options.{has, FOLD}
 use Rattle.sb_opcode.specs.Unpacking.{cell_of}
 use Rattle.sb_opcode.specs.declared.opcodes.Seek.TheVariants.{Skip}

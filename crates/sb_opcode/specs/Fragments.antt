@@ -1,9 +1,9 @@
 -- Where a fragment is in a string. A position in a string is what is left of the string from there on.
 use Rattle.std.specs.Prelude.{ℕ, ◌-◌, Bool, true, false, ◌==◌, nat_le, List, [], ◌∷◌, length, drop, Option, None, Some, option_and_then, is_some, if◌then◌else◌}
 use Rattle.std.specs.Option.{option_or}
-use Rattle.sb_wide.specs.Wide.{folded}
-use Rattle.sb_pattern.specs.declared.cells.Cell.{Cell}
-use Rattle.sb_pattern.specs.declared.cells.Cell.TheVariants.{Lit, One, Any}
+use Rattle.sb_base.specs.Wide.{folded}
+use Rattle.sb_rule.specs.declared.cells.Cell.{Cell}
+use Rattle.sb_rule.specs.declared.cells.Cell.TheVariants.{Lit, One, Any}
 use Rattle.sb_opcode.specs.declared.opcodes.Seek.{Seek}
 use Rattle.sb_opcode.specs.declared.opcodes.Seek.TheVariants.{Skip, Forward, ToEnd}
 

@@ -4,7 +4,7 @@ use Rattle.std.specs.List.{list_all, list_any}
 use Rattle.sb_call.specs.Arguments.{arg_at}
 use Rattle.sb_call.specs.declared.arguments.Arg.{Arg}
 use Rattle.sb_call.specs.declared.arguments.Arg.TheVariants as arg
-use Rattle.sb_pattern.specs.declared.cells.Cell.{Cell}
+use Rattle.sb_rule.specs.declared.cells.Cell.{Cell}
 use Rattle.sb_opcode.specs.Groups.{rules_of, groups_of}
 use Rattle.sb_opcode.specs.Options.{has, NEGATE, OR, FOLD, EXACT}
 use Rattle.sb_opcode.specs.Opcodes.{Opcode}

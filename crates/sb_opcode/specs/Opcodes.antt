@@ -1,6 +1,6 @@
 -- What an opcode is.
 use Rattle.std.specs.Prelude.{ℕ, List}
-use Rattle.sb_pattern.specs.declared.cells.Cell.{Cell}
+use Rattle.sb_rule.specs.declared.cells.Cell.{Cell}
 use Rattle.sb_rule.specs.declared.actions.Action.{Action}
 use Rattle.sb_opcode.specs.declared.opcodes.Seek.{Seek}
 use Rattle.sb_opcode.specs.declared.options.Options.{Options}

@@ -1,6 +1,6 @@
 -- The opcodes that are seen in words.
 use Rattle.std.specs.Prelude.{◌≡◌, Bool, List, ◌∷◌, map}
-use Rattle.sb_pattern.specs.declared.cells.Cell.{Cell}
+use Rattle.sb_rule.specs.declared.cells.Cell.{Cell}
 use Rattle.sb_opcode.specs.Groups.{is_act}
 use Rattle.sb_opcode.specs.Unpacking.{cell_of}
 use Rattle.sb_opcode.specs.Opcodes.{Opcode}

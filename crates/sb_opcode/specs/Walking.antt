@@ -10,7 +10,7 @@ use Rattle.sb_opcode.specs.Fragments.{has_front}
 use Rattle.sb_opcode.specs.Opcodes.{Opcode, Num, Text}
 use Rattle.sb_opcode.specs.Unpacking.{first_known}
 use Rattle.sb_opcode.specs.declared.opcodes.Seek.TheVariants.{Skip}
-use Rattle.sb_pattern.specs.declared.cells.Cell.{Cell}
+use Rattle.sb_rule.specs.declared.cells.Cell.{Cell}
 use Rattle.sb_opcode.specs.Meaning.{after_opcode, negate_if, action_of_rule}
 use Rattle.sb_rule.specs.declared.verdicts.Verdict.{Verdict}
 use Rattle.sb_rule.specs.declared.verdicts.Verdict.TheVariants.{NoRule}

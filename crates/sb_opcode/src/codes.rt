@@ -2,7 +2,7 @@
 ghost use Rattle.std.specs.Prelude.{◌≡◌, ◌+◌, ◌*◌, ◌<◌, ◌^◌, ◌++◌, ◌∷◌, ◌↔◌, [], true, IsTrue, length, map, take, vec_len, nat_lt, OnOk, OnErr};
 ghost use Rattle.std.specs.List.{list_all};
 ghost use Rattle.sb_opcode.specs.Packing.{cell_word, kind_number, seek_number, skip_number, kind_words, head_of, record_of, packed, is_sized, is_sized_kind, is_sized_cell};
-ghost use Rattle.sb_pattern.specs.declared.cells.Cell.TheVariants.{Lit};
+ghost use Rattle.sb_rule.specs.declared.cells.Cell.TheVariants.{Lit};
 ghost use Rattle.sb_opcode.specs.declared.opcodes.Seek.TheVariants.{Skip};
 ghost use Rattle.sb_opcode.specs.Records.{kind_of, opcode_of, text_opcode};
 ghost use Rattle.sb_opcode.specs.Unpacking.{cell_of, is_packed, opcodes_of};
@@ -11,8 +11,8 @@ use crate::opcodes::{Look, OpKind, Opcode, Seek};
 use crate::options::Options;
 use crate::records::{Records, after_record};
 use bitflags::Flags;
-use sb_items::NoMemory;
-use sb_pattern::Cell;
+use sb_base::NoMemory;
+use sb_rule::Cell;
 use std::alloc::Global;
 use std::marker::Model;
 

@@ -5,7 +5,7 @@ ghost use Rattle.sb_opcode.specs.Unpacking.{cell_of};
 ghost use Rattle.sb_opcode.specs.Fragments.{unit_fits, after_fragment, after_units, after_first, after_end, after_seek, at_end, has_front};
 
 use crate::opcodes::Seek;
-use sb_wide::to_ascii_uppercase;
+use sb_base::to_ascii_uppercase;
 
 // The word of `?`, above those of all units.
 const ONE: u64 = 65536;

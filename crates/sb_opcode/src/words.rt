@@ -1,6 +1,6 @@
 // Words as they were given.
 
-use sb_items::Items;
+use sb_base::Items;
 
 /// Words that were to be a code.
 pub type WordList = Items<u64>;

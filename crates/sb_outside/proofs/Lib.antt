@@ -1,2 +1,4 @@
+pub mod Passing
 pub mod Prefixes
+pub mod Wholes
 pub mod Written

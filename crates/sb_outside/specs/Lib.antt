@@ -1,3 +1,4 @@
-pub mod Outside
+pub mod Hosts
 pub mod MemFiles
 pub mod MemSink
+pub mod Outside

@@ -1,9 +1,10 @@
-// What lies outside the broker: files, an output and a gate, each as a trait with its meaning. Files and an output in
-// memory implement these traits exactly, for tests and for callers who have the texts at hand.
+// What lies outside the broker: files, an output and a gate, each as a trait with its meaning. Files and an output in memory implement these traits
+// exactly, for tests and for callers who have the texts at hand; files of the system and its standard output, for the program.
 #![tactic(auto)]
 
 mod files;
 mod gate;
+mod hosts;
 mod lists;
 mod mem_files;
 mod mem_sink;
@@ -11,6 +12,7 @@ mod sink;
 
 pub use files::{FileFault, Files};
 pub use gate::{Gate, OpenGate};
+pub use hosts::{HostFiles, HostSink, PIECE};
 pub use lists::{Bytes, Numbers, Text};
 pub use mem_files::{FileList, MemFiles, StoredFile};
 pub use mem_sink::MemSink;

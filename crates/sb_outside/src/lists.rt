@@ -1,7 +1,7 @@
 // Bytes, numbers and texts, each seen by contracts as the list of its items.
 ghost use Rattle.std.specs.Prelude.{◌≡◌};
 
-use sb_items::Items;
+use sb_base::Items;
 use std::marker::Model;
 
 /// A list of bytes.

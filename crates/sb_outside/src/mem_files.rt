@@ -4,7 +4,7 @@ ghost use Rattle.sb_outside.specs.MemFiles.{IsAnswer, content_of, found};
 
 use crate::files::{FileFault, Files};
 use crate::lists::{Bytes, Numbers, Text};
-use sb_items::Items;
+use sb_base::Items;
 use std::alloc::Global;
 
 /// A file in memory.

@@ -4,7 +4,7 @@ ghost use Rattle.sb_outside.specs.Outside.{GrowsByPrefix, GrowsUpTo};
 
 use crate::lists::Numbers;
 use crate::sink::{Sink, SinkFault};
-use sb_items::NoMemory;
+use sb_base::NoMemory;
 use std::alloc::Global;
 use std::marker::Model;
 

@@ -3,9 +3,9 @@ use Rattle.std.proofs.Common.{◌≡◌, ◌∙◌, refl, sym, ap, subst, ℕ, �
 use Rattle.std.specs.Prelude.{IfOk, IsSomeAnd, Result, Ok, Err, ◌∷◌, [], map}
 use Rattle.std.proofs.lemmas.Bool.Decides.{nat_tests}
 use Rattle.std.proofs.lemmas.List.{length-replicate}
-use Rattle.sb_items.specs.Refusals.{GivesAs}
-use Rattle.sb_items.specs.declared.refusals.Refused.{Refused}
-use Rattle.sb_items.specs.declared.refusals.Refused.TheVariants as given
+use Rattle.sb_base.specs.Refusals.{GivesAs}
+use Rattle.sb_base.specs.declared.refusals.Refused.{Refused}
+use Rattle.sb_base.specs.declared.refusals.Refused.TheVariants as given
 use Rattle.sb_outside.specs.Outside.{Held, IsContent, IsMissing, IsTooLong}
 use Rattle.sb_outside.specs.declared.files.FileFault.{FileFault}
 use Rattle.sb_outside.specs.declared.files.FileFault.TheVariants as file

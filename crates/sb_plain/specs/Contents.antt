@@ -1,7 +1,7 @@
 -- What the files of a command hold, by their place in the command, and what is read of each.
 use Rattle.std.specs.Prelude.{ℕ, nat_le, List, [], length, Option, None, Some, Result, Ok, Err, if◌then◌else◌}
-use Rattle.sb_items.specs.declared.refusals.Refused.{Refused}
-use Rattle.sb_items.specs.declared.refusals.Refused.TheVariants as given
+use Rattle.sb_base.specs.declared.refusals.Refused.{Refused}
+use Rattle.sb_base.specs.declared.refusals.Refused.TheVariants as given
 use Rattle.sb_outside.specs.declared.files.FileFault.{FileFault}
 use Rattle.sb_outside.specs.declared.files.FileFault.TheVariants as file
 use Rattle.sb_rule.specs.declared.policies.Policy.{Policy}

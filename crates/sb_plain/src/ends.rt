@@ -6,8 +6,8 @@ ghost use Rattle.sb_plain.specs.Putting.{IsPut, bytes_of};
 
 use crate::outcomes::{Outcome, Status};
 use crate::shown::Shown;
+use sb_base::{Items, NoMemory};
 use sb_book::Report;
-use sb_items::{Items, NoMemory};
 use sb_outside::{Bytes, Sink, put_lines};
 use sb_transcript::LineBuffer;
 use std::alloc::Global;

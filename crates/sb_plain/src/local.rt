@@ -18,10 +18,10 @@ use crate::outcomes::Status;
 use crate::reading::{opened_in, schedule_of};
 use crate::refusals::{Refused, end_or_refusal};
 use crate::replay::transcript_text;
+use sb_base::{Items, NoMemory};
 use sb_book::{ReadyScript, Report, RunStart};
 use sb_compile::Programs;
 use sb_core::{Ran, run};
-use sb_items::{Items, NoMemory};
 use sb_kernel::Kernel;
 use sb_local::{
     LocalDenial, SentScript, denial_lines, runs_of_one_thread_are_serial, thinned_scripts_are_sound,

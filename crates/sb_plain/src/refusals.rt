@@ -7,7 +7,7 @@ ghost use Rattle.sb_plain.specs.Outcomes.{IsRefusal};
 use crate::ends::CommandEnd;
 use crate::outcomes::{Outcome, Status};
 use crate::shown::Shown;
-use sb_items::NoMemory;
+use sb_base::NoMemory;
 use sb_text::TextPart;
 use std::marker::Model;
 

@@ -2,7 +2,7 @@
 ghost use Rattle.std.specs.Prelude.{◌≡◌, IfOk};
 ghost use Rattle.sb_ruletext.specs.Notes.{notes_of};
 
-use sb_items::NoMemory;
+use sb_base::NoMemory;
 use sb_ruletext::{Note, read_notes};
 use sb_text::TextPart;
 use std::alloc::Global;

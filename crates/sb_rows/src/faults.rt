@@ -1,6 +1,6 @@
 // What is wrong with a row.
 
-use sb_items::NoMemory;
+use sb_base::NoMemory;
 use std::alloc::{AllocError, AllocFailed};
 
 /// What is wrong with a row.

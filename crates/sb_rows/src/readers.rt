@@ -1,7 +1,7 @@
 // Readers of numbers and strings, and how values are written.
 
 use crate::faults::RowFault;
-use sb_wide::Wide;
+use sb_base::Wide;
 use std::alloc::Global;
 
 /// The arguments of a row, cut at bars. Blanks about them do not count.

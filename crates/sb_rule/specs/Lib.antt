@@ -1,5 +1,12 @@
 pub mod Accesses
 pub mod Actions
+pub mod Cells
+pub mod Chunks
 pub mod Limits
+pub mod Matching
+pub mod PatternFaults
+pub mod PatternLimits
+pub mod PatternReading
+pub mod Rows
 pub mod Verdicts
 pub mod WellMade

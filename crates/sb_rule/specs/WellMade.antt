@@ -3,17 +3,17 @@ use Rattle.std.specs.Prelude.{ℕ, Bool, true, false, not, ◌&&◌, ◌==◌, n
 use Rattle.std.specs.Bool.{beq}
 use Rattle.std.specs.List.{list_all, list_any}
 use Rattle.std.specs.Cmp.Lexicographic.{pointwise}
-use Rattle.sb_wide.specs.Surrogates.{is_paired}
-use Rattle.sb_wide.specs.Wide.{is_text_unit}
+use Rattle.sb_base.specs.Surrogates.{is_paired}
+use Rattle.sb_base.specs.Wide.{is_text_unit}
 use Rattle.sb_call.specs.Arguments.{kind_at}
 use Rattle.sb_call.specs.Parameters.{is_number_kind}
 use Rattle.sb_call.specs.Tags.{shape_of}
 use Rattle.sb_call.specs.declared.tags.CallTag.{CallTag}
 use Rattle.sb_call.specs.declared.tags.CallTag.TheVariants.{FileOpen, KeyOpen, EventOpen}
-use Rattle.sb_pattern.specs.Limits.{most_units}
-use Rattle.sb_pattern.specs.Reading.{text_of, is_pattern}
-use Rattle.sb_pattern.specs.declared.cells.Cell.{Cell}
-use Rattle.sb_pattern.specs.declared.cells.Cell.TheVariants.{Lit, One, Any}
+use Rattle.sb_rule.specs.PatternLimits.{most_units}
+use Rattle.sb_rule.specs.PatternReading.{text_of, is_pattern}
+use Rattle.sb_rule.specs.declared.cells.Cell.{Cell}
+use Rattle.sb_rule.specs.declared.cells.Cell.TheVariants.{Lit, One, Any}
 use Rattle.sb_rule.specs.Limits.{most_policies, most_rules, most_conditions, most_numbers}
 use Rattle.sb_rule.specs.declared.actions.Action.{Action}
 use Rattle.sb_rule.specs.declared.actions.Action.TheVariants.{ReadOnly}

@@ -3,18 +3,20 @@ ghost use Rattle.std.specs.Prelude.{◌≡◌, false};
 ghost use Rattle.std.specs.List.{list_any, list_all};
 ghost use Rattle.std.specs.Cmp.Lexicographic.{pointwise};
 ghost use Rattle.sb_call.specs.Arguments.{kind_at};
-ghost use Rattle.sb_pattern.specs.Reading.{text_of};
-ghost use Rattle.sb_wide.specs.Surrogates.{is_paired, is_paired_after};
+ghost use Rattle.sb_rule.specs.PatternReading.{text_of};
+ghost use Rattle.sb_base.specs.Surrogates.{is_paired, is_paired_after};
 ghost use Rattle.sb_rule.specs.WellMade.{is_policy_text, is_like_text, is_number_test, is_sensible, is_well_formed, is_for_readers, is_well_made_rule, is_well_made, are_named_apart, are_well_made, is_named, last_unit};
-ghost use Rattle.sb_wide.specs.Wide.{is_text_unit};
+ghost use Rattle.sb_base.specs.Wide.{is_text_unit};
 
 use crate::actions::Action;
+use crate::cells::Cell;
 use crate::conditions::{Cond, Test};
 use crate::limits::{MOST_CONDITIONS, MOST_NUMBERS, MOST_POLICIES, MOST_RULES};
+use crate::pattern_limits::MOST_UNITS;
+use crate::patterns::Pattern;
 use crate::policies::{Policies, Policy, Rule};
+use sb_base::{is_high_surrogate, is_low_surrogate, is_well_formed_utf16, walks_find_pairs};
 use sb_call::{CallTag, ShortName};
-use sb_pattern::{Cell, MOST_UNITS, Pattern};
-use sb_wide::{is_high_surrogate, is_low_surrogate, is_well_formed_utf16, walks_find_pairs};
 
 fn is_text_unit(unit: u16) -> bool
     ensures { result ≡ is_text_unit unit }

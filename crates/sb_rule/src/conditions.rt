@@ -1,9 +1,8 @@
 // The conditions of a rule.
 ghost use Rattle.std.specs.Prelude.{◌≡◌};
 
-use sb_items::Items;
-use sb_pattern::Pattern;
-use sb_wide::Wide;
+use crate::patterns::Pattern;
+use sb_base::{Items, Wide};
 use std::alloc::AllocError;
 
 /// The numbers of a test.

@@ -4,8 +4,8 @@ ghost use Rattle.sb_rule.specs.Verdicts.{is_for};
 
 use crate::actions::Action;
 use crate::conditions::Conds;
+use sb_base::Items;
 use sb_call::{CallTag, ShortName, number_of};
-use sb_items::Items;
 use std::alloc::AllocError;
 
 /// A rule: for the calls of one tag for which all its conditions hold, an action.

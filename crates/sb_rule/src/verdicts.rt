@@ -7,8 +7,8 @@ ghost use Rattle.sb_rule.specs.Verdicts.{test_holds, cond_holds, rule_holds, ver
 use crate::actions::Action;
 use crate::conditions::{Cond, Test};
 use crate::policies::{Policy, Rule};
+use sb_base::eq_ignore_ascii_case;
 use sb_call::{Arg, CallTag};
-use sb_wide::eq_ignore_ascii_case;
 
 /// What a policy says of a call.
 #[derive(Clone, Copy, Debug, PartialEq, Eq)]

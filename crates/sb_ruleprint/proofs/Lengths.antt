@@ -13,7 +13,7 @@ use Rattle.std.proofs.lemmas.List.{length-append, length-map}
 use Rattle.sb_call.specs.CallWords.{call_word}
 use Rattle.sb_call.specs.declared.tags.CallTag.{CallTag}
 use Rattle.sb_call.specs.declared.tags.CallTag.TheVariants.{Ping, FileCreate, FileOpen, FileQuery, FileRename, PipeCreate, KeyCreate, KeyOpen, EventCreate, EventOpen, HandleClose}
-use Rattle.sb_pattern.specs.Reading.{text_of}
+use Rattle.sb_rule.specs.PatternReading.{text_of}
 use Rattle.sb_rule.specs.Actions.{action_word}
 use Rattle.sb_rule.specs.WellMade.{is_sensible, is_policy_text, is_well_formed, is_well_made_rule, is_well_made, are_well_made}
 use Rattle.sb_rule.specs.declared.actions.Action.{Action}

@@ -1,9 +1,9 @@
 -- How policies are written as a text.
 use Rattle.std.specs.Prelude.{ℕ, ◌+◌, Bool, true, false, List, [], ◌∷◌, ◌++◌, length, map, codes, if◌then◌else◌}
-use Rattle.sb_wide.specs.Numbers.{hexadecimal}
+use Rattle.sb_base.specs.Numbers.{hexadecimal}
 use Rattle.std.specs.List.{flat_map, list_any}
 use Rattle.sb_call.specs.declared.tags.CallTag.{CallTag}
-use Rattle.sb_pattern.specs.Reading.{text_of}
+use Rattle.sb_rule.specs.PatternReading.{text_of}
 use Rattle.sb_rule.specs.declared.actions.Action.{Action}
 use Rattle.sb_rule.specs.declared.actions.Action.TheVariants.{ReadOnly}
 use Rattle.sb_rule.specs.declared.conditions.Cond.{Cond}

@@ -6,7 +6,7 @@ use Rattle.sb_rule.specs.declared.conditions.Test.{Test}
 use Rattle.sb_rule.specs.declared.conditions.Test.TheVariants.{OneOf, Range, Mask, Equal, Like}
 use Rattle.sb_rule.specs.declared.policies.Policy.{Policy}
 use Rattle.sb_rule.specs.declared.policies.Rule.{Rule}
-use Rattle.sb_wide.specs.Numbers.{is_word64}
+use Rattle.sb_base.specs.Numbers.{is_word64}
 
 -- the numbers of a test have 64 bits
 abbrev pub is_test_of_values : Test → Bool

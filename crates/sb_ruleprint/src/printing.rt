@@ -7,12 +7,11 @@ ghost use Rattle.sb_ruleprint.specs.Printing.{number_word, range_word, or_tokens
 ghost use Rattle.sb_text.specs.PlainLines.{line_text};
 ghost use Rattle.sb_text.specs.Tokens.{utf8_of};
 ghost use Rattle.sb_ruleprint.specs.Values.{is_test_of_values, is_rule_of_values, is_policy_of_values};
-ghost use Rattle.sb_wide.specs.Numbers.{is_word64};
+ghost use Rattle.sb_base.specs.Numbers.{is_word64};
 
+use sb_base::{NoMemory, put_hexadecimal};
 use sb_call::{CallTag, call_word, parameter_word};
-use sb_items::NoMemory;
 use sb_rule::{Action, Cond, Policy, Rule, Test, WellMadePolicies};
-use sb_wide::put_hexadecimal;
 use std::alloc::Global;
 
 // Each of these appends to the text, and what it has read of the policies is in the ranges of its types. After an error the text

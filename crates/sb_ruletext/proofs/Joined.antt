@@ -7,8 +7,8 @@ use Rattle.sb_text.specs.Spots.{fails}
 use Rattle.sb_text.specs.declared.refusals.TokenFault.{TokenFault}
 use Rattle.sb_text.specs.Steps.{◌>>=◌, Read, Reads, begins_with, later}
 use Rattle.sb_text.specs.Tokens.{Lexeme}
-use Rattle.sb_items.specs.declared.refusals.Refused.{Refused}
-use Rattle.sb_items.specs.declared.refusals.Refused.TheVariants as refused
+use Rattle.sb_base.specs.declared.refusals.Refused.{Refused}
+use Rattle.sb_base.specs.declared.refusals.Refused.TheVariants as refused
 
 -- how an item is read
 abbrev ItemAt : Type 0 → Type 0

@@ -5,9 +5,9 @@ use Rattle.std.proofs.lemmas.Bool.Decides.{nat_tests}
 use Rattle.std.proofs.lemmas.List.{append-nil}
 use Rattle.std.specs.Cmp.Lexicographic.{pointwise}
 use Rattle.std.specs.List.{flat_map}
-use Rattle.sb_items.specs.Refusals.{Gives, GivesAs}
-use Rattle.sb_items.specs.declared.refusals.Refused.{Refused}
-use Rattle.sb_items.specs.declared.refusals.Refused.TheVariants.{Fault, NoMemory}
+use Rattle.sb_base.specs.Refusals.{Gives, GivesAs}
+use Rattle.sb_base.specs.declared.refusals.Refused.{Refused}
+use Rattle.sb_base.specs.declared.refusals.Refused.TheVariants.{Fault, NoMemory}
 use Rattle.sb_rule.specs.declared.policies.Policy.{Policy}
 use Rattle.sb_ruletext.specs.Notes.{follows_is, is_about_names, is_read, note_at, noted, notes_in, notes_of, notes_on}
 use Rattle.sb_ruletext.specs.NotedTexts.{NotedPolicies, add_noted, noted_grammar}

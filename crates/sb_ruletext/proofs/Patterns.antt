@@ -2,13 +2,13 @@
 use Rattle.std.proofs.Common.{◌≡◌, refl, sym, subst, ℕ, List, Bool, true, false, nat_le, nat_lt, length, Option, Some, Ok, arith, cond}
 use Rattle.std.proofs.lemmas.Bool.Decides.{nat_tests}
 use Rattle.std.specs.List.{list_all}
-use Rattle.sb_pattern.specs.Reading.{reading, star_fault, cells_of, unless, TextsComeBack, ReadingGivesPatterns}
-use Rattle.sb_pattern.specs.declared.cells.Cell.{Cell}
-use Rattle.sb_pattern.specs.declared.faults.PatternFault.{PatternFault}
-use Rattle.sb_pattern.specs.declared.faults.PatternFault.TheVariants.{TooLong}
+use Rattle.sb_rule.specs.PatternReading.{reading, star_fault, cells_of, unless, TextsComeBack, ReadingGivesPatterns}
+use Rattle.sb_rule.specs.declared.cells.Cell.{Cell}
+use Rattle.sb_rule.specs.declared.pattern_faults.PatternFault.{PatternFault}
+use Rattle.sb_rule.specs.declared.pattern_faults.PatternFault.TheVariants.{TooLong}
 use Rattle.sb_rule.specs.WellMade.{is_policy_text, is_like_text}
-use Rattle.sb_wide.specs.Wide.{is_text_unit}
-use Rattle.sb_wide.specs.Surrogates.{is_paired}
+use Rattle.sb_base.specs.Wide.{is_text_unit}
+use Rattle.sb_base.specs.Surrogates.{is_paired}
 use Rattle.sb_ruletext.proofs.Conjunctions.{and_true}
 
 -- text of at most 256 units

@@ -7,21 +7,21 @@ use Rattle.std.proofs.lemmas.Bool.{false≢true}
 use Rattle.std.proofs.lemmas.Bool.Decides.{nat_tests}
 use Rattle.sb_call.specs.declared.tags.CallTag.{CallTag}
 use Rattle.sb_call.specs.declared.tags.CallTag.TheVariants.{Ping, FileCreate, FileOpen, FileQuery, FileRename, PipeCreate, KeyCreate, KeyOpen, EventCreate, EventOpen, HandleClose}
-use Rattle.sb_pattern.specs.Reading.{text_of, reading, is_pattern}
-use Rattle.sb_pattern.specs.declared.cells.Cell.{Cell}
-use Rattle.sb_pattern.specs.declared.faults.PatternFault.TheVariants.{TooLong}
+use Rattle.sb_rule.specs.PatternReading.{text_of, reading, is_pattern}
+use Rattle.sb_rule.specs.declared.cells.Cell.{Cell}
+use Rattle.sb_rule.specs.declared.pattern_faults.PatternFault.TheVariants.{TooLong}
 use Rattle.sb_rule.specs.WellMade.{is_number_test, is_sensible, is_well_formed, is_policy_text, is_like_text}
 use Rattle.sb_rule.specs.declared.conditions.Cond.{Cond}
 use Rattle.sb_rule.specs.declared.conditions.Test.{Test}
 use Rattle.sb_rule.specs.declared.conditions.Test.TheVariants.{OneOf, Range, Mask, Equal, Like}
 use Rattle.sb_text.specs.NumberLaws.{HexadecimalsAreRead}
 use Rattle.sb_text.specs.Tokens.{Lexeme, Word, Quoted, utf8_of, string_of}
-use Rattle.sb_pattern.specs.Limits.{most_units}
+use Rattle.sb_rule.specs.PatternLimits.{most_units}
 use Rattle.sb_ruletext.specs.Conditions.{number_at, string, cells, test_at, is_number_at, plain_condition_at, condition_at, conditions_of}
 use Rattle.sb_call.specs.Parameters.{parameter_word, parameter_words}
 use Rattle.sb_ruleprint.specs.Printing.{number_word, range_word, numbers_tokens, test_tokens, not_tokens, cond_tokens, joined_tokens}
 use Rattle.sb_ruleprint.specs.Values.{is_test_of_values}
-use Rattle.sb_wide.specs.Numbers.{is_word64}
+use Rattle.sb_base.specs.Numbers.{is_word64}
 use Rattle.sb_ruletext.specs.Steps.{joined_at}
 use Rattle.sb_text.specs.Steps.{◌>>=◌, or_fails, at_token, Read, begins_with, later, end_at}
 use Rattle.sb_text.specs.declared.refusals.WordFault.TheVariants.{Extra, Broken}

@@ -10,7 +10,7 @@ use Rattle.sb_call.specs.ShortNames.{is_name_byte, is_short_name}
 use Rattle.sb_call.specs.Tags.{shape_of}
 use Rattle.sb_call.specs.declared.tags.CallTag.{CallTag}
 use Rattle.sb_call.specs.declared.tags.CallTag.TheVariants.{Ping, FileCreate, FileOpen, FileQuery, FileRename, PipeCreate, KeyCreate, KeyOpen, EventCreate, EventOpen, HandleClose}
-use Rattle.sb_pattern.specs.Reading.{text_of}
+use Rattle.sb_rule.specs.PatternReading.{text_of}
 use Rattle.sb_rule.specs.WellMade.{is_policy_text, is_sensible, is_well_formed, is_well_made_rule, is_well_made}
 use Rattle.sb_rule.specs.declared.actions.Action.{Action}
 use Rattle.sb_rule.specs.declared.actions.Action.TheVariants.{Allow, Deny, Alarm, Fake, ReadOnly}
@@ -24,7 +24,7 @@ use Rattle.sb_text.specs.Tokens.{Word, Quoted, utf8_of}
 use Rattle.sb_call.specs.Parameters.{parameter_word, parameter_words}
 use Rattle.sb_ruleprint.specs.Printing.{numbers_tokens, test_tokens, not_tokens, cond_tokens, joined_tokens, conds_tokens, rule_tokens, heading_tokens, policy_lines, has_read_only, version_tokens, printed_lines}
 use Rattle.sb_ruleprint.specs.Values.{is_test_of_values, is_rule_of_values, is_policy_of_values}
-use Rattle.sb_wide.specs.Numbers.{is_word64}
+use Rattle.sb_base.specs.Numbers.{is_word64}
 use Rattle.sb_rule.specs.Actions.{action_word}
 use Rattle.sb_call.specs.CallWords.{call_word}
 use Rattle.sb_ruletext.proofs.PrintedConditions.{AreSound, Texts, later_sound, number_small, string_back}

@@ -9,15 +9,15 @@ use Rattle.sb_call.specs.CallWords.{is_word, tag_of_word}
 use Rattle.sb_call.specs.Tags.{shape_of}
 use Rattle.sb_call.specs.ShortNames.{is_short_name}
 use Rattle.sb_call.specs.declared.tags.CallTag.{CallTag}
-use Rattle.sb_pattern.specs.Limits.{most_units}
-use Rattle.sb_pattern.specs.Reading.{reading as cells_read, TextsComeBack, ReadingGivesPatterns}
-use Rattle.sb_pattern.specs.declared.cells.Cell.{Cell}
-use Rattle.sb_pattern.specs.declared.faults.PatternFault.{PatternFault}
-use Rattle.sb_pattern.specs.declared.faults.PatternFault.TheVariants.{DoubleStar, StarQuestion, TooLong}
+use Rattle.sb_rule.specs.PatternLimits.{most_units}
+use Rattle.sb_rule.specs.PatternReading.{reading as cells_read, TextsComeBack, ReadingGivesPatterns}
+use Rattle.sb_rule.specs.declared.cells.Cell.{Cell}
+use Rattle.sb_rule.specs.declared.pattern_faults.PatternFault.{PatternFault}
+use Rattle.sb_rule.specs.declared.pattern_faults.PatternFault.TheVariants.{DoubleStar, StarQuestion, TooLong}
 use Rattle.sb_rule.specs.Limits.{most_conditions, most_numbers}
 use Rattle.sb_rule.specs.WellMade.{is_policy_text, is_like_text, is_sensible, is_number_test, is_well_formed, is_for_readers, is_well_made_rule, are_well_made, is_named}
-use Rattle.sb_wide.specs.Wide.{is_text_unit}
-use Rattle.sb_wide.specs.Surrogates.{is_paired}
+use Rattle.sb_base.specs.Wide.{is_text_unit}
+use Rattle.sb_base.specs.Surrogates.{is_paired}
 use Rattle.sb_rule.specs.declared.actions.Action.{Action}
 use Rattle.sb_rule.specs.declared.conditions.Cond.{Cond}
 use Rattle.sb_rule.specs.declared.conditions.Test.{Test}

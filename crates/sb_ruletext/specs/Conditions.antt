@@ -2,11 +2,11 @@
 use Rattle.std.specs.Prelude.{ℕ, ◌&&◌, ◌==◌, Bool, true, false, nat_le, List, [], ◌∷◌, length, Option, None, Some, option_map, Result, Ok, Err, if◌then◌else◌, codes}
 use Rattle.sb_call.specs.Arguments.{kind_at}
 use Rattle.sb_call.specs.declared.tags.CallTag.{CallTag}
-use Rattle.sb_pattern.specs.Reading.{reading}
-use Rattle.sb_pattern.specs.declared.cells.Cell.{Cell}
-use Rattle.sb_pattern.specs.declared.faults.PatternFault.{PatternFault}
-use Rattle.sb_pattern.specs.declared.faults.PatternFault.TheVariants.{DoubleStar, StarQuestion, TooLong}
-use Rattle.sb_pattern.specs.Limits.{most_units}
+use Rattle.sb_rule.specs.PatternReading.{reading}
+use Rattle.sb_rule.specs.declared.cells.Cell.{Cell}
+use Rattle.sb_rule.specs.declared.pattern_faults.PatternFault.{PatternFault}
+use Rattle.sb_rule.specs.declared.pattern_faults.PatternFault.TheVariants.{DoubleStar, StarQuestion, TooLong}
+use Rattle.sb_rule.specs.PatternLimits.{most_units}
 use Rattle.sb_rule.specs.Limits.{most_conditions, most_numbers}
 use Rattle.sb_call.specs.Parameters.{is_number_kind}
 use Rattle.sb_rule.specs.declared.conditions.Cond.{Cond}

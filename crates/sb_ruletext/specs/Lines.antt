@@ -3,7 +3,7 @@ use Rattle.std.specs.Prelude.{⊤, ℕ, Bool, true, false, ◌+◌, nat_le, nat_
 use Rattle.std.specs.List.{list_any}
 use Rattle.sb_call.specs.ShortNames.{is_short_name}
 use Rattle.sb_call.specs.declared.tags.CallTag.{CallTag}
-use Rattle.sb_pattern.specs.declared.cells.Cell.{Cell}
+use Rattle.sb_rule.specs.declared.cells.Cell.{Cell}
 use Rattle.sb_rule.specs.Limits.{most_policies, most_rules}
 use Rattle.sb_rule.specs.WellMade.{is_for_readers, is_named}
 use Rattle.sb_rule.specs.declared.actions.Action.{Action}

@@ -1,9 +1,9 @@
 // Reading conditions: COND and COND .., each a parameter, a test word and a value.
 ghost use Rattle.std.specs.Prelude.{◌≡◌, None, Some, MatchOption};
-ghost use Rattle.sb_pattern.specs.Reading.{reading};
+ghost use Rattle.sb_rule.specs.PatternReading.{reading};
 ghost use Rattle.sb_ruletext.specs.Conditions.{number_at, numbers_at, after_dots, around_dots, range_of, range_at, cells, cells_at, string, string_at, pattern_at, is_at, in_at, has_at, like_at, test_at, parameter_at, is_number_at, plain_condition_at, condition_at, conditions_at, conditions_of};
 ghost use Rattle.sb_ruletext.specs.Steps.{excess};
-ghost use Rattle.sb_items.specs.Refusals.{Gives};
+ghost use Rattle.sb_base.specs.Refusals.{Gives};
 ghost use Rattle.sb_text.specs.Steps.{Reads, at_token, or_fault};
 ghost use Rattle.sb_ruletext.specs.declared.faults.PolicyFaultKind.TheVariants.{BadNumber};
 ghost use Rattle.sb_text.specs.Numbers.{number_of};
@@ -15,11 +15,13 @@ use crate::faults::PolicyFaultKind::{
 use crate::faults::{LineRefused, PolicyLimit};
 use crate::readers::{at_token, line_end, quoted_or, word_or};
 use crate::words::parameter_of;
+use sb_base::{Wide, is_word};
 use sb_call::CallTag;
-use sb_pattern::{MOST_UNITS, Pattern, PatternFault, PatternRefused};
-use sb_rule::{Cond, Conds, MOST_CONDITIONS, MOST_NUMBERS, Numbers, Test};
+use sb_rule::{
+    Cond, Conds, MOST_CONDITIONS, MOST_NUMBERS, MOST_UNITS, Numbers, Pattern, PatternFault,
+    PatternRefused, Test,
+};
 use sb_text::{Token, Tokens, WordFault, number_of, or_fails, string_of};
-use sb_wide::{Wide, is_word};
 use std::alloc::Global;
 
 // N: a number.

@@ -8,8 +8,8 @@ ghost use Rattle.sb_ruletext.specs.Lines.{with_policy, with_last_rules};
 ghost use Rattle.sb_text.specs.Steps.{Becomes, at_token};
 
 use crate::faults::{LineRefused, PolicyFaultKind, PolicyLimit};
+use sb_base::NoMemory;
 use sb_call::ShortName;
-use sb_items::NoMemory;
 use sb_rule::{MOST_POLICIES, MOST_RULES, Policy, PolicyList, Rule, Rules};
 use sb_text::Tokens;
 use std::alloc::Global;

@@ -2,7 +2,7 @@
 ghost use Rattle.std.specs.Prelude.{◌≡◌};
 ghost use Rattle.sb_ruletext.specs.Kinds.{kind_number};
 
-use sb_pattern::PatternFault;
+use sb_rule::PatternFault;
 use sb_text::{LineFault, Refused, TokenFault, WordFault};
 
 /// What a policy text may have only a limited number of.

@@ -4,10 +4,9 @@ ghost use Rattle.sb_call.specs.declared.tags.CallTag.TheVariants.{FileCreate, Fi
 ghost use Rattle.sb_ruletext.specs.declared.grants.Grant.TheVariants.{FilesAny, FilesReadonly};
 ghost use Rattle.sb_ruletext.specs.Grants.{grant_word, grants, grant_of, like_at, reads_at, opens_at, allowing, rules_of};
 
+use sb_base::NoMemory;
 use sb_call::CallTag;
-use sb_items::NoMemory;
-use sb_pattern::Pattern;
-use sb_rule::{Action, Cond, Conds, Numbers, Rule, Rules, Test, WRITING_BITS};
+use sb_rule::{Action, Cond, Conds, Numbers, Pattern, Rule, Rules, Test, WRITING_BITS};
 use std::alloc::Global;
 
 /// The disposition with which `file.create` opens a file that is there.

@@ -2,8 +2,7 @@
 ghost use Rattle.sb_ruletext.specs.Laws.{FirstFaultsStay, LinesBeforeAreRead, ReadPoliciesAreWellMade, SilentTextsLackAVersion, SkippedLinesCountAlone};
 
 use crate::faults::PolicyFaultKind;
-use sb_pattern::texts_and_patterns;
-use sb_rule::PolicyList;
+use sb_rule::{PolicyList, texts_and_patterns};
 use sb_text::{quoted_strings_are_read, quoted_tokens_are_text};
 
 /// A fault on one of the first lines of a text, not all of which are blank or comments, is that of each text that begins with these

@@ -1,6 +1,6 @@
 // Reading the lines below the version line.
 ghost use Rattle.std.specs.Prelude.{◌≡◌, OnErr};
-ghost use Rattle.sb_items.specs.Refusals.{Gives};
+ghost use Rattle.sb_base.specs.Refusals.{Gives};
 ghost use Rattle.sb_ruletext.specs.Drafts.{is_headed};
 ghost use Rattle.sb_ruletext.specs.Lines.{new_name, name_at, heading, call_at, end_at_when, when_of, rule, grant_at, grant, with_grant, with_rule, first_word_fault, line_of};
 ghost use Rattle.sb_ruletext.specs.declared.faults.PolicyFaultKind.TheVariants.{NoHeading};
@@ -14,10 +14,10 @@ use crate::faults::PolicyFaultKind::{self, UnknownCall, UnknownWord};
 use crate::grants::{Grant, grant_of, one, rules_of};
 use crate::readers::{line_end, word_or};
 use crate::words::action_of;
+use sb_base::is_word;
 use sb_call::{CallTag, ShortName, tag_of_word};
 use sb_rule::{Action, Conds, Rule, Rules, is_for_readers};
 use sb_text::{Line, Token, Tokens, WordFault, or_fails};
-use sb_wide::is_word;
 use std::alloc::Global;
 
 // NAME: a short name that no policy so far has, or its fault at the token that was due.

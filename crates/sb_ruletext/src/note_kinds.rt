@@ -3,7 +3,7 @@ ghost use Rattle.std.specs.Prelude.{◌≡◌, IfOk};
 ghost use Rattle.sb_ruletext.specs.NoteKinds.{begins_with_prefix, may_begin_name, kind_by, kind_of};
 ghost use Rattle.sb_text.specs.Tokens.{string_of};
 
-use sb_items::NoMemory;
+use sb_base::NoMemory;
 use sb_text::{ascii_units, string_of};
 use std::alloc::Global;
 

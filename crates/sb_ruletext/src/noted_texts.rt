@@ -1,6 +1,6 @@
 // Reading policy texts together with their notes, in one walk over their lines.
 ghost use Rattle.std.specs.Prelude.{◌≡◌, ◌+◌, ◌<◌, ◌^◌, [], length, IfOk};
-ghost use Rattle.sb_items.specs.Refusals.{GivesAs};
+ghost use Rattle.sb_base.specs.Refusals.{GivesAs};
 ghost use Rattle.sb_ruletext.specs.NotedTexts.{noted_grammar};
 ghost use Rattle.sb_ruletext.specs.Notes.{notes_of};
 ghost use Rattle.sb_ruletext.specs.PolicyTexts.{reading};

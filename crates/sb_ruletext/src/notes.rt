@@ -6,7 +6,7 @@ ghost use Rattle.sb_text.specs.Steps.{with_first};
 ghost use Rattle.sb_text.specs.Tokens.{lexeme_of};
 
 use crate::note_kinds::{NoteKind, kind_of_quoted};
-use sb_items::NoMemory;
+use sb_base::NoMemory;
 use sb_text::{Layout, Line, Lines, Token, Tokens, column_at, text_of};
 use std::alloc::Global;
 

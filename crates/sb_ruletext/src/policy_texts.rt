@@ -2,7 +2,7 @@
 ghost use Rattle.std.specs.Prelude.{◌≡◌, ◌+◌, ◌<◌, ◌^◌, [], length};
 ghost use Rattle.sb_ruletext.specs.PolicyTexts.{grammar, policy_version, reading};
 ghost use Rattle.sb_ruletext.specs.declared.faults.PolicyFaultKind.TheVariants.{BadVersion};
-ghost use Rattle.sb_items.specs.Refusals.{Gives, GivesAs};
+ghost use Rattle.sb_base.specs.Refusals.{Gives, GivesAs};
 ghost use Rattle.sb_text.specs.Spots.{by_tokens};
 
 use crate::drafts::Draft;

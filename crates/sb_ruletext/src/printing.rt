@@ -4,7 +4,7 @@ ghost use Rattle.sb_ruleprint.specs.Printing.{printed, relined};
 ghost use Rattle.sb_ruletext.specs.PolicyTexts.{reading};
 
 use crate::printing_laws::printed_policies_are_read;
-use sb_items::NoMemory;
+use sb_base::NoMemory;
 use sb_rule::WellMadePolicies;
 use std::alloc::Global;
 

@@ -1,7 +1,7 @@
 // The law of printing. This function does nothing: its contract is the law.
 ghost use Rattle.sb_ruletext.specs.PrintingLaws.{PrintedPoliciesAreRead};
 
-use sb_pattern::texts_and_patterns;
+use sb_rule::texts_and_patterns;
 use sb_text::{
     hexadecimals_are_read, not_utf8_place_tells, plain_lines_are_read, quoted_strings_are_read,
 };

@@ -1,6 +1,6 @@
 // Readers of a policy text's lines: in all of them a broken or missing token is an unknown word.
 ghost use Rattle.sb_ruletext.specs.Steps.{word_or, quoted_or, line_end};
-ghost use Rattle.sb_items.specs.Refusals.{Gives};
+ghost use Rattle.sb_base.specs.Refusals.{Gives};
 ghost use Rattle.sb_text.specs.Steps.{ReadsAs, at_token};
 
 use crate::faults::LineRefused;

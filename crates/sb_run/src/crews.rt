@@ -12,7 +12,7 @@ use crate::groups::{
     step_each,
 };
 use crate::started::{StartedServer, StartedThread};
-use sb_items::NoMemory;
+use sb_base::NoMemory;
 use sb_outside::Gate;
 use sb_rule::Judge;
 use sb_shared::{Keeper, ThreadSeat};

@@ -8,9 +8,9 @@ ghost use Rattle.sb_shared.specs.Origins.{setting_in};
 ghost use Rattle.sb_task.specs.Works.{IsWork, home_of};
 
 use crate::pooling::close_pool;
+use sb_base::NoMemory;
 use sb_book::Report;
 use sb_core::finish;
-use sb_items::NoMemory;
 use sb_pool::Pool;
 use sb_rule::Judge;
 use sb_shared::{ClosedRun, Keeper, SharedWorld, ThreadSeat, WorkerSeat, closed_runs_are_runs};

@@ -1,6 +1,6 @@
 // The flags by which seats come back whose threads could not be started: one for each, set by the caller alone.
 
-use sb_items::NoMemory;
+use sb_base::NoMemory;
 use std::alloc::Global;
 use std::sync::atomic::AtomicBool;
 

@@ -8,7 +8,7 @@ ghost use Rattle.sb_task.specs.Threads.{HasEnded};
 use crate::flags::Flags;
 use crate::spawning::{start_server, start_thread};
 use crate::started::{StartedServer, StartedThread};
-use sb_items::NoMemory;
+use sb_base::NoMemory;
 use sb_outside::Gate;
 use sb_rule::Judge;
 use sb_shared::ThreadSeat;

@@ -5,8 +5,8 @@ ghost use Rattle.sb_pool.specs.Pools.{AreNumbered, AreSeats};
 ghost use Rattle.sb_run.specs.Openings.{IsOpened};
 ghost use Rattle.sb_task.specs.Works.{home_of, number_of};
 
+use sb_base::NoMemory;
 use sb_book::RunStart;
-use sb_items::NoMemory;
 use sb_pool::Pool;
 use sb_shared::{Keeper, SharedParts, SharedWorld, ThreadSeat, WorkerSeat, script_of};
 use sb_statements::SoundScript;

@@ -9,7 +9,7 @@ ghost use Rattle.sb_task.specs.Servers.{IsServer};
 use crate::promises::{ServerHost, ServerPromise, ThreadHost, ThreadPromise};
 use crate::returns::{ServerReturn, ThreadReturn};
 use crate::started::{StartedServer, StartedThread};
-use sb_items::NoMemory;
+use sb_base::NoMemory;
 use sb_outside::Gate;
 use sb_rule::Judge;
 use sb_shared::{SharedWorld, ThreadSeat};

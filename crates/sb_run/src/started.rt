@@ -7,7 +7,7 @@ ghost use Rattle.sb_task.specs.Threads.{HasEnded};
 
 use crate::promises::{ServerHost, ThreadHost};
 use crate::returns::{ServerReturn, ThreadReturn};
-use sb_items::NoMemory;
+use sb_base::NoMemory;
 use sb_outside::Gate;
 use sb_rule::Judge;
 use sb_shared::ThreadSeat;

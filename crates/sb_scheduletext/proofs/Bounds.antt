@@ -25,12 +25,12 @@ use Rattle.sb_statements.specs.declared.scripts.TargetScript.{TargetScript}
 use Rattle.sb_text.specs.Lines.{NumberedLine, raw_lines, lines_of}
 use Rattle.sb_text.specs.Numbers.{number_of}
 use Rattle.sb_text.specs.Readings.{on_line, read_lines, read_by}
-use Rattle.sb_items.specs.Refusals.{Gives}
+use Rattle.sb_base.specs.Refusals.{Gives}
 use Rattle.sb_text.specs.Spots.{by_words, fails_left}
 use Rattle.sb_text.specs.Steps.{◌>>=◌, at_left, or_fault, words_end}
 use Rattle.sb_text.specs.declared.refusals.TokenFault.{TokenFault}
 use Rattle.sb_text.specs.declared.refusals.WordFault.TheVariants.{Extra, Misplaced, Unknown}
-use Rattle.sb_items.specs.declared.refusals.Refused.{Refused}
+use Rattle.sb_base.specs.declared.refusals.Refused.{Refused}
 use Rattle.sb_text.specs.Words.{words_of}
 
 on_this : {A : Type 0} (line : NumberedLine) (read : Result A (TokenFault ScheduleKind)) (x : A) → on_line by_words line read ≡ Ok x → read ≡ Ok x

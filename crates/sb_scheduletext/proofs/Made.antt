@@ -7,7 +7,7 @@ use Rattle.sb_scheduletext.specs.Actors.{is_dot}
 use Rattle.sb_scheduletext.specs.Limits.{most_steps}
 use Rattle.sb_scheduletext.specs.Lines.{within, last_number, count_at, step}
 use Rattle.sb_scheduletext.specs.Printing.{is_actor_of_values, is_made}
-use Rattle.sb_wide.specs.Numbers.{is_word32}
+use Rattle.sb_base.specs.Numbers.{is_word32}
 use Rattle.sb_scheduletext.specs.declared.faults.ScheduleKind.{ScheduleKind}
 use Rattle.sb_scheduletext.specs.declared.faults.ScheduleKind.TheVariants.{UnknownWord, UnknownActor, BadNumber}
 use Rattle.sb_statements.specs.Actors.{is_there}

@@ -10,7 +10,7 @@ use Rattle.std.proofs.lemmas.List.Folds.{list_all-append}
 use Rattle.sb_scheduletext.specs.Actors.{is_dot, number_32, worker_at, thread_at, thread_named, actor_named, where_there, actor_of}
 use Rattle.sb_scheduletext.specs.Lines.{within}
 use Rattle.sb_scheduletext.specs.Printing.{actor_word, is_actor_of_values}
-use Rattle.sb_wide.specs.Numbers.{is_word32}
+use Rattle.sb_base.specs.Numbers.{is_word32}
 use Rattle.sb_scheduletext.specs.declared.faults.ScheduleKind.{ScheduleKind}
 use Rattle.sb_scheduletext.specs.declared.faults.ScheduleKind.TheVariants.{BadNumber}
 use Rattle.sb_statements.specs.Actors.{is_there}

@@ -10,7 +10,7 @@ use Rattle.std.proofs.lemmas.List.Sums.{sum_by-cons}
 use Rattle.sb_scheduletext.proofs.Printed.{as_many, each_made}
 use Rattle.sb_scheduletext.specs.Drafts.{step_count}
 use Rattle.sb_scheduletext.specs.Printing.{actor_word, in_order, is_actor_of_values, is_made, rounds_words, step_words, version_words}
-use Rattle.sb_wide.specs.Numbers.{is_word32}
+use Rattle.sb_base.specs.Numbers.{is_word32}
 use Rattle.sb_scheduletext.specs.PrintingLaws.{OrdersAreShort, WrittenSchedulesAreShort}
 use Rattle.sb_text.specs.PlainLines.{words_text}
 use Rattle.sb_statements.specs.declared.schedules.Actor.{Actor}

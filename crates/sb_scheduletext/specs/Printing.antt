@@ -6,7 +6,7 @@ use Rattle.sb_statements.specs.declared.schedules.Actor.{Actor}
 use Rattle.sb_statements.specs.declared.schedules.Actor.TheVariants.{Worker, Thread}
 use Rattle.sb_statements.specs.declared.schedules.Schedule.{Schedule}
 use Rattle.sb_text.specs.PlainLines.{words_text}
-use Rattle.sb_wide.specs.Numbers.{is_word32}
+use Rattle.sb_base.specs.Numbers.{is_word32}
 
 -- the name of an actor: `bT` names the worker of target T, and `tT.K` its thread K
 abbrev pub actor_word : Actor → List ℕ

@@ -2,7 +2,7 @@
 ghost use Rattle.std.specs.Prelude.{◌≡◌, ◌≤◌};
 ghost use Rattle.sb_scheduletext.specs.Drafts.{nothing, has_rounds, with_step, with_rounds, finished};
 ghost use Rattle.sb_scheduletext.specs.Limits.{most_steps};
-ghost use Rattle.sb_items.specs.Refusals.{Gives};
+ghost use Rattle.sb_base.specs.Refusals.{Gives};
 ghost use Rattle.sb_text.specs.Steps.{Becomes};
 
 use crate::faults::ScheduleKind::{NoRounds, TooMany};

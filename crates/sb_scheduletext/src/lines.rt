@@ -3,16 +3,16 @@ ghost use Rattle.std.specs.Prelude.{◌≡◌, ◌∷◌, ◌≤◌, IfOk};
 ghost use Rattle.sb_scheduletext.specs.Drafts.{has_rounds};
 ghost use Rattle.sb_scheduletext.specs.Limits.{most_steps};
 ghost use Rattle.sb_scheduletext.specs.Lines.{within, last_number, count_at, step, add_steps, rounds, line_with, line_of};
-ghost use Rattle.sb_items.specs.Refusals.{Gives};
+ghost use Rattle.sb_base.specs.Refusals.{Gives};
 ghost use Rattle.sb_text.specs.Steps.{Becomes};
 
 use crate::actors::actor_of;
 use crate::drafts::Draft;
 use crate::faults::ScheduleKind::{BadNumber, UnknownActor, UnknownWord};
 use crate::faults::{KindRefused, LineRefused};
+use sb_base::is_word;
 use sb_statements::{Actor, Script};
 use sb_text::{TokenFault, WordFault, Words, number_of};
-use sb_wide::is_word;
 
 /// The most steps of a schedule.
 pub const MOST_STEPS: u32 = 100_000;

@@ -6,7 +6,7 @@ ghost use Rattle.sb_scheduletext.specs.Drafts.{nothing, step_count};
 ghost use Rattle.sb_scheduletext.specs.Limits.{most_steps, most_rounds};
 ghost use Rattle.sb_scheduletext.specs.ScheduleTexts.{grammar, reading};
 ghost use Rattle.sb_scheduletext.specs.declared.faults.ScheduleKind.TheVariants.{UnknownWord};
-ghost use Rattle.sb_items.specs.Refusals.{Gives};
+ghost use Rattle.sb_base.specs.Refusals.{Gives};
 ghost use Rattle.sb_text.specs.Spots.{by_words};
 ghost use Rattle.sb_text.specs.declared.refusals.WordFault.TheVariants.{NoVersion};
 

@@ -13,7 +13,7 @@ use Rattle.sb_call.specs.declared.arguments.Arg.TheVariants as arg
 use Rattle.sb_call.specs.declared.tags.CallTag.{CallTag}
 use Rattle.sb_call.specs.declared.tags.ParamKind.{ParamKind}
 use Rattle.sb_call.specs.declared.tags.ParamKind.TheVariants.{Text, Name, Num, Handle}
-use Rattle.sb_wide.specs.Surrogates.{is_paired}
+use Rattle.sb_base.specs.Surrogates.{is_paired}
 use Rattle.sb_rule.specs.declared.policies.Policy.{Policy}
 use Rattle.sb_statements.specs.Units.{statement_has_units, thread_has_units, target_has_units}
 use Rattle.sb_statements.specs.declared.scripts.Script.{Script}
@@ -36,7 +36,7 @@ use Rattle.sb_scripttext.specs.ScriptTexts.{Absence, ScriptFault, absence_fault,
 use Rattle.sb_scripttext.specs.Statements.{value_at, target_word_at, store, exchange, load, wait}
 use Rattle.sb_scripttext.specs.Steps.{number_at, within, number_within, string_at, name, name_at}
 use Rattle.sb_scripttext.specs.Writable.{is_writable_start, is_writable_arg, is_writable_statement, is_writable_thread, is_writable_target, is_writable}
-use Rattle.sb_wide.specs.Numbers.{is_word64}
+use Rattle.sb_base.specs.Numbers.{is_word64}
 use Rattle.sb_scripttext.specs.WritingLaws.{ReadScriptsCanBeWritten}
 use Rattle.sb_scripttext.specs.declared.faults.ScriptKind.{ScriptKind}
 use Rattle.sb_scripttext.specs.declared.faults.ScriptKind.TheVariants.{NotUtf8, UnknownWord, UnknownCall, WrongArgs, BadNumber, BadName, SameName, TooBig, TooMany, BadStart}
@@ -48,8 +48,8 @@ use Rattle.sb_text.specs.Steps.{◌>>=◌, at_left, at_token, or_fails, with_fir
 use Rattle.sb_text.specs.TokenLaws.{is_quoted_byte, is_quoted_text, has_quoted_text, QuotedTokensAreText}
 use Rattle.sb_text.specs.Tokens.{Lexeme, Word, Quoted, Bad, string_of, tokens_of}
 use Rattle.sb_text.specs.Utf8.{Place, not_utf8_place}
-use Rattle.sb_wide.specs.Names.{is_name_of}
-use Rattle.sb_wide.specs.Wide.{is_unit, is_text_unit}
+use Rattle.sb_base.specs.Names.{is_name_of}
+use Rattle.sb_base.specs.Wide.{is_unit, is_text_unit}
 use Rattle.sb_scripttext.specs.declared.faults.ScriptLimit.TheVariants.{Openings, Targets, Threads, Statements}
 use Rattle.sb_text.specs.declared.refusals.TokenFault.{TokenFault}
 use Rattle.sb_text.specs.declared.refusals.WordFault.TheVariants.{Broken, Extra, Missing, Quoted, Repeated, Unknown, Unquoted}

@@ -4,8 +4,8 @@ use Rattle.sb_call.specs.declared.arguments.Arg.{Arg}
 use Rattle.sb_call.specs.declared.tags.ParamKind.{ParamKind}
 use Rattle.sb_scripttext.specs.Arguments.{arg_at, args_at}
 use Rattle.sb_text.specs.Steps.{◌>>=◌, Read, Reads}
-use Rattle.sb_items.specs.declared.refusals.Refused.{Refused}
-use Rattle.sb_items.specs.declared.refusals.Refused.TheVariants as refused
+use Rattle.sb_base.specs.declared.refusals.Refused.{Refused}
+use Rattle.sb_base.specs.declared.refusals.Refused.TheVariants as refused
 use Rattle.sb_scripttext.specs.declared.faults.ScriptKind.{ScriptKind}
 use Rattle.sb_text.specs.Tokens.{Lexeme}
 use Rattle.sb_text.specs.declared.refusals.TokenFault.{TokenFault}

@@ -26,7 +26,7 @@ use Rattle.sb_scripttext.specs.declared.faults.ScriptKind.{ScriptKind}
 use Rattle.sb_scripttext.specs.declared.faults.ScriptKind.TheVariants.{UnknownWord, WrongArgs, BadNumber, BadName, NoSuchWord, TooBig}
 use Rattle.sb_text.specs.Numbers.{number_of}
 use Rattle.sb_text.specs.Tokens.{Lexeme, Word, Quoted, Bad}
-use Rattle.sb_wide.specs.Names.{is_name_of}
+use Rattle.sb_base.specs.Names.{is_name_of}
 use Rattle.sb_scripttext.specs.declared.drafts.Named.{Named}
 use Rattle.sb_text.specs.declared.refusals.TokenFault.{TokenFault}
 use Rattle.sb_text.specs.declared.refusals.WordFault.TheVariants.{Broken, Extra, Missing, Quoted, Unquoted}

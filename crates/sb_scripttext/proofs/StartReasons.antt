@@ -3,11 +3,11 @@ use Rattle.std.proofs.Common.{◌≡◌, ◌∙◌, refl, sym, ap, ap₂, subst,
 use Rattle.std.specs.Prelude.{is_some, option_map, length, Result, Ok, Err}
 use Rattle.std.proofs.lemmas.Bool.{false≢true}
 use Rattle.std.specs.List.{list_any}
-use Rattle.sb_event.specs.Events as events
-use Rattle.sb_event.specs.Kinds.{kind_from, state_from}
-use Rattle.sb_event.specs.declared.rows.EventRow.{EventRow}
-use Rattle.sb_file.specs.Files as files
-use Rattle.sb_key.specs.Registry as registry
+use Rattle.sb_services.specs.Events as events
+use Rattle.sb_services.specs.Kinds.{kind_from, state_from}
+use Rattle.sb_services.specs.declared.event_rows.EventRow.{EventRow}
+use Rattle.sb_services.specs.Files as files
+use Rattle.sb_services.specs.Registry as registry
 use Rattle.sb_kernel.specs.Namespaces.{Space, empty_space}
 use Rattle.sb_kernel.specs.Openings.{name_of, placed, opened_from, opened}
 use Rattle.sb_names.specs.Keys.{parent_of}
@@ -16,7 +16,7 @@ use Rattle.sb_names.specs.Trees as trees
 use Rattle.sb_names.specs.Maps.{Rows, found, is_there, put}
 use Rattle.sb_statements.specs.declared.scripts.StartLine.{StartLine}
 use Rattle.sb_statements.specs.declared.scripts.StartLine.TheVariants.{Dir, File, Key, Event}
-use Rattle.sb_wide.specs.Wide.{is_same}
+use Rattle.sb_base.specs.Wide.{is_same}
 use Rattle.sb_scripttext.specs.StartFaults.{is_of_files, is_of_keys, is_of_events, start_fault}
 use Rattle.sb_scripttext.specs.StartLaws.{is_in_service, is_root, is_file_by, is_taken, is_parent_there, is_parent_file, IsTrueIn, StartFaultsAreTrue}
 use Rattle.sb_scripttext.specs.declared.faults.StartFault.{StartFault}

@@ -8,10 +8,10 @@ use Rattle.sb_scripttext.specs.SoFar.{SoFar, with_start}
 use Rattle.sb_scripttext.specs.StartFaults.{start_fault}
 use Rattle.sb_scripttext.specs.declared.faults.ScriptKind.{ScriptKind}
 use Rattle.sb_scripttext.specs.declared.faults.ScriptKind.TheVariants.{TooMany, BadStart}
-use Rattle.sb_items.specs.Refusals.{Gives}
+use Rattle.sb_base.specs.Refusals.{Gives}
 use Rattle.sb_text.specs.Steps.{Becomes}
-use Rattle.sb_items.specs.declared.refusals.Refused.{Refused}
-use Rattle.sb_items.specs.declared.refusals.Refused.TheVariants as refused
+use Rattle.sb_base.specs.declared.refusals.Refused.{Refused}
+use Rattle.sb_base.specs.declared.refusals.Refused.TheVariants as refused
 use Rattle.sb_scripttext.specs.declared.faults.ScriptLimit.TheVariants.{Openings}
 
 same_lines : (a b : List StartLine) → ◌≡◌ {A = Result (List StartLine) ScriptKind} (Ok a) (Ok b) → a ≡ b

@@ -10,14 +10,14 @@ use Rattle.sb_scripttext.specs.Arguments.{most_32}
 use Rattle.sb_scripttext.specs.Openings.{dir, file, key, event}
 use Rattle.sb_scripttext.specs.Steps.{number_within}
 use Rattle.sb_scripttext.specs.Writable.{is_writable_start}
-use Rattle.sb_wide.specs.Numbers.{is_word64}
+use Rattle.sb_base.specs.Numbers.{is_word64}
 use Rattle.sb_text.specs.Strings.{is_text, string_token}
 use Rattle.sb_scripttext.specs.Writing.{number_token, start_tokens}
 use Rattle.sb_scripttext.specs.declared.faults.ScriptKind.{ScriptKind}
 use Rattle.sb_scripttext.specs.declared.faults.ScriptKind.TheVariants.{UnknownWord, BadNumber}
 use Rattle.sb_text.specs.Steps.{◌>>=◌, Read, later, end_at}
 use Rattle.sb_text.specs.Tokens.{Lexeme}
-use Rattle.sb_wide.specs.Names.{is_name_of}
+use Rattle.sb_base.specs.Names.{is_name_of}
 use Rattle.sb_text.specs.declared.refusals.TokenFault.{TokenFault}
 use Rattle.sb_text.specs.declared.refusals.WordFault.TheVariants.{Broken, Extra, Missing, Unquoted}
 

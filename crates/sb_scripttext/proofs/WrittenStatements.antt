@@ -24,7 +24,7 @@ use Rattle.sb_scripttext.specs.ScriptTexts.{Absence, first_absence, no_channel, 
 use Rattle.sb_scripttext.specs.Statements.{value_at, short_at, place_at, target_word_at, store, exchange, load, wait}
 use Rattle.sb_scripttext.specs.Steps.{within}
 use Rattle.sb_scripttext.specs.Writable.{is_writable_arg, is_writable_statement}
-use Rattle.sb_wide.specs.Numbers.{is_word64}
+use Rattle.sb_base.specs.Numbers.{is_word64}
 use Rattle.sb_scripttext.specs.Writing.{number_token, place_word, arg_token, word_tokens, statement_tokens}
 use Rattle.sb_scripttext.specs.declared.faults.ScriptKind.{ScriptKind}
 use Rattle.sb_scripttext.specs.declared.faults.ScriptKind.TheVariants.{UnknownWord, WrongArgs, BadNumber, TooBig}

@@ -28,12 +28,12 @@ use Rattle.sb_scripttext.proofs.WrittenStatements.{AreSound, IsNamed, named_ther
 use Rattle.sb_scripttext.proofs.WrittenWords.{Texts, string_back, number_digits, short_number}
 use Rattle.sb_book.specs.Readiness.{is_judged}
 use Rattle.sb_scripttext.specs.Writable.{is_writable_start, is_writable_arg, is_writable_statement, is_writable_thread, is_writable_target, are_short_named}
-use Rattle.sb_wide.specs.Numbers.{is_word64}
+use Rattle.sb_base.specs.Numbers.{is_word64}
 use Rattle.sb_text.specs.Strings.{is_text, string_token}
 use Rattle.sb_scripttext.specs.Writing.{number_token, place_word, start_tokens, arg_token, word_tokens, statement_tokens, thread_lines, policy_name, heading_tokens, target_lines, patience_tokens, script_lines}
 use Rattle.sb_text.specs.Numbers.{is_decimal_digit, are_digits}
 use Rattle.sb_text.specs.Tokens.{Lexeme, Word, utf8_of}
-use Rattle.sb_wide.specs.Names.{is_name_of}
+use Rattle.sb_base.specs.Names.{is_name_of}
 
 -- words
 

@@ -16,7 +16,7 @@ use Rattle.sb_scripttext.specs.Arguments.{most_32, tag_at}
 use Rattle.sb_scripttext.specs.Lines.{policy_number, policy_at}
 use Rattle.sb_scripttext.specs.Statements.{short, short_at, block_place, place_of, place_at}
 use Rattle.sb_scripttext.specs.Steps.{number_at, within, number_within, string_at, name, name_at}
-use Rattle.sb_wide.specs.Numbers.{is_word64}
+use Rattle.sb_base.specs.Numbers.{is_word64}
 use Rattle.sb_scripttext.specs.Writing.{number_token, place_word, policy_name}
 use Rattle.sb_scripttext.specs.declared.faults.ScriptKind.{ScriptKind}
 use Rattle.sb_scripttext.specs.declared.faults.ScriptKind.TheVariants.{UnknownCall, WrongArgs, BadNumber, BadName, NoSuchPolicy, NoSuchWord}
@@ -25,7 +25,7 @@ use Rattle.sb_text.specs.Numbers.{is_decimal_digit, are_digits, number_of}
 use Rattle.sb_text.specs.Steps.{◌>>=◌, Read, at_token, or_fails, or_fault}
 use Rattle.sb_text.specs.declared.refusals.WordFault.TheVariants.{Missing}
 use Rattle.sb_text.specs.Tokens.{Lexeme, Word}
-use Rattle.sb_wide.specs.Names.{is_name_of}
+use Rattle.sb_base.specs.Names.{is_name_of}
 
 -- numbers
 

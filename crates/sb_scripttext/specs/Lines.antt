@@ -16,8 +16,8 @@ use Rattle.sb_scripttext.specs.Openings.{dir, file, key, event}
 use Rattle.sb_scripttext.specs.Statements.{store, exchange, load, wait}
 use Rattle.sb_scripttext.specs.Steps.{number_within}
 use Rattle.sb_text.specs.Steps.{◌>>=◌, at_left, at_token, or_fails, Read, with_first, word_at, end_at}
-use Rattle.sb_items.specs.declared.refusals.Refused.{Refused}
-use Rattle.sb_items.specs.declared.refusals.Refused.TheVariants.{Fault, NoMemory}
+use Rattle.sb_base.specs.declared.refusals.Refused.{Refused}
+use Rattle.sb_base.specs.declared.refusals.Refused.TheVariants.{Fault, NoMemory}
 use Rattle.sb_scripttext.specs.declared.faults.ScriptKind.{ScriptKind}
 use Rattle.sb_scripttext.specs.declared.faults.ScriptKind.TheVariants.{UnknownWord, BadNumber, NoSuchPolicy, SameName, BadStart}
 use Rattle.sb_text.specs.Spots.{fails_left}

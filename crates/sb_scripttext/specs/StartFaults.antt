@@ -5,7 +5,7 @@ use Rattle.sb_kernel.specs.Openings.{name_of}
 use Rattle.sb_names.specs.Keys.{parent_of}
 use Rattle.sb_statements.specs.declared.scripts.StartLine.{StartLine}
 use Rattle.sb_statements.specs.declared.scripts.StartLine.TheVariants.{Dir, File, Key, Event}
-use Rattle.sb_wide.specs.Wide.{is_same}
+use Rattle.sb_base.specs.Wide.{is_same}
 use Rattle.sb_scripttext.specs.declared.faults.StartFault.{StartFault}
 use Rattle.sb_scripttext.specs.declared.faults.StartFault.TheVariants.{NameTaken, NoParent, ParentIsFile}
 

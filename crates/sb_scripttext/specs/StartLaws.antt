@@ -1,7 +1,7 @@
 -- Why an opening line cannot be placed, in the words of the namespace in which the lines before it are placed.
 use Rattle.std.specs.Prelude.{◌≡◌, ℕ, Bool, true, false, not, ◌||◌, List, [], ◌∷◌, Option, None, Some, Ok}
-use Rattle.sb_file.specs.Files.{is_directory, object_found}
-use Rattle.sb_file.specs.declared.objects.FileObject.{FileObject}
+use Rattle.sb_services.specs.Files.{is_directory, object_found}
+use Rattle.sb_services.specs.declared.file_objects.FileObject.{FileObject}
 use Rattle.sb_kernel.specs.Namespaces.{Space}
 use Rattle.sb_kernel.specs.Openings.{name_of, placed, opened}
 use Rattle.sb_names.specs.Keys.{parent_of}

@@ -6,7 +6,7 @@ use Rattle.sb_text.specs.Numbers.{number_of}
 use Rattle.sb_text.specs.Steps.{◌>>=◌, at_token, or_fails, Read, word_at, quoted_at}
 use Rattle.sb_text.specs.Tokens.{Lexeme, string_of}
 use Rattle.sb_text.specs.declared.refusals.WordFault.TheVariants.{Broken}
-use Rattle.sb_wide.specs.Names.{is_name_of}
+use Rattle.sb_base.specs.Names.{is_name_of}
 
 -- N: a number. The fault of a quoted token in its place, and that of none
 unfoldable pub number_at : ScriptKind → ScriptKind → List Lexeme → Read ℕ ScriptKind

@@ -12,7 +12,7 @@ use Rattle.sb_statements.specs.declared.scripts.StartLine.TheVariants.{Dir, File
 use Rattle.sb_statements.specs.declared.scripts.TargetScript.{TargetScript}
 use Rattle.sb_statements.specs.declared.statements.Statement.{Statement}
 use Rattle.sb_statements.specs.declared.statements.Statement.TheVariants.{Call, Store, Exchange, Load, Wait}
-use Rattle.sb_wide.specs.Numbers.{is_word64}
+use Rattle.sb_base.specs.Numbers.{is_word64}
 
 -- the name of an opening line is text
 abbrev pub is_writable_start : StartLine → Bool

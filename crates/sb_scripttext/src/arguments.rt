@@ -2,7 +2,7 @@
 ghost use Rattle.std.specs.Prelude.{◌≡◌, true};
 ghost use Rattle.sb_call.specs.Arguments.{fits};
 ghost use Rattle.sb_scripttext.specs.Arguments.{tag_at, arg_at, args_at, fitting, call};
-ghost use Rattle.sb_items.specs.Refusals.{Gives};
+ghost use Rattle.sb_base.specs.Refusals.{Gives};
 ghost use Rattle.sb_text.specs.Steps.{Reads};
 
 use crate::faults::ScriptKind::{TooBig, UnknownCall, UnknownWord, WrongArgs};

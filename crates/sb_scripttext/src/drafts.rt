@@ -11,8 +11,8 @@ ghost use Rattle.sb_text.specs.Steps.{Becomes};
 
 use crate::faults::{KindRefused, ScriptKind, ScriptLimit};
 use crate::placing::Placed;
+use sb_base::{Items, NoMemory};
 use sb_call::ShortName;
-use sb_items::{Items, NoMemory};
 use sb_kernel::Kernel;
 use sb_statements::{
     MOST_START_LINES, MOST_STATEMENTS, MOST_TARGETS, MOST_THREADS, Script, StartLine, Statement,

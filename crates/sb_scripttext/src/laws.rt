@@ -6,8 +6,8 @@ ghost use Rattle.sb_scripttext.specs.WritingLaws.{WrittenScriptsAreRead, ReadScr
 
 use crate::drafts::Draft;
 use crate::faults::ScriptKind;
-use sb_event::EventRow;
 use sb_names::puts_are_found;
+use sb_services::EventRow;
 use sb_text::{
     decimals_are_read, not_utf8_place_tells, plain_lines_are_read, quoted_strings_are_read,
     quoted_tokens_are_text,

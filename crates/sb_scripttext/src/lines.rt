@@ -7,8 +7,8 @@ ghost use Rattle.sb_scripttext.specs.Building.{target_script};
 ghost use Rattle.sb_scripttext.specs.Lines.{patience, new_name, new_name_at, policy_number, policy_at, heading, set_patience, add_target, add_thread, is_opening_word, is_statement_word, is_line_word, first_word_fault, refused_start, start_line, statement_line, plain_line, line_of};
 ghost use Rattle.sb_scripttext.specs.Openings.{dir, file, key, event};
 ghost use Rattle.sb_scripttext.specs.Statements.{store, exchange, load, wait};
-ghost use Rattle.sb_items.specs.Refusals.{Gives};
-ghost use Rattle.sb_items.specs.Refusals.{GivesAs};
+ghost use Rattle.sb_base.specs.Refusals.{Gives};
+ghost use Rattle.sb_base.specs.Refusals.{GivesAs};
 ghost use Rattle.sb_text.specs.Steps.{Reads, Becomes};
 ghost use Rattle.sb_text.specs.Tokens.{tokens_of};
 
@@ -19,11 +19,11 @@ use crate::faults::{KindRefused, LineRefused, ScriptKind};
 use crate::openings::{dir, event, file, key};
 use crate::statements::{exchange, load, store, wait};
 use crate::steps::{BROKEN, number_within};
+use sb_base::is_word;
 use sb_call::ShortName;
 use sb_rule::Policy;
 use sb_statements::{MOST_CHANNELS, MOST_PATIENCE, StartLine, Statement};
 use sb_text::{Line, Tokens, WordFault, end_at, or_fails, word_at};
-use sb_wide::is_word;
 use std::alloc::Global;
 
 // The faults of a quoted token, of one that is not there, of an extra one, and of a line that is out of place.

@@ -1,7 +1,7 @@
 // Opening lines: what is there at the start.
 ghost use Rattle.std.specs.Prelude.{◌≡◌};
 ghost use Rattle.sb_scripttext.specs.Openings.{dir, file, key, event};
-ghost use Rattle.sb_items.specs.Refusals.{Gives};
+ghost use Rattle.sb_base.specs.Refusals.{Gives};
 
 use crate::arguments::MOST_32;
 use crate::faults::ScriptKind::{BadNumber, UnknownWord};

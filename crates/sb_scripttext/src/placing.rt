@@ -4,7 +4,7 @@ ghost use Rattle.sb_kernel.specs.Openings.{is_named, opening};
 ghost use Rattle.sb_scripttext.specs.Openings.{can_place, with_line};
 ghost use Rattle.sb_scripttext.specs.StartFaults.{start_fault};
 ghost use Rattle.sb_statements.specs.Limits.{most_start_lines};
-ghost use Rattle.sb_items.specs.Refusals.{Gives};
+ghost use Rattle.sb_base.specs.Refusals.{Gives};
 
 use crate::faults::{KindRefused, ScriptKind, StartFault};
 use crate::start_faults::start_fault;

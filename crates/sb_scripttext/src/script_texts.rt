@@ -5,7 +5,7 @@ ghost use Rattle.sb_scripttext.specs.SoFar.{nothing};
 ghost use Rattle.sb_scripttext.specs.ScriptTexts.{grammar, absence, first_number, with_number, absence_on, first_absence, finished, reading};
 ghost use Rattle.sb_text.specs.MissingTexts.{line_or_empty};
 ghost use Rattle.sb_scripttext.specs.declared.faults.ScriptKind.TheVariants.{UnknownWord};
-ghost use Rattle.sb_items.specs.Refusals.{GivesAs};
+ghost use Rattle.sb_base.specs.Refusals.{GivesAs};
 ghost use Rattle.sb_text.specs.Spots.{by_tokens};
 ghost use Rattle.sb_text.specs.Words.{words_of};
 ghost use Rattle.sb_text.specs.declared.refusals.WordFault.TheVariants.{NoVersion};

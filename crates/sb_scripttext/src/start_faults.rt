@@ -5,9 +5,9 @@ ghost use Rattle.sb_kernel.specs.Openings.{name_of};
 ghost use Rattle.sb_scripttext.specs.StartFaults.{is_of_files, is_of_keys, is_of_events, is_object, start_fault};
 
 use crate::faults::StartFault;
+use sb_base::eq_ignore_ascii_case;
 use sb_names::parent;
 use sb_statements::StartLine;
-use sb_wide::eq_ignore_ascii_case;
 
 // The name of the object of an opening line.
 fn name_of(line: &StartLine) -> &[u16]

@@ -1,16 +1,16 @@
 // `store`, `exchange`, `load` and `wait`: words of channels that are stored and loaded directly.
 ghost use Rattle.std.specs.Prelude.{◌≡◌};
 ghost use Rattle.sb_scripttext.specs.Statements.{short, value_at, short_at, block_place, place_of, place_at, target_word_at, store, exchange, load, wait};
-ghost use Rattle.sb_items.specs.Refusals.{Gives};
+ghost use Rattle.sb_base.specs.Refusals.{Gives};
 ghost use Rattle.sb_text.specs.Steps.{Reads};
 
 use crate::arguments::MOST_32;
 use crate::faults::ScriptKind::{BadNumber, NoSuchWord, WrongArgs};
 use crate::faults::{KindRefused, LineRefused, ScriptKind};
 use crate::steps::{BROKEN, number_at, within};
+use sb_base::is_word;
 use sb_statements::{MOST_PATIENCE, Statement, Word};
 use sb_text::{Tokens, WordFault, end_at, number_of, word_due};
-use sb_wide::is_word;
 
 const LAST_BLOCK_WORD: u64 = 63;
 

@@ -1,12 +1,12 @@
 // Reading a line from left to right: numbers, strings and names.
 ghost use Rattle.std.specs.Prelude.{◌≡◌, ◌≤◌, Ok, IfOk, IfSome};
 ghost use Rattle.sb_scripttext.specs.Steps.{number_at, within, number_within, string_at, name, name_at};
-ghost use Rattle.sb_items.specs.Refusals.{Gives};
+ghost use Rattle.sb_base.specs.Refusals.{Gives};
 ghost use Rattle.sb_text.specs.Steps.{later, Reads};
 
 use crate::faults::{KindRefused, LineRefused, ScriptKind};
+use sb_base::{Wide, is_name};
 use sb_text::{Token, Tokens, WordFault, number_of, or_fails, quoted_due, string_of, word_due};
-use sb_wide::{Wide, is_name};
 use std::alloc::Global;
 
 /// The fault of a token that breaks the rules.

@@ -5,10 +5,10 @@ ghost use Rattle.sb_book.specs.Decisions.{decision_of};
 ghost use Rattle.sb_book.specs.Histories.{answered, reply_of};
 ghost use Rattle.sb_rule.specs.Verdicts.{policy_at};
 
+use sb_base::NoMemory;
 use sb_block::BlockCopy;
 use sb_book::{Book, Decision};
 use sb_call::Reply;
-use sb_items::NoMemory;
 use std::alloc::Global;
 use std::marker::Model;
 

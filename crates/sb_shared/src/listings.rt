@@ -3,7 +3,7 @@ ghost use Rattle.std.specs.Prelude.{◌≡◌, ◌++◌, map, IfOk, OnOk};
 ghost use Rattle.std.specs.List.{range_with_len};
 ghost use Rattle.sb_shared.specs.Opening.{thread_places};
 
-use sb_items::NoMemory;
+use sb_base::NoMemory;
 use sb_statements::SoundScript;
 use std::alloc::Global;
 

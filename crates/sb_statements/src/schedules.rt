@@ -1,6 +1,6 @@
 // Who makes the steps of a run on one thread, and in which order.
 
-use sb_items::Items;
+use sb_base::Items;
 
 /// Who makes a step. Targets and threads are numbered from 0.
 #[derive(Clone, Copy, PartialEq, Eq)]

@@ -4,9 +4,8 @@ ghost use Rattle.std.specs.List.{list_any};
 ghost use Rattle.sb_statements.specs.Scripts.{writes_channel, target_name, threads_write, is_clean};
 
 use crate::statements::{Statement, Statements, Threads};
+use sb_base::{Items, Wide};
 use sb_call::ShortName;
-use sb_items::Items;
-use sb_wide::Wide;
 
 /// An object that is there at the start.
 #[derive(PartialEq)]

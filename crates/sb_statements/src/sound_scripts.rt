@@ -2,7 +2,7 @@
 ghost use Rattle.std.specs.Prelude.{◌≡◌, true, false, IfOk, IfErr};
 ghost use Rattle.std.specs.List.{list_all};
 ghost use Rattle.sb_block.specs.Blocks.{has_units};
-ghost use Rattle.sb_wide.specs.Wide.{is_unit};
+ghost use Rattle.sb_base.specs.Wide.{is_unit};
 ghost use Rattle.sb_statements.specs.Soundness.{is_sound};
 ghost use Rattle.sb_statements.specs.SoundScripts.{IsSoundScript, has_short_name, has_short_names, is_sound_script};
 ghost use Rattle.sb_statements.specs.Units.{script_has_units, statement_has_units, target_has_units, thread_has_units};

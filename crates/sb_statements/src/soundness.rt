@@ -10,9 +10,9 @@ use crate::limits::{
 };
 use crate::scripts::{Script, StartLine, TargetScript};
 use crate::statements::{Statement, Statements, Word};
+use sb_base::is_name;
 use sb_block::encodes;
 use sb_call::ShortName;
-use sb_wide::is_name;
 
 fn is_patience(count: u32) -> bool
     ensures { result ≡ is_patience count }

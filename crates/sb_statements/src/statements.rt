@@ -3,8 +3,8 @@ ghost use Rattle.std.specs.Prelude.{◌≡◌};
 ghost use Rattle.sb_statements.specs.Scripts.{writes_channel};
 ghost use Rattle.sb_statements.specs.Words.{place_of};
 
+use sb_base::Items;
 use sb_call::{Args, CallTag};
-use sb_items::Items;
 
 /// How many words a channel has: its state, and the 64 words of a block.
 pub const WORDS_OF_CHANNEL: usize = 65;

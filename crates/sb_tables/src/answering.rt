@@ -2,10 +2,10 @@
 ghost use Rattle.std.specs.Prelude.{OnOk};
 ghost use Rattle.sb_tables.specs.Answering.{CanAnswer};
 
+use sb_base::NoMemory;
 use sb_block::BlockCopy;
 use sb_book::{Book, ReadyScript, decide};
 use sb_compile::Programs;
-use sb_items::NoMemory;
 use sb_rows::RowFault;
 use sb_rule::Judge;
 use std::alloc::Global;

@@ -1,11 +1,10 @@
 // A directory with 100,000 names: adding, finding and renaming each of them.
 ghost use Rattle.std.specs.Prelude.{◌≡◌, true};
-ghost use Rattle.sb_wide.specs.Names.{is_name_of};
+ghost use Rattle.sb_base.specs.Names.{is_name_of};
 
-use sb_items::NoMemory;
+use sb_base::{NoMemory, Wide, is_name};
 use sb_names::{NameTree, Seek, is_below};
 use sb_rows::RowFault;
-use sb_wide::{Wide, is_name};
 use std::alloc::Global;
 
 // How many names there are.

@@ -1,8 +1,7 @@
 // Table tests of files and outputs of the system.
 
 use crate::bytes::put_shown;
-use sb_host::{HostFiles, HostSink};
-use sb_outside::{FileFault, Files, Sink, SinkFault};
+use sb_outside::{FileFault, Files, HostFiles, HostSink, Sink, SinkFault};
 use sb_rows::{RowFault, bytes, number, put_between};
 use std::alloc::Global;
 use std::io::Cursor;

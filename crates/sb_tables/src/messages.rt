@@ -1,10 +1,10 @@
 // Table tests of the texts of faults that no command prints.
 
+use sb_base::NoMemory;
 use sb_block::{BlockFault, TooBig};
-use sb_items::NoMemory;
 use sb_outside::{FileFault, SinkFault};
-use sb_pattern::PatternFault;
 use sb_rows::{RowFault, put_between};
+use sb_rule::PatternFault;
 use sb_text::NotUtf8;
 use std::alloc::Global;
 use std::fmt::Display;
@@ -13,10 +13,10 @@ use std::fmt::Display;
 pub fn messages(alloc: Global, name: &str) -> Result<String, RowFault> {
     let mut out = String::new(alloc);
     match name {
-        "sb_items" => put_message(&mut out, &NoMemory)?,
+        "sb_base" => put_message(&mut out, &NoMemory)?,
         "sb_text" => put_message(&mut out, &NotUtf8 { line: 3, column: 7 })?,
         "sb_outside" => put_outside(&mut out)?,
-        "sb_pattern" => put_patterns(&mut out)?,
+        "sb_rule" => put_patterns(&mut out)?,
         "sb_block" => put_blocks(&mut out)?,
         _ => return Err(RowFault::Unknown),
     }

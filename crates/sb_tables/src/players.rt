@@ -6,7 +6,7 @@ ghost use Rattle.sb_shared.specs.Seats.{IsSameThread, IsSameWorker};
 ghost use Rattle.sb_tables.specs.Players.{ArePlayers};
 
 use sb_actor::Act;
-use sb_items::NoMemory;
+use sb_base::NoMemory;
 use sb_rows::RowFault;
 use sb_rule::Judge;
 use sb_shared::{SharedWorld, ThreadSeat, WorkerSeat};

@@ -9,7 +9,7 @@ use crate::contexts::RunContext;
 use crate::pauses::IdleWait;
 use crate::visits::visit;
 use crate::works::Work;
-use sb_items::NoMemory;
+use sb_base::NoMemory;
 use sb_outside::Gate;
 use sb_pool::PoolSeat;
 use sb_rule::Judge;

@@ -4,7 +4,7 @@ ghost use Rattle.sb_shared.specs.Closing.{IsThreadSeat};
 ghost use Rattle.sb_task.specs.Threads.{HasEnded};
 
 use crate::pauses::StepWait;
-use sb_items::NoMemory;
+use sb_base::NoMemory;
 use sb_shared::{SharedWorld, ThreadSeat};
 use sb_statements::SoundScript;
 use std::sync::Wait;

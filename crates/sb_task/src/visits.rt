@@ -8,7 +8,7 @@ ghost use Rattle.sb_shared.specs.Seats.{IsSameWorker};
 use crate::contexts::RunContext;
 use crate::pauses::rest;
 use sb_actor::Act;
-use sb_items::NoMemory;
+use sb_base::NoMemory;
 use sb_outside::Gate;
 use sb_rule::Judge;
 use sb_shared::{Stop, WorkerSeat};

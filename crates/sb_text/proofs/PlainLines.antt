@@ -11,7 +11,7 @@ use Rattle.std.specs.Str.{IsUtf8, IsAscii}
 use Rattle.sb_text.proofs.LineLaws.{written_lines}
 use Rattle.sb_text.proofs.TokenLaws.{plain, written}
 use Rattle.sb_text.specs.LineLaws.{is_line, ended}
-use Rattle.sb_wide.specs.OneLine.{is_no_lf}
+use Rattle.sb_base.specs.OneLine.{is_no_lf}
 use Rattle.sb_text.specs.Lines.{is_blank, is_skipped, has_cr, without_cr, lines_from, lines_of}
 use Rattle.sb_text.specs.PlainLines.{is_plain_byte, is_plain, is_plain_line, line_text, numbered, PlainLinesAreUtf8, PlainLinesAreRead, PlainTokensAreRead, PlainWordsAreRead}
 use Rattle.sb_text.specs.TokenLaws.{is_word_byte, is_quoted_byte, is_writable, written_token, written_line}

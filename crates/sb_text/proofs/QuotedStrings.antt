@@ -10,10 +10,10 @@ use Rattle.std.specs.List.{list_all}
 use Rattle.std.specs.Str.{chars, IsAscii}
 use Rattle.sb_text.proofs.WrittenStrings.{and_true}
 use Rattle.sb_text.specs.Strings.{QuotedStringsAreText}
-use Rattle.sb_wide.specs.Surrogates.{is_high, is_low, is_surrogate, is_paired}
+use Rattle.sb_base.specs.Surrogates.{is_high, is_low, is_surrogate, is_paired}
 use Rattle.sb_text.specs.TokenLaws.{is_quoted_byte}
 use Rattle.sb_text.specs.Tokens.{string_of}
-use Rattle.sb_wide.specs.Wide.{utf16_of, is_text_unit}
+use Rattle.sb_base.specs.Wide.{utf16_of, is_text_unit}
 
 one_unit : (c : ℕ) → c < 65536 → encode_utf16 c ≡ c ∷ []
 one_unit c h = let t : nat_lt c 65536 ≡ true = grind (arith, nat_tests) in rw (t) refl

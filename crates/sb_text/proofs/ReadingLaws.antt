@@ -10,13 +10,13 @@ use Rattle.sb_text.specs.LineLaws.{ended, is_line}
 use Rattle.sb_text.specs.Lines.{NumberedLine, raw_lines, lines_from, lines_of, is_skipped, without_cr}
 use Rattle.sb_text.specs.ReadingLaws.{FirstFaultsStay, LinesBeforeAreRead, MovesWith, SkippedLinesCountAlone}
 use Rattle.sb_text.specs.Readings.{Grammar, on_line, refused_on, read_lines, read_by, is_some_line, renumbered_line, renumbered, behind}
-use Rattle.sb_items.specs.Refusals.{Gives}
+use Rattle.sb_base.specs.Refusals.{Gives}
 use Rattle.sb_text.specs.Steps.{◌>>=◌, on_value, Becomes}
 use Rattle.sb_text.specs.declared.refusals.LineFault.{LineFault}
 use Rattle.sb_text.specs.declared.refusals.TokenFault.{TokenFault}
 use Rattle.sb_text.specs.declared.spots.Layout.{Layout}
-use Rattle.sb_items.specs.declared.refusals.Refused.{Refused}
-use Rattle.sb_items.specs.declared.refusals.Refused.TheVariants.{Fault, NoMemory}
+use Rattle.sb_base.specs.declared.refusals.Refused.{Refused}
+use Rattle.sb_base.specs.declared.refusals.Refused.TheVariants.{Fault, NoMemory}
 
 -- if no line is left, what was read so far is all
 pub no_line : {D K : Type 0} (grammar : Grammar D K) (version : ℕ) (sofar : D) → read_lines grammar version sofar [] ≡ Ok sofar

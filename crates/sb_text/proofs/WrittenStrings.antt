@@ -10,9 +10,9 @@ use Rattle.std.specs.Char.Escape.{encode_utf16}
 use Rattle.std.specs.Char.Utf16.{lone_unit_char, surrogate_pair_char, utf16_lossy_chars}
 use Rattle.std.specs.List.{list_all}
 use Rattle.std.specs.Option.{unwrap_or}
-use Rattle.sb_wide.specs.Surrogates.{is_high, is_low, is_surrogate, is_paired}
+use Rattle.sb_base.specs.Surrogates.{is_high, is_low, is_surrogate, is_paired}
 use Rattle.sb_text.specs.TokenLaws.{is_quoted_byte}
-use Rattle.sb_wide.specs.Wide.{is_unit, utf16_of, is_text_unit}
+use Rattle.sb_base.specs.Wide.{is_unit, utf16_of, is_text_unit}
 use Rattle.sb_text.specs.Tokens.{utf8_of}
 use Rattle.sb_text.specs.Strings.{StringsComeBack}
 

@@ -1,7 +1,7 @@
 -- What is true of the lines of each text.
 use Rattle.std.specs.Prelude.{◌≡◌, ℕ, ◌+◌, Bool, true, false, ◌&&◌, nat_le, ◌==◌, List, [], ◌∷◌, ◌++◌, length, map, count_by, if◌then◌else◌}
 use Rattle.std.specs.List.{flat_map, list_all}
-use Rattle.sb_wide.specs.OneLine.{is_no_lf}
+use Rattle.sb_base.specs.OneLine.{is_no_lf}
 use Rattle.sb_text.specs.Lines.{raw_lines, is_ended, without_cr, NumberedRawLine, numbered_from, numbered_raw_lines, lines_from, lines_of}
 
 -- bytes without LF

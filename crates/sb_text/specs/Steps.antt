@@ -3,8 +3,8 @@ use Rattle.std.specs.Prelude.{◌≡◌, ⊤, ℕ, ◌+◌, ◌-◌, ◌&&◌, n
 use Rattle.std.specs.Cmp.Lexicographic.{pointwise}
 use Rattle.sb_text.specs.Spots.{fails, fails_left}
 use Rattle.sb_text.specs.Tokens.{Lexeme, Word, Quoted, Bad}
-use Rattle.sb_items.specs.declared.refusals.Refused.{Refused}
-use Rattle.sb_items.specs.declared.refusals.Refused.TheVariants.{Fault, NoMemory}
+use Rattle.sb_base.specs.declared.refusals.Refused.{Refused}
+use Rattle.sb_base.specs.declared.refusals.Refused.TheVariants.{Fault, NoMemory}
 use Rattle.sb_text.specs.declared.refusals.TokenFault.{TokenFault}
 
 infixl 10 ◌>>=◌

@@ -2,8 +2,8 @@
 use Rattle.std.specs.Prelude.{◌≡◌, ◌&&◌, ℕ, Bool, true, List}
 use Rattle.std.specs.List.{list_all}
 use Rattle.std.specs.Str.{IsUtf8}
-use Rattle.sb_wide.specs.Wide.{is_text_unit}
-use Rattle.sb_wide.specs.Surrogates.{is_paired}
+use Rattle.sb_base.specs.Wide.{is_text_unit}
+use Rattle.sb_base.specs.Surrogates.{is_paired}
 use Rattle.sb_text.specs.Tokens.{Lexeme, Quoted, utf8_of, string_of}
 use Rattle.sb_text.specs.TokenLaws.{is_quoted_byte}
 

@@ -3,7 +3,7 @@
 use Rattle.std.specs.Prelude.{ℕ, List, [], ◌∷◌, ◌++◌, ◌==◌, nat_lt, Option, None, Some, if◌then◌else◌}
 use Rattle.std.specs.Char.Utf16.{utf16_lossy_chars}
 use Rattle.std.specs.Str.{chars, encode_utf8_all}
-use Rattle.sb_wide.specs.Wide.{utf16_of}
+use Rattle.sb_base.specs.Wide.{utf16_of}
 use Rattle.sb_text.specs.Lines.{is_blank}
 use Rattle.sb_text.specs.declared.tokens.Token.{Token}
 use Rattle.sb_text.specs.declared.tokens.Token.TheVariants as token

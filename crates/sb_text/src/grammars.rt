@@ -1,13 +1,13 @@
 // Grammars of texts that are read line by line.
 ghost use Rattle.std.specs.Prelude.{◌≡◌, ◌+◌, ◌<◌, ◌^◌, length};
 ghost use Rattle.sb_text.specs.Readings.{Grammar};
-ghost use Rattle.sb_items.specs.Refusals.{Gives};
+ghost use Rattle.sb_base.specs.Refusals.{Gives};
 ghost use Rattle.sb_text.specs.Steps.{Becomes};
 
 use crate::refusals::TokenFault;
 use crate::spots::Layout;
 use crate::text_lines::TextLines;
-use sb_items::Refused;
+use sb_base::Refused;
 
 /// A grammar of texts whose lines are cut as `L`. It holds what its lines are read with.
 pub trait TextGrammar<L: TextLines> {

@@ -44,7 +44,7 @@ pub use numbers::{decimal_of, number_of};
 pub use raw_lines::{RawLine, RawLines};
 pub use reading::{on_line, read_by, read_text};
 pub use refusals::{LineFault, TokenFault, WordFault};
-pub use sb_items::Refused;
+pub use sb_base::Refused;
 pub use spots::{Layout, Within, column_at};
 pub use steps::{
     end_at, or_fails, or_fault, quoted_at, quoted_due, version_at, version_digit, word_at, word_due,

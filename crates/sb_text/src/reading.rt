@@ -1,8 +1,8 @@
 // Reading a text line by line, with the first fault, its line and its column.
 ghost use Rattle.std.specs.Prelude.{◌≡◌, ◌+◌, ◌<◌, ◌^◌, length};
-ghost use Rattle.sb_items.specs.declared.refusals.Refused.TheVariants.{Fault};
+ghost use Rattle.sb_base.specs.declared.refusals.Refused.TheVariants.{Fault};
 ghost use Rattle.sb_text.specs.Readings.{read_lines, read_by, read_text, refused_on, without_column};
-ghost use Rattle.sb_items.specs.Refusals.{Gives};
+ghost use Rattle.sb_base.specs.Refusals.{Gives};
 
 use crate::grammars::TextGrammar;
 use crate::lines::Lines;
@@ -10,7 +10,7 @@ use crate::refusals::{LineFault, TokenFault};
 use crate::spots::{Layout, column_at};
 use crate::text_lines::TextLines;
 use crate::utf8::text_of;
-use sb_items::Refused;
+use sb_base::Refused;
 
 /// The refusal of a line as that of its text, with the number of the line and the column of the fault.
 pub fn on_line<K: Drop>(

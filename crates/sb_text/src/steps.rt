@@ -1,13 +1,13 @@
 // Reading a line from left to right: a word, a quoted token, and the line's end, each with its faults and their places.
 ghost use Rattle.std.specs.Prelude.{◌≡◌, ◌≤◌, true, IfOk};
 ghost use Rattle.std.specs.List.{list_all};
-ghost use Rattle.sb_items.specs.Refusals.{Gives};
+ghost use Rattle.sb_base.specs.Refusals.{Gives};
 ghost use Rattle.sb_text.specs.Steps.{later, word_at, quoted_at, end_at, or_fault, or_fails, version_at, version_digit, ReadsAs};
 ghost use Rattle.sb_text.specs.TokenLaws.{is_quoted_byte};
 
 use crate::refusals::TokenFault;
 use crate::tokens::{Token, Tokens};
-use sb_items::Refused;
+use sb_base::Refused;
 
 /// The word at hand, which is not passed: its bytes. `quoted` is the fault of a quoted token in its place, `bad` that of one
 /// that breaks the rules, and `missing` that of none.

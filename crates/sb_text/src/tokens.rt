@@ -1,6 +1,6 @@
 // The tokens of a line, one after another.
 ghost use Rattle.std.specs.Prelude.{◌≡◌, ◌∷◌, ◌+◌, ◌<◌, ◌^◌, [], length, None, Some, true, if◌then◌else◌, IfSome, MatchOption};
-ghost use Rattle.sb_items.specs.declared.refusals.Refused.TheVariants.{Fault};
+ghost use Rattle.sb_base.specs.declared.refusals.Refused.TheVariants.{Fault};
 ghost use Rattle.sb_text.specs.Steps.{begins_with, later, is_end, refused_left, with_first};
 ghost use Rattle.sb_text.specs.TokenLaws.{is_quotable};
 ghost use Rattle.sb_text.specs.Tokens.{tokens_of, lexeme_of};
@@ -9,7 +9,7 @@ use crate::first_tokens::cut_token;
 use crate::laws::{tokens_are_found, tokens_have_starts};
 use crate::refusals::TokenFault;
 use crate::spots::{Layout, token_count};
-use sb_items::Refused;
+use sb_base::Refused;
 use std::marker::Model;
 
 /// A token of a line, or bytes that break the rules for tokens.

@@ -5,8 +5,7 @@ ghost use Rattle.sb_text.specs.Utf8.{first_place, not_utf8_place, place_after};
 ghost use Rattle.sb_text.specs.Tokens.{string_of};
 
 use crate::spots::Layout;
-use sb_items::NoMemory;
-use sb_wide::Wide;
+use sb_base::{NoMemory, Wide};
 use simdutf8::from_utf8_baseline;
 use std::alloc::Global;
 use thiserror::Error;

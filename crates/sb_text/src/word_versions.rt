@@ -1,10 +1,10 @@
 // The first line of a text whose lines are words.
-ghost use Rattle.sb_items.specs.Refusals.{Gives};
+ghost use Rattle.sb_base.specs.Refusals.{Gives};
 ghost use Rattle.sb_text.specs.WordVersions.{no_version, version_in_words, version_one};
 
 use crate::refusals::TokenFault;
 use crate::words::Words;
-use sb_items::Refused;
+use sb_base::Refused;
 
 // This fault at the first of these words.
 fn no_version<K: Drop>(kind: K, due: &Words) -> Result<u32, Refused<TokenFault<K>>>

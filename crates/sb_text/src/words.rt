@@ -2,14 +2,14 @@
 ghost use Rattle.std.specs.Prelude.{◌≡◌, ◌∷◌, ◌<◌, ◌≤◌, [], length, slice_index, None, MatchOption, false};
 ghost use Rattle.std.specs.List.{position_or_len};
 ghost use Rattle.sb_text.specs.Lines.{is_blank};
-ghost use Rattle.sb_items.specs.declared.refusals.Refused.TheVariants.{Fault};
-ghost use Rattle.sb_items.specs.Refusals.{Gives};
+ghost use Rattle.sb_base.specs.declared.refusals.Refused.TheVariants.{Fault};
+ghost use Rattle.sb_base.specs.Refusals.{Gives};
 ghost use Rattle.sb_text.specs.Steps.{refused_left, words_end};
 ghost use Rattle.sb_text.specs.Words.{words_of};
 
 use crate::blanks::is_blank;
 use crate::refusals::TokenFault;
-use sb_items::Refused;
+use sb_base::Refused;
 use std::marker::Model;
 
 /// What is left of a line: its words. A `"` is a byte like any other.

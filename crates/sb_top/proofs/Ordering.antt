@@ -13,7 +13,7 @@ use Rattle.sb_kernel.specs.Openings.{opened}
 use Rattle.sb_rule.specs.WellMade.{are_well_made}
 use Rattle.sb_rule.specs.declared.policies.Policy.{Policy}
 use Rattle.sb_scheduletext.specs.Printing.{in_order, is_actor_of_values}
-use Rattle.sb_wide.specs.Numbers.{is_word32}
+use Rattle.sb_base.specs.Numbers.{is_word32}
 use Rattle.sb_scheduletext.specs.PrintingLaws.{OrdersAreRead, OrdersAreShort}
 use Rattle.sb_scheduletext.specs.ScheduleTexts as schedules
 use Rattle.sb_statements.specs.Actors.{is_step_there, is_there, thread_count}

@@ -7,9 +7,9 @@ ghost use Rattle.sb_top.specs.Make.{IsMadeEnd, IsMadeReport, made_line, made_tex
 
 use crate::laws::{runs_are_sound, totals_are_of_verdicts};
 use crate::threads::run_judged;
+use sb_base::{Items, NoMemory};
 use sb_book::{Report, RunStart};
 use sb_gen::make;
-use sb_items::{Items, NoMemory};
 use sb_outside::{Bytes, Gate};
 use sb_plain::{CommandEnd, two_texts};
 use sb_transcript::totals;

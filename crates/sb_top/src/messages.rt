@@ -7,8 +7,8 @@ ghost use Rattle.sb_text.specs.MissingTexts.{or_empty};
 ghost use Rattle.sb_top.specs.Exits.{message_of, notes_by};
 ghost use Rattle.sb_top.specs.Top.{files_for};
 
+use sb_base::NoMemory;
 use sb_commands::{command_of, usage_message};
-use sb_items::NoMemory;
 use sb_message::{
     EndFault, audit_message, end_message, link_message, move_message, policy_message,
     schedule_message, script_message,

@@ -5,9 +5,9 @@ ghost use Rattle.sb_plain.specs.Coming.{IsEndCaused, IsFoundOnThreads};
 ghost use Rattle.sb_top.specs.Run.{IsThreadsEnd, threads_end};
 
 use crate::threads::run_judged;
+use sb_base::NoMemory;
 use sb_book::{OpenedScript, RunStart};
 use sb_core::Ran;
-use sb_items::NoMemory;
 use sb_outside::{Files, Gate};
 use sb_plain::{CommandEnd, Refused, end_of_run, opened_in};
 use std::alloc::Global;

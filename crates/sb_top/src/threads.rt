@@ -4,9 +4,9 @@ ghost use Rattle.sb_book.specs.Reports.{result_count};
 ghost use Rattle.sb_core.specs.Runs.{IsSomeRun};
 
 use crate::laws::runs_are_sound;
+use sb_base::NoMemory;
 use sb_book::{Report, RunStart};
 use sb_compile::Programs;
-use sb_items::NoMemory;
 use sb_outside::Gate;
 use sb_run::run_threads;
 use std::alloc::Global;

@@ -13,11 +13,11 @@ ghost use Rattle.sb_top.specs.Top.{EndsAsMeant, files_for, meaning_of, plain_mea
 
 use crate::make::make_script;
 use crate::run::run_script;
+use sb_base::NoMemory;
 use sb_commands::{
     CommandValues, CommandWords, PlainWork, ThreadedWords, ThreadedWork, Work, command_of,
     number_of,
 };
-use sb_items::NoMemory;
 use sb_outside::{Files, Gate, Sink};
 use sb_plain::{
     CommandEnd, Outcome, Refused, Status, audit_transcript, check_policy, dup_script,

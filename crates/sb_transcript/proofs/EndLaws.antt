@@ -6,7 +6,7 @@ use Rattle.std.proofs.lemmas.List.Folds.{list_all-append}
 use Rattle.std.specs.Fmt.{decimal, digits, digits_onto, digit_glyph}
 use Rattle.std.specs.List.{flat_map, list_all, onto_first}
 use Rattle.std.specs.Prelude.{codes, slice_get}
-use Rattle.sb_wide.specs.Quoting.{quoted, quoted_unit, hex_digit}
+use Rattle.sb_base.specs.Quoting.{quoted, quoted_unit, hex_digit}
 use Rattle.sb_call.specs.CallWords.{call_word}
 use Rattle.sb_call.specs.ShortNames.{is_name_byte, is_short_name}
 use Rattle.sb_call.specs.declared.arguments.Arg.{Arg}
@@ -32,14 +32,14 @@ use Rattle.sb_book.specs.declared.decisions.Decision.{Decision}
 use Rattle.sb_book.specs.declared.decisions.Decision.TheVariants.{Refused, Denied, Faked, Performed}
 use Rattle.sb_book.specs.declared.entries.Entry.{Entry}
 use Rattle.sb_book.specs.declared.reports.Report.{Report}
-use Rattle.sb_wide.specs.Numbers.{hexadecimal, eight_digits}
+use Rattle.sb_base.specs.Numbers.{hexadecimal, eight_digits}
 use Rattle.sb_transcript.specs.CommaWords.{more_words, comma_words}
 use Rattle.sb_transcript.specs.EntryLines.{fault_text, argument_text, denial_word, grant_word, verdict_text, decision_text, reply_text, name_by, target_name, entry_line}
 use Rattle.sb_transcript.specs.ResultLines.{call_result_text, result_text, result_line}
 use Rattle.sb_transcript.specs.Totals.{counted, decisions_text, totals_line, count_of, is_performed, is_faked, is_denied, is_refused}
 use Rattle.sb_transcript.specs.Transcripts.{entry_lines, thread_lines, target_lines, result_lines, transcript_lines}
 use Rattle.sb_transcript.specs.Laws.{cut_after_lf, LinesEndOnce, TranscriptsTellTheirLines}
-use Rattle.sb_wide.specs.OneLine.{is_no_lf, is_one_line}
+use Rattle.sb_base.specs.OneLine.{is_no_lf, is_one_line}
 use Rattle.sb_statements.specs.SoundScripts.{has_short_name, has_short_names}
 use Rattle.sb_outside.specs.Outside.{joined}
 

@@ -2,7 +2,7 @@
 use Rattle.std.specs.Prelude.{ℕ, List, ◌++◌, codes}
 use Rattle.std.specs.List.{flat_map}
 use Rattle.std.specs.Fmt.{decimal}
-use Rattle.sb_wide.specs.Quoting.{quoted}
+use Rattle.sb_base.specs.Quoting.{quoted}
 use Rattle.sb_call.specs.CallWords.{call_word}
 use Rattle.sb_call.specs.declared.arguments.Arg.{Arg}
 use Rattle.sb_call.specs.declared.arguments.Arg.TheVariants.{Num, Str}
@@ -19,7 +19,7 @@ use Rattle.sb_rule.specs.declared.verdicts.Verdict.TheVariants as verdict
 use Rattle.sb_book.specs.declared.decisions.Decision.{Decision}
 use Rattle.sb_book.specs.declared.decisions.Decision.TheVariants.{Refused, Denied, Faked, Performed}
 use Rattle.sb_book.specs.declared.entries.Entry.{Entry}
-use Rattle.sb_wide.specs.Numbers.{hexadecimal, eight_digits}
+use Rattle.sb_base.specs.Numbers.{hexadecimal, eight_digits}
 use Rattle.sb_transcript.specs.CommaWords.{comma_words}
 
 -- a fault by its name, and its values

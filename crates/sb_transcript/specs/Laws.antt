@@ -8,7 +8,7 @@ use Rattle.sb_book.specs.Readiness.{IsReady}
 use Rattle.sb_book.specs.Reports.{result_count}
 use Rattle.sb_book.specs.declared.entries.Entry.{Entry}
 use Rattle.sb_book.specs.declared.reports.Report.{Report}
-use Rattle.sb_wide.specs.OneLine.{is_one_line}
+use Rattle.sb_base.specs.OneLine.{is_one_line}
 use Rattle.sb_transcript.specs.EntryLines.{entry_line}
 use Rattle.sb_transcript.specs.ResultLines.{result_line}
 use Rattle.sb_transcript.specs.Totals.{totals_line}

@@ -2,8 +2,7 @@
 ghost use Rattle.std.specs.Prelude.{◌≡◌, ◌++◌, ◌∷◌, OnOk};
 ghost use Rattle.sb_transcript.specs.CommaWords.{more_words, comma_words};
 
-use sb_items::NoMemory;
-use sb_wide::put_decimal;
+use sb_base::{NoMemory, put_decimal};
 
 fn put_more_words(line: &mut Vec<u8>, words: &[u64]) -> Result<(), NoMemory>
     ensures { OnOk result (line.new.items ≡ line.old.items ++ more_words words.now) }

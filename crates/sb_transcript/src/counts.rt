@@ -4,9 +4,8 @@ ghost use Rattle.sb_book.specs.Reports.{result_count, thread_count};
 ghost use Rattle.sb_transcript.specs.Totals.{is_performed, is_faked, is_denied, is_refused, count_of, counted, decisions_text, totals_line};
 ghost use Rattle.sb_transcript.specs.Counts.{sum_of, with_decision};
 
+use sb_base::{NoMemory, put_named};
 use sb_book::{Decision, Entries, Report, TargetResults, ThreadResults};
-use sb_items::NoMemory;
-use sb_wide::put_named;
 use std::alloc::Global;
 
 // How many entries have each decision.

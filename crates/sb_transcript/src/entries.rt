@@ -5,13 +5,12 @@ ghost use Rattle.std.specs.List.{flat_map};
 ghost use Rattle.sb_transcript.specs.EntryLines.{fault_text, argument_text, denial_word, grant_word, verdict_text, decision_text, reply_text, target_name, entry_line};
 
 use crate::comma_words::put_comma_words;
+use sb_base::{NoMemory, put_decimal, put_eight_digits, put_hexadecimal, put_named, quote_into};
 use sb_block::BlockFault;
 use sb_book::{Decision, EntryView};
 use sb_call::{Arg, Reply, call_word};
-use sb_items::NoMemory;
 use sb_rule::{Action, Verdict};
 use sb_statements::Script;
-use sb_wide::{put_decimal, put_eight_digits, put_hexadecimal, put_named, quote_into};
 use std::alloc::Global;
 
 // The two values of a fault that is a change.

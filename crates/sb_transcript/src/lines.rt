@@ -8,8 +8,8 @@ use crate::entries::entry_line;
 use crate::laws::{entries_come_first, results_follow, totals_end};
 use crate::places::place_of;
 use crate::results::line_at;
+use sb_base::NoMemory;
 use sb_book::Report;
-use sb_items::NoMemory;
 use sb_statements::Script;
 use std::alloc::Global;
 

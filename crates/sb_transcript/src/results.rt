@@ -4,9 +4,8 @@ ghost use Rattle.std.specs.Fmt.{decimal};
 ghost use Rattle.sb_transcript.specs.ResultLines.{call_result_text, result_text, result_start, result_end, result_line};
 
 use crate::entries::put_reply;
-use sb_items::NoMemory;
+use sb_base::{NoMemory, put_decimal, put_named};
 use sb_statements::{CallResult, Script, StmtResult};
-use sb_wide::{put_decimal, put_named};
 use std::alloc::Global;
 
 // A channel and a value after it.

@@ -10,8 +10,8 @@ use crate::counts::{result_count, totals};
 use crate::entries::put_entry_line;
 use crate::line_buffers::LineBuffer;
 use crate::results::{put_result_line, put_result_start};
+use sb_base::NoMemory;
 use sb_book::{Entries, EntryView, Report, TargetResults, ThreadResults};
-use sb_items::NoMemory;
 use sb_statements::{Script, StmtResult};
 use std::alloc::Global;
 

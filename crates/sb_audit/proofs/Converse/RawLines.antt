@@ -4,7 +4,7 @@ use Rattle.std.proofs.lemmas.Bool.{and_parts, false≢true}
 use Rattle.std.specs.List.{list_all}
 use Rattle.sb_outside.specs.Outside.{joined}
 use Rattle.sb_text.specs.Lines.{NumberedRawLine, raw_lines, is_ended, numbered_from, numbered_raw_lines}
-use Rattle.sb_wide.specs.OneLine.{is_no_lf, is_one_line}
+use Rattle.sb_base.specs.OneLine.{is_no_lf, is_one_line}
 
 -- bytes with an LF after them
 abbrev pub with_lf : List ℕ → List ℕ

@@ -17,7 +17,7 @@ use Rattle.sb_statements.specs.declared.scripts.Script.{Script}
 use Rattle.sb_text.specs.Lines.{numbered_raw_lines}
 use Rattle.sb_transcript.specs.Totals.{totals_line}
 use Rattle.sb_transcript.specs.Laws.{LinesEndOnce}
-use Rattle.sb_wide.specs.OneLine.{is_one_line}
+use Rattle.sb_base.specs.OneLine.{is_one_line}
 use Rattle.sb_transcript.specs.Transcripts.{entry_lines, thread_lines, target_lines, result_lines, transcript, transcript_lines}
 use Rattle.sb_audit.specs.declared.spots.Spot.{Spot}
 use Rattle.sb_audit.proofs.Converse.Lists.{map_twice}

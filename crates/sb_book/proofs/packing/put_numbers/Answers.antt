@@ -3,7 +3,7 @@ use Rattle.std.proofs.lemmas.Bool.Decides.{nat_tests}
 use Rattle.std.specs.Prelude.{◌&&◌}
 use Rattle.std.specs.List.{list_all}
 use Rattle.sb_book.specs.Packing.{packed, packed_all}
-use Rattle.sb_wide.specs.Numbers.{is_word64}
+use Rattle.sb_base.specs.Numbers.{is_word64}
 use Rattle.sb_book.proofs.PackedNumbers.{packed_few}
 use Rattle.sb_book.proofs.packing.put_numbers.Goals as goal
 

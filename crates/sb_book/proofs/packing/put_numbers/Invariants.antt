@@ -2,7 +2,7 @@ use Rattle.std.proofs.Common.{◌≡◌, ◌+◌, ◌*◌, ◌≤◌, ◌++◌, 
 use Rattle.std.specs.Prelude.{vec_capacity, vec_len}
 use Rattle.std.specs.List.{list_all}
 use Rattle.sb_book.specs.Packing.{packed_all}
-use Rattle.sb_wide.specs.Numbers.{is_word64}
+use Rattle.sb_base.specs.Numbers.{is_word64}
 use Rattle.sb_book.proofs.packing.put_numbers.Given as goal
 
 -- the numbers that are left, after the bytes so far, are all

@@ -1,5 +1,5 @@
 use Rattle.std.proofs.Common.{◌≡◌, map, take}
-use Rattle.sb_pattern.specs.Reading.{text_of}
+use Rattle.sb_rule.specs.PatternReading.{text_of}
 use Rattle.sb_opcode.specs.Unpacking.{cell_of}
 use Rattle.sb_compile.proofs.listing.put_cells.Given as goal
 

@@ -1,6 +1,6 @@
 use Rattle.std.specs.List.{slice_split}
 use Rattle.std.proofs.Common.{arith, ◌++◌}
-use Rattle.sb_pattern.specs.Chunks.{is_any}
+use Rattle.sb_rule.specs.Chunks.{is_any}
 use Rattle.sb_opcode.specs.Opcodes as op
 use Rattle.sb_opcode.specs.declared.opcodes.Seek.TheVariants.{Forward}
 use Rattle.sb_opcode.specs.Options.{FOLD}

@@ -1,6 +1,6 @@
 use Rattle.std.specs.List.{slice_split}
 use Rattle.std.proofs.Common.{◌≡◌, ◌+◌, ◌≤◌, ◌++◌, length}
-use Rattle.sb_pattern.specs.Chunks.{is_any}
+use Rattle.sb_rule.specs.Chunks.{is_any}
 use Rattle.sb_compile.specs.Compiling.{closed, later_code}
 use Rattle.sb_compile.proofs.patterns.push_later.Given as goal
 

@@ -4,7 +4,7 @@ use Rattle.std.specs.BTreeMap.{get}
 use Rattle.std.specs.BTreeMap.Range.{entries_between}
 use Rattle.std.specs.declared.ops.Bound.TheVariants.{Included}
 use Rattle.std.specs.List.{find}
-use Rattle.sb_items.specs.Orders.{by_pair}
+use Rattle.sb_base.specs.Orders.{by_pair}
 use Rattle.sb_handles.specs.Sets.{IsLowest, conflicts_by, is_met}
 use Rattle.sb_handles.proofs.Lowest.{first_some, first_none}
 use Rattle.sb_handles.proofs.ShareLemmas.{first_passes, none_passes}

@@ -2,7 +2,7 @@ use Rattle.std.proofs.Common.{◌≡◌}
 use Rattle.std.specs.BTreeMap.{get}
 use Rattle.std.specs.List.{find}
 use Rattle.sb_handles.specs.Sets.{conflicts_by}
-use Rattle.sb_items.specs.Orders.{by_pair}
+use Rattle.sb_base.specs.Orders.{by_pair}
 use Rattle.sb_handles.proofs.sets.first_in.Given as goal
 
 abbrev pub invariant-loop-handle : goal.invariant-loop-handle

@@ -1,7 +1,7 @@
 use Rattle.std.proofs.Common.{rules, ap, sym, subst, ◌∙◌}
 use Rattle.std.specs.BTreeMap.{insert_entry}
 use Rattle.sb_names.specs.Entries.{IsKept, rows_in}
-use Rattle.sb_items.specs.Orders.{by_pair}
+use Rattle.sb_base.specs.Orders.{by_pair}
 use Rattle.sb_names.proofs.EntryLemmas.{more_kept, more_rows}
 use Rattle.sb_names.proofs.maps.add_row.Goals as goal
 

@@ -2,7 +2,7 @@ use Rattle.std.proofs.Common.{rules, ◌∙◌}
 use Rattle.std.specs.BTreeMap.Range.{entries_between}
 use Rattle.std.specs.declared.ops.Bound.TheVariants.{Included}
 use Rattle.sb_names.specs.Keys.{key_of}
-use Rattle.sb_items.specs.Orders.{by_pair}
+use Rattle.sb_base.specs.Orders.{by_pair}
 use Rattle.sb_names.proofs.EntryLemmas.{place_met, place_missing}
 use Rattle.sb_names.proofs.maps.place.Goals as goal
 

@@ -1,6 +1,6 @@
 use Rattle.std.proofs.Common.{rules, ◌≢◌}
 use Rattle.std.specs.BTreeMap.{get}
-use Rattle.sb_items.specs.Orders.{by_pair}
+use Rattle.sb_base.specs.Orders.{by_pair}
 use Rattle.sb_names.proofs.Moving.{moved_here, moved_others, put_here, put_others}
 use Rattle.sb_names.proofs.renaming.reindex.Goals as goal
 

@@ -1,6 +1,6 @@
 use Rattle.std.proofs.Common.{◌≡◌, subst, rules, List, ℕ}
 use Rattle.std.specs.Prelude.{Err}
-use Rattle.sb_items.specs.Refusals.{GivesAs}
+use Rattle.sb_base.specs.Refusals.{GivesAs}
 use Rattle.sb_rule.specs.declared.policies.Policies.{Policies}
 use Rattle.sb_ruletext.specs.PolicyTexts.{reading}
 use Rattle.sb_plain.proofs.ReadFiles.{policies_unread}

@@ -1,7 +1,7 @@
 use Rattle.std.proofs.Common.{◌≡◌, drop}
 use Rattle.std.specs.List.{list_all}
-use Rattle.sb_pattern.specs.Reading.{text_of}
-use Rattle.sb_wide.specs.Wide.{is_text_unit}
+use Rattle.sb_rule.specs.PatternReading.{text_of}
+use Rattle.sb_base.specs.Wide.{is_text_unit}
 use Rattle.sb_rule.proofs.checks.are_text_cells.Given as goal
 
 abbrev pub invariant-loop-cell : goal.invariant-loop-cell

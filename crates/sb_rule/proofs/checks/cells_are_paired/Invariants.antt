@@ -1,7 +1,7 @@
 use Rattle.std.proofs.Common.{◌≡◌, drop}
 use Rattle.std.specs.Prelude.{false}
-use Rattle.sb_pattern.specs.Reading.{text_of}
-use Rattle.sb_wide.specs.Surrogates.{is_paired_after}
+use Rattle.sb_rule.specs.PatternReading.{text_of}
+use Rattle.sb_base.specs.Surrogates.{is_paired_after}
 use Rattle.sb_rule.proofs.checks.cells_are_paired.Given as goal
 
 abbrev pub invariant-loop-cell : goal.invariant-loop-cell

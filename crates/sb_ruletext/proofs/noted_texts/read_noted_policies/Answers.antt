@@ -1,6 +1,6 @@
 use Rattle.std.proofs.Common.{◌≡◌, ◌∙◌, ap, sym, subst, rules, List, Vec, Global}
 use Rattle.std.specs.Prelude.{Ok, Err}
-use Rattle.sb_items.specs.Refusals.{GivesAs}
+use Rattle.sb_base.specs.Refusals.{GivesAs}
 use Rattle.sb_rule.specs.declared.policies.Policies.{Policies}
 use Rattle.sb_rule.specs.declared.policies.Policy.{Policy}
 use Rattle.sb_rule.specs.declared.well_made_policies.WellMadePolicies.{WellMadePolicies}

@@ -4,7 +4,7 @@ use Rattle.sb_scheduletext.proofs.Bounds.{holds_if_read}
 use Rattle.sb_statements.specs.Actors.{is_step_there}
 use Rattle.sb_scheduletext.specs.Limits.{most_rounds}
 use Rattle.sb_scheduletext.specs.ScheduleTexts.{reading}
-use Rattle.sb_items.specs.Refusals.{Gives}
+use Rattle.sb_base.specs.Refusals.{Gives}
 use Rattle.sb_scheduletext.proofs.schedule_texts.read_schedule.Goals as goal
 
 pub returns-clause-there : goal.returns-clause-there

@@ -1,6 +1,6 @@
 use Rattle.std.proofs.Common.{ℕ, Bool, sym, subst}
 use Rattle.std.specs.BTreeMap.{get}
-use Rattle.sb_items.specs.Orders.{by_pair}
+use Rattle.sb_base.specs.Orders.{by_pair}
 use Rattle.sb_handles.specs.Sets.{IsLowest, conflicts_by, is_unshared, is_exceeding}
 use Rattle.sb_handles.proofs.Lowest.{lowest_alike, lowest_of_two}
 use Rattle.sb_handles.proofs.Covering.{listed_exactly}

@@ -1,7 +1,7 @@
 use Rattle.std.proofs.Common.{ℕ, Bool, sym, subst, ◌∙◌, ap}
 use Rattle.std.specs.Prelude.{not}
 use Rattle.std.specs.BTreeMap.{get}
-use Rattle.sb_items.specs.Orders.{by_pair}
+use Rattle.sb_base.specs.Orders.{by_pair}
 use Rattle.sb_handles.specs.Sets.{IsLowest, conflicts_by, is_met, lower_of}
 use Rattle.sb_handles.proofs.Lowest.{lowest_of_two}
 use Rattle.sb_handles.proofs.sets.Sets.lowest_exceeding.Goals as goal

@@ -1,5 +1,5 @@
 use Rattle.std.specs.BTreeMap.{get}
-use Rattle.sb_items.specs.Orders.{by_pair}
+use Rattle.sb_base.specs.Orders.{by_pair}
 use Rattle.sb_handles.proofs.Covering.{listed_more}
 use Rattle.sb_handles.proofs.shares.ShareTable.open.Goals as goal
 

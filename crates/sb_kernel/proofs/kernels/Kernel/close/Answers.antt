@@ -2,7 +2,7 @@ use Rattle.std.proofs.Common.{◌≡◌, rules, false}
 use Rattle.sb_handles.specs.Agreements.{is_file, is_pipe}
 use Rattle.sb_handles.specs.Tables.{IsTable}
 use Rattle.sb_handles.specs.declared.objects.Service.TheVariants as service
-use Rattle.sb_pipe.specs.Pipes.{ArePipes}
+use Rattle.sb_services.specs.Pipes.{ArePipes}
 use Rattle.sb_kernel.proofs.Closing.{file_closed, pipe_closed, other_closed}
 use Rattle.sb_kernel.specs.Namespaces.{Space}
 use Rattle.sb_kernel.proofs.kernels.Kernel.close.Goals as goal

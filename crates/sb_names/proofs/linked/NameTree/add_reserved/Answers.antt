@@ -5,7 +5,7 @@ use Rattle.std.specs.Ordering.{nat_cmp}
 use Rattle.sb_arena.specs.Forests.{HasLiveLinks, IsShallow, IsSound, node_number}
 use Rattle.sb_names.specs.Keys.{key_of}
 use Rattle.sb_names.specs.Nodes.{name_of, number_of, rows_of}
-use Rattle.sb_items.specs.Orders.{by_pair}
+use Rattle.sb_base.specs.Orders.{by_pair}
 use Rattle.sb_names.specs.Rooms.{HasRoomFor, IsFreeFor}
 use Rattle.sb_names.proofs.ObjectLemmas.{changed_objects}
 use Rattle.sb_names.proofs.PutLemmas.{put_names, put_rows}

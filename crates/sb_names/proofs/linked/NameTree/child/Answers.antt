@@ -4,7 +4,7 @@ use Rattle.std.specs.BTreeMap.Range.{entries_between}
 use Rattle.std.specs.declared.ops.Bound.TheVariants.{Included}
 use Rattle.sb_names.specs.Keys.{key_of}
 use Rattle.sb_names.specs.Nodes.{IsIndexed, number_of}
-use Rattle.sb_items.specs.Orders.{by_pair}
+use Rattle.sb_base.specs.Orders.{by_pair}
 use Rattle.sb_names.proofs.IndexLemmas.{no_child}
 use Rattle.sb_names.proofs.linked.NameTree.child.Goals as goal
 

@@ -4,7 +4,7 @@ use Rattle.std.specs.BTreeMap.Range.{entries_between}
 use Rattle.std.specs.declared.ops.Bound.TheVariants.{Included}
 use Rattle.sb_names.specs.Nodes.{IsIndexed}
 use Rattle.sb_names.specs.Objects.{HasObjects}
-use Rattle.sb_items.specs.Orders.{by_pair}
+use Rattle.sb_base.specs.Orders.{by_pair}
 use Rattle.sb_names.proofs.ObjectLemmas.{no_holder}
 use Rattle.sb_names.proofs.linked.NameTree.holder.Goals as goal
 

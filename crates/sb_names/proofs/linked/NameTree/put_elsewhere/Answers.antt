@@ -4,7 +4,7 @@ use Rattle.std.specs.BTreeMap.{get}
 use Rattle.sb_arena.specs.Forests.{HasLiveLinks, IsLive, IsShallow}
 use Rattle.sb_names.specs.Keys.{key_of}
 use Rattle.sb_names.specs.Nodes.{HasNoChild, IsApart, KeepsRows, name_of, number_of, rows_of}
-use Rattle.sb_items.specs.Orders.{by_pair}
+use Rattle.sb_base.specs.Orders.{by_pair}
 use Rattle.sb_names.specs.Renames.{collected, renamed_key}
 use Rattle.sb_names.proofs.Moving.{move_index, move_keeps, move_rows, same_index}
 use Rattle.sb_names.proofs.ObjectLemmas.{changed_objects, own_object}

@@ -1,12 +1,12 @@
 use Rattle.std.proofs.Common.{rules, ◌≡◌, ◌∙◌, ap, sym, refl, subst, ◌++◌, ◌∷◌}
 use Rattle.std.specs.BTreeMap.{get}
 use Rattle.sb_arena.specs.Forests.{HasLiveLinks, IsShallow, node_number, with_vacancy}
-use Rattle.sb_wide.specs.Names.{is_component}
+use Rattle.sb_base.specs.Names.{is_component}
 use Rattle.sb_names.specs.Hashes.{hash_of}
 use Rattle.sb_names.specs.Keys.{key_of, parent_of}
 use Rattle.sb_names.specs.Nodes.{HasNames, IsIndexed, IsThere, name_of, number_of, rows_of}
 use Rattle.sb_names.specs.Objects.{HasObjects}
-use Rattle.sb_items.specs.Orders.{by_pair}
+use Rattle.sb_base.specs.Orders.{by_pair}
 use Rattle.sb_names.proofs.AddLemmas.{at_there, whole_key}
 use Rattle.sb_names.proofs.ObjectLemmas.{more_objects, same_objects, vacancy_objects}
 use Rattle.sb_names.proofs.PutLemmas.{indexed_more}

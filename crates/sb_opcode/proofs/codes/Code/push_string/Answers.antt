@@ -2,7 +2,7 @@ use Rattle.std.proofs.Common.{◌≡◌, ◌++◌, ◌∷◌, [], ◌+◌, ◌<�
 use Rattle.std.proofs.lemmas.List.{length_push}
 use Rattle.sb_opcode.specs.Packing.{record_of}
 use Rattle.sb_opcode.specs.Records.{text_opcode}
-use Rattle.sb_pattern.specs.declared.cells.Cell.TheVariants.{Lit}
+use Rattle.sb_rule.specs.declared.cells.Cell.TheVariants.{Lit}
 use Rattle.sb_opcode.specs.declared.opcodes.Seek.TheVariants.{Skip}
 use Rattle.sb_opcode.specs.Unpacking.{is_packed, opcodes_of}
 use Rattle.sb_opcode.proofs.PackingLemmas.{pushed_packed, pushed_opcodes}

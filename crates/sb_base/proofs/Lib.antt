@@ -1,0 +1,9 @@
+pub mod Digits
+pub mod Folding
+pub mod HexDigits
+pub mod Kept
+pub mod Padding
+pub mod Pairs
+pub mod Paths
+pub mod Printable
+pub mod Quotes

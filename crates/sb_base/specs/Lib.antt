@@ -1,0 +1,9 @@
+pub mod Deciding
+pub mod Names
+pub mod Numbers
+pub mod OneLine
+pub mod Orders
+pub mod Quoting
+pub mod Refusals
+pub mod Surrogates
+pub mod Wide

@@ -1,5 +1,0 @@
-use Rattle.sb_event.proofs.KeptNames.{kept_none}
-use Rattle.sb_event.proofs.events.EventService.new.Goals as goal
-
-pub invariant_of-result : goal.invariant_of-result
-invariant_of-result c = kept_none c.new.result c.new-2.result.items c.new.ensures c.new-2.ensures.items

@@ -1,4 +1,0 @@
-pub mod GrantLaws
-pub mod KeyLaws
-pub mod Numbering
-mod WorkedCases

@@ -1,6 +1,0 @@
-use Rattle.sb_names.specs.Nodes.{rows_of}
-use Rattle.sb_key.proofs.Numbering.{none_made}
-use Rattle.sb_key.proofs.registry.KeyService.new.Goals as goal
-
-pub invariant_of-result : goal.invariant_of-result
-invariant_of-result c = none_made (rows_of c.new.result.nodes) c.new.ensures.rows

@@ -1,8 +1,0 @@
-use Rattle.sb_pattern.proofs.Leftmost.{faults_are_leftmost, faultless_texts_are_read}
-use Rattle.sb_pattern.proofs.laws.faults_are_leftmost.Goals as goal
-
-pub returns-clause-fault : goal.returns-clause-fault
-returns-clause-fault c = faults_are_leftmost
-
-pub returns-clause-none : goal.returns-clause-none
-returns-clause-none c = faultless_texts_are_read

@@ -1,6 +1,0 @@
-use Rattle.std.proofs.Common.{◌≡◌, take}
-use Rattle.sb_pattern.specs.Reading.{text_of}
-use Rattle.sb_pattern.proofs.reading.units_of.Given as goal
-
-abbrev pub invariant-loop-cell : goal.invariant-loop-cell
-invariant-loop-cell l = l.units.items ≡ text_of (take l.cell-index l.cells)

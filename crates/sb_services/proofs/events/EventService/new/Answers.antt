@@ -1,0 +1,5 @@
+use Rattle.sb_services.proofs.KeptEvents.{kept_none}
+use Rattle.sb_services.proofs.events.EventService.new.Goals as goal
+
+pub invariant_of-result : goal.invariant_of-result
+invariant_of-result c = kept_none c.new.result c.new-2.result.items c.new.ensures c.new-2.ensures.items

@@ -1,0 +1,14 @@
+pub mod Creation
+pub mod EventLaws
+pub mod Events
+pub mod FileLaws
+pub mod FileRequests
+pub mod Files
+pub mod Keeping
+pub mod KeyLaws
+pub mod Kinds
+pub mod Modes
+pub mod PipeLaws
+pub mod Pipes
+pub mod Registry
+pub mod Seeks

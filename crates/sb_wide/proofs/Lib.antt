@@ -1,9 +1,0 @@
-pub mod Folding
-pub mod Paths
-pub mod Printable
-pub mod Quotes
-pub mod Padding
-pub mod Digits
-pub mod HexDigits
-pub mod Kept
-pub mod Pairs

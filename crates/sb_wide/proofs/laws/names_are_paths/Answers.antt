@@ -1,5 +1,0 @@
-use Rattle.sb_wide.proofs.Paths.{names_are_paths}
-use Rattle.sb_wide.proofs.laws.names_are_paths.Goals as goal
-
-pub returns : goal.returns
-returns c = names_are_paths

@@ -1,5 +1,0 @@
-use Rattle.sb_wide.proofs.Printable.{quotes_are_printable}
-use Rattle.sb_wide.proofs.laws.quotes_are_printable.Goals as goal
-
-pub returns : goal.returns
-returns c = quotes_are_printable

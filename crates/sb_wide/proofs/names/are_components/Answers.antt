@@ -1,9 +1,0 @@
-use Rattle.std.proofs.Common.{rules, tests, eqb}
-use Rattle.std.proofs.lemmas.Iterator.Splits.{YieldsList-from_slice_split}
-use Rattle.std.proofs.lemmas.Iterator.Search.{all_from_yields_List}
-use Rattle.sb_wide.specs.Names.{is_component}
-use Rattle.sb_wide.proofs.names.are_components.Goals as goal
-
-pub returns : goal.returns
-returns c =
-    all_from_yields_List is_component _ _ _ c.all.ensures.ran (YieldsList-from_slice_split _ (λ x. eqb x 92) _ c.split.ensures.rest c.split.ensures.done c.split.ensures.closure (λ x b q k. search (rules, tests))) (λ x b q k. search (rules, tests))
