@@ -16,7 +16,6 @@ mod laws;
 mod phases;
 mod places;
 mod threads;
-mod words;
 mod workers;
 
 pub use acts::{ABANDONED, ACKNOWLEDGED, Act, BUSY, FREE, Observed, READY};

@@ -2,12 +2,9 @@
 ghost use Rattle.std.specs.Prelude.{◌≡◌, ◌<◌, ◌≤◌, length, true, option_map, IfSome};
 ghost use Rattle.sb_actor.specs.Found.{AreFound, IsFound};
 ghost use Rattle.sb_actor.specs.Places.{statements_of, statement_at, mark_at, clean_upto};
-ghost use Rattle.sb_block.specs.Blocks.{block, encodes};
 ghost use Rattle.sb_statements.specs.CleanTables.{IsCleanTable};
 
 use arrayvec::ArrayVec;
-use sb_block::{Words, encode};
-use sb_call::{Arg, CallTag};
 use sb_statements::{CleanTable, SoundScript, Statement, sound_parts};
 
 /// The mark of the call at a place of a thread.
@@ -63,18 +60,6 @@ pub fn sound_statement_at(
 {
     establish_found(script);
     statement_at(script, target, thread, place)
-}
-
-/// The block of a call.
-pub(crate) fn block_of(tag: CallTag, args: &[Arg], mark: u64) -> Words
-    requires { encodes tag args.now ≡ true }
-    ensures block { result ≡ block tag args.now mark }
-    ensures some { 0 < length result }
-{
-    match encode(tag, args, mark) {
-        Ok(block) => block,
-        Err(_) => unreachable!(),
-    }
 }
 
 /// Of the channels of a target, in order, whether each is clean. There are at most 8.

@@ -23,12 +23,9 @@ use crate::acts::{
 };
 use crate::endings::Ending;
 use crate::phases::ThreadPhase;
-use crate::places::{
-    block_of, clean_upto, mark_at, sound_statement_at, statement_at, statements_of,
-};
-use crate::words::clear;
+use crate::places::{clean_upto, mark_at, sound_statement_at, statement_at, statements_of};
 use arrayvec::ArrayVec;
-use sb_block::{Words, read_reply};
+use sb_block::{Words, put_block, read_reply};
 use sb_call::Reply;
 use sb_statements::{
     CallResult, CleanTable, SoundScript, Statement, StmtResult, Word, sound_parts,
@@ -199,26 +196,31 @@ impl ThreadState {
         self.waits = false;
         match sound_statement_at(script, self.target, self.thread as usize, place as usize) {
             Some(Statement::Call { tag, args }) => {
-                self.block = block_of(*tag, args.as_slice(), mark_at(self.thread, place));
+                put_block(
+                    &mut self.block,
+                    *tag,
+                    args.as_slice(),
+                    mark_at(self.thread, place),
+                );
                 self.channel = 0;
                 self.count = 0;
                 self.all_abandoned = true;
                 self.phase = ThreadPhase::Try;
             }
             Some(Statement::Wait { most, .. }) => {
-                clear(&mut self.block);
+                self.block.clear();
                 self.count = 0;
                 self.most = *most;
                 self.phase = ThreadPhase::Stray;
             }
             Some(_) => {
-                clear(&mut self.block);
+                self.block.clear();
                 self.count = 0;
                 self.most = 1;
                 self.phase = ThreadPhase::Stray;
             }
             None => {
-                clear(&mut self.block);
+                self.block.clear();
                 self.phase = ThreadPhase::Over;
             }
         }

@@ -14,12 +14,10 @@ use crate::acts::{
     ACKNOWLEDGED, Act, Observed, READY, block_word, exchange, load, state_word, store,
 };
 use crate::phases::WorkerPhase;
-use crate::words::clear;
 use sb_block::{BlockCopy, MOST_PARAMETERS, Words, reply_words};
 use sb_call::Reply;
 use sb_statements::Word;
 use std::marker::Model;
-use std::mem;
 
 /// The worker of a target, which serves its channels in turn: it looks for one whose block is whole, copies the block word by
 /// word, has the book answer the copy, and stores the reply. Contracts see its stage, with what belongs to it.
@@ -72,17 +70,6 @@ fn taken_of(count: u64, end: u64, words: Words) -> BlockCopy
     ensures { result ≡ copied count end words }
 {
     BlockCopy::of(count, end, words).unwrap()
-}
-
-// Ends a copy with these words, which are taken out. It is a function of its own, so that a step that ends no copy has no large locals.
-#[inline(never)]
-fn end_copy(taken: &mut BlockCopy, words: &mut Words, count: u64, end: u64)
-    requires { is_copy (copied count end words.old) ≡ true }
-    ensures taken { taken.new ≡ copied count end words.old }
-    ensures words { words.new ≡ [] }
-{
-    let whole = mem::replace(words, Words::empty());
-    *taken = taken_of(count, end, whole);
 }
 
 // Ends a copy before its first word.
@@ -190,7 +177,7 @@ impl WorkerState {
         } else {
             self.count = count;
             self.end = end;
-            clear(&mut self.words);
+            self.words.clear();
             self.phase = WorkerPhase::Copy;
         }
     }
@@ -249,7 +236,7 @@ impl WorkerState {
                 self.words.push(value);
                 if self.words.len() as u64 == self.end {
                     let (count, end) = (self.count, self.end);
-                    end_copy(&mut self.taken, &mut self.words, count, end);
+                    self.taken.assign(count, end, &self.words);
                     self.phase = WorkerPhase::Take;
                 }
             }
@@ -312,7 +299,7 @@ impl WorkerState {
                 self.words.extend(values);
                 if self.end == self.words.len() as u64 {
                     let (count, end) = (self.count, self.end);
-                    end_copy(&mut self.taken, &mut self.words, count, end);
+                    self.taken.assign(count, end, &self.words);
                     self.phase = WorkerPhase::Take;
                 }
             }

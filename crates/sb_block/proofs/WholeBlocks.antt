@@ -172,6 +172,13 @@ fitting_of tag args mark h =
     let parts = and_parts (fits tag args) (nat_le (length (block tag args 0)) 64) h in
     record { fitting = parts.0; room = grind (arith, nat_tests, parts.1) }
 
+pub encoded_len : (tag : CallTag) (args : List Arg) (mark : ℕ) → encodes tag args ≡ true → length (block tag args mark) ≤ 64
+encoded_len tag args mark h = (fitting_of tag args mark h).room
+
+-- and ends within it
+pub encoded_small : (tag : CallTag) (args : List Arg) → encodes tag args ≡ true → end_offset args ≤ 64
+encoded_small tag args h = room_for tag args 0 (fitting_of tag args 0 h)
+
 pub block_back : (tag : CallTag) (args : List Arg) (mark : ℕ) → Fitting tag args mark → list_all has_units args ≡ true
     → (is_copy (whole (block tag args mark)) ≡ true) × (decoded (whole (block tag args mark)) ≡ Ok (called tag mark args))
 block_back tag args mark p units = (is_whole_copy tag args mark p, rw (copy_fine tag args mark p units, call_back tag args mark p units))

@@ -52,6 +52,18 @@ impl BlockCopy {
         Some(BlockCopy { count, end, words })
     }
 
+    /// Becomes the copy with this count, end and words, which keep the rule of a copy. The words are copied.
+    #[inline(never)]
+    pub fn assign(&mut self, count: u64, end: u64, words: &Words)
+        requires { is_copy (copied count end words.now) ≡ true }
+        ensures { self.new ≡ copied count end words.now }
+    {
+        self.count = count;
+        self.end = end;
+        self.words.clear();
+        self.words.extend(words.as_slice());
+    }
+
     /// The number of parameters that was loaded before the copy.
     pub fn count_seen(&self) -> u64
         ensures { result ≡ self.now.count_seen }

@@ -7,7 +7,7 @@ ghost use Rattle.sb_block.specs.Calls.{called, decoded};
 ghost use Rattle.sb_block.specs.Copies.{is_copy, whole};
 ghost use Rattle.sb_block.specs.Packing.{packed};
 ghost use Rattle.sb_base.specs.Wide.{is_unit};
-ghost use Rattle.sb_block.specs.Blocks.{block, encodes, has_units, bytes_of, content_of, contents_of, descriptors_of};
+ghost use Rattle.sb_block.specs.Blocks.{block, encodes, end_offset, has_units, bytes_of, content_of, contents_of, descriptors_of};
 ghost use Rattle.sb_block.specs.Layout.{first_offset, most_words, reply_length};
 
 use crate::faults::type_number;
@@ -148,13 +148,38 @@ fn put_contents(words: &mut Words, args: &[Arg])
     }
 }
 
-fn opening(tag: CallTag, mark: u64, count: u64) -> Words
-    ensures { result ≡ number_of tag ∷ mark ∷ count ∷ replicate reply_length 0 }
+fn put_opening(words: &mut Words, tag: CallTag, mark: u64, count: u64)
+    ensures { words.new ≡ number_of tag ∷ mark ∷ count ∷ replicate reply_length 0 }
 {
-    let mut words = Words::empty();
+    words.clear();
     words.extend(&[number_of(tag), mark, count]);
     words.extend(&[0; REPLY_LENGTH]);
-    words
+}
+
+// Lays out the block of a call that is known to be small, in place of the words that were there.
+fn put_small_block(words: &mut Words, tag: CallTag, args: &[Arg], mark: u64)
+    requires fits { fits tag args.now ≡ true }
+    requires small { end_offset args.now ≤ most_words }
+    ensures value { words.new ≡ block tag args.now mark }
+    ensures units { list_all has_units args.now ≡ true }
+{
+    let first = first_offset(args.len() as u64);
+    put_opening(words, tag, mark, args.len() as u64);
+    put_descriptors(words, first, shape(tag), args);
+    let end = first + contents_len(args);
+    words.push(end_item(end));
+    put_contents(words, args);
+}
+
+/// Lays out the block of a call that encodes, with the caller's mark, in place of the words that were there: as `encode` does.
+#[tactic(auto, using(crate::proofs::WholeBlocks::encoded_small, crate::proofs::WholeBlocks::encoded_len))]
+pub fn put_block(words: &mut Words, tag: CallTag, args: &[Arg], mark: u64)
+    requires { encodes tag args.now ≡ true }
+    ensures block { words.new ≡ block tag args.now mark }
+    ensures some { 0 < length words.new }
+    ensures most { length words.new ≤ most_words }
+{
+    put_small_block(words, tag, args, mark);
 }
 
 /// The block of a call with the caller's mark: tag, mark, count, zeros for the reply, a descriptor
@@ -173,12 +198,8 @@ pub fn encode(tag: CallTag, args: &[Arg], mark: u64) -> Result<Words, TooBig>
     if !is_small(args) {
         return Err(TooBig);
     }
-    let first = first_offset(args.len() as u64);
-    let mut words = opening(tag, mark, args.len() as u64);
-    put_descriptors(&mut words, first, shape(tag), args);
-    let end = first + contents_len(args);
-    words.push(end_item(end));
-    put_contents(&mut words, args);
+    let mut words = Words::empty();
+    put_small_block(&mut words, tag, args, mark);
     Ok(words)
 }
 

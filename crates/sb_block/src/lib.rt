@@ -28,7 +28,7 @@ mod words;
 
 pub use calls::{BlockRefused, Call, decode};
 pub use copies::BlockCopy;
-pub use encoding::{TooBig, encode, encodes, has_small_block};
+pub use encoding::{TooBig, encode, encodes, has_small_block, put_block};
 pub use faults::{BlockFault, fault_of};
 pub use laws::{
     blocks_come_back, copies_are_whole, faultless_copies_fit, nothing_else_is_refused,

@@ -78,20 +78,23 @@ impl Words {
         requires { length self.old + length words.now ≤ most_words }
         ensures { self.new ≡ self.old ++ words.now }
     {
-        for word in words {
-            self.items.push(*word);
-        }
+        let _fits = self.items.try_extend_from_slice(words);
+    }
+
+    /// Removes all words.
+    pub fn clear(&mut self)
+        ensures { self.new ≡ [] }
+    {
+        self.items.clear();
     }
 
     /// An equal list of words. Does not allocate.
     pub fn copy(&self) -> Words
         ensures { result ≡ self.now }
     {
-        let mut items = ArrayVec::new();
-        for word in self.items.as_slice() {
-            items.push(*word);
-        }
-        Words { items }
+        let mut copy = Words::empty();
+        copy.extend(self.as_slice());
+        copy
     }
 }
 

@@ -64,6 +64,9 @@ rounds_joined (suc k) n m script w e = by_test (all_finished script w) refl (rou
 pub rounds_on : (n k : ℕ) (script : Script) (w v : WorldAt) → k ≤ n → v ≡ rounds k script w → rounds (n - k) script v ≡ rounds n script w
 rounds_on n k script w v l e = ap (rounds (n - k) script) e ∙ sym (rounds_joined k n (n - k) script w (omega (arith, l)))
 
+pub rounds_then : (k m : ℕ) (script : Script) (w v : WorldAt) → v ≡ rounds k script w → rounds m script v ≡ rounds (k + m) script w
+rounds_then k m script w v e = ap (rounds m script) e ∙ sym (rounds_joined k (k + m) m script w refl)
+
 -- a settled world makes no more passes
 pub drained_done : (n : ℕ) (w : WorldAt) → is_settled w ≡ true → drained_by n w ≡ w
 drained_done zero w h = refl

@@ -18,6 +18,9 @@ use std::alloc::Global;
 const MISSES: u32 = 8;
 /// Then this many rounds are made one by one before each look.
 const LONG_PAUSE: u32 = 16;
+/// After a leap this many rounds are made one by one before the next look, since an actor that has moved its last word makes other steps
+/// first.
+const AFTER_LEAP: u32 = 3;
 
 // One step of an actor that is there.
 #[inline(always)]
@@ -177,8 +180,9 @@ fn make_each<J: Judge>(
     Ok(())
 }
 
-// A leap over several rounds, or at most `pause` rounds one by one; not more than `most`. Gives how many these are.
-#[tactic(auto, using(crate::proofs::Folding::rounds_more))]
+// A leap over several rounds and then a few rounds one by one, or at most `pause` rounds one by one; not more than `most`. Gives how many
+// these are.
+#[tactic(auto, using(crate::proofs::Folding::rounds_more, crate::proofs::Folding::rounds_then))]
 fn make_some<J: Judge>(
     alloc: Global,
     judge: &J,
@@ -199,7 +203,9 @@ fn make_some<J: Judge>(
     let length = leap_length(world, most);
     if length > 1 {
         leap(judge, script, world, length);
-        return Ok(length);
+        let after = (most - length).min(AFTER_LEAP);
+        make_each(alloc, judge, script, world, after)?;
+        return Ok(length + after);
     }
     let few = most.min(pause);
     make_round(alloc, judge, script, world)?;

@@ -1,8 +1,6 @@
-use Rattle.std.proofs.Common.{◌≡◌, ◌≤◌, ◌<◌, ◌++◌, ◌*◌, ◌^◌, length}
-use Rattle.sb_call.specs.Tags.{shape_of}
-use Rattle.sb_block.specs.Blocks.{block, contents_of, end_offset, descriptors_of}
-use Rattle.sb_block.specs.Layout.{first_offset}
-use Rattle.sb_block.proofs.BlockLemmas.{block_len, assembled, too_long, enough_room}
+use Rattle.std.proofs.Common.{◌≡◌, ◌≤◌, ◌<◌, length}
+use Rattle.sb_block.specs.Blocks.{block, contents_of}
+use Rattle.sb_block.proofs.BlockLemmas.{block_len, too_long, enough_room}
 use Rattle.sb_block.proofs.WholeBlocks.{Fitting, block_back, fits_encoded, too_big_not_encoded}
 use Rattle.sb_block.proofs.encoding.encode.Goals as goal
 
@@ -15,13 +13,7 @@ returns-then-not-is_small c =
 
 pub returns : goal.returns
 returns c =
-    let first : c.first_offset-first.result ≡ first_offset (length c.args.args.now) = c.first_offset-first.ensures in
-    let item : c.end_item.result ≡ end_offset c.args.args.now * 2 ^ 16 = rw (c.contents_len.ensures.value, first) at c.end_item.ensures in
-    let infos : c.put_descriptors.new.words
-    ≡ c.opening-words.result ++ descriptors_of (first_offset (length c.args.args.now)) (shape_of c.args.tag) c.args.args.now
-    = rw (c.shape.ensures, first) at c.put_descriptors.ensures in
-    let same : c.put_contents.new.words ≡ block c.args.tag c.args.args.now c.args.mark =
-    assembled _ _ _ _ _ _ _ _ c.opening-words.ensures infos (rw item at c.push.ensures) c.put_contents.ensures in
+    let same : c.put_small_block.new.words ≡ block c.args.tag c.args.args.now c.args.mark = c.put_small_block.ensures.value in
     let len : length (block c.args.tag c.args.args.now c.args.mark) ≤ 64 =
     enough_room (length c.args.args.now) (length (contents_of c.args.args.now)) _ c.is_small.result
     (block_len c.args.tag c.args.args.now c.args.mark c.requires) c.if-not-is_small.false c.is_small.ensures in
@@ -29,5 +21,5 @@ returns c =
     record {
       value = (same, rw same len);
       encodes = fits_encoded c.args.tag c.args.args.now c.args.mark fitting;
-      back = rw same (block_back c.args.tag c.args.args.now c.args.mark fitting c.contents_len.ensures.units);
+      back = rw same (block_back c.args.tag c.args.args.now c.args.mark fitting c.put_small_block.ensures.units);
     }
