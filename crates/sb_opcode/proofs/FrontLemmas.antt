@@ -1,7 +1,7 @@
 -- A fragment at the front of a string, folded.
 use Rattle.std.specs.Prelude.{Option, None, Some, is_some, nat_le, option_map, option_and_then}
 use Rattle.std.proofs.Common.{◌≡◌, ◌∙◌, ◌<◌, ℕ, suc, Bool, true, false, cond, List, [], ◌∷◌, length, map, take, refl, ap, arith}
-use Rattle.std.proofs.lemmas.Bool.Decides.{nat_tests}
+use Rattle.std.proofs.lemmas.Bool.{le-leb}
 use Rattle.sb_call.specs.Arguments.{arg_at}
 use Rattle.sb_call.specs.declared.arguments.Arg.{Arg}
 use Rattle.sb_call.specs.declared.arguments.Arg.TheVariants as arg
@@ -66,7 +66,7 @@ whole_misses (w ∷ words) (u ∷ us) h = by (unit_fits true (cell_of w) u) (who
 -- after a group that tests for the front of a string
 no_units : (us : List ℕ) → after_units 0 us ≡ Some us
 no_units us =
-    let least : nat_le 0 (length us) ≡ true = grind (arith, nat_tests) in
+    let least : nat_le 0 (length us) ≡ true = le-leb 0 (length us) (omega arith) in
     ap (λ b. cond b (Some us) None) least
 
 ended_by : (o : Option (List ℕ)) → closed false (all_so_far (option_map arg.Str o)) ≡ group_end (is_some o)

@@ -3,7 +3,7 @@ use Rattle.std.specs.Prelude.{Option, None, Some, option_map, nat_le, nat_lt, no
 use Rattle.std.specs.List.{list_all}
 use Rattle.std.proofs.Common.{◌≡◌, ◌∙◌, ◌≤◌, ◌<◌, ◌+◌, ◌*◌, ◌%◌, ◌^◌, ℕ, Bool, true, false, cond, List, [], ◌∷◌, ◌++◌, ◌&&◌, eqb, length, take, drop, map, refl, ap, sym, subst, arith}
 use Rattle.std.proofs.Math.Nat.{mod-eq_of_lt}
-use Rattle.std.proofs.lemmas.Bool.{and_parts, false≢true}
+use Rattle.std.proofs.lemmas.Bool.{and_parts, false≢true, eqb-true, leb-true, ltb-true}
 use Rattle.std.proofs.lemmas.Bool.Decides.{nat_tests}
 use Rattle.std.proofs.lemmas.List.{length-map, take_at, drop_at}
 use Rattle.sb_rule.specs.declared.cells.Cell.{Cell}
@@ -31,15 +31,15 @@ action_back Fake = refl
 action_back ReadOnly = refl
 
 small : (n m : ℕ) → nat_lt n m ≡ true → n % m ≡ n
-small n m h = mod-eq_of_lt (grind (arith, nat_tests))
+small n m h = mod-eq_of_lt (ltb-true n m h)
 
 -- an opcode without cells
 plain_back : (k o p a b : ℕ) (later : List ℕ) (kind : OpKind) → k < 256 → eqb k 5 ≡ false → nat_lt o (2 ^ 8) ≡ true → nat_lt p (2 ^ 32) ≡ true
     → kind_known k a b ≡ kind → first_known ((k + o * 2 ^ 8 + 0) ∷ p ∷ a ∷ b ∷ later) ≡ Some (record { kind = kind; param = p; options = options_of o }, later)
 plain_back k o p a b later kind hk h5 ho hp e =
-    let less : o < 256 = grind (arith, nat_tests) in
-    let k_is : kind_part (k + o * 2 ^ 8 + 0) ≡ k = omega arith in
-    let o_is : options_part (k + o * 2 ^ 8 + 0) ≡ o = omega arith in
+    let less : o < 256 = ltb-true o (2 ^ 8) ho in
+    let k_is : kind_part (k + o * 2 ^ 8 + 0) ≡ k = head_kind k o 0 0 hk less (omega arith) in
+    let o_is : options_part (k + o * 2 ^ 8 + 0) ≡ o = head_options k o 0 0 hk less (omega arith) in
     rw (k_is, h5, o_is, small p (2 ^ 32) hp, e) refl
 
 act_back : (a : Action) (line : ℕ) → nat_lt line (2 ^ 32) ≡ true → kind_known 6 (action_number a) line ≡ Act a line
@@ -58,7 +58,7 @@ text_back : (o p : ℕ) (cells : List Cell) (seek : Seek) (later : List ℕ) →
     ≡ Some (record { kind = Text cells seek; param = p; options = options_of o }, later)
 text_back o p cells seek later ho hp hc hs =
     let h : ℕ = 5 + o * 2 ^ 8 + (seek_number seek * 2 ^ 16 + skip_number seek * 2 ^ 32) in
-    let less : o < 256 = grind (arith, nat_tests) in
+    let less : o < 256 = ltb-true o (2 ^ 8) ho in
     let five : 5 < 256 = omega arith in
     let k_is : kind_part h ≡ 5 = head_kind 5 o (seek_number seek) (skip_number seek) five less (few_seeks seek) in
     let o_is : options_part h ≡ o = head_options 5 o (seek_number seek) (skip_number seek) five less (few_seeks seek) in
@@ -138,12 +138,12 @@ act_known h a b later =
         → nat_lt 5 (kind_part h)
         ≡ is_act_kind (cond five (Text (map cell_of (take a later)) (seek_known h)) (cond zero False (cond one True (cond two (Num a) (cond three (Range a b)
         (cond four (Mask a) (Act (action_known a) (b % 2 ^ 32))))))))
-    by true zero one two three four e5 e0 e1 e2 e3 e4 = grind (arith, nat_tests)
-    by false true one two three four e5 e0 e1 e2 e3 e4 = grind (arith, nat_tests)
-    by false false true two three four e5 e0 e1 e2 e3 e4 = grind (arith, nat_tests)
-    by false false false true three four e5 e0 e1 e2 e3 e4 = grind (arith, nat_tests)
-    by false false false false true four e5 e0 e1 e2 e3 e4 = grind (arith, nat_tests)
-    by false false false false false true e5 e0 e1 e2 e3 e4 = grind (arith, nat_tests)
+    by true zero one two three four e5 e0 e1 e2 e3 e4 = ap (nat_lt 5) (eqb-true (kind_part h) 5 e5)
+    by false true one two three four e5 e0 e1 e2 e3 e4 = ap (nat_lt 5) (eqb-true (kind_part h) 0 e0)
+    by false false true two three four e5 e0 e1 e2 e3 e4 = ap (nat_lt 5) (eqb-true (kind_part h) 1 e1)
+    by false false false true three four e5 e0 e1 e2 e3 e4 = ap (nat_lt 5) (eqb-true (kind_part h) 2 e2)
+    by false false false false true four e5 e0 e1 e2 e3 e4 = ap (nat_lt 5) (eqb-true (kind_part h) 3 e3)
+    by false false false false false true e5 e0 e1 e2 e3 e4 = ap (nat_lt 5) (eqb-true (kind_part h) 4 e4)
     by false false false false false false e5 e0 e1 e2 e3 e4 = grind (arith, nat_tests)
 
 -- the same if an opcode is passed over
@@ -193,7 +193,7 @@ text_room h p a b later r e = by (eqb b 0 && nat_le a (length later) && list_all
     by true k e =
         let m = and_parts (eqb b 0 && nat_le a (length later)) (list_all is_cell_word (take a later)) k in
         let n = and_parts (eqb b 0) (nat_le a (length later)) m.0 in
-        grind (arith, nat_tests, n.1)
+        leb-true a (length later) n.1
 
 room_in : (h p a b : ℕ) (later : List ℕ) (r : Opcode × List ℕ) → first_record (h ∷ p ∷ a ∷ b ∷ later) ≡ Some r → eqb (kind_part h) 5 ≡ true → a ≤ length later
 room_in h p a b later r e k = by (nat_lt p (2 ^ 32)) (eqb (kind_part h) 5) k e

@@ -2,7 +2,7 @@
 use Rattle.std.specs.Prelude.{◌==◌, ◌↔◌, IsTrue, Option, None, Some, option_map, option_and_then, is_some, unwrap_or}
 use Rattle.std.proofs.Common.{◌≡◌, ◌≢◌, ◌∙◌, ◌≤◌, ◌<◌, ℕ, zero, suc, true, false, List, [], ◌∷◌, ◌++◌, length, refl, ap, sym, subst, arith}
 use Rattle.std.specs.List.{list_all}
-use Rattle.std.proofs.lemmas.Bool.{and_parts, false≢true}
+use Rattle.std.proofs.lemmas.Bool.{and_parts, false≢true, ne_eqb}
 use Rattle.std.proofs.lemmas.Bool.Decides.{nat_tests}
 use Rattle.std.proofs.lemmas.List.{length-append, append-nil, append_assoc}
 use Rattle.sb_opcode.specs.Packing.{record_of, head_of, kind_words, packed, is_sized, PackingIsOneToOne}
@@ -87,9 +87,6 @@ there (Some ops) h = refl
 -- words that are packed are the packing of their opcodes
 pub opcodes_pack : (words : List ℕ) → is_packed words ≡ true → Packs words (opcodes_of words)
 opcodes_pack words h = within_packs (length words) words (opcodes_of words) (there (unpacked words) h)
-
-pub opcodes_there : (words : List ℕ) → is_packed words ≡ true → unpacked words ≡ Some (opcodes_of words)
-opcodes_there words h = there (unpacked words) h
 
 -- if words begin with a record, they are packed if the words after it are
 mapped_some : (op : Opcode) (o : Option (List Opcode)) → is_some (option_map (λ ops. op ∷ ops) o) ≡ is_some o
@@ -187,7 +184,7 @@ no_first (Some r) e = none_is_not_some r.1 e
 pub no_record : (words : List ℕ) → None ≡ option_map (λ r. r.1) (first_record words) → is_packed words ≡ (length words == 0)
 no_record [] e = refl
 no_record (word ∷ words) e =
-    let some : (length (word ∷ words) == 0) ≡ false = grind (arith, nat_tests) in
+    let some : (length (word ∷ words) == 0) ≡ false = ne_eqb (length (word ∷ words)) 0 (λ e. absurd (omega (arith, e))) in
     not_packed word words (no_first (first_record (word ∷ words)) e) ∙ sym some
 
 -- words that are not packed are the packing of no opcodes

@@ -3,8 +3,7 @@ use Rattle.std.specs.Prelude.{Option, None, Some, option_and_then, is_some, unwr
 use Rattle.std.specs.Option.{option_or}
 use Rattle.std.proofs.Common.{◌≡◌, ◌∙◌, ◌≤◌, ◌<◌, ℕ, ◌+◌, ◌-◌, zero, suc, Bool, true, false, cond, List, [], ◌∷◌, ◌++◌, length, drop, map, refl, ap, sym, subst, arith}
 use Rattle.std.proofs.Math.Seq.{drop-nil}
-use Rattle.std.proofs.lemmas.Bool.{false≢true}
-use Rattle.std.proofs.lemmas.Bool.Decides.{nat_tests}
+use Rattle.std.proofs.lemmas.Bool.{false≢true, le-leb, leb-true}
 use Rattle.std.proofs.lemmas.List.{drop-drop, drop_all, get_or-drop, length-append, length-drop, length-map}
 use Rattle.sb_rule.specs.declared.cells.Cell.{Cell}
 use Rattle.sb_rule.specs.declared.cells.Cell.TheVariants.{One, Any}
@@ -82,13 +81,13 @@ skip_leaves fold cells us rest n = (to (nat_le n (length us)) refl, there)
     to false h e = none_is_not_some rest e
     to true h e =
         let q = front fold cells (drop n us) rest e in
-        let inside : n ≤ length us = grind (arith, nat_tests) in
+        let inside : n ≤ length us = leb-true n (length us) h in
         (from_left fold cells us n (inside, q.0), sym q.1 ∙ follows cells us n)
 
     there : FitsAt fold cells us n × (rest ≡ drop (n + length cells) us) → after_seek (Skip n) fold cells us ≡ Some rest
     there f =
         let l = to_left fold cells us n f.0 in
-        let inside : nat_le n (length us) ≡ true = grind (arith, nat_tests, l.0) in
+        let inside : nat_le n (length us) ≡ true = le-leb n (length us) l.0 in
         (λ i. option_and_then (after_fragment fold cells) (cond (inside i) (Some (drop n us)) None))
         ∙ back fold cells (drop n us) l.1 ∙ ap Some (follows cells us n ∙ sym f.1)
 
@@ -232,14 +231,14 @@ end_is_last fold cells us rest = (to (nat_le (length cells) (length us)) refl, t
     to false h e = none_is_not_some rest e
     to true h e =
         let q = front fold cells (drop (length us - length cells) us) rest e in
-        let inside : length cells ≤ length us = grind (arith, nat_tests) in
+        let inside : length cells ≤ length us = leb-true (length cells) (length us) h in
         (from_left fold cells us (length us - length cells) (omega arith, q.0), sym q.1 ∙ nothing inside)
 
     there : FitsAt fold cells us (length us - length cells) × (rest ≡ []) → after_end fold cells us ≡ Some rest
     there f =
         let l = to_left fold cells us (length us - length cells) f.0 in
         let inside : length cells ≤ length us = omega (arith, f.0.0) in
-        let test : nat_le (length cells) (length us) ≡ true = grind (arith, nat_tests, inside) in
+        let test : nat_le (length cells) (length us) ≡ true = le-leb (length cells) (length us) inside in
         (λ i. cond (test i) (after_fragment fold cells (drop (length us - length cells) us)) None)
         ∙ back fold cells (drop (length us - length cells) us) l.1 ∙ ap Some (nothing inside ∙ sym f.1)
 

@@ -3,7 +3,7 @@ use Rattle.std.specs.Prelude.{Option, None, Some, option_map, is_some, unwrap_or
 use Rattle.std.proofs.Common.{◌≡◌, ◌∙◌, ◌≤◌, ◌<◌, ◌+◌, ◌*◌, ◌/◌, ◌^◌, ℕ, Bool, true, false, cond, List, [], ◌∷◌, ◌++◌, ◌&&◌, eqb, ltb, length, take, drop, map, refl, ap, sym, subst, arith}
 use Rattle.std.specs.Prelude.{nat_le, nat_lt, not}
 use Rattle.std.specs.List.{list_all}
-use Rattle.std.proofs.lemmas.Bool.{and_parts, eqb-true, false≢true}
+use Rattle.std.proofs.lemmas.Bool.{and_parts, eqb-true, false≢true, le-leb, leb-true, lt-ltb, ltb-true}
 use Rattle.std.proofs.lemmas.Bool.Decides.{nat_tests}
 use Rattle.std.proofs.lemmas.List.{length-append, length-map, length-take-le, take_at, drop_at, take-append-drop}
 use Rattle.sb_rule.specs.declared.cells.Cell.{Cell}
@@ -38,7 +38,7 @@ cell_back One h = refl
 cell_back Any h = refl
 
 cell_fits : (c : Cell) → is_sized_cell c ≡ true → is_cell_word (cell_word c) ≡ true
-cell_fits (Lit u) h = grind (arith, nat_tests)
+cell_fits (Lit u) h = let less : u < 65536 = ltb-true u 65536 h in le-leb u 65537 (omega (arith, less))
 cell_fits One h = refl
 cell_fits Any h = refl
 
@@ -47,7 +47,7 @@ word_back w h = by (ltb w 65536) (eqb w 65536) refl refl
   where
     by : (s t : Bool) → ltb w 65536 ≡ s → eqb w 65536 ≡ t → cell_word (cond s (Lit w) (cond t One Any)) ≡ w
     by true t e k = refl
-    by false true e k = grind (arith, nat_tests)
+    by false true e k = sym (eqb-true w 65536 k)
     by false false e k = grind (arith, nat_tests)
 
 word_fits : (w : ℕ) → is_cell_word w ≡ true → is_sized_cell (cell_of w) ≡ true
@@ -102,15 +102,15 @@ plain_whole : (h : ℕ) → h / 2 ^ 16 ≡ 0 → kind_part h + options_part h * 
 plain_whole h e = omega arith
 
 options_small : (h : ℕ) → nat_lt (options_part h) (2 ^ 8) ≡ true
-options_small h = grind (arith, nat_tests)
+options_small h = lt-ltb (options_part h) (2 ^ 8) (omega arith)
 
 -- a record of an opcode without cells
 plain_back : (k o p a b : ℕ) (later : List ℕ) (kind : OpKind) → k < 256 → eqb k 5 ≡ false → nat_lt o (2 ^ 8) ≡ true → nat_lt p (2 ^ 32) ≡ true
     → plain_kind k a b ≡ Some kind → first_record ((k + o * 2 ^ 8 + 0) ∷ p ∷ a ∷ b ∷ later) ≡ Some (record { kind = kind; param = p; options = options_of o }, later)
 plain_back k o p a b later kind hk h5 ho hp e =
-    let small : o < 256 = grind (arith, nat_tests) in
-    let k_is : kind_part (k + o * 2 ^ 8 + 0) ≡ k = omega arith in
-    let o_is : options_part (k + o * 2 ^ 8 + 0) ≡ o = omega arith in
+    let small : o < 256 = ltb-true o (2 ^ 8) ho in
+    let k_is : kind_part (k + o * 2 ^ 8 + 0) ≡ k = head_kind k o 0 0 hk small (omega arith) in
+    let o_is : options_part (k + o * 2 ^ 8 + 0) ≡ o = head_options k o 0 0 hk small (omega arith) in
     let none : (k + o * 2 ^ 8 + 0) / 2 ^ 16 ≡ 0 = omega arith in
     rw (hp, k_is, h5, none, o_is, e) refl
 
@@ -142,7 +142,7 @@ text_back : (o p : ℕ) (cells : List Cell) (seek : Seek) (later : List ℕ) →
     ≡ Some (record { kind = Text cells seek; param = p; options = options_of o }, later)
 text_back o p cells seek later ho hp hc hs =
     let h : ℕ = 5 + o * 2 ^ 8 + (seek_number seek * 2 ^ 16 + skip_number seek * 2 ^ 32) in
-    let small : o < 256 = grind (arith, nat_tests) in
+    let small : o < 256 = ltb-true o (2 ^ 8) ho in
     let five : 5 < 256 = omega arith in
     let k_is : kind_part h ≡ 5 = head_kind 5 o (seek_number seek) (skip_number seek) five small (few_seeks seek) in
     let o_is : options_part h ≡ o = head_options 5 o (seek_number seek) (skip_number seek) five small (few_seeks seek) in
@@ -152,7 +152,7 @@ text_back o p cells seek later ho hp hc hs =
     in
     let len : length (map cell_word cells) ≡ length cells = length-map cells cell_word in
     let room : nat_le (length cells) (length (map cell_word cells ++ later)) ≡ true =
-    grind (arith, nat_tests, len, length-append (map cell_word cells) later)
+    le-leb (length cells) (length (map cell_word cells ++ later)) (omega (arith, len, length-append (map cell_word cells) later))
     in
     let front : take (length cells) (map cell_word cells ++ later) ≡ map cell_word cells = take_at (map cell_word cells) later (length cells) len in
     let after : drop (length cells) (map cell_word cells ++ later) ≡ later = drop_at (map cell_word cells) later (length cells) len in
@@ -298,7 +298,7 @@ text_split h p a b later r hp h5 e = by (eqb b 0 && nat_le a (length later) && l
         let known = seek_known h q.0 q.1 in
         let m = and_parts (eqb b 0 && nat_le a (length later)) (list_all is_cell_word (take a later)) k in
         let n = and_parts (eqb b 0) (nat_le a (length later)) m.0 in
-        let room : a ≤ length later = grind (arith, nat_tests, n.1) in
+        let room : a ≤ length later = leb-true a (length later) n.1 in
         let zero : b ≡ 0 = eqb-true b 0 n.0 in
         let head : 5 + options_part h * 2 ^ 8 + (seek_number q.0 * 2 ^ 16 + skip_number q.0 * 2 ^ 32) ≡ h =
         rw (known.0, known.1, sym h5) (head_whole h)

@@ -1,10 +1,9 @@
 -- A code rule by rule: where its rules begin, and what one of them says.
 use Rattle.std.specs.Prelude.{not, None, Some, slice_index_or}
 use Rattle.std.specs.List.{flat_map, list_all, onto_first}
-use Rattle.std.proofs.Common.{◌≡◌, ◌≢◌, ◌∙◌, ◌≤◌, ◌<◌, ◌+◌, ◌-◌, ◌%◌, ◌^◌, ℕ, zero, suc, ltb, eqb, Bool, true, false, cond, List, [], ◌∷◌, ◌++◌, ◌&&◌, length, drop, refl, ap, sym, subst, arith}
-use Rattle.std.proofs.lemmas.Bool.{and_parts, and_from, not-true, false≢true}
+use Rattle.std.proofs.Common.{◌≡◌, ◌≢◌, ◌∙◌, ◌≤◌, ◌<◌, ◌+◌, ◌-◌, ◌%◌, ◌^◌, ℕ, zero, suc, ltb, Bool, true, false, cond, List, [], ◌∷◌, ◌++◌, ◌&&◌, length, drop, refl, ap, sym, subst, arith}
+use Rattle.std.proofs.lemmas.Bool.{and_parts, and_from, not-true, false≢true, ltb-false, ltb-true}
 use Rattle.std.proofs.lemmas.List.{append_assoc, length-append, drop-drop, drop_more, get_or_append_left, get_or_push}
-use Rattle.sb_call.specs.Arguments.{arg_at}
 use Rattle.sb_call.specs.declared.arguments.Arg.{Arg}
 use Rattle.sb_call.specs.declared.arguments.Arg.TheVariants as arg
 use Rattle.sb_call.specs.declared.tags.CallTag.{CallTag}
@@ -12,14 +11,13 @@ use Rattle.sb_rule.specs.declared.verdicts.Verdict.{Verdict}
 use Rattle.sb_rule.specs.declared.verdicts.Verdict.TheVariants.{Rule, NoRule}
 use Rattle.sb_opcode.specs.Faults.{fault_of}
 use Rattle.sb_opcode.specs.Groups.{is_act, is_act_kind, rules_of, groups_of, after_action}
-use Rattle.sb_opcode.specs.Meaning.{after_opcode, action_of_rule, judged_by, rule_holds, rule_verdict}
+use Rattle.sb_opcode.specs.Meaning.{action_of_rule, judged_by, rule_holds, rule_verdict}
 use Rattle.sb_opcode.specs.Opcodes.{Opcode, OpKind, False, True, Num, Range, Mask, Text, Act}
 use Rattle.sb_rule.specs.declared.actions.Action.{Action}
 use Rattle.sb_opcode.specs.Options.{has_options}
-use Rattle.sb_opcode.specs.Walking.{Standing, Between, Failed, all_so_far, closed, group_end, is_number, number_opcode, step, is_failed, walk, rule_walk, IsLone}
+use Rattle.sb_opcode.specs.Walking.{Standing, Between, Failed, closed, group_end, step, is_failed, walk, rule_walk, IsLone}
 use Rattle.sb_opcode.specs.WholeGroups.{PartsAreTheList, FaultlessCodesAreWhole, acts_at_end, is_whole_group, is_whole_rule}
-use Rattle.std.proofs.lemmas.Bool.Decides.{nat_tests}
-use Rattle.sb_opcode.specs.Beginnings.{AreBeginnings, AreFirst, IsBeginning}
+use Rattle.sb_opcode.specs.Beginnings.{AreFirst, IsBeginning}
 use Rattle.sb_opcode.specs.Packing.{packed, record_of}
 use Rattle.sb_opcode.specs.Unpacking.{is_packed, opcodes_of, action_known, first_known, opcode_known, passed_known}
 use Rattle.sb_opcode.proofs.KnownLemmas.{later_known, later_passed, opcode_known_first, opcode_passed}
@@ -54,18 +52,6 @@ failed_gives args (op ∷ ops) = by (is_act op) (step_failed op) (failed_gives a
 
 pub rule_failed : (args : List Arg) (t : Standing) (mid : List Opcode) (whole : Verdict) → is_failed t ≡ true → rule_walk args t mid ≡ whole → NoRule ≡ whole
 rule_failed args t mid whole f w = sym (failed_gives args mid) ∙ ap (λ u. rule_walk args u mid) (sym (failed_is t f)) ∙ w
-
--- after a group that tests for a number
-pub number_step : (args : List Arg) (param number : ℕ) → step args Between (number_opcode param number) ≡ group_end (is_number (arg_at args param) number)
-number_step args param number = by (arg_at args param)
-  where
-    by : (a : Arg) → closed false (all_so_far (after_opcode (number_opcode param number) a)) ≡ group_end (is_number a number)
-    by (arg.Num value) = same (eqb value number)
-      where
-        same : (b : Bool) → closed false (all_so_far (cond b (Some (arg.Num value)) None)) ≡ group_end b
-        same true = refl
-        same false = refl
-    by (arg.Str units) = refl
 
 -- after a first opcode that is a group of its own
 lone_walk : (args : List Arg) (words later : List ℕ) (op : Opcode) (whole : Verdict) (holds : Bool) → Some (op, later) ≡ first_known words
@@ -241,10 +227,10 @@ first_more words places place old new number d h = by (ltb number (length places
   where
     by : (b : Bool) → ltb number (length places) ≡ b → IsBeginning words number (slice_index_or (places ++ place ∷ []) number d)
     by true t =
-        let inside : number < length places = grind (arith, nat_tests, t) in
+        let inside : number < length places = ltb-true number (length places) t in
         subst (IsBeginning words number) (sym (get_or_append_left places (place ∷ []) d number inside)) (old number d inside)
     by false t =
-        let least : length places ≤ number = grind (arith, nat_tests, t) in
+        let least : length places ≤ number = ltb-false number (length places) t in
         let last : number ≡ length places = omega (arith, h, least, length-append places (place ∷ [])) in
         subst (λ p. IsBeginning words number p) (sym (get_or_push places place d number (sym last)))
         (subst (λ n. IsBeginning words n place) (sym last) new)
@@ -270,14 +256,6 @@ place_found words rest later places so_far some packed_later is suffix =
       omega (arith, many, so_far.3, ap length cut),
       first_more words places (length words - length rest) so_far.4 place,
     )
-
-pub all_found : (words rest places : List ℕ) → IsSoFar words rest places → length rest ≡ 0 → AreBeginnings words places
-all_found words rest places so_far none =
-    (omega (arith, so_far.3, ap (λ w. length (rules_of (opcodes_of w))) (empty rest none)), so_far.4)
-  where
-    empty : (w : List ℕ) → length w ≡ 0 → w ≡ []
-    empty [] e = refl
-    empty (x ∷ w) e = absurd (omega (arith, e))
 
 -- a rule of a code without a fault is whole
 pub rule_whole : (rules : List (List Opcode)) (number : ℕ) (d : List Opcode) → list_all is_whole_rule rules ≡ true → number < length rules

@@ -4,8 +4,7 @@ use Rattle.std.specs.Bool.{beq}
 use Rattle.std.specs.List.{list_all, onto_first, prefix_len}
 use Rattle.std.specs.Option.{option_or}
 use Rattle.std.proofs.Common.{◌≡◌, ◌∙◌, cond, ltb, refl, ap, sym, arith}
-use Rattle.std.proofs.lemmas.Bool.{and_parts, and_from, eqb-true, false≢true}
-use Rattle.std.proofs.lemmas.Bool.Decides.{nat_tests}
+use Rattle.std.proofs.lemmas.Bool.{and_parts, and_from, eqb-true, false≢true, le-ltb}
 use Rattle.std.proofs.lemmas.Nat.{and_assoc}
 use Rattle.sb_call.specs.declared.tags.CallTag.{CallTag}
 use Rattle.sb_opcode.specs.Faults.{fault_of, ends_with_act, differs, is_open, is_unfit, is_text_kind, is_misplaced, with_before}
@@ -208,9 +207,6 @@ alike_same op next h =
     let p = and_parts (op.param == next.param) (beq (has op.options OR) (has next.options OR)) h in
     λ i. not (p.0 i) || not (p.1 i)
 
-closed_so : (b : Bool) → (false && b) ≡ false
-closed_so b = refl
-
 -- an opcode leaves no group open, and what follows it is whole
 step : (before : Option Opcode) (op : Opcode) (ops : List Opcode) → whole_after before (rules_of (op ∷ ops)) ≡ true
     → (not (is_open (before, op)) ≡ true) × (whole_after (Some op) (rules_of ops) ≡ true)
@@ -243,7 +239,7 @@ all_before test (x ∷ xs) h =
     ap (λ b. cond b (1 + prefix_len test xs) 0) p.0 ∙ omega (arith, later)
 
 not_below : (n : ℕ) → ltb n n ≡ false
-not_below n = grind (arith, nat_tests)
+not_below n = le-ltb n n (omega arith)
 
 none_found : {X : Type 0} (test : X → Bool) (xs : List X) → list_all (λ x. not (test x)) xs ≡ true → position test xs ≡ None
 none_found test xs h =

@@ -5,7 +5,7 @@ use sb_rule::Action;
 
 /// Where in a string the fragment of a text opcode is to be. The position is 0 at the beginning of a group, and after
 /// an opcode it is where that opcode's fragment ended.
-#[derive(Clone, Copy, Debug)]
+#[derive(Clone, Copy)]
 pub enum Seek {
     /// This many units after the position.
     Skip(u16),
@@ -16,7 +16,7 @@ pub enum Seek {
 }
 
 /// What an opcode does. The cells of a fragment are words: a unit is itself, `?` is 65536, and any greater word is `*`.
-#[derive(Clone, Copy, Debug)]
+#[derive(Clone, Copy)]
 pub enum OpKind<'a> {
     /// Never holds.
     False,
@@ -36,7 +36,7 @@ pub enum OpKind<'a> {
 
 /// An opcode: what it does, the parameter of the call that it looks at, and its options. It borrows the cells of its
 /// fragment from the words in which it is packed.
-#[derive(Clone, Copy, Debug)]
+#[derive(Clone, Copy)]
 pub struct Opcode<'a> {
     /// What it does.
     pub kind: OpKind<'a>,
@@ -47,7 +47,7 @@ pub struct Opcode<'a> {
 }
 
 /// At what an opcode looks, and how: the parameter and the options.
-#[derive(Clone, Copy, Debug)]
+#[derive(Clone, Copy)]
 pub struct Look {
     /// The parameter, from 0.
     pub param: u32,

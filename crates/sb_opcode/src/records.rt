@@ -57,7 +57,12 @@ fn is_plain_kind(kind: u64, first: u64, second: u64) -> bool
 fn are_cells(words: &[u64]) -> bool
     ensures { result ≡ list_all is_cell_word words.now }
 {
-    words.iter().all(|word| *word <= LAST_CELL)
+    for word in words {
+        if *word > LAST_CELL {
+            return false;
+        }
+    }
+    true
 }
 
 fn after_plain(head: u64, param: u64, first: u64, second: u64, later: &[u64]) -> Option<&[u64]>

@@ -3,7 +3,7 @@ ghost use Rattle.std.specs.Prelude.{◌≡◌};
 ghost use Rattle.sb_rule.specs.Actions.{action_number, action_word};
 
 /// What a rule does with a call. Each action has a number by which compiled rules name it.
-#[derive(Clone, Copy, Debug, PartialEq, Eq)]
+#[derive(Clone, Copy, PartialEq)]
 pub enum Action {
     /// The call is performed.
     Allow = 0,

@@ -27,7 +27,12 @@ fn is_text_unit(unit: u16) -> bool
 fn are_text_units(units: &[u16]) -> bool
     ensures { result ≡ list_all is_text_unit units.now }
 {
-    units.iter().all(|unit| is_text_unit(*unit))
+    for unit in units {
+        if !is_text_unit(*unit) {
+            return false;
+        }
+    }
+    true
 }
 
 fn is_policy_text(units: &[u16]) -> bool
@@ -119,7 +124,12 @@ fn is_well_formed(tag: CallTag, cond: &Cond) -> bool
 fn are_well_formed(tag: CallTag, conds: &[Cond]) -> bool
     ensures { result ≡ list_all (is_well_formed tag) conds.now }
 {
-    conds.iter().all(|cond| is_well_formed(tag, cond))
+    for cond in conds {
+        if !is_well_formed(tag, cond) {
+            return false;
+        }
+    }
+    true
 }
 
 /// Whether a rule for this call may have this action: `readonly` is for calls that open alone.
@@ -162,7 +172,12 @@ pub fn well_made(policy: &Policy) -> bool
 fn is_named(policies: &[Policy], name: &ShortName) -> bool
     ensures { result ≡ list_any (is_named name.now) policies.now }
 {
-    policies.iter().any(|policy| policy.name == *name)
+    for policy in policies {
+        if policy.name == *name {
+            return true;
+        }
+    }
+    false
 }
 
 fn are_named_apart(policies: &[Policy]) -> bool

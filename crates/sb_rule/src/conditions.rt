@@ -10,7 +10,6 @@ pub type Numbers = Items<u64>;
 
 /// A test of one argument. The first three are of a number, the others of a string; a test of the other kind of argument
 /// does not hold.
-#[derive(PartialEq)]
 pub enum Test {
     /// The number is one of these.
     OneOf(Numbers),
@@ -51,7 +50,6 @@ impl Clone for Test {
 }
 
 /// A condition: a test of the argument of one parameter, or the opposite of it.
-#[derive(PartialEq)]
 pub struct Cond {
     /// The parameter, numbered from 0.
     pub param: u32,

@@ -9,7 +9,6 @@ use sb_call::{CallTag, ShortName, number_of};
 use std::alloc::AllocError;
 
 /// A rule: for the calls of one tag for which all its conditions hold, an action.
-#[derive(PartialEq)]
 pub struct Rule {
     /// The calls that it is for.
     pub tag: CallTag,
@@ -58,7 +57,6 @@ impl Clone for Rule {
 pub type Rules = Items<Rule>;
 
 /// A policy.
-#[derive(PartialEq)]
 pub struct Policy {
     /// Its name.
     pub name: ShortName,
@@ -87,7 +85,6 @@ impl Clone for Policy {
 pub type PolicyList = Items<Policy>;
 
 /// The policies that targets name by their numbers.
-#[derive(PartialEq)]
 pub struct Policies {
     /// The policies, numbered from 0.
     pub list: PolicyList,

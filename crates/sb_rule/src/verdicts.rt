@@ -11,7 +11,7 @@ use sb_base::eq_ignore_ascii_case;
 use sb_call::{Arg, CallTag};
 
 /// What a policy says of a call.
-#[derive(Clone, Copy, Debug, PartialEq, Eq)]
+#[derive(Clone, Copy, PartialEq)]
 pub enum Verdict {
     /// The rule on this line decided, with its action.
     Rule { line: u32, action: Action },
@@ -22,7 +22,12 @@ pub enum Verdict {
 fn is_one_of(numbers: &[u64], value: u64) -> bool
     ensures { result ≡ list_any (λ n. n == value) numbers.now }
 {
-    numbers.iter().any(|number| *number == value)
+    for number in numbers {
+        if *number == value {
+            return true;
+        }
+    }
+    false
 }
 
 fn test_holds(test: &Test, arg: &Arg) -> bool
@@ -60,7 +65,12 @@ fn cond_holds(cond: &Cond, args: &[Arg]) -> bool
 fn conds_hold(conds: &[Cond], args: &[Arg]) -> bool
     ensures { result ≡ list_all (λ cond. cond_holds cond args.now) conds.now }
 {
-    conds.iter().all(|cond| cond_holds(cond, args))
+    for cond in conds {
+        if !cond_holds(cond, args) {
+            return false;
+        }
+    }
+    true
 }
 
 fn rule_holds(rule: &Rule, tag: CallTag, args: &[Arg]) -> bool
