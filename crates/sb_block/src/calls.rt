@@ -8,7 +8,8 @@ ghost use Rattle.sb_block.specs.Layout.{most_words};
 use crate::copies::BlockCopy;
 use crate::faults::{BlockFault, fault_of};
 use crate::layout::{descriptors, tag_word};
-use crate::packing::{number_in, string_in, type_of};
+use crate::packing::{number_in, type_of, unpack_string};
+use arrayvec::ArrayVec;
 use sb_base::{NoMemory, Refused, Wide};
 use sb_call::{Arg, Args, CallTag, tag_of};
 use std::alloc::Global;
@@ -33,7 +34,8 @@ fn argument_in(alloc: Global, words: &[u64], descriptor: u64) -> Result<Arg, NoM
 {
     match type_of(descriptor) {
         1 => {
-            let units = string_in(words, descriptor);
+            let mut units = ArrayVec::new();
+            unpack_string(&mut units, words, descriptor);
             Ok(Arg::Str(Wide::from_units(alloc, units.as_slice())?))
         }
         2 => Ok(Arg::Num(number_in(words, descriptor) & 0xffff_ffff)),

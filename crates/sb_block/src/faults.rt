@@ -9,7 +9,8 @@ use crate::copies::BlockCopy;
 use crate::layout::{
     MOST_PARAMETERS, count_in, descriptors, end_in, first_offset, is_end, tag_word,
 };
-use crate::packing::{offset_of, size_of, string_in, type_of, words_for};
+use crate::packing::{offset_of, size_of, type_of, unpack_string, words_for};
+use arrayvec::ArrayVec;
 use sb_base::is_name;
 use sb_call::{ParamKind, shape, tag_of};
 use thiserror::Error;
@@ -113,7 +114,11 @@ fn is_unnamed(kind: ParamKind, descriptor: u64, words: &[u64]) -> bool
     ensures { result ≡ is_unnamed kind descriptor words.now }
 {
     match kind {
-        ParamKind::Name => !is_name(string_in(words, descriptor).as_slice()),
+        ParamKind::Name => {
+            let mut units = ArrayVec::new();
+            unpack_string(&mut units, words, descriptor);
+            !is_name(units.as_slice())
+        }
         _ => false,
     }
 }

@@ -1,5 +1,5 @@
 // Information words, and the words of a parameter.
-ghost use Rattle.std.specs.Prelude.{◌≡◌, ◌<◌, ◌≤◌, ◌+◌, ◌*◌, ◌^◌, length, slice_index, drop};
+ghost use Rattle.std.specs.Prelude.{◌≡◌, ◌<◌, ◌≤◌, ◌+◌, ◌*◌, ◌^◌, [], length, slice_index, drop};
 ghost use Rattle.sb_block.specs.Packing.{type_of, offset_of, size_of, descriptor, words_for, unit_word, part_of, unpacked, string_in, number_in};
 ghost use Rattle.sb_block.specs.Layout.{most_words};
 
@@ -94,12 +94,12 @@ fn from(words: &[u64], offset: u64) -> &[u64]
     }
 }
 
-/// The first `count` units of words, four units in each, or as many as there are.
-fn unpacked(words: &[u64], count: usize) -> ArrayVec<u16, 256>
-    requires { length words.now ≤ most_words }
-    ensures { result.items ≡ unpacked count words.now }
+/// Puts the first `count` units of words, four units in each, or as many as there are, into an empty array.
+fn unpack(units: &mut ArrayVec<u16, 256>, words: &[u64], count: usize)
+    requires empty { units.old.items ≡ [] }
+    requires few { length words.now ≤ most_words }
+    ensures { units.new.items ≡ unpacked count words.now }
 {
-    let mut units = ArrayVec::new();
     for word in words {
         units.push((*word & 0xffff) as u16);
         units.push((*word >> 16 & 0xffff) as u16);
@@ -107,17 +107,17 @@ fn unpacked(words: &[u64], count: usize) -> ArrayVec<u16, 256>
         units.push((*word >> 48) as u16);
     }
     units.truncate(count);
-    units
 }
 
-/// The units of the string that a descriptor describes.
-pub fn string_in(words: &[u64], descriptor: u64) -> ArrayVec<u16, 256>
-    requires { length words.now ≤ most_words }
-    ensures { result.items ≡ string_in descriptor words.now }
+/// Puts the units of the string that a descriptor describes into an empty array.
+pub fn unpack_string(units: &mut ArrayVec<u16, 256>, words: &[u64], descriptor: u64)
+    requires empty { units.old.items ≡ [] }
+    requires few { length words.now ≤ most_words }
+    ensures { units.new.items ≡ string_in descriptor words.now }
 {
     let size = size_of(descriptor);
     let part = part_of(words, offset_of(descriptor), words_for(size));
-    unpacked(part, (size / 2) as usize)
+    unpack(units, part, (size / 2) as usize);
 }
 
 /// The word at the offset of a descriptor, or 0 past the end.

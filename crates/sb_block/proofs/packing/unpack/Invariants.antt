@@ -1,7 +1,7 @@
 use Rattle.std.proofs.Common.{◌≡◌, ◌*◌, ◌≤◌, length, take}
 use Rattle.std.specs.List.{flat_map}
 use Rattle.sb_block.specs.Packing.{word_units}
-use Rattle.sb_block.proofs.packing.unpacked.Given as goal
+use Rattle.sb_block.proofs.packing.unpack.Given as goal
 
 abbrev pub invariant-loop-word : goal.invariant-loop-word
 invariant-loop-word l =
