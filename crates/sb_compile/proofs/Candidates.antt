@@ -2,8 +2,7 @@
 use Rattle.std.specs.Prelude.{slice_index_or}
 use Rattle.std.specs.List.{list_all}
 use Rattle.std.proofs.Common.{◌≡◌, ◌∙◌, ◌≤◌, ◌<◌, ◌+◌, ◌-◌, ℕ, zero, suc, Bool, true, false, cond, List, [], ◌∷◌, ◌&&◌, eqb, ltb, filter, length, map, drop, refl, ap, sym, subst, arith}
-use Rattle.std.proofs.lemmas.Bool.{and_parts, and_from}
-use Rattle.std.proofs.lemmas.Bool.Decides.{nat_tests}
+use Rattle.std.proofs.lemmas.Bool.{and_parts, and_from, ltb-false, ltb-true}
 use Rattle.std.proofs.lemmas.List.{get_or-map, drop_more}
 use Rattle.sb_call.specs.Arguments.{fits, FittingArgsAreOfTheirKinds}
 use Rattle.sb_call.specs.Tags.{number_of, TagsComeBack}
@@ -99,10 +98,10 @@ all_dropped zero (x ∷ xs) e = absurd (omega (arith, e))
 all_dropped (suc at) (x ∷ xs) e = all_dropped at xs (omega (arith, e))
 
 inside : (at n : ℕ) → ltb at n ≡ true → at < n
-inside at n t = grind (arith, nat_tests, t)
+inside at n t = ltb-true at n t
 
 outside : (at n : ℕ) → ltb at n ≡ false → n ≤ at
-outside at n t = grind (arith, nat_tests, t)
+outside at n t = ltb-false at n t
 
 -- rules that do not hold are left out without loss
 skip_one : (args : List Arg) (rules : List (List Opcode)) (at : ℕ) → (at < length rules → rule_holds args (slice_index_or rules at []) ≡ false)

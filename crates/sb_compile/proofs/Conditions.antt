@@ -166,9 +166,6 @@ kind_fits kind.Handle (arg.Num n) true f b = refl
 kind_fits kind.Handle (arg.Num n) false f b = absurd (false≢true b)
 kind_fits kind.Handle (arg.Str us) numeric f b = absurd (false≢true f)
 
-turn : (negated holds : Bool) → negate_if negated holds ≡ cond negated (not holds) holds
-turn negated holds = refl
-
 -- the group of a well-formed condition holds if the condition does
 pub cond_means : (kinds : FittingArgsAreOfTheirKinds) (tag : CallTag) (args : List Arg) (c : Cond) → fits tag args ≡ true → is_well_formed tag c ≡ true
     → group_holds args (cond_code c) ≡ cond_holds c args

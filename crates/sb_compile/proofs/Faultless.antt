@@ -4,8 +4,7 @@ use Rattle.std.specs.List.{flat_map, list_all, position, prefix_len}
 use Rattle.std.specs.Option.{option_or}
 use Rattle.std.specs.Prelude.{Option, None, Some, option_map, nat_le}
 use Rattle.std.proofs.Common.{◌≡◌, ◌≢◌, ◌∙◌, ℕ, ◌+◌, Bool, true, false, not, cond, List, [], ◌∷◌, ◌++◌, ◌&&◌, ◌||◌, eqb, ltb, filter, length, refl, ap, sym, subst, arith}
-use Rattle.std.proofs.lemmas.Bool.{and_parts, false≢true}
-use Rattle.std.proofs.lemmas.Bool.Decides.{nat_tests}
+use Rattle.std.proofs.lemmas.Bool.{and_parts, false≢true, le-ltb}
 use Rattle.std.proofs.lemmas.List.{append_assoc}
 use Rattle.std.proofs.lemmas.List.Folds.{list_all-append}
 use Rattle.sb_call.specs.Tags.{TagsComeBack}
@@ -178,7 +177,7 @@ all_before test (x ∷ xs) h =
     ap (λ b. cond b (1 + prefix_len test xs) 0) p.0 ∙ omega (arith, later)
 
 not_below : (n : ℕ) → ltb n n ≡ false
-not_below n = grind (arith, nat_tests)
+not_below n = le-ltb n n (omega arith)
 
 none_found : {X : Type 0} (test : X → Bool) (xs : List X) → list_all (λ x. not (test x)) xs ≡ true → position test xs ≡ None
 none_found test xs h =

@@ -2,8 +2,7 @@
 use Rattle.std.specs.Prelude.{nat_le, nat_lt, bit_or}
 use Rattle.std.specs.List.{flat_map, list_all, prefix_len}
 use Rattle.std.proofs.Common.{◌≡◌, ◌∙◌, ◌≤◌, ◌<◌, ◌^◌, ℕ, Bool, true, false, not, cond, eqb, ltb, ◌&&◌, ◌||◌, zero, suc, List, [], ◌∷◌, ◌++◌, drop, filter, length, map, refl, ap, sym, subst, arith}
-use Rattle.std.proofs.lemmas.Bool.{and_parts, false≢true}
-use Rattle.std.proofs.lemmas.Bool.Decides.{nat_tests}
+use Rattle.std.proofs.lemmas.Bool.{and_parts, false≢true, leb-true, lt-ltb, ltb-true}
 use Rattle.std.proofs.lemmas.List.Folds.{list_all-append}
 use Rattle.std.proofs.lemmas.List.Sums.{prefix_len-le-length}
 use Rattle.sb_base.specs.Wide.{is_unit}
@@ -108,7 +107,7 @@ run_short run [] = omega arith
 run_short run (next ∷ runs) = part_short run (Any ∷ joined next runs)
 
 small_skip : (run : List Cell) → length run ≤ 256 → is_word64 (prefix_len is_one run) ≡ true
-small_skip run h = let less = prefix_len-le-length is_one run in let small : prefix_len is_one run < 2 ^ 64 = omega (arith, less, h) in grind (arith, nat_tests, small)
+small_skip run h = let less = prefix_len-le-length is_one run in lt-ltb (prefix_len is_one run) (2 ^ 64) (omega (arith, less, h))
 
 fragment_rest : (n : ℕ) (cells : List Cell) → is_fragment cells ≡ true → is_fragment (drop n cells) ≡ true
 fragment_rest zero cells h = h
@@ -172,7 +171,7 @@ pattern_listable param cells s sensible sized =
     ∙ runs_listable param r.first r.others s told (short (length r.first) (length cells) (length (text_of cells)) whole (texts_long cells) q.0)
   where
     short : (a b c : ℕ) → a ≤ b → b ≤ c → nat_le c 256 ≡ true → a ≤ 256
-    short a b c h k l = grind (arith, nat_tests)
+    short a b c h k l = omega (arith, h, k, leb-true c 256 l)
 
 test_listable : (param : ℕ) (test : Test) → is_word64 param ≡ true → is_sensible test ≡ true → is_sized_test test ≡ true → are_listable (test_code param test) ≡ true
 test_listable param (test.OneOf []) s sensible sized = refl
@@ -198,7 +197,7 @@ few_params EventOpen = refl
 few_params HandleClose = refl
 
 small_param : (param count : ℕ) → nat_lt param count ≡ true → nat_le count 9 ≡ true → is_word64 param ≡ true
-small_param param count h few = grind (arith, nat_tests)
+small_param param count h few = lt-ltb param (2 ^ 64) (omega (arith, ltb-true param count h, leb-true count 9 few))
 
 -- what the last opcode of a group gains is one of the five options
 ends_small : (negated : Bool) (n : ℕ) → n < 32 → ltb (bit_or n (end_bits negated)) 32 ≡ true
@@ -206,7 +205,7 @@ ends_small true n h = below_all (λ k. ltb (bit_or k (end_bits true)) 32) 32 n r
 ends_small false n h = below_all (λ k. ltb (bit_or k (end_bits false)) 32) 32 n refl h
 
 below : (m n : ℕ) → ltb m n ≡ true → m < n
-below m n h = grind (arith, nat_tests)
+below m n h = ltb-true m n h
 
 end_listable : (negated : Bool) (op : Opcode) → is_listable op ≡ true → is_listable (with_options (end_bits negated) op) ≡ true
 end_listable negated op h =

@@ -4,7 +4,7 @@ use Rattle.std.specs.List.{list_all, prefix_len}
 use Rattle.std.specs.Option.{option_or}
 use Rattle.std.proofs.Common.{◌≡◌, ◌∙◌, ℕ, ◌-◌, zero, suc, Bool, true, false, not, cond, List, [], ◌∷◌, ◌++◌, ◌&&◌, ◌||◌, eqb, leb, length, drop, map, refl, ap, sym, arith}
 use Rattle.std.proofs.Math.Seq.{drop-nil}
-use Rattle.std.proofs.lemmas.Bool.{false≢true}
+use Rattle.std.proofs.lemmas.Bool.{false≢true, eq-eqb, eqb-true, le-leb, leb-false, leb-true, lt-leb, ne_eqb}
 use Rattle.std.proofs.lemmas.Bool.Decides.{nat_tests}
 use Rattle.sb_base.specs.Wide.{folded, is_same}
 use Rattle.sb_rule.specs.Chunks.{is_any}
@@ -113,10 +113,10 @@ first_place run later (u ∷ us) free =
 
 -- this many units
 pub units_none : (us : List ℕ) → after_units 0 us ≡ Some us
-units_none us = let e : leb 0 (length us) ≡ true = grind (arith, nat_tests) in ap (λ b. cond b (Some us) None) e
+units_none us = let e : leb 0 (length us) ≡ true = le-leb 0 (length us) (omega arith) in ap (λ b. cond b (Some us) None) e
 
 units_short : (n : ℕ) → after_units (suc n) [] ≡ None
-units_short n = let e : leb (suc n) 0 ≡ false = grind (arith, nat_tests) in ap (λ b. cond b (Some []) None) e
+units_short n = let e : leb (suc n) 0 ≡ false = lt-leb (suc n) 0 (omega arith) in ap (λ b. cond b (Some []) None) e
 
 units_step : (n u : ℕ) (us : List ℕ) → after_units (suc n) (u ∷ us) ≡ after_units n us
 units_step n u us = let e : leb (suc n) (suc (length us)) ≡ leb n (length us) = grind (arith, nat_tests) in ap (λ b. cond b (Some (drop n us)) None) e
@@ -151,10 +151,10 @@ free_alone (Lit w ∷ run) (u ∷ us) free = by (eqb (folded u) (folded w)) (fre
     by false e = refl
 
 uneven : (n : ℕ) → eqb 0 (suc n) ≡ false
-uneven n = grind (arith, nat_tests)
+uneven n = ne_eqb 0 (suc n) (λ e. absurd (omega (arith, e)))
 
 uneven_too : (n : ℕ) → eqb (suc n) 0 ≡ false
-uneven_too n = grind (arith, nat_tests)
+uneven_too n = ne_eqb (suc n) 0 (λ e. absurd (omega (arith, e)))
 
 even : (n m : ℕ) → eqb (suc n) (suc m) ≡ eqb n m
 even n m = grind (arith, nat_tests)
@@ -190,14 +190,14 @@ end_step : (run : List Cell) (u : ℕ) (us : List ℕ) (low same high : Bool)
     → leb (length run) (length us) ≡ low → eqb (length run) (suc (length us)) ≡ same → leb (length run) (suc (length us)) ≡ high
     → ((same && is_some (after_fragment true run (u ∷ us))) || is_some (cond low (after_fragment true run (drop (length us - length run) us)) None))
     ≡ is_some (cond high (after_fragment true run (drop (suc (length us) - length run) (u ∷ us))) None)
-end_step run u us true true high l s h = absurd (grind (arith, nat_tests))
-end_step run u us true false false l s h = absurd (grind (arith, nat_tests))
+end_step run u us true true high l s h = absurd (omega (arith, leb-true (length run) (length us) l, eqb-true (length run) (suc (length us)) s))
+end_step run u us true false false l s h = absurd (omega (arith, leb-true (length run) (length us) l, leb-false (length run) (suc (length us)) h))
 end_step run u us true false true l s h =
-    let e : suc (length us) - length run ≡ suc (length us - length run) = grind (arith, nat_tests) in
+    let e : suc (length us) - length run ≡ suc (length us - length run) = omega (arith, leb-true (length run) (length us) l) in
     ap (λ n. is_some (after_fragment true run (drop n (u ∷ us)))) (sym e)
-end_step run u us false true false l s h = absurd (grind (arith, nat_tests))
+end_step run u us false true false l s h = absurd (omega (arith, eqb-true (length run) (suc (length us)) s, leb-false (length run) (suc (length us)) h))
 end_step run u us false true true l s h =
-    let e : suc (length us) - length run ≡ 0 = grind (arith, nat_tests) in
+    let e : suc (length us) - length run ≡ 0 = omega (arith, eqb-true (length run) (suc (length us)) s) in
     always_or (is_some (after_fragment true run (u ∷ us))) ∙ ap (λ n. is_some (after_fragment true run (drop n (u ∷ us)))) (sym e)
 end_step run u us false false true l s h = absurd (grind (arith, nat_tests))
 end_step run u us false false false l s h = refl
@@ -210,8 +210,8 @@ at_the_end run [] free =
     none_step : (same low : Bool) → eqb (length run) 0 ≡ same → leb (length run) 0 ≡ low
         → (same && is_some (after_fragment true run [])) ≡ is_some (cond low (after_fragment true run (drop (0 - length run) [])) None)
     none_step true true s l = ap (λ us. is_some (after_fragment true run us)) (sym (drop-nil (0 - length run)))
-    none_step true false s l = absurd (grind (arith, nat_tests))
-    none_step false true s l = absurd (grind (arith, nat_tests))
+    none_step true false s l = absurd (omega (arith, eqb-true (length run) 0 s, leb-false (length run) 0 l))
+    none_step false true s l = absurd (false≢true (sym s ∙ eq-eqb (length run) 0 (omega (arith, leb-true (length run) 0 l))))
     none_step false false s l = refl
 at_the_end run (u ∷ us) free =
     (λ i. free_whole run (u ∷ us) free i || at_the_end run us free i)

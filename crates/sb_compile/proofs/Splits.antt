@@ -2,7 +2,7 @@
 use Rattle.std.specs.Fmt.{decimal, digits, digits_onto, digit_glyph}
 use Rattle.std.specs.List.{list_all}
 use Rattle.std.proofs.Common.{◌≡◌, ◌∙◌, ℕ, ◌/◌, ◌%◌, ◌^◌, ◌<◌, ◌≤◌, Bool, true, false, not, cond, eqb, ltb, ◌&&◌, List, [], ◌∷◌, ◌++◌, drop, get_or, refl, ap, sym, zero, suc, arith}
-use Rattle.std.proofs.lemmas.Bool.{and_parts, false≢true}
+use Rattle.std.proofs.lemmas.Bool.{and_parts, false≢true, ltb-true}
 use Rattle.std.proofs.lemmas.Bool.Decides.{nat_tests}
 use Rattle.std.proofs.lemmas.Fmt.{digits_is_IsNumeral}
 use Rattle.std.specs.Str.Parse.{digits_value}
@@ -86,7 +86,7 @@ unfolding digits
 digits_letters base n = onto_letters 64 base n [] refl
 
 below : (n : ℕ) → is_word64 n ≡ true → n < 2 ^ 64
-below n h = grind (arith, nat_tests)
+below n h = ltb-true n (2 ^ 64) h
 
 digits_differ : (base m n : ℕ) → 2 ≤ base → base ≤ 16 → m < base ^ 64 → n < base ^ 64 → digits base false m ≡ digits base false n → m ≡ n
 digits_differ base m n low high hm hn e =

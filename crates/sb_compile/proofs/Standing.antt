@@ -33,7 +33,7 @@ pub number_at : (policies : List Policy) (numbers : List ℕ) (target : ℕ) →
     → policy_at (policies_in policies numbers) target ≡ policy_at policies (slice_index_or numbers target 0)
 number_at policies [] target h = absurd (omega (arith, h))
 number_at policies (n ∷ numbers) zero h = refl
-number_at policies (n ∷ numbers) (suc target) h = number_at policies numbers target (grind (arith, h))
+number_at policies (n ∷ numbers) (suc target) h = number_at policies numbers target (omega (arith, h))
 
 -- each target has a number
 pub as_many : (policies : List Policy) (numbers : List ℕ) → length (policies_in policies numbers) ≡ length numbers

@@ -2,7 +2,7 @@
 use Rattle.std.specs.Prelude.{Option, None, Some, position}
 use Rattle.std.specs.List.{slice_split, onto_first, prefix_len}
 use Rattle.std.proofs.Common.{◌≡◌, ◌∙◌, ◌≤◌, ℕ, ◌+◌, suc, Bool, true, false, not, cond, List, [], ◌∷◌, ltb, length, take, drop, refl, ap, sym, arith}
-use Rattle.std.proofs.lemmas.Bool.{false≢true}
+use Rattle.std.proofs.lemmas.Bool.{false≢true, lt-ltb, ltb-true}
 use Rattle.std.proofs.lemmas.Bool.Decides.{nat_tests}
 use Rattle.sb_rule.specs.Chunks.{is_any}
 use Rattle.sb_rule.specs.declared.cells.Cell.{Cell}
@@ -31,7 +31,7 @@ cut_more c cells =
 cut_at : (cells : List Cell) → slice_split is_any cells ≡ parts_at cells (before_star cells)
 cut_at [] = refl
 cut_at (Any ∷ cells) =
-    let e : ltb 0 (suc (length cells)) ≡ true = grind (arith, nat_tests) in
+    let e : ltb 0 (suc (length cells)) ≡ true = lt-ltb 0 (suc (length cells)) (omega arith) in
     ap (λ b. cond b ([] ∷ slice_split is_any cells) ((Any ∷ cells) ∷ [])) (sym e)
 cut_at (One ∷ cells) = ap (onto_first One) (cut_at cells) ∙ sym (cut_more One cells)
 cut_at (Lit u ∷ cells) = ap (onto_first (Lit u)) (cut_at cells) ∙ sym (cut_more (Lit u) cells)
@@ -63,7 +63,7 @@ first_star cells at h =
     cut_at cells ∙ some_step (ltb n (length cells)) n at (λ k. take k cells ∷ slice_split is_any (drop 1 (drop k cells))) (cells ∷ []) h
 
 below_step : (b : Bool) (n at size : ℕ) → ltb n size ≡ b → cond b (Some n) None ≡ Some at → at + 1 ≤ size
-below_step true n at size e h = let p : n ≡ at = ap place_in h in grind (arith, nat_tests)
+below_step true n at size e h = let p : n ≡ at = ap place_in h in omega (arith, p, ltb-true n size e)
 below_step false n at size e h = absurd (false≢true (ap is_some_place h))
 
 pub star_below : (cells : List Cell) (at : ℕ) → position is_any cells ≡ Some at → at + 1 ≤ length cells

@@ -1,8 +1,7 @@
 -- The text of a fragment tells its cells.
 use Rattle.std.specs.List.{list_all}
-use Rattle.std.proofs.Common.{◌≡◌, ◌∙◌, ℕ, Bool, true, false, not, cond, eqb, ◌&&◌, List, [], ◌∷◌, ◌++◌, drop, get_or, refl, ap, sym, arith}
-use Rattle.std.proofs.lemmas.Bool.{and_parts, false≢true}
-use Rattle.std.proofs.lemmas.Bool.Decides.{nat_tests}
+use Rattle.std.proofs.Common.{◌≡◌, ◌∙◌, ℕ, Bool, true, false, not, cond, eqb, ◌&&◌, List, [], ◌∷◌, ◌++◌, drop, get_or, refl, ap, sym}
+use Rattle.std.proofs.lemmas.Bool.{and_parts, false≢true, eqb-true}
 use Rattle.sb_base.specs.Wide.{is_unit}
 use Rattle.sb_rule.specs.PatternReading.{cell_text, text_of, begins_with_one}
 use Rattle.sb_rule.specs.declared.cells.Cell.{Cell}
@@ -51,7 +50,7 @@ is_told u rest = not (eqb u 47 && eqb (get_or rest 0 0) 63)
 
 same_literal : (b c : Bool) (u v : ℕ) (r s : List ℕ) → eqb u 63 ≡ b → eqb v 63 ≡ c → is_told u r ≡ true → is_told v s ≡ true → written b u ++ r ≡ written c v ++ s
     → (u ≡ v) × (r ≡ s)
-same_literal true true u v r s eu ev tu tv e = ((grind (arith, nat_tests)), ap (drop 2) e)
+same_literal true true u v r s eu ev tu tv e = (eqb-true u 63 eu ∙ sym (eqb-true v 63 ev), ap (drop 2) e)
 same_literal true false u v r s eu ev tu tv e =
     clash (eqb v 47 && eqb (get_or s 0 0) 63) ((λ i. eqb (same_head (sym e) i) 47 && eqb (get_or (ap (drop 1) (sym e) i) 0 0) 63)) tv
 same_literal false true u v r s eu ev tu tv e =

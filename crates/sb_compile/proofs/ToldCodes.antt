@@ -3,7 +3,7 @@ use Rattle.std.specs.Fmt.{decimal, digits, digits_onto, digit_glyph}
 use Rattle.std.specs.List.{flat_map, list_all}
 use Rattle.std.specs.Prelude.{codes, Option, None, Some}
 use Rattle.std.proofs.Common.{◌≡◌, ◌∙◌, ℕ, ◌+◌, ◌/◌, ◌%◌, ◌<◌, Bool, true, false, not, cond, eqb, ◌&&◌, List, [], ◌∷◌, ◌++◌, drop, get_or, map, append_assoc, refl, ap, sym, zero, suc, arith}
-use Rattle.std.proofs.lemmas.Bool.{and_parts, false≢true}
+use Rattle.std.proofs.lemmas.Bool.{and_parts, false≢true, eq-eqb}
 use Rattle.std.proofs.lemmas.Bool.Decides.{nat_tests}
 use Rattle.sb_base.specs.Quoting.{QuotesDiffer}
 use Rattle.sb_call.specs.CallWords.{call_word, every_tag, tag_of_word}
@@ -169,7 +169,7 @@ abbrev is_other : CallTag → CallTag → Bool
 is_other tag other = not (eqb (number_of other) (number_of tag))
 
 same_number : (m n : ℕ) → m ≡ n → eqb m n ≡ true
-same_number m n e = grind (arith, nat_tests)
+same_number m n e = eq-eqb m n e
 
 abbrev has_line : List (List ℕ) → Bool
 has_line [] = false

@@ -2,9 +2,8 @@
 use Rattle.std.specs.Fmt.{decimal}
 use Rattle.std.specs.List.{flat_map, list_all}
 use Rattle.std.specs.Prelude.{codes}
-use Rattle.std.proofs.Common.{◌≡◌, ◌∙◌, ℕ, ◌<◌, true, cond, eqb, ltb, ◌&&◌, ◌||◌, List, [], ◌∷◌, ◌++◌, drop, get_or, append_assoc, refl, ap, sym, arith}
-use Rattle.std.proofs.lemmas.Bool.{and_parts}
-use Rattle.std.proofs.lemmas.Bool.Decides.{nat_tests}
+use Rattle.std.proofs.Common.{◌≡◌, ◌∙◌, ℕ, ◌<◌, true, cond, eqb, ltb, ◌&&◌, ◌||◌, List, [], ◌∷◌, ◌++◌, drop, get_or, append_assoc, refl, ap, sym}
+use Rattle.std.proofs.lemmas.Bool.{and_parts, eqb-true, ltb-true}
 use Rattle.sb_base.specs.Numbers.{hexadecimal, is_word64}
 use Rattle.sb_base.specs.Quoting.{quoted, quoted_unit, QuotesDiffer}
 use Rattle.sb_rule.specs.PatternReading.{text_of}
@@ -100,7 +99,7 @@ abbrev AreSame : OpKind → OpKind → ℕ → ℕ → List ℕ → List ℕ →
 AreSame k l p q r s = (k ≡ l) × (p ≡ q) × (r ≡ s)
 
 both_zero : (p q : ℕ) → eqb p 0 ≡ true → eqb q 0 ≡ true → p ≡ q
-both_zero p q hp hq = grind (arith, nat_tests)
+both_zero p q hp hq = eqb-true p 0 hp ∙ sym (eqb-true q 0 hq)
 
 numbers_same : (m n p q : ℕ) (r s : List ℕ) → Sides (Num m) (Num n) p q r s → kind_text (Num m) p ++ r ≡ kind_text (Num n) q ++ s → AreSame (Num m) (Num n) p q r s
 numbers_same m n p q r s h e =
@@ -254,4 +253,4 @@ same_opcode quotes at a b ha hb e =
         let one = and_parts (is_listable_kind op.kind && (has_param op.kind || eqb op.param 0) && is_word64 op.param) (ltb op.options.0 32) h in
         let two = and_parts (is_listable_kind op.kind && (has_param op.kind || eqb op.param 0)) (is_word64 op.param) one.0 in
         let three_parts = and_parts (is_listable_kind op.kind) (has_param op.kind || eqb op.param 0) two.0 in
-        (three_parts.0, three_parts.1, two.1, grind (arith, nat_tests))
+        (three_parts.0, three_parts.1, two.1, ltb-true op.options.0 32 one.1)

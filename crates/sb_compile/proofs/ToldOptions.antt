@@ -2,7 +2,7 @@
 use Rattle.std.specs.List.{list_all}
 use Rattle.std.specs.Prelude.{codes}
 use Rattle.std.proofs.Common.{◌≡◌, ◌∙◌, ℕ, ◌+◌, ◌<◌, Bool, true, false, cond, eqb, ◌&&◌, List, [], ◌∷◌, ◌++◌, get_or, append_assoc, refl, ap, sym, zero, suc, arith}
-use Rattle.std.proofs.lemmas.Bool.{and_parts}
+use Rattle.std.proofs.lemmas.Bool.{and_parts, eqb-true}
 use Rattle.std.proofs.lemmas.Bool.Decides.{nat_tests}
 use Rattle.std.proofs.lemmas.List.Folds.{list_all-append}
 use Rattle.sb_opcode.specs.Options.{options_of, has, NEGATE, CLEAR, OR, FOLD, EXACT}
@@ -118,7 +118,7 @@ below_all test (suc k) n h l =
     by (eqb n k) refl p.0 (λ less. below_all test k n p.1 less)
   where
     by : (b : Bool) → eqb n k ≡ b → test k ≡ true → (n < k → test n ≡ true) → test n ≡ true
-    by true e here later = let same : n ≡ k = grind (arith, nat_tests) in ap test same ∙ here
+    by true e here later = ap test (eqb-true n k e) ∙ here
     by false e here later = later (grind (arith, nat_tests))
 
 abbrev bit_if : Bool → ℕ → ℕ
@@ -132,7 +132,7 @@ abbrev bits_in : Options → ℕ
 bits_in options = bits (has options FOLD) (has options EXACT) (has options NEGATE) (has options CLEAR) (has options OR)
 
 bits_are : (n : ℕ) → n < 32 → bits_in (options_of n) ≡ n
-bits_are n h = let back : eqb (bits_in (options_of n)) n ≡ true = below_all (λ k. eqb (bits_in (options_of k)) k) 32 n refl h in grind (arith, nat_tests)
+bits_are n h = eqb-true (bits_in (options_of n)) n (below_all (λ k. eqb (bits_in (options_of k)) k) 32 n refl h)
 
 -- options that are written alike are the same
 pub same_options : (a b : Options) → a.0 < 32 → b.0 < 32 → options_end a ≡ options_end b → a ≡ b

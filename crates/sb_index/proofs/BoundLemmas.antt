@@ -1,8 +1,8 @@
 -- Bounds that are put one after another.
-use Rattle.std.proofs.Common.{◌≡◌, ◌∙◌, ◌≤◌, ◌<◌, ◌+◌, ℕ, zero, suc, true, false, cond, List, [], ◌∷◌, ◌++◌, ltb, length, take, drop, refl, ap, sym, arith}
+use Rattle.std.proofs.Common.{◌≡◌, ◌∙◌, ◌≤◌, ◌<◌, ◌+◌, ℕ, zero, suc, cond, List, [], ◌∷◌, ◌++◌, length, take, drop, refl, ap, sym, arith}
 use Rattle.std.specs.Prelude.{slice_index_or}
 use Rattle.std.proofs.lemmas.List.{drop_more}
-use Rattle.std.proofs.lemmas.Bool.Decides.{nat_tests}
+use Rattle.std.proofs.lemmas.Bool.{le-ltb, lt-ltb}
 use Rattle.sb_index.specs.Bounds.{rising_above}
 
 -- the numbers from one on
@@ -13,23 +13,17 @@ joined : (items rest : List ℕ) (n : ℕ) → (items ++ n ∷ []) ++ rest ≡ i
 joined [] rest n = refl
 joined (x ∷ items) rest n = ap (λ l. x ∷ l) (joined items rest n)
 
-less : (a b : ℕ) → a < b → ltb a b ≡ true
-less a b h = grind (arith, nat_tests, h)
-
-not_less : (a b : ℕ) → b ≤ a → ltb a b ≡ false
-not_less a b h = grind (arith, nat_tests, h)
-
 pub bound_put : (items numbers all : List ℕ) (last i n : ℕ) → i < length numbers → n ≡ slice_index_or numbers i n → last < n
     → items ++ rising_above last (drop i numbers) ≡ all → (items ++ n ∷ []) ++ rising_above n (drop (i + 1) numbers) ≡ all
 bound_put items numbers all last i n h is above e =
     joined items (rising_above n (drop (i + 1) numbers)) n
-    ∙ ap (λ b. items ++ cond b (n ∷ rising_above n (drop (i + 1) numbers)) (rising_above last (drop (i + 1) numbers))) (sym (less last n above))
+    ∙ ap (λ b. items ++ cond b (n ∷ rising_above n (drop (i + 1) numbers)) (rising_above last (drop (i + 1) numbers))) (sym (lt-ltb last n above))
     ∙ ap (λ l. items ++ rising_above last l) (sym (from_here numbers i n h is)) ∙ e
 
 pub bound_passed : (items numbers all : List ℕ) (last i n : ℕ) → i < length numbers → n ≡ slice_index_or numbers i n → n ≤ last
     → items ++ rising_above last (drop i numbers) ≡ all → items ++ rising_above last (drop (i + 1) numbers) ≡ all
 bound_passed items numbers all last i n h is below e =
-    ap (λ b. items ++ cond b (n ∷ rising_above n (drop (i + 1) numbers)) (rising_above last (drop (i + 1) numbers))) (sym (not_less last n below))
+    ap (λ b. items ++ cond b (n ∷ rising_above n (drop (i + 1) numbers)) (rising_above last (drop (i + 1) numbers))) (sym (le-ltb last n below))
     ∙ ap (λ l. items ++ rising_above last l) (sym (from_here numbers i n h is)) ∙ e
 
 taken : (items rest : List ℕ) → items ≡ take (length items) (items ++ rest)

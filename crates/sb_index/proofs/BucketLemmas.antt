@@ -4,7 +4,7 @@ use Rattle.std.specs.Int.RustNames.{bit_and, bit_or}
 use Rattle.std.specs.List.{list_all, list_any}
 use Rattle.std.specs.Prelude.{slice_index_or}
 use Rattle.std.proofs.Common.{◌≡◌, ◌≢◌, ◌∙◌, ◌<◌, ◌+◌, ◌%◌, ℕ, Bool, true, false, cond, List, [], ◌∷◌, ◌++◌, ◌&&◌, ◌||◌, ◌≤◌, ◌*◌, ◌-◌, ◌^◌, eqb, ltb, max, min, not, length, take, refl, ap, sym, arith}
-use Rattle.std.proofs.lemmas.Bool.{eqb-true, false≢true}
+use Rattle.std.proofs.lemmas.Bool.{eqb-true, false≢true, le-ltb, lt-ltb}
 use Rattle.std.proofs.lemmas.List.{take_more}
 use Rattle.std.proofs.lemmas.List.Folds.{list_all-append, list_any-append}
 use Rattle.std.proofs.lemmas.Bool.Decides.{nat_tests}
@@ -125,7 +125,7 @@ is_missing needed bits i small h one =
     omega (arith, min_is, one, turned, le, bit_at-lt bits i)
   where
     min_le_r : (a b : ℕ) → min a b ≤ b
-    min_le_r a b = grind arith
+    min_le_r a b = omega arith
 
 pub is_needed : (needed bits i : ℕ) → bits < 2 ^ 64 → i < 64 → bit_at needed i ≡ 1 → bit_at bits i ≡ 0 → bit_at (bit_and needed (bit_not w64 bits)) i ≡ 1
 is_needed needed bits i small h one none =
@@ -165,7 +165,7 @@ none_before sets bits rule s k =
     ∙ by (has (slice_index_or sets s []) k) (eqb k rule))
   where
     none : (s : ℕ) → ltb s 0 ≡ false
-    none s = grind (arith, nat_tests)
+    none s = le-ltb s 0 (omega arith)
 
     by : (a e : Bool) → (a || ((e && false) && eqb (bit_at bits s) 0)) ≡ a
     by true e = refl
@@ -200,7 +200,7 @@ rule_bucketed old new e passes mine bits s m is h bit =
     ∙ ap (λ b. old || (b && (e && passes))) (sym m)
   where
     below : (s : ℕ) → s < 64 → ltb s 64 ≡ true
-    below s h = grind (arith, nat_tests, h)
+    below s h = lt-ltb s 64 h
 
     by : (e p : Bool) → ((e && true) && eqb (cond p 0 1) 0) ≡ (true && (e && p))
     by true true = refl
@@ -217,10 +217,10 @@ rule_needed bits more bucket passes bit none =
     by passes bit (bit_at bits bucket) (bit_at-lt bits bucket) (sym (bit_at_or bits more bucket) ∙ none)
   where
     low : (a b : ℕ) → max a b ≡ 0 → a ≡ 0
-    low a b h = grind (arith, h)
+    low a b h = omega (arith, h)
 
     high : (a b : ℕ) → max a b ≡ 0 → b ≡ 0
-    high a b h = grind (arith, h)
+    high a b h = omega (arith, h)
 
     by : (p : Bool) → bit_at more bucket ≡ cond p 0 1 → (n : ℕ) → n < 2 → max n (bit_at more bucket) ≡ 0 → (n ≡ 0) × (p ≡ true)
     by true e n h z = (low n (bit_at more bucket) z, refl)

@@ -1,9 +1,9 @@
 -- Rules in their slots.
 use Rattle.std.proofs.Common.{◌≡◌, ◌∙◌, ◌≤◌, ◌<◌, ◌+◌, ◌-◌, ℕ, zero, suc, Bool, true, false, List, [], ◌∷◌, ◌++◌, ◌&&◌, ◌||◌, eqb, ltb, length, refl, ap, sym, arith}
 use Rattle.std.specs.Prelude.{nat_le, slice_index_or, slice_set}
-use Rattle.std.proofs.lemmas.Bool.{eqb-true}
+use Rattle.std.proofs.lemmas.Bool.{eqb-true, le-ltb, leb-false, leb-true, lt-ltb, ltb-true, ne_eqb}
 use Rattle.std.proofs.lemmas.Bool.Decides.{nat_tests}
-use Rattle.std.proofs.lemmas.List.{get_or_append_left, get_or_default, get_or_push, get_or-set_other, get_or-set_same}
+use Rattle.std.proofs.lemmas.List.{get_or_append_left, get_or_push, get_or-set_other, get_or-set_same}
 use Rattle.sb_index.proofs.SetLemmas.{differ, not_less, or_false}
 use Rattle.sb_index.specs.Marks.{AreFresh, is_marked, up_to}
 use Rattle.sb_index.specs.Sets.{has}
@@ -41,7 +41,7 @@ pub up_put : (old new : List (List ℕ)) (at number : ℕ) → IsPut old new at 
 up_put old new at number put zero k = sym (ap (λ b. eqb k number && b) (none at) ∙ and_false (eqb k number))
   where
     none : (at : ℕ) → ltb at 0 ≡ false
-    none at = grind (arith, nat_tests)
+    none at = le-ltb at 0 (omega arith)
 up_put old new at number put (suc n) k =
     ap (λ b. b || has (slice_index_or new n []) k) (up_put old new at number put n k)
     ∙ ap (λ b. (up_to old n k || (eqb k number && ltb at n)) || b) (put n k)
@@ -60,7 +60,7 @@ up_put old new at number put (suc n) k =
     parts false false false a q = refl
 
 not_this : (k number from : ℕ) → number < from → from ≤ k → eqb k number ≡ false
-not_this k number from h g = grind (arith, nat_tests, h, g)
+not_this k number from h g = ne_eqb k number (λ e. absurd (omega (arith, h, g, e)))
 
 still_none : (new old e f : Bool) → new ≡ (old || (e && f)) → e ≡ false → old ≡ false → new ≡ false
 still_none new old e f is none clear = is ∙ ap (λ b. b || (e && f)) clear ∙ ap (λ b. b && f) none
@@ -110,8 +110,8 @@ run_put old new slots first last number points begins ends many still inside fre
     unended slots last s h g = by (nat_le s last) refl
       where
         by : (b : Bool) → nat_le s last ≡ b → ltb (slots - 1 - last) (slots - s) ≡ b
-        by true t = let le : s ≤ last = grind (arith, nat_tests, t) in let lt : slots - 1 - last < slots - s = omega (arith, h, g, le) in grind (arith, nat_tests, lt)
-        by false t = let lt : last < s = grind (arith, nat_tests, t) in let le : slots - s ≤ slots - 1 - last = omega (arith, h, g, lt) in grind (arith, nat_tests, le)
+        by true t = let le = leb-true s last t in lt-ltb (slots - 1 - last) (slots - s) (omega (arith, h, g, le))
+        by false t = let lt = leb-false s last t in le-ltb (slots - 1 - last) (slots - s) (omega (arith, h, g, lt))
 
     equal : eqb k number ≡ true → number ≤ k
     equal t = let same : k ≡ number = eqb-true k number t in omega (arith, same)
@@ -133,18 +133,6 @@ run_put old new slots first last number points begins ends many still inside fre
         ∙ ap (λ x. p || (up_to old.begins.items (suc s) k && x)) (or_false (up_to old.ends.items (slots - s) k))
         ∙ sym (or_false (p || (up_to old.begins.items (suc s) k && up_to old.ends.items (slots - s) k)))
 
--- what the sets up to one more have together
-pub union_more : (sets : List (List ℕ)) (i : ℕ) (one set new : List ℕ) → one ≡ slice_index_or sets i one → i < length sets
-    → ((k : ℕ) → has set k ≡ up_to sets i k) → ((k : ℕ) → has new k ≡ (has set k || has one k)) → (k : ℕ) → has new k ≡ up_to sets (suc i) k
-union_more sets i one set new is h old put k =
-    put k ∙ ap (λ b. b || has one k) (old k) ∙ ap (λ w. up_to sets i k || has w k) (is ∙ sym (get_or_default sets i [] one h))
-
-pub up_more : (sets : List (List ℕ)) (set : List ℕ) (i : ℕ) → ((k : ℕ) → has set k ≡ up_to sets (suc i) k) → (k : ℕ) → has set k ≡ up_to sets (i + 1) k
-up_more sets set i h k = h k ∙ ap (λ n. up_to sets n k) (more i)
-  where
-    more : (i : ℕ) → suc i ≡ i + 1
-    more i = omega arith
-
 -- one set more
 pub sets_pushed : (P : ℕ → ℕ → Bool) (sets : List (List ℕ)) (set : List ℕ) (n : ℕ) → length sets ≡ n
     → ((slot : ℕ) (k : ℕ) → slot < n → has (slice_index_or sets slot []) k ≡ P slot k) → ((k : ℕ) → has set k ≡ P n k)
@@ -153,7 +141,7 @@ sets_pushed P sets set n many before here slot k h = by (ltb slot n) refl
   where
     by : (b : Bool) → ltb slot n ≡ b → has (slice_index_or (sets ++ set ∷ []) slot []) k ≡ P slot k
     by true t =
-        let inside : slot < n = grind (arith, nat_tests, t) in
+        let inside = ltb-true slot n t in
         ap (λ s. has s k) (get_or_append_left sets (set ∷ []) [] slot (omega (arith, inside, many))) ∙ before slot k inside
     by false t =
         let last : slot ≡ n = omega (arith, h, not_less slot n t) in

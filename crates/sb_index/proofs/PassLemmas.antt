@@ -2,8 +2,7 @@
 use Rattle.std.proofs.Common.{◌≡◌, ◌∙◌, ◌≤◌, ◌%◌, ℕ, Bool, true, false, not, cond, List, [], ◌∷◌, ◌&&◌, ◌||◌, drop, eqb, refl, ap, sym, arith}
 use Rattle.std.specs.Prelude.{nat_eq, nat_le}
 use Rattle.std.specs.List.{list_all, list_any}
-use Rattle.std.proofs.lemmas.Bool.{and_parts, and_from, eqb-true, false≢true}
-use Rattle.std.proofs.lemmas.Bool.Decides.{nat_tests}
+use Rattle.std.proofs.lemmas.Bool.{and_parts, and_from, eqb-true, false≢true, le-leb, leb-true}
 use Rattle.sb_base.specs.Wide.{folded, is_same}
 use Rattle.sb_call.specs.Arguments.{arg_at}
 use Rattle.sb_call.specs.Tags.{number_of}
@@ -28,6 +27,12 @@ either_later : (a b : Bool) → b ≡ true → (a || b) ≡ true
 either_later true b h = refl
 either_later false b h = h
 
+-- numbers that lie between two others and between two more
+overlap : (low high first last k : ℕ) → low ≤ k → k ≤ high → nat_le first k ≡ true → nat_le k last ≡ true → (nat_le low last && nat_le first high) ≡ true
+overlap low high first last k l h f g =
+    and_from (nat_le low last) (nat_le first high)
+    (le-leb low last (omega (arith, l, leb-true k last g))) (le-leb first high (omega (arith, h, leb-true first k f)))
+
 -- numbers
 one_lies : (numbers : List ℕ) (value first last : ℕ) → list_any (λ n. nat_eq n value) numbers ≡ true → lies first last value ≡ true → list_any (lies first last) numbers ≡ true
 one_lies [] value first last h m = h
@@ -40,7 +45,10 @@ one_lies (n ∷ numbers) value first last h m = by (nat_eq n value) refl h (λ h
 
 number_lies : (test : Test) (value first last : ℕ) → test_holds test (arg.Num value) ≡ true → lies first last value ≡ true → number_may_lie test first last ≡ true
 number_lies (OneOf numbers) value first last h m = one_lies numbers value first last h m
-number_lies (Range lo hi) value first last h m = grind (arith, nat_tests, h, m)
+number_lies (Range lo hi) value first last h m =
+    let p = and_parts (nat_le lo value) (nat_le value hi) h in
+    let q = and_parts (nat_le first value) (nat_le value last) m in
+    overlap lo hi first last value (leb-true lo value p.0) (leb-true value hi p.1) q.0 q.1
 number_lies (Mask mask) value first last h m = refl
 number_lies (Equal text) value first last h m = refl
 number_lies (Like cells) value first last h m = refl
@@ -70,7 +78,9 @@ front_passes (Like cells) (arg.Str units) skip first last h m =
     by (edge 0 4 (past skip cells)) (edge 65535 4 (past skip cells)) (key 4 (drop skip units)) between.0 between.1 m
   where
     by : (low high k : ℕ) → low ≤ k → k ≤ high → lies first last k ≡ true → (nat_le low last && nat_le first high) ≡ true
-    by low high k l h m = grind (arith, nat_tests, l, h, m)
+    by low high k l h m =
+        let p = and_parts (nat_le first k) (nat_le k last) m in
+        overlap low high first last k l h p.0 p.1
 
 -- buckets
 abbrev Lacks : ℕ → List ℕ → Type 0

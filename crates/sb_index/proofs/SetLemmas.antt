@@ -2,9 +2,8 @@
 use Rattle.std.specs.Int.{bit_at, trailing_zeros, w64}
 use Rattle.std.specs.Int.RustNames.{bit_and, bit_or}
 use Rattle.std.specs.Prelude.{slice_index_or, slice_set}
-use Rattle.std.proofs.lemmas.Bool.Decides.{nat_tests}
 use Rattle.std.proofs.Common.{◌≡◌, ◌≢◌, ◌∙◌, ◌==◌, Bool, true, false, ◌≤◌, ◌<◌, ◌+◌, ◌-◌, ◌*◌, ◌/◌, ◌%◌, ◌^◌, ℕ, zero, suc, min, ltb, List, [], ◌∷◌, length, ◌&&◌, ◌||◌, max, refl, ap, sym, arith, eqb}
-use Rattle.std.proofs.lemmas.Bool.{eqb-true, false≢true}
+use Rattle.std.proofs.lemmas.Bool.{eq-eqb, eqb-false, eqb-true, false≢true, ltb-false, ltb-true}
 use Rattle.std.proofs.lemmas.List.{get_or-set_same, get_or-set_other, get_or_past}
 use Rattle.std.proofs.lemmas.Nat.Bits.{bit_at-lt, bit_at_and, bit_at_or, bit_at_ones, bit_at_set_same, bit_at_set_other, bit_at-zero, bit_at_above, bit_at-trailing_zeros, shr_and_one}
 use Rattle.std.proofs.lemmas.Nat.{shr-shr}
@@ -19,9 +18,6 @@ has_bit words k h = eqb-true (bit_at (slice_index_or words (k / 64) 0) (k % 64))
 
 bit_has : (words : List ℕ) (k : ℕ) → Bit words k → Has words k
 bit_has words k e = ap (λ n. eqb n 1) e
-
-is_one : ℕ → ℕ → Bool
-is_one n i = eqb (bit_at n i) 1
 
 zero_bit : (i : ℕ) → eqb (bit_at 0 i) 1 ≡ false
 zero_bit i = ap (λ n. eqb n 1) (bit_at-zero i)
@@ -55,16 +51,13 @@ pub all_has : (k : ℕ) → has ((2 ^ 64 - 1) ∷ (2 ^ 64 - 1) ∷ (2 ^ 64 - 1) 
 all_has k = within (ltb k 256) refl
   where
     within : (b : Bool) → ltb k 256 ≡ b → has ones k ≡ b
-    within true t = let h : k < 256 = grind (arith, nat_tests, t) in bit_has ones k (all_bits k h)
+    within true t = let h = ltb-true k 256 t in bit_has ones k (all_bits k h)
     within false t =
-        let h : 256 ≤ k = grind (arith, nat_tests, t) in
+        let h = ltb-false k 256 t in
         let past = get_or_past ones (k / 64) 0 (omega (arith, h)) in
         ap (λ n. eqb (bit_at n (k % 64)) 1) past ∙ zero_bit (k % 64)
 
--- a bit that both have is in both
-pub both_have : (a b i : ℕ) → bit_at a i ≡ 1 → bit_at b i ≡ 1 → bit_at (bit_and a b) i ≡ 1
-both_have a b i h k = bit_at_and a b i ∙ (λ t. min (h t) (k t))
-
+-- a bit by its test
 pub clear_bit : (n i : ℕ) → (bit_and (n / 2 ^ i) 1 == 0) ≡ true → bit_at n i ≡ 0
 clear_bit n i h = sym (shr_and_one n i) ∙ eqb-true (bit_and (n / 2 ^ i) 1) 0 h
 
@@ -72,7 +65,9 @@ pub set_bit : (n i : ℕ) → (bit_and (n / 2 ^ i) 1 == 0) ≡ false → bit_at 
 set_bit n i h = one (bit_at n i) (bit_at-lt n i) (ap (λ m. eqb m 0) (sym (shr_and_one n i)) ∙ h)
   where
     one : (m : ℕ) → m < 2 → eqb m 0 ≡ false → m ≡ 1
-    one m h t = grind (arith, nat_tests, h, t)
+    one zero h t = absurd (false≢true (sym t))
+    one (suc zero) h t = refl
+    one (suc (suc m)) h t = absurd (omega (arith, h))
 
 no_bit : (P : Type 0) (i : ℕ) → bit_at 0 i ≡ 1 → P
 no_bit P i h = absurd (omega (arith, h, bit_at-zero i))
@@ -140,27 +135,17 @@ with_bit n i = bit_or n (1 * 2 ^ i % 18446744073709551616)
 pub bit_set : (n i : ℕ) → i < 64 → bit_at (with_bit n i) i ≡ 1
 bit_set n i h = bit_at_set_same w64 n i h
 
-self_is : (k : ℕ) → eqb k k ≡ true
-self_is k = grind (arith, nat_tests)
-
 pub equal_is : (a b : ℕ) → a ≡ b → eqb a b ≡ true
-equal_is a b e = ap (λ n. eqb n b) e ∙ self_is b
+equal_is a b e = eq-eqb a b e
 
 pub differ : (a b : ℕ) → eqb a b ≡ false → a ≢ b
-differ a b t e = false≢true (sym t ∙ equal_is a b e)
+differ a b t e = eqb-false a b t e
 
 less : (a b : ℕ) → ltb a b ≡ true → a < b
-less a b t = grind (arith, nat_tests, t)
+less a b t = ltb-true a b t
 
 pub not_less : (a b : ℕ) → ltb a b ≡ false → b ≤ a
-not_less a b t = grind (arith, nat_tests, t)
-
-pub bit_kept : (n i k : ℕ) → i < 64 → bit_at n k ≡ 1 → bit_at (with_bit n i) k ≡ 1
-bit_kept n i k h e = by (eqb k i) refl
-  where
-    by : (b : Bool) → eqb k i ≡ b → bit_at (with_bit n i) k ≡ 1
-    by true t = ap (bit_at (with_bit n i)) (eqb-true k i t) ∙ bit_set n i h
-    by false t = bit_at_set_other w64 n i h k (differ k i t) ∙ e
+not_less a b t = ltb-false a b t
 
 or_true : (b : Bool) → (b || true) ≡ true
 or_true true = refl

@@ -5,8 +5,7 @@ use Rattle.std.specs.List.{list_all, list_any}
 use Rattle.sb_rule.specs.declared.conditions.Cond.{Cond}
 use Rattle.sb_index.specs.declared.questions.Feature.{Feature}
 use Rattle.sb_index.specs.declared.questions.Question.TheVariants.{Within}
-use Rattle.std.proofs.lemmas.Bool.{and_parts, eqb-true, false≢true}
-use Rattle.std.proofs.lemmas.Bool.Decides.{nat_tests}
+use Rattle.std.proofs.lemmas.Bool.{and_from, and_parts, eqb-false, eqb-true, false≢true, le-leb, leb-false, leb-true, lt-leb, lt-ltb, ltb-true, ne_eqb}
 use Rattle.std.proofs.lemmas.List.{get_or_append_left, get_or_push, length-append, take_more}
 use Rattle.std.proofs.lemmas.List.Folds.{list_any-append}
 use Rattle.sb_index.specs.Bounds.{IsRising, first_of, last_of}
@@ -19,7 +18,7 @@ first_after bounds slot =
     ap (λ b. cond b 0 (slice_index_or bounds (suc slot - 1) 0)) (some slot) ∙ ap (λ n. slice_index_or bounds n 0) (before slot)
   where
     some : (slot : ℕ) → eqb (suc slot) 0 ≡ false
-    some slot = grind (arith, nat_tests)
+    some slot = ne_eqb (suc slot) 0 (λ e. absurd (omega (arith, e)))
 
     before : (slot : ℕ) → suc slot - 1 ≡ slot
     before slot = omega arith
@@ -42,7 +41,7 @@ rising_pushed bounds n rising above slot h = by (ltb slot (length bounds)) refl
   where
     by : (b : Bool) → ltb slot (length bounds) ≡ b → first_of (bounds ++ n ∷ []) slot < slice_index_or (bounds ++ n ∷ []) slot 0
     by true t =
-        let inside : slot < length bounds = grind (arith, nat_tests, t) in
+        let inside = ltb-true slot (length bounds) t in
         let first = first_kept bounds n slot (omega (arith, inside)) in
         let bound = get_or_append_left bounds (n ∷ []) 0 slot inside in
         omega (arith, first, bound, rising slot inside)
@@ -61,10 +60,7 @@ up bounds rising slot (suc more) h =
     omega (arith, before, rising (slot + more) (omega (arith, h)), first_after bounds (slot + more), ap (first_of bounds) e)
 
 last_inside : (bounds : List ℕ) (slot : ℕ) → slot < length bounds → last_of bounds slot ≡ slice_index_or bounds slot 0 - 1
-last_inside bounds slot h = ap (λ b. cond b (slice_index_or bounds slot 0 - 1) (2 ^ 64 - 1)) (below slot (length bounds) h)
-  where
-    below : (a b : ℕ) → a < b → ltb a b ≡ true
-    below a b h = grind (arith, nat_tests, h)
+last_inside bounds slot h = ap (λ b. cond b (slice_index_or bounds slot 0 - 1) (2 ^ 64 - 1)) (lt-ltb slot (length bounds) h)
 
 -- a slot that ends before another begins is not after it
 apart : (bounds : List ℕ) → IsRising bounds → (slot other : ℕ) → slot < other → other ≤ length bounds → last_of bounds slot < first_of bounds other
@@ -79,7 +75,7 @@ in_order bounds rising slot other n within first last = by (ltb slot other) refl
   where
     by : (b : Bool) → ltb slot other ≡ b → other ≤ slot
     by true t =
-        let less : slot < other = grind (arith, nat_tests, t) in
+        let less = ltb-true slot other t in
         absurd (omega (arith, apart bounds rising slot other less within, first, last))
     by false t = not_less slot other t
 
@@ -88,21 +84,21 @@ pub same_slot : (bounds : List ℕ) → IsRising bounds → (n slot other : ℕ)
     → slot ≤ length bounds → lies (first_of bounds slot) (last_of bounds slot) n ≡ true → other ≡ slot
 same_slot bounds rising n slot other within first last inside h =
     let p = and_parts (nat_le (first_of bounds slot) n) (nat_le n (last_of bounds slot)) h in
-    omega (arith, in_order bounds rising slot other n within first (le n (last_of bounds slot) p.1), in_order bounds rising other slot n inside (le (first_of bounds slot) n p.0) last)
-  where
-    le : (a b : ℕ) → nat_le a b ≡ true → a ≤ b
-    le a b h = grind (arith, nat_tests, h)
+    omega (arith, in_order bounds rising slot other n within first (leb-true n (last_of bounds slot) p.1), in_order bounds rising other slot n inside (leb-true (first_of bounds slot) n p.0) last)
 
 -- a number that does not lie after a slot does not lie after a later one
 not_after : (bounds : List ℕ) → IsRising bounds → (n slot other : ℕ) → n < 2 ^ 64 → slot ≤ other → other ≤ length bounds → n ≤ last_of bounds slot
     → n ≤ last_of bounds other
 not_after bounds rising n slot other small h within le = by (eqb slot other) refl (ltb other (length bounds)) refl
   where
+    below : (a b : ℕ) → (a ≡ b → ⊥) → a ≤ b → a < b
+    below a b apart h = omega (arith, apart, h)
+
     by : (b : Bool) → eqb slot other ≡ b → (i : Bool) → ltb other (length bounds) ≡ i → n ≤ last_of bounds other
     by true t i f = let same : slot ≡ other = eqb-true slot other t in omega (arith, le, ap (last_of bounds) same)
     by false t true f =
-        let less : slot < other = grind (arith, nat_tests, t, h) in
-        let inside : other < length bounds = grind (arith, nat_tests, f) in
+        let less = below slot other (eqb-false slot other t) h in
+        let inside = ltb-true other (length bounds) f in
         omega (arith, le, apart bounds rising slot other less within, rising other inside, last_inside bounds other inside)
     by false t false f = omega (arith, small, ap (λ b. cond b (slice_index_or bounds other 0 - 1) (2 ^ 64 - 1)) f)
 
@@ -115,28 +111,22 @@ run_is bounds rising lo hi first last slot small within inside low low_end high 
     ∙ ap (λ b. nat_le lo (last_of bounds slot) && b) (right (nat_le slot last) refl)
   where
     yes : (a b : ℕ) → a ≤ b → true ≡ nat_le a b
-    yes a b h = grind (arith, nat_tests, h)
+    yes a b h = sym (le-leb a b h)
 
     no : (a b : ℕ) → b < a → false ≡ nat_le a b
-    no a b h = grind (arith, nat_tests, h)
-
-    le : (a b : ℕ) → nat_le a b ≡ true → a ≤ b
-    le a b h = grind (arith, nat_tests, h)
-
-    lt : (a b : ℕ) → nat_le a b ≡ false → b < a
-    lt a b h = grind (arith, nat_tests, h)
+    no a b h = sym (lt-leb a b h)
 
     left : (b : Bool) → nat_le first slot ≡ b → nat_le first slot ≡ nat_le lo (last_of bounds slot)
-    left true t = t ∙ yes lo (last_of bounds slot) (not_after bounds rising lo first slot small (le first slot t) here low_end)
-    left false t = t ∙ no lo (last_of bounds slot) (omega (arith, low, apart bounds rising slot first (lt first slot t) within))
+    left true t = t ∙ yes lo (last_of bounds slot) (not_after bounds rising lo first slot small (leb-true first slot t) here low_end)
+    left false t = t ∙ no lo (last_of bounds slot) (omega (arith, low, apart bounds rising slot first (leb-false first slot t) within))
 
     right : (b : Bool) → nat_le slot last ≡ b → nat_le slot last ≡ nat_le (first_of bounds slot) hi
     right true t =
-        let le : slot ≤ last = le slot last t in
+        let le = leb-true slot last t in
         let gap : slot + (last - slot) ≡ last = omega (arith, le) in
         let rise = up bounds rising slot (last - slot) (omega (arith, gap, inside)) in
         t ∙ yes (first_of bounds slot) hi (omega (arith, rise, ap (first_of bounds) gap, high))
-    right false t = t ∙ no (first_of bounds slot) hi (omega (arith, high_end, apart bounds rising last slot (lt slot last t) here))
+    right false t = t ∙ no (first_of bounds slot) hi (omega (arith, high_end, apart bounds rising last slot (leb-false slot last t) here))
 
 -- a number and a test of slots: both hold in the slot of the number, if the test does there
 pub slot_here : (bounds : List ℕ) → IsRising bounds → (n at slot : ℕ) (test : ℕ → Bool) (b : Bool) → at ≤ length bounds → first_of bounds at ≤ n → n ≤ last_of bounds at
@@ -144,7 +134,7 @@ pub slot_here : (bounds : List ℕ) → IsRising bounds → (n at slot : ℕ) (t
 slot_here bounds rising n at slot test b within first last inside e = by (eqb slot at) refl (lies (first_of bounds slot) (last_of bounds slot) n) refl
   where
     lying : (a n c : ℕ) → a ≤ n → n ≤ c → lies a c n ≡ true
-    lying a n c h g = grind (arith, nat_tests, h, g)
+    lying a n c h g = and_from (nat_le a n) (nat_le n c) (le-leb a n h) (le-leb n c g)
 
     by : (q : Bool) → eqb slot at ≡ q → (l : Bool) → lies (first_of bounds slot) (last_of bounds slot) n ≡ l → (q && b) ≡ (l && test slot)
     by true t true f = sym (ap test (eqb-true slot at t) ∙ e)
@@ -224,4 +214,4 @@ pub everywhere : (slots slot : ℕ) (new old e p : Bool) → slot ≤ slots → 
 everywhere slots slot new old e p h is all = is ∙ ap (λ b. old || (e && b)) (within slot slots h ∙ sym all)
   where
     within : (slot slots : ℕ) → slot ≤ slots → (nat_le 0 slot && nat_le slot slots) ≡ true
-    within slot slots h = grind (arith, nat_tests, h)
+    within slot slots h = and_from (nat_le 0 slot) (nat_le slot slots) (le-leb 0 slot (omega arith)) (le-leb slot slots h)

@@ -1,12 +1,11 @@
 -- Tables and buckets keep the rules that hold.
 use Rattle.std.proofs.Common.{◌≡◌, ◌∙◌, ◌≤◌, ◌<◌, ◌+◌, ℕ, zero, suc, not, Bool, true, false, cond, List, [], ◌∷◌, ◌++◌, ◌&&◌, ◌||◌, eqb, ltb, length, take, refl, ap, sym, subst, arith}
 use Rattle.std.proofs.lemmas.List.{get_or_append_left, get_or_default, get_or_push, length-append, take_more}
-use Rattle.std.specs.Prelude.{slice_index_or}
-use Rattle.std.proofs.lemmas.Bool.Decides.{nat_tests}
+use Rattle.std.specs.Prelude.{nat_le, slice_index_or}
 use Rattle.sb_call.specs.declared.arguments.Arg.{Arg}
 use Rattle.sb_call.specs.declared.tags.CallTag.{CallTag}
 use Rattle.sb_rule.specs.declared.policies.Rule.{Rule}
-use Rattle.std.proofs.lemmas.Bool.{and_parts}
+use Rattle.std.proofs.lemmas.Bool.{and_from, and_parts, eq-eqb, le-leb, lt-ltb, ltb-true, ne_eqb}
 use Rattle.sb_index.proofs.SetLemmas.{not_less, or_false}
 use Rattle.sb_index.specs.Bounds.{first_of, last_of}
 use Rattle.sb_index.specs.Laws.{RulesThatHoldPass}
@@ -14,7 +13,7 @@ use Rattle.sb_index.specs.Questions.{is_in_bucket, lies, value_of, may_pass, mee
 use Rattle.sb_index.specs.Marks.{AreMarked, is_marked}
 use Rattle.sb_index.specs.Sets.{has, Has}
 use Rattle.sb_index.specs.declared.marks.Marks.{Marks}
-use Rattle.sb_index.specs.Tables.{AreBuckets, AreNeeded, AreSlots, AreTables, HasAllThatHold, IsTable, PassTables, PassesTable, Selects, rules_for}
+use Rattle.sb_index.specs.Tables.{AreBuckets, AreNeeded, AreSlots, AreTables, HasAllThatHold, IsTable, PassesTable, Selects, rules_for}
 use Rattle.sb_index.specs.declared.tables.Table.{Table}
 use Rattle.sb_call.specs.Arguments.{arg_at}
 use Rattle.std.specs.Int.{bit_at}
@@ -32,7 +31,7 @@ selected pass rules tag args question set selects m j d h holds =
     selects j d h ∙ pass question (slice_index_or (rules_for tag rules) j d) tag args holds m
 
 lies_within : (first last value : ℕ) → first ≤ value → value ≤ last → lies first last value ≡ true
-lies_within first last value h k = grind (arith, nat_tests, h, k)
+lies_within first last value h k = and_from (nat_le first value) (nat_le value last) (le-leb first value h) (le-leb value last k)
 
 pub slot_found : (feature : Feature) (args : List Arg) (bounds : List ℕ) (slot value : ℕ) → value ≡ value_of feature args
     → first_of bounds slot ≤ value → value ≤ last_of bounds slot → meets (Within feature (first_of bounds slot) (last_of bounds slot)) args ≡ true
@@ -66,10 +65,10 @@ abbrev Has_passing : Question → List Rule → (ℕ → Bool) → Type 0
 Has_passing question mine P = (j : ℕ) (d : Rule) → j < length mine → P j ≡ may_pass question (slice_index_or mine j d)
 
 not_last : (j at : ℕ) → j < at → eqb j at ≡ false
-not_last j at h = grind (arith, nat_tests, h)
+not_last j at h = ne_eqb j at (λ e. absurd (omega (arith, h, e)))
 
 self_equal : (j : ℕ) → eqb j j ≡ true
-self_equal j = grind (arith, nat_tests)
+self_equal j = eq-eqb j j refl
 
 put_more : (question : Question) (mine : List Rule) (r : Rule) (b : Bool) (at : ℕ) (P Q : ℕ → Bool) → at ≡ length mine → Has_passing question mine P
     → P at ≡ false → ((k : ℕ) → Q k ≡ (P k || (b && (eqb k at && may_pass question r)))) → Has_passing question (cond b (mine ++ r ∷ []) mine) Q
@@ -78,7 +77,7 @@ put_more question mine r true at P Q e old none put j d h = by (ltb j (length mi
   where
     by : (b : Bool) → ltb j (length mine) ≡ b → Q j ≡ may_pass question (slice_index_or (mine ++ r ∷ []) j d)
     by true t =
-        let inside : j < length mine = grind (arith, nat_tests, t) in
+        let inside = ltb-true j (length mine) t in
         put j ∙ ap (λ b. P j || (true && (b && may_pass question r))) (not_last j at (omega (arith, inside, e))) ∙ or_false (P j)
         ∙ old j d inside ∙ ap (may_pass question) (sym (get_or_append_left mine (r ∷ []) d j inside))
     by false t =
@@ -129,7 +128,7 @@ none_put tag r at next k question P Q is le none put = by (is_for tag r) is put
         put ∙ ap (λ b. P k || (true && (b && may_pass question r))) (after at k more) ∙ or_false (P k) ∙ none (omega (arith, more))
       where
         after : (at k : ℕ) → at < k → eqb k at ≡ false
-        after at k h = grind (arith, nat_tests, h)
+        after at k h = ne_eqb k at (λ e. absurd (omega (arith, h, e)))
     by false is put = put ∙ or_false (P k) ∙ none (omega (arith, is, le))
 
 -- what each of the rules for a tag passes, after one rule more
@@ -143,7 +142,7 @@ one_passes question mine r true old new j d h = by (ltb j (length mine)) refl
   where
     by : (b : Bool) → ltb j (length mine) ≡ b → may_pass question (slice_index_or (mine ++ r ∷ []) j d) ≡ true
     by true t =
-        let inside : j < length mine = grind (arith, nat_tests, t) in
+        let inside = ltb-true j (length mine) t in
         ap (may_pass question) (get_or_append_left mine (r ∷ []) d j inside) ∙ old j d inside
     by false t =
         let last : j ≡ length mine = omega (arith, h, length-append mine (r ∷ []), not_less j (length mine) t) in
@@ -178,7 +177,7 @@ pub all_at_first : (rules : List Rule) (tag : CallTag) (args : List Arg) (set : 
 all_at_first rules tag args set few all j d h holds = all j ∙ below j (omega (arith, h, few, fewer tag rules))
   where
     below : (j : ℕ) → j < 256 → ltb j 256 ≡ true
-    below j h = grind (arith, nat_tests, h)
+    below j h = lt-ltb j 256 h
 
 -- each of the rules for the tag in the set passes each of the first tables
 abbrev pub PassUpTo : List Rule → CallTag → List Table → ℕ → List Arg → List ℕ → Type 0
@@ -223,20 +222,13 @@ table_alone rules tag args tables i table old new slot within is are inside m pu
     passes = (slot, inside, m, sym (this.2 slot [] (omega (arith, inside, this.0)) j d h) ∙ both.1)
 
     by : (b : Bool) → ltb n i ≡ b → PassesTable (slice_index_or tables n t) args (slice_index_or (rules_for tag rules) j d)
-    by true e = up j d h both.0 n t here (less n i e)
-      where
-        less : (n i : ℕ) → ltb n i ≡ true → n < i
-        less n i e = grind (arith, nat_tests, e)
+    by true e = up j d h both.0 n t here (ltb-true n i e)
     by false e =
         let last : n ≡ i = omega (arith, before, not_less n i e) in
         let same : slice_index_or tables n t ≡ table =
         ap (λ m. slice_index_or tables m t) last ∙ get_or_default tables i t table within ∙ sym is
         in
         subst (λ u. PassesTable u args (slice_index_or (rules_for tag rules) j d)) (sym same) passes
-
-pub passed_all : (rules : List Rule) (tag : CallTag) (tables : List Table) (n : ℕ) (args : List Arg) (set : List ℕ) → length tables ≤ n
-    → PassUpTo rules tag tables n args set → PassTables rules tag tables args set
-passed_all rules tag tables n args set many up j d h has i t within = up j d h has i t within (omega (arith, within, many))
 
 -- buckets
 lacking : (b : Bool) → not b ≡ true → b ≡ false

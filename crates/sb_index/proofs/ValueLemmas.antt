@@ -1,7 +1,7 @@
 -- Values that conditions admit.
 use Rattle.std.proofs.Common.{◌≡◌, ◌∙◌, ℕ, Bool, true, false, cond, ◌&&◌, eqb, max, min, refl, ap, sym, arith}
 use Rattle.std.specs.Prelude.{nat_le}
-use Rattle.std.proofs.lemmas.Bool.{and_parts}
+use Rattle.std.proofs.lemmas.Bool.{and_parts, eqb-false, ne_eqb}
 use Rattle.std.proofs.lemmas.Bool.Decides.{nat_tests}
 use Rattle.sb_index.specs.Questions.{lies}
 
@@ -19,7 +19,7 @@ pub not_asked : (wanted param : ℕ) (b : Bool) → eqb wanted param ≡ false �
 not_asked wanted param b h = ap (λ t. cond t b true) (turned h)
   where
     turned : eqb wanted param ≡ false → eqb param wanted ≡ false
-    turned h = grind (arith, nat_tests, h)
+    turned h = ne_eqb param wanted (λ e. eqb-false wanted param h (sym e))
 
 -- a range and another
 pub ranges_meet : (lo hi low high first last : ℕ) (admits : Bool) → (nat_le lo last && nat_le first hi) ≡ admits

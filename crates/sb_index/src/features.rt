@@ -15,14 +15,9 @@ use std::alloc::Global;
 // The most units that are skipped before a front.
 const MOST_SKIPPED: usize = 48;
 
-// The numbers from `lo` to `hi` begin at `lo` and end before the number after `hi`.
+// The numbers from `lo` to `hi` begin at `lo` and end before the number after `hi`. That after the highest is 0, which is no bound.
 fn push_range(bounds: &mut Vec<u64>, lo: u64, hi: u64) -> Result<(), NoMemory> {
-    if lo > 0 {
-        bounds.push(lo)?;
-    }
-    if hi < u64::MAX {
-        bounds.push(hi + 1)?;
-    }
+    bounds.extend_from_slice(&[lo, hi.wrapping_add(1)])?;
     Ok(())
 }
 

@@ -86,11 +86,13 @@ fn tables_of(alloc: Global, rules: &[Rule], tag: CallTag) -> Result<Vec<Table>, 
     Ok(tables)
 }
 
+fn is_string(kind: &ParamKind) -> bool {
+    !kind.is_number()
+}
+
 // The first parameter of a call that is a string.
 fn first_string(tag: CallTag) -> Option<u32> {
-    let at = shape(tag)
-        .iter()
-        .position(|kind| matches!(kind, ParamKind::Text | ParamKind::Name))?;
+    let at = shape(tag).iter().position(is_string)?;
     Some(at as u32)
 }
 

@@ -1,7 +1,7 @@
 // What is asked of rules and of the arguments of a call.
 
 /// A number that arguments have.
-#[derive(Clone, Copy, Debug)]
+#[derive(Clone, Copy)]
 pub enum Feature {
     /// The number of a parameter.
     Number { param: u32 },
@@ -11,7 +11,6 @@ pub enum Feature {
 
 /// A question of rules: whether one can hold of arguments whose feature lies in a range, or whose string has no unit of a
 /// bucket. A bucket is one of 64.
-#[derive(Clone, Copy, Debug)]
 pub enum Question {
     /// The feature lies from `first` to `last`, both included.
     Within {

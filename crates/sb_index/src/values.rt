@@ -30,12 +30,21 @@ impl<'a> Values<'a> {
     }
 }
 
+fn lies(first: u64, last: u64, number: u64) -> bool
+    ensures { result ≡ lies first last number }
+{
+    first <= number && number <= last
+}
+
 fn one_lies(numbers: &[u64], first: u64, last: u64) -> bool
     ensures { result ≡ list_any (lies first last) numbers.now }
 {
-    numbers
-        .iter()
-        .any(|number| first <= *number && *number <= last)
+    for number in numbers {
+        if lies(first, last, *number) {
+            return true;
+        }
+    }
+    false
 }
 
 fn numbers_of(test: &Test) -> Option<Values<'_>>
@@ -97,9 +106,12 @@ fn cond_passes(feature: Feature, cond: &Cond, first: u64, last: u64) -> bool
 pub fn conds_pass(feature: Feature, conds: &[Cond], first: u64, last: u64) -> bool
     ensures { result ≡ list_all (cond_may_pass (Within feature first last)) conds.now }
 {
-    conds
-        .iter()
-        .all(|cond| cond_passes(feature, cond, first, last))
+    for cond in conds {
+        if !cond_passes(feature, cond, first, last) {
+            return false;
+        }
+    }
+    true
 }
 
 // The values that are among these, if there are some, and among those of one more condition: exactly, or of two lists of numbers the
