@@ -5,7 +5,7 @@ use Rattle.sb_pool.specs.Pools.{AreSeats, IsSeatOf, PoolValue, seen}
 use Rattle.sb_pool.specs.Views.{fresh_view}
 use Rattle.sb_pool.specs.declared.protocol.PoolView.{PoolView}
 use Rattle.sb_shared.specs.Seats.{WorkerSeatValue}
-use Rattle.sb_task.specs.Servers.{IsSameServer, ServerAt}
+use Rattle.sb_run.specs.Servers.{IsSameServer, ServerAt}
 use Rattle.sb_run.proofs.Pooled.{get_front, get_last}
 
 still_of : (pool : PoolValue) (s t : ServerAt) → IsSeatOf pool s → IsSameServer s t → IsSeatOf pool t

@@ -7,7 +7,7 @@ use Rattle.sb_run.specs.contracts.returns.ThreadReturn as ThreadReturn
 use Rattle.sb_shared.proofs.Crossing.{thread_send, worker_send}
 use Rattle.sb_statements.specs.contracts.scripts.Script as Script
 use Rattle.sb_statements.specs.contracts.sound_scripts.SoundScript as SoundScript
-use Rattle.sb_task.specs.contracts.works.Work as Work
+use Rattle.sb_run.specs.contracts.works.Work as Work
 
 plain_sync : IsSync Script.the_row
 plain_sync = search (sendable, crosses) depth 200 fits 20000

@@ -15,10 +15,10 @@ use Rattle.sb_shared.specs.Runs.{AreLooking, ClosedRunsAreRuns}
 use Rattle.sb_shared.specs.Seats.{SharedValue, ThreadSeatValue, WorkerSeatValue, fresh_thread, fresh_worker}
 use Rattle.sb_shared.specs.declared.closings.ClosedRun.{ClosedRun}
 use Rattle.sb_shared.specs.declared.views.Origin.{Origin}
-use Rattle.sb_task.specs.Threads.{HasEnded}
+use Rattle.sb_run.specs.Threads.{HasEnded}
 use Rattle.sb_run.specs.Endings.{HasClosed}
 use Rattle.sb_run.specs.Openings.{worker_homes}
-use Rattle.sb_task.specs.Works.{IsWork, home_of}
+use Rattle.sb_run.specs.Works.{IsWork, home_of}
 
 -- what the second of each pair has by the first
 all_by : {A B : Type 0} (R : A → B → Type 0) (P : A → Type 0) (Q : B → Type 0) → ((x : A) (y : B) → R x y → P x → Q y) → (xs : List A) (ys : List B) → AllZip R xs ys → All P xs → All Q ys

@@ -15,9 +15,9 @@ use Rattle.sb_shared.specs.Seats.{KeeperValue, SharedValue, ThreadSeatValue, Wor
 use Rattle.sb_shared.specs.declared.views.Origin.{Origin}
 use Rattle.sb_statements.specs.declared.scripts.Script.{Script}
 use Rattle.sb_statements.specs.declared.scripts.TargetScript.{TargetScript}
-use Rattle.sb_task.specs.Contexts.{ContextAt}
-use Rattle.sb_task.specs.Servers.{IsServer, ServerAt}
-use Rattle.sb_task.specs.Works.{home_of, number_of}
+use Rattle.sb_run.specs.Contexts.{ContextAt}
+use Rattle.sb_run.specs.Servers.{IsServer, ServerAt}
+use Rattle.sb_run.specs.Works.{home_of, number_of}
 use Rattle.sb_run.specs.Openings.{IsOpened, worker_homes}
 use Rattle.sb_run.proofs.Pooled.{all_from, get_front}
 

@@ -13,9 +13,9 @@ use Rattle.sb_shared.specs.Origins.{setting_in}
 use Rattle.sb_shared.specs.Seats.{KeeperValue, ThreadSeatValue, fresh_thread}
 use Rattle.sb_statements.specs.declared.schedules.Schedule.{Schedule}
 use Rattle.sb_statements.specs.declared.scripts.Script.{Script}
-use Rattle.sb_task.specs.Contexts.{ContextAt, IsContext}
-use Rattle.sb_task.specs.Servers.{IsSameServer, IsServer, ServerAt}
-use Rattle.sb_task.specs.Threads.{HasEnded}
+use Rattle.sb_run.specs.Contexts.{ContextAt, IsContext}
+use Rattle.sb_run.specs.Servers.{IsSameServer, IsServer, ServerAt}
+use Rattle.sb_run.specs.Threads.{HasEnded}
 use Rattle.sb_run.specs.Endings.{CanEnd}
 use Rattle.sb_run.specs.Openings.{IsOpened, OpenedAt, worker_homes}
 use Rattle.sb_run.proofs.Crewed.{pairs_length, still_seats}

@@ -3,9 +3,9 @@ use Rattle.std.specs.Prelude.{◌≡◌, ⊤, List}
 use Rattle.std.specs.List.{All, AllZip}
 use Rattle.sb_shared.specs.Closing.{IsKeeper, IsThreadSeat}
 use Rattle.sb_shared.specs.Seats.{IsSameThread, KeeperValue, ThreadSeatValue}
-use Rattle.sb_task.specs.Contexts.{ContextAt, IsContext}
-use Rattle.sb_task.specs.Servers.{IsSameServer, IsServer, ServerAt}
-use Rattle.sb_task.specs.Threads.{HasEnded}
+use Rattle.sb_run.specs.Contexts.{ContextAt, IsContext}
+use Rattle.sb_run.specs.Servers.{IsSameServer, IsServer, ServerAt}
+use Rattle.sb_run.specs.Threads.{HasEnded}
 use Rattle.sb_run.specs.declared.promises.ServerHost.{ServerHost}
 use Rattle.sb_run.specs.declared.promises.ServerHost.TheVariants as server
 use Rattle.sb_run.specs.declared.promises.ThreadHost.{ThreadHost}

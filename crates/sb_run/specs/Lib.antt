@@ -1,5 +1,9 @@
+pub mod Contexts
 pub mod Crews
 pub mod Endings
 pub mod Openings
 pub mod Pooling
 pub mod Returns
+pub mod Servers
+pub mod Threads
+pub mod Works

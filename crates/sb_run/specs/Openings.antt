@@ -5,8 +5,8 @@ use Rattle.sb_rule.specs.declared.policies.Policy.{Policy}
 use Rattle.sb_shared.specs.Opening.{target_places, thread_places}
 use Rattle.sb_shared.specs.Seats.{KeeperValue, SharedValue, ThreadSeatValue, WorkerSeatValue, fresh_keeper, fresh_thread, fresh_worker}
 use Rattle.sb_statements.specs.declared.scripts.Script.{Script}
-use Rattle.sb_task.specs.Servers.{ServerAt}
-use Rattle.sb_task.specs.Works.{home_of}
+use Rattle.sb_run.specs.Servers.{ServerAt}
+use Rattle.sb_run.specs.Works.{home_of}
 
 -- the shared world, the seats of all threads, the pool, and the seats of those who serve, with the one that takes them in
 pub record OpenedAt : Type 0 where

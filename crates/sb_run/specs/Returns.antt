@@ -1,8 +1,8 @@
 -- What a thread of a run gives back to the one that started it.
 use Rattle.std.specs.Prelude.{◌≡◌, ⊤}
 use Rattle.sb_shared.specs.Seats.{ThreadSeatValue}
-use Rattle.sb_task.specs.Servers.{IsSameServer, ServerAt}
-use Rattle.sb_task.specs.Threads.{HasEnded}
+use Rattle.sb_run.specs.Servers.{IsSameServer, ServerAt}
+use Rattle.sb_run.specs.Threads.{HasEnded}
 use Rattle.sb_run.specs.declared.returns.ServerReturn.{ServerReturn}
 use Rattle.sb_run.specs.declared.returns.ServerReturn.TheVariants as server
 use Rattle.sb_run.specs.declared.returns.ThreadReturn.{ThreadReturn}

@@ -3,20 +3,21 @@ ghost use Rattle.std.specs.Prelude.{◌≡◌, IfOk};
 ghost use Rattle.std.specs.List.{All, AllZip};
 ghost use Rattle.sb_run.specs.Crews.{CanRun, HasRun};
 ghost use Rattle.sb_shared.specs.Closing.{IsKeeper, IsThreadSeat};
-ghost use Rattle.sb_task.specs.Servers.{IsSameServer, IsServer};
-ghost use Rattle.sb_task.specs.Threads.{HasEnded};
+ghost use Rattle.sb_run.specs.Servers.{IsSameServer, IsServer};
+ghost use Rattle.sb_run.specs.Threads.{HasEnded};
 
-use crate::flags::{Flags, make_flags};
+use crate::contexts::RunContext;
+use crate::flags::make_flags;
 use crate::groups::{
     is_any_with_caller, join_servers, join_threads, serve_with_each, start_servers, start_threads,
     step_each,
 };
 use crate::started::{StartedServer, StartedThread};
+use crate::works::Server;
 use sb_base::NoMemory;
 use sb_outside::Gate;
 use sb_rule::Judge;
 use sb_shared::{Keeper, ThreadSeat};
-use sb_task::{RunContext, Server};
 use std::alloc::Global;
 use std::sync::Wait;
 use std::sync::atomic::{AtomicBool, AtomicU64, Ordering};
@@ -41,9 +42,10 @@ fn look_after<J: Judge, G: Gate, R: Wait>(
     ensures servers { servers.new.items ≡ servers.old.items }
     ensures keeper { IsKeeper context.now.world keeper.new }
 {
+    context.establish_kept();
     let serves = is_any_with_caller(servers);
     for _ in rt.forever() {
-        let busy = step_each(context, threads);
+        let busy = step_each(context.world, context.script, threads);
         if !busy && !(serves && running.load(Ordering::SeqCst) > 0) {
             break;
         }
@@ -75,9 +77,10 @@ fn work<'s, 'e, J: Judge, G: Gate, R: Threads + Wait + Sync>(
     ensures served { IfOk result (λ r. AllZip IsSameServer servers.items r.1.items) }
     ensures keeper { IsKeeper context.now.world keeper.new }
 {
-    let mut flags = Flags::new(flags);
-    let mut threads = start_threads(scope, rt, alloc, context, &mut flags, running, threads)?;
-    let mut servers = start_servers(scope, rt, alloc, context, &mut flags, servers)?;
+    context.establish_kept();
+    let (world, script, count) = (context.world, context.script, threads.len());
+    let mut threads = start_threads(scope, rt, alloc, world, script, flags, running, threads)?;
+    let mut servers = start_servers(scope, rt, alloc, context, flags, count, servers)?;
     look_after(
         rt,
         alloc,
@@ -87,8 +90,8 @@ fn work<'s, 'e, J: Judge, G: Gate, R: Threads + Wait + Sync>(
         &mut servers,
         keeper,
     )?;
-    let ended = join_threads(rt, alloc, context, threads)?;
-    keeper.stop(context.world);
+    let ended = join_threads(rt, alloc, threads)?;
+    keeper.stop(world);
     let back = join_servers(rt, alloc, servers)?;
     Ok((ended, back))
 }

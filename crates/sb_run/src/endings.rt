@@ -5,9 +5,10 @@ ghost use Rattle.sb_run.specs.Endings.{CanEnd, HasClosed};
 ghost use Rattle.sb_run.specs.Openings.{worker_homes};
 ghost use Rattle.sb_shared.specs.Closing.{AreFinished, AreThreads, IsKeeper};
 ghost use Rattle.sb_shared.specs.Origins.{setting_in};
-ghost use Rattle.sb_task.specs.Works.{IsWork, home_of};
+ghost use Rattle.sb_run.specs.Works.{IsWork, home_of};
 
 use crate::pooling::close_pool;
+use crate::works::{Server, Work};
 use sb_base::NoMemory;
 use sb_book::Report;
 use sb_core::finish;
@@ -15,7 +16,6 @@ use sb_pool::Pool;
 use sb_rule::Judge;
 use sb_shared::{ClosedRun, Keeper, SharedWorld, ThreadSeat, WorkerSeat, closed_runs_are_runs};
 use sb_statements::SoundScript;
-use sb_task::{Server, Work};
 use std::alloc::Global;
 use std::sync::Wait;
 

@@ -4,26 +4,6 @@ use sb_base::NoMemory;
 use std::alloc::Global;
 use std::sync::atomic::AtomicBool;
 
-/// Flags that were not given out.
-#[derive(Drop)]
-pub(crate) struct Flags<'e> {
-    rest: &'e [AtomicBool],
-}
-
-impl<'e> Flags<'e> {
-    /// These flags.
-    pub(crate) fn new(rest: &'e [AtomicBool]) -> Flags<'e> {
-        Flags { rest }
-    }
-
-    /// The next flag.
-    pub(crate) fn next(&mut self) -> Option<&'e AtomicBool> {
-        let (first, rest) = self.rest.split_first()?;
-        self.rest = rest;
-        Some(first)
-    }
-}
-
 /// The given number of flags, none of them set.
 ///
 /// # Errors

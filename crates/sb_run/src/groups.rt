@@ -2,57 +2,63 @@
 ghost use Rattle.std.specs.Prelude.{◌≡◌, IfOk};
 ghost use Rattle.std.specs.List.{All, AllZip};
 ghost use Rattle.sb_shared.specs.Closing.{IsThreadSeat};
-ghost use Rattle.sb_task.specs.Servers.{IsSameServer, IsServer};
-ghost use Rattle.sb_task.specs.Threads.{HasEnded};
+ghost use Rattle.sb_run.specs.Servers.{IsSameServer, IsServer};
+ghost use Rattle.sb_run.specs.Threads.{HasEnded};
 
-use crate::flags::Flags;
+use crate::contexts::RunContext;
 use crate::spawning::{start_server, start_thread};
 use crate::started::{StartedServer, StartedThread};
+use crate::works::Server;
 use sb_base::NoMemory;
 use sb_outside::Gate;
 use sb_rule::Judge;
-use sb_shared::ThreadSeat;
-use sb_task::{RunContext, Server};
+use sb_shared::{SharedWorld, ThreadSeat};
+use sb_statements::SoundScript;
 use std::alloc::Global;
 use std::sync::Wait;
-use std::sync::atomic::AtomicU64;
+use std::sync::atomic::{AtomicBool, AtomicU64};
 use std::thread::{Scope, Threads};
 
-/// Starts all threads of the script, each with a flag of its own.
+/// Starts all threads of the script, each with a flag of its own: the first ones.
 ///
 /// # Errors
 /// `NoMemory` if there is none for the list, or for a thread that was refused.
-pub(crate) fn start_threads<'s, 'e, J: Judge, G: Gate, R: Threads + Wait + Sync>(
+pub(crate) fn start_threads<'s, 'e, R: Threads + Wait + Sync>(
     scope: &'s Scope<'s, &'e ()>,
     rt: &'e R,
     alloc: Global,
-    context: &RunContext<'e, J, G>,
-    flags: &mut Flags<'e>,
+    world: &'e SharedWorld,
+    script: &'e SoundScript,
+    flags: &'e [AtomicBool],
     running: &'e AtomicU64,
     threads: Vec<ThreadSeat>,
 ) -> Result<Vec<StartedThread>, NoMemory>
-    requires { All (IsThreadSeat context.now.world) threads.items }
+    requires own { All (IsThreadSeat world.now) threads.items }
+    requires script { script.now ≡ world.now.key.script.value }
     ensures { IfOk result (λ started. started.items ≡ threads.items) }
 {
     let mut started = Vec::new(alloc);
     for seat in threads {
-        let thread = start_thread(scope, rt, context, flags.next(), running, seat)?;
+        let refused = flags.get(started.len());
+        let thread = start_thread(scope, rt, world, script, refused, running, seat)?;
         started.push(thread)?;
     }
     Ok(started)
 }
 
 /// One step of each thread whose steps the caller makes. True if there was one to make.
-pub(crate) fn step_each<J: Judge, G: Gate>(
-    context: &RunContext<'_, J, G>,
+pub(crate) fn step_each(
+    world: &SharedWorld,
+    script: &SoundScript,
     threads: &mut Vec<StartedThread>,
 ) -> bool
-    requires { All (IsThreadSeat context.now.world) threads.old.items }
+    requires own { All (IsThreadSeat world.now) threads.old.items }
+    requires script { script.now ≡ world.now.key.script.value }
     ensures { threads.new.items ≡ threads.old.items }
 {
     let mut busy = false;
     for at in 0..threads.len() {
-        if threads[at].step(context) {
+        if threads[at].step(world, script) {
             busy = true;
         }
     }
@@ -63,24 +69,22 @@ pub(crate) fn step_each<J: Judge, G: Gate>(
 ///
 /// # Errors
 /// `NoMemory` if a thread was stopped since memory ran out, or there is none for the list.
-pub(crate) fn join_threads<J: Judge, G: Gate, R: Threads>(
+pub(crate) fn join_threads<R: Threads>(
     rt: &R,
     alloc: Global,
-    context: &RunContext<'_, J, G>,
     threads: Vec<StartedThread>,
 ) -> Result<Vec<ThreadSeat>, NoMemory>
-    requires { All (IsThreadSeat context.now.world) threads.items }
     ensures { IfOk result (λ seats. AllZip HasEnded threads.items seats.items) }
 {
     let mut seats = Vec::new(alloc);
     for thread in threads {
-        let seat = thread.join(rt, context)?;
+        let seat = thread.join(rt)?;
         seats.push(seat)?;
     }
     Ok(seats)
 }
 
-/// Starts the threads that serve targets, each with a flag of its own.
+/// Starts the threads that serve targets, each with a flag of its own: those from `first` on.
 ///
 /// # Errors
 /// `NoMemory` if there is none for the list, or for a thread that was refused.
@@ -89,7 +93,8 @@ pub(crate) fn start_servers<'s, 'e, J: Judge, G: Gate, R: Threads + Wait + Sync>
     rt: &'e R,
     alloc: Global,
     context: &RunContext<'e, J, G>,
-    flags: &mut Flags<'e>,
+    flags: &'e [AtomicBool],
+    first: usize,
     servers: Vec<Server>,
 ) -> Result<Vec<StartedServer>, NoMemory>
     requires { All (IsServer context.now) servers.items }
@@ -97,7 +102,8 @@ pub(crate) fn start_servers<'s, 'e, J: Judge, G: Gate, R: Threads + Wait + Sync>
 {
     let mut started = Vec::new(alloc);
     for server in servers {
-        let serving = start_server(scope, rt, alloc, context, flags.next(), server)?;
+        let refused = flags.get(first.saturating_add(started.len()));
+        let serving = start_server(scope, rt, alloc, context, refused, server)?;
         started.push(serving)?;
     }
     Ok(started)

@@ -2,16 +2,22 @@
 // them may run beside each other. At the end the world is closed, and the report is that of its steps in some order.
 #![tactic(auto)]
 
+mod contexts;
 mod crews;
 mod endings;
 mod flags;
 mod groups;
 mod openings;
+mod pauses;
 mod pooling;
 mod promises;
 mod returns;
 mod runs;
+mod serving;
 mod spawning;
 mod started;
+mod threads;
+mod visits;
+mod works;
 
 pub use runs::run_threads;

@@ -3,14 +3,14 @@ ghost use Rattle.std.specs.Prelude.{◌≡◌, ◌<◌, ◌≤◌, ◌++◌, ◌
 ghost use Rattle.sb_actor.specs.WorkerTable.{is_looking};
 ghost use Rattle.sb_pool.specs.Pools.{AreNumbered, AreSeats};
 ghost use Rattle.sb_run.specs.Openings.{IsOpened};
-ghost use Rattle.sb_task.specs.Works.{home_of, number_of};
+ghost use Rattle.sb_run.specs.Works.{home_of, number_of};
 
+use crate::works::{Server, Work};
 use sb_base::NoMemory;
 use sb_book::RunStart;
 use sb_pool::Pool;
 use sb_shared::{Keeper, SharedParts, SharedWorld, ThreadSeat, WorkerSeat, script_of};
 use sb_statements::SoundScript;
-use sb_task::{Server, Work};
 use std::alloc::Global;
 use std::marker::Model;
 use std::sync::Wait;

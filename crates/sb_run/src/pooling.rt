@@ -2,10 +2,10 @@
 ghost use Rattle.std.specs.Prelude.{◌≡◌, ◌<◌, ◌++◌, ◌∷◌, [], length, map, All};
 ghost use Rattle.sb_pool.specs.Pools.{AreNumbered, AreSeats, IsSeatOf, seen};
 ghost use Rattle.sb_run.specs.Pooling.{with_seats};
-ghost use Rattle.sb_task.specs.Works.{home_of, number_of};
+ghost use Rattle.sb_run.specs.Works.{home_of, number_of};
 
+use crate::works::{Server, Work};
 use sb_pool::Pool;
-use sb_task::{Server, Work};
 use std::sync::Wait;
 
 // A seat takes in others, in order.

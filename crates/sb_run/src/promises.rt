@@ -1,8 +1,8 @@
 // What is promised of a thread that is started, by which it is known what its join returns.
 
 use crate::returns::{ServerReturn, ThreadReturn};
+use crate::works::Server;
 use sb_shared::ThreadSeat;
-use sb_task::Server;
 use std::snapshot::Snapshot;
 use std::thread::{Promise, PromisedHandle};
 

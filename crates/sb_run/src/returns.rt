@@ -1,7 +1,7 @@
 // What a thread gives back to the one that started it.
 
+use crate::works::Server;
 use sb_shared::ThreadSeat;
-use sb_task::Server;
 
 /// What a thread gives back that runs a thread of the script.
 #[derive(Drop)]

@@ -3,6 +3,7 @@ ghost use Rattle.std.specs.Prelude.{◌≡◌, ◌<◌, ◌≤◌, [], true, len
 ghost use Rattle.sb_book.specs.Histories.{setting_of};
 ghost use Rattle.sb_core.specs.Runs.{IsSomeRun};
 
+use crate::contexts::RunContext;
 use crate::crews::run_crew;
 use crate::endings::end_run;
 use crate::openings::{Opened, open_run};
@@ -13,7 +14,6 @@ use sb_outside::Gate;
 use sb_rule::Judge;
 use sb_shared::script_of;
 use sb_statements::Schedule;
-use sb_task::RunContext;
 use std::alloc::Global;
 use std::sync::Wait;
 use std::thread::Threads;

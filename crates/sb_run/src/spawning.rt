@@ -2,19 +2,22 @@
 // if that fails the caller has it.
 ghost use Rattle.std.specs.Prelude.{◌≡◌, IfOk};
 ghost use Rattle.sb_run.specs.Returns.{IsServerReturn, IsThreadReturn};
-ghost use Rattle.sb_task.specs.Contexts.{IsContext};
+ghost use Rattle.sb_run.specs.Contexts.{IsContext};
 ghost use Rattle.sb_shared.specs.Closing.{IsThreadSeat};
-ghost use Rattle.sb_task.specs.Servers.{IsServer};
+ghost use Rattle.sb_run.specs.Servers.{IsServer};
 
+use crate::contexts::RunContext;
 use crate::promises::{ServerHost, ServerPromise, ThreadHost, ThreadPromise};
 use crate::returns::{ServerReturn, ThreadReturn};
+use crate::serving::attend;
 use crate::started::{StartedServer, StartedThread};
+use crate::threads::run_thread;
+use crate::works::Server;
 use sb_base::NoMemory;
 use sb_outside::Gate;
 use sb_rule::Judge;
 use sb_shared::{SharedWorld, ThreadSeat};
 use sb_statements::SoundScript;
-use sb_task::{RunContext, Server, attend, run_thread};
 use std::alloc::Global;
 use std::snapshot::Snapshot;
 use std::sync::Wait;
@@ -39,10 +42,11 @@ fn run_or_return<R: Wait>(
         running.fetch_sub(1, Ordering::SeqCst);
         return ThreadReturn::Back(seat);
     }
-    let outcome = run_thread(rt, world, script, seat);
+    let mut seat = seat;
+    let outcome = run_thread(rt, world, script, &mut seat);
     running.fetch_sub(1, Ordering::SeqCst);
     match outcome {
-        Ok(ended) => ThreadReturn::Ended(ended),
+        Ok(()) => ThreadReturn::Ended(seat),
         Err(_) => ThreadReturn::Stopped,
     }
 }
@@ -67,23 +71,23 @@ fn thread_host(
 ///
 /// # Errors
 /// `NoMemory` if the thread was refused and memory ran out.
-pub(crate) fn start_thread<'s, 'e, J: Judge, G: Gate, R: Threads + Wait + Sync>(
+pub(crate) fn start_thread<'s, 'e, R: Threads + Wait + Sync>(
     scope: &'s Scope<'s, &'e ()>,
     rt: &'e R,
-    context: &RunContext<'e, J, G>,
+    world: &'e SharedWorld,
+    script: &'e SoundScript,
     refused: Option<&'e AtomicBool>,
     running: &'e AtomicU64,
     seat: ThreadSeat,
 ) -> Result<StartedThread, NoMemory>
-    requires { IsThreadSeat context.now.world seat }
+    requires own { IsThreadSeat world.now seat }
+    requires script { script.now ≡ world.now.key.script.value }
     ensures { IfOk result (λ s. s ≡ seat) }
 {
-    context.establish_kept();
     let first = Snapshot::of(&seat);
     let Some(refused) = refused else {
         return thread_host(first, ThreadReturn::Back(seat));
     };
-    let (world, script) = (context.world, context.script);
     let promise = ThreadPromise {
         seat: Snapshot::of(&seat),
     };

@@ -2,16 +2,19 @@
 ghost use Rattle.std.specs.Prelude.{◌≡◌, IfOk};
 ghost use Rattle.sb_run.specs.Crews.{IsServerHostOf, IsThreadHostOf};
 ghost use Rattle.sb_shared.specs.Closing.{IsThreadSeat};
-ghost use Rattle.sb_task.specs.Servers.{IsSameServer, IsServer};
-ghost use Rattle.sb_task.specs.Threads.{HasEnded};
+ghost use Rattle.sb_run.specs.Servers.{IsSameServer, IsServer};
+ghost use Rattle.sb_run.specs.Threads.{HasEnded};
 
+use crate::contexts::RunContext;
 use crate::promises::{ServerHost, ThreadHost};
 use crate::returns::{ServerReturn, ThreadReturn};
+use crate::serving::attend_once;
+use crate::works::Server;
 use sb_base::NoMemory;
 use sb_outside::Gate;
 use sb_rule::Judge;
-use sb_shared::ThreadSeat;
-use sb_task::{RunContext, Server, attend_once};
+use sb_shared::{SharedWorld, ThreadSeat};
+use sb_statements::SoundScript;
 use std::alloc::Global;
 use std::marker::Model;
 use std::mem;
@@ -52,17 +55,17 @@ impl StartedThread {
     }
 
     /// Makes the next step of a thread whose steps the caller makes. True if there was one to make.
-    pub(crate) fn step<J: Judge, G: Gate>(&mut self, context: &RunContext<'_, J, G>) -> bool
-        requires { IsThreadSeat context.now.world self.old }
+    pub(crate) fn step(&mut self, world: &SharedWorld, script: &SoundScript) -> bool
+        requires own { IsThreadSeat world.now self.old }
+        requires script { script.now ≡ world.now.key.script.value }
         ensures { self.new ≡ self.old }
     {
-        context.establish_kept();
         match &mut self.host {
             ThreadHost::Caller(seat) => {
                 if seat.is_finished() {
                     return false;
                 }
-                seat.step(context.world, context.script);
+                seat.step(world, script);
                 if seat.is_waiting() {
                     yield_now();
                 }
@@ -76,15 +79,9 @@ impl StartedThread {
     ///
     /// # Errors
     /// `NoMemory` if the thread was stopped since memory ran out, or the caller has not made all its steps.
-    pub(crate) fn join<J: Judge, G: Gate, R: Threads>(
-        self,
-        rt: &R,
-        context: &RunContext<'_, J, G>,
-    ) -> Result<ThreadSeat, NoMemory>
-        requires { IsThreadSeat context.now.world self }
+    pub(crate) fn join<R: Threads>(self, rt: &R) -> Result<ThreadSeat, NoMemory>
         ensures { IfOk result (λ s. HasEnded self s) }
     {
-        context.establish_kept();
         let StartedThread { first: _, host } = self;
         match host {
             ThreadHost::Thread(child) => match child.join(rt) {
@@ -115,7 +112,7 @@ impl Drop for StartedServer {
 
 impl Model for StartedServer {
     ghost use Rattle.sb_run.specs.Crews.{IsServerHostOf};
-    ghost use Rattle.sb_task.specs.Servers.{ServerAt};
+    ghost use Rattle.sb_run.specs.Servers.{ServerAt};
 
     ghost Value = { ServerAt };
 

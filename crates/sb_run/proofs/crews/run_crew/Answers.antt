@@ -1,8 +1,8 @@
 use Rattle.std.proofs.Common.{◌≡◌, sym, subst, All}
 use Rattle.std.proofs.lemmas.Result.{IfOk-weaker}
 use Rattle.sb_shared.specs.Closing.{IsKeeper, IsThreadSeat}
-use Rattle.sb_task.specs.Contexts.{ContextAt}
-use Rattle.sb_task.specs.Servers.{IsServer}
+use Rattle.sb_run.specs.Contexts.{ContextAt}
+use Rattle.sb_run.specs.Servers.{IsServer}
 use Rattle.sb_run.specs.Crews.{CanRun}
 use Rattle.sb_run.proofs.crews.run_crew.Goals as goal
 

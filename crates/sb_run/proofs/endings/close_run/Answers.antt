@@ -1,5 +1,5 @@
 use Rattle.std.proofs.Common.{◌≡◌, ◌∙◌, ap, map}
-use Rattle.sb_task.specs.Works.{home_of}
+use Rattle.sb_run.specs.Works.{home_of}
 use Rattle.sb_run.specs.Openings.{worker_homes}
 use Rattle.sb_run.proofs.Ended.{are_workers, has_closed}
 use Rattle.sb_run.proofs.endings.close_run.Goals as goal

@@ -1,6 +1,6 @@
 use Rattle.std.proofs.Common.{◌++◌, ◌∷◌, [], List, subst, sym}
 use Rattle.std.specs.List.{AllZip}
-use Rattle.sb_task.specs.Servers.{IsSameServer, ServerAt}
+use Rattle.sb_run.specs.Servers.{IsSameServer, ServerAt}
 use Rattle.sb_run.proofs.Crewed.{zip_more}
 use Rattle.sb_run.proofs.groups.join_servers.Goals as goal
 

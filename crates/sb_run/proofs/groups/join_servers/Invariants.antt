@@ -1,5 +1,5 @@
 use Rattle.std.specs.List.{AllZip}
-use Rattle.sb_task.specs.Servers.{IsSameServer}
+use Rattle.sb_run.specs.Servers.{IsSameServer}
 use Rattle.sb_run.proofs.groups.join_servers.Given as goal
 
 abbrev pub invariant-loop-server : goal.invariant-loop-server

@@ -1,7 +1,7 @@
 use Rattle.std.proofs.Common.{◌++◌, ◌∷◌, ◌∙◌, [], List, ap}
 use Rattle.std.proofs.lemmas.List.Elements.{All-rest}
 use Rattle.std.specs.Vec.Iter.{into_iter_items}
-use Rattle.sb_task.specs.Servers.{IsServer, ServerAt}
+use Rattle.sb_run.specs.Servers.{IsServer, ServerAt}
 use Rattle.sb_run.proofs.groups.start_servers.Goals as goal
 
 pub loop-server-preserved : goal.loop-server-preserved

@@ -1,6 +1,6 @@
 use Rattle.std.proofs.Common.{◌≡◌, All}
 use Rattle.std.specs.Vec.Iter.{into_iter_items}
-use Rattle.sb_task.specs.Servers.{IsServer}
+use Rattle.sb_run.specs.Servers.{IsServer}
 use Rattle.sb_run.proofs.groups.start_servers.Given as goal
 
 abbrev pub invariant-loop-server : goal.invariant-loop-server

@@ -9,5 +9,5 @@ pub loop-seat-preserved : goal.loop-seat-preserved
 loop-seat-preserved g c = (
   c.in_ok-push.ensures.items ∙ ap (λ (z : ThreadSeatValue). c.loop-seat.started.items ++ z ∷ []) c.in_ok-thread.ensures
       ∙ ap (λ (l : List ThreadSeatValue). l ++ c.in-Some.seat ∷ []) c.loop-seat.invariant.0,
-  All-rest (IsThreadSeat c.args.context.now.world) c.in-Some.seat (into_iter_items c.next.new.self) (into_iter_items c.loop-seat.seat-iterator) c.in-Some.ensures.steps.0 c.loop-seat.invariant.1,
+  All-rest (IsThreadSeat c.args.world.now) c.in-Some.seat (into_iter_items c.next.new.self) (into_iter_items c.loop-seat.seat-iterator) c.in-Some.ensures.steps.0 c.loop-seat.invariant.1,
 )

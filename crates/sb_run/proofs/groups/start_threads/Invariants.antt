@@ -4,4 +4,4 @@ use Rattle.sb_shared.specs.Closing.{IsThreadSeat}
 use Rattle.sb_run.proofs.groups.start_threads.Given as goal
 
 abbrev pub invariant-loop-seat : goal.invariant-loop-seat
-invariant-loop-seat g l = (l.started.items ≡ l.yielded) × All (IsThreadSeat l.context.world) (into_iter_items l.seat-iterator)
+invariant-loop-seat g l = (l.started.items ≡ l.yielded) × All (IsThreadSeat l.world) (into_iter_items l.seat-iterator)

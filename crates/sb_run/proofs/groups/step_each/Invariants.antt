@@ -2,4 +2,4 @@ use Rattle.std.proofs.Common.{◌≡◌}
 use Rattle.sb_run.proofs.groups.step_each.Given as goal
 
 abbrev pub invariant-loop-at : goal.invariant-loop-at
-invariant-loop-at g l = l.threads.items ≡ l.fn.threads.items
+invariant-loop-at l = l.threads.items ≡ l.fn.threads.items

@@ -1,6 +1,6 @@
 use Rattle.std.proofs.Common.{map, subst}
 use Rattle.sb_pool.specs.Pools.{AreSeats}
-use Rattle.sb_task.specs.Works.{home_of}
+use Rattle.sb_run.specs.Works.{home_of}
 use Rattle.sb_run.proofs.openings.open_pool.Goals as goal
 
 pub returns-clause-seats : goal.returns-clause-seats

@@ -5,7 +5,7 @@ use Rattle.sb_actor.specs.WorkerTable.{is_looking}
 use Rattle.sb_pool.specs.Pools.{AreNumbered}
 use Rattle.sb_shared.specs.Opening.{target_places}
 use Rattle.sb_shared.specs.Seats.{WorkerSeatValue, fresh_worker}
-use Rattle.sb_task.specs.Works.{number_of}
+use Rattle.sb_run.specs.Works.{number_of}
 use Rattle.sb_run.proofs.Opened.{fresh_look, fresh_numbered, opened}
 use Rattle.sb_run.proofs.openings.open_run.Goals as goal
 

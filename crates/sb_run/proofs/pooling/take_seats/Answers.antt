@@ -3,7 +3,7 @@ use Rattle.std.proofs.lemmas.List.Elements.{All-rest}
 use Rattle.std.specs.Vec.Iter.{into_iter_items}
 use Rattle.sb_pool.specs.Pools.{IsSeatOf, seen}
 use Rattle.sb_pool.specs.Views.{with_taken}
-use Rattle.sb_task.specs.Servers.{ServerAt}
+use Rattle.sb_run.specs.Servers.{ServerAt}
 use Rattle.sb_run.proofs.Pooled.{seats_more}
 use Rattle.sb_run.proofs.pooling.take_seats.Goals as goal
 

@@ -2,7 +2,7 @@ use Rattle.std.proofs.Common.{◌≡◌, [], All}
 use Rattle.std.specs.Vec.Iter.{into_iter_items}
 use Rattle.sb_pool.specs.Pools.{IsSeatOf, seen}
 use Rattle.sb_run.specs.Pooling.{with_seats}
-use Rattle.sb_task.specs.Servers.{ServerAt}
+use Rattle.sb_run.specs.Servers.{ServerAt}
 use Rattle.sb_run.proofs.pooling.take_seats.Given as goal
 
 abbrev pub invariant-loop-seat : goal.invariant-loop-seat

@@ -1,27 +1,23 @@
 // What a thread does that serves targets: it draws the seat of a worker, serves its target for a while, and hands it back.
 ghost use Rattle.std.specs.Prelude.{◌≡◌, ◌<◌, IfOk, OnOk};
 ghost use Rattle.sb_shared.specs.Closing.{IsWorkerOf};
-ghost use Rattle.sb_task.specs.Servers.{IsSameServer, IsServer};
-ghost use Rattle.sb_task.specs.Works.{home_of};
-ghost use Rattle.sb_task.specs.declared.serving.Attendance.TheVariants.{Stopped};
+ghost use Rattle.sb_run.specs.Servers.{IsSameServer, IsServer};
+ghost use Rattle.sb_run.specs.Works.{home_of};
+ghost use Rattle.sb_run.specs.declared.serving.Attendance.TheVariants.{Stopped};
 
 use crate::contexts::RunContext;
 use crate::pauses::IdleWait;
 use crate::visits::visit;
-use crate::works::Work;
+use crate::works::{Server, Work};
 use sb_base::NoMemory;
 use sb_outside::Gate;
-use sb_pool::PoolSeat;
 use sb_rule::Judge;
 use std::alloc::Global;
 use std::sync::Wait;
 
-/// The seat of the pool with which a thread serves targets.
-pub type Server = PoolSeat<Work>;
-
 /// How a pass of a thread that serves targets ended.
 #[derive(Clone, Copy)]
-pub enum Attendance {
+pub(crate) enum Attendance {
     /// It served some call.
     Served,
     /// There was nothing to serve, or another thread had it.
@@ -55,7 +51,7 @@ fn serve<J: Judge, G: Gate, R: Wait>(
 ///
 /// # Errors
 /// `NoMemory` if the worker ran out of memory, or another one did while this one tried to take the turn. Then the stop word is set, and the work is dropped.
-pub fn attend_once<J: Judge, G: Gate, R: Wait>(
+pub(crate) fn attend_once<J: Judge, G: Gate, R: Wait>(
     rt: &R,
     alloc: Global,
     context: &RunContext<'_, J, G>,
@@ -77,7 +73,7 @@ pub fn attend_once<J: Judge, G: Gate, R: Wait>(
 ///
 /// # Errors
 /// As `attend_once`.
-pub fn attend<J: Judge, G: Gate, R: Wait>(
+pub(crate) fn attend<J: Judge, G: Gate, R: Wait>(
     rt: &R,
     alloc: Global,
     context: &RunContext<'_, J, G>,

@@ -3,7 +3,7 @@ use Rattle.std.specs.Prelude.{◌≡◌, [], length}
 use Rattle.sb_pool.specs.Pools.{IsSeatOf, seen}
 use Rattle.sb_pool.specs.declared.seats.PoolSeat.{PoolSeat}
 use Rattle.sb_shared.specs.Seats.{WorkerSeatValue}
-use Rattle.sb_task.specs.Contexts.{AreHomes, ContextAt}
+use Rattle.sb_run.specs.Contexts.{AreHomes, ContextAt}
 
 abbrev pub ServerAt : Type 0
 ServerAt = PoolSeat WorkerSeatValue WorkerSeatValue

@@ -1,14 +1,14 @@
-// The work of a pool: the seat of a worker that is looking. Whoever draws it serves the target of that worker.
+// The work of a pool: the seat of a worker that is looking. Whoever draws it, with a seat of the pool, serves the target of that worker.
 ghost use Rattle.std.specs.Prelude.{◌≡◌, true};
 ghost use Rattle.sb_actor.specs.WorkerTable.{is_looking};
-ghost use Rattle.sb_task.specs.Works.{IsWork};
+ghost use Rattle.sb_run.specs.Works.{IsWork};
 
-use sb_pool::Numbered;
+use sb_pool::{Numbered, PoolSeat};
 use sb_shared::WorkerSeat;
 use std::marker::Model;
 
 /// The seat of a worker that is looking and does not have the turn.
-pub struct Work {
+pub(crate) struct Work {
     seat: WorkerSeat,
 }
 
@@ -20,7 +20,7 @@ impl Drop for Work {
 
 impl Model for Work {
     ghost use Rattle.sb_shared.specs.Seats.{WorkerSeatValue};
-    ghost use Rattle.sb_task.specs.Works.{IsWork};
+    ghost use Rattle.sb_run.specs.Works.{IsWork};
 
     ghost Value = { WorkerSeatValue };
 
@@ -30,7 +30,7 @@ impl Model for Work {
 }
 
 impl Numbered for Work {
-    ghost use Rattle.sb_task.specs.Works.{home_of, number_of};
+    ghost use Rattle.sb_run.specs.Works.{home_of, number_of};
 
     type Home = WorkerSeat;
 
@@ -46,7 +46,7 @@ impl Numbered for Work {
 impl Work {
     /// The work of the seat of a worker that is looking.
     #[tactic(auto, using(crate::proofs::Looking::looks_without))]
-    pub fn of(seat: WorkerSeat) -> Work
+    pub(crate) fn of(seat: WorkerSeat) -> Work
         requires { is_looking seat.state.stage ≡ true }
         ensures { result ≡ seat }
     {
@@ -55,7 +55,7 @@ impl Work {
     }
 
     /// The seat, with what its type keeps of it.
-    pub fn into_seat(self) -> WorkerSeat
+    pub(crate) fn into_seat(self) -> WorkerSeat
         ensures seat { result ≡ self }
         ensures kept { IsWork result }
     {
@@ -63,3 +63,6 @@ impl Work {
         seat
     }
 }
+
+/// The seat of the pool with which a thread serves targets.
+pub(crate) type Server = PoolSeat<Work>;

@@ -1,7 +1,7 @@
 // A thread of the script is run to its end.
-ghost use Rattle.std.specs.Prelude.{◌≡◌, IfOk};
+ghost use Rattle.std.specs.Prelude.{◌≡◌, OnOk};
 ghost use Rattle.sb_shared.specs.Closing.{IsThreadSeat};
-ghost use Rattle.sb_task.specs.Threads.{HasEnded};
+ghost use Rattle.sb_run.specs.Threads.{HasEnded};
 
 use crate::pauses::StepWait;
 use sb_base::NoMemory;
@@ -13,32 +13,31 @@ use std::sync::Wait;
 /// little.
 ///
 /// # Errors
-/// `NoMemory` if it found the stop word set. The seat is then dropped.
-pub fn run_thread<R: Wait>(
+/// `NoMemory` if it found the stop word set.
+pub(crate) fn run_thread<R: Wait>(
     rt: &R,
     world: &SharedWorld,
     script: &SoundScript,
-    seat: ThreadSeat,
-) -> Result<ThreadSeat, NoMemory>
-    requires own { IsThreadSeat world.now seat }
+    seat: &mut ThreadSeat,
+) -> Result<(), NoMemory>
+    requires own { IsThreadSeat world.now seat.old }
     requires script { script.now ≡ world.now.key.script.value }
-    ensures { IfOk result (λ s. HasEnded seat s) }
+    ensures { OnOk result (HasEnded seat.old seat.new) }
 {
-    let mut current = seat;
     let mut wait = StepWait::new();
     for _ in rt.forever() {
-        if current.is_finished() {
+        if seat.is_finished() {
             break;
         }
-        current.step(world, script);
-        if current.is_waiting() {
-            if current.stopped(world).is_some() {
+        seat.step(world, script);
+        if seat.is_waiting() {
+            if seat.stopped(world).is_some() {
                 return Err(NoMemory);
             }
-            wait.pass(rt, world, current.is_patient(script));
+            wait.pass(rt, world, seat.is_patient(script));
         } else {
             wait.reset();
         }
     }
-    Ok(current)
+    Ok(())
 }

@@ -1,5 +1,5 @@
 // What all threads of a run share.
-ghost use Rattle.sb_task.specs.Contexts.{IsContext};
+ghost use Rattle.sb_run.specs.Contexts.{IsContext};
 
 use crate::works::Work;
 use sb_outside::Gate;
@@ -12,18 +12,18 @@ use std::marker::Model;
 /// The judge, the gate, the script, the shared world, and the pool that deals the seats of the workers to those who serve. The world was opened with this script,
 /// and the judge judges its targets by their policies.
 #[derive(Drop)]
-pub struct RunContext<'a, J: Judge, G: Gate> {
-    pub judge: &'a J,
-    pub gate: &'a G,
-    pub script: &'a SoundScript,
-    pub world: &'a SharedWorld,
-    pub pool: &'a Pool<Work>,
+pub(crate) struct RunContext<'a, J: Judge, G: Gate> {
+    pub(crate) judge: &'a J,
+    pub(crate) gate: &'a G,
+    pub(crate) script: &'a SoundScript,
+    pub(crate) world: &'a SharedWorld,
+    pub(crate) pool: &'a Pool<Work>,
     /// How many threads serve targets.
-    pub serving: usize,
+    pub(crate) serving: usize,
 }
 
 impl<'a, J: Judge, G: Gate> Model for RunContext<'a, J, G> {
-    ghost use Rattle.sb_task.specs.Contexts.{ContextAt, IsContext};
+    ghost use Rattle.sb_run.specs.Contexts.{ContextAt, IsContext};
 
     ghost Value = { ContextAt };
 
@@ -34,7 +34,7 @@ impl<'a, J: Judge, G: Gate> Model for RunContext<'a, J, G> {
 
 impl<'a, J: Judge, G: Gate> RunContext<'a, J, G> {
     /// Establishes what holds of the context. It does nothing when it runs.
-    pub fn establish_kept(&self)
+    pub(crate) fn establish_kept(&self)
         ensures { IsContext self.now }
     {
         let _script = self.script;

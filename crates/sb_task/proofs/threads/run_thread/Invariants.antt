@@ -1,5 +1,0 @@
-use Rattle.sb_shared.specs.Seats.{IsSameThread}
-use Rattle.sb_task.proofs.threads.run_thread.Given as goal
-
-abbrev pub invariant-loop : goal.invariant-loop
-invariant-loop g l = IsSameThread l.fn.seat l.current

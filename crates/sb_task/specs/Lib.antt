@@ -1,4 +1,0 @@
-pub mod Contexts
-pub mod Servers
-pub mod Threads
-pub mod Works
