@@ -17,7 +17,7 @@ use Rattle.sb_text.specs.Tokens.{Lexeme, Word, Quoted, Bad, string_of, tokens_of
 use Rattle.sb_text.specs.Utf8.{Place, not_utf8_place}
 use Rattle.sb_text.specs.declared.refusals.TokenFault.{TokenFault}
 use Rattle.sb_text.specs.declared.refusals.WordFault.TheVariants as word
-use Rattle.sb_link.specs.LinkTexts.{add_line, grammar, link_version, new_link, read_link, string_at}
+use Rattle.sb_link.specs.LinkTexts.{add_line, grammar, link_at, link_version, new_link, read_link, string_at}
 use Rattle.sb_link.specs.Links.{AreLinks, is_from, is_link_name, most_links}
 use Rattle.sb_link.specs.Writing.{ReadLinksAreLinks, is_writable}
 use Rattle.sb_link.specs.declared.faults.LinkKind.{LinkKind}
@@ -41,15 +41,9 @@ quoted_text law q h =
     let text = law q (IsUtf8-from_is_utf8 q parts.0) parts.1 in
     both _ _ text.0 text.1
 
--- what is read after the word `link`
-abbrev after_word : List Lexeme → Result Link (TokenFault LinkKind)
-after_word tokens =
-    string_at tokens >>= λ from. string_at from.1 >>= λ to. end_at (UnknownWord word.Extra) (UnknownWord word.Broken) to.1 >>= λ end.
-    Ok (record { from = from.0; to = to.0 })
-
-strings_writable : QuotedStringsAreText → (tokens : List Lexeme) (link : Link) → after_word tokens ≡ Ok link → list_all is_quoted_text tokens ≡ true
+strings_writable : QuotedStringsAreText → (tokens : List Lexeme) (link : Link) → link_at tokens ≡ Ok link → list_all is_quoted_text tokens ≡ true
     → is_writable link ≡ true
-unfolding string_at
+unfolding link_at string_at
 strings_writable law [] link h t = absurd cc
 strings_writable law (Word w ∷ tokens) link h t = absurd cc
 strings_writable law (Bad ∷ tokens) link h t = absurd cc
@@ -73,7 +67,7 @@ link_writable law (Quoted q ∷ tokens) link h t = absurd cc
 link_writable law (Bad ∷ tokens) link h t = absurd cc
 link_writable law (Word w ∷ tokens) link h t = by (pointwise nat_eq w (codes "link")) h
   where
-    by : (b : Bool) → (unless_fails (Word w ∷ tokens) (UnknownWord word.Unknown) b >>= λ known. after_word tokens) ≡ Ok link → is_writable link ≡ true
+    by : (b : Bool) → (unless_fails (Word w ∷ tokens) (UnknownWord word.Unknown) b >>= λ known. link_at tokens) ≡ Ok link → is_writable link ≡ true
     by true e = strings_writable law tokens link e (and_parts (is_quoted_text (Word w)) (list_all is_quoted_text tokens) t).1
     by false e = absurd cc
 

@@ -18,7 +18,7 @@ use Rattle.sb_text.specs.Utf8.{Place}
 use Rattle.sb_text.specs.Utf8Laws.{NotUtf8PlaceTells}
 use Rattle.sb_text.specs.declared.refusals.TokenFault.{TokenFault}
 use Rattle.sb_text.specs.declared.refusals.WordFault.TheVariants.{NoVersion}
-use Rattle.sb_link.specs.LinkTexts.{grammar, new_link, read_link, string_at}
+use Rattle.sb_link.specs.LinkTexts.{grammar, link_at, new_link, read_link, string_at}
 use Rattle.sb_link.specs.Links.{AreLinks, are_distinct, is_from, is_link, is_link_name, most_links}
 use Rattle.sb_link.specs.Writing.{WrittenLinksAreRead, is_writable, link_lines, link_tokens, version_tokens, written}
 use Rattle.sb_link.specs.declared.faults.LinkKind.{LinkKind}
@@ -56,7 +56,7 @@ links_plain laws (link ∷ links) h =
     both (is_plain_line (link_tokens link)) _ (link_plain laws link parts.0) (links_plain laws links parts.1)
 
 link_back : Laws → (link : Link) → is_writable link ≡ true → read_link (link_tokens link) ≡ Ok link
-unfolding read_link string_at
+unfolding read_link link_at string_at
 link_back laws link h =
     let parts = and_parts (is_text link.from) (is_text link.to) h in
     λ i. Ok (record { from = (back laws link.from parts.0).string i; to = (back laws link.to parts.1).string i })

@@ -25,15 +25,20 @@ string_at tokens = do
   quoted ← quoted_at (UnknownWord Unquoted) (UnknownWord Broken) (UnknownWord Missing) tokens
   Ok (string_of quoted.0, quoted.1)
 
+-- the rest of a line after its word: `"FROM" "TO"`
+unfoldable pub link_at : List Lexeme → Result Link (TokenFault LinkKind)
+link_at tokens = do
+  from ← string_at tokens
+  to ← string_at from.1
+  end ← end_at (UnknownWord Extra) (UnknownWord Broken) to.1
+  Ok (record { from = from.0; to = to.0 })
+
 -- a line: `link "FROM" "TO"`
 unfoldable pub read_link : List Lexeme → Result Link (TokenFault LinkKind)
 read_link tokens = do
   word ← word_at (UnknownWord Quoted) (UnknownWord Broken) (UnknownWord Missing) tokens
   known ← unless_fails tokens (UnknownWord Unknown) (pointwise nat_eq word.0 (codes "link"))
-  from ← string_at word.1
-  to ← string_at from.1
-  end ← end_at (UnknownWord Extra) (UnknownWord Broken) to.1
-  Ok (record { from = from.0; to = to.0 })
+  link_at word.1
 
 -- These links and the link of a line. The line has three tokens: three are left at its first, two at FROM, and one at TO. FROM or TO is no name of a link,
 -- FROM is that of another link, or there are 64 links

@@ -5,7 +5,7 @@ ghost use Rattle.sb_base.specs.declared.refusals.Refused.TheVariants.{Fault};
 ghost use Rattle.sb_text.specs.Spots.{by_tokens};
 ghost use Rattle.sb_text.specs.Steps.{Becomes, Reads};
 ghost use Rattle.sb_text.specs.declared.refusals.WordFault.TheVariants.{NoVersion};
-ghost use Rattle.sb_link.specs.LinkTexts.{grammar, new_link, read_link, reading, string_at};
+ghost use Rattle.sb_link.specs.LinkTexts.{grammar, link_at, new_link, read_link, reading, string_at};
 ghost use Rattle.sb_link.specs.declared.faults.LinkKind.TheVariants.{UnknownWord};
 
 use crate::faults::{LineRefused, LinkKind, LinksRefused};
@@ -38,6 +38,17 @@ fn string_at(alloc: Global, tokens: &mut Tokens) -> Result<Wide, LineRefused>
     Ok(string_of(alloc, quoted)?)
 }
 
+// The rest of a line after its word: `"FROM" "TO"`.
+#[tactic(auto, unfolding(crate::specs::LinkTexts::link_at))]
+fn link_at(alloc: Global, tokens: &mut Tokens) -> Result<Link, LineRefused>
+    ensures { Gives (link_at tokens.old) result }
+{
+    let from = string_at(alloc, tokens)?;
+    let to = string_at(alloc, tokens)?;
+    end_at(EXTRA, BROKEN, tokens)?;
+    Ok(Link { from, to })
+}
+
 // A line: `link "FROM" "TO"`.
 #[tactic(auto, unfolding(crate::specs::LinkTexts::read_link))]
 fn read_link(alloc: Global, tokens: &Tokens) -> Result<Link, LineRefused>
@@ -47,10 +58,7 @@ fn read_link(alloc: Global, tokens: &Tokens) -> Result<Link, LineRefused>
     if word_at(QUOTED, BROKEN, MISSING, &mut rest)? != b"link".as_slice() {
         return Err(tokens.fail(LinkKind::UnknownWord(WordFault::Unknown)));
     }
-    let from = string_at(alloc, &mut rest)?;
-    let to = string_at(alloc, &mut rest)?;
-    end_at(EXTRA, BROKEN, &rest)?;
-    Ok(Link { from, to })
+    link_at(alloc, &mut rest)
 }
 
 // This fault where the given number of tokens of the line is left.

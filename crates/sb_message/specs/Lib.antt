@@ -10,3 +10,5 @@ pub mod DueTexts
 pub mod AuditMessages
 pub mod EndMessages
 pub mod MessageLaws
+pub mod NoteMessages
+pub mod NoteLaws

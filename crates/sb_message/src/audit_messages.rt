@@ -41,8 +41,8 @@ fn put_refuted(
     refuted: Refuted,
     shown: Option<&[u8]>,
 ) -> Result<(), NoMemory>
-    ensures { OnOk result (string_bytes out.new ≡ string_bytes out.old ++ two_text before.now refuted.line middle.now refuted.clause
-        ++ between.now ++ clause_words refuted.due (option_map (λ bytes. bytes.now) shown.entry) ++ between.now ++ due_text refuted.due ++ 10 ∷ []) }
+    ensures { OnOk result (string_bytes out.new ≡ string_bytes out.old ++ (two_text before.now refuted.line middle.now refuted.clause
+        ++ between.now ++ clause_words refuted.due (option_map (λ bytes. bytes.now) shown.entry) ++ between.now ++ due_text refuted.due ++ 10 ∷ [])) }
 {
     put_two(
         out,

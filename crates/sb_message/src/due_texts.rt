@@ -8,7 +8,7 @@ ghost use Rattle.sb_rule.specs.Actions.{action_word};
 ghost use Rattle.sb_base.specs.Numbers.{hexadecimal};
 ghost use Rattle.sb_message.specs.DueTexts.{clause_words, due_text, entry_text, form_text, form_words, number_text, own_text, place_text, reply_text, result_text, rule_text, spot_text, status_text, totals_text, verdict_text};
 
-use crate::causes::put_two;
+use crate::causes::{put_two, put_words};
 use sb_audit::{Due, FormDue, OwnDue, PlaceDue, ReplyDue, ResultDue, RuleDue, Spot};
 use sb_base::NoMemory;
 use sb_call::CallTag;
@@ -60,7 +60,7 @@ fn put_last_number(out: &mut String, before: &str, number: u32) -> Result<(), No
 
 // Appends words and then a number in hexadecimal.
 fn put_bits(out: &mut String, before: &str, bits: u64) -> Result<(), NoMemory>
-    ensures { OnOk result (string_bytes out.new ≡ string_bytes out.old ++ before.now ++ hexadecimal bits) }
+    ensures { OnOk result (string_bytes out.new ≡ string_bytes out.old ++ (before.now ++ hexadecimal bits)) }
 {
     out.push_str(before)?;
     put_hexadecimal_text(out, bits)
@@ -98,12 +98,12 @@ fn put_form(out: &mut String, due: FormDue) -> Result<(), NoMemory>
     ensures { OnOk result (string_bytes out.new ≡ string_bytes out.old ++ form_text due) }
 {
     match due {
-        FormDue::LineFeed => Ok(out.push_str("a line feed at its end is due")?),
+        FormDue::LineFeed => put_words(out, "a line feed at its end is due"),
         FormDue::Line { entry, result } => {
             put_entry(out, entry)?;
             put_spot(out, result)
         }
-        FormDue::End => Ok(out.push_str("nothing is due after the totals")?),
+        FormDue::End => put_words(out, "nothing is due after the totals"),
     }
 }
 
@@ -183,7 +183,7 @@ fn put_rule(out: &mut String, due: RuleDue) -> Result<(), NoMemory>
     ensures { OnOk result (string_bytes out.new ≡ string_bytes out.old ++ rule_text due) }
 {
     match due {
-        RuleDue::FittingArgs => Ok(out.push_str("its arguments do not fit it")?),
+        RuleDue::FittingArgs => put_words(out, "its arguments do not fit it"),
         RuleDue::Decided(verdict) => put_verdict(out, verdict),
         RuleDue::RuleOn { line, action } => put_no_rule(out, line, action),
         RuleDue::Without { bits } => {
@@ -294,7 +294,7 @@ fn put_result(out: &mut String, due: ResultDue) -> Result<(), NoMemory>
     ensures { OnOk result (string_bytes out.new ≡ string_bytes out.old ++ result_text due) }
 {
     match due {
-        ResultDue::Statement => Ok(out.push_str("there is none at this place")?),
+        ResultDue::Statement => put_words(out, "there is none at this place"),
         ResultDue::ReplyOf { mark } => {
             put_number(out, "the reply of the entry with mark ", mark, " is due")
         }
@@ -305,7 +305,7 @@ fn put_result(out: &mut String, due: ResultDue) -> Result<(), NoMemory>
             ", which is clean, has mark ",
             mark,
         ),
-        ResultDue::Channel => Ok(out.push_str("a clean channel of the target is free for it")?),
+        ResultDue::Channel => put_words(out, "a clean channel of the target is free for it"),
         ResultDue::CleanReply { channel } => put_number(
             out,
             "a reply is due on channel ",
@@ -313,7 +313,7 @@ fn put_result(out: &mut String, due: ResultDue) -> Result<(), NoMemory>
             ", which is clean",
         ),
         ResultDue::OtherState => {
-            Ok(out.push_str("a send is lost only if its channel is not found busy")?)
+            put_words(out, "a send is lost only if its channel is not found busy")
         }
         ResultDue::OtherMark { mark } => {
             put_number(
@@ -323,9 +323,9 @@ fn put_result(out: &mut String, due: ResultDue) -> Result<(), NoMemory>
                 "",
             )
         }
-        ResultDue::OfCall => Ok(out.push_str("it is a call")?),
-        ResultDue::OfStore => Ok(out.push_str("it is a store")?),
-        ResultDue::OfLoad => Ok(out.push_str("it is an exchange or a load")?),
+        ResultDue::OfCall => put_words(out, "it is a call"),
+        ResultDue::OfStore => put_words(out, "it is a store"),
+        ResultDue::OfLoad => put_words(out, "it is an exchange or a load"),
         ResultDue::OfWait { most } => {
             put_last_number(out, "it is a wait whose limit of loads is ", most)
         }

@@ -1,5 +1,5 @@
-// What is written on standard error if a command ends with a fault: what was wrong in words, the place, and the line with a caret. Nothing of a
-// file or of an argument reaches a terminal unescaped.
+// What is written on standard error if a command ends with a fault: what was wrong in words, the place, and the line with a caret; and the notes of a
+// policy file, each a warning of a pattern that cannot mean what it says. Nothing of a file or of an argument reaches a terminal unescaped.
 #![tactic(auto)]
 
 mod audit_messages;
@@ -10,6 +10,8 @@ mod link_messages;
 mod message_laws;
 mod messages;
 mod move_messages;
+mod note_laws;
+mod note_messages;
 mod places;
 mod policy_messages;
 mod schedule_messages;
@@ -21,6 +23,8 @@ pub use link_messages::link_message;
 pub use message_laws::messages_are_clean;
 pub use messages::{FaultyText, TextFault};
 pub use move_messages::move_message;
+pub use note_laws::{notes_are_clean, notes_are_true};
+pub use note_messages::{MOST_TOLD, notes_text};
 pub use places::put_place;
 pub use policy_messages::policy_message;
 pub use schedule_messages::schedule_message;

@@ -14,7 +14,7 @@ use Rattle.sb_message.specs.PolicyMessages.{policy_message}
 use Rattle.sb_message.specs.ScheduleMessages.{schedule_message}
 use Rattle.sb_message.specs.ScriptMessages.{script_message}
 use Rattle.sb_message.specs.declared.end_messages.EndFault.TheVariants as end
-use Rattle.sb_notes.specs.NoteMessages.{notes_message}
+use Rattle.sb_message.specs.NoteMessages.{notes_message}
 use Rattle.sb_text.specs.MissingTexts.{or_empty}
 use Rattle.sb_ruletext.specs.Kinds.{kind_number}
 use Rattle.sb_scripttext.specs.Kinds as script

@@ -2,7 +2,7 @@
 ghost use Rattle.std.specs.Prelude.{◌≡◌, IfOk, option_map, string_bytes};
 ghost use Rattle.sb_commands.specs.Commands.{command_of, name_at};
 ghost use Rattle.sb_commands.specs.Usage.{texts};
-ghost use Rattle.sb_notes.specs.NoteMessages.{notes_message};
+ghost use Rattle.sb_message.specs.NoteMessages.{notes_message};
 ghost use Rattle.sb_text.specs.MissingTexts.{or_empty};
 ghost use Rattle.sb_top.specs.Exits.{message_of, notes_by};
 ghost use Rattle.sb_top.specs.Top.{files_for};
@@ -10,10 +10,9 @@ ghost use Rattle.sb_top.specs.Top.{files_for};
 use sb_base::NoMemory;
 use sb_commands::{command_of, usage_message};
 use sb_message::{
-    EndFault, audit_message, end_message, link_message, move_message, policy_message,
+    EndFault, audit_message, end_message, link_message, move_message, notes_text, policy_message,
     schedule_message, script_message,
 };
-use sb_notes::notes_text;
 use sb_plain::{Outcome, Shown, Status};
 use std::alloc::Global;
 

@@ -2,10 +2,10 @@ use Rattle.std.proofs.Common.{ap, string_bytes}
 use Rattle.sb_message.specs.Messages.{place_line}
 use Rattle.sb_message.specs.Places.{shown_line}
 use Rattle.sb_message.specs.declared.messages.FaultyText.TheVariants.{Policy}
-use Rattle.sb_notes.specs.NoteMessages.{note_headline, note_text}
+use Rattle.sb_message.specs.NoteMessages.{note_headline, note_text}
 use Rattle.sb_text.specs.MissingTexts.{line_or_empty}
-use Rattle.sb_notes.proofs.Told.{told_in_turn}
-use Rattle.sb_notes.proofs.note_messages.put_note.Goals as goal
+use Rattle.sb_message.proofs.NoteParts.{told_in_turn}
+use Rattle.sb_message.proofs.note_messages.put_note.Goals as goal
 
 pub returns : goal.returns
 unfolding note_text

@@ -2,7 +2,7 @@
 use Rattle.std.specs.Prelude.{◌≡◌, ℕ, true, false, List, ◌∷◌, Some}
 use Rattle.sb_glyphs.specs.CleanTexts.{IsClean}
 use Rattle.sb_ruletext.specs.NoteKinds.{kind_of}
-use Rattle.sb_notes.specs.NoteMessages.{notes_message}
+use Rattle.sb_message.specs.NoteMessages.{notes_message}
 use Rattle.sb_ruletext.specs.declared.note_kinds.NoteKind.TheVariants.{UnescapedPrefix, MatchesNoName}
 use Rattle.sb_rule.specs.Matching.{matches}
 use Rattle.sb_rule.specs.PatternReading.{cells_of}

@@ -1,11 +1,12 @@
 // Notes in words.
 ghost use Rattle.std.specs.Prelude.{◌≡◌, ◌++◌, ◌≤◌, length, take, IfOk, OnOk, string_bytes};
 ghost use Rattle.std.specs.List.{flat_map};
-ghost use Rattle.sb_notes.specs.NoteMessages.{note_headline, note_text, note_words, notes_text, number_text};
+ghost use Rattle.sb_message.specs.NoteMessages.{note_headline, note_text, note_words, notes_text, number_text};
 
+use crate::messages::FaultyText;
+use crate::places::put_place;
 use sb_base::NoMemory;
 use sb_glyphs::put_decimal_text;
-use sb_message::{FaultyText, put_place};
 use sb_ruletext::{Note, NoteKind};
 use sb_text::line_or_empty;
 use std::alloc::Global;

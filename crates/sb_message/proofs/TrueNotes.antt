@@ -5,7 +5,7 @@ use Rattle.std.proofs.lemmas.Bool.{and_parts, eqb-true, false≢true}
 use Rattle.std.proofs.lemmas.Bool.Decides.{nat_tests}
 use Rattle.std.specs.List.{list_all}
 use Rattle.sb_ruletext.specs.NoteKinds.{begins_with_prefix, may_begin_name, kind_of}
-use Rattle.sb_notes.specs.Laws.{NotesAreTrue}
+use Rattle.sb_message.specs.NoteLaws.{NotesAreTrue}
 use Rattle.sb_ruletext.specs.declared.note_kinds.NoteKind.{NoteKind}
 use Rattle.sb_ruletext.specs.declared.note_kinds.NoteKind.TheVariants.{UnescapedPrefix, MatchesNoName}
 use Rattle.sb_rule.specs.Matching.{matches}

@@ -1,5 +1,5 @@
 // Laws of notes. None of these functions does anything: each contract is a law.
-ghost use Rattle.sb_notes.specs.Laws.{NotesAreClean, NotesAreTrue};
+ghost use Rattle.sb_message.specs.NoteLaws.{NotesAreClean, NotesAreTrue};
 
 /// A pattern that is noted to match no name matches none, and one that is noted to begin with `\??\` matches a name with any units in place of the two
 /// question marks exactly if it matches it with them.

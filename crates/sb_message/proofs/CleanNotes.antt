@@ -7,8 +7,8 @@ use Rattle.sb_message.proofs.CleanPlaces.{line_clean, place_clean}
 use Rattle.sb_message.specs.Messages.{place_line}
 use Rattle.sb_message.specs.Places.{shown_line}
 use Rattle.sb_message.specs.declared.messages.FaultyText.TheVariants.{Policy}
-use Rattle.sb_notes.specs.Laws.{NotesAreClean}
-use Rattle.sb_notes.specs.NoteMessages.{note_headline, note_text, note_words, notes_message, notes_text, number_text}
+use Rattle.sb_message.specs.NoteLaws.{NotesAreClean}
+use Rattle.sb_message.specs.NoteMessages.{note_headline, note_text, note_words, notes_message, notes_text, number_text}
 use Rattle.sb_text.specs.MissingTexts.{line_or_empty}
 use Rattle.sb_ruletext.specs.Notes.{notes_of}
 use Rattle.sb_ruletext.specs.declared.note_kinds.NoteKind.{NoteKind}

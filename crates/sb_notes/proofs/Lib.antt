@@ -1,3 +1,0 @@
-mod Told
-mod Truth
-mod Clean

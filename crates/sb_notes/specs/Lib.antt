@@ -1,2 +1,0 @@
-pub mod NoteMessages
-pub mod Laws
