@@ -1,32 +1,29 @@
 -- What `audit` comes to.
-use Rattle.std.proofs.Common.{◌≡◌, refl, sym, subst, ℕ, inl, inr, List, Option, lit≤}
-use Rattle.std.specs.Prelude.{IfSome, Result, Ok, Err}
+use Rattle.std.proofs.Common.{refl, ℕ, List, Option, lit≤}
+use Rattle.std.specs.Prelude.{IfSome, Result}
 use Rattle.sb_audit.specs.Audited.{audited}
 use Rattle.sb_audit.specs.declared.answers.AuditAnswer.{AuditAnswer}
 use Rattle.sb_audit.specs.declared.answers.AuditAnswer.TheVariants.{Yes, No}
 use Rattle.sb_outside.specs.Outside.{Held}
 use Rattle.sb_rule.specs.declared.policies.Policy.{Policy}
 use Rattle.sb_statements.specs.declared.scripts.Script.{Script}
-use Rattle.sb_plain.specs.Audit.{answer_after, answer_by, answer_in, audit_end, audited_end, most_transcript_bytes, refuted_at}
+use Rattle.sb_plain.specs.Audit.{answer_after, answer_by, answer_in, audit_end, audited_end, most_transcript_bytes}
 use Rattle.sb_plain.specs.Coming.{GivesBy, IsCausedBy}
 use Rattle.sb_plain.specs.Contents.{Content, Refusal, text_within}
-use Rattle.sb_plain.specs.Endings.{IsCaused}
 use Rattle.sb_plain.specs.Ends.{End, Plain}
 use Rattle.sb_plain.specs.Sound.{AreEndsSound, IsSound}
+use Rattle.sb_plain.proofs.ReadFiles.{given_caused}
 use Rattle.sb_plain.proofs.ScriptEnds.{each_end}
 use Rattle.sb_plain.proofs.Suiting.{EndsPlainly, IsSuited, RefusesFor, next, of_text_within, script_suited, third_refuses}
 
 -- that a transcript is refuted has no cause outside it
 pub audit_caused : {B : Type 0} (seen : B → List ℕ) (text : List ℕ) (held : Option Held) (rose : Type 0) (answer : AuditAnswer) (r : Result B Refusal)
     → GivesBy seen (answer_by text answer) r → IsCausedBy held rose r
-audit_caused seen text held rose answer (Ok line) g = tt
-audit_caused seen text held rose answer (Err refusal) (inl e) = by answer e
+audit_caused seen text held rose answer r = given_caused seen held rose (answer_by text answer) r (by answer)
   where
-    by : (a : AuditAnswer) → answer_by text a ≡ Err refusal → IsCaused held rose refusal.status
-    by (Yes entries results) h = cc
-    by (No refuted) h =
-        let is : refuted_at refuted text ≡ refusal = cc in subst (λ (x : Refusal). IsCaused held rose x.status) is tt
-audit_caused seen text held rose answer (Err refusal) (inr e) = subst (λ (x : Refusal). IsCaused held rose x.status) (sym e) tt
+    by : (a : AuditAnswer) → IsCausedBy held rose (answer_by text a)
+    by (Yes entries results) = tt
+    by (No refuted) = tt
 
 -- ---- its statuses, and its runs
 

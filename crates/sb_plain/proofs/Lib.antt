@@ -1,5 +1,6 @@
 pub mod ReadFiles
 pub mod Carrying
+pub mod KeptFiles
 pub mod Moving
 pub mod Auditing
 pub mod Linking

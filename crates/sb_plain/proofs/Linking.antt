@@ -1,5 +1,5 @@
 -- What `linked` comes to.
-use Rattle.std.proofs.Common.{◌≡◌, refl, sym, subst, ℕ, inl, inr, List, Option, lit≤}
+use Rattle.std.proofs.Common.{refl, ℕ, List, Option, lit≤}
 use Rattle.std.specs.Prelude.{IfSome, Result, Ok, Err}
 use Rattle.sb_link.specs.LinkTexts.{LinkFault}
 use Rattle.sb_link.specs.declared.links.Link.{Link}
@@ -7,26 +7,22 @@ use Rattle.sb_outside.specs.Outside.{Held}
 use Rattle.sb_rule.specs.declared.policies.Policy.{Policy}
 use Rattle.sb_statements.specs.declared.scripts.Script.{Script}
 use Rattle.sb_plain.specs.Coming.{GivesBy, IsCausedBy}
-use Rattle.sb_plain.specs.Contents.{Content, Refusal, refused_at, text_in}
-use Rattle.sb_plain.specs.Endings.{IsCaused}
+use Rattle.sb_plain.specs.Contents.{Content, Refusal, text_in}
 use Rattle.sb_plain.specs.Ends.{End, Plain}
 use Rattle.sb_plain.specs.Linked.{calls_end, linked_end, links_after, links_by, links_in}
 use Rattle.sb_plain.specs.Sound.{AreEndsSound, IsSound}
-use Rattle.sb_plain.specs.declared.outcomes.Status.TheVariants.{LinksRefused}
+use Rattle.sb_plain.proofs.ReadFiles.{given_caused}
 use Rattle.sb_plain.proofs.ScriptEnds.{each_end}
 use Rattle.sb_plain.proofs.Suiting.{EndsPlainly, IsSuited, RefusesFor, next, of_text, script_suited, third_refuses}
 
 -- a refusal of what the text of the links says has no cause outside it
 pub links_caused : (text : List ℕ) (held : Option Held) (rose : Type 0) (found : Result (List Link) LinkFault) (r : Result (List Link) Refusal)
     → GivesBy (λ (l : List Link). l) (links_by text found) r → IsCausedBy held rose r
-links_caused text held rose found (Ok links) g = tt
-links_caused text held rose found (Err refusal) (inl e) = by found e
+links_caused text held rose found r = given_caused (λ (l : List Link). l) held rose (links_by text found) r (by found)
   where
-    by : (f : Result (List Link) LinkFault) → links_by text f ≡ Err refusal → IsCaused held rose refusal.status
-    by (Ok links) h = cc
-    by (Err fault) h =
-        let is : refused_at fault.line text (LinksRefused fault) ≡ refusal = cc in subst (λ (x : Refusal). IsCaused held rose x.status) is tt
-links_caused text held rose found (Err refusal) (inr e) = subst (λ (x : Refusal). IsCaused held rose x.status) (sym e) tt
+    by : (f : Result (List Link) LinkFault) → IsCausedBy held rose (links_by text f)
+    by (Ok links) = tt
+    by (Err fault) = tt
 
 -- ---- its statuses, and its runs
 

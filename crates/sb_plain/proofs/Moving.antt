@@ -1,11 +1,13 @@
 -- What `dup` comes to.
 use Rattle.std.proofs.Common.{◌≡◌, ◌∙◌, refl, sym, ap, subst, ℕ, true, List, length, Option, None, Some, lit≤}
-use Rattle.std.specs.Prelude.{IfSome, Result, Ok, Err}
+use Rattle.std.specs.Prelude.{IfOk, IfSome, Result, Ok, Err}
 use Rattle.std.specs.List.{list_all}
 use Rattle.std.proofs.lemmas.List.{length-map}
 use Rattle.sb_book.specs.Histories.{setting_of}
+use Rattle.sb_book.specs.ReadyScripts.{Ready}
 use Rattle.sb_book.specs.declared.reports.Report.{Report}
 use Rattle.sb_compile.specs.Compiling.{policies_of_targets}
+use Rattle.sb_core.specs.declared.runs.Ran.{Ran}
 use Rattle.sb_dup.specs.Lines.{is_between}
 use Rattle.sb_dup.specs.MoveTexts.{MoveFault}
 use Rattle.sb_dup.specs.declared.moves.Move.{Move}
@@ -15,12 +17,13 @@ use Rattle.sb_rule.specs.declared.policies.Policy.{Policy}
 use Rattle.sb_ruletext.specs.Laws.{ReadPoliciesAreWellMade}
 use Rattle.sb_scripttext.specs.Readiness.{ReadScriptsAreReady}
 use Rattle.sb_statements.specs.declared.scripts.Script.{Script}
-use Rattle.sb_plain.specs.Coming.{IsTextCaused}
-use Rattle.sb_plain.specs.Contents.{Content, no_schedule, text_in}
-use Rattle.sb_plain.specs.Dup.{dup_end, moves_after, moves_by, moves_end, moves_in, text_after}
+use Rattle.sb_plain.specs.Coming.{GivesBy, IsCausedBy, IsTextCaused, ReportedEnd, reported}
+use Rattle.sb_plain.specs.Contents.{Content, Refusal, no_schedule, text_in}
+use Rattle.sb_plain.specs.Dup.{dup_end, moves_after, moves_by, moves_end, moves_in, reported_moves, text_after}
 use Rattle.sb_plain.specs.Ends.{End, Plain}
 use Rattle.sb_plain.specs.Replay.{whole_run}
 use Rattle.sb_plain.specs.Sound.{AreEndsSound, IsSound, RunsAreSound}
+use Rattle.sb_plain.proofs.ReadFiles.{given_caused}
 use Rattle.sb_plain.proofs.Readings.{can_run}
 use Rattle.sb_plain.proofs.ScriptEnds.{each_end}
 use Rattle.sb_plain.proofs.Suiting.{EndsPlainly, IsPlainStatus, IsSuited, RefusesFor, next, of_text, script_suited, third_refuses, unfinished_plain}
@@ -34,6 +37,26 @@ each_judged policies targets script read moves e same h =
     let count : length targets ≡ length read.targets = ap (λ (ps : List Policy). length ps) e ∙ (length-map script.targets (λ target. policy_at policies target.policy)
     ∙ ap (λ (s : Script). length s.targets) same) in
     subst (λ n. list_all (is_between n) moves ≡ true) (sym count) h
+
+-- the end of the run of a script that was read is that of the command
+pub moves_ended : {E : Type 0} (opened : Ready) (targets : List Policy) (script : Script) (moves : List Move) (r : Ran) (made : Result ReportedEnd E)
+    → targets ≡ (setting_of opened.policies opened.script).policies → script ≡ opened.script → r ≡ whole_run opened.policies opened.script no_schedule
+    → IfOk made (λ end. end ≡ reported_moves targets script moves r) → IfOk made (λ end. end ≡ reported (moves_end opened.policies opened.script moves))
+moves_ended opened targets script moves r (Ok end) judged same whole e =
+    let by = (setting_of opened.policies opened.script).policies in
+    e ∙ (ap (λ (ts : List Policy). reported_moves ts script moves r) judged
+    ∙ (ap (λ (s : Script). reported_moves by s moves r) same
+    ∙ ap (λ (x : Ran). reported_moves by opened.script moves x) whole))
+moves_ended opened targets script moves r (Err fault) judged same whole e = tt
+
+-- a refusal of what the text of the moves says has no cause outside it
+pub moves_caused : (text : List ℕ) (held : Option Held) (rose : Type 0) (found : Result (List Move) MoveFault) (r : Result (List Move) Refusal)
+    → GivesBy (λ (m : List Move). m) (moves_by text found) r → IsCausedBy held rose r
+moves_caused text held rose found r = given_caused (λ (m : List Move). m) held rose (moves_by text found) r (by found)
+  where
+    by : (f : Result (List Move) MoveFault) → IsCausedBy held rose (moves_by text f)
+    by (Ok moves) = tt
+    by (Err fault) = tt
 
 -- the end of the run is no fault of a file
 pub dup_caused : (held : Option Held) (rose : Type 0) (targets : List Policy) (script : Script) (moves : List Move) (report : Report) (left : Option (ℕ × ℕ))

@@ -14,15 +14,16 @@ use Rattle.sb_core.specs.declared.runs.Ran.{Ran}
 use Rattle.sb_rule.specs.declared.policies.Policies.{Policies}
 use Rattle.sb_rule.specs.declared.policies.Policy.{Policy}
 use Rattle.sb_ruletext.specs.PolicyTexts.{PolicyFault, reading}
+use Rattle.sb_scheduletext.specs.ScheduleTexts.{ScheduleFault}
 use Rattle.sb_scripttext.specs.ScriptTexts.{ScriptFault}
 use Rattle.sb_statements.specs.declared.schedules.Schedule.{Schedule}
 use Rattle.sb_statements.specs.declared.scripts.Script.{Script}
 use Rattle.sb_plain.specs.Coming.{GivesBy, IsCausedBy, IsRead, IsLaterBy, IsReadBy, IsScheduled, IsTextCaused}
-use Rattle.sb_plain.specs.Contents.{Content, Refusal, most_bytes, noted_policies_in, policies_by, policies_refusal, refused, refused_at, schedule_in, script_by, status_of, text_in, text_within}
+use Rattle.sb_plain.specs.Contents.{Content, Refusal, most_bytes, noted_policies_in, policies_by, policies_refusal, refused, schedule_by, schedule_in, script_by, status_of, text_in, text_within}
 use Rattle.sb_plain.specs.Ends.{AreContents, Contents, IsHeld}
 use Rattle.sb_plain.specs.Endings.{IsCaused}
 use Rattle.sb_plain.specs.Replay.{run_text, schedule_of}
-use Rattle.sb_plain.specs.declared.outcomes.Status.TheVariants.{PolicyRefused, ScriptRefused, TooLong}
+use Rattle.sb_plain.specs.declared.outcomes.Status.TheVariants.{TooLong}
 
 -- ---- contents that are not looked at
 
@@ -101,28 +102,37 @@ policies_unread seen text found given.NoMemory refusal g e = inr e
 
 -- ---- causes
 
--- a refusal of what a text says has no cause outside it
-by_text : {A B : Type 0} (seen : B → A) (held : Option Held) (rose : Type 0) (wanted : Result A Refusal) (r : Result B Refusal)
-    → ((refusal : Refusal) → wanted ≡ Err refusal → IsCaused held rose refusal.status) → GivesBy seen wanted r → IsCausedBy held rose r
-by_text seen held rose wanted (Ok x) h g = tt
-by_text seen held rose wanted (Err refusal) h (inl e) = h refusal e
-by_text seen held rose wanted (Err refusal) h (inr e) = subst (λ (x : Refusal). IsCaused held rose x.status) (sym e) tt
+-- what is given has its cause if what is wanted has
+pub given_caused : {A B : Type 0} (seen : B → A) (held : Option Held) (rose : Type 0) (wanted : Result A Refusal) (r : Result B Refusal)
+    → IsCausedBy held rose wanted → GivesBy seen wanted r → IsCausedBy held rose r
+given_caused seen held rose wanted (Ok x) h g = tt
+given_caused {A} seen held rose wanted (Err refusal) h (inl e) = subst (λ (x : Result A Refusal). IsCausedBy held rose x) e h
+given_caused seen held rose wanted (Err refusal) h (inr e) = subst (λ (x : Refusal). IsCaused held rose x.status) (sym e) tt
 
+-- a refusal of what a text says has no cause outside it
 pub policies_caused : {B : Type 0} (seen : B → List Policy) (text : List ℕ) (held : Option Held) (rose : Type 0) (found : Result (List Policy) PolicyFault) (r : Result B Refusal)
     → GivesBy seen (policies_by text found) r → IsCausedBy held rose r
-policies_caused seen text held rose found r = by_text seen held rose (policies_by text found) r (by found)
+policies_caused seen text held rose found r = given_caused seen held rose (policies_by text found) r (by found)
   where
-    by : (f : Result (List Policy) PolicyFault) (refusal : Refusal) → policies_by text f ≡ Err refusal → IsCaused held rose refusal.status
-    by (Ok p) refusal e = cc
-    by (Err fault) refusal e = let is : refused_at fault.line text (PolicyRefused fault) ≡ refusal = cc in subst (λ (x : Refusal). IsCaused held rose x.status) is tt
+    by : (f : Result (List Policy) PolicyFault) → IsCausedBy held rose (policies_by text f)
+    by (Ok policies) = tt
+    by (Err fault) = tt
 
 pub script_caused : {B : Type 0} (seen : B → Script) (text : List ℕ) (held : Option Held) (rose : Type 0) (found : Result Script ScriptFault) (r : Result B Refusal)
     → GivesBy seen (script_by text found) r → IsCausedBy held rose r
-script_caused seen text held rose found r = by_text seen held rose (script_by text found) r (by found)
+script_caused seen text held rose found r = given_caused seen held rose (script_by text found) r (by found)
   where
-    by : (f : Result Script ScriptFault) (refusal : Refusal) → script_by text f ≡ Err refusal → IsCaused held rose refusal.status
-    by (Ok p) refusal e = cc
-    by (Err fault) refusal e = let is : refused_at fault.line text (ScriptRefused fault) ≡ refusal = cc in subst (λ (x : Refusal). IsCaused held rose x.status) is tt
+    by : (f : Result Script ScriptFault) → IsCausedBy held rose (script_by text f)
+    by (Ok script) = tt
+    by (Err fault) = tt
+
+pub schedule_caused : (text : List ℕ) (held : Option Held) (rose : Type 0) (found : Result Schedule ScheduleFault) (r : Result Schedule Refusal)
+    → GivesBy (λ (s : Schedule). s) (schedule_by text found) r → IsCausedBy held rose r
+schedule_caused text held rose found r = given_caused (λ (s : Schedule). s) held rose (schedule_by text found) r (by found)
+  where
+    by : (f : Result Schedule ScheduleFault) → IsCausedBy held rose (schedule_by text f)
+    by (Ok schedule) = tt
+    by (Err fault) = tt
 
 -- the end of a run is no fault of a file
 pub run_caused : (held : Option Held) (rose : Type 0) (script : Script) (r : Ran) (left : Option (ℕ × ℕ)) → IsTextCaused held rose (run_text script r left)

@@ -1,9 +1,9 @@
 -- What reading and carrying out give, before anything is put.
-use Rattle.std.specs.Prelude.{◌≡◌, ◌⊎◌, ⊤, ℕ, List, Option, None, Some, IfOk, IsOk, IsOkAnd, Result, Ok, Err}
+use Rattle.std.specs.Prelude.{◌≡◌, ◌≤◌, ◌⊎◌, ⊤, ℕ, List, Option, None, Some, IfOk, IsOk, IsOkAnd, OnOk, Result, Ok, Err}
 use Rattle.sb_book.specs.ReadyScripts.{Ready}
 use Rattle.sb_book.specs.declared.reports.Report.{Report}
 use Rattle.sb_core.specs.declared.runs.Ran.{Ran}
-use Rattle.sb_outside.specs.Outside.{Held}
+use Rattle.sb_outside.specs.Outside.{Held, Rose}
 use Rattle.sb_statements.specs.declared.schedules.Schedule.{Schedule}
 use Rattle.sb_statements.specs.declared.scripts.Script.{Script}
 use Rattle.sb_plain.specs.Contents.{Content, Refusal, refused}
@@ -118,3 +118,11 @@ IsTextCaused held rose (Err status) = IsCaused held rose status
 abbrev pub IsEndCaused : Option Held → Type 0 → Result ReportedEnd Refusal → Type 0
 IsEndCaused held rose (Ok end) = IsTextCaused held rose end.text
 IsEndCaused held rose (Err refusal) = IsCaused held rose refusal.status
+
+-- What a call does to the files that it is given, by what they tell of themselves. What they hold stays. Their count of faults does not fall, nor does it rise if a
+-- value was given. And what was given, or its refusal, has its cause
+pub record KeepsFiles {G A : Type 0} (IsCause : Option Held → Type 0 → Result A Refusal → Type 0) (held : G → Option Held) (faults : G → ℕ) (files files' : G) (result : Result A Refusal) : Type 0 where
+  pub kept : held files' ≡ held files
+  pub counted : faults files ≤ faults files'
+  pub ok_count : OnOk result (faults files' ≡ faults files)
+  pub caused : IsCause (held files) (Rose (faults files) (faults files')) result

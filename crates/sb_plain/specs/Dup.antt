@@ -12,6 +12,7 @@ use Rattle.sb_rule.specs.declared.policies.Policy.{Policy}
 use Rattle.sb_statements.specs.declared.scripts.Script.{Script}
 use Rattle.sb_text.specs.Steps.{◌>>=◌}
 use Rattle.sb_transcript.specs.Transcripts.{transcript}
+use Rattle.sb_plain.specs.Coming.{ReportedEnd}
 use Rattle.sb_plain.specs.Contents.{Content, Refusal, no_schedule, refused_at, text_in}
 use Rattle.sb_plain.specs.Ends.{Contents, End}
 use Rattle.sb_plain.specs.ScriptEnds.{script_end, third_by}
@@ -48,6 +49,11 @@ moved_by policies script moves r = record {
   run = Some (record { policies = policies; script = script; ran = r });
   noted = None;
 }
+
+-- the same with its report, by the policies that judge the moves
+abbrev pub reported_moves : List Policy → Script → List Move → Ran → ReportedEnd
+reported_moves targets script moves r =
+    record { text = text_after targets script moves r.report r.unfinished; report = Some r.report; noted = None }
 
 -- the script is run without a schedule, and then the moves are made
 abbrev pub moves_end : List Policy → Script → List Move → End

@@ -1,9 +1,8 @@
 // The command `audit`: policies, a script and a transcript are read, and what the audit of the transcript answers is put.
-ghost use Rattle.std.specs.Prelude.{◌≡◌, ◌≤◌, ◌<◌, ◌+◌, ◌^◌, ◌⊎◌, ◌∷◌, [], length, MatchOption, None, Some, IfOk, OnOk};
+ghost use Rattle.std.specs.Prelude.{◌≡◌, ◌<◌, ◌+◌, ◌^◌, ◌⊎◌, ◌∷◌, [], length, MatchOption, None, Some, IfOk};
 ghost use Rattle.sb_audit.specs.Audited.{audited};
-ghost use Rattle.sb_outside.specs.Outside.{Rose};
 ghost use Rattle.sb_plain.specs.Audit.{answer_by, answer_in, answer_to, audit_end, raw_line, refuted_at, yes_line};
-ghost use Rattle.sb_plain.specs.Coming.{GivesBy, IsCausedBy, IsEndCaused, IsFound, IsRead};
+ghost use Rattle.sb_plain.specs.Coming.{GivesBy, IsCausedBy, IsEndCaused, IsFound, IsRead, KeepsFiles};
 ghost use Rattle.sb_plain.specs.Contents.{refused};
 
 use crate::ends::CommandEnd;
@@ -96,11 +95,8 @@ fn answer_in<F: Files>(
     ready: &ReadyScript,
     name: &str,
 ) -> Result<Vec<u8>, Refused>
-    ensures kept { F.held files.new ≡ F.held files.old }
-    ensures counted { F.faults files.old ≤ F.faults files.new }
-    ensures ok_count { OnOk result (F.faults files.new ≡ F.faults files.old) }
+    ensures files { KeepsFiles IsCausedBy F.held F.faults files.old files.new result }
     ensures read { IsRead (λ line. line.items) 3 (answer_in ready.now.policies ready.now.script) (F.held files.old) name.now result }
-    ensures caused { IsCausedBy (F.held files.old) (Rose (F.faults files.old) (F.faults files.new)) result }
 {
     let text = text_within(alloc, files, name, 3, MOST_TRANSCRIPT_BYTES)?;
     answer_to(alloc, ready, &text)
@@ -115,11 +111,8 @@ pub fn audit_transcript<F: Files>(
     script: &str,
     transcript: &str,
 ) -> Result<CommandEnd, Refused>
-    ensures kept { F.held files.new ≡ F.held files.old }
-    ensures counted { F.faults files.old ≤ F.faults files.new }
-    ensures ok_count { OnOk result (F.faults files.new ≡ F.faults files.old) }
+    ensures files { KeepsFiles IsEndCaused F.held F.faults files.old files.new result }
     ensures found { IsFound audit_end (policy.now ∷ script.now ∷ transcript.now ∷ []) (F.held files.old) result }
-    ensures caused { IsEndCaused (F.held files.old) (Rose (F.faults files.old) (F.faults files.new)) result }
 {
     let opened = opened_in(alloc, files, policy, script)?;
     let (ready, _) = opened.into_parts();

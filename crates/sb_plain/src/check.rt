@@ -1,8 +1,8 @@
 // The command `check`: policies are read, and printed with the listings of their programs.
-ghost use Rattle.std.specs.Prelude.{◌≡◌, ◌≤◌, [], ◌∷◌, IfOk, OnOk, Some};
-ghost use Rattle.sb_outside.specs.Outside.{Rose, joined};
+ghost use Rattle.std.specs.Prelude.{◌≡◌, [], ◌∷◌, IfOk, Some};
+ghost use Rattle.sb_outside.specs.Outside.{joined};
 ghost use Rattle.sb_plain.specs.Check.{check_end, checked, listings, printed_end};
-ghost use Rattle.sb_plain.specs.Coming.{IsEndCaused, IsFound, reported};
+ghost use Rattle.sb_plain.specs.Coming.{IsEndCaused, IsFound, KeepsFiles, reported};
 
 use crate::ends::{CommandEnd, Lines, two_texts};
 use crate::reading::noted_policies_in;
@@ -61,11 +61,8 @@ pub fn check_policy<F: Files>(
     files: &mut F,
     policy: &str,
 ) -> Result<CommandEnd, Refused>
-    ensures kept { F.held files.new ≡ F.held files.old }
-    ensures counted { F.faults files.old ≤ F.faults files.new }
-    ensures ok_count { OnOk result (F.faults files.new ≡ F.faults files.old) }
+    ensures files { KeepsFiles IsEndCaused F.held F.faults files.old files.new result }
     ensures found { IsFound check_end (policy.now ∷ []) (F.held files.old) result }
-    ensures caused { IsEndCaused (F.held files.old) (Rose (F.faults files.old) (F.faults files.new)) result }
 {
     let noted = noted_policies_in(alloc, files, policy)?;
     let (text, policies) = noted;

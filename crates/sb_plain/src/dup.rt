@@ -1,17 +1,16 @@
 // The command `dup`: policies, a script and moves are read, the script is run, and then handles are passed between its targets.
-ghost use Rattle.std.specs.Prelude.{◌≡◌, ◌≤◌, ◌<◌, ◌+◌, ◌^◌, ◌∷◌, [], length, true, IfOk, OnOk};
+ghost use Rattle.std.specs.Prelude.{◌≡◌, ◌<◌, ◌+◌, ◌^◌, ◌∷◌, [], length, true, IfOk};
 ghost use Rattle.std.specs.List.{list_all};
 ghost use Rattle.sb_book.specs.Histories.{setting_of};
 ghost use Rattle.sb_book.specs.Reports.{result_count};
 ghost use Rattle.sb_dup.specs.Lines.{is_between};
 ghost use Rattle.sb_dup.specs.MoveLines.{lines_of_moves};
 ghost use Rattle.sb_dup.specs.MoveTexts.{reading};
-ghost use Rattle.sb_outside.specs.Outside.{Rose, joined};
-ghost use Rattle.sb_plain.specs.Coming.{GivesBy, IsCausedBy, IsEndCaused, IsFound, IsRead, reported};
+ghost use Rattle.sb_outside.specs.Outside.{joined};
+ghost use Rattle.sb_plain.specs.Coming.{GivesBy, IsCausedBy, IsEndCaused, IsFound, IsRead, KeepsFiles, reported};
 ghost use Rattle.sb_plain.specs.Contents.{no_schedule};
-ghost use Rattle.sb_plain.specs.Dup.{answers_after, dup_end, moved_text, moves_by, moves_end, moves_in, text_after};
+ghost use Rattle.sb_plain.specs.Dup.{answers_after, dup_end, moved_text, moves_by, moves_end, moves_in, reported_moves};
 ghost use Rattle.sb_plain.specs.Replay.{whole_run};
-ghost use Rattle.sb_plain.specs.Putting.{EndsSilently, text_of};
 
 use crate::ends::{CommandEnd, Lines, two_texts};
 use crate::outcomes::Status;
@@ -51,12 +50,9 @@ fn moves_in<F: Files>(
     script: &SoundScript,
     name: &str,
 ) -> Result<Moves, Refused>
-    ensures kept { F.held files.new ≡ F.held files.old }
-    ensures counted { F.faults files.old ≤ F.faults files.new }
-    ensures ok_count { OnOk result (F.faults files.new ≡ F.faults files.old) }
+    ensures files { KeepsFiles IsCausedBy F.held F.faults files.old files.new result }
     ensures read { IsRead (λ m. m) 3 (moves_in script.now) (F.held files.old) name.now result }
     ensures between { IfOk result (λ moves. list_all (is_between (length script.now.targets)) moves ≡ true) }
-    ensures caused { IsCausedBy (F.held files.old) (Rose (F.faults files.old) (F.faults files.new)) result }
 {
     let text = text_in(alloc, files, name, 3)?;
     moves_by(alloc, script, text)
@@ -103,26 +99,28 @@ fn texts_after(
     two_texts(alloc, transcript_text(alloc, script, report)?, moved)
 }
 
-// What is put after a run, or the thread that it leaves unfinished.
-fn lines_after(
+// The end of a run that moves follow: they are made, and the texts are put, if no thread is unfinished.
+fn end_of_moves(
     alloc: Global,
     judge: &Programs<'_>,
     script: &Script,
     moves: &Moves,
-    ran: &Ran,
-) -> Result<Result<Lines, Status>, NoMemory>
+    ran: Ran,
+) -> Result<CommandEnd, NoMemory>
     requires between { list_all (is_between (length judge.now.policies)) moves.now ≡ true }
-    requires few { result_count ran.now.report.results < 2 ^ 62 }
-    ensures text { IfOk result (λ lines. text_of lines ≡ text_after judge.now.policies script.now moves.now ran.now.report ran.now.unfinished) }
-    ensures silent { IfOk result EndsSilently }
+    requires few { result_count ran.report.results < 2 ^ 62 }
+    ensures { IfOk result (λ end. end ≡ reported_moves judge.now.policies script.now moves.now ran) }
 {
-    match ran.unfinished {
-        None => {
-            let texts = texts_after(alloc, judge, script, moves, &ran.report)?;
-            Ok(Ok(Lines::Texts(texts)))
-        }
-        Some((target, thread)) => Ok(Err(Status::Unfinished { target, thread })),
-    }
+    let Ran { report, unfinished } = ran;
+    let lines = match unfinished {
+        None => Ok(Lines::Texts(texts_after(alloc, judge, script, moves, &report)?)),
+        Some((target, thread)) => Err(Status::Unfinished { target, thread }),
+    };
+    Ok(CommandEnd {
+        lines,
+        report: Some(report),
+        noted: None,
+    })
 }
 
 // The run of a script without a schedule, in which calls are judged by these programs.
@@ -146,12 +144,7 @@ fn move_by(alloc: Global, opened: OpenedScript, moves: &Moves) -> Result<Command
     let (ready, kernel) = opened.into_parts();
     let judge = Programs::new(alloc, ready.policies(), ready.script())?;
     let ran = run_unscheduled(alloc, &judge, RunStart::of(&ready, kernel))?;
-    let lines = lines_after(alloc, &judge, ready.script(), moves, &ran)?;
-    Ok(CommandEnd {
-        lines,
-        report: Some(ran.report),
-        noted: None,
-    })
+    end_of_moves(alloc, &judge, ready.script(), moves, ran)
 }
 
 /// Reads policies, a script and moves, runs the script without a schedule, and then passes handles between its targets as the moves
@@ -163,11 +156,8 @@ pub fn dup_script<F: Files>(
     script: &str,
     moves: &str,
 ) -> Result<CommandEnd, Refused>
-    ensures kept { F.held files.new ≡ F.held files.old }
-    ensures counted { F.faults files.old ≤ F.faults files.new }
-    ensures ok_count { OnOk result (F.faults files.new ≡ F.faults files.old) }
+    ensures files { KeepsFiles IsEndCaused F.held F.faults files.old files.new result }
     ensures found { IsFound dup_end (policy.now ∷ script.now ∷ moves.now ∷ []) (F.held files.old) result }
-    ensures caused { IsEndCaused (F.held files.old) (Rose (F.faults files.old) (F.faults files.new)) result }
 {
     let opened = opened_in(alloc, files, policy, script)?;
     let moves = moves_in(alloc, files, opened.script(), moves)?;

@@ -1,9 +1,8 @@
 // The command `linked`: policies, a script and links are read, the calls of the script are answered with their names resolved, and a line for
 // each is put.
-ghost use Rattle.std.specs.Prelude.{◌≡◌, ◌≤◌, ◌<◌, ◌+◌, ◌^◌, ◌∷◌, [], length, IfOk, OnOk};
+ghost use Rattle.std.specs.Prelude.{◌≡◌, ◌<◌, ◌+◌, ◌^◌, ◌∷◌, [], length, IfOk};
 ghost use Rattle.sb_link.specs.LinkTexts.{reading};
-ghost use Rattle.sb_outside.specs.Outside.{Rose};
-ghost use Rattle.sb_plain.specs.Coming.{GivesBy, IsCausedBy, IsEndCaused, IsFound, IsRead, reported};
+ghost use Rattle.sb_plain.specs.Coming.{GivesBy, IsCausedBy, IsEndCaused, IsFound, IsRead, KeepsFiles, reported};
 ghost use Rattle.sb_plain.specs.Linked.{calls_end, calls_text, linked_end, links_by, links_in};
 
 use crate::ends::CommandEnd;
@@ -35,11 +34,8 @@ fn links_by(alloc: Global, text: Vec<u8>) -> Result<Links, Refused>
 
 // The links of the third file.
 fn links_in<F: Files>(alloc: Global, files: &mut F, name: &str) -> Result<Links, Refused>
-    ensures kept { F.held files.new ≡ F.held files.old }
-    ensures counted { F.faults files.old ≤ F.faults files.new }
-    ensures ok_count { OnOk result (F.faults files.new ≡ F.faults files.old) }
+    ensures files { KeepsFiles IsCausedBy F.held F.faults files.old files.new result }
     ensures read { IsRead (λ l. l) 3 links_in (F.held files.old) name.now result }
-    ensures caused { IsCausedBy (F.held files.old) (Rose (F.faults files.old) (F.faults files.new)) result }
 {
     let text = text_in(alloc, files, name, 3)?;
     links_by(alloc, text)
@@ -72,11 +68,8 @@ pub fn linked_script<F: Files>(
     script: &str,
     links: &str,
 ) -> Result<CommandEnd, Refused>
-    ensures kept { F.held files.new ≡ F.held files.old }
-    ensures counted { F.faults files.old ≤ F.faults files.new }
-    ensures ok_count { OnOk result (F.faults files.new ≡ F.faults files.old) }
+    ensures files { KeepsFiles IsEndCaused F.held F.faults files.old files.new result }
     ensures found { IsFound linked_end (policy.now ∷ script.now ∷ links.now ∷ []) (F.held files.old) result }
-    ensures caused { IsEndCaused (F.held files.old) (Rose (F.faults files.old) (F.faults files.new)) result }
 {
     let opened = opened_in(alloc, files, policy, script)?;
     let links = links_in(alloc, files, links)?;

@@ -1,14 +1,14 @@
 // The command `local`: policies, a script and its schedule are read, and what the targets of the script do not deny themselves is run. The
 // denials and the transcript are put.
-ghost use Rattle.std.specs.Prelude.{◌≡◌, ◌≤◌, ◌<◌, ◌^◌, ◌∷◌, ◌++◌, true, IfOk, OnOk};
+ghost use Rattle.std.specs.Prelude.{◌≡◌, ◌<◌, ◌^◌, ◌∷◌, ◌++◌, true, IfOk};
 ghost use Rattle.std.specs.List.{list_all};
 ghost use Rattle.sb_book.specs.Reports.{result_count};
 ghost use Rattle.sb_commands.specs.Commands.{named};
 ghost use Rattle.sb_kernel.specs.Openings.{opening};
 ghost use Rattle.sb_local.specs.Lines.{denial_lines};
-ghost use Rattle.sb_outside.specs.Outside.{Rose, joined};
+ghost use Rattle.sb_outside.specs.Outside.{joined};
 ghost use Rattle.sb_statements.specs.Actors.{is_step_there};
-ghost use Rattle.sb_plain.specs.Coming.{IsEndCaused, IsFound, reported};
+ghost use Rattle.sb_plain.specs.Coming.{IsEndCaused, IsFound, KeepsFiles, reported};
 ghost use Rattle.sb_plain.specs.Local.{LocalRunsAreSerial, local_end, local_run_end, reported_after, thinned};
 ghost use Rattle.sb_plain.specs.Replay.{listed};
 ghost use Rattle.sb_transcript.specs.Transcripts.{transcript};
@@ -156,11 +156,8 @@ pub fn local_script<F: Files>(
     script: &str,
     schedule: Option<&str>,
 ) -> Result<CommandEnd, Refused>
-    ensures kept { F.held files.new ≡ F.held files.old }
-    ensures counted { F.faults files.old ≤ F.faults files.new }
-    ensures ok_count { OnOk result (F.faults files.new ≡ F.faults files.old) }
+    ensures files { KeepsFiles IsEndCaused F.held F.faults files.old files.new result }
     ensures found { IsFound local_end (policy.now ∷ script.now ∷ listed (named schedule.entry)) (F.held files.old) result }
-    ensures caused { IsEndCaused (F.held files.old) (Rose (F.faults files.old) (F.faults files.new)) result }
 {
     let opened = opened_in(alloc, files, policy, script)?;
     let (written, kernel) = opened.into_parts();

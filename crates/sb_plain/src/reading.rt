@@ -1,13 +1,12 @@
 // The files of commands, read and found to be policies, a script for targets of these, and a schedule of its actors.
-ghost use Rattle.std.specs.Prelude.{◌≡◌, ◌≤◌, ◌<◌, ◌+◌, ◌^◌, length, true, IfOk, OnOk, Some};
+ghost use Rattle.std.specs.Prelude.{◌≡◌, ◌≤◌, ◌<◌, ◌+◌, ◌^◌, length, true, IfOk, Some};
 ghost use Rattle.std.specs.List.{list_all};
-ghost use Rattle.sb_outside.specs.Outside.{Rose};
 ghost use Rattle.sb_ruletext.specs.PolicyTexts.{reading};
 ghost use Rattle.sb_scheduletext.specs.ScheduleTexts as schedules;
 ghost use Rattle.sb_scripttext.specs.ScriptTexts as scripts;
 ghost use Rattle.sb_statements.specs.Actors.{is_step_there};
 ghost use Rattle.sb_commands.specs.Commands.{named};
-ghost use Rattle.sb_plain.specs.Coming.{GivesBy, IsCausedBy, IsOpened, IsRead, IsScheduled};
+ghost use Rattle.sb_plain.specs.Coming.{GivesBy, IsCausedBy, IsOpened, IsRead, IsScheduled, KeepsFiles};
 ghost use Rattle.sb_plain.specs.Contents.{most_bytes, no_schedule, noted_policies_in, policies_by, policies_in, policies_refusal, refused, schedule_by, schedule_in, script_by, script_in, status_of, text_in, text_within};
 ghost use Rattle.sb_plain.specs.Replay.{listed};
 
@@ -46,11 +45,8 @@ pub fn text_within<F: Files>(
     which: u8,
     most: u64,
 ) -> Result<Vec<u8>, Refused>
-    ensures kept { F.held files.new ≡ F.held files.old }
-    ensures counted { F.faults files.old ≤ F.faults files.new }
-    ensures ok_count { OnOk result (F.faults files.new ≡ F.faults files.old) }
+    ensures files { KeepsFiles IsCausedBy F.held F.faults files.old files.new result }
     ensures read { IsRead (λ text. text.items) which (text_within most which) (F.held files.old) name.now result }
-    ensures caused { IsCausedBy (F.held files.old) (Rose (F.faults files.old) (F.faults files.new)) result }
     ensures short { IfOk result (λ text. length text.items ≤ most) }
 {
     match files.read(alloc, name, most) {
@@ -66,11 +62,8 @@ pub fn text_in<F: Files>(
     name: &str,
     which: u8,
 ) -> Result<Vec<u8>, Refused>
-    ensures kept { F.held files.new ≡ F.held files.old }
-    ensures counted { F.faults files.old ≤ F.faults files.new }
-    ensures ok_count { OnOk result (F.faults files.new ≡ F.faults files.old) }
+    ensures files { KeepsFiles IsCausedBy F.held F.faults files.old files.new result }
     ensures read { IsRead (λ text. text.items) which (text_in which) (F.held files.old) name.now result }
-    ensures caused { IsCausedBy (F.held files.old) (Rose (F.faults files.old) (F.faults files.new)) result }
     ensures short { IfOk result (λ text. length text.items ≤ most_bytes) }
 {
     text_within(alloc, files, name, which, MOST_BYTES)
@@ -119,11 +112,8 @@ pub fn policies_in<F: Files>(
     files: &mut F,
     name: &str,
 ) -> Result<WellMadePolicies, Refused>
-    ensures kept { F.held files.new ≡ F.held files.old }
-    ensures counted { F.faults files.old ≤ F.faults files.new }
-    ensures ok_count { OnOk result (F.faults files.new ≡ F.faults files.old) }
+    ensures files { KeepsFiles IsCausedBy F.held F.faults files.old files.new result }
     ensures read { IsRead (λ p. p.list) 1 policies_in (F.held files.old) name.now result }
-    ensures caused { IsCausedBy (F.held files.old) (Rose (F.faults files.old) (F.faults files.new)) result }
 {
     let text = text_in(alloc, files, name, 1)?;
     policies_by(alloc, text)
@@ -135,11 +125,8 @@ pub fn noted_policies_in<F: Files>(
     files: &mut F,
     name: &str,
 ) -> Result<(Shown, WellMadePolicies), Refused>
-    ensures kept { F.held files.new ≡ F.held files.old }
-    ensures counted { F.faults files.old ≤ F.faults files.new }
-    ensures ok_count { OnOk result (F.faults files.new ≡ F.faults files.old) }
+    ensures files { KeepsFiles IsCausedBy F.held F.faults files.old files.new result }
     ensures read { IsRead (λ r. (Some r.0, r.1.list)) 1 noted_policies_in (F.held files.old) name.now result }
-    ensures caused { IsCausedBy (F.held files.old) (Rose (F.faults files.old) (F.faults files.new)) result }
 {
     let text = text_in(alloc, files, name, 1)?;
     noted_policies_by(alloc, text)
@@ -173,12 +160,9 @@ fn script_in<F: Files>(
     policies: WellMadePolicies,
     name: &str,
 ) -> Result<OpenedScript, Refused>
-    ensures kept { F.held files.new ≡ F.held files.old }
-    ensures counted { F.faults files.old ≤ F.faults files.new }
-    ensures ok_count { OnOk result (F.faults files.new ≡ F.faults files.old) }
+    ensures files { KeepsFiles IsCausedBy F.held F.faults files.old files.new result }
     ensures read { IsRead (λ s. s.script) 2 (script_in policies.list) (F.held files.old) name.now result }
     ensures policies { IfOk result (λ s. s.policies ≡ policies.list) }
-    ensures caused { IsCausedBy (F.held files.old) (Rose (F.faults files.old) (F.faults files.new)) result }
 {
     let text = text_in(alloc, files, name, 2)?;
     script_by(alloc, policies, text)
@@ -191,11 +175,8 @@ pub fn opened_in<F: Files>(
     policy: &str,
     script: &str,
 ) -> Result<OpenedScript, Refused>
-    ensures kept { F.held files.new ≡ F.held files.old }
-    ensures counted { F.faults files.old ≤ F.faults files.new }
-    ensures ok_count { OnOk result (F.faults files.new ≡ F.faults files.old) }
+    ensures files { KeepsFiles IsCausedBy F.held F.faults files.old files.new result }
     ensures opened { IsOpened (F.held files.old) policy.now script.now result }
-    ensures caused { IsCausedBy (F.held files.old) (Rose (F.faults files.old) (F.faults files.new)) result }
 {
     let policies = policies_in(alloc, files, policy)?;
     script_in(alloc, files, policies, script)
@@ -235,12 +216,9 @@ fn schedule_in<F: Files>(
     script: &Script,
     name: &str,
 ) -> Result<Schedule, Refused>
-    ensures kept { F.held files.new ≡ F.held files.old }
-    ensures counted { F.faults files.old ≤ F.faults files.new }
-    ensures ok_count { OnOk result (F.faults files.new ≡ F.faults files.old) }
+    ensures files { KeepsFiles IsCausedBy F.held F.faults files.old files.new result }
     ensures read { IsRead (λ s. s) 3 (schedule_in script.now) (F.held files.old) name.now result }
     ensures there { IfOk result (λ s. list_all (is_step_there script.now.targets) s.steps ≡ true) }
-    ensures caused { IsCausedBy (F.held files.old) (Rose (F.faults files.old) (F.faults files.new)) result }
 {
     let text = text_in(alloc, files, name, 3)?;
     schedule_by(alloc, script, text)
@@ -253,12 +231,9 @@ pub fn schedule_of<F: Files>(
     script: &Script,
     name: Option<&str>,
 ) -> Result<Schedule, Refused>
-    ensures kept { F.held files.new ≡ F.held files.old }
-    ensures counted { F.faults files.old ≤ F.faults files.new }
-    ensures ok_count { OnOk result (F.faults files.new ≡ F.faults files.old) }
+    ensures files { KeepsFiles IsCausedBy F.held F.faults files.old files.new result }
     ensures read { IsScheduled script.now (F.held files.old) (listed (named name.entry)) result }
     ensures there { IfOk result (λ s. list_all (is_step_there script.now.targets) s.steps ≡ true) }
-    ensures caused { IsCausedBy (F.held files.old) (Rose (F.faults files.old) (F.faults files.new)) result }
 {
     match name {
         Some(name) => schedule_in(alloc, files, script, name),

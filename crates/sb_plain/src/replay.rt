@@ -1,11 +1,10 @@
 // The command `replay`: policies, a script and its schedule are read, the script is run, and its transcript is put line by line.
-ghost use Rattle.std.specs.Prelude.{◌≡◌, ◌≤◌, ◌<◌, ◌^◌, ◌∷◌, true, IfOk, OnOk};
+ghost use Rattle.std.specs.Prelude.{◌≡◌, ◌<◌, ◌^◌, ◌∷◌, true, IfOk};
 ghost use Rattle.std.specs.List.{list_all};
 ghost use Rattle.sb_book.specs.Reports.{result_count};
 ghost use Rattle.sb_commands.specs.Commands.{named};
-ghost use Rattle.sb_outside.specs.Outside.{Rose};
 ghost use Rattle.sb_statements.specs.Actors.{is_step_there};
-ghost use Rattle.sb_plain.specs.Coming.{IsEndCaused, IsFound, reported, reported_run};
+ghost use Rattle.sb_plain.specs.Coming.{IsEndCaused, IsFound, KeepsFiles, reported, reported_run};
 ghost use Rattle.sb_plain.specs.Replay.{listed, replay_end, run_end, whole_run};
 ghost use Rattle.sb_transcript.specs.Transcripts.{transcript};
 
@@ -87,11 +86,8 @@ pub fn replay_script<F: Files>(
     script: &str,
     schedule: Option<&str>,
 ) -> Result<CommandEnd, Refused>
-    ensures kept { F.held files.new ≡ F.held files.old }
-    ensures counted { F.faults files.old ≤ F.faults files.new }
-    ensures ok_count { OnOk result (F.faults files.new ≡ F.faults files.old) }
+    ensures files { KeepsFiles IsEndCaused F.held F.faults files.old files.new result }
     ensures found { IsFound replay_end (policy.now ∷ script.now ∷ listed (named schedule.entry)) (F.held files.old) result }
-    ensures caused { IsEndCaused (F.held files.old) (Rose (F.faults files.old) (F.faults files.new)) result }
 {
     let opened = opened_in(alloc, files, policy, script)?;
     let schedule = schedule_of(alloc, files, opened.script(), schedule)?;

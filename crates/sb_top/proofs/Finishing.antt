@@ -1,18 +1,21 @@
 -- How a command ends, by what it comes to and how that is put.
-use Rattle.std.proofs.Common.{◌≡◌, ◌∙◌, refl, sym, ap, subst, ℕ, ◌⊎◌, inl, inr, List, Option, None, Some, true, true≢false}
-use Rattle.std.specs.Prelude.{IsOk, IsOkAnd, IsSome, Result, Ok, Err}
+use Rattle.std.proofs.Common.{◌≡◌, ◌∙◌, ◌≤◌, refl, sym, ap, subst, ℕ, ◌⊎◌, inl, inr, List, [], Option, None, Some, true, true≢false}
+use Rattle.std.proofs.lemmas.Bool.{false≢true}
+use Rattle.std.specs.Prelude.{IsOk, IsOkAnd, IsSome, OnOk, Result, Ok, Err}
 use Rattle.sb_book.specs.declared.reports.Report.{Report}
 use Rattle.sb_commands.specs.Commands.{Command}
 use Rattle.sb_commands.specs.Usage.{Fault}
-use Rattle.sb_outside.specs.Outside.{Rose}
-use Rattle.sb_plain.specs.Coming.{IsEndCaused, IsFoundBy, IsFoundFor, IsTextCaused, ReportedEnd, reported}
+use Rattle.sb_outside.specs.Outside.{Held, Rose}
+use Rattle.sb_plain.specs.Coming.{IsEndCaused, IsFoundBy, IsFoundFor, IsTextCaused, KeepsFiles, ReportedEnd, reported}
 use Rattle.sb_plain.specs.Contents.{Refusal}
-use Rattle.sb_plain.specs.Effects.{Effect}
+use Rattle.sb_plain.specs.Effects.{Effect, IsOrderly, effect}
 use Rattle.sb_plain.specs.Endings.{IsCaused, IsDone, IsEndFor, IsEnding, IsMeant, IsRefused, IsUnwritten, IsWritten}
 use Rattle.sb_plain.specs.Ends.{Contents, End, Meaning, OnThreads, Plain, report_of}
+use Rattle.sb_plain.specs.Outcomes.{IsSilent}
 use Rattle.sb_plain.specs.Putting.{IsFinished, IsPut}
 use Rattle.sb_plain.specs.declared.outcomes.Outcome.{Outcome}
 use Rattle.sb_plain.specs.declared.outcomes.Status.{Status}
+use Rattle.sb_plain.specs.declared.outcomes.Status.TheVariants.{Done}
 
 module _ {G S : Type 0} (e : Effect G S) (o : Outcome) where
   abbrev Finished : Result ReportedEnd Refusal → Type 0
@@ -96,6 +99,31 @@ module _ {G S : Type 0} (e : Effect G S) (o : Outcome) where
     ordered = λ k. h.ordered (has_end found f k);
     ends = ends_for (m h.order) h.contents found h.is f;
     caused = caused (Rose e.reads e.reads') found c f;
+  }
+
+-- ---- what is common to all commands
+
+on_value : {A X : Type 0} (r : Result A Refusal) → OnOk r X → IsOk r → X
+on_value (Ok v) x k = x
+on_value (Err e) x k = absurd (false≢true k)
+
+module _ {G S : Type 0} (held : G → Option Held) (reads : G → ℕ) (written : S → Option (List ℕ)) (pending : S → List ℕ) (puts : S → ℕ) (files files' : G) (out out' : S)
+    (o : Outcome) where
+  pub orderly : (names : List (List ℕ)) (found : Result ReportedEnd Refusal) → KeepsFiles IsEndCaused held reads files files' found
+      → (names ≡ [] → files' ≡ files) → puts out ≤ puts out'
+      → IsFinished found (written out) (pending out) (written out') (Rose (puts out) (puts out')) o
+      → (IsSilent o.status → out' ≡ out) → (o.status ≡ Done → puts out' ≡ puts out) → (o.status ≡ Done → pending out' ≡ []) → (o.status ≡ Done → IsOk found)
+      → IsOrderly names (effect held reads written pending puts files files' out out') o
+  orderly names found h unread counted finished silent done emptied carried = record {
+    kept = h.kept;
+    counted_files = h.counted;
+    counted_sink = counted;
+    done_files = λ d. on_value found h.ok_count (carried d);
+    done_sink = done;
+    finished = emptied;
+    run_files = λ r. on_value found h.ok_count (has_end (effect held reads written pending puts files files' out out') o found finished r);
+    unread = unread;
+    silent = silent;
   }
 
 -- ---- what a second call does after a first that changed nothing

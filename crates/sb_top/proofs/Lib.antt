@@ -2,6 +2,7 @@ pub mod Audits
 pub mod EndLaws
 pub mod Finishing
 pub mod Made
+pub mod Meant
 pub mod Ordering
 pub mod Sound
 pub mod Sums

@@ -5,10 +5,12 @@ use Rattle.sb_book.specs.ReadyScripts.{Ready}
 use Rattle.sb_outside.specs.Outside.{Held}
 use Rattle.sb_rule.specs.declared.policies.Policy.{Policy}
 use Rattle.sb_statements.specs.declared.scripts.Script.{Script}
-use Rattle.sb_plain.specs.Coming.{IsFoundOnThreads, IsOpened, ReportedEnd, reported}
+use Rattle.sb_plain.specs.Coming.{IsFoundOnThreads, IsOpened, IsTextCaused, ReportedEnd, reported}
 use Rattle.sb_plain.specs.Ends.{Contents, End, IsOrderOf, OnThreads}
 use Rattle.sb_top.specs.Run.{IsThreadsEnd, nothing_after, ordered_end, threads_end}
 use Rattle.sb_plain.specs.Sound.{AreEndsSound, IsSound, RunsAreSound}
+use Rattle.sb_plain.specs.Replay.{whole_run}
+use Rattle.sb_plain.proofs.ReadFiles.{run_caused as text_caused}
 use Rattle.sb_plain.proofs.Replaying.{run_plain}
 use Rattle.sb_plain.proofs.ScriptEnds.{each_end, to_later}
 use Rattle.sb_plain.proofs.Suiting.{AreSuited, RefusesFor, script_suited}
@@ -24,6 +26,13 @@ run_done held policy script ready end opened e =
       ordered = λ k. subst (λ x. IfOk x (IsOrderOf e.order)) (sym is) e.is_order;
       is = subst (λ x. IsOkAnd x (λ y. end ≡ reported y)) (sym is) e.is;
     }
+
+-- its end is no fault of a file
+pub run_caused : (held : Option Held) (rose : Type 0) (policies : List Policy) (script : Script) (end : ReportedEnd) → IsThreadsEnd policies script end
+    → IsTextCaused held rose end.text
+run_caused held rose policies script end e =
+    let ran = whole_run policies script e.order in
+    subst (λ (x : ReportedEnd). IsTextCaused held rose x.text) (sym e.is) (text_caused held rose script ran ran.unfinished)
 
 run_refuses : (policies : List Policy) (script : Script) (files : Contents) → suc (suc (length files)) ≡ 2 → RefusesFor 2 (nothing_after policies script files)
 run_refuses policies script [] e = tt

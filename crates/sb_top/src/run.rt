@@ -1,7 +1,6 @@
 // The command `run`: policies and a script are read, the script is run on threads, and its transcript is put line by line.
-ghost use Rattle.std.specs.Prelude.{◌≡◌, ◌≤◌, [], ◌∷◌, IfOk, OnOk};
-ghost use Rattle.sb_outside.specs.Outside.{Rose};
-ghost use Rattle.sb_plain.specs.Coming.{IsEndCaused, IsFoundOnThreads};
+ghost use Rattle.std.specs.Prelude.{◌≤◌, [], ◌∷◌, IfOk};
+ghost use Rattle.sb_plain.specs.Coming.{IsEndCaused, IsFoundOnThreads, KeepsFiles};
 ghost use Rattle.sb_top.specs.Run.{IsThreadsEnd, threads_end};
 
 use crate::threads::run_judged;
@@ -45,11 +44,8 @@ pub fn run_script<R: Threads + Wait + Sync, F: Files, G: Gate>(
     gate: &G,
 ) -> Result<CommandEnd, Refused>
     requires workers { (1 ≤ workers) × (workers ≤ 8) }
-    ensures kept { F.held files.new ≡ F.held files.old }
-    ensures counted { F.faults files.old ≤ F.faults files.new }
-    ensures ok_count { OnOk result (F.faults files.new ≡ F.faults files.old) }
+    ensures files { KeepsFiles IsEndCaused F.held F.faults files.old files.new result }
     ensures found { IsFoundOnThreads threads_end (policy.now ∷ script.now ∷ []) (F.held files.old) result }
-    ensures caused { IsEndCaused (F.held files.old) (Rose (F.faults files.old) (F.faults files.new)) result }
 {
     let opened = opened_in(alloc, files, policy, script)?;
     Ok(run_opened(rt, alloc, opened, workers, gate)?)

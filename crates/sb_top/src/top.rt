@@ -1,10 +1,10 @@
 // The top calls.
-ghost use Rattle.std.specs.Prelude.{◌≡◌, ◌≤◌, ◌<◌, ◌^◌, [], IfErr, IfOk, IsOk, OnErr, OnOk, Ok, is_err};
+ghost use Rattle.std.specs.Prelude.{◌≡◌, ◌≤◌, ◌<◌, ◌^◌, [], IfErr, IfOk, IsOk, OnErr, Ok, is_err};
 ghost use Rattle.sb_commands.specs.Commands.{HasNumbers, command_of, files_of, needs_threads, plain_files, threaded, threaded_files};
 ghost use Rattle.sb_commands.specs.Usage.{texts};
 ghost use Rattle.sb_commands.specs.Values.{values_of};
 ghost use Rattle.sb_outside.specs.Outside.{Rose};
-ghost use Rattle.sb_plain.specs.Coming.{IsEndCaused, IsFound, IsFoundBy, IsFoundOnThreads};
+ghost use Rattle.sb_plain.specs.Coming.{IsEndCaused, IsFound, IsFoundBy, IsFoundOnThreads, KeepsFiles};
 ghost use Rattle.sb_plain.specs.Effects.{IsOrderly, effect};
 ghost use Rattle.sb_plain.specs.Endings.{IsEnding};
 ghost use Rattle.sb_plain.specs.Outcomes.{IsSilent};
@@ -49,11 +49,8 @@ fn carry_out_by<F: Files>(
     values: CommandValues<'_>,
     files: &mut F,
 ) -> Result<CommandEnd, Refused>
-    ensures kept { F.held files.new ≡ F.held files.old }
-    ensures counted { F.faults files.old ≤ F.faults files.new }
-    ensures ok_count { OnOk result (F.faults files.new ≡ F.faults files.old) }
+    ensures files { KeepsFiles IsEndCaused F.held F.faults files.old files.new result }
     ensures found { IsFound (plain_meaning work) (plain_files work (values_of values.entry)) (F.held files.old) result }
-    ensures caused { IsEndCaused (F.held files.old) (Rose (F.faults files.old) (F.faults files.new)) result }
     ensures unread { plain_files work (values_of values.entry) ≡ [] → files.new ≡ files.old }
 {
     let CommandValues {
@@ -91,11 +88,8 @@ fn carry_out_on_threads_by<R: Threads + Wait + Sync, F: Files, G: Gate>(
     gate: &G,
 ) -> Result<CommandEnd, Refused>
     requires { HasNumbers (threaded work (values_of values)) }
-    ensures kept { F.held files.new ≡ F.held files.old }
-    ensures counted { F.faults files.old ≤ F.faults files.new }
-    ensures ok_count { OnOk result (F.faults files.new ≡ F.faults files.old) }
+    ensures files { KeepsFiles IsEndCaused F.held F.faults files.old files.new result }
     ensures found { IsFoundOnThreads (threaded_meaning work (values_of values.entry)) (threaded_files work (values_of values.entry)) (F.held files.old) result }
-    ensures caused { IsEndCaused (F.held files.old) (Rose (F.faults files.old) (F.faults files.new)) result }
     ensures unread { threaded_files work (values_of values.entry) ≡ [] → files.new ≡ files.old }
 {
     let CommandValues {
@@ -123,11 +117,8 @@ fn carry_out<F: Files>(
     files: &mut F,
 ) -> Result<CommandEnd, Refused>
     requires { command.now.work ≡ Work.Plain work }
-    ensures kept { F.held files.new ≡ F.held files.old }
-    ensures counted { F.faults files.old ≤ F.faults files.new }
-    ensures ok_count { OnOk result (F.faults files.new ≡ F.faults files.old) }
+    ensures files { KeepsFiles IsEndCaused F.held F.faults files.old files.new result }
     ensures found { IsFoundBy (meaning_of command.now) (files_of command.now) (F.held files.old) result }
-    ensures caused { IsEndCaused (F.held files.old) (Rose (F.faults files.old) (F.faults files.new)) result }
     ensures unread { files_of command.now ≡ [] → files.new ≡ files.old }
 {
     match command.values(alloc) {
@@ -144,11 +135,8 @@ fn carry_out_on_threads<R: Threads + Wait + Sync, F: Files, G: Gate>(
     files: &mut F,
     gate: &G,
 ) -> Result<CommandEnd, Refused>
-    ensures kept { F.held files.new ≡ F.held files.old }
-    ensures counted { F.faults files.old ≤ F.faults files.new }
-    ensures ok_count { OnOk result (F.faults files.new ≡ F.faults files.old) }
+    ensures files { KeepsFiles IsEndCaused F.held F.faults files.old files.new result }
     ensures found { IsFoundBy (meaning_of command.now) (files_of command.now) (F.held files.old) result }
-    ensures caused { IsEndCaused (F.held files.old) (Rose (F.faults files.old) (F.faults files.new)) result }
     ensures unread { files_of command.now ≡ [] → files.new ≡ files.old }
 {
     match command.values(alloc) {

@@ -1,16 +1,18 @@
-use Rattle.std.proofs.Common.{◌≡◌, ◌∙◌, refl, rules, subst, sym, ℕ}
-use Rattle.std.specs.Prelude.{Result, Ok, Err}
+use Rattle.std.proofs.Common.{◌≡◌, ◌∙◌, refl, subst, sym, ℕ}
+use Rattle.std.specs.Prelude.{Result, Ok}
 use Rattle.sb_commands.specs.Commands.{threaded_files}
 use Rattle.sb_commands.specs.NumberWords.{number_of}
 use Rattle.sb_commands.specs.Values.{values_of}
 use Rattle.sb_commands.specs.declared.works.ThreadedWork.{ThreadedWork}
-use Rattle.sb_plain.specs.Coming.{IsFoundOnThreads, ReportedEnd}
+use Rattle.sb_plain.specs.Coming.{IsEndCaused, IsFoundOnThreads, IsTextCaused, KeepsFiles, ReportedEnd}
 use Rattle.sb_plain.specs.Contents.{Refusal, refused}
 use Rattle.sb_plain.specs.Ends.{OnThreads}
 use Rattle.sb_top.specs.Make.{IsMadeEnd}
 use Rattle.sb_top.specs.Top.{threaded_meaning}
 use Rattle.sb_plain.specs.declared.outcomes.Status.TheVariants.{NoMemory}
+use Rattle.sb_outside.specs.Outside.{Rose}
 use Rattle.sb_plain.proofs.Carrying.{starved}
+use Rattle.sb_plain.proofs.KeptFiles.{handed_on, unread, untouched}
 use Rattle.sb_top.proofs.Made.{made_found}
 use Rattle.sb_top.proofs.top.carry_out_on_threads_by.Goals as goal
 
@@ -19,9 +21,20 @@ returns-in_err-make_script-in-Make-clause-found g c =
     let work = c.args.work in
     let values = values_of c.args.values in
     let held = g.F.Files.held c.args.files.now in
-    let is : c.from_residual.result ≡ Err (refused NoMemory) = search rules in
     let P : Result ReportedEnd Refusal → Type 0 = IsFoundOnThreads (threaded_meaning work values) (threaded_files work values) held in
-    subst P (sym is) (starved (OnThreads (threaded_meaning work values)) (threaded_files work values) held (refused NoMemory) refl)
+    handed_on P c.from_residual.result (refused NoMemory) c.from_residual.ensures.1 (starved (OnThreads (threaded_meaning work values)) (threaded_files work values) held (refused NoMemory) refl)
+
+pub returns-in_err-make_script-in-Make-clause-files : goal.returns-in_err-make_script-in-Make-clause-files
+returns-in_err-make_script-in-Make-clause-files g c =
+    let P : Result ReportedEnd Refusal → Type 0 = λ r. KeepsFiles IsEndCaused g.F.Files.held g.F.Files.faults c.args.files.now c.args.files.now r in
+    handed_on P c.from_residual.result (refused NoMemory) c.from_residual.ensures.1 (unread (refused NoMemory) refl)
+
+pub returns-in_ok-make_script-in-Make-clause-files : goal.returns-in_ok-make_script-in-Make-clause-files
+returns-in_ok-make_script-in-Make-clause-files g c =
+    let held = g.F.Files.held c.args.files.now in
+    let rose = Rose (g.F.Files.faults c.args.files.now) (g.F.Files.faults c.args.files.now) in
+    let end = c.in_ok-make_script-in-Make.field-0 in
+    untouched (Ok end) (subst (λ (x : ReportedEnd). IsTextCaused held rose x.text) (sym c.in_ok-make_script-in-Make.ensures.is) tt)
 
 pub returns-in_ok-make_script-in-Make-clause-found : goal.returns-in_ok-make_script-in-Make-clause-found
 returns-in_ok-make_script-in-Make-clause-found g c =
