@@ -1,11 +1,12 @@
 // The calls of generated scripts: eight kinds, each with a number.
-ghost use Rattle.std.specs.Prelude.{◌≡◌, IfOk};
+ghost use Rattle.std.specs.Prelude.{◌≡◌, ◌∷◌, ◌++◌, map, IfOk, OnOk};
+ghost use Rattle.sb_call.specs.declared.arguments.Arg.TheVariants.{Num, Str};
 ghost use Rattle.sb_statements.specs.declared.statements.Statement.TheVariants.{Call};
 ghost use Rattle.sb_gen.specs.Calls.{file_create, file_query, file_open, event_create, event_open, key_open, ping, pipe_create, call_of, statement_of};
 
 use crate::generator::Generator;
 use crate::names::{made_text, name_within, other_name, root_name};
-use sb_base::NoMemory;
+use sb_base::{NoMemory, Wide};
 use sb_call::{Arg, Args, CallTag};
 use sb_statements::Statement;
 use std::alloc::Global;
@@ -20,73 +21,86 @@ fn call(tag: CallTag, args: Vec<Arg>) -> Statement
     }
 }
 
+// Appends numbers as arguments.
+fn put_numbers(args: &mut Vec<Arg>, numbers: &[u64]) -> Result<(), NoMemory>
+    ensures { OnOk result (args.new.items ≡ args.old.items ++ map Num numbers.now) }
+{
+    for number in numbers {
+        args.push(Arg::Num(*number))?;
+    }
+    Ok(())
+}
+
+// The call of a name and these numbers.
+fn named_call(
+    alloc: Global,
+    tag: CallTag,
+    name: Wide,
+    numbers: &[u64],
+) -> Result<Statement, NoMemory>
+    ensures { IfOk result (λ made. made ≡ Call tag (Str name ∷ map Num numbers.now)) }
+{
+    let mut args = Vec::with_capacity(alloc, 1 + numbers.len())?;
+    args.push(Arg::Str(name))?;
+    put_numbers(&mut args, numbers)?;
+    Ok(call(tag, args))
+}
+
 // Creates a file of the target.
 fn file_create(alloc: Global, target: u32, number: u64) -> Result<Statement, NoMemory>
     ensures { IfOk result (λ made. made ≡ file_create target number) }
 {
-    let name = Arg::Str(name_within(alloc, target, number)?);
-    let args = vec![in alloc;
-        name,
-        Arg::Num(0),
-        Arg::Num(3),
-        Arg::Num(7),
-        Arg::Num(3),
-        Arg::Num(0x40),
-    ]?;
-    Ok(call(CallTag::FileCreate, args))
+    let name = name_within(alloc, target, number)?;
+    named_call(alloc, CallTag::FileCreate, name, &[0, 3, 7, 3, 0x40])
 }
 
 // Asks for a file of the target.
 fn file_query(alloc: Global, target: u32, number: u64) -> Result<Statement, NoMemory>
     ensures { IfOk result (λ made. made ≡ file_query target number) }
 {
-    let name = Arg::Str(name_within(alloc, target, number)?);
-    let args = vec![in alloc; name]?;
-    Ok(call(CallTag::FileQuery, args))
+    let name = name_within(alloc, target, number)?;
+    named_call(alloc, CallTag::FileQuery, name, &[])
 }
 
 // Opens a file that is not there.
 fn file_open(alloc: Global, number: u64) -> Result<Statement, NoMemory>
     ensures { IfOk result (λ made. made ≡ file_open number) }
 {
-    let name = Arg::Str(other_name(alloc, number)?);
-    let args = vec![in alloc; name, Arg::Num(1), Arg::Num(7), Arg::Num(0x40)]?;
-    Ok(call(CallTag::FileOpen, args))
+    let name = other_name(alloc, number)?;
+    named_call(alloc, CallTag::FileOpen, name, &[1, 7, 0x40])
 }
 
 // Creates an event.
 fn event_create(alloc: Global, number: u64) -> Result<Statement, NoMemory>
     ensures { IfOk result (λ made. made ≡ event_create number) }
 {
-    let name = Arg::Str(root_name(alloc, number)?);
-    let args = vec![in alloc; name, Arg::Num(0), Arg::Num(0)]?;
-    Ok(call(CallTag::EventCreate, args))
+    let name = root_name(alloc, number)?;
+    named_call(alloc, CallTag::EventCreate, name, &[0, 0])
 }
 
 // Opens an event.
 fn event_open(alloc: Global, number: u64) -> Result<Statement, NoMemory>
     ensures { IfOk result (λ made. made ≡ event_open number) }
 {
-    let name = Arg::Str(root_name(alloc, number)?);
-    let args = vec![in alloc; name, Arg::Num(0)]?;
-    Ok(call(CallTag::EventOpen, args))
+    let name = root_name(alloc, number)?;
+    named_call(alloc, CallTag::EventOpen, name, &[0])
 }
 
 // Opens a key, with the number as the access.
 fn key_open(alloc: Global, number: u64) -> Result<Statement, NoMemory>
     ensures { IfOk result (λ made. made ≡ key_open number) }
 {
-    let name = Arg::Str(root_name(alloc, number)?);
-    let args = vec![in alloc; name, Arg::Num(number)]?;
-    Ok(call(CallTag::KeyOpen, args))
+    let name = root_name(alloc, number)?;
+    named_call(alloc, CallTag::KeyOpen, name, &[number])
 }
 
 // Pings with the number and a text.
 fn ping(alloc: Global, number: u64) -> Result<Statement, NoMemory>
     ensures { IfOk result (λ made. made ≡ ping number) }
 {
-    let text = Arg::Str(made_text(alloc)?);
-    let args = vec![in alloc; Arg::Num(number), text]?;
+    let mut args = Vec::with_capacity(alloc, 2)?;
+    args.push(Arg::Num(number))?;
+    args.push(Arg::Str(made_text(alloc)?))?;
     Ok(call(CallTag::Ping, args))
 }
 
@@ -94,9 +108,8 @@ fn ping(alloc: Global, number: u64) -> Result<Statement, NoMemory>
 fn pipe_create(alloc: Global, number: u64) -> Result<Statement, NoMemory>
     ensures { IfOk result (λ made. made ≡ pipe_create number) }
 {
-    let name = Arg::Str(root_name(alloc, number)?);
-    let args = vec![in alloc; name, Arg::Num(3), Arg::Num(0), Arg::Num(255)]?;
-    Ok(call(CallTag::PipeCreate, args))
+    let name = root_name(alloc, number)?;
+    named_call(alloc, CallTag::PipeCreate, name, &[3, 0, 255])
 }
 
 // The call of a kind, from 0 to 7, with its number, by a thread of a target.

@@ -1,18 +1,10 @@
 // The names in generated scripts. Each is an ASCII text that ends with a number in decimal.
-ghost use Rattle.std.specs.Prelude.{◌≡◌, ◌++◌, OnOk, IfOk, codes};
+ghost use Rattle.std.specs.Prelude.{◌≡◌, ◌++◌, IfOk, codes};
 ghost use Rattle.std.specs.Fmt.{decimal};
 ghost use Rattle.sb_gen.specs.Calls.{directory, name_within, root_name, other_name};
 
-use sb_base::{NoMemory, Wide, put_decimal};
+use sb_base::{NoMemory, Wide, put_named};
 use std::alloc::Global;
-
-// Appends an ASCII text and a number in decimal.
-fn put_numbered(name: &mut Vec<u8>, text: &[u8], number: u64) -> Result<(), NoMemory>
-    ensures { OnOk result (name.new.items ≡ name.old.items ++ (text.now ++ decimal number)) }
-{
-    name.extend_from_slice(text)?;
-    put_decimal(name, number)
-}
 
 // An ASCII text.
 fn ascii(alloc: Global, text: &[u8]) -> Result<Wide, NoMemory>
@@ -44,7 +36,7 @@ fn numbered(alloc: Global, text: &[u8], number: u64) -> Result<Wide, NoMemory>
     ensures { IfOk result (λ name. name ≡ text.now ++ decimal number) }
 {
     let mut name = Vec::new(alloc);
-    put_numbered(&mut name, text, number)?;
+    put_named(&mut name, text, number)?;
     ascii(alloc, &name)
 }
 
@@ -60,8 +52,8 @@ pub(crate) fn name_within(alloc: Global, target: u32, number: u64) -> Result<Wid
     ensures { IfOk result (λ name. name ≡ name_within target number) }
 {
     let mut name = Vec::new(alloc);
-    put_numbered(&mut name, b"\\make\\a", u64::from(target))?;
-    put_numbered(&mut name, b"\\k", number)?;
+    put_named(&mut name, b"\\make\\a", u64::from(target))?;
+    put_named(&mut name, b"\\k", number)?;
     ascii(alloc, &name)
 }
 

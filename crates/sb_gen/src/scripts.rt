@@ -1,5 +1,5 @@
 // The generated script.
-ghost use Rattle.std.specs.Prelude.{◌≡◌, ◌<◌, ◌≤◌, IfOk, OnOk, codes};
+ghost use Rattle.std.specs.Prelude.{◌≡◌, ◌<◌, ◌≤◌, ◌∷◌, ◌++◌, [], IfOk, OnOk, codes};
 ghost use Rattle.sb_gen.specs.Generator.{next, after};
 ghost use Rattle.sb_statements.specs.Limits.{most_targets};
 ghost use Rattle.sb_statements.specs.declared.scripts.StartLine.TheVariants.{Dir};
@@ -51,6 +51,21 @@ fn statements(
     Ok(Statements::new(statements))
 }
 
+// Appends the next thread of a target.
+fn put_thread(
+    alloc: Global,
+    target: u32,
+    calls: u32,
+    generator: &mut Generator,
+    threads: &mut Vec<Statements>,
+) -> Result<(), NoMemory>
+    ensures made { OnOk result (threads.new.items ≡ threads.old.items ++ statements_of target calls generator.old ∷ []) }
+    ensures after { OnOk result (generator.new ≡ after calls generator.old) }
+{
+    threads.push(statements(alloc, target, calls, generator)?)?;
+    Ok(())
+}
+
 // The two threads of a target.
 fn threads(
     alloc: Global,
@@ -61,9 +76,9 @@ fn threads(
     ensures made { IfOk result (λ made. made ≡ threads_of target calls generator.old) }
     ensures after { OnOk result (generator.new ≡ after calls (after calls generator.old)) }
 {
-    let first = statements(alloc, target, calls, generator)?;
-    let second = statements(alloc, target, calls, generator)?;
-    let threads = vec![in alloc; first, second]?;
+    let mut threads = Vec::with_capacity(alloc, 2)?;
+    put_thread(alloc, target, calls, generator, &mut threads)?;
+    put_thread(alloc, target, calls, generator, &mut threads)?;
     Ok(Threads::new(threads))
 }
 

@@ -4,7 +4,7 @@ use Rattle.std.specs.List.{flat_map}
 use Rattle.sb_compile.specs.Compiling.{program_of}
 use Rattle.sb_compile.specs.Listing.{listing_of}
 use Rattle.sb_rule.specs.declared.policies.Policy.{Policy}
-use Rattle.sb_ruleprint.specs.Printing.{printed}
+use Rattle.sb_ruletext.specs.Printing.{printed}
 use Rattle.sb_text.specs.Steps.{◌>>=◌}
 use Rattle.sb_plain.specs.Contents.{Content, Refusal, policies_in, refused}
 use Rattle.sb_plain.specs.Ends.{Contents, End}

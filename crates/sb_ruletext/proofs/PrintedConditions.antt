@@ -19,8 +19,8 @@ use Rattle.sb_text.specs.Tokens.{Lexeme, Word, Quoted, utf8_of, string_of}
 use Rattle.sb_rule.specs.PatternLimits.{most_units}
 use Rattle.sb_ruletext.specs.Conditions.{number_at, string, cells, test_at, is_number_at, plain_condition_at, condition_at, conditions_of}
 use Rattle.sb_call.specs.Parameters.{parameter_word, parameter_words}
-use Rattle.sb_ruleprint.specs.Printing.{number_word, range_word, numbers_tokens, test_tokens, not_tokens, cond_tokens, joined_tokens}
-use Rattle.sb_ruleprint.specs.Values.{is_test_of_values}
+use Rattle.sb_ruletext.specs.Printing.{number_word, range_word, numbers_tokens, test_tokens, not_tokens, cond_tokens, joined_tokens}
+use Rattle.sb_ruletext.specs.Values.{is_test_of_values}
 use Rattle.sb_base.specs.Numbers.{is_word64}
 use Rattle.sb_ruletext.specs.Steps.{joined_at}
 use Rattle.sb_text.specs.Steps.{◌>>=◌, or_fails, at_token, Read, begins_with, later, end_at}

@@ -1,5 +1,5 @@
 -- The text of policies is read as these policies.
-use Rattle.std.proofs.Common.{◌≡◌, ◌∙◌, ℕ, suc, ◌+◌, ◌<◌, ◌≤◌, nat_le, nat_lt, Bool, true, false, not, ◌&&◌, ◌||◌, List, [], ◌∷◌, ◌++◌, Some, Ok, Err, Result, length, map, ap, refl, sym, arith}
+use Rattle.std.proofs.Common.{◌≡◌, ◌∙◌, ℕ, suc, ◌+◌, ◌<◌, ◌≤◌, nat_le, nat_lt, Bool, true, false, not, ◌&&◌, ◌||◌, List, [], ◌∷◌, ◌++◌, Some, Ok, Err, Result, length, map, ap, refl, subst, sym, arith}
 use Rattle.std.specs.Cmp.Lexicographic.{pointwise, bytes_decides}
 use Rattle.std.specs.List.{flat_map, list_all, list_any}
 use Rattle.std.specs.Prelude.{codes, nat_eq, if◌then◌else◌}
@@ -10,7 +10,7 @@ use Rattle.std.proofs.lemmas.List.Folds.{list_any-append}
 use Rattle.sb_call.specs.ShortNames.{is_short_name}
 use Rattle.sb_rule.specs.Limits.{most_policies}
 use Rattle.sb_ruletext.proofs.PrintedConditions.{Texts}
-use Rattle.sb_rule.specs.WellMade.{is_well_made_rule, is_well_made, is_named, are_named_apart}
+use Rattle.sb_rule.specs.WellMade.{is_well_made_rule, is_well_made, are_well_made, is_named, are_named_apart}
 use Rattle.sb_rule.specs.declared.policies.Policy.{Policy}
 use Rattle.sb_rule.specs.declared.policies.Rule.{Rule}
 use Rattle.sb_text.specs.Tokens.{Lexeme, Word}
@@ -21,9 +21,9 @@ use Rattle.sb_text.specs.declared.refusals.TokenFault.{TokenFault}
 use Rattle.sb_text.specs.declared.refusals.LineFault.{LineFault}
 use Rattle.sb_text.specs.declared.refusals.WordFault.TheVariants.{Unknown, Extra, Broken}
 use Rattle.sb_ruletext.specs.Lines.{heading, line_of}
-use Rattle.sb_ruletext.specs.PolicyTexts.{add_line, grammar}
-use Rattle.sb_ruleprint.specs.Printing.{rule_tokens, heading_tokens, policy_lines, is_read_only, has_read_only, version_tokens, printed_lines, printed, relined_rules, relined_from, relined}
-use Rattle.sb_ruleprint.specs.Values.{is_rule_of_values, is_policy_of_values}
+use Rattle.sb_ruletext.specs.PolicyTexts.{add_line, grammar, reading}
+use Rattle.sb_ruletext.specs.Printing.{rule_tokens, heading_tokens, policy_lines, is_read_only, has_read_only, version_tokens, printed_lines, printed, relined_rules, relined_from, relined}
+use Rattle.sb_ruletext.specs.Values.{is_rule_of_values, is_policy_of_values}
 use Rattle.sb_ruletext.specs.PrintingLaws.{PrintedPoliciesAreRead}
 use Rattle.sb_text.specs.Readings.{on_line, read_lines, read_by}
 use Rattle.sb_text.specs.Lines.{NumberedLine}
@@ -227,3 +227,9 @@ printed_read laws policies h v =
   where
     most : (policies : List Policy) → nat_le (length policies) 8 ≡ true → length policies ≤ 8
     most policies k = grind (arith, nat_tests)
+
+-- a text that is the printing of policies is read as these policies
+pub printed_again : (policies list : List Policy) (text : List ℕ) → PrintedPoliciesAreRead → list ≡ policies → are_well_made policies ≡ true
+    → list_all is_policy_of_values list ≡ true → text ≡ printed list → reading text ≡ Ok (relined policies)
+printed_again policies list text law same h v e =
+    ap reading (e ∙ ap printed same) ∙ law policies h (subst (λ l. list_all is_policy_of_values l ≡ true) same v)

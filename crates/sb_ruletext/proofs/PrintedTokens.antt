@@ -22,8 +22,8 @@ use Rattle.sb_rule.specs.declared.policies.Rule.{Rule}
 use Rattle.sb_text.specs.NumberLaws.{HexadecimalsAreRead}
 use Rattle.sb_text.specs.Tokens.{Word, Quoted, utf8_of}
 use Rattle.sb_call.specs.Parameters.{parameter_word, parameter_words}
-use Rattle.sb_ruleprint.specs.Printing.{numbers_tokens, test_tokens, not_tokens, cond_tokens, joined_tokens, conds_tokens, rule_tokens, heading_tokens, policy_lines, has_read_only, version_tokens, printed_lines}
-use Rattle.sb_ruleprint.specs.Values.{is_test_of_values, is_rule_of_values, is_policy_of_values}
+use Rattle.sb_ruletext.specs.Printing.{numbers_tokens, test_tokens, not_tokens, cond_tokens, joined_tokens, conds_tokens, rule_tokens, heading_tokens, policy_lines, has_read_only, version_tokens, printed_lines}
+use Rattle.sb_ruletext.specs.Values.{is_test_of_values, is_rule_of_values, is_policy_of_values}
 use Rattle.sb_base.specs.Numbers.{is_word64}
 use Rattle.sb_rule.specs.Actions.{action_word}
 use Rattle.sb_call.specs.CallWords.{call_word}

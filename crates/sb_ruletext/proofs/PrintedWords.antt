@@ -16,7 +16,7 @@ use Rattle.sb_text.specs.NumberLaws.{HexadecimalsAreRead}
 use Rattle.sb_text.specs.Numbers.{is_hexadecimal_digit, number_of}
 use Rattle.sb_ruletext.specs.Conditions.{after_dots, around_from, around_dots, range, range_of}
 use Rattle.sb_call.specs.Parameters.{parameter_word, parameter_words}
-use Rattle.sb_ruleprint.specs.Printing.{number_word, range_word, is_read_only}
+use Rattle.sb_ruletext.specs.Printing.{number_word, range_word, is_read_only}
 use Rattle.sb_call.specs.CallWords.{is_word, call_word, tag_of_word}
 use Rattle.sb_rule.specs.Actions.{action_word}
 use Rattle.sb_ruletext.specs.Words.{place_of, action_of, parameter_of}

@@ -9,5 +9,7 @@ pub mod PolicyTexts
 pub mod NoteKinds
 pub mod Notes
 pub mod NotedTexts
+pub mod Printing
+pub mod Values
 pub mod PrintingLaws
 pub mod Laws

@@ -1,5 +1,5 @@
 // Grants: one line that is short for several rules.
-ghost use Rattle.std.specs.Prelude.{◌≡◌, ◌∷◌, [], IfOk};
+ghost use Rattle.std.specs.Prelude.{◌≡◌, ◌∷◌, ◌++◌, [], IfOk, OnOk};
 ghost use Rattle.sb_call.specs.declared.tags.CallTag.TheVariants.{FileCreate, FileRename};
 ghost use Rattle.sb_ruletext.specs.declared.grants.Grant.TheVariants.{FilesAny, FilesReadonly};
 ghost use Rattle.sb_ruletext.specs.Grants.{grant_word, grants, grant_of, like_at, reads_at, opens_at, allowing, rules_of};
@@ -153,29 +153,6 @@ fn opening(alloc: Global, line: u32, pattern: &Pattern) -> Result<Rule, NoMemory
     Ok(rule)
 }
 
-// The rules of `files_any`.
-fn files_any(alloc: Global, line: u32, pattern: &Pattern) -> Result<Rules, NoMemory>
-    ensures { IfOk result (λ rules. rules ≡ rules_of line FilesAny pattern.now) }
-{
-    let mut rules = Rules::empty(alloc);
-    rules.push(named(alloc, line, CallTag::FileCreate, pattern)?)?;
-    rules.push(named(alloc, line, CallTag::FileOpen, pattern)?)?;
-    rules.push(named(alloc, line, CallTag::FileQuery, pattern)?)?;
-    rules.push(renaming(alloc, line, pattern)?)?;
-    Ok(rules)
-}
-
-// The rules of `files_readonly`.
-fn files_readonly(alloc: Global, line: u32, pattern: &Pattern) -> Result<Rules, NoMemory>
-    ensures { IfOk result (λ rules. rules ≡ rules_of line FilesReadonly pattern.now) }
-{
-    let mut rules = Rules::empty(alloc);
-    rules.push(reading(alloc, line, CallTag::FileOpen, pattern)?)?;
-    rules.push(opening(alloc, line, pattern)?)?;
-    rules.push(named(alloc, line, CallTag::FileQuery, pattern)?)?;
-    Ok(rules)
-}
-
 /// One rule.
 pub(crate) fn one(alloc: Global, rule: Rule) -> Result<Rules, NoMemory>
     ensures { IfOk result (λ rules. rules ≡ rule ∷ []) }
@@ -185,20 +162,102 @@ pub(crate) fn one(alloc: Global, rule: Rule) -> Result<Rules, NoMemory>
     Ok(rules)
 }
 
-// The rules that allow two calls if their names match the pattern.
-fn both(
+// Appends the rule that allows a call if its name matches the pattern.
+fn put_named(
     alloc: Global,
+    rules: &mut Rules,
     line: u32,
-    first: CallTag,
-    second: CallTag,
+    tag: CallTag,
     pattern: &Pattern,
-) -> Result<Rules, NoMemory>
-    ensures { IfOk result (λ rules. rules ≡ allowing line first (like_at 0 pattern.now ∷ []) ∷ allowing line second (like_at 0 pattern.now ∷ []) ∷ []) }
+) -> Result<(), NoMemory>
+    ensures { OnOk result (rules.new ≡ rules.old ++ allowing line tag (like_at 0 pattern.now ∷ []) ∷ []) }
 {
-    let mut rules = Rules::empty(alloc);
-    rules.push(named(alloc, line, first, pattern)?)?;
-    rules.push(named(alloc, line, second, pattern)?)?;
-    Ok(rules)
+    rules.push(named(alloc, line, tag, pattern)?)
+}
+
+// Appends the rule that allows to open what is there, if its name matches the pattern and the access only reads.
+fn put_reading(
+    alloc: Global,
+    rules: &mut Rules,
+    line: u32,
+    tag: CallTag,
+    pattern: &Pattern,
+) -> Result<(), NoMemory>
+    ensures { OnOk result (rules.new ≡ rules.old ++ allowing line tag (like_at 0 pattern.now ∷ reads_at 1 ∷ []) ∷ []) }
+{
+    rules.push(reading(alloc, line, tag, pattern)?)
+}
+
+// Appends the rules of `files_any`.
+fn put_files_any(
+    alloc: Global,
+    rules: &mut Rules,
+    line: u32,
+    pattern: &Pattern,
+) -> Result<(), NoMemory>
+    ensures { OnOk result (rules.new ≡ rules.old ++ rules_of line FilesAny pattern.now) }
+{
+    put_named(alloc, rules, line, CallTag::FileCreate, pattern)?;
+    put_named(alloc, rules, line, CallTag::FileOpen, pattern)?;
+    put_named(alloc, rules, line, CallTag::FileQuery, pattern)?;
+    rules.push(renaming(alloc, line, pattern)?)
+}
+
+// Appends the rules of `files_readonly`.
+fn put_files_readonly(
+    alloc: Global,
+    rules: &mut Rules,
+    line: u32,
+    pattern: &Pattern,
+) -> Result<(), NoMemory>
+    ensures { OnOk result (rules.new ≡ rules.old ++ rules_of line FilesReadonly pattern.now) }
+{
+    put_reading(alloc, rules, line, CallTag::FileOpen, pattern)?;
+    rules.push(opening(alloc, line, pattern)?)?;
+    put_named(alloc, rules, line, CallTag::FileQuery, pattern)
+}
+
+// Appends the rules that allow two calls if their names match the pattern.
+fn put_both(
+    alloc: Global,
+    rules: &mut Rules,
+    line: u32,
+    tags: (CallTag, CallTag),
+    pattern: &Pattern,
+) -> Result<(), NoMemory>
+    ensures { OnOk result (rules.new ≡ rules.old
+        ++ allowing line tags.0 (like_at 0 pattern.now ∷ []) ∷ allowing line tags.1 (like_at 0 pattern.now ∷ []) ∷ []) }
+{
+    put_named(alloc, rules, line, tags.0, pattern)?;
+    put_named(alloc, rules, line, tags.1, pattern)
+}
+
+// Appends the rules of a grant on a line, for a pattern.
+fn put_rules_of(
+    alloc: Global,
+    rules: &mut Rules,
+    line: u32,
+    grant: Grant,
+    pattern: &Pattern,
+) -> Result<(), NoMemory>
+    ensures { OnOk result (rules.new ≡ rules.old ++ rules_of line grant pattern.now) }
+{
+    match grant {
+        Grant::FilesAny => put_files_any(alloc, rules, line, pattern),
+        Grant::FilesReadonly => put_files_readonly(alloc, rules, line, pattern),
+        Grant::FilesQuery => put_named(alloc, rules, line, CallTag::FileQuery, pattern),
+        Grant::PipesAny => put_named(alloc, rules, line, CallTag::PipeCreate, pattern),
+        Grant::RegistryAny => {
+            let tags = (CallTag::KeyCreate, CallTag::KeyOpen);
+            put_both(alloc, rules, line, tags, pattern)
+        }
+        Grant::RegistryReadonly => put_reading(alloc, rules, line, CallTag::KeyOpen, pattern),
+        Grant::EventsAny => {
+            let tags = (CallTag::EventCreate, CallTag::EventOpen);
+            put_both(alloc, rules, line, tags, pattern)
+        }
+        Grant::EventsReadonly => put_reading(alloc, rules, line, CallTag::EventOpen, pattern),
+    }
 }
 
 /// The rules of a grant on a line, for a pattern.
@@ -210,20 +269,7 @@ pub(crate) fn rules_of(
 ) -> Result<Rules, NoMemory>
     ensures { IfOk result (λ rules. rules ≡ rules_of line grant pattern.now) }
 {
-    match grant {
-        Grant::FilesAny => files_any(alloc, line, pattern),
-        Grant::FilesReadonly => files_readonly(alloc, line, pattern),
-        Grant::FilesQuery => one(alloc, named(alloc, line, CallTag::FileQuery, pattern)?),
-        Grant::PipesAny => one(alloc, named(alloc, line, CallTag::PipeCreate, pattern)?),
-        Grant::RegistryAny => both(alloc, line, CallTag::KeyCreate, CallTag::KeyOpen, pattern),
-        Grant::RegistryReadonly => one(alloc, reading(alloc, line, CallTag::KeyOpen, pattern)?),
-        Grant::EventsAny => both(
-            alloc,
-            line,
-            CallTag::EventCreate,
-            CallTag::EventOpen,
-            pattern,
-        ),
-        Grant::EventsReadonly => one(alloc, reading(alloc, line, CallTag::EventOpen, pattern)?),
-    }
+    let mut rules = Rules::empty(alloc);
+    put_rules_of(alloc, &mut rules, line, grant, pattern)?;
+    Ok(rules)
 }

@@ -1,9 +1,9 @@
 use Rattle.std.proofs.Common.{◌≡◌, true, ◌++◌, take, map}
 use Rattle.std.specs.List.{flat_map, list_all}
-use Rattle.sb_ruleprint.specs.Printing.{rule_tokens}
+use Rattle.sb_ruletext.specs.Printing.{rule_tokens}
 use Rattle.sb_text.specs.PlainLines.{line_text}
-use Rattle.sb_ruleprint.specs.Values.{is_rule_of_values}
-use Rattle.sb_ruleprint.proofs.printing.put_rules.Given as goal
+use Rattle.sb_ruletext.specs.Values.{is_rule_of_values}
+use Rattle.sb_ruletext.proofs.printing.put_rules.Given as goal
 
 abbrev pub invariant-loop-rule : goal.invariant-loop-rule
 invariant-loop-rule l = record {

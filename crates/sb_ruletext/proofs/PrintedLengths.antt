@@ -26,10 +26,10 @@ use Rattle.sb_rule.specs.declared.policies.Rule.{Rule}
 use Rattle.sb_text.specs.TokenLaws.{written_token, written_line}
 use Rattle.sb_text.specs.Tokens.{Lexeme, Word, Quoted, utf8_of}
 use Rattle.sb_call.specs.Parameters.{parameter_words, parameter_word}
-use Rattle.sb_ruleprint.specs.Printing.{number_word, range_word, or_tokens, numbers_tokens, test_tokens, not_tokens, cond_tokens, joined_tokens, conds_tokens, rule_tokens, heading_tokens, policy_lines, has_read_only, version_word, version_tokens, spaced, printed}
+use Rattle.sb_ruletext.specs.Printing.{number_word, range_word, or_tokens, numbers_tokens, test_tokens, not_tokens, cond_tokens, joined_tokens, conds_tokens, rule_tokens, heading_tokens, policy_lines, has_read_only, version_word, version_tokens, spaced, printed}
 use Rattle.sb_text.specs.PlainLines.{line_text}
-use Rattle.sb_ruleprint.specs.Values.{is_policy_of_values}
-use Rattle.sb_ruleprint.proofs.Spaces.{spaced_line}
+use Rattle.sb_ruletext.specs.Values.{is_policy_of_values}
+use Rattle.sb_ruletext.proofs.PrintedSpaces.{spaced_line}
 
 at_most : (n m : ℕ) → nat_le n m ≡ true → n ≤ m
 at_most n m h = grind (arith, nat_tests)

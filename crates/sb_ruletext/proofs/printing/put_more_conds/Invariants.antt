@@ -1,9 +1,9 @@
 use Rattle.std.proofs.Common.{◌≡◌, true, ◌++◌, take}
 use Rattle.std.specs.List.{flat_map, list_all}
 use Rattle.std.specs.Prelude.{codes}
-use Rattle.sb_ruleprint.specs.Printing.{spaced, joined_tokens}
-use Rattle.sb_ruleprint.specs.Values.{is_test_of_values}
-use Rattle.sb_ruleprint.proofs.printing.put_more_conds.Given as goal
+use Rattle.sb_ruletext.specs.Printing.{spaced, joined_tokens}
+use Rattle.sb_ruletext.specs.Values.{is_test_of_values}
+use Rattle.sb_ruletext.proofs.printing.put_more_conds.Given as goal
 
 abbrev pub invariant-loop-cond : goal.invariant-loop-cond
 invariant-loop-cond l = record {

@@ -3,7 +3,7 @@ use Rattle.std.proofs.Common.{◌≡◌, ◌∙◌, ℕ, List, [], ◌∷◌, �
 use Rattle.std.proofs.lemmas.List.{append_assoc, append-nil}
 use Rattle.sb_text.specs.TokenLaws.{written_token, written_line}
 use Rattle.sb_text.specs.Tokens.{Lexeme, Word}
-use Rattle.sb_ruleprint.specs.Printing.{spaced}
+use Rattle.sb_ruletext.specs.Printing.{spaced}
 use Rattle.sb_text.specs.PlainLines.{line_text}
 
 pub spaced_line : (token : Lexeme) (more : List Lexeme) → written_line (token ∷ more) ≡ written_token token ++ spaced more
