@@ -10,10 +10,15 @@ pub fn put_answer(alloc: Global, row: &str, page: &mut Page) -> Result<(), RowFa
     for word in row.split(' ').skip(1) {
         words.push(String::from_str(alloc, word)?)?;
     }
-    let Some(inquiry) = inquiry_of(&words) else {
-        return Err(RowFault::UnknownRow);
-    };
-    let text = inquiry_text(alloc, inquiry)?;
+    let text = answer(alloc, &words)?;
     page.put_line(row)?;
     Ok(page.put_quoted(alloc, text.as_bytes(), Ends::ALL)?)
+}
+
+// What is answered to these arguments.
+fn answer(alloc: Global, words: &[String]) -> Result<String, RowFault> {
+    match inquiry_of(words) {
+        Some(inquiry) => Ok(inquiry_text(alloc, inquiry)?),
+        None => Err(RowFault::UnknownRow),
+    }
 }

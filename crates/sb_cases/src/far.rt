@@ -8,34 +8,38 @@ use sb_scripttext::{ScriptFault, ScriptKind, StartFault};
 use sb_top::{Complaint, exit_code};
 use std::alloc::Global;
 
-/// Puts the exit code of the status that the row names, and what is said of it: a fault in the last line that has a number, a thread
-/// that did not end, or out of memory.
+/// Puts the exit code of the status that the row names, and what is said of it.
 pub fn put_far(alloc: Global, row: &str, page: &mut Page) -> Result<(), RowFault> {
-    let status = match row {
-        "far policy" => Status::PolicyRefused(PolicyFault {
-            line: u32::MAX,
-            column: u32::MAX,
-            kind: PolicyFaultKind::TooMany(PolicyLimit::Rules),
-        }),
-        "far script" => Status::ScriptRefused(ScriptFault {
-            line: u32::MAX,
-            column: u32::MAX,
-            kind: ScriptKind::BadStart(StartFault::NameTaken),
-        }),
-        "far schedule" => Status::ScheduleRefused(ScheduleFault {
-            line: u32::MAX,
-            column: 0,
-            kind: ScheduleKind::NoRounds,
-        }),
-        "far unfinished" => Status::Unfinished {
-            target: 7,
-            thread: 3,
-        },
-        "far memory" => Status::NoMemory,
-        _ => return Err(RowFault::UnknownRow),
-    };
+    let status = status_of(row)?;
     let code = exit_code(status);
     let complaint = Complaint { status };
     page.put_line(format!(in alloc; "{row} => exit {code} {complaint}")?.as_str())?;
     Ok(())
+}
+
+// The status that a row names: a fault in the last line that has a number, a thread that did not end, or out of memory.
+fn status_of(row: &str) -> Result<Status, RowFault> {
+    match row {
+        "far policy" => Ok(Status::PolicyRefused(PolicyFault {
+            line: u32::MAX,
+            column: u32::MAX,
+            kind: PolicyFaultKind::TooMany(PolicyLimit::Rules),
+        })),
+        "far script" => Ok(Status::ScriptRefused(ScriptFault {
+            line: u32::MAX,
+            column: u32::MAX,
+            kind: ScriptKind::BadStart(StartFault::NameTaken),
+        })),
+        "far schedule" => Ok(Status::ScheduleRefused(ScheduleFault {
+            line: u32::MAX,
+            column: 0,
+            kind: ScheduleKind::NoRounds,
+        })),
+        "far unfinished" => Ok(Status::Unfinished {
+            target: 7,
+            thread: 3,
+        }),
+        "far memory" => Ok(Status::NoMemory),
+        _ => Err(RowFault::UnknownRow),
+    }
 }

@@ -38,22 +38,32 @@ use runs::run_case;
 use sb_rows::{CaseText, Due, Page, RowFault};
 use std::alloc::Global;
 use std::io::Write;
+use std::rt::Files;
 use std::sync::Wait;
 use std::thread::Threads;
 use std::{env, fs, io};
 
 fn main(rt: HostRuntime) -> io::Result<()> {
-    let alloc = rt.alloc();
-    let mut page = Page::new(alloc);
+    let mut page = Page::new(rt.alloc());
     for name in env::args(&rt)?.skip(1) {
-        let text = fs::read_to_string(&rt, name.as_str())?;
-        let count = run_text(&rt, alloc, text.as_str(), &mut page)?;
-        page.put_line(format!(in alloc; "{name} cases {count}")?.as_str())?;
+        run_file(&rt, rt.alloc(), name.as_str(), &mut page)?;
     }
     io::writer(&rt).write_all(page.as_slice())
 }
 
-// Runs the cases of a text, and tells how many there were.
+// Runs the cases of a file, and puts how many there were.
+fn run_file<R: Files + AllocGlobal + Threads + Wait + Sync>(
+    rt: &R,
+    alloc: Global,
+    name: &str,
+    page: &mut Page,
+) -> io::Result<()> {
+    let text = fs::read_to_string(rt, name)?;
+    let count = run_text(rt, alloc, text.as_str(), page)?;
+    Ok(page.put_line(format!(in alloc; "{name} cases {count}")?.as_str())?)
+}
+
+// Runs the cases of a text, and gives how many there were.
 fn run_text<R: Threads + Wait + Sync>(
     rt: &R,
     alloc: Global,

@@ -2,6 +2,7 @@
 
 use crate::shows::{put_message, put_outcome};
 use sb_outside::{Bytes, MemFiles, MemSink, StoredFile, Text};
+use sb_plain::Outcome;
 use sb_rows::{Case, CaseText, MeetingGate, Page, RowFault};
 use sb_top::broker_top;
 use std::alloc::Global;
@@ -74,14 +75,38 @@ fn run<R: Threads + Wait + Sync>(
 ) -> Result<(), RowFault> {
     let meeting = case.meeting();
     let gate = MeetingGate::new(alloc, meeting.targets, meeting.turns)?;
-    let outcome = broker_top(rt, alloc, case.words(), files, out, &gate);
-    put_outcome(alloc, &outcome, files.calls, case.shown(), page)?;
-    if case.shown().told {
-        put_message(alloc, case.words(), &outcome, page)?;
-    }
+    let outcome = outcome_of(rt, alloc, case.words(), files, out, &gate);
+    put_end(alloc, case, &outcome, files.calls, page)?;
     match meeting.targets {
         0 => Ok(()),
         _ => gate.put_counts(alloc, page),
+    }
+}
+
+// How the command of these arguments ends.
+fn outcome_of<R: Threads + Wait + Sync>(
+    rt: &R,
+    alloc: Global,
+    words: &[String],
+    files: &mut MemFiles,
+    out: &mut MemSink,
+    gate: &MeetingGate,
+) -> Outcome {
+    broker_top(rt, alloc, words, files, out, gate)
+}
+
+// Puts how a command ended, and what it writes on standard error if the case shows that.
+fn put_end(
+    alloc: Global,
+    case: &Case,
+    outcome: &Outcome,
+    reads: u64,
+    page: &mut Page,
+) -> Result<(), RowFault> {
+    put_outcome(alloc, outcome, reads, case.shown(), page)?;
+    match case.shown().told {
+        true => put_message(alloc, case.words(), outcome, page),
+        false => Ok(()),
     }
 }
 

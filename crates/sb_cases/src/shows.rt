@@ -83,6 +83,11 @@ pub fn put_message(
     page: &mut Page,
 ) -> Result<(), RowFault> {
     let text = message(alloc, words, outcome)?;
+    put_marked(alloc, text.as_str(), page)
+}
+
+// Puts each line of a text after an exclamation mark.
+fn put_marked(alloc: Global, text: &str, page: &mut Page) -> Result<(), RowFault> {
     for line in text.lines() {
         page.put_line(format!(in alloc; "! {line}")?.as_str())?;
     }

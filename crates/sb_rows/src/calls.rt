@@ -23,7 +23,9 @@ fn unquoted(word: &str) -> Option<&str> {
 pub fn call(alloc: Global, text: &str) -> Result<(CallTag, Args), RowFault> {
     let mut words = text.split_whitespace();
     let name = words.next().unwrap_or("");
-    let tag = tag_of_word(name.as_bytes()).ok_or(RowFault::BadWords)?;
+    let Some(tag) = tag_of_word(name.as_bytes()) else {
+        return Err(RowFault::BadWords);
+    };
     let mut args = Args::empty(alloc);
     for word in words {
         args.push(arg(alloc, word)?)?;
@@ -33,6 +35,8 @@ pub fn call(alloc: Global, text: &str) -> Result<(CallTag, Args), RowFault> {
 
 /// Appends a word, the bytes of which are UTF-8.
 pub fn put_word(out: &mut String, word: &[u8]) -> Result<(), RowFault> {
-    let text = str::from_utf8(word).map_err(|_| RowFault::BadText)?;
-    Ok(out.push_str(text)?)
+    match str::from_utf8(word) {
+        Ok(text) => Ok(out.push_str(text)?),
+        Err(_) => Err(RowFault::BadText),
+    }
 }

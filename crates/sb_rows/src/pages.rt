@@ -44,34 +44,77 @@ impl Page {
 
     /// Puts how many lines of a text end with this.
     pub fn put_count(&mut self, alloc: Global, text: &[u8], end: &str) -> Result<(), AllocError> {
-        let mut count = 0_u64;
-        for line in text.split(|byte| *byte == b'\n') {
-            if line.ends_with(end.as_bytes()) {
-                count = count.saturating_add(1);
-            }
-        }
+        let count = ending_lines(text, end.as_bytes());
         self.put_line(format!(in alloc; "{count} lines end with {end}")?.as_str())
     }
 
     /// Puts the lines of a text, each after a bar. Lines that are left out are replaced by a line that tells how many they
     /// are. A last line without a line feed is followed by a line that says so.
     pub fn put_quoted(&mut self, alloc: Global, text: &[u8], ends: Ends) -> Result<(), AllocError> {
-        let count = text.split_inclusive(|byte| *byte == b'\n').count() as u64;
-        let left_out = count.saturating_sub(ends.first).saturating_sub(ends.last);
-        let after = ends.first.saturating_add(left_out);
-        let mut at = 0_u64;
-        for line in text.split_inclusive(|byte| *byte == b'\n') {
-            if at < ends.first || at >= after {
-                self.bytes.extend_from_slice(b"| ")?;
-                self.bytes.extend_from_slice(line)?;
-            } else if at == ends.first {
-                self.put_line(format!(in alloc; "{left_out} lines")?.as_str())?;
+        let left_out = line_count(text)
+            .saturating_sub(ends.first)
+            .saturating_sub(ends.last);
+        let mut number = 0_u64;
+        let mut last = b'\n';
+        for byte in text {
+            if last == b'\n' {
+                number = number.saturating_add(1);
+                self.begin_line(alloc, number, ends.first, left_out)?;
             }
-            at = at.saturating_add(1);
+            if is_shown(number, ends.first, left_out) {
+                self.bytes.push(*byte)?;
+            }
+            last = *byte;
         }
-        match text {
-            [] | [.., b'\n'] => Ok(()),
+        match last {
+            b'\n' => Ok(()),
             _ => self.bytes.extend_from_slice(b"\nno line feed\n"),
         }
     }
+
+    // Begins the line of this number, from 1: with a bar, or, if it is the first that is left out, with how many are.
+    fn begin_line(
+        &mut self,
+        alloc: Global,
+        number: u64,
+        first: u64,
+        left_out: u64,
+    ) -> Result<(), AllocError> {
+        if is_shown(number, first, left_out) {
+            return self.bytes.extend_from_slice(b"| ");
+        }
+        if number == first.saturating_add(1) {
+            return self.put_line(format!(in alloc; "{left_out} lines")?.as_str());
+        }
+        Ok(())
+    }
+}
+
+// Whether the line of this number is printed if all are but this many after the first ones.
+fn is_shown(number: u64, first: u64, left_out: u64) -> bool {
+    number <= first || number > first.saturating_add(left_out)
+}
+
+// How many lines of a text end with these bytes.
+fn ending_lines(text: &[u8], end: &[u8]) -> u64 {
+    let mut count = 0_u64;
+    for line in text.split(|byte| *byte == b'\n') {
+        if line.ends_with(end) {
+            count = count.saturating_add(1);
+        }
+    }
+    count
+}
+
+// How many lines a text has: one begins at its first byte, and one at each byte after a line feed.
+fn line_count(text: &[u8]) -> u64 {
+    let mut count = 0_u64;
+    let mut last = b'\n';
+    for byte in text {
+        if last == b'\n' {
+            count = count.saturating_add(1);
+        }
+        last = *byte;
+    }
+    count
 }

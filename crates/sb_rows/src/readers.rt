@@ -19,12 +19,18 @@ pub fn number(text: &str) -> Result<u64, RowFault> {
         Some(digits) => u64::from_str_radix(digits, 16),
         None => text.parse(),
     };
-    read.map_err(|_| RowFault::BadNumber)
+    match read {
+        Ok(number) => Ok(number),
+        Err(_) => Err(RowFault::BadNumber),
+    }
 }
 
 /// A number of 32 bits.
 pub fn small(text: &str) -> Result<u32, RowFault> {
-    u32::try_from(number(text)?).map_err(|_| RowFault::BadNumber)
+    match u32::try_from(number(text)?) {
+        Ok(number) => Ok(number),
+        Err(_) => Err(RowFault::BadNumber),
+    }
 }
 
 /// Units: the letters of the text, where `{d800}` is the unit of this number and `{61*300}` this many of them.
@@ -51,7 +57,9 @@ fn put_text(alloc: Global, text: &str, found: &mut Vec<u16>) -> Result<(), RowFa
 
 fn put_units(text: &str, found: &mut Vec<u16>) -> Result<(), RowFault> {
     let (unit, times) = text.split_once('*').unwrap_or((text, "1"));
-    let unit = u16::from_str_radix(unit, 16).map_err(|_| RowFault::BadUnit)?;
+    let Ok(unit) = u16::from_str_radix(unit, 16) else {
+        return Err(RowFault::BadUnit);
+    };
     for _ in 0..number(times)? {
         found.push(unit)?;
     }

@@ -31,7 +31,12 @@ fn has_turn(seat: &WorkerSeat) -> bool
 fn is_held(seats: &[WorkerSeat]) -> bool
     ensures { result ≡ list_any (λ s. is_some s.book) seats.now }
 {
-    seats.iter().any(|seat| has_turn(seat))
+    for seat in seats {
+        if has_turn(seat) {
+            return true;
+        }
+    }
+    false
 }
 
 /// What the actors left. None if a worker has the turn.

@@ -12,8 +12,10 @@ const FIRST_MARK: u64 = 65536;
 /// The copies of the whole blocks of these calls.
 pub fn copies(alloc: Global, statements: &[Statement]) -> Result<Vec<BlockCopy>, RowFault> {
     let mut copies = Vec::new(alloc);
-    for (statement, mark) in statements.iter().zip(FIRST_MARK..u64::MAX) {
+    let mut mark = FIRST_MARK;
+    for statement in statements {
         copies.push(copy_with(statement, mark)?)?;
+        mark = mark.saturating_add(1);
     }
     Ok(copies)
 }
@@ -32,7 +34,10 @@ fn block_of(tag: CallTag, args: &[Arg], mark: u64) -> Result<Words, RowFault> {
     if !fits(tag, args) {
         return Err(RowFault::BadWords);
     }
-    encode(tag, args, mark).map_err(|_| RowFault::BadWords)
+    match encode(tag, args, mark) {
+        Ok(block) => Ok(block),
+        Err(_) => Err(RowFault::BadWords),
+    }
 }
 
 // The copy of these words, if the count of the block was seen before.
@@ -41,5 +46,8 @@ fn copy_of(block: &[u64], words: Words) -> Result<BlockCopy, RowFault> {
         return Err(RowFault::BadWords);
     };
     let end = words.len() as u64;
-    BlockCopy::of(*count, end, words).ok_or(RowFault::BadWords)
+    match BlockCopy::of(*count, end, words) {
+        Some(copy) => Ok(copy),
+        None => Err(RowFault::BadWords),
+    }
 }

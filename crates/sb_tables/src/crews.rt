@@ -6,12 +6,11 @@ ghost use Rattle.sb_shared.specs.Seats.{IsSameThread, IsSameWorker};
 ghost use Rattle.sb_tables.specs.Players.{AreHere, ArePlayers};
 
 use crate::closings::{Left, left_by};
-use crate::inputs::Inputs;
 use crate::openings::open;
 use crate::players::{Players, serve, walk};
-use sb_book::Report;
+use crate::plays::core_report;
+use sb_book::{ReadyScript, Report};
 use sb_compile::Programs;
-use sb_core::run;
 use sb_rows::RowFault;
 use sb_rule::Judge;
 use sb_scheduletext::MOST_ROUNDS;
@@ -50,13 +49,19 @@ fn finish(world: &SharedWorld, script: &SoundScript, seat: &mut ThreadSeat, step
     steps.fetch_add(made, Ordering::SeqCst);
 }
 
-// The steps of a worker until all threads have ended, or memory ran out.
-fn attend<J: Judge>(alloc: Global, world: &SharedWorld, judge: &J, seat: &mut WorkerSeat)
+// The steps of a worker, at most the given number, until all threads have ended, or memory ran out.
+fn attend<J: Judge>(
+    alloc: Global,
+    world: &SharedWorld,
+    judge: &J,
+    seat: &mut WorkerSeat,
+    steps: u64,
+)
     requires here { IsWorkerOf world.now seat.old }
     requires judge { J.policies judge.now ≡ (setting_in world.now.key).policies }
     ensures { IsSameWorker seat.old seat.new }
 {
-    for step in 0..MOST_STEPS {
+    for step in 0..steps {
         if serve(alloc, world, judge, seat).is_err() {
             seat.fail(world);
             break;
@@ -100,33 +105,14 @@ fn finish_all<R: Threads + Sync>(
     (keeper, seats)
 }
 
-// The same, while no worker makes any step.
-fn finish_players<R: Threads + Sync>(
-    rt: &R,
-    world: &SharedWorld,
-    script: &SoundScript,
-    keeper: Keeper,
-    players: Players,
-    steps: &AtomicU64,
-) -> (Keeper, Players)
-    requires script { world.now.key.script.value ≡ script.now }
-    requires keeper { IsKeeper world.now keeper }
-    requires players { ArePlayers world.now players }
-    ensures keeper { IsKeeper world.now result.0 }
-    ensures players { ArePlayers world.now result.1 }
-{
-    let Players { workers, threads } = players;
-    let (keeper, threads) = finish_all(rt, world, script, keeper, threads, steps);
-    (keeper, Players { workers, threads })
-}
-
-// The steps of all workers, each by a thread of its own.
+// The steps of all workers, each by a thread of its own, at most the given number each.
 fn attend_all<R: Threads + Sync, J: Judge>(
     rt: &R,
     alloc: Global,
     world: &SharedWorld,
     judge: &J,
     workers: Vec<WorkerSeat>,
+    steps: u64,
 ) -> Vec<WorkerSeat>
     requires workers { AreHere world.now workers.items }
     requires judge { J.policies judge.now ≡ (setting_in world.now.key).policies }
@@ -140,12 +126,12 @@ fn attend_all<R: Threads + Sync, J: Judge>(
         &|_place: usize, seat: &mut WorkerSeat|
             requires { IsWorkerOf world.now seat.now × (J.policies judge.now ≡ (setting_in world.now.key).policies) }
             ensures { IsSameWorker seat.entry.now seat.exit.now }
-        { attend(alloc, world, judge, seat) },
+        { attend(alloc, world, judge, seat, steps) },
     );
     workers
 }
 
-// The steps of all threads, and meanwhile those of all workers.
+// The steps of all threads, and meanwhile those of all workers, at most the given number each.
 fn together<R: Threads + Sync, J: Judge>(
     rt: &R,
     alloc: Global,
@@ -154,6 +140,7 @@ fn together<R: Threads + Sync, J: Judge>(
     script: &SoundScript,
     keeper: Keeper,
     players: Players,
+    most: u64,
     steps: &AtomicU64,
 ) -> (Keeper, Players)
     requires judge { J.policies judge.now ≡ (setting_in world.now.key).policies }
@@ -173,47 +160,38 @@ fn together<R: Threads + Sync, J: Judge>(
         move || -> Vec<WorkerSeat>
             requires { AreHere world.now workers.items × (J.policies judge.now ≡ (setting_in world.now.key).policies) }
             ensures { AreHere world.entry.now result.items }
-        { attend_all(rt, alloc, world, judge, workers) },
+        { attend_all(rt, alloc, world, judge, workers, most) },
     );
     (keeper, Players { workers, threads })
 }
 
-// What the actors leave, each of which makes its steps by a thread of its own, the workers only if they serve.
+// What the actors leave, each of which makes its steps by a thread of its own, a worker at most the given number.
 fn left_together<R: Threads + Sync>(
     rt: &R,
     alloc: Global,
-    inputs: &Inputs,
-    serving: bool,
+    inputs: &ReadyScript,
+    most: u64,
     steps: &AtomicU64,
 ) -> Result<Left, RowFault> {
-    let judge = Programs::new(alloc, inputs.ready.policies(), inputs.ready.script())?;
+    let script = inputs.script();
+    let judge = Programs::new(alloc, inputs.policies(), script)?;
     let (world, keeper, players) = open(alloc, inputs)?;
-    let (keeper, players) = if serving {
-        together(
-            rt,
-            alloc,
-            &world,
-            &judge,
-            inputs.ready.script(),
-            keeper,
-            players,
-            steps,
-        )
-    } else {
-        finish_players(rt, &world, inputs.ready.script(), keeper, players, steps)
-    };
-    left_by(world, keeper, players).ok_or(RowFault::NoMemory)
+    let (keeper, players) = together(
+        rt, alloc, &world, &judge, script, keeper, players, most, steps,
+    );
+    match left_by(world, keeper, players) {
+        Some(left) => Ok(left),
+        None => Err(RowFault::NoMemory),
+    }
 }
 
 // What the core reports of the script by rounds.
-fn by_rounds(alloc: Global, inputs: &Inputs) -> Result<Report, RowFault> {
-    let judge = Programs::new(alloc, inputs.ready.policies(), inputs.ready.script())?;
+fn by_rounds(alloc: Global, inputs: &ReadyScript) -> Result<Report, RowFault> {
     let schedule = Schedule {
         steps: Steps::empty(alloc),
         rounds: MOST_ROUNDS,
     };
-    let ran = run(alloc, &judge, inputs.ready.start(alloc)?, &schedule)?;
-    Ok(ran.report)
+    core_report(alloc, inputs, &schedule)
 }
 
 /// The actors of a script make their steps to the end, each by a thread of its own. Told are, with `alone`, of threads to whom no worker serves, how many
@@ -222,31 +200,52 @@ fn by_rounds(alloc: Global, inputs: &Inputs) -> Result<Report, RowFault> {
 pub fn told_threads<R: Threads + Sync>(
     rt: &R,
     alloc: Global,
-    inputs: &Inputs,
+    inputs: &ReadyScript,
     what: &str,
 ) -> Result<String, RowFault> {
     let steps = AtomicU64::new(0);
-    let serving = what == "words" || what == "results";
-    let Left { report, .. } = left_together(rt, alloc, inputs, serving, &steps)?;
-    let made = steps.load(Ordering::SeqCst);
-    if what == "paces" {
-        return Ok(format!(in alloc; "steps {made}")?);
-    }
-    told_beside(alloc, inputs, what, made, &report)
+    // Workers make no steps unless calls are served.
+    let most = match what {
+        "words" | "results" => MOST_STEPS,
+        _ => 0,
+    };
+    let left = left_together(rt, alloc, inputs, most, &steps)?;
+    told_left(
+        alloc,
+        inputs,
+        what,
+        steps.load(Ordering::SeqCst),
+        &left.report,
+    )
 }
 
-// The same beside the core.
-fn told_beside(
+// What is told of the number of the steps of threads, and of what the actors left.
+fn told_left(
     alloc: Global,
-    inputs: &Inputs,
+    inputs: &ReadyScript,
     what: &str,
     made: u64,
     report: &Report,
 ) -> Result<String, RowFault> {
+    if what == "paces" {
+        return Ok(format!(in alloc; "steps {made}")?);
+    }
     let core = by_rounds(alloc, inputs)?;
     let words = report.words == core.words;
     let results = report.results == core.results;
-    let entries = report.entries.len();
+    let same = (words, results);
+    told_beside(alloc, what, made, report.entries.len(), same)
+}
+
+// The same beside the core: with whether words and results are those of the core.
+fn told_beside(
+    alloc: Global,
+    what: &str,
+    made: u64,
+    entries: usize,
+    same: (bool, bool),
+) -> Result<String, RowFault> {
+    let (words, results) = same;
     match what {
         "alone" => Ok(format!(in alloc; "steps {made} words {words} results {results}")?),
         "words" => Ok(format!(in alloc; "entries {entries} words {words} results {results}")?),

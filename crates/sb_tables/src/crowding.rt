@@ -88,15 +88,23 @@ fn names(alloc: Global, letter: u16) -> Result<Vec<Wide>, NoMemory> {
 }
 
 fn name(alloc: Global, letter: u16, number: u64) -> Result<Wide, NoMemory> {
-    let mut units = Vec::with_capacity(alloc, 9)?;
-    for unit in [BACKSLASH, DIRECTORY, BACKSLASH, letter] {
-        units.push(unit)?;
-    }
-    for place in [10_000, 1_000, 100, 10, 1] {
-        let digit = number.checked_div(place).unwrap_or(0) % 10;
-        units.push((digit as u16).wrapping_add(48))?;
-    }
-    Ok(Wide::new(units))
+    let units = [
+        BACKSLASH,
+        DIRECTORY,
+        BACKSLASH,
+        letter,
+        digit(number / 10_000),
+        digit(number / 1_000),
+        digit(number / 100),
+        digit(number / 10),
+        digit(number),
+    ];
+    Ok(Wide::new(Vec::from_slice(alloc, &units)?))
+}
+
+// The last digit of a number.
+fn digit(number: u64) -> u16 {
+    (number % 10) as u16 + 48
 }
 
 fn add_all(tree: &mut NameTree, names: &[Wide]) -> Result<u64, NoMemory> {

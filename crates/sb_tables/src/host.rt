@@ -16,11 +16,22 @@ pub fn reads_of<R: rt::Files>(rt: &R, alloc: Global, parts: &[&str]) -> Result<S
     let mut files = HostFiles::new(rt);
     let mut out = String::new(alloc);
     for name in names {
-        put_between(&mut out, ", ")?;
-        put_content(&mut out, files.read(alloc, name, most))?;
-        write!(out, "faults {}", files.faults)?;
+        put_read(alloc, &mut files, most, name, &mut out)?;
     }
     Ok(out)
+}
+
+// Appends what the read of a file returns, and the count of faults.
+fn put_read<R: rt::Files>(
+    alloc: Global,
+    files: &mut HostFiles<&R>,
+    most: u64,
+    name: &str,
+    out: &mut String,
+) -> Result<(), RowFault> {
+    put_between(out, ", ")?;
+    put_content(out, files.read(alloc, name, most))?;
+    Ok(write!(out, "faults {}", files.faults)?)
 }
 
 /// The outcome of each put of `PIECE | TEXT | ..` into a writer of eight bytes, with the bytes that are then pending; the outcome of the
@@ -45,13 +56,23 @@ fn put_all(
 ) -> Result<(), RowFault> {
     let mut sink = HostSink::new(alloc, Cursor::new(room), piece)?;
     for text in texts {
-        let put = bytes(alloc, text)?;
-        put_outcome(out, sink.put(&put))?;
-        put_shown(out, &sink.pending)?;
-        out.push_str("; ")?;
+        put_one(alloc, text, &mut sink, out)?;
     }
     put_outcome(out, sink.finish())?;
     Ok(write!(out, "faults {} ", sink.faults)?)
+}
+
+// Puts the bytes of a text. Appends the outcome and the bytes that are then pending.
+fn put_one(
+    alloc: Global,
+    text: &str,
+    sink: &mut HostSink<Cursor<&mut [u8]>>,
+    out: &mut String,
+) -> Result<(), RowFault> {
+    let put = bytes(alloc, text)?;
+    put_outcome(out, sink.put(&put))?;
+    put_shown(out, &sink.pending)?;
+    Ok(out.push_str("; ")?)
 }
 
 // Appends what a read returns.

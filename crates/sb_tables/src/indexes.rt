@@ -9,26 +9,37 @@ use std::alloc::Global;
 /// The numbers of the rules that an index leaves for a call, where this many rules allow `file.open`, each for one name: this text and the
 /// number of the rule.
 pub fn candidates(alloc: Global, text: &str, count: &str, name: &str) -> Result<String, RowFault> {
-    let (tag, args) = call(alloc, text)?;
     let rules = numbered_rules(alloc, number(count)?, name)?;
+    told_set(alloc, &left_for(alloc, text, &rules)?, rules.len())
+}
+
+// The rules that their index leaves for a call.
+fn left_for(alloc: Global, text: &str, rules: &Rules) -> Result<RuleSet, RowFault> {
+    let (tag, args) = call(alloc, text)?;
     if rules.len() > MOST_RULES {
         return Err(RowFault::TooMany);
     }
-    let index = Index::new(alloc, &rules, tag)?;
-    told_set(alloc, &index.candidates(&args), rules.len())
+    let index = Index::new(alloc, rules, tag)?;
+    Ok(index.candidates(&args))
 }
 
 fn numbered_rules(alloc: Global, count: u64, name: &str) -> Result<Rules, RowFault> {
     let mut rules = Rules::new(Vec::new(alloc));
     for number in 0..count {
-        rules.push(rule_for(alloc, format!(in alloc; "{name}{number}")?)?)?;
+        rules.push(rule_for(alloc, name, number)?)?;
     }
     Ok(rules)
 }
 
-// The rule that allows `file.open` for one name.
-fn rule_for(alloc: Global, name: String) -> Result<Rule, RowFault> {
-    let test = Test::Equal(wide(alloc, name.as_str())?);
+// The test for a name: this text and the number.
+fn test_for(alloc: Global, name: &str, number: u64) -> Result<Test, RowFault> {
+    let name = format!(in alloc; "{name}{number}")?;
+    Ok(Test::Equal(wide(alloc, name.as_str())?))
+}
+
+// The rule that allows `file.open` for the name with this number.
+fn rule_for(alloc: Global, name: &str, number: u64) -> Result<Rule, RowFault> {
+    let test = test_for(alloc, name, number)?;
     let mut conds = Conds::new(Vec::new(alloc));
     conds.push(Cond {
         param: 0,

@@ -5,6 +5,7 @@ ghost use Rattle.sb_statements.specs.Actors.{is_step_there};
 
 use sb_book::ReadyScript;
 use sb_rows::RowFault;
+use sb_rule::WellMadePolicies;
 use sb_ruletext::{TextRefused, read_policies};
 use sb_scheduletext::{ScheduleRefused, read_schedule};
 use sb_scripttext::{ScriptRefused, read_script};
@@ -25,13 +26,6 @@ policy none
 // As many bytes as the sandbox reads of a script or a schedule.
 const MOST_BYTES: usize = 4_194_304;
 
-/// A script, and the policies for which it is ready.
-#[derive(Drop)]
-pub struct Inputs {
-    /// Both of them.
-    pub ready: ReadyScript,
-}
-
 // Lines that rows separate by semicolons, after a first line, each with this word before it.
 fn lines(alloc: Global, first: &str, word: &str, text: &str) -> Result<String, RowFault> {
     let mut out = String::from_str(alloc, first)?;
@@ -46,11 +40,10 @@ fn lines(alloc: Global, first: &str, word: &str, text: &str) -> Result<String, R
     Ok(out)
 }
 
-/// The script of a row, without its first line. Its lines are separated by semicolons.
-pub fn inputs_of(alloc: Global, text: &str) -> Result<Inputs, RowFault> {
+/// The script of a row, without its first line, ready for the policies of all rows. Its lines are separated by semicolons.
+pub fn inputs_of(alloc: Global, text: &str) -> Result<ReadyScript, RowFault> {
     let text = lines(alloc, "sandbox-script 1\n", "", text)?;
-    let ready = ready_by(alloc, POLICY.as_bytes(), text.as_str().as_bytes())?;
-    Ok(Inputs { ready })
+    ready_by(alloc, POLICY.as_bytes(), text.as_str().as_bytes())
 }
 
 /// The script in the file of one name, ready for the policies in the file of another.
@@ -71,18 +64,26 @@ pub fn read_inputs<R: Files + AllocGlobal>(
 
 // A script that is ready for policies, by their texts.
 fn ready_by(alloc: Global, policy: &[u8], script: &[u8]) -> Result<ReadyScript, RowFault> {
-    if policy.len() > MOST_BYTES || script.len() > MOST_BYTES {
+    let policies = policies_of(alloc, policy)?;
+    if script.len() > MOST_BYTES {
         return Err(RowFault::TooMany);
     }
-    let policies = match read_policies(alloc, policy) {
-        Ok(policies) => policies,
-        Err(TextRefused::Fault(_)) => return Err(RowFault::BadPolicy),
-        Err(TextRefused::NoMemory) => return Err(RowFault::NoMemory),
-    };
     match read_script(alloc, script, policies) {
         Ok(opened) => Ok(opened.into_parts().0),
         Err(ScriptRefused::Fault(_)) => Err(RowFault::BadWords),
         Err(ScriptRefused::NoMemory) => Err(RowFault::NoMemory),
+    }
+}
+
+// The policies of a text.
+fn policies_of(alloc: Global, policy: &[u8]) -> Result<WellMadePolicies, RowFault> {
+    if policy.len() > MOST_BYTES {
+        return Err(RowFault::TooMany);
+    }
+    match read_policies(alloc, policy) {
+        Ok(policies) => Ok(policies),
+        Err(TextRefused::Fault(_)) => Err(RowFault::BadPolicy),
+        Err(TextRefused::NoMemory) => Err(RowFault::NoMemory),
     }
 }
 

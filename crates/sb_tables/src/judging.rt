@@ -7,7 +7,7 @@ use sb_book::ReadyScript;
 use sb_call::{Args, CallTag, fits};
 use sb_compile::{Program, compile};
 use sb_rows::RowFault;
-use sb_rule::{Action, Policy, Verdict, verdict_plain};
+use sb_rule::{Action, Policy, Verdict, WellMadePolicies, verdict_plain};
 use sb_statements::Statement;
 use std::alloc::Global;
 
@@ -26,15 +26,20 @@ pub fn verdicts_by_code(
     rounds: u64,
 ) -> Result<String, RowFault> {
     let calls = calls_of(alloc, statements_of(inputs.script(), 0))?;
-    let Some(policy) = inputs.policies().get(0) else {
-        return Err(RowFault::BadWords);
-    };
-    let program = compile(alloc, &policy)?;
+    let program = program_of(alloc, inputs.policies())?;
     let mut allowed: u64 = 0;
     for _round in 0..rounds {
         allowed = allowed.saturating_add(allowed_by_code(&program, &calls));
     }
     allowed_line(alloc, &calls, allowed)
+}
+
+// The program of the first policy.
+fn program_of(alloc: Global, policies: &WellMadePolicies) -> Result<Program, RowFault> {
+    match policies.get(0) {
+        Some(policy) => Ok(compile(alloc, &policy)?),
+        None => Err(RowFault::BadWords),
+    }
 }
 
 /// Judges the calls of the first thread by the rules of the first policy, in these rounds.
@@ -80,10 +85,13 @@ fn fit_call(alloc: Global, statement: &Statement) -> Result<FitCall, RowFault> {
 }
 
 fn allowed_by_code(program: &Program, calls: &[FitCall]) -> u64 {
-    calls
-        .iter()
-        .filter(|call| is_allowed_by_code(program, call))
-        .count() as u64
+    let mut allowed: u64 = 0;
+    for call in calls {
+        if is_allowed_by_code(program, call) {
+            allowed = allowed.saturating_add(1);
+        }
+    }
+    allowed
 }
 
 fn is_allowed_by_code(program: &Program, call: &FitCall) -> bool {
@@ -91,10 +99,17 @@ fn is_allowed_by_code(program: &Program, call: &FitCall) -> bool {
 }
 
 fn allowed_by_rules(policy: &Policy, calls: &[FitCall]) -> u64 {
-    calls
-        .iter()
-        .filter(|call| is_allowed(verdict_plain(policy, call.tag, call.args.as_slice())))
-        .count() as u64
+    let mut allowed: u64 = 0;
+    for call in calls {
+        if is_allowed_by_rules(policy, call) {
+            allowed = allowed.saturating_add(1);
+        }
+    }
+    allowed
+}
+
+fn is_allowed_by_rules(policy: &Policy, call: &FitCall) -> bool {
+    is_allowed(verdict_plain(policy, call.tag, call.args.as_slice()))
 }
 
 fn is_allowed(verdict: Verdict) -> bool {

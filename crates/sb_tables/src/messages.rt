@@ -12,15 +12,19 @@ use std::fmt::Display;
 /// The texts of the faults of a crate.
 pub fn messages(alloc: Global, name: &str) -> Result<String, RowFault> {
     let mut out = String::new(alloc);
-    match name {
-        "sb_base" => put_message(&mut out, &NoMemory)?,
-        "sb_text" => put_message(&mut out, &NotUtf8 { line: 3, column: 7 })?,
-        "sb_outside" => put_outside(&mut out)?,
-        "sb_rule" => put_patterns(&mut out)?,
-        "sb_block" => put_blocks(&mut out)?,
-        _ => return Err(RowFault::Unknown),
-    }
+    put_messages(&mut out, name)?;
     Ok(out)
+}
+
+fn put_messages(out: &mut String, name: &str) -> Result<(), RowFault> {
+    match name {
+        "sb_base" => put_message(out, &NoMemory),
+        "sb_text" => put_message(out, &NotUtf8 { line: 3, column: 7 }),
+        "sb_outside" => put_outside(out),
+        "sb_rule" => put_patterns(out),
+        "sb_block" => put_blocks(out),
+        _ => Err(RowFault::Unknown),
+    }
 }
 
 fn put_message<T: Display>(out: &mut String, fault: &T) -> Result<(), RowFault> {

@@ -3,16 +3,16 @@ ghost use Rattle.std.specs.Prelude.{◌≡◌, IfOk, IfSome};
 ghost use Rattle.sb_shared.specs.Closing.{IsKeeper};
 ghost use Rattle.sb_tables.specs.Players.{AreHere, AreOnTable, ArePlayers};
 
-use crate::inputs::Inputs;
 use crate::players::Players;
+use sb_book::ReadyScript;
 use sb_rows::RowFault;
 use sb_shared::{Keeper, SharedParts, SharedWorld, WorkerSeat};
 use std::alloc::Global;
 
 /// The shared world of a script, with the seats of all actors before their first steps.
-pub fn open(alloc: Global, inputs: &Inputs) -> Result<(SharedWorld, Keeper, Players), RowFault>
-    ensures policies { IfOk result (λ r. r.0.key.policies.value.list ≡ inputs.now.ready.policies) }
-    ensures script { IfOk result (λ r. r.0.key.script.value ≡ inputs.now.ready.script) }
+pub fn open(alloc: Global, inputs: &ReadyScript) -> Result<(SharedWorld, Keeper, Players), RowFault>
+    ensures policies { IfOk result (λ r. r.0.key.policies.value.list ≡ inputs.now.policies) }
+    ensures script { IfOk result (λ r. r.0.key.script.value ≡ inputs.now.script) }
     ensures keeper { IfOk result (λ r. IsKeeper r.0 r.1) }
     ensures players { IfOk result (λ r. ArePlayers r.0 r.2) }
 {
@@ -21,7 +21,7 @@ pub fn open(alloc: Global, inputs: &Inputs) -> Result<(SharedWorld, Keeper, Play
         keeper,
         workers,
         threads,
-    } = SharedWorld::open(alloc, inputs.ready.start(alloc)?)?;
+    } = SharedWorld::open(alloc, inputs.start(alloc)?)?;
     Ok((world, keeper, Players { workers, threads }))
 }
 

@@ -88,8 +88,12 @@ pub fn play<J: Judge>(
 
 // Where the seat of a thread is, or after the last one if there is none.
 fn place_of(seats: &[ThreadSeat], target: u32, thread: u32) -> usize {
-    seats
-        .iter()
-        .position(|seat| seat.target() == target && seat.thread() == thread)
-        .unwrap_or(seats.len())
+    let mut place: usize = 0;
+    for seat in seats {
+        if seat.target() == target && seat.thread() == thread {
+            return place;
+        }
+        place = place.saturating_add(1);
+    }
+    place
 }

@@ -1,19 +1,22 @@
 // Steps of the seats of one shared world, beside the same steps of the core.
-ghost use Rattle.std.specs.Prelude.{◌≡◌, OnOk};
+ghost use Rattle.std.specs.Prelude.{◌≡◌, true, OnOk};
+ghost use Rattle.std.specs.List.{list_all};
 ghost use Rattle.sb_shared.specs.Origins.{setting_in};
+ghost use Rattle.sb_statements.specs.Actors.{is_step_there};
 ghost use Rattle.sb_tables.specs.Players.{ArePlayers};
 
 use crate::closings::{Left, left_by};
-use crate::inputs::{Inputs, schedule_of};
+use crate::inputs::schedule_of;
 use crate::openings::{last_worker, open};
 use crate::players::{Players, play};
 use crate::shows::{put_workers, shown};
+use sb_book::{ReadyScript, Report};
 use sb_compile::Programs;
 use sb_core::run;
 use sb_rows::RowFault;
 use sb_rule::Judge;
-use sb_shared::SharedWorld;
-use sb_statements::{Actor, SoundScript};
+use sb_shared::{SharedWorld, WorkerSeat};
+use sb_statements::{Actor, Schedule, Script, SoundScript};
 use std::alloc::Global;
 
 // The steps of a schedule.
@@ -41,33 +44,49 @@ fn play_all<J: Judge>(
 // What the steps of the seats leave. None if a worker has the turn.
 fn played(
     alloc: Global,
-    inputs: &Inputs,
+    inputs: &ReadyScript,
     steps: &[(Actor, u32)],
 ) -> Result<Option<Left>, RowFault> {
-    let judge = Programs::new(alloc, inputs.ready.policies(), inputs.ready.script())?;
+    let judge = Programs::new(alloc, inputs.policies(), inputs.script())?;
     let (world, keeper, mut players) = open(alloc, inputs)?;
-    play_all(
-        alloc,
-        &world,
-        &judge,
-        inputs.ready.script(),
-        &mut players,
-        steps,
-    )?;
+    play_all(alloc, &world, &judge, inputs.script(), &mut players, steps)?;
     Ok(left_by(world, keeper, players))
+}
+
+/// What the core reports of a script by a schedule of its actors.
+pub fn core_report(
+    alloc: Global,
+    inputs: &ReadyScript,
+    schedule: &Schedule,
+) -> Result<Report, RowFault>
+    requires { list_all (is_step_there inputs.now.script.targets) schedule.now.steps ≡ true }
+{
+    let judge = Programs::new(alloc, inputs.policies(), inputs.script())?;
+    let ran = run(alloc, &judge, inputs.start(alloc)?, schedule)?;
+    Ok(ran.report)
 }
 
 /// The given steps of the seats of one shared world, and what the core says of them. Shown are the words that changed, the entries and the results so far,
 /// where the workers are, and whether words, entries and results are those of the core.
-pub fn told_steps(alloc: Global, inputs: &Inputs, steps: &str) -> Result<String, RowFault> {
-    let schedule = schedule_of(alloc, steps, inputs.ready.script())?;
-    let judge = Programs::new(alloc, inputs.ready.policies(), inputs.ready.script())?;
-    let core = run(alloc, &judge, inputs.ready.start(alloc)?, &schedule)?;
-    let core = shown(alloc, inputs.ready.script(), &core.report)?;
-    let Some(left) = played(alloc, inputs, schedule.steps.as_slice())? else {
-        return Ok(String::from_str(alloc, "a worker has the turn")?);
-    };
-    let mut out = shown(alloc, inputs.ready.script(), &left.report)?;
+pub fn told_steps(alloc: Global, inputs: &ReadyScript, steps: &str) -> Result<String, RowFault> {
+    let script = inputs.script();
+    let schedule = schedule_of(alloc, steps, script)?;
+    let core = core_report(alloc, inputs, &schedule)?;
+    match played(alloc, inputs, schedule.steps.as_slice())? {
+        Some(left) => told_left(alloc, script, &left, &core),
+        None => Ok(String::from_str(alloc, "a worker has the turn")?),
+    }
+}
+
+// What the seats left beside what the core reports.
+fn told_left(
+    alloc: Global,
+    script: &Script,
+    left: &Left,
+    core: &Report,
+) -> Result<String, RowFault> {
+    let core = shown(alloc, script, core)?;
+    let mut out = shown(alloc, script, &left.report)?;
     let same = out.as_str() == core.as_str();
     put_workers(&mut out, left.workers.as_slice())?;
     write!(out, "  as in the core {same}")?;
@@ -75,15 +94,22 @@ pub fn told_steps(alloc: Global, inputs: &Inputs, steps: &str) -> Result<String,
 }
 
 /// The given number of steps of the last worker, while nobody else makes any. Told is whether the worker is looking at the end.
-pub fn told_looks(alloc: Global, inputs: &Inputs, steps: u64) -> Result<String, RowFault> {
+pub fn told_looks(alloc: Global, inputs: &ReadyScript, steps: u64) -> Result<String, RowFault> {
     let (world, _, players) = open(alloc, inputs)?;
     let mut workers = players.workers;
     let Some(mut seat) = last_worker(&world, &mut workers) else {
         return Err(RowFault::NotInRange);
     };
-    for _step in 0..steps {
-        seat.step(&world);
-    }
-    let looking = seat.is_looking();
+    let looking = is_looking_after(&world, &mut seat, steps);
     Ok(format!(in alloc; "looking {looking}")?)
+}
+
+// Whether a worker is looking after the given number of steps.
+fn is_looking_after(world: &SharedWorld, seat: &mut WorkerSeat, steps: u64) -> bool
+    requires { seat.old.table ≡ world.now.table }
+{
+    for _step in 0..steps {
+        seat.step(world);
+    }
+    seat.is_looking()
 }

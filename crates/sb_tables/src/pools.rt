@@ -217,12 +217,22 @@ fn closed<R: Threads + Wait + Sync>(
     };
     let Dealt { seat, draws } = joined(&pool, last, all);
     let works = pool.close(rt, seat);
-    let (many, in_order) = (works.len(), are_in_order(&works));
+    told_works(alloc, draws, &works)
+}
+
+fn told_works(alloc: Global, draws: u64, works: &[Work]) -> Result<String, RowFault> {
+    let (many, in_order) = (works.len(), are_in_order(works));
     Ok(format!(in alloc; "draws {draws} works {many} in order {in_order}")?)
 }
 
 // Whether the works have the numbers from 0 on, each with its home.
 fn are_in_order(works: &[Work]) -> bool {
-    works.iter().zip(0..u32::MAX).all(|pair| pair.0.number == pair.1
-        && pair.0.home == home_of(pair.1))
+    let mut number: u32 = 0;
+    for work in works {
+        if work.number != number || work.home != home_of(number) {
+            return false;
+        }
+        number = number.saturating_add(1);
+    }
+    true
 }

@@ -2,6 +2,7 @@
 
 use crate::inputs::inputs_of;
 use crate::{crews, host, indexes, messages, plays, pools, stops, works};
+use sb_book::ReadyScript;
 use sb_rows::{RowFault, arguments, number};
 use std::alloc::Global;
 use std::rt::Files;
@@ -16,16 +17,24 @@ pub fn value_of<R: Files + AllocGlobal + Threads + Wait + Sync>(
 ) -> Result<String, RowFault> {
     let (name, rest) = row.split_once(' ').unwrap_or((row, ""));
     let parts = arguments(alloc, rest)?;
+    value_by(rt, alloc, name, parts.as_slice())
+}
+
+// What the function of this name gives for its arguments.
+fn value_by<R: Files + AllocGlobal + Threads + Wait + Sync>(
+    rt: &R,
+    alloc: Global,
+    name: &str,
+    parts: &[&str],
+) -> Result<String, RowFault> {
     match name {
-        "HostFiles::read" => host::reads_of(rt, alloc, parts.as_slice()),
-        "HostSink::put" => host::puts_of(alloc, parts.as_slice()),
-        "messages" | "candidates" => plain_value(alloc, name, parts.as_slice()),
-        "Pool::draw" | "Pool::close" => pools::value_of(rt, alloc, name, parts.as_slice()),
-        "steps" | "stops" | "looks" | "threads" => {
-            script_value(rt, alloc, name, parts.as_slice())
-        }
+        "HostFiles::read" => host::reads_of(rt, alloc, parts),
+        "HostSink::put" => host::puts_of(alloc, parts),
+        "messages" | "candidates" => plain_value(alloc, name, parts),
+        "Pool::draw" | "Pool::close" => pools::value_of(rt, alloc, name, parts),
+        "steps" | "stops" | "looks" | "threads" => script_value(rt, alloc, name, parts),
         "crowd-add" | "crowd-find" | "crowd-rename" | "judge" | "judge-plain" | "transcript" => {
-            works::value_of(rt, alloc, name, parts.as_slice())
+            works::value_of(rt, alloc, name, parts)
         }
         _ => Err(RowFault::Unknown),
     }
@@ -57,11 +66,22 @@ fn script_value<R: Threads + Sync>(
         return Err(RowFault::Unknown);
     };
     let inputs = inputs_of(alloc, script)?;
+    told_of(rt, alloc, name, &inputs, second)
+}
+
+// What is told of the actors of a script.
+fn told_of<R: Threads + Sync>(
+    rt: &R,
+    alloc: Global,
+    name: &str,
+    inputs: &ReadyScript,
+    second: &str,
+) -> Result<String, RowFault> {
     match name {
-        "steps" => plays::told_steps(alloc, &inputs, second),
-        "stops" => stops::told_stops(alloc, &inputs, second),
-        "looks" => plays::told_looks(alloc, &inputs, number(second)?),
-        "threads" => crews::told_threads(rt, alloc, &inputs, second),
+        "steps" => plays::told_steps(alloc, inputs, second),
+        "stops" => stops::told_stops(alloc, inputs, second),
+        "looks" => plays::told_looks(alloc, inputs, number(second)?),
+        "threads" => crews::told_threads(rt, alloc, inputs, second),
         _ => Err(RowFault::Unknown),
     }
 }

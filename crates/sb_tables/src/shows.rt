@@ -1,7 +1,7 @@
 // How words, entries, results and workers are shown.
 
 use sb_actor::WorkerState;
-use sb_book::{EntrySlice, Report, TargetResults, ThreadResults, WordList};
+use sb_book::{EntrySlice, EntryView, Report, TargetResults, ThreadResults, WordList};
 use sb_rows::{RowFault, put_word};
 use sb_statements::Script;
 use sb_transcript::{entry_line, result_line};
@@ -31,11 +31,27 @@ pub fn put_entries(
 ) -> Result<(), RowFault> {
     for place in 0..entries.len() {
         if let Some(entry) = entries.get(place) {
-            out.push_str("  ")?;
-            put_word(out, &entry_line(alloc, script, place as u64, &entry)?)?;
+            put_entry(alloc, out, script, place as u64, &entry)?;
         }
     }
     Ok(())
+}
+
+// Appends the line of an entry.
+fn put_entry(
+    alloc: Global,
+    out: &mut String,
+    script: &Script,
+    place: u64,
+    entry: &EntryView<'_>,
+) -> Result<(), RowFault> {
+    put_line(out, &entry_line(alloc, script, place, entry)?)
+}
+
+// Appends a line of a transcript.
+fn put_line(out: &mut String, line: &[u8]) -> Result<(), RowFault> {
+    out.push_str("  ")?;
+    put_word(out, line)
 }
 
 // Appends the lines of the results of a thread.
@@ -48,8 +64,7 @@ fn put_thread(
 ) -> Result<(), RowFault> {
     let mut place: u32 = 0;
     for ended in results.as_slice() {
-        out.push_str("  ")?;
-        put_word(
+        put_line(
             out,
             &result_line(alloc, script, thread.0, thread.1, place, ended)?,
         )?;

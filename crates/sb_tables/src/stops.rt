@@ -2,9 +2,9 @@
 ghost use Rattle.std.specs.Prelude.{◌≡◌};
 ghost use Rattle.sb_tables.specs.Players.{AreOnTable, AreThreadsOnTable};
 
-use crate::inputs::Inputs;
 use crate::openings::{last_worker, open};
 use crate::players::Players;
+use sb_book::ReadyScript;
 use sb_rows::RowFault;
 use sb_shared::{Keeper, SharedWorld, Stop, ThreadSeat, WorkerSeat};
 use std::alloc::Global;
@@ -73,7 +73,7 @@ fn put_threads(
 }
 
 /// The stop word of a run before its first step, after the given stops, as the seat of the keeper, of each worker and of each thread sees it.
-pub fn told_stops(alloc: Global, inputs: &Inputs, stops: &str) -> Result<String, RowFault> {
+pub fn told_stops(alloc: Global, inputs: &ReadyScript, stops: &str) -> Result<String, RowFault> {
     let (world, mut keeper, players) = open(alloc, inputs)?;
     let Players {
         mut workers,

@@ -17,8 +17,9 @@ pub fn value_of<R: Files + AllocGlobal>(
     match parts {
         [rounds] => work_alone(alloc, name, number(rounds)?),
         [rounds, policy, script] => {
+            let rounds = number(rounds)?;
             let inputs = read_inputs(rt, alloc, policy, script)?;
-            work_on(alloc, name, number(rounds)?, &inputs)
+            work_on(alloc, name, rounds, &inputs)
         }
         _ => Err(RowFault::Unknown),
     }

@@ -10,7 +10,7 @@ use sb_book::{AllWords, EntrySlice, ReadyScript, Report, Results, TargetResults,
 use sb_outside::MemSink;
 use sb_rows::RowFault;
 use sb_statements::{CallResult, Script, StmtResult};
-use sb_transcript::transcript_lines;
+use sb_transcript::{LineBuffer, transcript_lines};
 use std::alloc::Global;
 
 // How many calls the report has.
@@ -79,7 +79,11 @@ fn single_thread(alloc: Global, replies: ThreadResults) -> Result<Results, NoMem
 fn put_once(alloc: Global, script: &Script, report: &Report) -> Result<usize, RowFault>
     requires { result_count report.now.results < 2 ^ 62 }
 {
-    let lines = transcript_lines(alloc, script, report)?;
+    put_lines(alloc, &transcript_lines(alloc, script, report)?)
+}
+
+// Puts lines into memory, and gives how many they are.
+fn put_lines(alloc: Global, lines: &LineBuffer) -> Result<usize, RowFault> {
     let room = lines.bytes().len() as u64;
     let mut sink = MemSink::with_room(alloc, room, Vec::new(alloc))?;
     match lines.put_each(&mut sink) {
@@ -89,5 +93,9 @@ fn put_once(alloc: Global, script: &Script, report: &Report) -> Result<usize, Ro
 }
 
 fn line_count(bytes: &[u8]) -> usize {
-    bytes.iter().filter(|byte| **byte == b'\n').count()
+    let mut count: usize = 0;
+    for byte in bytes {
+        count = count.wrapping_add(usize::from(*byte == b'\n'));
+    }
+    count
 }

@@ -15,7 +15,7 @@ pub for_each_mut-requires-send-T : goal.for_each_mut-requires-send-T
 for_each_mut-requires-send-T g c κs within = search (crew_crosses, sendable, crosses) depth 40
 
 -- threads may share the closure, stated apart from the premises at hand
-closure_sync : (g : Over) (κs : Lfts 9) → IsSync (J-row g.row.R g.row.J) → IsSync (arg-1-2 g.row.R g.row.J g.R.laws g.J.laws g.R.Threads-dict g.J.Judge-dict κs)
+closure_sync : (g : Over) (κs : Lfts 10) → IsSync (J-row g.row.R g.row.J) → IsSync (arg-1-2 g.row.R g.row.J g.R.laws g.J.laws g.R.Threads-dict g.J.Judge-dict κs)
 closure_sync g κs judge = search (crew_crosses, sendable, crosses) depth 60 fits 20000
 
 pub for_each_mut-requires-sync-F : goal.for_each_mut-requires-sync-F

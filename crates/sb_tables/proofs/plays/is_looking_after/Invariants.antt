@@ -1,5 +1,5 @@
 use Rattle.std.proofs.Common.{◌≡◌}
-use Rattle.sb_tables.proofs.plays.told_looks.Given as goal
+use Rattle.sb_tables.proofs.plays.is_looking_after.Given as goal
 
 -- the seat is one of the world
 abbrev pub invariant-loop-step : goal.invariant-loop-step
