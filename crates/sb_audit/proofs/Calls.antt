@@ -9,9 +9,9 @@ use Rattle.sb_book.specs.Decisions.{by_decoded, by_verdict, decision_of}
 use Rattle.sb_call.specs.Arguments.{fits}
 use Rattle.sb_call.specs.declared.arguments.Arg.{Arg}
 use Rattle.sb_call.specs.declared.tags.CallTag.{CallTag}
-use Rattle.sb_lineread.specs.Printed.{shown_decision}
-use Rattle.sb_lineread.specs.declared.lines.ShownDecision.{ShownDecision}
-use Rattle.sb_lineread.specs.declared.lines.ShownDecision.TheVariants as shown
+use Rattle.sb_transcript.specs.Printed.{shown_decision}
+use Rattle.sb_transcript.specs.declared.read_lines.ShownDecision.{ShownDecision}
+use Rattle.sb_transcript.specs.declared.read_lines.ShownDecision.TheVariants as shown
 use Rattle.sb_rule.specs.Verdicts.{verdict_of}
 use Rattle.sb_rule.specs.declared.actions.Action.TheVariants.{ReadOnly}
 use Rattle.sb_rule.specs.declared.policies.Policy.{Policy}

@@ -15,14 +15,14 @@ use Rattle.sb_statements.specs.Limits.{most_statements}
 use Rattle.sb_statements.specs.Scripts.{is_clean}
 use Rattle.sb_statements.specs.declared.scripts.Script.{Script}
 use Rattle.sb_statements.specs.declared.statements.Statement.{Statement}
-use Rattle.sb_lineread.specs.declared.lines.EntryLine.{EntryLine}
-use Rattle.sb_lineread.specs.declared.lines.ResultLine.{ResultLine}
-use Rattle.sb_lineread.specs.declared.lines.TotalsLine.{TotalsLine}
-use Rattle.sb_lineread.specs.declared.lines.Line.{Line}
-use Rattle.sb_lineread.specs.declared.lines.Line.TheVariants as line
-use Rattle.sb_lineread.specs.declared.lines.ShownDecision.{ShownDecision}
-use Rattle.sb_lineread.specs.declared.lines.ShownResult.{ShownResult}
-use Rattle.sb_lineread.specs.declared.lines.ShownResult.TheVariants.{NoChannel}
+use Rattle.sb_transcript.specs.declared.read_lines.EntryLine.{EntryLine}
+use Rattle.sb_transcript.specs.declared.read_lines.ResultLine.{ResultLine}
+use Rattle.sb_transcript.specs.declared.read_lines.TotalsLine.{TotalsLine}
+use Rattle.sb_transcript.specs.declared.read_lines.Line.{Line}
+use Rattle.sb_transcript.specs.declared.read_lines.Line.TheVariants as line
+use Rattle.sb_transcript.specs.declared.read_lines.ShownDecision.{ShownDecision}
+use Rattle.sb_transcript.specs.declared.read_lines.ShownResult.{ShownResult}
+use Rattle.sb_transcript.specs.declared.read_lines.ShownResult.TheVariants.{NoChannel}
 use Rattle.sb_audit.specs.Audited.{clause_at, decision_clause, entry_clause, failing, policy_of, result_clause, result_due}
 use Rattle.sb_audit.specs.Before.{entries_of, entry_count, has_totals, is_result, is_totals, performed_of, result_count, space_after, space_from, space_with, target_of}
 use Rattle.sb_audit.specs.Clauses.{answers_call, count_of, fits_entries, has_channel, has_entry, is_above, is_answered, is_denied, is_due, is_due_after, is_faked, is_fitting, is_of_call, is_own, is_performed, is_refused, needs_entry, place_of, reply_due, same_totals, shows_rule, suits, thread_of, totals_due}

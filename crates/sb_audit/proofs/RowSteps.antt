@@ -8,8 +8,8 @@ use Rattle.std.specs.List.{list_all, list_any}
 use Rattle.sb_actor.specs.Places.{mark_at}
 use Rattle.sb_statements.specs.Scripts.{is_clean}
 use Rattle.sb_statements.specs.declared.scripts.Script.{Script}
-use Rattle.sb_lineread.specs.declared.lines.EntryLine.{EntryLine}
-use Rattle.sb_lineread.specs.declared.lines.ShownResult.{ShownResult}
+use Rattle.sb_transcript.specs.declared.read_lines.EntryLine.{EntryLine}
+use Rattle.sb_transcript.specs.declared.read_lines.ShownResult.{ShownResult}
 use Rattle.sb_audit.specs.Before.{target_of}
 use Rattle.sb_audit.specs.Clauses.{answers_call, fits_entries, has_entry, is_above, is_number, is_of_thread, is_on_clean, is_reply_of, place_of, thread_of}
 use Rattle.sb_audit.specs.Kept.{RowsFollow}

@@ -16,17 +16,17 @@ use Rattle.sb_rule.specs.declared.verdicts.Verdict.TheVariants as verdict
 use Rattle.sb_statements.specs.declared.scripts.Script.{Script}
 use Rattle.sb_text.specs.LineLaws.{RawLinesJoin, ended, whole}
 use Rattle.sb_text.specs.Lines.{NumberedRawLine, numbered_raw_lines}
-use Rattle.sb_lineread.specs.Fields.{written}
-use Rattle.sb_lineread.specs.Laws.{ReadLinesAreWritten}
-use Rattle.sb_lineread.specs.Reading.{line_of}
-use Rattle.sb_lineread.specs.declared.lines.EntryLine.{EntryLine}
-use Rattle.sb_lineread.specs.declared.lines.ResultLine.{ResultLine}
-use Rattle.sb_lineread.specs.declared.lines.TotalsLine.{TotalsLine}
-use Rattle.sb_lineread.specs.declared.lines.Line.{Line}
-use Rattle.sb_lineread.specs.declared.lines.Line.TheVariants as line
-use Rattle.sb_lineread.specs.declared.lines.ShownDecision.{ShownDecision}
-use Rattle.sb_lineread.specs.declared.lines.ShownDecision.TheVariants as shown
-use Rattle.sb_lineread.specs.declared.lines.ShownReply.{ShownReply}
+use Rattle.sb_transcript.specs.Fields.{written}
+use Rattle.sb_transcript.specs.ReadingLaws.{ReadLinesAreWritten}
+use Rattle.sb_transcript.specs.Reading.{line_of}
+use Rattle.sb_transcript.specs.declared.read_lines.EntryLine.{EntryLine}
+use Rattle.sb_transcript.specs.declared.read_lines.ResultLine.{ResultLine}
+use Rattle.sb_transcript.specs.declared.read_lines.TotalsLine.{TotalsLine}
+use Rattle.sb_transcript.specs.declared.read_lines.Line.{Line}
+use Rattle.sb_transcript.specs.declared.read_lines.Line.TheVariants as line
+use Rattle.sb_transcript.specs.declared.read_lines.ShownDecision.{ShownDecision}
+use Rattle.sb_transcript.specs.declared.read_lines.ShownDecision.TheVariants as shown
+use Rattle.sb_transcript.specs.declared.read_lines.ShownReply.{ShownReply}
 use Rattle.sb_audit.specs.Answers.{refutation}
 use Rattle.sb_audit.specs.Audited.{answer_at, audited, audited_from, clause_at, decision_clause, end_answer, ended_line, entry_clause, failing, failing_line, line_with_end, policy_of, with_line}
 use Rattle.sb_audit.specs.Before.{entries_of, entry_count, has_totals, result_count, space_after, target_of}

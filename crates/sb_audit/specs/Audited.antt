@@ -6,11 +6,11 @@ use Rattle.sb_rule.specs.Verdicts.{policy_at}
 use Rattle.sb_rule.specs.declared.policies.Policy.{Policy}
 use Rattle.sb_statements.specs.declared.scripts.Script.{Script}
 use Rattle.sb_text.specs.Lines.{NumberedRawLine, numbered_raw_lines}
-use Rattle.sb_lineread.specs.Reading.{line_of}
-use Rattle.sb_lineread.specs.declared.lines.EntryLine.{EntryLine}
-use Rattle.sb_lineread.specs.declared.lines.ResultLine.{ResultLine}
-use Rattle.sb_lineread.specs.declared.lines.Line.{Line}
-use Rattle.sb_lineread.specs.declared.lines.Line.TheVariants as line
+use Rattle.sb_transcript.specs.Reading.{line_of}
+use Rattle.sb_transcript.specs.declared.read_lines.EntryLine.{EntryLine}
+use Rattle.sb_transcript.specs.declared.read_lines.ResultLine.{ResultLine}
+use Rattle.sb_transcript.specs.declared.read_lines.Line.{Line}
+use Rattle.sb_transcript.specs.declared.read_lines.Line.TheVariants as line
 use Rattle.sb_actor.specs.Places.{mark_at, statement_at}
 use Rattle.sb_audit.specs.Answers.{refutation}
 use Rattle.sb_audit.specs.Before.{entries_of, entry_count, result_count, has_totals, target_of, space_after}

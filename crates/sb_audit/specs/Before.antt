@@ -7,11 +7,11 @@ use Rattle.sb_call.specs.declared.tags.CallTag.{CallTag}
 use Rattle.sb_kernel.specs.Namespaces.{Space, perform}
 use Rattle.sb_kernel.specs.Openings.{opening}
 use Rattle.sb_statements.specs.declared.scripts.Script.{Script}
-use Rattle.sb_lineread.specs.declared.lines.EntryLine.{EntryLine}
-use Rattle.sb_lineread.specs.declared.lines.Line.{Line}
-use Rattle.sb_lineread.specs.declared.lines.Line.TheVariants as line
-use Rattle.sb_lineread.specs.declared.lines.ShownDecision.{ShownDecision}
-use Rattle.sb_lineread.specs.declared.lines.ShownDecision.TheVariants.{Refused, NoRule, Denied, Alarmed, Faked, Allowed, ReadOnly}
+use Rattle.sb_transcript.specs.declared.read_lines.EntryLine.{EntryLine}
+use Rattle.sb_transcript.specs.declared.read_lines.Line.{Line}
+use Rattle.sb_transcript.specs.declared.read_lines.Line.TheVariants as line
+use Rattle.sb_transcript.specs.declared.read_lines.ShownDecision.{ShownDecision}
+use Rattle.sb_transcript.specs.declared.read_lines.ShownDecision.TheVariants.{Refused, NoRule, Denied, Alarmed, Faked, Allowed, ReadOnly}
 
 -- the entries among lines
 abbrev pub entries_of : List Line → List EntryLine

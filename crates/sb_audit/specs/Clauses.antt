@@ -30,17 +30,17 @@ use Rattle.sb_statements.specs.Soundness.{channels_of}
 use Rattle.sb_statements.specs.declared.scripts.Script.{Script}
 use Rattle.sb_statements.specs.declared.statements.Statement.{Statement}
 use Rattle.sb_statements.specs.declared.statements.Statement.TheVariants as statement
-use Rattle.sb_lineread.specs.Printed.{shown_decision}
-use Rattle.sb_lineread.specs.declared.lines.EntryLine.{EntryLine}
-use Rattle.sb_lineread.specs.declared.lines.ResultLine.{ResultLine}
-use Rattle.sb_lineread.specs.declared.lines.TotalsLine.{TotalsLine}
-use Rattle.sb_lineread.specs.declared.lines.Line.{Line}
-use Rattle.sb_lineread.specs.declared.lines.Line.TheVariants as line
-use Rattle.sb_lineread.specs.declared.lines.ShownDecision.{ShownDecision}
-use Rattle.sb_lineread.specs.declared.lines.ShownDecision.TheVariants.{Refused, NoRule, Denied, Alarmed, Faked, Allowed, ReadOnly}
-use Rattle.sb_lineread.specs.declared.lines.ShownReply.{ShownReply}
-use Rattle.sb_lineread.specs.declared.lines.ShownResult.{ShownResult}
-use Rattle.sb_lineread.specs.declared.lines.ShownResult.TheVariants.{Reply, NoChannel, SendLost, Foreign, TimedOut, Stored, Found, Met, Unmet}
+use Rattle.sb_transcript.specs.Printed.{shown_decision}
+use Rattle.sb_transcript.specs.declared.read_lines.EntryLine.{EntryLine}
+use Rattle.sb_transcript.specs.declared.read_lines.ResultLine.{ResultLine}
+use Rattle.sb_transcript.specs.declared.read_lines.TotalsLine.{TotalsLine}
+use Rattle.sb_transcript.specs.declared.read_lines.Line.{Line}
+use Rattle.sb_transcript.specs.declared.read_lines.Line.TheVariants as line
+use Rattle.sb_transcript.specs.declared.read_lines.ShownDecision.{ShownDecision}
+use Rattle.sb_transcript.specs.declared.read_lines.ShownDecision.TheVariants.{Refused, NoRule, Denied, Alarmed, Faked, Allowed, ReadOnly}
+use Rattle.sb_transcript.specs.declared.read_lines.ShownReply.{ShownReply}
+use Rattle.sb_transcript.specs.declared.read_lines.ShownResult.{ShownResult}
+use Rattle.sb_transcript.specs.declared.read_lines.ShownResult.TheVariants.{Reply, NoChannel, SendLost, Foreign, TimedOut, Stored, Found, Met, Unmet}
 use Rattle.sb_audit.specs.Before.{entries_of, entry_count, result_count, has_totals, target_of, performed_of}
 use Rattle.sb_audit.specs.Comparing.{same_decision, same_reply}
 use Rattle.sb_audit.specs.Spots.{due_spot}

@@ -6,8 +6,8 @@ use Rattle.sb_book.specs.Reports.{result_count}
 use Rattle.sb_book.specs.declared.entries.Entry.{Entry}
 use Rattle.sb_book.specs.declared.reports.Report.{Report}
 use Rattle.sb_core.specs.Fits.{Fits}
-use Rattle.sb_lineread.specs.Printed.{shown_decision, shown_reply, shown_result}
-use Rattle.sb_lineread.specs.Ranges.{DecisionInRange, ReplyInRange, ResultInRange}
+use Rattle.sb_transcript.specs.Printed.{shown_decision, shown_reply, shown_result}
+use Rattle.sb_transcript.specs.Ranges.{DecisionInRange, ReplyInRange, ResultInRange}
 use Rattle.sb_rule.specs.declared.policies.Policy.{Policy}
 use Rattle.sb_statements.specs.declared.results.StmtResult.{StmtResult}
 use Rattle.sb_statements.specs.declared.scripts.Script.{Script}

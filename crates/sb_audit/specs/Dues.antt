@@ -13,13 +13,13 @@ use Rattle.sb_statements.specs.Soundness.{channels_of}
 use Rattle.sb_statements.specs.declared.scripts.Script.{Script}
 use Rattle.sb_statements.specs.declared.statements.Statement.{Statement}
 use Rattle.sb_statements.specs.declared.statements.Statement.TheVariants as statement
-use Rattle.sb_lineread.specs.declared.lines.EntryLine.{EntryLine}
-use Rattle.sb_lineread.specs.declared.lines.Line.{Line}
-use Rattle.sb_lineread.specs.declared.lines.ShownDecision.{ShownDecision}
-use Rattle.sb_lineread.specs.declared.lines.ShownDecision.TheVariants.{Refused, NoRule, Denied, Alarmed, Faked, Allowed, ReadOnly}
-use Rattle.sb_lineread.specs.declared.lines.ShownReply.{ShownReply}
-use Rattle.sb_lineread.specs.declared.lines.ShownResult.{ShownResult}
-use Rattle.sb_lineread.specs.declared.lines.ShownResult.TheVariants as result
+use Rattle.sb_transcript.specs.declared.read_lines.EntryLine.{EntryLine}
+use Rattle.sb_transcript.specs.declared.read_lines.Line.{Line}
+use Rattle.sb_transcript.specs.declared.read_lines.ShownDecision.{ShownDecision}
+use Rattle.sb_transcript.specs.declared.read_lines.ShownDecision.TheVariants.{Refused, NoRule, Denied, Alarmed, Faked, Allowed, ReadOnly}
+use Rattle.sb_transcript.specs.declared.read_lines.ShownReply.{ShownReply}
+use Rattle.sb_transcript.specs.declared.read_lines.ShownResult.{ShownResult}
+use Rattle.sb_transcript.specs.declared.read_lines.ShownResult.TheVariants as result
 use Rattle.sb_audit.specs.Before.{entry_count, has_totals, result_count}
 use Rattle.sb_audit.specs.Clauses.{has_rule, is_decided, place_of, thread_of}
 use Rattle.sb_rule.specs.Accesses.{writing_bits}

@@ -6,14 +6,14 @@ use Rattle.sb_kernel.specs.Namespaces.{Space}
 use Rattle.sb_rule.specs.declared.policies.Policy.{Policy}
 use Rattle.sb_statements.specs.Scripts.{is_clean}
 use Rattle.sb_statements.specs.declared.scripts.Script.{Script}
-use Rattle.sb_lineread.specs.declared.lines.EntryLine.{EntryLine}
-use Rattle.sb_lineread.specs.declared.lines.ResultLine.{ResultLine}
-use Rattle.sb_lineread.specs.declared.lines.TotalsLine.{TotalsLine}
-use Rattle.sb_lineread.specs.declared.lines.Line.{Line}
-use Rattle.sb_lineread.specs.declared.lines.Line.TheVariants as line
-use Rattle.sb_lineread.specs.declared.lines.ShownDecision.{ShownDecision}
-use Rattle.sb_lineread.specs.declared.lines.ShownDecision.TheVariants.{Refused, NoRule, Denied, Alarmed, Faked, Allowed, ReadOnly}
-use Rattle.sb_lineread.specs.declared.lines.ShownResult.{ShownResult}
+use Rattle.sb_transcript.specs.declared.read_lines.EntryLine.{EntryLine}
+use Rattle.sb_transcript.specs.declared.read_lines.ResultLine.{ResultLine}
+use Rattle.sb_transcript.specs.declared.read_lines.TotalsLine.{TotalsLine}
+use Rattle.sb_transcript.specs.declared.read_lines.Line.{Line}
+use Rattle.sb_transcript.specs.declared.read_lines.Line.TheVariants as line
+use Rattle.sb_transcript.specs.declared.read_lines.ShownDecision.{ShownDecision}
+use Rattle.sb_transcript.specs.declared.read_lines.ShownDecision.TheVariants.{Refused, NoRule, Denied, Alarmed, Faked, Allowed, ReadOnly}
+use Rattle.sb_transcript.specs.declared.read_lines.ShownResult.{ShownResult}
 use Rattle.sb_audit.specs.Answers.{refutation}
 use Rattle.sb_audit.specs.Audited.{policy_of}
 use Rattle.sb_audit.specs.Before.{entries_of, has_totals, performed_of, space_after, space_with, target_of}

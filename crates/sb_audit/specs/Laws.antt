@@ -8,12 +8,12 @@ use Rattle.sb_rule.specs.declared.policies.Policy.{Policy}
 use Rattle.sb_rule.specs.declared.verdicts.Verdict.TheVariants.{Rule}
 use Rattle.sb_statements.specs.declared.scripts.Script.{Script}
 use Rattle.sb_text.specs.LineLaws.{ended}
-use Rattle.sb_lineread.specs.Fields.{written}
-use Rattle.sb_lineread.specs.declared.lines.EntryLine.{EntryLine}
-use Rattle.sb_lineread.specs.declared.lines.Line.{Line}
-use Rattle.sb_lineread.specs.declared.lines.Line.TheVariants.{Entry}
-use Rattle.sb_lineread.specs.declared.lines.ShownDecision.{ShownDecision}
-use Rattle.sb_lineread.specs.declared.lines.ShownDecision.TheVariants as shown
+use Rattle.sb_transcript.specs.Fields.{written}
+use Rattle.sb_transcript.specs.declared.read_lines.EntryLine.{EntryLine}
+use Rattle.sb_transcript.specs.declared.read_lines.Line.{Line}
+use Rattle.sb_transcript.specs.declared.read_lines.Line.TheVariants.{Entry}
+use Rattle.sb_transcript.specs.declared.read_lines.ShownDecision.{ShownDecision}
+use Rattle.sb_transcript.specs.declared.read_lines.ShownDecision.TheVariants as shown
 use Rattle.sb_audit.specs.Audited.{audited, failing, policy_of}
 use Rattle.sb_audit.specs.Before.{entries_of, entry_count, has_totals, result_count, space_after, target_of}
 use Rattle.sb_audit.specs.Clauses.{has_channel, has_rule, is_own, only_reads, reply_due}

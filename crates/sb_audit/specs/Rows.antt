@@ -2,8 +2,8 @@
 use Rattle.std.specs.Prelude.{◌≡◌, ℕ, ◌+◌, ◌*◌, ◌<◌, Bool, true, false, ◌&&◌, ◌==◌, nat_lt, nat_le, List, [], length, Option, None, Some, slice_index_or, if◌then◌else◌}
 use Rattle.sb_actor.specs.Places.{mark_at}
 use Rattle.sb_statements.specs.declared.scripts.Script.{Script}
-use Rattle.sb_lineread.specs.declared.lines.EntryLine.{EntryLine}
-use Rattle.sb_lineread.specs.declared.lines.ShownResult.{ShownResult}
+use Rattle.sb_transcript.specs.declared.read_lines.EntryLine.{EntryLine}
+use Rattle.sb_transcript.specs.declared.read_lines.ShownResult.{ShownResult}
 use Rattle.sb_audit.specs.Clauses.{fits_entries, has_entry, is_above, is_reply_of}
 use Rattle.sb_audit.specs.declared.slots.OwnReply.{OwnReply}
 

@@ -1,8 +1,8 @@
 // What an audit's yes says. None of these functions does anything: each contract is a law.
 ghost use Rattle.sb_audit.specs.Laws.{EntriesAreRight, YesIsOfLines};
 
-use sb_lineread::read_lines_are_written;
 use sb_text::raw_lines_join;
+use sb_transcript::read_lines_are_written;
 
 /// A text to which the answer is yes is lines, each with an LF, at none of which a clause fails, with the totals and as many entries and
 /// results as the answer shows.

@@ -11,9 +11,9 @@ use crate::dues::{Due, FormDue};
 use crate::walks::Walk;
 use sb_base::NoMemory;
 use sb_book::ReadyScript;
-use sb_lineread::{Line, read_line};
 use sb_rule::Judge;
 use sb_text::RawLines;
+use sb_transcript::{Line, read_line};
 use std::alloc::Global;
 
 // The line of a transcript that bytes are with the LF that ends them, if one does and they are a line.

@@ -3,7 +3,7 @@ ghost use Rattle.std.specs.Prelude.{◌≡◌, ◌<◌, ◌^◌};
 ghost use Rattle.sb_audit.specs.Clauses.{same_totals};
 ghost use Rattle.sb_audit.specs.Kept.{AreAtMost, no_totals, with_entry, with_result};
 
-use sb_lineread::{ShownDecision, TotalsLine};
+use sb_transcript::{ShownDecision, TotalsLine};
 
 /// The totals of no lines.
 pub(crate) fn no_totals() -> TotalsLine

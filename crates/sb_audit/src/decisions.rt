@@ -2,7 +2,7 @@
 ghost use Rattle.std.specs.Prelude.{◌≡◌, ◌<◌, ◌≤◌, length, Some, true};
 ghost use Rattle.sb_book.specs.Decisions.{by_verdict};
 ghost use Rattle.sb_book.specs.Histories.{setting_of};
-ghost use Rattle.sb_lineread.specs.Printed.{shown_decision};
+ghost use Rattle.sb_transcript.specs.Printed.{shown_decision};
 ghost use Rattle.sb_rule.specs.Verdicts.{policy_at};
 ghost use Rattle.sb_rule.specs.declared.verdicts.Verdict.TheVariants.{Rule};
 ghost use Rattle.sb_audit.specs.Audited.{policy_of};
@@ -20,9 +20,9 @@ use crate::rows::Rows;
 use sb_actor::sound_statement_at;
 use sb_block::blocks_come_back;
 use sb_call::{Arg, CallTag};
-use sb_lineread::{EntryLine, ShownDecision};
 use sb_rule::{Action, Judge, Verdict};
 use sb_statements::Statement;
+use sb_transcript::{EntryLine, ShownDecision};
 
 // How many marks a thread has. The first has those from this number on.
 const MARKS: u64 = 65536;

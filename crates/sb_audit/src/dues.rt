@@ -4,8 +4,8 @@ ghost use Rattle.sb_audit.specs.Dues.{clause_of};
 
 use crate::spots::Spot;
 use sb_call::CallTag;
-use sb_lineread::TotalsLine;
 use sb_rule::{Action, Verdict};
+use sb_transcript::TotalsLine;
 
 /// What is due by the first clause, on the form of a transcript.
 #[derive(Clone, Copy)]

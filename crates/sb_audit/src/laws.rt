@@ -3,9 +3,8 @@ ghost use Rattle.sb_audit.specs.Converse.{ReportsThatFitAreAudited};
 ghost use Rattle.sb_audit.specs.Laws.{EmptyTranscriptsAreRefuted};
 
 use sb_block::faultless_copies_fit;
-use sb_lineread::{lines_are_read, printed_lines_are_written};
 use sb_rule::first_rule_decides;
-use sb_transcript::lines_end_once;
+use sb_transcript::{lines_are_read, lines_end_once, printed_lines_are_written};
 
 /// An empty transcript fails the first clause at line 1.
 pub fn empty_transcripts_are_refuted()

@@ -14,7 +14,7 @@ use sb_base::NoMemory;
 use sb_book::{DENIED_OUTCOME, FAKED_OUTCOME, PERFORMED_OUTCOME, REFUSED_OUTCOME, fault_words};
 use sb_call::{ACCESS_DENIED, Arg, CallTag, Extended, INVALID_PARAMETER, SUCCESS};
 use sb_kernel::Kernel;
-use sb_lineread::{ShownDecision, ShownReply};
+use sb_transcript::{ShownDecision, ShownReply};
 
 /// Whether lines show the same reply.
 pub(crate) fn same_reply(a: &ShownReply, b: &ShownReply) -> bool

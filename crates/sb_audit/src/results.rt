@@ -10,8 +10,8 @@ use crate::replies::same_reply;
 use crate::rows::Rows;
 use crate::slots::OwnReply;
 use sb_actor::{BUSY, mark_at, sound_statement_at};
-use sb_lineread::{ResultLine, ShownReply, ShownResult};
 use sb_statements::Statement;
+use sb_transcript::{ResultLine, ShownReply, ShownResult};
 
 // Whether a call of a target, which must be there, with this mark may have a result.
 fn suits_call(context: &Context<'_>, target: u32, mark: u64, shown: &ShownResult) -> bool

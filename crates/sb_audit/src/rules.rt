@@ -8,8 +8,8 @@ ghost use Rattle.sb_audit.specs.Clauses.{is_rule, has_rule, is_allow, only_reads
 
 use crate::dues::RuleDue;
 use sb_call::{Arg, CallTag, fits};
-use sb_lineread::ShownDecision;
 use sb_rule::{Action, Judge, Policy, Rule, Verdict, WRITING_BITS};
+use sb_transcript::ShownDecision;
 
 fn is_rule(rule: &Rule, tag: CallTag, line: u32, action: Action) -> bool
     ensures { result ≡ is_rule tag line action rule.now }

@@ -1,5 +1,5 @@
 // The reply of an entry on a clean channel.
-use sb_lineread::ShownReply;
+use sb_transcript::ShownReply;
 
 /// The reply of an entry on a clean channel, and the channel.
 #[derive(Drop)]

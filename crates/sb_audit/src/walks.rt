@@ -24,8 +24,8 @@ use crate::spots::Spot;
 use sb_base::NoMemory;
 use sb_book::ReadyScript;
 use sb_kernel::Kernel;
-use sb_lineread::{EntryLine, Line, ResultLine, TotalsLine};
 use sb_rule::{Judge, Policy};
+use sb_transcript::{EntryLine, Line, ResultLine, TotalsLine};
 use std::alloc::Global;
 use std::marker::Model;
 

@@ -3,8 +3,7 @@
 use sb_plain::Status;
 use sb_rows::{Page, RowFault};
 use sb_ruletext::{PolicyFault, PolicyFaultKind, PolicyLimit};
-use sb_scheduletext::{ScheduleFault, ScheduleKind};
-use sb_scripttext::{ScriptFault, ScriptKind, StartFault};
+use sb_scripttext::{ScheduleFault, ScheduleKind, ScriptFault, ScriptKind, StartFault};
 use sb_top::{Complaint, exit_code};
 use std::alloc::Global;
 

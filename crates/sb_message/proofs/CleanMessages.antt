@@ -28,7 +28,7 @@ use Rattle.sb_link.specs.Kinds.{kind_number as link_number}
 use Rattle.sb_link.specs.LinkTexts.{LinkFault}
 use Rattle.sb_link.specs.declared.faults.LinkKind.{LinkKind}
 use Rattle.sb_link.specs.declared.faults.LinkKind.TheVariants as link
-use Rattle.sb_lineread.specs.declared.lines.TotalsLine.{TotalsLine}
+use Rattle.sb_transcript.specs.declared.read_lines.TotalsLine.{TotalsLine}
 use Rattle.sb_rule.specs.declared.pattern_faults.PatternFault.{PatternFault}
 use Rattle.sb_rule.specs.declared.pattern_faults.PatternFault.TheVariants.{DoubleStar, StarQuestion, TooLong}
 use Rattle.sb_rule.specs.Actions.{action_word}
@@ -42,10 +42,10 @@ use Rattle.sb_ruletext.specs.declared.faults.PolicyFaultKind.{PolicyFaultKind}
 use Rattle.sb_ruletext.specs.declared.faults.PolicyFaultKind.TheVariants as policy
 use Rattle.sb_ruletext.specs.declared.faults.PolicyLimit.{PolicyLimit}
 use Rattle.sb_ruletext.specs.declared.faults.PolicyLimit.TheVariants.{Policies, Rules, Conditions, Numbers}
-use Rattle.sb_scheduletext.specs.Kinds.{kind_number as schedule_number}
-use Rattle.sb_scheduletext.specs.ScheduleTexts.{ScheduleFault}
-use Rattle.sb_scheduletext.specs.declared.faults.ScheduleKind.{ScheduleKind}
-use Rattle.sb_scheduletext.specs.declared.faults.ScheduleKind.TheVariants as schedule
+use Rattle.sb_scripttext.specs.ScheduleKinds.{kind_number as schedule_number}
+use Rattle.sb_scripttext.specs.ScheduleTexts.{ScheduleFault}
+use Rattle.sb_scripttext.specs.declared.schedule_faults.ScheduleKind.{ScheduleKind}
+use Rattle.sb_scripttext.specs.declared.schedule_faults.ScheduleKind.TheVariants as schedule
 use Rattle.sb_scripttext.specs.Kinds.{kind_number as script_number}
 use Rattle.sb_scripttext.specs.ScriptTexts.{ScriptFault}
 use Rattle.sb_scripttext.specs.declared.faults.ScriptKind.{ScriptKind}

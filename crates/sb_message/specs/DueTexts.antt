@@ -17,7 +17,7 @@ use Rattle.sb_audit.specs.declared.dues.RuleDue.{RuleDue}
 use Rattle.sb_audit.specs.declared.dues.RuleDue.TheVariants.{FittingArgs, Decided, RuleOn, Without}
 use Rattle.sb_audit.specs.declared.spots.Spot.{Spot}
 use Rattle.sb_call.specs.CallWords.{call_word}
-use Rattle.sb_lineread.specs.declared.lines.TotalsLine.{TotalsLine}
+use Rattle.sb_transcript.specs.declared.read_lines.TotalsLine.{TotalsLine}
 use Rattle.sb_rule.specs.Actions.{action_word}
 use Rattle.sb_rule.specs.declared.verdicts.Verdict.{Verdict}
 use Rattle.sb_rule.specs.declared.verdicts.Verdict.TheVariants as verdict

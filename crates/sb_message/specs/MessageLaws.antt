@@ -4,7 +4,7 @@ use Rattle.sb_audit.specs.declared.answers.Refuted.{Refuted}
 use Rattle.sb_dup.specs.MoveTexts.{MoveFault}
 use Rattle.sb_link.specs.LinkTexts.{LinkFault}
 use Rattle.sb_ruletext.specs.PolicyTexts.{PolicyFault}
-use Rattle.sb_scheduletext.specs.ScheduleTexts.{ScheduleFault}
+use Rattle.sb_scripttext.specs.ScheduleTexts.{ScheduleFault}
 use Rattle.sb_scripttext.specs.ScriptTexts.{ScriptFault}
 use Rattle.sb_message.specs.AuditMessages.{audit_message}
 use Rattle.sb_glyphs.specs.CleanTexts.{IsClean}

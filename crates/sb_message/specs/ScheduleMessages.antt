@@ -1,9 +1,9 @@
 -- The messages of schedule texts.
 use Rattle.std.specs.Prelude.{ℕ, Bool, true, false, List, codes}
-use Rattle.sb_scheduletext.specs.Kinds.{kind_number}
-use Rattle.sb_scheduletext.specs.ScheduleTexts.{ScheduleFault}
-use Rattle.sb_scheduletext.specs.declared.faults.ScheduleKind.{ScheduleKind}
-use Rattle.sb_scheduletext.specs.declared.faults.ScheduleKind.TheVariants.{UnknownWord, UnknownActor, BadNumber, TooMany, NoRounds}
+use Rattle.sb_scripttext.specs.ScheduleKinds.{kind_number}
+use Rattle.sb_scripttext.specs.ScheduleTexts.{ScheduleFault}
+use Rattle.sb_scripttext.specs.declared.schedule_faults.ScheduleKind.{ScheduleKind}
+use Rattle.sb_scripttext.specs.declared.schedule_faults.ScheduleKind.TheVariants.{UnknownWord, UnknownActor, BadNumber, TooMany, NoRounds}
 use Rattle.sb_text.specs.declared.refusals.WordFault.TheVariants.{Misplaced, NoVersion}
 use Rattle.sb_message.specs.declared.messages.FaultyText.TheVariants.{Schedule}
 use Rattle.sb_message.specs.Causes.{cause_text, word_words, names_word}

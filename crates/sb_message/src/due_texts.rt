@@ -13,8 +13,8 @@ use sb_audit::{Due, FormDue, OwnDue, PlaceDue, ReplyDue, ResultDue, RuleDue, Spo
 use sb_base::NoMemory;
 use sb_call::CallTag;
 use sb_glyphs::{put_decimal_text, put_hexadecimal_text};
-use sb_lineread::TotalsLine;
 use sb_rule::{Action, Verdict};
+use sb_transcript::TotalsLine;
 
 fn form_words(shown: Option<&[u8]>) -> &'static str
     ensures { result.now ≡ form_words (option_map (λ bytes. bytes.now) shown.entry) }

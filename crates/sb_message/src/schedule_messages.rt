@@ -6,7 +6,7 @@ use crate::causes::{names_word, word_words};
 use crate::messages::{FaultyText, TextFault};
 use crate::places::fault_message;
 use sb_base::NoMemory;
-use sb_scheduletext::{ScheduleFault, ScheduleKind};
+use sb_scripttext::{ScheduleFault, ScheduleKind};
 use sb_text::WordFault;
 use std::alloc::Global;
 

@@ -16,7 +16,7 @@ use Rattle.sb_local.specs.declared.denials.LocalDenial.{LocalDenial}
 use Rattle.sb_outside.specs.Outside.{Held}
 use Rattle.sb_rule.specs.declared.policies.Policy.{Policy}
 use Rattle.sb_ruletext.specs.Laws.{ReadPoliciesAreWellMade}
-use Rattle.sb_scheduletext.specs.Laws.{ActorsAreThere}
+use Rattle.sb_scripttext.specs.ScheduleLaws.{ActorsAreThere}
 use Rattle.sb_scripttext.specs.Readiness.{ReadScriptsAreReady}
 use Rattle.sb_statements.specs.declared.schedules.Schedule.{Schedule}
 use Rattle.sb_statements.specs.declared.scripts.Script.{Script}

@@ -8,9 +8,9 @@ use Rattle.sb_rule.specs.declared.policies.Policy.{Policy}
 use Rattle.sb_ruletext.specs.Laws.{ReadPoliciesAreWellMade}
 use Rattle.sb_ruletext.specs.PolicyTexts.{PolicyFault}
 use Rattle.sb_ruletext.specs.PolicyTexts as policies
-use Rattle.sb_scheduletext.specs.Laws.{ActorsAreThere}
-use Rattle.sb_scheduletext.specs.ScheduleTexts as schedules
-use Rattle.sb_scheduletext.specs.ScheduleTexts.{ScheduleFault}
+use Rattle.sb_scripttext.specs.ScheduleLaws.{ActorsAreThere}
+use Rattle.sb_scripttext.specs.ScheduleTexts as schedules
+use Rattle.sb_scripttext.specs.ScheduleTexts.{ScheduleFault}
 use Rattle.sb_scripttext.specs.Readiness.{ReadScriptsAreReady}
 use Rattle.sb_scripttext.specs.ScriptTexts as scripts
 use Rattle.sb_scripttext.specs.ScriptTexts.{ScriptFault}

@@ -3,7 +3,7 @@ use Rattle.std.proofs.Common.{◌≡◌, ℕ, suc, ◌≤◌, List, length, Opti
 use Rattle.std.specs.Prelude.{IfSome, Err}
 use Rattle.sb_rule.specs.declared.policies.Policy.{Policy}
 use Rattle.sb_ruletext.specs.Laws.{ReadPoliciesAreWellMade}
-use Rattle.sb_scheduletext.specs.Laws.{ActorsAreThere}
+use Rattle.sb_scripttext.specs.ScheduleLaws.{ActorsAreThere}
 use Rattle.sb_scripttext.specs.Readiness.{ReadScriptsAreReady}
 use Rattle.sb_statements.specs.declared.schedules.Schedule.{Schedule}
 use Rattle.sb_statements.specs.declared.scripts.Script.{Script}

@@ -7,7 +7,7 @@ use Rattle.sb_commands.specs.declared.usage_faults.UsageFault.{UsageFault}
 use Rattle.sb_outside.specs.Outside.{Held}
 use Rattle.sb_rule.specs.declared.policies.Policy.{Policy}
 use Rattle.sb_ruletext.specs.PolicyTexts.{PolicyFault}
-use Rattle.sb_scheduletext.specs.ScheduleTexts.{ScheduleFault}
+use Rattle.sb_scripttext.specs.ScheduleTexts.{ScheduleFault}
 use Rattle.sb_scripttext.specs.ScriptTexts.{ScriptFault}
 use Rattle.sb_statements.specs.declared.schedules.Schedule.{Schedule}
 use Rattle.sb_statements.specs.declared.scripts.Script.{Script}

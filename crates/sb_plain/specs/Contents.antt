@@ -7,10 +7,10 @@ use Rattle.sb_outside.specs.declared.files.FileFault.TheVariants as file
 use Rattle.sb_rule.specs.declared.policies.Policy.{Policy}
 use Rattle.sb_ruletext.specs.PolicyTexts.{PolicyFault}
 use Rattle.sb_ruletext.specs.PolicyTexts as policies
-use Rattle.sb_scheduletext.specs.Limits as limits
-use Rattle.sb_scheduletext.specs.Limits.{most_rounds}
-use Rattle.sb_scheduletext.specs.ScheduleTexts as schedules
-use Rattle.sb_scheduletext.specs.ScheduleTexts.{ScheduleFault}
+use Rattle.sb_scripttext.specs.ScheduleLimits as limits
+use Rattle.sb_scripttext.specs.ScheduleLimits.{most_rounds}
+use Rattle.sb_scripttext.specs.ScheduleTexts as schedules
+use Rattle.sb_scripttext.specs.ScheduleTexts.{ScheduleFault}
 use Rattle.sb_scripttext.specs.ScriptTexts as scripts
 use Rattle.sb_scripttext.specs.ScriptTexts.{ScriptFault}
 use Rattle.sb_statements.specs.declared.schedules.Schedule.{Schedule}

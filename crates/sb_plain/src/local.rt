@@ -28,8 +28,7 @@ use sb_local::{
 };
 use sb_outside::{Bytes, Files};
 use sb_ruletext::read_policies_are_well_made;
-use sb_scheduletext::read_schedules_are_bounded;
-use sb_scripttext::read_scripts_are_ready;
+use sb_scripttext::{read_schedules_are_bounded, read_scripts_are_ready};
 use sb_statements::{Schedule, Script, SoundScript};
 use std::alloc::Global;
 use std::marker::Model;

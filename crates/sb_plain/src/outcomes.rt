@@ -7,8 +7,7 @@ use sb_commands::UsageFault;
 use sb_dup::MoveFault;
 use sb_link::LinkFault;
 use sb_ruletext::PolicyFault;
-use sb_scheduletext::ScheduleFault;
-use sb_scripttext::ScriptFault;
+use sb_scripttext::{ScheduleFault, ScriptFault};
 
 /// How a command ended. Files are numbered by their place in the command, from 1.
 #[derive(Clone, Copy)]

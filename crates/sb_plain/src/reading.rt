@@ -2,7 +2,7 @@
 ghost use Rattle.std.specs.Prelude.{◌≡◌, ◌≤◌, ◌<◌, ◌+◌, ◌^◌, length, true, IfOk, Some};
 ghost use Rattle.std.specs.List.{list_all};
 ghost use Rattle.sb_ruletext.specs.PolicyTexts.{reading};
-ghost use Rattle.sb_scheduletext.specs.ScheduleTexts as schedules;
+ghost use Rattle.sb_scripttext.specs.ScheduleTexts as schedules;
 ghost use Rattle.sb_scripttext.specs.ScriptTexts as scripts;
 ghost use Rattle.sb_statements.specs.Actors.{is_step_there};
 ghost use Rattle.sb_commands.specs.Commands.{named};
@@ -17,8 +17,7 @@ use sb_book::OpenedScript;
 use sb_outside::{FileFault, Files};
 use sb_rule::WellMadePolicies;
 use sb_ruletext::{TextRefused, read_noted_policies, read_policies};
-use sb_scheduletext::{MOST_ROUNDS, ScheduleRefused, read_schedule};
-use sb_scripttext::{ScriptRefused, read_script};
+use sb_scripttext::{MOST_ROUNDS, ScheduleRefused, ScriptRefused, read_schedule, read_script};
 use sb_statements::{Schedule, Script, Steps};
 use std::alloc::Global;
 

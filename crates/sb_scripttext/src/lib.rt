@@ -1,7 +1,8 @@
-// Scripts as the texts that people write: reading them, with the first fault, its line and its column. A text means one script for
-// given policies or it has one first fault; what is read is sound and ready for its policies.
+// Scripts and schedules as texts: each is read line by line, up to its first fault, which is told with its line and its column, and what is written of a
+// script or of a schedule is read back.
 #![tactic(auto)]
 
+mod actors;
 mod arguments;
 mod drafts;
 mod faults;
@@ -9,6 +10,12 @@ mod laws;
 mod lines;
 mod openings;
 mod placing;
+mod schedule_drafts;
+mod schedule_faults;
+mod schedule_laws;
+mod schedule_lines;
+mod schedule_printing_laws;
+mod schedule_texts;
 mod script_texts;
 mod start_faults;
 mod statements;
@@ -20,4 +27,11 @@ pub use laws::{
     read_scripts_have_units, skipped_lines_count_alone, start_faults_are_true,
     written_scripts_are_read,
 };
+pub use schedule_faults::{ScheduleFault, ScheduleKind, ScheduleRefused};
+pub use schedule_laws::{
+    first_schedule_faults_stay, read_schedules_are_bounded, skipped_schedule_lines_count_alone,
+};
+pub use schedule_lines::{MOST_ROUNDS, MOST_STEPS};
+pub use schedule_printing_laws::{written_schedules_are_read, written_schedules_are_short};
+pub use schedule_texts::read_schedule;
 pub use script_texts::read_script;

@@ -13,7 +13,7 @@ use sb_book::{ReadyScript, Report};
 use sb_compile::Programs;
 use sb_rows::RowFault;
 use sb_rule::Judge;
-use sb_scheduletext::MOST_ROUNDS;
+use sb_scripttext::MOST_ROUNDS;
 use sb_shared::{Keeper, SharedWorld, Stop, ThreadSeat, WorkerSeat};
 use sb_statements::{Schedule, SoundScript, Steps};
 use std::alloc::Global;

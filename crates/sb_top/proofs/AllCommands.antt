@@ -11,7 +11,7 @@ use Rattle.sb_commands.specs.declared.works.Work.TheVariants.{Plain, Threaded}
 use Rattle.sb_commands.specs.declared.usage_faults.UsageFault.{UsageFault}
 use Rattle.sb_local.specs.Laws.{ThinnedScriptsAreReady}
 use Rattle.sb_ruletext.specs.Laws.{ReadPoliciesAreWellMade}
-use Rattle.sb_scheduletext.specs.Laws.{ActorsAreThere}
+use Rattle.sb_scripttext.specs.ScheduleLaws.{ActorsAreThere}
 use Rattle.sb_scripttext.specs.Readiness.{ReadScriptsAreReady}
 use Rattle.sb_top.specs.Laws.{StatusesAreOfCommands}
 use Rattle.sb_plain.specs.Outcomes.{file_of}

@@ -12,10 +12,10 @@ use Rattle.sb_core.specs.Worlds.{rounds, start_world, steps}
 use Rattle.sb_kernel.specs.Openings.{opened}
 use Rattle.sb_rule.specs.WellMade.{are_well_made}
 use Rattle.sb_rule.specs.declared.policies.Policy.{Policy}
-use Rattle.sb_scheduletext.specs.Printing.{in_order, is_actor_of_values}
+use Rattle.sb_scripttext.specs.SchedulePrinting.{in_order, is_actor_of_values}
 use Rattle.sb_base.specs.Numbers.{is_word32}
-use Rattle.sb_scheduletext.specs.PrintingLaws.{OrdersAreRead, OrdersAreShort}
-use Rattle.sb_scheduletext.specs.ScheduleTexts as schedules
+use Rattle.sb_scripttext.specs.SchedulePrintingLaws.{OrdersAreRead, OrdersAreShort}
+use Rattle.sb_scripttext.specs.ScheduleTexts as schedules
 use Rattle.sb_statements.specs.Actors.{is_step_there, is_there, thread_count}
 use Rattle.sb_statements.specs.Limits.{most_start_lines, most_targets, most_threads, most_channels}
 use Rattle.sb_statements.specs.Soundness.{SoundTargets, are_targets, is_patience, is_sound, is_start, is_target, is_thread, names_differ}

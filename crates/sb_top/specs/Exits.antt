@@ -18,7 +18,7 @@ use Rattle.sb_message.specs.NoteMessages.{notes_message}
 use Rattle.sb_text.specs.MissingTexts.{or_empty}
 use Rattle.sb_ruletext.specs.Kinds.{kind_number}
 use Rattle.sb_scripttext.specs.Kinds as script
-use Rattle.sb_scheduletext.specs.Kinds as schedule
+use Rattle.sb_scripttext.specs.ScheduleKinds as schedule
 use Rattle.sb_top.specs.Top.{files_for}
 use Rattle.sb_plain.specs.declared.outcomes.Status.{Status}
 use Rattle.sb_plain.specs.declared.outcomes.Status.TheVariants.{Done, Unfinished, Usage, PolicyRefused, ScriptRefused, ScheduleRefused, LinksRefused, MovesRefused, AuditNo, Missing, TooLong, ReadFault, WriteFault, NoMemory}

@@ -4,8 +4,8 @@ use Rattle.sb_core.specs.Actors.{are_there, scheduled}
 use Rattle.sb_core.specs.Runs.{CanRun, ended_from}
 use Rattle.sb_core.specs.Worlds.{start_world, steps}
 use Rattle.sb_rule.specs.declared.policies.Policy.{Policy}
-use Rattle.sb_scheduletext.specs.Limits.{most_steps}
-use Rattle.sb_scheduletext.specs.Printing.{in_order, written}
+use Rattle.sb_scripttext.specs.ScheduleLimits.{most_steps}
+use Rattle.sb_scripttext.specs.SchedulePrinting.{in_order, written}
 use Rattle.sb_statements.specs.declared.schedules.Actor.{Actor}
 use Rattle.sb_statements.specs.declared.schedules.Schedule.{Schedule}
 use Rattle.sb_statements.specs.declared.scripts.Script.{Script}

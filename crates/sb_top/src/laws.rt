@@ -11,10 +11,10 @@ use sb_block::blocks_come_back;
 use sb_core::{no_block_is_invented, runs_are_legal, runs_are_whole, runs_fit, steps_are_folds};
 use sb_local::thinned_scripts_are_sound;
 use sb_ruletext::read_policies_are_well_made;
-use sb_scheduletext::{
-    read_schedules_are_bounded, written_schedules_are_read, written_schedules_are_short,
+use sb_scripttext::{
+    read_schedules_are_bounded, read_scripts_are_ready, written_schedules_are_read,
+    written_schedules_are_short,
 };
-use sb_scripttext::read_scripts_are_ready;
 use sb_statements::sound_parts;
 
 /// Over files whose contents are known, and if neither count of faults rose, a command ends as it means, if there was memory.

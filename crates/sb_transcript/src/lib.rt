@@ -1,15 +1,29 @@
-// The transcript: one line for each entry of the history, one for each statement's result, and the totals.
+// The transcript of a run: its lines and their numbers, written from the entries and the results of a run, and read back, each line as the one line
+// that is written as exactly these bytes, or as none.
 #![tactic(auto)]
 
 mod comma_words;
 mod counts;
+mod cuts;
 mod entries;
+mod hexadecimal;
 mod laws;
 mod line_buffers;
 mod lines;
+mod numbers;
 mod places;
+mod read_lines;
+mod reading;
+mod reading_entries;
+mod reading_laws;
+mod reading_replies;
+mod reading_results;
 mod results;
+mod strings;
 mod transcripts;
+mod unread;
+mod writing;
+mod writing_entries;
 
 pub use comma_words::put_comma_words;
 pub use counts::totals;
@@ -20,5 +34,13 @@ pub use laws::{
 };
 pub use line_buffers::LineBuffer;
 pub use lines::{line, line_count};
+pub use read_lines::{
+    EntryLine, Line, ResultLine, ShownDecision, ShownReply, ShownResult, TotalsLine,
+};
+pub use reading::read_line;
+pub use reading_laws::{
+    lines_are_read, lines_differ, printed_lines_are_written, read_lines_are_written,
+};
 pub use results::result_line;
 pub use transcripts::transcript_lines;
+pub use writing::put_line;

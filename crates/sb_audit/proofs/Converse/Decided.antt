@@ -26,11 +26,11 @@ use Rattle.sb_call.specs.declared.tags.CallTag.{CallTag}
 use Rattle.sb_call.specs.declared.tags.ParamKind.{ParamKind}
 use Rattle.sb_call.specs.declared.tags.ParamKind.TheVariants.{Text, Name, Num, Handle}
 use Rattle.sb_kernel.specs.Namespaces.{Space}
-use Rattle.sb_lineread.specs.Printed.{shown_decision, shown_denial, shown_entry, shown_grant, shown_reply}
-use Rattle.sb_lineread.specs.declared.lines.EntryLine.{EntryLine}
-use Rattle.sb_lineread.specs.declared.lines.ShownDecision.{ShownDecision}
-use Rattle.sb_lineread.specs.declared.lines.ShownDecision.TheVariants.{Refused, NoRule, Denied, Alarmed, Faked, Allowed, ReadOnly}
-use Rattle.sb_lineread.specs.declared.lines.ShownReply.{ShownReply}
+use Rattle.sb_transcript.specs.Printed.{shown_decision, shown_denial, shown_entry, shown_grant, shown_reply}
+use Rattle.sb_transcript.specs.declared.read_lines.EntryLine.{EntryLine}
+use Rattle.sb_transcript.specs.declared.read_lines.ShownDecision.{ShownDecision}
+use Rattle.sb_transcript.specs.declared.read_lines.ShownDecision.TheVariants.{Refused, NoRule, Denied, Alarmed, Faked, Allowed, ReadOnly}
+use Rattle.sb_transcript.specs.declared.read_lines.ShownReply.{ShownReply}
 use Rattle.sb_rule.specs.Actions.{action_number}
 use Rattle.sb_rule.specs.Verdicts.{DecidingRuleIsFirst, is_for, verdict_of}
 use Rattle.sb_rule.specs.declared.actions.Action.{Action}

@@ -15,10 +15,10 @@ use Rattle.sb_book.specs.declared.entries.Entry.{Entry}
 use Rattle.sb_core.specs.Fits.{OwnReplies, ResultsSuit, is_entry_of}
 use Rattle.sb_kernel.specs.Namespaces.{Space}
 use Rattle.sb_kernel.specs.Openings.{opening}
-use Rattle.sb_lineread.specs.Printed.{shown_decision, shown_entry, shown_reply}
-use Rattle.sb_lineread.specs.declared.lines.EntryLine.{EntryLine}
-use Rattle.sb_lineread.specs.declared.lines.Line.{Line}
-use Rattle.sb_lineread.specs.declared.lines.Line.TheVariants as line
+use Rattle.sb_transcript.specs.Printed.{shown_decision, shown_entry, shown_reply}
+use Rattle.sb_transcript.specs.declared.read_lines.EntryLine.{EntryLine}
+use Rattle.sb_transcript.specs.declared.read_lines.Line.{Line}
+use Rattle.sb_transcript.specs.declared.read_lines.Line.TheVariants as line
 use Rattle.sb_rule.specs.Verdicts.{DecidingRuleIsFirst, policy_at}
 use Rattle.sb_rule.specs.declared.policies.Policy.{Policy}
 use Rattle.sb_statements.specs.Scripts.{is_clean}

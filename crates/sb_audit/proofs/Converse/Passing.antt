@@ -14,12 +14,12 @@ use Rattle.sb_book.specs.declared.reports.Report.{Report}
 use Rattle.sb_core.specs.Results.{result_at}
 use Rattle.sb_kernel.specs.Namespaces.{Space}
 use Rattle.sb_kernel.specs.Openings.{opened, opening}
-use Rattle.sb_lineread.specs.Laws.{LinesAreRead}
-use Rattle.sb_lineread.specs.Printed.{shown_entry, shown_result, shown_result_line, shown_totals, PrintedEntriesAreWritten, PrintedResultsAreWritten, PrintedTotalsAreWritten}
-use Rattle.sb_lineread.specs.Ranges.{EntryInRange, ResultInRange, ResultLineInRange, TotalsInRange}
-use Rattle.sb_lineread.specs.declared.lines.EntryLine.{EntryLine}
-use Rattle.sb_lineread.specs.declared.lines.Line.{Line}
-use Rattle.sb_lineread.specs.declared.lines.Line.TheVariants as line
+use Rattle.sb_transcript.specs.ReadingLaws.{LinesAreRead}
+use Rattle.sb_transcript.specs.Printed.{shown_entry, shown_result, shown_result_line, shown_totals, PrintedEntriesAreWritten, PrintedResultsAreWritten, PrintedTotalsAreWritten}
+use Rattle.sb_transcript.specs.Ranges.{EntryInRange, ResultInRange, ResultLineInRange, TotalsInRange}
+use Rattle.sb_transcript.specs.declared.read_lines.EntryLine.{EntryLine}
+use Rattle.sb_transcript.specs.declared.read_lines.Line.{Line}
+use Rattle.sb_transcript.specs.declared.read_lines.Line.TheVariants as line
 use Rattle.sb_rule.specs.Verdicts.{DecidingRuleIsFirst}
 use Rattle.sb_rule.specs.WellMade.{are_well_made}
 use Rattle.sb_rule.specs.declared.policies.Policy.{Policy}

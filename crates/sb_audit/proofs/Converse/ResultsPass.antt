@@ -18,9 +18,9 @@ use Rattle.sb_call.specs.declared.replies.Reply.{Reply}
 use Rattle.sb_call.specs.declared.tags.CallTag.{CallTag}
 use Rattle.sb_core.specs.Fits.{is_entry_of, results_at}
 use Rattle.sb_core.specs.Results.{AreAllResults, result_at}
-use Rattle.sb_lineread.specs.Printed.{shown_call, shown_entry, shown_reply, shown_result, shown_result_line}
-use Rattle.sb_lineread.specs.declared.lines.EntryLine.{EntryLine}
-use Rattle.sb_lineread.specs.declared.lines.Line.{Line}
+use Rattle.sb_transcript.specs.Printed.{shown_call, shown_entry, shown_reply, shown_result, shown_result_line}
+use Rattle.sb_transcript.specs.declared.read_lines.EntryLine.{EntryLine}
+use Rattle.sb_transcript.specs.declared.read_lines.Line.{Line}
 use Rattle.sb_rule.specs.declared.policies.Policy.{Policy}
 use Rattle.sb_statements.specs.Actors.{thread_count}
 use Rattle.sb_statements.specs.Scripts.{is_clean}

@@ -5,11 +5,11 @@ use Rattle.std.specs.List.{list_all}
 use Rattle.sb_book.specs.Readiness.{IsReady}
 use Rattle.sb_book.specs.declared.entries.Entry.{Entry}
 use Rattle.sb_book.specs.declared.reports.Report.{Report}
-use Rattle.sb_lineread.specs.Fields.{written}
-use Rattle.sb_lineread.specs.Printed.{shown_entry, shown_result_line, shown_totals, PrintedEntriesAreWritten, PrintedResultsAreWritten, PrintedTotalsAreWritten}
-use Rattle.sb_lineread.specs.declared.lines.EntryLine.{EntryLine}
-use Rattle.sb_lineread.specs.declared.lines.Line.{Line}
-use Rattle.sb_lineread.specs.declared.lines.Line.TheVariants as line
+use Rattle.sb_transcript.specs.Fields.{written}
+use Rattle.sb_transcript.specs.Printed.{shown_entry, shown_result_line, shown_totals, PrintedEntriesAreWritten, PrintedResultsAreWritten, PrintedTotalsAreWritten}
+use Rattle.sb_transcript.specs.declared.read_lines.EntryLine.{EntryLine}
+use Rattle.sb_transcript.specs.declared.read_lines.Line.{Line}
+use Rattle.sb_transcript.specs.declared.read_lines.Line.TheVariants as line
 use Rattle.sb_outside.specs.Outside.{joined}
 use Rattle.sb_rule.specs.declared.policies.Policy.{Policy}
 use Rattle.sb_statements.specs.declared.results.StmtResult.{StmtResult}

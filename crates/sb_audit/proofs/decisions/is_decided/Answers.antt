@@ -3,7 +3,7 @@ use Rattle.std.specs.Prelude.{Some}
 use Rattle.sb_book.specs.Decisions.{by_verdict}
 use Rattle.sb_call.specs.Arguments.{fits}
 use Rattle.sb_call.specs.declared.arguments.Arg.{Arg}
-use Rattle.sb_lineread.specs.Printed.{shown_decision}
+use Rattle.sb_transcript.specs.Printed.{shown_decision}
 use Rattle.sb_rule.specs.Verdicts.{policy_at, verdict_of}
 use Rattle.sb_rule.specs.declared.verdicts.Verdict.{Verdict}
 use Rattle.sb_statements.specs.declared.statements.Statement.{Statement}

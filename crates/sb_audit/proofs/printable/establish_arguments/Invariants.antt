@@ -1,6 +1,6 @@
 use Rattle.std.proofs.Common.{◌≡◌, true, length}
 use Rattle.std.specs.List.{list_all}
-use Rattle.sb_lineread.specs.Ranges.{is_argument}
+use Rattle.sb_transcript.specs.Ranges.{is_argument}
 use Rattle.sb_audit.proofs.printable.establish_arguments.Given as goal
 
 -- all are arguments if those that are left are

@@ -1,4 +1,4 @@
-use Rattle.sb_scheduletext.specs.ScheduleTexts.{reading}
+use Rattle.sb_scripttext.specs.ScheduleTexts.{reading}
 use Rattle.sb_outside.specs.Outside.{Rose}
 use Rattle.sb_plain.specs.Coming.{IsCausedBy}
 use Rattle.sb_plain.proofs.KeptFiles.{made_of, stopped}

@@ -1,5 +1,0 @@
-use Rattle.sb_lineread.proofs.LinesBack.{read_written}
-use Rattle.sb_lineread.proofs.laws.read_lines_are_written.Goals as goal
-
-pub returns : goal.returns
-returns c = read_written

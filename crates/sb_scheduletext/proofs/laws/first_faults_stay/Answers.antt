@@ -1,5 +1,0 @@
-use Rattle.sb_scheduletext.proofs.Texts.{first_faults_stay}
-use Rattle.sb_scheduletext.proofs.laws.first_faults_stay.Goals as goal
-
-pub returns : goal.returns
-returns c = first_faults_stay c.first_faults_stay.ensures

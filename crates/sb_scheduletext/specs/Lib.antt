@@ -1,9 +1,0 @@
-pub mod Actors
-pub mod Drafts
-pub mod Kinds
-pub mod Laws
-pub mod Limits
-pub mod Lines
-pub mod Printing
-pub mod PrintingLaws
-pub mod ScheduleTexts
