@@ -17,7 +17,6 @@ use sb_shared::{SharedWorld, ThreadSeat};
 use sb_statements::SoundScript;
 use std::alloc::Global;
 use std::marker::Model;
-use std::mem;
 use std::snapshot::Snapshot;
 use std::sync::Wait;
 use std::thread::{Threads, yield_now};
@@ -148,12 +147,12 @@ impl StartedServer {
         requires { IsServer context.now self.old }
         ensures { self.new ≡ self.old }
     {
-        if !self.is_with_caller() {
+        let ServerHost::Caller(server) = &mut self.host else {
             return Ok(());
-        }
-        if let ServerHost::Caller(mut server) = mem::replace(&mut self.host, ServerHost::Stopped) {
-            attend_once(rt, alloc, context, &mut server)?;
-            self.host = ServerHost::Caller(server);
+        };
+        if attend_once(rt, alloc, context, server).is_err() {
+            self.host = ServerHost::Stopped;
+            return Err(NoMemory);
         }
         Ok(())
     }

@@ -1,5 +1,5 @@
 // The seat of a thread.
-ghost use Rattle.std.specs.Prelude.{◌≡◌, ◌∷◌, ◌&&◌, [], true, false, not};
+ghost use Rattle.std.specs.Prelude.{◌≡◌, ◌∷◌, [], true, false};
 ghost use Rattle.sb_actor.specs.Places.{is_finished};
 ghost use Rattle.sb_actor.specs.ThreadTable.{thread_plan};
 ghost use Rattle.sb_shared.specs.Seats.{thread_looked, thread_stepped};
@@ -92,20 +92,22 @@ impl ThreadSeat {
         let Some(observed) = perform(&world.table.shared, &mut self.seat, act) else {
             return;
         };
-        let ended = self
+        if self
             .state
-            .after(script, direct, observed, &mut self.results);
-        self.note_wait(script, act, ended);
+            .after(script, direct, observed, &mut self.results)
+        {
+            self.waiting = false;
+        } else if direct.is_some() {
+            self.waiting = true;
+        } else {
+            self.note_wait(script, act);
+        }
     }
 
-    // Notes whether a step is to be made again: it ended no statement, and the next one repeats it.
-    fn note_wait(&mut self, script: &SoundScript, act: Act, ended: bool)
-        ensures { self.new ≡ record self.old { waiting = not ended && repeats act (thread_plan script.now self.old.run.thread) } }
+    // Notes whether a step that ended no statement is to be made again.
+    fn note_wait(&mut self, script: &SoundScript, act: Act)
+        ensures { self.new ≡ record self.old { waiting = repeats act (thread_plan script.now self.old.run.thread) } }
     {
-        if ended {
-            self.waiting = false;
-            return;
-        }
         self.waiting = match act {
             Act::Load { .. } | Act::Exchange { .. } => {
                 let direct = self.state.direct_statement(script);

@@ -1,8 +1,8 @@
-use Rattle.std.proofs.Common.{◌≡◌, ◌∙◌, [], ap, sym, map, length, arith}
+use Rattle.std.proofs.Common.{◌≡◌, ◌∙◌, [], false, ap, sym, map, length, arith}
 use Rattle.sb_statements.specs.declared.schedules.Actor.TheVariants.{Thread}
 use Rattle.sb_shared.specs.Origins.{start_of}
 use Rattle.sb_shared.specs.Parts.{part_of}
-use Rattle.sb_shared.specs.Seats.{KeeperValue}
+use Rattle.sb_shared.specs.Seats.{KeeperValue, thread_seat}
 use Rattle.sb_shared.proofs.Fresh.{fresh_seat, seat_of, seat_with}
 use Rattle.sb_shared.proofs.openings.thread_seat.Goals as goal
 
@@ -30,3 +30,9 @@ invariant_of-result c =
       c.in_ok-results.ensures.items ∙ sym (ap (λ x. x.results) seat.2),
       omega (arith, room, count, size),
     )
+
+pub returns-clause-seat : goal.returns-clause-seat
+returns-clause-seat c =
+    let first = c.requires.first.1 in
+    let is : c.split-seat.result.me ≡ seat_of c.args.words.now.key (Thread c.args.target c.args.thread) = c.split-seat.ensures.seat.1 ∙ ap (λ (s : KeeperValue). (seat_with s, [])) first in
+    λ i. thread_seat ((c.split-seat.ensures.seat.0 ∙ ap (λ (s : KeeperValue). s.table) first) i) (is i).0 false

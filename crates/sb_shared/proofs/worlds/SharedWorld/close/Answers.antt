@@ -64,3 +64,6 @@ returns-clause-closed c =
     (record { words = c.new.result; workers = c.join_workers-states.result; book = c.into_book.result; results = c.group.result })
     (c.new.ensures ∙ end.1 ∙ ap (all_words_from end.0 0) rooms.words) c.join_workers-states.ensures.states (c.in-Some.is ∙ ap (λ (b : History). Some b) (sym c.into_book.ensures))
     (c.group.ensures ∙ (λ i. grouped (rooms.results i) (c.join_threads-results.ensures.results i)))
+
+pub returns-clause-workers : goal.returns-clause-workers
+returns-clause-workers c = c.join_workers-states.ensures.states
