@@ -3,9 +3,8 @@ use Rattle.std.proofs.Common.{◌≡◌, refl, ap, ℕ, List, true, ◌&&◌}
 use Rattle.std.proofs.lemmas.Bool.{and_parts}
 use Rattle.std.specs.List.{list_all}
 use Rattle.sb_block.specs.Blocks.{block, encodes, has_units}
-use Rattle.sb_block.specs.Copies.{whole}
 use Rattle.sb_block.specs.Laws.{BlocksComeBack}
-use Rattle.sb_book.specs.Decisions.{by_decoded, by_verdict, decision_of}
+use Rattle.sb_book.specs.Decisions.{by_decoded, by_verdict}
 use Rattle.sb_call.specs.Arguments.{fits}
 use Rattle.sb_call.specs.declared.arguments.Arg.{Arg}
 use Rattle.sb_call.specs.declared.tags.CallTag.{CallTag}

@@ -1,11 +1,10 @@
 -- What is kept of the lines before says what the clauses ask of them.
-use Rattle.std.proofs.Common.{◌≡◌, refl, sym, subst, ap, ◌∙◌, ◌<◌, ◌≤◌, ℕ, ◌+◌, ◌*◌, List, [], ◌∷◌, ◌++◌, Bool, true, false, not, ◌&&◌, ◌||◌, length, get_or, length-append, nat_lt, if◌then◌else◌, arith}
-use Rattle.std.proofs.lemmas.Bool.{cond-true, cond-false}
+use Rattle.std.proofs.Common.{◌≡◌, refl, sym, subst, ap, ◌∙◌, ◌<◌, ℕ, ◌+◌, ◌*◌, List, [], ◌∷◌, ◌++◌, Bool, true, false, not, ◌&&◌, ◌||◌, length, get_or, length-append, nat_lt, if◌then◌else◌, arith}
 use Rattle.std.proofs.lemmas.Bool.Decides.{nat_tests}
 use Rattle.std.proofs.lemmas.List.Folds.{list_any-append}
 use Rattle.std.proofs.lemmas.List.Sums.{sum_by-append, sum_by-cons}
 use Rattle.std.specs.Prelude.{Option, None, Some, IfSome, is_some, cond, nat_le}
-use Rattle.std.specs.List.{count_by, list_any, sum_by}
+use Rattle.std.specs.List.{count_by, list_any}
 use Rattle.sb_actor.specs.Found.{AreFound, IsFound}
 use Rattle.sb_actor.specs.Places.{mark_at, statement_at}
 use Rattle.sb_kernel.specs.Namespaces.{Space}
@@ -20,15 +19,14 @@ use Rattle.sb_transcript.specs.declared.read_lines.ResultLine.{ResultLine}
 use Rattle.sb_transcript.specs.declared.read_lines.TotalsLine.{TotalsLine}
 use Rattle.sb_transcript.specs.declared.read_lines.Line.{Line}
 use Rattle.sb_transcript.specs.declared.read_lines.Line.TheVariants as line
-use Rattle.sb_transcript.specs.declared.read_lines.ShownDecision.{ShownDecision}
 use Rattle.sb_transcript.specs.declared.read_lines.ShownResult.{ShownResult}
 use Rattle.sb_transcript.specs.declared.read_lines.ShownResult.TheVariants.{NoChannel}
 use Rattle.sb_audit.specs.Audited.{clause_at, decision_clause, entry_clause, failing, policy_of, result_clause, result_due}
-use Rattle.sb_audit.specs.Before.{entries_of, entry_count, has_totals, is_result, is_totals, performed_of, result_count, space_after, space_from, space_with, target_of}
-use Rattle.sb_audit.specs.Clauses.{answers_call, count_of, fits_entries, has_channel, has_entry, is_above, is_answered, is_denied, is_due, is_due_after, is_faked, is_fitting, is_of_call, is_own, is_performed, is_refused, needs_entry, place_of, reply_due, same_totals, shows_rule, suits, thread_of, totals_due}
+use Rattle.sb_audit.specs.Before.{entries_of, has_totals, is_result, is_totals, performed_of, result_count, space_after, space_from, space_with, target_of}
+use Rattle.sb_audit.specs.Clauses.{answers_call, count_of, fits_entries, has_channel, has_entry, is_answered, is_denied, is_due, is_due_after, is_faked, is_fitting, is_of_call, is_own, is_performed, is_refused, needs_entry, place_of, reply_due, same_totals, shows_rule, suits, thread_of}
 use Rattle.sb_audit.specs.Comparing.{same_reply}
 use Rattle.sb_audit.specs.Dues.{due_after, due_call, due_channel, due_form, due_reply, due_result, due_rule}
-use Rattle.sb_audit.specs.Kept.{EntryFollows, Follows, KeptAt, Keeps, after_result, after_totals, clause_kept, decision_kept, due_kept, entry_kept, failing_kept, is_call_kept, is_fitting_kept, is_own_kept, no_totals, one_if, result_due_kept, result_kept, suits_slot, totals_kept, with_entry, with_result}
+use Rattle.sb_audit.specs.Kept.{EntryFollows, Follows, KeptAt, Keeps, after_result, after_totals, clause_kept, decision_kept, due_kept, entry_kept, failing_kept, is_fitting_kept, is_own_kept, no_totals, one_if, result_due_kept, result_kept, suits_slot, with_entry, with_result}
 use Rattle.sb_audit.specs.Rows.{KeepsRows, fits_slot, has_slot, row_at, slot_at}
 use Rattle.sb_audit.specs.declared.dues.Due.{Due}
 use Rattle.sb_audit.specs.declared.dues.Due.TheVariants as due

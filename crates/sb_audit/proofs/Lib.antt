@@ -3,6 +3,7 @@ pub mod Clean
 pub mod Converse
 pub mod Keeping
 pub mod Policies
+mod KeptEntries
 pub mod Printing
 pub mod Reading
 pub mod RowSteps

@@ -1,5 +1,5 @@
 -- The lines of a transcript, read one after another.
-use Rattle.std.proofs.Common.{◌≡◌, refl, sym, subst, ap, ◌∙◌, ◌<◌, ◌≤◌, ℕ, zero, suc, ◌+◌, ◌^◌, List, [], ◌∷◌, ◌++◌, Bool, true, false, length, length-append, ◌==◌, if◌then◌else◌, arith}
+use Rattle.std.proofs.Common.{◌≡◌, refl, sym, subst, ap, ◌∙◌, ◌<◌, ◌≤◌, ℕ, ◌+◌, ◌^◌, List, [], ◌∷◌, Bool, true, false, length, length-append, ◌==◌, if◌then◌else◌, arith}
 use Rattle.std.proofs.lemmas.List.Sums.{count_by-le-length}
 use Rattle.std.specs.Prelude.{Option, None, Some, ⊤}
 use Rattle.std.specs.List.{onto_first}
@@ -12,11 +12,11 @@ use Rattle.sb_transcript.specs.declared.read_lines.TotalsLine.{TotalsLine}
 use Rattle.sb_transcript.specs.declared.read_lines.Line.{Line}
 use Rattle.sb_transcript.specs.declared.read_lines.Line.TheVariants as line
 use Rattle.sb_audit.specs.Answers.{refutation}
-use Rattle.sb_audit.specs.Audited.{answer_at, audited, audited_from, end_answer, ended_line, failing, failing_line, with_line}
-use Rattle.sb_audit.specs.Before.{entries_of, entry_count, has_totals, is_result, result_count}
-use Rattle.sb_audit.specs.Clauses.{count_of, is_denied, is_faked, is_performed, is_refused, totals_due}
+use Rattle.sb_audit.specs.Audited.{answer_at, audited, audited_from, ended_line, failing_line, with_line}
+use Rattle.sb_audit.specs.Before.{entries_of, has_totals, is_result}
+use Rattle.sb_audit.specs.Clauses.{is_denied, is_faked, is_performed, is_refused, totals_due}
 use Rattle.sb_audit.specs.Dues.{due_after, due_unread}
-use Rattle.sb_audit.specs.Kept.{AreAtMost, Follows, FollowsLine, KeptAt, Keeps, end_kept, failing_kept, failing_line_kept}
+use Rattle.sb_audit.specs.Kept.{AreAtMost, FollowsLine, KeptAt, Keeps, end_kept, failing_line_kept}
 use Rattle.sb_audit.specs.declared.answers.AuditAnswer.{AuditAnswer}
 use Rattle.sb_audit.specs.declared.answers.AuditAnswer.TheVariants.{Yes}
 use Rattle.sb_audit.specs.declared.dues.Due.{Due}

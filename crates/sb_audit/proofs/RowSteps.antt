@@ -1,5 +1,5 @@
 -- What the rows say of one entry more.
-use Rattle.std.proofs.Common.{◌≡◌, refl, sym, subst, ap, ◌∙◌, ◌<◌, ◌≤◌, ℕ, zero, suc, ◌+◌, ◌*◌, ◌-◌, ◌/◌, ◌%◌, List, [], ◌∷◌, ◌++◌, Bool, true, false, not, ◌&&◌, ◌||◌, ◌==◌, length, get_or, if◌then◌else◌, arith}
+use Rattle.std.proofs.Common.{◌≡◌, refl, sym, subst, ap, ◌∙◌, ◌<◌, ◌≤◌, ℕ, zero, suc, ◌+◌, ◌/◌, List, [], ◌∷◌, ◌++◌, Bool, true, false, not, ◌&&◌, ◌||◌, ◌==◌, length, get_or, if◌then◌else◌, arith}
 use Rattle.std.proofs.lemmas.Bool.{and_parts, false≢true}
 use Rattle.std.proofs.lemmas.Bool.Decides.{nat_tests}
 use Rattle.std.proofs.lemmas.List.Folds.{list_any-append, list_all-append}
@@ -13,7 +13,7 @@ use Rattle.sb_transcript.specs.declared.read_lines.ShownResult.{ShownResult}
 use Rattle.sb_audit.specs.Before.{target_of}
 use Rattle.sb_audit.specs.Clauses.{answers_call, fits_entries, has_entry, is_above, is_number, is_of_thread, is_on_clean, is_reply_of, place_of, thread_of}
 use Rattle.sb_audit.specs.Kept.{RowsFollow}
-use Rattle.sb_audit.specs.Rows.{IsPut, IsPutInto, KeepsRows, fits_slot, has_slot, row_at, slot_at}
+use Rattle.sb_audit.specs.Rows.{IsPut, KeepsRows, fits_slot, has_slot, row_at, slot_at}
 use Rattle.sb_audit.specs.declared.slots.OwnReply.{OwnReply}
 
 and_true : (b : Bool) → (b && true) ≡ b

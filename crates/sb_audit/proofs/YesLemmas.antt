@@ -1,14 +1,12 @@
 -- What a yes says of the lines of a text.
 use Rattle.std.proofs.Common.{◌≡◌, refl, sym, subst, ap, ◌∙◌, ℕ, ◌+◌, List, [], ◌∷◌, ◌++◌, Bool, true, false, not, ◌&&◌, ◌==◌, append_assoc, if◌then◌else◌, arith}
-use Rattle.std.proofs.lemmas.Bool.{and_parts, false≢true, not-true}
+use Rattle.std.proofs.lemmas.Bool.{and_parts, false≢true}
 use Rattle.std.proofs.lemmas.Bool.Decides.{nat_tests}
-use Rattle.std.specs.Prelude.{Option, None, Some, ⊤, nat_eq}
+use Rattle.std.specs.Prelude.{Option, None, Some, nat_eq}
 use Rattle.std.specs.List.{flat_map}
 use Rattle.std.specs.Cmp.Lexicographic.{pointwise}
-use Rattle.sb_kernel.specs.Namespaces.{Space}
 use Rattle.sb_call.specs.Arguments.{fits}
 use Rattle.sb_rule.specs.Verdicts.{verdict_of}
-use Rattle.sb_rule.specs.declared.actions.Action.{Action}
 use Rattle.sb_rule.specs.declared.actions.Action.TheVariants as action
 use Rattle.sb_rule.specs.declared.policies.Policy.{Policy}
 use Rattle.sb_rule.specs.declared.verdicts.Verdict.{Verdict}
@@ -18,22 +16,18 @@ use Rattle.sb_text.specs.LineLaws.{RawLinesJoin, ended, whole}
 use Rattle.sb_text.specs.Lines.{NumberedRawLine, numbered_raw_lines}
 use Rattle.sb_transcript.specs.Fields.{written}
 use Rattle.sb_transcript.specs.ReadingLaws.{ReadLinesAreWritten}
-use Rattle.sb_transcript.specs.Reading.{line_of}
-use Rattle.sb_transcript.specs.declared.read_lines.EntryLine.{EntryLine}
-use Rattle.sb_transcript.specs.declared.read_lines.ResultLine.{ResultLine}
-use Rattle.sb_transcript.specs.declared.read_lines.TotalsLine.{TotalsLine}
 use Rattle.sb_transcript.specs.declared.read_lines.Line.{Line}
 use Rattle.sb_transcript.specs.declared.read_lines.Line.TheVariants as line
 use Rattle.sb_transcript.specs.declared.read_lines.ShownDecision.{ShownDecision}
 use Rattle.sb_transcript.specs.declared.read_lines.ShownDecision.TheVariants as shown
 use Rattle.sb_transcript.specs.declared.read_lines.ShownReply.{ShownReply}
 use Rattle.sb_audit.specs.Answers.{refutation}
-use Rattle.sb_audit.specs.Audited.{answer_at, audited, audited_from, clause_at, decision_clause, end_answer, ended_line, entry_clause, failing, failing_line, line_with_end, policy_of, with_line}
+use Rattle.sb_audit.specs.Audited.{answer_at, audited_from, clause_at, decision_clause, end_answer, ended_line, entry_clause, failing, failing_line, line_with_end, policy_of, with_line}
 use Rattle.sb_audit.specs.Before.{entries_of, entry_count, has_totals, result_count, space_after, target_of}
 use Rattle.sb_audit.specs.Clauses.{has_channel, has_rule, is_allow, is_due, is_own, only_reads, reply_due, shows_rule}
 use Rattle.sb_audit.specs.Comparing.{same_numbers, same_reply}
 use Rattle.sb_audit.specs.Dues.{due_after, due_call, due_channel, due_reply, due_rule}
-use Rattle.sb_audit.specs.Laws.{AreRight, EntriesAreRight, IsGranted, IsOfLines, IsRightEntry, YesIsOfLines}
+use Rattle.sb_audit.specs.Laws.{AreRight, EntriesAreRight, IsGranted, IsRightEntry, YesIsOfLines}
 use Rattle.sb_audit.specs.declared.answers.AuditAnswer.{AuditAnswer}
 use Rattle.sb_audit.specs.declared.answers.AuditAnswer.TheVariants.{Yes}
 use Rattle.sb_audit.specs.declared.dues.Due.{Due}

@@ -1,5 +1,5 @@
 -- What is kept of the lines that were read, and the clauses over that.
-use Rattle.std.specs.Prelude.{◌≡◌, ℕ, ◌+◌, ◌<◌, ◌≤◌, Bool, true, false, not, ◌&&◌, ◌||◌, nat_le, List, [], length, Option, None, Some, is_some, ⊤, if◌then◌else◌}
+use Rattle.std.specs.Prelude.{◌≡◌, ℕ, ◌+◌, ◌<◌, ◌≤◌, Bool, true, false, not, ◌&&◌, ◌||◌, nat_le, List, length, Option, None, Some, is_some, ⊤, if◌then◌else◌}
 use Rattle.sb_actor.specs.Places.{mark_at, statement_at}
 use Rattle.sb_call.specs.Arguments.{fits}
 use Rattle.sb_kernel.specs.Namespaces.{Space}

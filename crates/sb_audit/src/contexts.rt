@@ -63,7 +63,6 @@ impl<'a> Context<'a> {
     }
 
     /// The policy of a target, which must be there.
-    #[tactic(auto, using(crate::proofs::Policies::policy_found))]
     pub(crate) fn policy_of(&self, target: u32) -> &'a Policy
         requires there { target < length self.now.script.targets }
         ensures { result.now ≡ policy_of self.now.policies self.now.script target }

@@ -93,7 +93,7 @@ fn copy_of(tag: CallTag, mark: u64, args: &[Arg]) -> Result<BlockCopy, Refused<S
 }
 
 // The copy of a call whose names are resolved.
-#[tactic(auto, using(crate::proofs::Resolved::shapes_are_short, crate::proofs::Resolved::resolved_fit, crate::proofs::Resolved::names_resolved))]
+#[tactic(auto, using(crate::proofs::Resolved::shapes_are_short, crate::proofs::Resolved::resolved_fit))]
 fn link_call(alloc: Global, links: &Links, call: &Call) -> Result<BlockCopy, Refused<Stop>>
     requires { fits call.now.tag call.now.args ≡ true }
     ensures copy { Gives (resolved_copy links.now call.now) result }

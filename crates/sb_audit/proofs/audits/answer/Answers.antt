@@ -1,5 +1,5 @@
-use Rattle.std.proofs.Common.{rules, ◌≡◌, sym, subst, ap, ◌∙◌, ◌+◌, ◌<◌, ◌≤◌, length, List, arith}
-use Rattle.std.specs.Prelude.{None, Some}
+use Rattle.std.proofs.Common.{◌≡◌, sym, subst, ap, ◌∙◌, length, List, arith}
+use Rattle.std.specs.Prelude.{None}
 use Rattle.sb_text.specs.Lines.{NumberedRawLine}
 use Rattle.sb_audit.specs.Audited.{audited}
 use Rattle.sb_audit.proofs.Reading.{IsRead, ended_read, next_read, no_clause, small_enough, start_read, stopped}

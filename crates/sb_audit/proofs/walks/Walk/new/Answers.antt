@@ -1,7 +1,6 @@
-use Rattle.std.proofs.Common.{◌≡◌, ap, ◌∙◌, refl, false}
+use Rattle.std.proofs.Common.{ap, ◌∙◌, refl, false}
 use Rattle.sb_kernel.specs.Openings.{opening}
 use Rattle.sb_book.specs.ReadyScripts.{Ready}
-use Rattle.sb_audit.specs.Kept.{KeptAt}
 use Rattle.sb_audit.proofs.Keeping.{starts}
 use Rattle.sb_audit.proofs.walks.Walk.new.Goals as goal
 
