@@ -18,7 +18,6 @@ use std::alloc::Global;
 ///
 /// # Errors
 /// `NoMemory` if memory runs out.
-#[tactic(auto, using(crate::proofs::Readiness::scripts_are_ready, crate::proofs::Readiness::scripts_are_clean, crate::proofs::ScriptUnits::scripts_are_kept))]
 pub fn make(alloc: Global, seed: u64, targets: u32, calls: u32) -> Result<OpenedScript, NoMemory>
     requires targets { (1 ≤ targets) × (targets ≤ most_targets) }
     requires calls { (1 ≤ calls) × (calls ≤ most_statements) }

@@ -1,5 +1,5 @@
 -- Items that are joined by a word: what was read, and what is left.
-use Rattle.std.proofs.Common.{◌≡◌, refl, sym, ap, ◌∙◌, ℕ, suc, ◌+◌, ◌-◌, ◌<◌, ◌≤◌, List, [], ◌∷◌, ◌++◌, length, length-append, true, false, Ok, Err, append_assoc, arith}
+use Rattle.std.proofs.Common.{◌≡◌, refl, sym, ap, ◌∙◌, ℕ, suc, ◌+◌, ◌-◌, ◌<◌, ◌≤◌, List, [], ◌∷◌, ◌++◌, None, length, length-append, true, false, Ok, Err, append_assoc, arith}
 use Rattle.sb_ruletext.specs.Steps.{excess, joined_at}
 use Rattle.sb_ruletext.specs.declared.faults.PolicyFaultKind.{PolicyFaultKind}
 use Rattle.sb_ruletext.specs.declared.faults.PolicyLimit.{PolicyLimit}
@@ -93,3 +93,18 @@ pub joined_after : {A : Type 0} (limit : PolicyLimit) (most : ℕ) (joint : List
     → (length now ≤ most) × (with_items now (joined_at limit (most - length now) joint item_at after) ≡ whole)
 joined_after limit most joint item_at done now tokens rest after item whole l i h e b a =
     rw (e) rw (a) (grown most done item l, sym (joined_more limit most joint item_at done tokens item rest l h b) ∙ i)
+
+-- the last item was read, and no such word after it
+pub joined_ended : {A : Type 0} (limit : PolicyLimit) (most : ℕ) (joint : List ℕ) (item_at : ItemAt A) (done now : List A) (tokens rest after : List Lexeme) (item : A)
+    (whole : Read (List A) PolicyFaultKind)
+    → length done < most → with_items done (joined_at limit (most - length done) joint item_at tokens) ≡ whole
+    → item_at tokens ≡ Ok (item, rest) → now ≡ done ++ item ∷ [] → begins_with joint rest ≡ false → after ≡ rest → whole ≡ Ok (now, after)
+joined_ended limit most joint item_at done now tokens rest after item whole l i h e b a =
+    rw (e) rw (a) (sym i ∙ joined_last limit most joint item_at done tokens item rest l h b)
+
+-- one item too many is why all are refused
+pub joined_over : {A : Type 0} (limit : PolicyLimit) (most : ℕ) (joint : List ℕ) (item_at : ItemAt A) (done : List A) (tokens after : List Lexeme)
+    (whole : Read (List A) PolicyFaultKind) (kind : PolicyFaultKind) (why : Refused (TokenFault PolicyFaultKind))
+    → most ≤ length done → with_items done (joined_at limit (most - length done) joint item_at tokens) ≡ whole → kind ≡ excess limit tokens
+    → why ≡ refused.Fault (record { left = length tokens; unit = None; kind = kind }) → Reads whole (Err why) after
+joined_over limit most joint item_at done tokens after whole kind why l i k w = rw (w) rw (k) (sym i ∙ joined_full limit most joint item_at done tokens l)

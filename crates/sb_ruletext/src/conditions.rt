@@ -45,7 +45,6 @@ fn excess(limit: PolicyLimit, tokens: &Tokens) -> PolicyFaultKind
 }
 
 // N or N ..
-#[tactic(auto, using(crate::proofs::Joined::joined_bad, crate::proofs::Joined::joined_last, crate::proofs::Joined::joined_more, crate::proofs::Joined::joined_full))]
 fn numbers_at(alloc: Global, tokens: &mut Tokens) -> Result<Numbers, LineRefused>
     ensures { Reads (numbers_at tokens.old) result tokens.new }
 {
@@ -291,7 +290,6 @@ fn condition_at(alloc: Global, tag: CallTag, tokens: &mut Tokens) -> Result<Cond
 }
 
 // COND and COND ..
-#[tactic(auto, using(crate::proofs::Joined::joined_bad, crate::proofs::Joined::joined_last, crate::proofs::Joined::joined_more, crate::proofs::Joined::joined_full))]
 fn conditions_at(alloc: Global, tag: CallTag, tokens: &mut Tokens) -> Result<Conds, LineRefused>
     ensures { Reads (conditions_at tag tokens.old) result tokens.new }
 {

@@ -10,8 +10,9 @@ use Rattle.sb_statements.specs.declared.statements.Statement.{Statement}
 use Rattle.sb_scripttext.proofs.LastChanged.{changed_behind, last_behind, some_behind}
 use Rattle.sb_scripttext.specs.Building.{target_script, all_threads, built, IsBuilt}
 use Rattle.sb_scripttext.specs.Lines.{is_target_named}
-use Rattle.sb_scripttext.specs.SoFar.{is_empty, change_last, last_threads, one_thread_more, one_statement_more, in_last_thread}
+use Rattle.sb_scripttext.specs.SoFar.{SoFar, is_empty, change_last, last_threads, one_thread_more, one_statement_more, in_last_thread, named_by, with_thread, with_statement}
 use Rattle.sb_scripttext.specs.declared.drafts.Heading.{Heading}
+use Rattle.sb_scripttext.specs.declared.drafts.Named.{Named}
 use Rattle.sb_scripttext.specs.declared.faults.ScriptKind.{ScriptKind}
 use Rattle.sb_scripttext.specs.declared.faults.ScriptKind.TheVariants.{UnknownWord, TooMany}
 use Rattle.sb_text.specs.Steps.{◌>>=◌}
@@ -154,3 +155,24 @@ statement_too_many before (Some heading) threads false statements statement b t 
 statement_too_many before (Some heading) threads true statements statement b t l =
     let room : nat_lt (length statements) 4096 ≡ false = grind (arith, nat_tests, l) in
     statement_behind before heading threads statements statement ∙ ap (behind_statements before heading threads statements statement) room
+
+-- what was read so far, with other targets
+
+pub thread_added : (sofar : SoFar) (targets : List TargetScript) → change_last one_thread_more sofar.targets ≡ Ok targets
+    → with_thread sofar ≡ Ok (record sofar { targets = targets })
+thread_added sofar targets e = ap (λ (r : Result (List TargetScript) ScriptKind). r >>= λ targets. Ok (record sofar { targets = targets })) e
+
+pub thread_refused : (sofar : SoFar) (kind : ScriptKind) → change_last one_thread_more sofar.targets ≡ Err kind → with_thread sofar ≡ Err kind
+thread_refused sofar kind e = ap (λ (r : Result (List TargetScript) ScriptKind). r >>= λ targets. Ok (record sofar { targets = targets })) e
+
+pub statement_added : (sofar : SoFar) (line : ℕ) (statement : Statement) (targets : List TargetScript) (named : List Named)
+    → change_last (in_last_thread statement) sofar.targets ≡ Ok targets → named ≡ sofar.named ++ named_by line statement
+    → with_statement sofar line statement ≡ Ok (record sofar { targets = targets; named = named })
+statement_added sofar line statement targets named e n =
+    ap (λ (r : Result (List TargetScript) ScriptKind). r >>= λ targets. Ok (record sofar { targets = targets; named = sofar.named ++ named_by line statement })) e
+    ∙ ap (λ (named : List Named). Ok (record sofar { targets = targets; named = named })) (sym n)
+
+pub statement_refused : (sofar : SoFar) (line : ℕ) (statement : Statement) (kind : ScriptKind) → change_last (in_last_thread statement) sofar.targets ≡ Err kind
+    → with_statement sofar line statement ≡ Err kind
+statement_refused sofar line statement kind e =
+    ap (λ (r : Result (List TargetScript) ScriptKind). r >>= λ targets. Ok (record sofar { targets = targets; named = sofar.named ++ named_by line statement })) e

@@ -3,8 +3,9 @@ use Rattle.std.specs.Prelude.{ℕ, ◌&&◌, nat_le, List, Result, Ok, Err, if�
 use Rattle.sb_scripttext.specs.declared.faults.ScriptKind.{ScriptKind}
 use Rattle.sb_scripttext.specs.declared.faults.ScriptKind.TheVariants.{UnknownWord, BadNumber, BadName}
 use Rattle.sb_text.specs.Numbers.{number_of}
-use Rattle.sb_text.specs.Steps.{◌>>=◌, at_token, or_fails, Read, word_at, quoted_at}
+use Rattle.sb_text.specs.Steps.{◌>>=◌, at_token, end_at, or_fails, Read, word_at, quoted_at}
 use Rattle.sb_text.specs.Tokens.{Lexeme, string_of}
+use Rattle.sb_text.specs.declared.refusals.TokenFault.{TokenFault}
 use Rattle.sb_text.specs.declared.refusals.WordFault.TheVariants.{Broken}
 use Rattle.sb_base.specs.Names.{is_name_of}
 
@@ -42,3 +43,7 @@ name_at unquoted missing tokens = do
   units ← string_at unquoted missing tokens
   named ← at_token tokens (name units.0)
   Ok (named, units.1)
+
+-- a value, if the line ends here. The fault of an extra token
+abbrev pub at_line_end : {A : Type 0} → ScriptKind → A → List Lexeme → Result A (TokenFault ScriptKind)
+at_line_end extra value tokens = end_at extra (UnknownWord Broken) tokens >>= λ end. Ok value

@@ -49,7 +49,6 @@ fn arg_at(alloc: Global, kind: ParamKind, tokens: &mut Tokens) -> Result<Arg, Li
 }
 
 // An argument of each of these kinds.
-#[tactic(auto, using(crate::proofs::Reading::args_before, crate::proofs::Reading::args_none, crate::proofs::Reading::args_bad, crate::proofs::Reading::args_more))]
 fn args_at(alloc: Global, kinds: &[ParamKind], tokens: &mut Tokens) -> Result<Args, LineRefused>
     ensures { Reads (args_at kinds.now tokens.old) result tokens.new }
 {

@@ -3,7 +3,7 @@ ghost use Rattle.std.specs.Prelude.{◌≡◌, ◌++◌, ◌∷◌, [], true, na
 ghost use Rattle.std.specs.List.{list_any};
 ghost use Rattle.sb_statements.specs.Limits.{most_targets};
 ghost use Rattle.sb_kernel.specs.Openings.{is_named, opening};
-ghost use Rattle.sb_scripttext.specs.Building.{target_script, all_threads};
+ghost use Rattle.sb_scripttext.specs.Building.{target_script, all_threads, built, IsBuilt};
 ghost use Rattle.sb_scripttext.specs.Lines.{is_target_named};
 ghost use Rattle.sb_scripttext.specs.ScriptTexts.{script_of};
 ghost use Rattle.sb_scripttext.specs.SoFar.{nothing, is_opening, is_in_thread, with_patience, with_start, with_target, with_thread, named_by, with_statement};
@@ -108,6 +108,38 @@ fn target_script(heading: Heading, threads: Threads) -> TargetScript
         channels: heading.channels,
         threads,
     }
+}
+
+// Appends the target of this heading, whose last thread has these statements.
+fn end_target(
+    targets: &mut Targets,
+    heading: Heading,
+    threads: Threads,
+    in_thread: bool,
+    statements: Statements,
+) -> Result<(), NoMemory>
+    ensures { OnOk result (targets.new ≡ targets.old ++ target_script heading (all_threads threads in_thread statements) ∷ []) }
+{
+    let threads = all_threads(threads, in_thread, statements)?;
+    targets.push(target_script(heading, threads))
+}
+
+// The targets, with the last one.
+fn all_targets(
+    before: Targets,
+    last: Option<Heading>,
+    threads: Threads,
+    in_thread: bool,
+    statements: Statements,
+) -> Result<Targets, NoMemory>
+    requires { IsBuilt before last threads in_thread statements }
+    ensures { IfOk result (λ all. all ≡ built before last threads in_thread statements) }
+{
+    let mut all = before;
+    if let Some(last) = last {
+        end_target(&mut all, last, threads, in_thread, statements)?;
+    }
+    Ok(all)
 }
 
 fn is_any_named(targets: &[TargetScript], name: &[u8]) -> bool
@@ -241,14 +273,13 @@ impl Draft {
         let in_thread = mem::replace(&mut self.in_thread, false);
         let statements = mem::replace(&mut self.statements, Statements::new(Vec::new(alloc)));
         if let Some(last) = mem::replace(&mut self.last, Some(heading)) {
-            let threads = all_threads(threads, in_thread, statements)?;
-            self.before.push(target_script(last, threads))?;
+            end_target(&mut self.before, last, threads, in_thread, statements)?;
         }
         Ok(())
     }
 
     /// One more thread of the last target. After an error the draft is unspecified.
-    #[tactic(auto, using(crate::proofs::Built::thread_nowhere, crate::proofs::Built::thread_too_many, crate::proofs::Built::thread_first, crate::proofs::Built::thread_more))]
+    #[tactic(auto, using(crate::proofs::Built::thread_first, crate::proofs::Built::thread_more))]
     pub(crate) fn add_thread(&mut self, alloc: Global) -> Result<(), KindRefused>
         ensures { Becomes (with_thread self.old) result self.new }
     {
@@ -267,7 +298,6 @@ impl Draft {
     }
 
     /// One more statement of the last thread, on this line. After an error the draft is unspecified.
-    #[tactic(auto, using(crate::proofs::Built::statement_nowhere, crate::proofs::Built::statement_too_many, crate::proofs::Built::statement_more))]
     pub(crate) fn add_statement(
         &mut self,
         line: u32,
@@ -300,11 +330,7 @@ impl Draft {
             statements,
             named,
         } = self;
-        let mut targets = before;
-        if let Some(last) = last {
-            let threads = all_threads(threads, in_thread, statements)?;
-            targets.push(target_script(last, threads))?;
-        }
+        let targets = all_targets(before, last, threads, in_thread, statements)?;
         let (start, kernel) = start.into_parts();
         let script = Script {
             patience: patience.unwrap_or(USUAL_PATIENCE),

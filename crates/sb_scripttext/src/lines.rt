@@ -18,7 +18,7 @@ use crate::faults::ScriptKind::{BadNumber, BadStart, NoSuchPolicy, SameName, Unk
 use crate::faults::{KindRefused, LineRefused, ScriptKind};
 use crate::openings::{dir, event, file, key};
 use crate::statements::{exchange, load, store, wait};
-use crate::steps::{BROKEN, number_within};
+use crate::steps::{BROKEN, at_line_end, number_within};
 use sb_base::is_word;
 use sb_call::ShortName;
 use sb_rule::Policy;
@@ -41,8 +41,7 @@ fn patience(tokens: &mut Tokens) -> Result<u32, LineRefused>
     ensures { Gives (patience tokens.old) result }
 {
     let patience = number_within(1, u64::from(MOST_PATIENCE), BadNumber, MISSING, tokens)?;
-    end_at(EXTRA, BROKEN, tokens)?;
-    Ok(patience as u32)
+    at_line_end(EXTRA, patience as u32, tokens)
 }
 
 // NAME as a word: a short name that no target so far has.

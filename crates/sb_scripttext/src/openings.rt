@@ -6,9 +6,9 @@ ghost use Rattle.sb_base.specs.Refusals.{Gives};
 use crate::arguments::MOST_32;
 use crate::faults::ScriptKind::{BadNumber, UnknownWord};
 use crate::faults::{LineRefused, ScriptKind};
-use crate::steps::{BROKEN, name_at, number_within};
+use crate::steps::{at_line_end, name_at, number_within};
 use sb_statements::StartLine;
-use sb_text::{Tokens, WordFault, end_at};
+use sb_text::{Tokens, WordFault};
 use std::alloc::Global;
 
 // The faults of a word in place of a name, of a token that is not there, and of an extra one.
@@ -24,8 +24,7 @@ pub(crate) fn dir(alloc: Global, tokens: &mut Tokens) -> Result<StartLine, LineR
     ensures { Gives (dir tokens.old) result }
 {
     let name = name_at(alloc, UNQUOTED, MISSING, tokens)?;
-    end_at(EXTRA, BROKEN, tokens)?;
-    Ok(StartLine::Dir { name })
+    at_line_end(EXTRA, StartLine::Dir { name }, tokens)
 }
 
 /// `file "NAME" ATTR`, after its first word.
@@ -35,8 +34,7 @@ pub(crate) fn file(alloc: Global, tokens: &mut Tokens) -> Result<StartLine, Line
 {
     let name = name_at(alloc, UNQUOTED, MISSING, tokens)?;
     let attributes = number_within(0, MOST_32, BadNumber, MISSING, tokens)?;
-    end_at(EXTRA, BROKEN, tokens)?;
-    Ok(StartLine::File { name, attributes })
+    at_line_end(EXTRA, StartLine::File { name, attributes }, tokens)
 }
 
 /// `key "NAME"`, after its first word.
@@ -45,8 +43,7 @@ pub(crate) fn key(alloc: Global, tokens: &mut Tokens) -> Result<StartLine, LineR
     ensures { Gives (key tokens.old) result }
 {
     let name = name_at(alloc, UNQUOTED, MISSING, tokens)?;
-    end_at(EXTRA, BROKEN, tokens)?;
-    Ok(StartLine::Key { name })
+    at_line_end(EXTRA, StartLine::Key { name }, tokens)
 }
 
 /// `event "NAME" KIND INITIAL`, after its first word.
@@ -57,10 +54,10 @@ pub(crate) fn event(alloc: Global, tokens: &mut Tokens) -> Result<StartLine, Lin
     let name = name_at(alloc, UNQUOTED, MISSING, tokens)?;
     let kind = number_within(0, 1, BadNumber, MISSING, tokens)?;
     let initial = number_within(0, 1, BadNumber, MISSING, tokens)?;
-    end_at(EXTRA, BROKEN, tokens)?;
-    Ok(StartLine::Event {
+    let event = StartLine::Event {
         name,
         kind,
         initial,
-    })
+    };
+    at_line_end(EXTRA, event, tokens)
 }

@@ -7,7 +7,7 @@ ghost use Rattle.sb_text.specs.Steps.{Reads};
 use crate::arguments::MOST_32;
 use crate::faults::ScriptKind::{BadNumber, NoSuchWord, WrongArgs};
 use crate::faults::{KindRefused, LineRefused, ScriptKind};
-use crate::steps::{BROKEN, number_at, within};
+use crate::steps::{BROKEN, at_line_end, number_at, within};
 use sb_base::is_word;
 use sb_statements::{MOST_PATIENCE, Statement, Word};
 use sb_text::{Tokens, WordFault, end_at, number_of, word_due};
@@ -101,12 +101,12 @@ pub(crate) fn store(tokens: &mut Tokens) -> Result<Statement, LineRefused>
 {
     let (target, word) = target_word_at(tokens)?;
     let value = value_at(tokens)?;
-    end_at(EXTRA, BROKEN, tokens)?;
-    Ok(Statement::Store {
+    let store = Statement::Store {
         target,
         word,
         value,
-    })
+    };
+    at_line_end(EXTRA, store, tokens)
 }
 
 /// `exchange T C W FROM TO`, after its first word.
@@ -117,13 +117,13 @@ pub(crate) fn exchange(tokens: &mut Tokens) -> Result<Statement, LineRefused>
     let (target, word) = target_word_at(tokens)?;
     let from = value_at(tokens)?;
     let to = value_at(tokens)?;
-    end_at(EXTRA, BROKEN, tokens)?;
-    Ok(Statement::Exchange {
+    let exchange = Statement::Exchange {
         target,
         word,
         from,
         to,
-    })
+    };
+    at_line_end(EXTRA, exchange, tokens)
 }
 
 /// `load T C W`, after its first word.
@@ -132,8 +132,7 @@ pub(crate) fn load(tokens: &mut Tokens) -> Result<Statement, LineRefused>
     ensures { Gives (load tokens.old) result }
 {
     let (target, word) = target_word_at(tokens)?;
-    end_at(EXTRA, BROKEN, tokens)?;
-    Ok(Statement::Load { target, word })
+    at_line_end(EXTRA, Statement::Load { target, word }, tokens)
 }
 
 /// `wait T C W V N`, after its first word.

@@ -1,12 +1,14 @@
 // Reading a line from left to right: numbers, strings and names.
 ghost use Rattle.std.specs.Prelude.{◌≡◌, ◌≤◌, Ok, IfOk, IfSome};
-ghost use Rattle.sb_scripttext.specs.Steps.{number_at, within, number_within, string_at, name, name_at};
+ghost use Rattle.sb_scripttext.specs.Steps.{number_at, within, number_within, string_at, name, name_at, at_line_end};
 ghost use Rattle.sb_base.specs.Refusals.{Gives};
 ghost use Rattle.sb_text.specs.Steps.{later, Reads};
 
 use crate::faults::{KindRefused, LineRefused, ScriptKind};
 use sb_base::{Wide, is_name};
-use sb_text::{Token, Tokens, WordFault, number_of, or_fails, quoted_due, string_of, word_due};
+use sb_text::{
+    Token, Tokens, WordFault, end_at, number_of, or_fails, quoted_due, string_of, word_due,
+};
 use std::alloc::Global;
 
 /// The fault of a token that breaks the rules.
@@ -138,4 +140,17 @@ pub(crate) fn name_at(
     } else {
         Err(tokens.fail(ScriptKind::BadName))
     }
+}
+
+/// A value, if the line ends here. `extra` is the fault of an extra token.
+#[inline(always)]
+pub(crate) fn at_line_end<A: Drop>(
+    extra: ScriptKind,
+    value: A,
+    tokens: &Tokens,
+) -> Result<A, LineRefused>
+    ensures { Gives (at_line_end extra value tokens.now) result }
+{
+    end_at(extra, BROKEN, tokens)?;
+    Ok(value)
 }

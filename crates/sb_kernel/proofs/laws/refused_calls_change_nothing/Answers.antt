@@ -4,6 +4,6 @@ use Rattle.sb_kernel.proofs.laws.refused_calls_change_nothing.Goals as goal
 -- src/laws.rt:11:1
 pub returns : goal.returns
 returns c = refused_calls_change_nothing
-    c.refusals_change_nothing.ensures.create c.refusals_change_nothing.ensures.rename c.refusals_change_nothing-2.ensures
-    c.refused_calls_change_nothing.ensures.creates c.refused_calls_change_nothing.ensures.opens
-    c.refused_calls_change_nothing-2.ensures.creates c.refused_calls_change_nothing-2.ensures.opens
+    c.refused_file_calls_change_nothing.ensures.create c.refused_file_calls_change_nothing.ensures.rename c.refused_pipe_calls_change_nothing.ensures
+    c.refused_key_calls_change_nothing.ensures.creates c.refused_key_calls_change_nothing.ensures.opens
+    c.refused_event_calls_change_nothing.ensures.creates c.refused_event_calls_change_nothing.ensures.opens

@@ -1,4 +1,4 @@
-use Rattle.std.proofs.Common.{◌≡◌, ◌∙◌, ap, subst, sym, true}
+use Rattle.std.proofs.Common.{◌≡◌, ◌∙◌, ap, subst, true}
 use Rattle.std.specs.List.{list_all}
 use Rattle.sb_rule.specs.declared.policies.Policies.{Policies}
 use Rattle.sb_ruletext.specs.Printing.{printed}
