@@ -116,6 +116,13 @@ rule_pushed tag rule later rest before middle whole mine cut pushed e =
     ∙ ap (λ l. before ++ code_of l tag) (sym cut)
     ∙ e
 
+-- and another is passed over
+pub rule_skipped : (tag : CallTag) (rule : Rule) (later rest : List Rule) → eqb (number_of rule.tag) (number_of tag) ≡ false → rest ≡ rule ∷ later
+    → code_of later tag ≡ code_of rest tag
+rule_skipped tag rule later rest other cut =
+    sym (ap (λ l. code_of l tag) cut
+    ∙ ap (λ b. flat_map rule_code (cond b (rule ∷ filter (is_for tag) later) (filter (is_for tag) later))) other)
+
 -- what is left of some code begins with a rule, so it is some
 pub some_code : (tag : CallTag) (rule : Rule) (later rest : List Rule) (before whole : List Opcode) → eqb (number_of rule.tag) (number_of tag) ≡ true
     → rest ≡ rule ∷ later → before ++ code_of rest tag ≡ whole → whole ≢ []

@@ -3,7 +3,7 @@ use Rattle.std.proofs.Common.{◌≡◌, ◌∙◌, ◌≤◌, ◌<◌, ◌+◌,
 use Rattle.std.specs.Prelude.{nat_le, slice_index_or, slice_set}
 use Rattle.std.proofs.lemmas.Bool.{eqb-true, le-ltb, leb-false, leb-true, lt-ltb, ltb-true, ne_eqb}
 use Rattle.std.proofs.lemmas.Bool.Decides.{nat_tests}
-use Rattle.std.proofs.lemmas.List.{get_or_append_left, get_or_push, get_or-set_other, get_or-set_same}
+use Rattle.std.proofs.lemmas.List.{get_or_append_left, get_or_default, get_or_push, get_or-set_other, get_or-set_same}
 use Rattle.sb_index.proofs.SetLemmas.{differ, not_less, or_false}
 use Rattle.sb_index.specs.Marks.{AreFresh, is_marked, up_to}
 use Rattle.sb_index.specs.Sets.{has}
@@ -132,6 +132,12 @@ run_put old new slots first last number points begins ends many still inside fre
         ap (λ x. p || (x && (up_to old.ends.items (slots - s) k || false))) (or_false (up_to old.begins.items (suc s) k))
         ∙ ap (λ x. p || (up_to old.begins.items (suc s) k && x)) (or_false (up_to old.ends.items (slots - s) k))
         ∙ sym (or_false (p || (up_to old.begins.items (suc s) k && up_to old.ends.items (slots - s) k)))
+
+-- what the sets up to one more have together
+pub union_more : (sets : List (List ℕ)) (i : ℕ) (one set new : List ℕ) → one ≡ slice_index_or sets i one → i < length sets
+    → ((k : ℕ) → has set k ≡ up_to sets i k) → ((k : ℕ) → has new k ≡ (has set k || has one k)) → (k : ℕ) → has new k ≡ up_to sets (suc i) k
+union_more sets i one set new is h old put k =
+    put k ∙ ap (λ b. b || has one k) (old k) ∙ ap (λ w. up_to sets i k || has w k) (is ∙ sym (get_or_default sets i [] one h))
 
 -- one set more
 pub sets_pushed : (P : ℕ → ℕ → Bool) (sets : List (List ℕ)) (set : List ℕ) (n : ℕ) → length sets ≡ n

@@ -209,6 +209,10 @@ list_marked new old e x p is h = is ∙ ap (λ b. old || (e && b)) (by p refl)
 abbrev pub slot_test : Feature → List ℕ → List Cond → ℕ → Bool
 slot_test feature bounds conds slot = list_all (cond_may_pass (Within feature (first_of bounds slot) (last_of bounds slot))) conds
 
+-- a rule for the tag
+pub mine_marked : (new old mine e : Bool) → mine ≡ true → new ≡ (old || e) → new ≡ (old || (mine && e))
+mine_marked new old mine e m is = is ∙ ap (λ b. old || (b && e)) (sym m)
+
 -- a rule that passes everywhere is in all slots
 pub everywhere : (slots slot : ℕ) (new old e p : Bool) → slot ≤ slots → new ≡ (old || (e && (nat_le 0 slot && nat_le slot slots))) → p ≡ true → new ≡ (old || (e && p))
 everywhere slots slot new old e p h is all = is ∙ ap (λ b. old || (e && b)) (within slot slots h ∙ sym all)

@@ -195,6 +195,19 @@ table_is : (rules : List Rule) (tag : CallTag) (tables : List Table) (i : ℕ) (
     → AreTables rules tag tables → IsTable rules tag table
 table_is rules tag tables i table h is are = subst (IsTable rules tag) (sym is) (are i table h)
 
+-- one table more
+pub table_pushed : (rules : List Rule) (tag : CallTag) (tables : List Table) (table : Table) → AreTables rules tag tables → IsTable rules tag table
+    → AreTables rules tag (tables ++ table ∷ [])
+table_pushed rules tag tables table old new i d h = by (ltb i (length tables)) refl
+  where
+    by : (b : Bool) → ltb i (length tables) ≡ b → IsTable rules tag (slice_index_or (tables ++ table ∷ []) i d)
+    by true t =
+        let inside = ltb-true i (length tables) t in
+        subst (IsTable rules tag) (sym (get_or_append_left tables (table ∷ []) d i inside)) (old i d inside)
+    by false t =
+        let last : i ≡ length tables = omega (arith, h, length-append tables (table ∷ []), not_less i (length tables) t) in
+        subst (IsTable rules tag) (sym (get_or_push tables table d i (sym last))) new
+
 pub table_complete : RulesThatHoldPass → (rules : List Rule) (tag : CallTag) (args : List Arg) (tables : List Table) (i : ℕ) (table : Table) (old new : List ℕ) (slot : ℕ)
     → i < length tables → table ≡ slice_index_or tables i table → AreTables rules tag tables → slot ≤ length table.bounds
     → meets (Asked table slot) args ≡ true → ((k : ℕ) → has new k ≡ (has old k && has (slice_index_or table.sets.items slot []) k))

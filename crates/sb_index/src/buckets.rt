@@ -102,7 +102,6 @@ fn put_clear(sets: &mut Vec<RuleSet>, bits: u64, rule: usize)
 
 // Puts a rule to the buckets of which it needs no unit, by the number that it has among the rules for the tag, if it is one of them.
 // Returns the number of the next one.
-#[tactic(auto, using(crate::proofs::BucketLemmas::rule_bucketed, crate::proofs::BucketLemmas::none_bucketed))]
 fn put_next(sets: &mut Vec<RuleSet>, rule: &Rule, tag: CallTag, param: u32, at: usize) -> usize
     requires rule { at < 256 }
     requires many { length sets.old.items ≡ 64 }

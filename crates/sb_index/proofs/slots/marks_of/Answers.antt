@@ -1,3 +1,4 @@
+use Rattle.std.proofs.lemmas.List.{take_all}
 use Rattle.sb_index.specs.Bounds.{first_of, last_of}
 use Rattle.sb_index.specs.Marks.{is_marked}
 use Rattle.sb_index.specs.declared.questions.Question.TheVariants.{Within}
@@ -24,3 +25,6 @@ loop-rule-preserved c =
           (is_marked put.new.marks slot) c.loop-rule-test.true c.rule-item.is old.2 (old.4 slot h)
           (fresh_unmarked c.loop-rule.marks at slot old.1) (λ k. put.ensures.marked slot k h),
     )
+
+pub returns-clause-marked : goal.returns-clause-marked
+returns-clause-marked c = rw (take_all c.loop-rule.rule-index c.args.rules.now c.loop-rule-test.false) at c.loop-rule.invariant.4

@@ -1,7 +1,7 @@
 use Rattle.std.proofs.Common.{◌≡◌, eqb}
 use Rattle.std.specs.List.{list_all}
 use Rattle.std.specs.Prelude.{slice_index_or}
-use Rattle.std.proofs.lemmas.List.{get_or_default}
+use Rattle.std.proofs.lemmas.List.{get_or_default, take_all}
 use Rattle.sb_index.specs.Bounds.{first_of, last_of}
 use Rattle.sb_index.specs.Marks.{is_marked}
 use Rattle.sb_index.specs.Questions.{cond_may_pass}
@@ -34,3 +34,9 @@ loop-number-preserved c =
           (list_all (cond_may_pass (Within c.args.feature (first_of bounds slot) (last_of bounds slot))) c.args.conds.now)
           c.loop-number-test.true is (old.2 slot k h) (put.marked slot k h),
     )
+
+pub returns-clause-fresh : goal.returns-clause-fresh
+returns-clause-fresh c = c.loop-number.invariant.1
+
+pub returns-clause-marked : goal.returns-clause-marked
+returns-clause-marked c = rw (take_all c.loop-number.number-index c.args.numbers.now c.loop-number-test.false) at c.loop-number.invariant.2

@@ -16,3 +16,10 @@ returns-in-Some-Some c =
       ap code_in_call (sym there) ∙ sym (code_at calls (number_of tag - 1)) ∙ ap (λ program. code_in program tag) c.self.view_is,
       same_tag c.tags_and_numbers.ensures.tags c.in-Some-Some.call.tag tag same,
     )
+
+pub returns-in_default : goal.returns-in_default
+returns-in_default c =
+    let tag = c.args.tag in
+    let calls = c.self.inside.calls.items in
+    let none : slice_index_or calls (number_of tag - 1) None ≡ None = search rules in
+    sym (ap (λ program. code_in program tag) c.self.view_is) ∙ code_at calls (number_of tag - 1) ∙ ap code_in_call none
